@@ -1,0 +1,239 @@
+-- Each list of codes is that of exactly one block.
+use Rattle.std.proofs.lemmas.List.{take_more_set, drop-set-lt, drop_more, append_assoc}
+use Rattle.std.proofs.Common.{take, drop, set, map, get_or, ◌++◌, ◌≡◌, ℕ, ◌+◌, ◌-◌, ◌%◌, ◌^◌, ◌<◌, ◌≤◌, List, [], ◌∷◌, length, suc, refl, sym, ◌∙◌, ap, Some, None, arith}
+use Rattle.std.specs.Prelude.{All, unwrap_or}
+use Rattle.std.proofs.lemmas.List.Elements.{All-nil, All-cons, All-head, All-tail}
+use Rattle.std.proofs.lemmas.List.{length-map, ext_get_or, get_or-map}
+use Rattle.bitpacking.specs.declared.kind.Kind.{Kind}
+use Rattle.bitpacking.specs.declared.kind.Kind.TheVariants.{Plain, Sorted, StrictlySorted}
+use Rattle.bitpacking_register.specs.Words.{wrapping_sum}
+use Rattle.bitpacking_register.specs.Deltas.{differences, running_sums}
+use Rattle.bitpacking_register.proofs.SumLemmas.{differences-running_sums, running_sums-differences, length-running_sums, running_sums-mod, running_sums-append, last-running_sums}
+use Rattle.bitpacking.specs.Codes.{AreWords, codes, one_less, one_more, start}
+
+-- what was subtracted and added again
+pub wrap_back : (x y : ℕ) → x < 2 ^ 32 → y ≤ 2 ^ 32 → (y + (x + (2 ^ 32 - y)) % 2 ^ 32) % 2 ^ 32 ≡ x
+wrap_back x y hx hy = omega arith
+
+pub wrap_forth : (x y : ℕ) → x < 2 ^ 32 → y ≤ 2 ^ 32 → ((y + x) % 2 ^ 32 + (2 ^ 32 - y)) % 2 ^ 32 ≡ x
+wrap_forth x y hx hy = omega arith
+
+pub running_sums-differences : (previous : ℕ) (values : List ℕ) → previous < 2 ^ 32 → AreWords values
+    → running_sums previous (differences previous values) ≡ values
+running_sums-differences previous [] hp words = refl
+running_sums-differences previous (value ∷ values) hp words =
+    let P : ℕ → Type 0 = λ v. v < 2 ^ 32 in
+    let here : value < 2 ^ 32 = All-head P value values words in
+    let e : (previous + (value + (2 ^ 32 - previous)) % 2 ^ 32) % 2 ^ 32 ≡ value =
+    wrap_back value previous here (omega arith) in
+    rw e (ap (λ xs. value ∷ xs) (running_sums-differences value values here (All-tail P value values words)))
+
+pub differences-running_sums : (previous : ℕ) (values : List ℕ) → previous < 2 ^ 32 → AreWords values
+    → differences previous (running_sums previous values) ≡ values
+differences-running_sums previous [] hp words = refl
+differences-running_sums previous (code ∷ values) hp words =
+    let P : ℕ → Type 0 = λ v. v < 2 ^ 32 in
+    let here : code < 2 ^ 32 = All-head P code values words in
+    let e : ((previous + code) % 2 ^ 32 + (2 ^ 32 - previous)) % 2 ^ 32 ≡ code =
+    wrap_forth code previous here (omega arith) in
+    rw e (ap (λ xs. code ∷ xs)
+    (differences-running_sums ((previous + code) % 2 ^ 32) values (omega arith) (All-tail P code values words)))
+
+pub AreWords-running_sums : (previous : ℕ) (values : List ℕ) → AreWords (running_sums previous values)
+AreWords-running_sums previous [] = All-nil (λ v. v < 2 ^ 32)
+AreWords-running_sums previous (code ∷ values) =
+    All-cons (λ v. v < 2 ^ 32) ((previous + code) % 2 ^ 32) (running_sums ((previous + code) % 2 ^ 32) values) (omega arith)
+    (AreWords-running_sums ((previous + code) % 2 ^ 32) values)
+
+pub AreWords-differences : (previous : ℕ) (values : List ℕ) → AreWords (differences previous values)
+AreWords-differences previous [] = All-nil (λ v. v < 2 ^ 32)
+AreWords-differences previous (value ∷ values) =
+    All-cons (λ v. v < 2 ^ 32) ((value + (2 ^ 32 - previous)) % 2 ^ 32) (differences value values) (omega arith)
+    (AreWords-differences value values)
+
+pub length-differences : (previous : ℕ) (values : List ℕ) → length (differences previous values) ≡ length values
+length-differences previous [] = refl
+length-differences previous (value ∷ values) = ap suc (length-differences value values)
+
+pub length-running_sums : (previous : ℕ) (values : List ℕ) → length (running_sums previous values) ≡ length values
+length-running_sums previous [] = refl
+length-running_sums previous (code ∷ values) = ap suc (length-running_sums ((previous + code) % 2 ^ 32) values)
+
+pub less-more : (values : List ℕ) → AreWords values → map one_less (map one_more values) ≡ values
+less-more [] words = refl
+less-more (x ∷ xs) words =
+    let P : ℕ → Type 0 = λ v. v < 2 ^ 32 in
+    let here : x < 2 ^ 32 = All-head P x xs words in
+    let e : ((x + 1) % 2 ^ 32 + (2 ^ 32 - 1)) % 2 ^ 32 ≡ x = omega arith in
+    rw e (ap (λ ys. x ∷ ys) (less-more xs (All-tail P x xs words)))
+
+pub more-less : (values : List ℕ) → AreWords values → map one_more (map one_less values) ≡ values
+more-less [] words = refl
+more-less (x ∷ xs) words =
+    let P : ℕ → Type 0 = λ v. v < 2 ^ 32 in
+    let here : x < 2 ^ 32 = All-head P x xs words in
+    let e : ((x + (2 ^ 32 - 1)) % 2 ^ 32 + 1) % 2 ^ 32 ≡ x = omega arith in
+    rw e (ap (λ ys. x ∷ ys) (more-less xs (All-tail P x xs words)))
+
+pub AreWords-more : (values : List ℕ) → AreWords (map one_more values)
+AreWords-more [] = All-nil (λ v. v < 2 ^ 32)
+AreWords-more (x ∷ xs) = All-cons (λ v. v < 2 ^ 32) ((x + 1) % 2 ^ 32) (map one_more xs) (omega arith) (AreWords-more xs)
+
+pub AreWords-less : (values : List ℕ) → AreWords (map one_less values)
+AreWords-less [] = All-nil (λ v. v < 2 ^ 32)
+AreWords-less (x ∷ xs) =
+    All-cons (λ v. v < 2 ^ 32) ((x + (2 ^ 32 - 1)) % 2 ^ 32) (map one_less xs) (omega arith) (AreWords-less xs)
+
+pub length-codes : (kind : Kind) (block : List ℕ) → length (codes kind block) ≡ length block
+length-codes Plain block = refl
+length-codes (Sorted initial) block = length-differences initial block
+length-codes (StrictlySorted initial) block =
+    length-map (differences (unwrap_or initial 4294967295) block) one_less
+    ∙ length-differences (unwrap_or initial 4294967295) block
+
+pub AreWords-codes : (kind : Kind) (block : List ℕ) → AreWords block → AreWords (codes kind block)
+AreWords-codes Plain block words = words
+AreWords-codes (Sorted initial) block words = AreWords-differences initial block
+AreWords-codes (StrictlySorted initial) block words = AreWords-less (differences (unwrap_or initial 4294967295) block)
+
+-- The one block that has these codes.
+abbrev pub block_of : Kind → List ℕ → List ℕ
+block_of Plain values = values
+block_of (Sorted initial) values = running_sums initial values
+block_of (StrictlySorted initial) values = running_sums (unwrap_or initial 4294967295) (map one_more values)
+
+pub codes-block_of : (kind : Kind) (values : List ℕ) → start kind < 2 ^ 32 → AreWords values
+    → codes kind (block_of kind values) ≡ values
+codes-block_of Plain values h words = refl
+codes-block_of (Sorted initial) values h words = differences-running_sums initial values h words
+codes-block_of (StrictlySorted initial) values h words =
+    ap (map one_less) (differences-running_sums (unwrap_or initial 4294967295) (map one_more values) h (AreWords-more values))
+    ∙ less-more values words
+
+pub block_of-codes : (kind : Kind) (block : List ℕ) → start kind < 2 ^ 32 → AreWords block
+    → block_of kind (codes kind block) ≡ block
+block_of-codes Plain block h words = refl
+block_of-codes (Sorted initial) block h words = running_sums-differences initial block h words
+block_of-codes (StrictlySorted initial) block h words =
+    ap (running_sums (unwrap_or initial 4294967295))
+    (more-less (differences (unwrap_or initial 4294967295) block) (AreWords-differences (unwrap_or initial 4294967295) block))
+    ∙ running_sums-differences (unwrap_or initial 4294967295) block h words
+
+pub AreWords-block_of : (kind : Kind) (values : List ℕ) → AreWords values → AreWords (block_of kind values)
+AreWords-block_of Plain values words = words
+AreWords-block_of (Sorted initial) values words = AreWords-running_sums initial values
+AreWords-block_of (StrictlySorted initial) values words = AreWords-running_sums (unwrap_or initial 4294967295) (map one_more values)
+
+pub same_block-from_codes : (kind : Kind) (xs ys : List ℕ) → start kind < 2 ^ 32 → AreWords xs → AreWords ys
+    → codes kind xs ≡ codes kind ys → xs ≡ ys
+same_block-from_codes kind xs ys h words words' e =
+    sym (block_of-codes kind xs h words) ∙ ap (block_of kind) e ∙ block_of-codes kind ys h words'
+
+-- no initial value stands for the greatest one
+pub codes-none : (block : List ℕ) → codes (StrictlySorted None) block ≡ codes (StrictlySorted (Some 4294967295)) block
+codes-none block = refl
+
+-- The last value of a list, or another before an empty one.
+abbrev pub last_or : ℕ → List ℕ → ℕ
+last_or before [] = before
+last_or before (x ∷ xs) = last_or x xs
+
+pub last_or-get_or : (before : ℕ) (xs : List ℕ) → 0 < length xs → last_or before xs ≡ get_or xs (length xs - 1) 0
+last_or-get_or before [] some = absurd (omega arith)
+last_or-get_or before (x ∷ []) some = refl
+last_or-get_or before (x ∷ (y ∷ zs)) some =
+    let one : suc (suc (length zs)) - 1 ≡ suc (length zs) = omega arith in
+    let zero' : suc (length zs) - 1 ≡ length zs = omega arith in
+    rw one (rw zero' at (last_or-get_or x (y ∷ zs) (omega arith)))
+
+pub differences-append : (previous : ℕ) (xs ys : List ℕ)
+    → differences previous (xs ++ ys) ≡ differences previous xs ++ differences (last_or previous xs) ys
+differences-append previous [] ys = refl
+differences-append previous (x ∷ xs) ys =
+    ap (λ zs. (x + (2 ^ 32 - previous)) % 2 ^ 32 ∷ zs) (differences-append x xs ys)
+
+-- Of a register, whose last lane is then the one before the next.
+pub differences-register : (previous lanes : ℕ) (xs ys : List ℕ) → length xs ≡ lanes → 1 ≤ lanes
+    → differences previous (xs ++ ys) ≡ differences previous xs ++ differences (get_or xs (lanes - 1) 0) ys
+differences-register previous lanes xs ys len some =
+    let last : last_or previous xs ≡ get_or xs (length xs - 1) 0 = last_or-get_or previous xs (omega arith) in
+    let last' : last_or previous xs ≡ get_or xs (lanes - 1) 0 = rw len at last in
+    differences-append previous xs ys ∙ rw last' refl
+
+pub running_sums-append : (previous : ℕ) (xs ys : List ℕ)
+    → running_sums previous (xs ++ ys) ≡ running_sums previous xs ++ running_sums (last_or previous (running_sums previous xs)) ys
+running_sums-append previous [] ys = refl
+running_sums-append previous (x ∷ xs) ys =
+    ap (λ zs. (previous + x) % 2 ^ 32 ∷ zs) (running_sums-append ((previous + x) % 2 ^ 32) xs ys)
+
+pub running_sums-register : (previous lanes : ℕ) (xs ys out : List ℕ) → length xs ≡ lanes → 1 ≤ lanes → out ≡ running_sums previous xs
+    → running_sums previous (xs ++ ys) ≡ out ++ running_sums (get_or out (lanes - 1) 0) ys
+running_sums-register previous lanes xs ys out len some e =
+    let len' : length (running_sums previous xs) ≡ lanes = length-running_sums previous xs ∙ len in
+    let last : last_or previous (running_sums previous xs) ≡ get_or (running_sums previous xs) (length (running_sums previous xs) - 1) 0 =
+    last_or-get_or previous (running_sums previous xs) (omega arith) in
+    let last' : last_or previous (running_sums previous xs) ≡ get_or (running_sums previous xs) (lanes - 1) 0 = rw len' at last in
+    rw e (running_sums-append previous xs ys ∙ rw last' refl)
+
+-- A loop's step that takes the differences in place.
+pub differences_more : (xs all : List ℕ) (i p v : ℕ) → i < length xs → v ≡ (get_or xs i 0 + (2 ^ 32 - p)) % 2 ^ 32
+    → take i xs ++ differences p (drop i xs) ≡ all
+    → take (i + 1) (set xs i v) ++ differences (get_or xs i 0) (drop (i + 1) (set xs i v)) ≡ all
+differences_more xs all i p v lt e h =
+    let front : take (i + 1) (set xs i v) ≡ take i xs ++ (v ∷ []) = take_more_set xs i v lt in
+    let back : drop (i + 1) (set xs i v) ≡ drop (i + 1) xs = drop-set-lt (i + 1) xs i v (omega arith) in
+    let here : drop i xs ≡ get_or xs i 0 ∷ drop (i + 1) xs = drop_more xs i 0 lt in
+    let h' : take i xs ++ ((get_or xs i 0 + (2 ^ 32 - p)) % 2 ^ 32 ∷ differences (get_or xs i 0) (drop (i + 1) xs)) ≡ all = rw here at h in
+    rw (front, back) (append_assoc (take i xs) (v ∷ []) (differences (get_or xs i 0) (drop (i + 1) xs)) ∙ rw e h')
+
+-- A loop's step that takes the running_sums in place.
+pub sums_more : (xs all : List ℕ) (i p v : ℕ) → i < length xs → v ≡ (p + get_or xs i 0) % 2 ^ 32
+    → take i xs ++ running_sums p (drop i xs) ≡ all
+    → take (i + 1) (set xs i v) ++ running_sums v (drop (i + 1) (set xs i v)) ≡ all
+sums_more xs all i p v lt e h =
+    let front : take (i + 1) (set xs i v) ≡ take i xs ++ (v ∷ []) = take_more_set xs i v lt in
+    let back : drop (i + 1) (set xs i v) ≡ drop (i + 1) xs = drop-set-lt (i + 1) xs i v (omega arith) in
+    let here : drop i xs ≡ get_or xs i 0 ∷ drop (i + 1) xs = drop_more xs i 0 lt in
+    let h' : take i xs ++ ((p + get_or xs i 0) % 2 ^ 32 ∷ running_sums ((p + get_or xs i 0) % 2 ^ 32) (drop (i + 1) xs)) ≡ all = rw here at h in
+    rw (front, back) (append_assoc (take i xs) (v ∷ []) (running_sums v (drop (i + 1) xs)) ∙ rw e h')
+
+-- A register whose words are those of another, one less or one more.
+pub mapped : (f : ℕ → ℕ) (xs out : List ℕ) (lanes : ℕ) → length xs ≡ lanes → length out ≡ lanes
+    → ((l : ℕ) → l < lanes → get_or out l 0 ≡ f (get_or xs l 0)) → out ≡ map f xs
+mapped f xs out lanes len len' same =
+    ext_get_or 0 out (map f xs) (len' ∙ sym len ∙ sym (length-map xs f)) (λ l h.
+    let h' : l < length xs = omega arith in
+    same l (omega arith) ∙ sym (get_or-map f xs l 0 0 h'))
+
+-- Blocks with the same codes are the same, whatever stands before them.
+pub head_same : (x y : ℕ) (xs ys : List ℕ) → x ∷ xs ≡ y ∷ ys → x ≡ y
+head_same x y xs ys e = cc
+
+pub tail_same : (x y : ℕ) (xs ys : List ℕ) → x ∷ xs ≡ y ∷ ys → xs ≡ ys
+tail_same x y xs ys e = cc
+
+pub same_from_differences : (previous : ℕ) (xs ys : List ℕ) → AreWords xs → AreWords ys
+    → differences previous xs ≡ differences previous ys → xs ≡ ys
+same_from_differences previous [] [] hx hy e = refl
+same_from_differences previous [] (y ∷ ys) hx hy e = cc
+same_from_differences previous (x ∷ xs) [] hx hy e = cc
+same_from_differences previous (x ∷ xs) (y ∷ ys) hx hy e =
+    let P : ℕ → Type 0 = λ v. v < 2 ^ 32 in
+    let hx' : x < 2 ^ 32 = All-head P x xs hx in
+    let hy' : y < 2 ^ 32 = All-head P y ys hy in
+    let head : (x + (2 ^ 32 - previous)) % 2 ^ 32 ≡ (y + (2 ^ 32 - previous)) % 2 ^ 32 =
+    head_same ((x + (2 ^ 32 - previous)) % 2 ^ 32) ((y + (2 ^ 32 - previous)) % 2 ^ 32) (differences x xs) (differences y ys) e in
+    let tail : differences x xs ≡ differences y ys =
+    tail_same ((x + (2 ^ 32 - previous)) % 2 ^ 32) ((y + (2 ^ 32 - previous)) % 2 ^ 32) (differences x xs) (differences y ys) e in
+    let same : x ≡ y = omega arith in
+    let rest : xs ≡ ys = same_from_differences x xs ys (All-tail P x xs hx) (All-tail P y ys hy) (tail ∙ sym (ap (λ z. differences z ys) same)) in
+    cc
+
+pub same_block : (kind : Kind) (xs ys : List ℕ) → AreWords xs → AreWords ys → codes kind xs ≡ codes kind ys → xs ≡ ys
+same_block Plain xs ys hx hy e = e
+same_block (Sorted initial) xs ys hx hy e = same_from_differences initial xs ys hx hy e
+same_block (StrictlySorted initial) xs ys hx hy e =
+    same_from_differences (unwrap_or initial 4294967295) xs ys hx hy
+    (sym (more-less (differences (unwrap_or initial 4294967295) xs) (AreWords-differences (unwrap_or initial 4294967295) xs))
+    ∙ ap (map one_more) e
+    ∙ more-less (differences (unwrap_or initial 4294967295) ys) (AreWords-differences (unwrap_or initial 4294967295) ys))

@@ -1,0 +1,13 @@
+pub mod Facts
+pub mod Digits
+pub mod LaneNumbers
+pub mod Places
+pub mod OneToOne
+pub mod Blocks
+pub mod Widths
+pub mod Lanes
+pub mod PackSteps
+pub mod UnpackSteps
+pub mod Storing
+pub mod Parts
+pub mod LawProofs

@@ -1,0 +1,30 @@
+-- Where each bit of each code of a block stands in its bytes.
+use Rattle.std.specs.Prelude.{◌≡◌, ℕ, ◌+◌, ◌*◌, ◌/◌, ◌%◌, ◌<◌, List, length, slice_index}
+use Rattle.std.specs.Int.{bit_at}
+use Rattle.bitpacking.specs.declared.kind.Kind.{Kind}
+use Rattle.bitpacking.specs.Bits.{bit_of}
+use Rattle.bitpacking.specs.Codes.{codes}
+use Rattle.bitpacking.specs.Width.{Fits}
+
+-- how many bytes a block takes
+abbrev pub size : ℕ → ℕ → ℕ
+size lanes width = 4 * lanes * width
+
+-- The bit of the bytes in which bit j of code k stands. The codes of lane `k % lanes` stand end to end, from the lowest bit
+-- on, in every `lanes`-th word of 32 bits, from word `k % lanes` on.
+unfoldable pub place : ℕ → ℕ → ℕ → ℕ → ℕ
+place lanes width k j =
+    let p = k / lanes * width + j in
+    32 * (lanes * (p / 32) + k % lanes) + p % 32
+
+-- the bytes lay out the codes: each bit of a code has its place
+pub record Layout (lanes width : ℕ) (codes bytes : List ℕ) : Type 0 where
+  pub code_count : length codes ≡ 32 * lanes
+  pub byte_count : length bytes ≡ size lanes width
+  pub fits : Fits codes width
+  pub bits : (k j : ℕ) → k < 32 * lanes → j < width
+      → bit_at (slice_index codes k) j ≡ bit_of bytes (place lanes width k j)
+
+-- the bytes lay out the codes of the block
+abbrev pub Holds : ℕ → ℕ → Kind → List ℕ → List ℕ → Type 0
+Holds lanes width kind block bytes = Layout lanes width (codes kind block) bytes

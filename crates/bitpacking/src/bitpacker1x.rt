@@ -1,0 +1,156 @@
+//! Blocks of 32 numbers: one lane.
+
+ghost use Rattle.std.proofs.Common.{lit≤, refl};
+
+use crate::calls::{pack_kind, unpack_kind, width_kind};
+use crate::{BitPacker, Counted, Kind, Steps};
+
+/// Packs blocks of 32 numbers: the codes stand end to end, from the lowest bit on.
+#[derive(Clone, Copy)]
+pub struct BitPacker1x;
+
+impl BitPacker for BitPacker1x {
+    const BLOCK_LEN: usize = 32;
+
+    ghost BLOCK_LEN = { 32 };
+
+    ghost lanes = { 1 };
+
+    fn new() -> Self {
+        BitPacker1x
+    }
+
+    fn compress(&self, decompressed: &[u32], compressed: &mut [u8], num_bits: u8) -> usize {
+        self.pack_counted(
+            Kind::Plain,
+            decompressed,
+            compressed,
+            num_bits,
+            &mut Steps::new(),
+        )
+    }
+
+    fn compress_sorted(
+        &self,
+        initial: u32,
+        decompressed: &[u32],
+        compressed: &mut [u8],
+        num_bits: u8,
+    ) -> usize {
+        self.pack_counted(
+            Kind::Sorted(initial),
+            decompressed,
+            compressed,
+            num_bits,
+            &mut Steps::new(),
+        )
+    }
+
+    fn compress_strictly_sorted(
+        &self,
+        initial: Option<u32>,
+        decompressed: &[u32],
+        compressed: &mut [u8],
+        num_bits: u8,
+    ) -> usize {
+        self.pack_counted(
+            Kind::StrictlySorted(initial),
+            decompressed,
+            compressed,
+            num_bits,
+            &mut Steps::new(),
+        )
+    }
+
+    fn decompress(&self, compressed: &[u8], decompressed: &mut [u32], num_bits: u8) -> usize {
+        self.unpack_counted(
+            Kind::Plain,
+            compressed,
+            decompressed,
+            num_bits,
+            &mut Steps::new(),
+        )
+    }
+
+    fn decompress_sorted(
+        &self,
+        initial: u32,
+        compressed: &[u8],
+        decompressed: &mut [u32],
+        num_bits: u8,
+    ) -> usize {
+        self.unpack_counted(
+            Kind::Sorted(initial),
+            compressed,
+            decompressed,
+            num_bits,
+            &mut Steps::new(),
+        )
+    }
+
+    fn decompress_strictly_sorted(
+        &self,
+        initial: Option<u32>,
+        compressed: &[u8],
+        decompressed: &mut [u32],
+        num_bits: u8,
+    ) -> usize {
+        self.unpack_counted(
+            Kind::StrictlySorted(initial),
+            compressed,
+            decompressed,
+            num_bits,
+            &mut Steps::new(),
+        )
+    }
+
+    fn num_bits(&self, decompressed: &[u32]) -> u8 {
+        self.width_counted(Kind::Plain, decompressed, &mut Steps::new())
+    }
+
+    fn num_bits_sorted(&self, initial: u32, decompressed: &[u32]) -> u8 {
+        self.width_counted(Kind::Sorted(initial), decompressed, &mut Steps::new())
+    }
+
+    fn num_bits_strictly_sorted(&self, initial: Option<u32>, decompressed: &[u32]) -> u8 {
+        self.width_counted(
+            Kind::StrictlySorted(initial),
+            decompressed,
+            &mut Steps::new(),
+        )
+    }
+
+    ghost block_len = { refl };
+
+    ghost some_lanes = { lit≤ tt };
+
+    ghost few_lanes = { lit≤ tt };
+}
+
+impl Counted for BitPacker1x {
+    fn pack_counted(
+        &self,
+        kind: Kind,
+        decompressed: &[u32],
+        compressed: &mut [u8],
+        num_bits: u8,
+        steps: &mut Steps,
+    ) -> usize {
+        pack_kind::<u32>(kind, decompressed, compressed, num_bits, steps)
+    }
+
+    fn unpack_counted(
+        &self,
+        kind: Kind,
+        compressed: &[u8],
+        decompressed: &mut [u32],
+        num_bits: u8,
+        steps: &mut Steps,
+    ) -> usize {
+        unpack_kind::<u32>(kind, compressed, decompressed, num_bits, steps)
+    }
+
+    fn width_counted(&self, kind: Kind, decompressed: &[u32], steps: &mut Steps) -> u8 {
+        width_kind::<u32>(kind, decompressed, steps)
+    }
+}

@@ -1,0 +1,58 @@
+//! The calls of a packer by kind, each with the registers that it moves.
+
+ghost use Rattle.std.specs.Prelude.{◌≡◌, ◌+◌, ◌<◌, ◌≤◌, length, take, drop};
+ghost use Rattle.bitpacking.specs.Codes.{codes};
+ghost use Rattle.bitpacking.specs.Width.{Fits, IsWidth};
+ghost use Rattle.bitpacking.specs.Layout.{Holds, size};
+ghost use Rattle.bitpacking.specs.Moves.{Moves};
+
+use crate::{BitPacker, Kind, Steps};
+
+/// The calls that compress, decompress or give a width, for any kind, with their loads and stores counted.
+///
+/// A load or store of one register moves `BLOCK_LEN` / 32 numbers, or four times as many bytes. [`Steps`] takes no room at
+/// run time: the counts are for contracts alone.
+pub trait Counted: BitPacker {
+    /// Packs a block: 32 loads, and a store for each bit of the width. At width 0 nothing is loaded.
+    fn pack_counted(
+        &self,
+        kind: Kind,
+        decompressed: &[u32],
+        compressed: &mut [u8],
+        num_bits: u8,
+        steps: &mut Steps,
+    ) -> usize
+        requires block { length decompressed.now ≡ Self.BLOCK_LEN }
+        requires width { num_bits ≤ 32 }
+        requires room { size Self.lanes num_bits ≤ length compressed.old }
+        requires fits { Fits (codes kind decompressed.now) num_bits }
+        ensures size { result ≡ size Self.lanes num_bits }
+        ensures bytes { Holds Self.lanes num_bits kind decompressed.now (take (size Self.lanes num_bits) compressed.new) }
+        ensures rest { drop (size Self.lanes num_bits) compressed.new ≡ drop (size Self.lanes num_bits) compressed.old }
+        ensures none { num_bits ≡ 0 → Moves steps.old steps.new 0 0 0 }
+        ensures counts { 0 < num_bits → Moves steps.old steps.new 32 num_bits (32 + num_bits) };
+
+    /// Unpacks a block: a load for each bit of the width, and 32 stores.
+    fn unpack_counted(
+        &self,
+        kind: Kind,
+        compressed: &[u8],
+        decompressed: &mut [u32],
+        num_bits: u8,
+        steps: &mut Steps,
+    ) -> usize
+        requires width { num_bits ≤ 32 }
+        requires bytes { size Self.lanes num_bits ≤ length compressed.now }
+        requires room { Self.BLOCK_LEN ≤ length decompressed.old }
+        ensures size { result ≡ size Self.lanes num_bits }
+        ensures block { Holds Self.lanes num_bits kind (take Self.BLOCK_LEN decompressed.new) (take (size Self.lanes num_bits) compressed.now) }
+        ensures rest { drop Self.BLOCK_LEN decompressed.new ≡ drop Self.BLOCK_LEN decompressed.old }
+        ensures counts { Moves steps.old steps.new num_bits 32 (32 + num_bits) };
+
+    /// The least width of a block: 32 loads, and nothing is stored or held.
+    fn width_counted(&self, kind: Kind, decompressed: &[u32], steps: &mut Steps) -> u8
+        requires { length decompressed.now ≡ Self.BLOCK_LEN }
+        ensures width { IsWidth kind decompressed.now result }
+        ensures counts { Moves steps.old steps.new 32 0 0 }
+        ensures held { steps.new.held ≡ steps.old.held };
+}

@@ -1,0 +1,41 @@
+//! The least width of a block's codes.
+
+ghost use Rattle.std.specs.Prelude.{◌≡◌, ◌+◌, ◌*◌, length, fold, bit_or};
+ghost use Rattle.std.specs.Int.{count_leading_zeros};
+ghost use Rattle.bitpacking.specs.Width.{Least};
+ghost use Rattle.bitpacking.specs.Codes.{AreWords};
+ghost use Rattle.bitpacking.specs.Moves.{Moves};
+
+use crate::kinds::transformers::Transformer;
+use crate::memory::{Steps, ValueSource};
+use bitpacking_register::Register;
+
+/// The least width of the codes: that of the bits which are set in some code.
+#[inline(always)]
+pub(crate) fn width<R: Register, T: Transformer<R>>(
+    source: &ValueSource<'_>,
+    transformer: &mut T,
+    steps: &mut Steps,
+) -> u8
+    requires bits { source.now.bits ≡ 0 }
+    requires block { length source.now.words.now ≡ 32 * R.LANES }
+    requires codes { length (T.codes transformer.old source.now.words.now) ≡ 32 * R.LANES }
+    requires words { AreWords (T.codes transformer.old source.now.words.now) }
+    ensures width { Least (T.codes transformer.old source.now.words.now) result }
+    ensures counts { Moves steps.old steps.new 32 0 0 }
+    ensures held { steps.new.held ≡ steps.old.held }
+{
+    let mut all = R::splat(0);
+    for i in 0..32 {
+        all = all.or(transformer.transform(source.load(i, steps)));
+    }
+    most_significant_bit(all.or_lanes())
+}
+
+/// The number of binary digits of a number, 0 for 0.
+#[inline(always)]
+fn most_significant_bit(word: u32) -> u8
+    ensures { count_leading_zeros 32 word + result ≡ 32 }
+{
+    (32 - word.leading_zeros()) as u8
+}

@@ -1,0 +1,114 @@
+//! From codes to values, a register at a time, and the values to their places.
+
+ghost use Rattle.std.specs.Prelude.{
+  ◌≡◌,
+  ℕ,
+  ◌+◌,
+  ◌-◌,
+  ◌*◌,
+  ◌≤◌,
+  List,
+  [],
+  ◌++◌,
+  length,
+  map,
+  slice_index,
+  take,
+  drop,
+};
+ghost use Rattle.std.proofs.Common.{refl};
+ghost use Rattle.bitpacking_register.specs.Deltas.{running_sums};
+ghost use Rattle.bitpacking.specs.Codes.{one_more};
+ghost use Rattle.bitpacking.specs.Moves.{IsStore};
+
+use crate::memory::{Steps, ValueTarget};
+use bitpacking_register::Register;
+
+/// Stores the values whose codes it is handed, a register after the other.
+pub(crate) trait Sink<R: Register>: Drop {
+    // How many registers were stored.
+    ghost position: { Self → ℕ };
+
+    // The values of the codes that come next.
+    ghost values: { Self → List ℕ → List ℕ };
+
+    fn put(&mut self, codes: R, target: &mut ValueTarget<'_>, steps: &mut Steps)
+        requires within { R.LANES * position self.old + R.LANES ≤ length target.old.words.now }
+        requires loaded { target.old.bits ≤ steps.old.inside }
+        ensures position { position self.new ≡ position self.old + 1 }
+        ensures same_reference { target.new.words.ghost_name ≡ target.old.words.ghost_name }
+        ensures room { length target.new.words.now ≡ length target.old.words.now }
+        ensures stored { (rest : List ℕ)
+            → take (R.LANES * position self.old + R.LANES) target.new.words.now ++ values self.new rest
+            ≡ take (R.LANES * position self.old) target.old.words.now ++ values self.old (R.words codes ++ rest) }
+        ensures rest { drop (R.LANES * position self.old + R.LANES) target.new.words.now
+            ≡ drop (R.LANES * position self.old + R.LANES) target.old.words.now }
+        ensures bits { target.new.bits ≡ target.old.bits }
+        ensures counts { IsStore steps.old steps.new target.old.bits };
+
+    ghost values_of_none: { (sink : Self) → values sink [] ≡ [] };
+}
+
+/// The codes are the values.
+#[derive(Drop)]
+pub(crate) struct Store {
+    pub(crate) position: usize,
+}
+
+impl<R: Register> Sink<R> for Store {
+    ghost position = { λ s. s.position };
+
+    ghost values = { λ _ codes. codes };
+
+    #[inline(always)]
+    fn put(&mut self, codes: R, target: &mut ValueTarget<'_>, steps: &mut Steps) {
+        target.store(self.position, codes, steps);
+        self.position += 1;
+    }
+
+    ghost values_of_none = { λ _. refl };
+}
+
+/// The codes are the differences. The last lane of `previous` is the value before.
+#[derive(Drop)]
+pub(crate) struct DeltaIntegrate<R: Register> {
+    pub(crate) position: usize,
+    pub(crate) previous: R,
+}
+
+impl<R: Register> Sink<R> for DeltaIntegrate<R> {
+    ghost position = { λ s. s.position };
+
+    ghost values = { λ s codes. running_sums (slice_index (R.words s.previous) (R.LANES - 1)) codes };
+
+    #[inline(always)]
+    fn put(&mut self, codes: R, target: &mut ValueTarget<'_>, steps: &mut Steps) {
+        self.previous = R::integrate(self.previous, codes);
+        target.store(self.position, self.previous, steps);
+        self.position += 1;
+    }
+
+    ghost values_of_none = { λ _. refl };
+}
+
+/// The codes are the differences, each one less.
+#[derive(Drop)]
+pub(crate) struct StrictDeltaIntegrate<R: Register> {
+    pub(crate) position: usize,
+    pub(crate) previous: R,
+}
+
+impl<R: Register> Sink<R> for StrictDeltaIntegrate<R> {
+    ghost position = { λ s. s.position };
+
+    ghost values = { λ s codes. running_sums (slice_index (R.words s.previous) (R.LANES - 1)) (map one_more codes) };
+
+    #[inline(always)]
+    fn put(&mut self, codes: R, target: &mut ValueTarget<'_>, steps: &mut Steps) {
+        self.previous = R::integrate(self.previous, codes.add(R::splat(1)));
+        target.store(self.position, self.previous, steps);
+        self.position += 1;
+    }
+
+    ghost values_of_none = { λ _. refl };
+}

@@ -1,0 +1,21 @@
+//! Blocks of integers, each packed in as many bits as its greatest code needs.
+//!
+//! A packer takes blocks of a fixed length, finds the least width of a block, and writes the block in that many bits a
+//! number. The bytes hold neither the width nor the kind of the block: the caller keeps both.
+#![tactic(auto)]
+
+mod bit_packer;
+mod bitpacker1x;
+mod calls;
+mod counted;
+mod kernel;
+mod kind;
+mod kinds;
+pub mod laws;
+mod memory;
+
+pub use bit_packer::BitPacker;
+pub use bitpacker1x::BitPacker1x;
+pub use counted::Counted;
+pub use kind::Kind;
+pub use memory::Steps;
