@@ -13,3 +13,4 @@ pub mod Parts
 pub mod RegisterLemmas
 pub mod RowSteps
 pub mod LawProofs
+pub mod WorkedProofs

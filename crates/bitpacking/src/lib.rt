@@ -13,6 +13,7 @@ mod kind;
 mod kinds;
 pub mod laws;
 mod memory;
+mod worked_blocks;
 
 pub use bit_packer::BitPacker;
 pub use bitpacker1x::BitPacker1x;
