@@ -5,8 +5,8 @@ use Rattle.bitpacking.proofs.LaneNumbers.{lane_code, lane_word}
 use Rattle.bitpacking.proofs.PackSteps.{Packed}
 use Rattle.bitpacking.proofs.kernel.packing.pack.Given as goal
 
-abbrev pub invariant-loop-i : goal.invariant-loop-i
-invariant-loop-i g l = record {
+abbrev pub invariant-rows : goal.invariant-rows
+invariant-rows g l = record {
   place : 32 * l.stored + l.filled ≡ l.width * l.i;
   filled : l.filled < 32;
   codes : drop (g.R.Register.LANES * l.i) (g.T.Transformer.codes l.initial.transformer l.source.words.now)

@@ -4,8 +4,8 @@ use Rattle.bitpacking.specs.Bits.{AreBytes}
 use Rattle.bitpacking.proofs.LaneNumbers.{lane_code, lane_word}
 use Rattle.bitpacking.proofs.kernel.packing.pack_32.Given as goal
 
-abbrev pub invariant-loop-i : goal.invariant-loop-i
-invariant-loop-i g l = record {
+abbrev pub invariant-registers : goal.invariant-registers
+invariant-registers g l = record {
   codes : drop (g.R.Register.LANES * l.i) (g.T.Transformer.codes l.initial.transformer l.source.words.now)
       ≡ g.T.Transformer.codes l.transformer (drop (g.R.Register.LANES * l.i) l.source.words.now);
   done : (lane : ℕ) → lane < g.R.Register.LANES → (q : ℕ) → q < l.i
