@@ -8,7 +8,8 @@ use borrow.Rule.Slice.PartMut.{put_mid}
 use lib.Lanes.{zip2}
 use Rattle.bitpacking_register.specs.Words.{first_words, one_word, wrapping_sum, wrapping_difference, words_of_bytes, bytes_of_words}
 use Rattle.bitpacking_register.specs.Deltas.{differences, running_sums}
-use Rattle.bitpacking_register.proofs.WordLemmas.{AreWords, AreWords-differences, AreWords-running_sums, first_words-whole, first_words-zip2, first_words-map, take-whole, word-mod, bytes_of_words_more}
+use Rattle.bitpacking_register.proofs.WordLemmas.{AreWords, first_words-whole, first_words-zip2, first_words-map, take-whole, word-mod, bytes_of_words_more}
+use Rattle.bitpacking_register.proofs.SumLemmas.{AreWords-differences, AreWords-running_sums, differences-next, running_sums-next}
 use Rattle.bitpacking_register.proofs.ByteLemmas.{words_of_bytes-chunk}
 
 -- the first i words are those wanted, and the others are as they were
@@ -88,20 +89,6 @@ map_done n f fits xs words i e h le =
 
 -- ---- neighbours
 
-get_or-differences : (p : ℕ) (xs : List ℕ) (i : ℕ) → i < length xs
-    → get_or (differences p xs) i 0 ≡ wrapping_difference (get_or xs i 0) (get_or (p ∷ xs) i 0)
-get_or-differences p [] i lt = absurd (omega arith)
-get_or-differences p (x ∷ xs) zero lt = refl
-get_or-differences p (x ∷ xs) (suc i) lt = get_or-differences x xs i (omega arith)
-
-get_or-running_sums : (t : ℕ) (xs : List ℕ) (i : ℕ) → i < length xs
-    → get_or (running_sums t xs) i 0 ≡ wrapping_sum (get_or (t ∷ running_sums t xs) i 0) (get_or xs i 0)
-get_or-running_sums t [] i lt = absurd (omega arith)
-get_or-running_sums t (x ∷ xs) zero lt = refl
-get_or-running_sums t (x ∷ []) (suc i) lt = absurd (omega arith)
-get_or-running_sums t (x ∷ y ∷ ys) (suc zero) lt = omega arith
-get_or-running_sums t (x ∷ xs) (suc (suc i)) lt = get_or-running_sums (t + x) xs (suc i) (omega arith)
-
 -- the old word is the next one's neighbour
 pub differences_step : (p : ℕ) (xs words : List ℕ) (i before : ℕ) → before ≡ get_or (p ∷ xs) i 0
     → words ≡ written_to (differences p xs) xs i → i < length xs
@@ -112,7 +99,7 @@ differences_step p xs words i before b e lt =
     let next = next_as_it_was (differences p xs) xs words i e long lt in (
       rw (add-one) next,
       written_step (differences p xs) xs words i (wrapping_difference (get_or words i 0) before) e long lt
-          (rw (next, b) (sym (get_or-differences p xs i lt))),
+          (rw (next, b) (sym (differences-next p xs i lt))),
     )
 
 -- the new word is the next one's neighbour
@@ -124,7 +111,7 @@ running_sums_step t xs words i before b e lt =
     let long = (AreWords-running_sums (length xs) t xs refl).0 in
     let next = next_as_it_was (running_sums t xs) xs words i e long lt in
     let sum : wrapping_sum before (get_or words i 0) ≡ get_or (running_sums t xs) i 0 =
-    rw (next, b) (sym (get_or-running_sums t xs i lt)) in
+    rw (next, b) (sym (running_sums-next t xs i lt)) in
     (rw (add-one) sum, written_step (running_sums t xs) xs words i (wrapping_sum before (get_or words i 0)) e long lt sum)
 
 pub neighbours_done : (n : ℕ) (f : ℕ → List ℕ → List ℕ) → ((m p : ℕ) (xs : List ℕ) → length xs ≡ m → AreWords m (f p xs))
