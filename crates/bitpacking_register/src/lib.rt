@@ -6,6 +6,7 @@
 #![tactic(auto)]
 
 mod arrays;
+pub mod laws;
 mod register;
 mod vectors;
 mod word;
