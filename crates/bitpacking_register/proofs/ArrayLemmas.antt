@@ -29,29 +29,30 @@ pub written_step : (wanted initial words : List ℕ) (i x : ℕ) → words ≡ w
 written_step wanted initial words i x e same lt is =
     rw (e, is, add-one) (written_suc wanted initial i (omega arith) lt)
 
-next_of : (wanted initial : List ℕ) (i : ℕ) → length wanted ≡ length initial → i < length initial
+get_or-written_to : (wanted initial : List ℕ) (i : ℕ) → length wanted ≡ length initial → i < length initial
     → get_or (written_to wanted initial i) i 0 ≡ get_or initial i 0
-next_of [] ys i e lt = absurd (omega arith)
-next_of (x ∷ xs) [] i e lt = absurd (omega arith)
-next_of (x ∷ xs) (y ∷ ys) zero e lt = refl
-next_of (x ∷ xs) (y ∷ ys) (suc i) e lt = next_of xs ys i (omega arith) (omega arith)
+get_or-written_to [] ys i e lt = absurd (omega arith)
+get_or-written_to (x ∷ xs) [] i e lt = absurd (omega arith)
+get_or-written_to (x ∷ xs) (y ∷ ys) zero e lt = refl
+get_or-written_to (x ∷ xs) (y ∷ ys) (suc i) e lt = get_or-written_to xs ys i (omega arith) (omega arith)
 
 -- the word that is written next is still the old one
 pub next_as_it_was : (wanted initial words : List ℕ) (i : ℕ) → words ≡ written_to wanted initial i
     → length wanted ≡ length initial → i < length initial → get_or words i 0 ≡ get_or initial i 0
-next_as_it_was wanted initial words i e same lt = rw e (next_of wanted initial i same lt)
+next_as_it_was wanted initial words i e same lt = rw e (get_or-written_to wanted initial i same lt)
 
-all_of : (wanted initial : List ℕ) (i : ℕ) → length wanted ≡ length initial → length initial ≤ i → written_to wanted initial i ≡ wanted
-all_of [] [] zero e le = refl
-all_of [] [] (suc i) e le = refl
-all_of [] (y ∷ ys) i e le = absurd (omega arith)
-all_of (x ∷ xs) [] i e le = absurd (omega arith)
-all_of (x ∷ xs) (y ∷ ys) zero e le = absurd (omega arith)
-all_of (x ∷ xs) (y ∷ ys) (suc i) e le = ap (λ zs. x ∷ zs) (all_of xs ys i (omega arith) (omega arith))
+written_to-whole : (wanted initial : List ℕ) (i : ℕ) → length wanted ≡ length initial → length initial ≤ i
+    → written_to wanted initial i ≡ wanted
+written_to-whole [] [] zero e le = refl
+written_to-whole [] [] (suc i) e le = refl
+written_to-whole [] (y ∷ ys) i e le = absurd (omega arith)
+written_to-whole (x ∷ xs) [] i e le = absurd (omega arith)
+written_to-whole (x ∷ xs) (y ∷ ys) zero e le = absurd (omega arith)
+written_to-whole (x ∷ xs) (y ∷ ys) (suc i) e le = ap (λ zs. x ∷ zs) (written_to-whole xs ys i (omega arith) (omega arith))
 
 pub written_done : (wanted initial words : List ℕ) (i : ℕ) → words ≡ written_to wanted initial i
     → length wanted ≡ length initial → length initial ≤ i → words ≡ wanted
-written_done wanted initial words i e same le = e ∙ all_of wanted initial i same le
+written_done wanted initial words i e same le = e ∙ written_to-whole wanted initial i same le
 
 -- ---- two arrays, word by word
 
@@ -112,17 +113,19 @@ running_sums_step t xs words i before b e lt =
     let next = next_as_it_was (running_sums t xs) xs words i e long lt in
     let sum : wrapping_sum before (get_or words i 0) ≡ get_or (running_sums t xs) i 0 =
     rw (next, b) (sym (running_sums-next t xs i lt)) in
-    (rw (add-one) sum, written_step (running_sums t xs) xs words i (wrapping_sum before (get_or words i 0)) e long lt sum)
+    let now = wrapping_sum before (get_or words i 0) in
+    (rw (add-one) sum, written_step (running_sums t xs) xs words i now e long lt sum)
 
 pub neighbours_done : (n : ℕ) (f : ℕ → List ℕ → List ℕ) → ((m p : ℕ) (xs : List ℕ) → length xs ≡ m → AreWords m (f p xs))
     → (previous xs words : List ℕ) (i : ℕ) → words ≡ written_to (f (get_or previous (n - 1) 0) xs) xs i
     → AreWords n previous → AreWords n xs → n ≤ i
     → first_words n words ≡ f (get_or (first_words n previous) (n - 1) 0) (first_words n xs)
 neighbours_done n f are previous xs words i e g h le =
-    let wanted = are n (get_or previous (n - 1) 0) xs h.0 in
+    let wanted = f (get_or previous (n - 1) 0) xs in
+    let known = are n (get_or previous (n - 1) 0) xs h.0 in
     rw (first_words-whole n previous g, first_words-whole n xs h)
-    (ap (first_words n) (written_done (f (get_or previous (n - 1) 0) xs) xs words i e (wanted.0 ∙ sym h.0) (omega (arith, h.0)))
-    ∙ first_words-whole n (f (get_or previous (n - 1) 0) xs) wanted)
+    (ap (first_words n) (written_done wanted xs words i e (known.0 ∙ sym h.0) (omega (arith, h.0)))
+    ∙ first_words-whole n wanted known)
 
 -- ---- all words to one
 
@@ -133,11 +136,11 @@ fold_done n f xs i all e h end =
 
 -- ---- bytes
 
-head_of : (xs : List ℕ) (i : ℕ) → get_or (take 1 (drop i xs)) 0 0 ≡ get_or xs i 0
-head_of [] zero = refl
-head_of [] (suc i) = refl
-head_of (x ∷ xs) zero = refl
-head_of (x ∷ xs) (suc i) = head_of xs i
+get_or-take-drop : (xs : List ℕ) (i : ℕ) → get_or (take 1 (drop i xs)) 0 0 ≡ get_or xs i 0
+get_or-take-drop [] zero = refl
+get_or-take-drop [] (suc i) = refl
+get_or-take-drop (x ∷ xs) zero = refl
+get_or-take-drop (x ∷ xs) (suc i) = get_or-take-drop xs i
 
 pub load_step : (n : ℕ) (bytes words : List ℕ) (i x : ℕ)
     → words ≡ written_to (words_of_bytes bytes) (replicate n 0) i
@@ -147,9 +150,10 @@ pub load_step : (n : ℕ) (bytes words : List ℕ) (i x : ℕ)
 load_step n bytes words i x e h lt fits is =
     let four : 4 * i + 4 - 4 * i ≡ 4 = omega arith in
     let long = length-replicate n 0 in
+    let loaded : one_word x ≡ take 1 (drop i (words_of_bytes bytes)) =
+    is ∙ ap (λ k. words_of_bytes (take k (drop (4 * i) bytes))) four ∙ words_of_bytes-chunk i 1 bytes in
     let word : x ≡ get_or (words_of_bytes bytes) i 0 =
-    sym (word-mod x fits) ∙ ap (λ ws. get_or ws 0 0) (is ∙ ap (λ k. words_of_bytes (take k (drop (4 * i) bytes))) four ∙ words_of_bytes-chunk i 1 bytes)
-    ∙ head_of (words_of_bytes bytes) i in
+    sym (word-mod x fits) ∙ ap (λ ws. get_or ws 0 0) loaded ∙ get_or-take-drop (words_of_bytes bytes) i in
     written_step (words_of_bytes bytes) (replicate n 0) words i x e (h.0 ∙ sym long) (omega (arith, long)) word
 
 pub load_done : (n : ℕ) (bytes words : List ℕ) (i : ℕ) → words ≡ written_to (words_of_bytes bytes) (replicate n 0) i

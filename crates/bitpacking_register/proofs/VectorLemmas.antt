@@ -40,12 +40,14 @@ pub fold_l-or : (n : ℕ) (xs : List ℕ) → AreWords n xs → fold_l bit_or 0 
 fold_l-or n xs h = fold_l-fold bit_or 0 xs ∙ sym (ap (fold bit_or 0) (first_words-whole n xs h))
 
 -- a store of the whole slice
-pub put_chunk-whole : (xs ys : List ℕ) → length xs ≡ length ys → Each1 (Fits w32) ys → put_chunk 0 xs ys ≡ first_words (length xs) ys
+pub put_chunk-whole : (xs ys : List ℕ) → length xs ≡ length ys → Each1 (Fits w32) ys
+    → put_chunk 0 xs ys ≡ first_words (length xs) ys
 put_chunk-whole xs ys same fits =
     put_chunk_whole xs ys same ∙ sym (first_words-whole (length xs) ys (sym same, fits))
 
 -- a load of the whole slice
-pub first_words-chunk : (n : ℕ) (xs : List ℕ) → length xs ≡ n → ((k : ℕ) → Fits w32 (get_or xs k 0)) → first_words n (chunk 0 n xs) ≡ xs
+pub first_words-chunk : (n : ℕ) (xs : List ℕ) → length xs ≡ n → ((k : ℕ) → Fits w32 (get_or xs k 0))
+    → first_words n (chunk 0 n xs) ≡ xs
 first_words-chunk n xs long fits =
     ap (first_words n) (take-whole n xs long) ∙ first_words-whole n xs (AreWords-array n xs long fits)
 
@@ -101,7 +103,8 @@ first_words-delta n current previous some g h =
     (ap (first_words n) same ∙ first_words-whole n (differences before current) wanted)
 
 -- sums from 0 on, to which the last lane of the register before is added
-pub first_words-integral : (n : ℕ) (previous sums delta : List ℕ) → 1 ≤ n → sums ≡ running_sums 0 delta → AreWords n previous → AreWords n delta
+pub first_words-integral : (n : ℕ) (previous sums delta : List ℕ) → 1 ≤ n → sums ≡ running_sums 0 delta
+    → AreWords n previous → AreWords n delta
     → first_words n (zip2 wrapping_sum sums (replicate n (get_or (previous ++ previous) (n - 1) 0)))
     ≡ running_sums (get_or (first_words n previous) (n - 1) 0) (first_words n delta)
 first_words-integral n previous sums delta some is g h =

@@ -6,6 +6,6 @@ ghost use Rattle.bitpacking_register.specs.Laws.{SumsUndoDifferences, Difference
 ///
 /// Stated over the lists of words, so for every register at once.
 pub fn integrate_delta()
-    ensures integrated { SumsUndoDifferences }
-    ensures taken { DifferencesUndoSums }
+    ensures sums_of_differences { SumsUndoDifferences }
+    ensures differences_of_sums { DifferencesUndoSums }
 {}

@@ -81,7 +81,7 @@ impl Register for u32x4 {
         current - previous.shuffle::<4>(current, [3, 4, 5, 6])
     }
 
-    // `a b c d`, with the lane before: `a ab bc cd`, with two lanes before: `a ab abc abcd`; then `z` to all.
+    // Sums of two lanes, `a ab bc cd`, then of four, `a ab abc abcd`; then `z`, the last lane before, to all.
     #[inline(always)]
     fn integrate(previous: u32x4, delta: u32x4) -> u32x4 {
         let zero = u32x4::splat(0);
@@ -172,7 +172,7 @@ impl Register for u32x8 {
         current - previous.shuffle::<8>(current, [7, 8, 9, 10, 11, 12, 13, 14])
     }
 
-    // As with four lanes in each half, `.. abcd` and `.. efgh`; then `abcd` to the high half, and `z` to all.
+    // The same in each half, `a ab abc abcd e ef efg efgh`; then `abcd` to the high half, and `z` to all.
     #[inline(always)]
     fn integrate(previous: u32x8, delta: u32x8) -> u32x8 {
         let zero = u32x8::splat(0);
