@@ -8,7 +8,8 @@ use borrow.Rule.Slice.PartMut.{put_mid}
 use lib.Lanes.{zip2}
 use Rattle.bitpacking_register.specs.Words.{first_words, one_word, wrapping_sum, wrapping_difference, words_of_bytes, bytes_of_words}
 use Rattle.bitpacking_register.specs.Deltas.{differences, running_sums}
-use Rattle.bitpacking_register.proofs.WordLemmas.{AreWords, AreWords-differences, AreWords-running_sums, first_words-whole, first_words-zip2, first_words-map, take-whole, word-mod, bytes_of_words_more}
+use Rattle.bitpacking_register.proofs.WordLemmas.{AreWords, first_words-whole, first_words-zip2, first_words-map, take-whole, word-mod, bytes_of_words_more}
+use Rattle.bitpacking_register.proofs.SumLemmas.{AreWords-differences, AreWords-running_sums, differences-next, running_sums-next}
 use Rattle.bitpacking_register.proofs.ByteLemmas.{words_of_bytes-chunk}
 
 -- the first i words are those wanted, and the others are as they were
@@ -28,29 +29,30 @@ pub written_step : (wanted initial words : List ℕ) (i x : ℕ) → words ≡ w
 written_step wanted initial words i x e same lt is =
     rw (e, is, add-one) (written_suc wanted initial i (omega arith) lt)
 
-next_of : (wanted initial : List ℕ) (i : ℕ) → length wanted ≡ length initial → i < length initial
+get_or-written_to : (wanted initial : List ℕ) (i : ℕ) → length wanted ≡ length initial → i < length initial
     → get_or (written_to wanted initial i) i 0 ≡ get_or initial i 0
-next_of [] ys i e lt = absurd (omega arith)
-next_of (x ∷ xs) [] i e lt = absurd (omega arith)
-next_of (x ∷ xs) (y ∷ ys) zero e lt = refl
-next_of (x ∷ xs) (y ∷ ys) (suc i) e lt = next_of xs ys i (omega arith) (omega arith)
+get_or-written_to [] ys i e lt = absurd (omega arith)
+get_or-written_to (x ∷ xs) [] i e lt = absurd (omega arith)
+get_or-written_to (x ∷ xs) (y ∷ ys) zero e lt = refl
+get_or-written_to (x ∷ xs) (y ∷ ys) (suc i) e lt = get_or-written_to xs ys i (omega arith) (omega arith)
 
 -- the word that is written next is still the old one
 pub next_as_it_was : (wanted initial words : List ℕ) (i : ℕ) → words ≡ written_to wanted initial i
     → length wanted ≡ length initial → i < length initial → get_or words i 0 ≡ get_or initial i 0
-next_as_it_was wanted initial words i e same lt = rw e (next_of wanted initial i same lt)
+next_as_it_was wanted initial words i e same lt = rw e (get_or-written_to wanted initial i same lt)
 
-all_of : (wanted initial : List ℕ) (i : ℕ) → length wanted ≡ length initial → length initial ≤ i → written_to wanted initial i ≡ wanted
-all_of [] [] zero e le = refl
-all_of [] [] (suc i) e le = refl
-all_of [] (y ∷ ys) i e le = absurd (omega arith)
-all_of (x ∷ xs) [] i e le = absurd (omega arith)
-all_of (x ∷ xs) (y ∷ ys) zero e le = absurd (omega arith)
-all_of (x ∷ xs) (y ∷ ys) (suc i) e le = ap (λ zs. x ∷ zs) (all_of xs ys i (omega arith) (omega arith))
+written_to-whole : (wanted initial : List ℕ) (i : ℕ) → length wanted ≡ length initial → length initial ≤ i
+    → written_to wanted initial i ≡ wanted
+written_to-whole [] [] zero e le = refl
+written_to-whole [] [] (suc i) e le = refl
+written_to-whole [] (y ∷ ys) i e le = absurd (omega arith)
+written_to-whole (x ∷ xs) [] i e le = absurd (omega arith)
+written_to-whole (x ∷ xs) (y ∷ ys) zero e le = absurd (omega arith)
+written_to-whole (x ∷ xs) (y ∷ ys) (suc i) e le = ap (λ zs. x ∷ zs) (written_to-whole xs ys i (omega arith) (omega arith))
 
 pub written_done : (wanted initial words : List ℕ) (i : ℕ) → words ≡ written_to wanted initial i
     → length wanted ≡ length initial → length initial ≤ i → words ≡ wanted
-written_done wanted initial words i e same le = e ∙ all_of wanted initial i same le
+written_done wanted initial words i e same le = e ∙ written_to-whole wanted initial i same le
 
 -- ---- two arrays, word by word
 
@@ -88,20 +90,6 @@ map_done n f fits xs words i e h le =
 
 -- ---- neighbours
 
-get_or-differences : (p : ℕ) (xs : List ℕ) (i : ℕ) → i < length xs
-    → get_or (differences p xs) i 0 ≡ wrapping_difference (get_or xs i 0) (get_or (p ∷ xs) i 0)
-get_or-differences p [] i lt = absurd (omega arith)
-get_or-differences p (x ∷ xs) zero lt = refl
-get_or-differences p (x ∷ xs) (suc i) lt = get_or-differences x xs i (omega arith)
-
-get_or-running_sums : (t : ℕ) (xs : List ℕ) (i : ℕ) → i < length xs
-    → get_or (running_sums t xs) i 0 ≡ wrapping_sum (get_or (t ∷ running_sums t xs) i 0) (get_or xs i 0)
-get_or-running_sums t [] i lt = absurd (omega arith)
-get_or-running_sums t (x ∷ xs) zero lt = refl
-get_or-running_sums t (x ∷ []) (suc i) lt = absurd (omega arith)
-get_or-running_sums t (x ∷ y ∷ ys) (suc zero) lt = omega arith
-get_or-running_sums t (x ∷ xs) (suc (suc i)) lt = get_or-running_sums (t + x) xs (suc i) (omega arith)
-
 -- the old word is the next one's neighbour
 pub differences_step : (p : ℕ) (xs words : List ℕ) (i before : ℕ) → before ≡ get_or (p ∷ xs) i 0
     → words ≡ written_to (differences p xs) xs i → i < length xs
@@ -112,7 +100,7 @@ differences_step p xs words i before b e lt =
     let next = next_as_it_was (differences p xs) xs words i e long lt in (
       rw (add-one) next,
       written_step (differences p xs) xs words i (wrapping_difference (get_or words i 0) before) e long lt
-          (rw (next, b) (sym (get_or-differences p xs i lt))),
+          (rw (next, b) (sym (differences-next p xs i lt))),
     )
 
 -- the new word is the next one's neighbour
@@ -124,18 +112,20 @@ running_sums_step t xs words i before b e lt =
     let long = (AreWords-running_sums (length xs) t xs refl).0 in
     let next = next_as_it_was (running_sums t xs) xs words i e long lt in
     let sum : wrapping_sum before (get_or words i 0) ≡ get_or (running_sums t xs) i 0 =
-    rw (next, b) (sym (get_or-running_sums t xs i lt)) in
-    (rw (add-one) sum, written_step (running_sums t xs) xs words i (wrapping_sum before (get_or words i 0)) e long lt sum)
+    rw (next, b) (sym (running_sums-next t xs i lt)) in
+    let now = wrapping_sum before (get_or words i 0) in
+    (rw (add-one) sum, written_step (running_sums t xs) xs words i now e long lt sum)
 
 pub neighbours_done : (n : ℕ) (f : ℕ → List ℕ → List ℕ) → ((m p : ℕ) (xs : List ℕ) → length xs ≡ m → AreWords m (f p xs))
     → (previous xs words : List ℕ) (i : ℕ) → words ≡ written_to (f (get_or previous (n - 1) 0) xs) xs i
     → AreWords n previous → AreWords n xs → n ≤ i
     → first_words n words ≡ f (get_or (first_words n previous) (n - 1) 0) (first_words n xs)
 neighbours_done n f are previous xs words i e g h le =
-    let wanted = are n (get_or previous (n - 1) 0) xs h.0 in
+    let wanted = f (get_or previous (n - 1) 0) xs in
+    let known = are n (get_or previous (n - 1) 0) xs h.0 in
     rw (first_words-whole n previous g, first_words-whole n xs h)
-    (ap (first_words n) (written_done (f (get_or previous (n - 1) 0) xs) xs words i e (wanted.0 ∙ sym h.0) (omega (arith, h.0)))
-    ∙ first_words-whole n (f (get_or previous (n - 1) 0) xs) wanted)
+    (ap (first_words n) (written_done wanted xs words i e (known.0 ∙ sym h.0) (omega (arith, h.0)))
+    ∙ first_words-whole n wanted known)
 
 -- ---- all words to one
 
@@ -146,11 +136,11 @@ fold_done n f xs i all e h end =
 
 -- ---- bytes
 
-head_of : (xs : List ℕ) (i : ℕ) → get_or (take 1 (drop i xs)) 0 0 ≡ get_or xs i 0
-head_of [] zero = refl
-head_of [] (suc i) = refl
-head_of (x ∷ xs) zero = refl
-head_of (x ∷ xs) (suc i) = head_of xs i
+get_or-take-drop : (xs : List ℕ) (i : ℕ) → get_or (take 1 (drop i xs)) 0 0 ≡ get_or xs i 0
+get_or-take-drop [] zero = refl
+get_or-take-drop [] (suc i) = refl
+get_or-take-drop (x ∷ xs) zero = refl
+get_or-take-drop (x ∷ xs) (suc i) = get_or-take-drop xs i
 
 pub load_step : (n : ℕ) (bytes words : List ℕ) (i x : ℕ)
     → words ≡ written_to (words_of_bytes bytes) (replicate n 0) i
@@ -160,9 +150,10 @@ pub load_step : (n : ℕ) (bytes words : List ℕ) (i x : ℕ)
 load_step n bytes words i x e h lt fits is =
     let four : 4 * i + 4 - 4 * i ≡ 4 = omega arith in
     let long = length-replicate n 0 in
+    let loaded : one_word x ≡ take 1 (drop i (words_of_bytes bytes)) =
+    is ∙ ap (λ k. words_of_bytes (take k (drop (4 * i) bytes))) four ∙ words_of_bytes-chunk i 1 bytes in
     let word : x ≡ get_or (words_of_bytes bytes) i 0 =
-    sym (word-mod x fits) ∙ ap (λ ws. get_or ws 0 0) (is ∙ ap (λ k. words_of_bytes (take k (drop (4 * i) bytes))) four ∙ words_of_bytes-chunk i 1 bytes)
-    ∙ head_of (words_of_bytes bytes) i in
+    sym (word-mod x fits) ∙ ap (λ ws. get_or ws 0 0) loaded ∙ get_or-take-drop (words_of_bytes bytes) i in
     written_step (words_of_bytes bytes) (replicate n 0) words i x e (h.0 ∙ sym long) (omega (arith, long)) word
 
 pub load_done : (n : ℕ) (bytes words : List ℕ) (i : ℕ) → words ≡ written_to (words_of_bytes bytes) (replicate n 0) i

@@ -2,3 +2,4 @@ pub mod WordLemmas
 pub mod ByteLemmas
 pub mod SumLemmas
 pub mod ArrayLemmas
+pub mod VectorLemmas

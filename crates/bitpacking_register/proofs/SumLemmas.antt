@@ -1,9 +1,9 @@
 -- Differences of neighbours and running sums undo one another, and running sums go on from list to list.
-use Rattle.std.proofs.Common.{◌≡◌, ℕ, zero, suc, ◌+◌, ◌-◌, ◌%◌, ◌<◌, ◌≤◌, ◌^◌, List, [], ◌∷◌, ◌++◌, length, get_or, take, sum, add-one, refl, ◌∙◌, ap, arith}
+use Rattle.std.proofs.Common.{◌≡◌, ℕ, zero, suc, ◌+◌, ◌-◌, ◌%◌, ◌<◌, ◌≤◌, ◌^◌, List, [], ◌∷◌, ◌++◌, length, get_or, take, sum, map, add-one, refl, ◌∙◌, ap, arith}
 use lib.Lanes.{Each1}
 use Rattle.std.proofs.lemmas.List.Sums.{sum_by-cons}
-use Rattle.bitpacking_register.proofs.WordLemmas.{take-whole}
-use Rattle.bitpacking_register.specs.Words.{wrapping_sum}
+use Rattle.bitpacking_register.proofs.WordLemmas.{AreWords, take-whole, wrapping_sum-fits, wrapping_difference-fits}
+use Rattle.bitpacking_register.specs.Words.{wrapping_sum, wrapping_difference}
 use Rattle.bitpacking_register.specs.Deltas.{differences, running_sums}
 
 -- only the start modulo 2 ^ 32 counts
@@ -62,3 +62,44 @@ pub last-running_sums : (t : ℕ) (xs : List ℕ) → 1 ≤ length xs
 last-running_sums t xs some =
     get_or-running_sums t xs (length xs - 1) (omega arith)
     ∙ ap (λ ys. (t + sum ys) % 2 ^ 32) (take-whole (length xs - 1 + 1) xs (omega arith))
+
+-- ---- lane by lane
+
+-- each difference is a word less its neighbour
+pub differences-next : (p : ℕ) (xs : List ℕ) (i : ℕ) → i < length xs
+    → get_or (differences p xs) i 0 ≡ wrapping_difference (get_or xs i 0) (get_or (p ∷ xs) i 0)
+differences-next p [] i lt = absurd (omega arith)
+differences-next p (x ∷ xs) zero lt = refl
+differences-next p (x ∷ xs) (suc i) lt = differences-next x xs i (omega arith)
+
+-- each sum is its neighbour and a word
+pub running_sums-next : (t : ℕ) (xs : List ℕ) (i : ℕ) → i < length xs
+    → get_or (running_sums t xs) i 0 ≡ wrapping_sum (get_or (t ∷ running_sums t xs) i 0) (get_or xs i 0)
+running_sums-next t [] i lt = absurd (omega arith)
+running_sums-next t (x ∷ xs) zero lt = refl
+running_sums-next t (x ∷ []) (suc i) lt = absurd (omega arith)
+running_sums-next t (x ∷ y ∷ ys) (suc zero) lt = omega arith
+running_sums-next t (x ∷ xs) (suc (suc i)) lt = running_sums-next (t + x) xs (suc i) (omega arith)
+
+pub AreWords-differences : (n p : ℕ) (xs : List ℕ) → length xs ≡ n → AreWords n (differences p xs)
+AreWords-differences n p [] e = (e, tt)
+AreWords-differences zero p (x ∷ xs) e = absurd (omega arith)
+AreWords-differences (suc n) p (x ∷ xs) e =
+    let rest = AreWords-differences n x xs (omega arith) in
+    (ap suc rest.0, (wrapping_difference-fits x p, rest.1))
+
+pub AreWords-running_sums : (n t : ℕ) (xs : List ℕ) → length xs ≡ n → AreWords n (running_sums t xs)
+AreWords-running_sums n t [] e = (e, tt)
+AreWords-running_sums zero t (x ∷ xs) e = absurd (omega arith)
+AreWords-running_sums (suc n) t (x ∷ xs) e =
+    let rest = AreWords-running_sums n (t + x) xs (omega arith) in
+    (ap suc rest.0, (wrapping_sum-fits t x, rest.1))
+
+-- a start that is added afterwards
+pub running_sums-moved : (t u : ℕ) (xs : List ℕ) → map (λ s. wrapping_sum s t) (running_sums u xs) ≡ running_sums (t + u) xs
+running_sums-moved t u [] = refl
+running_sums-moved t u (x ∷ xs) =
+    let here : ((u + x) % 2 ^ 32 + t) % 2 ^ 32 ≡ (t + u + x) % 2 ^ 32 = omega arith in
+    let start : t + (u + x) ≡ t + u + x = omega arith in
+    let rest = running_sums-moved t (u + x) xs ∙ ap (λ n. running_sums n xs) start in
+    cc

@@ -1,3 +1,4 @@
 pub mod Words
 pub mod Deltas
+pub mod Laws
 pub mod WordLaws

@@ -2,6 +2,7 @@
 
 use super::Register;
 use std::process::Abort;
+use std::simd::prelude::*;
 
 fn check<R: Register>(rt: &impl Abort, words: &[u32; 8], bytes: &[u8; 32], sums: &[u32; 8]) {
     let lanes = R::LANES;
@@ -57,4 +58,6 @@ fn each_register(rt: HostRuntime) {
     check::<u32>(&rt, &words, &bytes, &sums);
     check::<[u32; 4]>(&rt, &words, &bytes, &sums);
     check::<[u32; 8]>(&rt, &words, &bytes, &sums);
+    check::<u32x4>(&rt, &words, &bytes, &sums);
+    check::<u32x8>(&rt, &words, &bytes, &sums);
 }

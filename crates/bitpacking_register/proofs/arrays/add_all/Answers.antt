@@ -6,10 +6,9 @@ use Rattle.bitpacking_register.proofs.arrays.add_all.Goals as goal
 
 pub loop-lane-preserved : goal.loop-lane-preserved
 loop-lane-preserved g c =
-    zip2_step wrapping_sum c.args.left c.args.right c.loop-lane.word-items c.loop-lane.lane c.loop-lane.invariant (omega arith) (omega arith)
+    zip2_step wrapping_sum _ _ _ _ c.loop-lane.invariant (omega arith) (omega arith)
 
 pub returns : goal.returns
 returns g c =
-    zip2_done g.row.N wrapping_sum (λ x y _ _. wrapping_sum-fits x y) c.args.left c.args.right c.loop-lane.word-items c.loop-lane.lane c.loop-lane.invariant
-    (AreWords-array g.row.N c.args.left (search rules) (search rules))
-    (AreWords-array g.row.N c.args.right (search rules) (search rules)) c.loop-lane-test.false
+    zip2_done _ wrapping_sum (λ x y _ _. wrapping_sum-fits x y) _ _ _ _ c.loop-lane.invariant
+    (AreWords-array _ _ (search rules) (search rules)) (AreWords-array _ _ (search rules) (search rules)) c.loop-lane-test.false

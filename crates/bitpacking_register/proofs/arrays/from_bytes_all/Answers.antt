@@ -5,10 +5,10 @@ use Rattle.bitpacking_register.proofs.arrays.from_bytes_all.Goals as goal
 
 pub loop-lane-preserved : goal.loop-lane-preserved
 loop-lane-preserved g c =
-    load_step g.row.N c.args.bytes.now c.loop-lane.word-items c.loop-lane.lane c.from_bytes.result c.loop-lane.invariant
-    (AreWords-loaded g.row.N c.args.bytes.now c.requires c.type_inv.bytes) c.loop-lane-test.true (search rules) c.from_bytes.ensures
+    load_step _ _ _ _ _ c.loop-lane.invariant
+    (AreWords-loaded _ _ c.requires c.type_inv.bytes) c.loop-lane-test.true (search rules) c.from_bytes.ensures
 
 pub returns : goal.returns
 returns g c =
-    load_done g.row.N c.args.bytes.now c.loop-lane.word-items c.loop-lane.lane c.loop-lane.invariant
-    (AreWords-loaded g.row.N c.args.bytes.now c.requires c.type_inv.bytes) c.loop-lane-test.false
+    load_done _ _ _ _ c.loop-lane.invariant
+    (AreWords-loaded _ _ c.requires c.type_inv.bytes) c.loop-lane-test.false

@@ -5,5 +5,5 @@ use Rattle.bitpacking_register.proofs.arrays.from_words_all.Goals as goal
 
 pub returns : goal.returns
 returns g c =
-    ap (first_words g.row.N) c.copy_from_slice.ensures.after
-    ∙ first_words-whole g.row.N c.args.values.now (AreWords-array g.row.N c.args.values.now c.requires c.type_inv.values)
+    ap (first_words _) c.copy_from_slice.ensures.after
+    ∙ first_words-whole _ c.args.values.now (AreWords-array _ c.args.values.now c.requires c.type_inv.values)

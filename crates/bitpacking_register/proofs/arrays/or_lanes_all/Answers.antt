@@ -5,5 +5,5 @@ use Rattle.bitpacking_register.proofs.arrays.or_lanes_all.Goals as goal
 
 pub returns : goal.returns
 returns g c =
-    fold_done g.row.N bit_or c.args.words c.loop-word.word-index c.loop-word.all c.loop-word.invariant
-    (AreWords-array g.row.N c.args.words (search rules) (search rules)) (omega arith)
+    fold_done _ bit_or _ c.loop-word.word-index _ c.loop-word.invariant
+    (AreWords-array _ _ (search rules) (search rules)) (omega arith)

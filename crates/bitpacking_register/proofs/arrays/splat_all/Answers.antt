@@ -4,4 +4,4 @@ use Rattle.bitpacking_register.proofs.arrays.splat_all.Goals as goal
 
 pub returns : goal.returns
 returns g c =
-    first_words-whole g.row.N (replicate g.row.N c.args.word) (AreWords-replicate g.row.N c.args.word c.ranges.word)
+    first_words-whole _ (replicate _ c.args.word) (AreWords-replicate _ c.args.word c.ranges.word)

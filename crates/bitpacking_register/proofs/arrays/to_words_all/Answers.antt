@@ -5,4 +5,4 @@ use Rattle.bitpacking_register.proofs.arrays.to_words_all.Goals as goal
 pub returns : goal.returns
 returns g c =
     c.copy_from_slice.ensures.after
-    ∙ sym (first_words-whole g.row.N c.args.words (AreWords-array g.row.N c.args.words (search rules) (search rules)))
+    ∙ sym (first_words-whole _ c.args.words (AreWords-array _ _ (search rules) (search rules)))

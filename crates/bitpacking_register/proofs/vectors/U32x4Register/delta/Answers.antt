@@ -1,0 +1,6 @@
+use Rattle.std.proofs.Common.{lit≤}
+use Rattle.bitpacking_register.proofs.VectorLemmas.{first_words-delta}
+use Rattle.bitpacking_register.proofs.vectors.U32x4Register.delta.Goals as goal
+
+pub returns : goal.returns
+returns c = first_words-delta 4 _ _ (lit≤ tt) c.fits-current c.fits-previous

@@ -1,0 +1,5 @@
+use Rattle.bitpacking_register.proofs.VectorLemmas.{first_words-sub}
+use Rattle.bitpacking_register.proofs.vectors.U32x4Register.sub.Goals as goal
+
+pub returns : goal.returns
+returns c = first_words-sub 4 _ _ c.fits-self c.fits-other

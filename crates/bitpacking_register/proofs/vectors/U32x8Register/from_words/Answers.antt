@@ -1,0 +1,5 @@
+use Rattle.bitpacking_register.proofs.VectorLemmas.{first_words-chunk}
+use Rattle.bitpacking_register.proofs.vectors.U32x8Register.from_words.Goals as goal
+
+pub returns : goal.returns
+returns c = first_words-chunk 8 _ c.requires c.type_inv.values
