@@ -4,6 +4,7 @@ ghost use Rattle.std.proofs.Common.{lit≤, refl};
 
 use crate::instruction_set::{InstructionSet, pack, unpack, width};
 use crate::{BitPacker, Counted, Kind, Steps};
+use std::simd::prelude::*;
 
 /// Packs blocks of 256 numbers. Number k stands in lane k % 8; the codes of a lane stand end to end in every eighth word.
 #[derive(Clone, Copy)]
@@ -24,7 +25,7 @@ impl BitPacker for BitPacker8x {
     ghost lanes = { 8 };
 
     fn new() -> Self {
-        BitPacker8x(InstructionSet::Scalar)
+        BitPacker8x(InstructionSet::Lanes)
     }
 
     fn compress(&self, decompressed: &[u32], compressed: &mut [u8], num_bits: u8) -> usize {
@@ -143,7 +144,7 @@ impl Counted for BitPacker8x {
         num_bits: u8,
         steps: &mut Steps,
     ) -> usize {
-        pack::<[u32; 8], [u32; 8]>(self.0, kind, decompressed, compressed, num_bits, steps)
+        pack::<u32x8, [u32; 8]>(self.0, kind, decompressed, compressed, num_bits, steps)
     }
 
     fn unpack_counted(
@@ -154,10 +155,10 @@ impl Counted for BitPacker8x {
         num_bits: u8,
         steps: &mut Steps,
     ) -> usize {
-        unpack::<[u32; 8], [u32; 8]>(self.0, kind, compressed, decompressed, num_bits, steps)
+        unpack::<u32x8, [u32; 8]>(self.0, kind, compressed, decompressed, num_bits, steps)
     }
 
     fn width_counted(&self, kind: Kind, decompressed: &[u32], steps: &mut Steps) -> u8 {
-        width::<[u32; 8], [u32; 8]>(self.0, kind, decompressed, steps)
+        width::<u32x8, [u32; 8]>(self.0, kind, decompressed, steps)
     }
 }
