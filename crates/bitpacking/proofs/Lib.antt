@@ -12,4 +12,6 @@ pub mod Storing
 pub mod Parts
 pub mod RegisterLemmas
 pub mod RowSteps
+pub mod OrderLemmas
+pub mod RoundTrips
 pub mod LawProofs
