@@ -4,27 +4,14 @@ use Rattle.std.proofs.Math.Nat.{mod-eq_of_lt, mod-mod}
 use Rattle.std.proofs.lemmas.Simd.{Each1-from_get_or}
 use Rattle.std.specs.Prelude.{unwrap_or}
 use Rattle.std.proofs.lemmas.List.Elements.{All-nil, All-cons, All-head, All-tail}
-use Rattle.std.proofs.lemmas.List.{length-map, ext_get_or, get_or-map}
+use Rattle.std.proofs.lemmas.List.{length-map}
 use Rattle.bitpacking.specs.declared.kind.Kind.{Kind}
 use Rattle.bitpacking.specs.declared.kind.Kind.TheVariants.{Plain, Sorted, StrictlySorted}
 use Rattle.bitpacking_register.specs.Deltas.{differences, running_sums}
-use Rattle.bitpacking_register.proofs.SumLemmas.{differences-running_sums, running_sums-differences, running_sums-mod, running_sums-append, last-running_sums}
+use Rattle.bitpacking_register.proofs.SumLemmas.{differences-running_sums, running_sums-mod, running_sums-append, last-running_sums}
 use Rattle.std.proofs.Math.Pow.{pow_mono}
 use Rattle.bitpacking.specs.Layout.{Layout, Holds}
 use Rattle.bitpacking.specs.Codes.{AreWords, codes, one_less, one_more, start}
-
--- what was subtracted and added again
-pub wrap_back : (x y : ℕ) → x < 2 ^ 32 → y ≤ 2 ^ 32 → (y + (x + (2 ^ 32 - y)) % 2 ^ 32) % 2 ^ 32 ≡ x
-wrap_back x y hx hy = omega arith
-
-pub wrap_forth : (x y : ℕ) → x < 2 ^ 32 → y ≤ 2 ^ 32 → ((y + x) % 2 ^ 32 + (2 ^ 32 - y)) % 2 ^ 32 ≡ x
-wrap_forth x y hx hy = omega arith
-
-pub running_sums-of_differences : (before : ℕ) (values : List ℕ) → before < 2 ^ 32 → AreWords values
-    → running_sums before (differences before values) ≡ values
-running_sums-of_differences before values small words =
-    running_sums-differences before before values (mod-eq_of_lt small)
-    (Each1-from_get_or (λ v. v < 2 ^ 32) values 0 (λ k lt. words k 0 lt))
 
 pub differences-of_running_sums : (before : ℕ) (values : List ℕ) → before < 2 ^ 32 → AreWords values
     → differences before (running_sums before values) ≡ values
@@ -99,24 +86,10 @@ codes-block_of (StrictlySorted initial) values h words =
     ap (map one_less) (differences-of_running_sums (unwrap_or initial 4294967295) (map one_more values) h (AreWords-more values))
     ∙ less-more values words
 
-pub block_of-codes : (kind : Kind) (block : List ℕ) → start kind < 2 ^ 32 → AreWords block
-    → block_of kind (codes kind block) ≡ block
-block_of-codes Plain block h words = refl
-block_of-codes (Sorted initial) block h words = running_sums-of_differences initial block h words
-block_of-codes (StrictlySorted initial) block h words =
-    ap (running_sums (unwrap_or initial 4294967295))
-    (more-less (differences (unwrap_or initial 4294967295) block) (AreWords-differences (unwrap_or initial 4294967295) block))
-    ∙ running_sums-of_differences (unwrap_or initial 4294967295) block h words
-
 pub AreWords-block_of : (kind : Kind) (values : List ℕ) → AreWords values → AreWords (block_of kind values)
 AreWords-block_of Plain values words = words
 AreWords-block_of (Sorted initial) values words = AreWords-running_sums initial values
 AreWords-block_of (StrictlySorted initial) values words = AreWords-running_sums (unwrap_or initial 4294967295) (map one_more values)
-
-pub same_block-from_codes : (kind : Kind) (xs ys : List ℕ) → start kind < 2 ^ 32 → AreWords xs → AreWords ys
-    → codes kind xs ≡ codes kind ys → xs ≡ ys
-same_block-from_codes kind xs ys h words words' e =
-    sym (block_of-codes kind xs h words) ∙ ap (block_of kind) e ∙ block_of-codes kind ys h words'
 
 -- no initial value stands for the greatest one
 pub codes-none : (block : List ℕ) → codes (StrictlySorted None) block ≡ codes (StrictlySorted (Some 4294967295)) block
@@ -159,14 +132,6 @@ running_sums-register before lanes xs ys out len some e =
     rw last (sym (mod-mod (before + sum xs) (2 ^ 32))) in
     rw e (running_sums-append before xs ys
     ∙ ap (λ zs. running_sums before xs ++ zs) (running_sums-mod (before + sum xs) (get_or (running_sums before xs) (lanes - 1) 0) ys same))
-
--- A register whose words are those of another, one less or one more.
-pub mapped : (f : ℕ → ℕ) (xs out : List ℕ) (lanes : ℕ) → length xs ≡ lanes → length out ≡ lanes
-    → ((l : ℕ) → l < lanes → get_or out l 0 ≡ f (get_or xs l 0)) → out ≡ map f xs
-mapped f xs out lanes len len' same =
-    ext_get_or 0 out (map f xs) (len' ∙ sym len ∙ sym (length-map xs f)) (λ l h.
-    let h' : l < length xs = omega arith in
-    same l (omega arith) ∙ sym (get_or-map f xs l 0 0 h'))
 
 -- Blocks with the same codes are the same, whatever stands before them.
 pub head_same : (x y : ℕ) (xs ys : List ℕ) → x ∷ xs ≡ y ∷ ys → x ≡ y

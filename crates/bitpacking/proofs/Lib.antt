@@ -12,5 +12,7 @@ pub mod Storing
 pub mod Parts
 pub mod RegisterLemmas
 pub mod RowSteps
+pub mod OrderLemmas
+pub mod RoundTrips
 pub mod LawProofs
 pub mod WorkedProofs

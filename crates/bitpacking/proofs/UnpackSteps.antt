@@ -3,12 +3,11 @@ use Rattle.bitpacking.specs.Layout.{Layout}
 use Rattle.bitpacking.proofs.LaneNumbers.{lane_code, lane_word, lane_code-lt, lanes-from_layout}
 use Rattle.bitpacking.specs.Words.{joined}
 use Rattle.bitpacking.specs.Bits.{AreBytes}
-use Rattle.std.proofs.lemmas.List.Edits.{fill_by_more}
-use Rattle.std.proofs.Common.{List, length, get_or, set, ◌≡◌, ℕ, zero, suc, ◌+◌, ◌-◌, ◌*◌, ◌/◌, ◌%◌, ◌^◌, ◌<◌, ◌≤◌, sym, ◌∙◌, ap, arith}
+use Rattle.std.proofs.Common.{List, ◌≡◌, ℕ, zero, suc, ◌+◌, ◌-◌, ◌*◌, ◌/◌, ◌%◌, ◌^◌, ◌<◌, ◌≤◌, sym, ◌∙◌, ap, arith}
 use Rattle.std.specs.Prelude.{bit_and, bit_or}
 use Rattle.std.proofs.Math.Nat.{mod-eq_of_lt}
 use Rattle.std.proofs.lemmas.Nat.{or_mod, shr-shr, mod-pow-add, field_of, mod_below, pow_pos, mul-le, and_mask, one_shl}
-use Rattle.bitpacking.proofs.Digits.{Small, joined-zero, joined-suc, joined-lt, joined-same, same_digits}
+use Rattle.bitpacking.proofs.Digits.{Small, joined-zero, joined-suc, joined-lt, same_digits}
 use Rattle.bitpacking.proofs.PackSteps.{or_above}
 use Rattle.std.proofs.Math.Pow.{mod-mod-pow}
 
@@ -88,26 +87,11 @@ Unpacked-load w number n loaded left pending word lt fit place read unpacked =
 pub masked : (n w : ℕ) → w < 32 → bit_and n ((1 * 2 ^ w) % 2 ^ 32 - 1) ≡ n % 2 ^ w
 masked n w lt = rw (one_shl w 32 lt) (and_mask n w)
 
--- A list that holds the digits of the number of a lane has the lane's layout.
-pub joined-digits_of : (w : ℕ) (words codes : ℕ → ℕ) → Small 32 words w
-    → ((i : ℕ) → i < 32 → codes i ≡ digit w (joined 32 words w) i)
-    → joined 32 words w ≡ joined w codes 32
-joined-digits_of w words codes small same =
-    let turn : w * 32 ≡ 32 * w = omega arith in
-    sym (joined-same w codes (digit w (joined 32 words w)) 32 same
-    ∙ joined-digit w (joined 32 words w) 32
-    ∙ rw turn (mod-eq_of_lt (joined-lt 32 words w small)))
-
 -- A word is loaded only where there is one.
 pub words_left : (w n loaded left : ℕ) → n < 32 → 32 * loaded ≡ w * n + left → left < w → loaded < w
 words_left w n loaded left lt place need =
     let h : (n + 1) * w ≤ 32 * w = mul-le (n + 1) w 32 w (omega arith) (omega arith) in
     omega arith
-
--- A loop's step that writes f i at i.
-pub filled_more : (f : ℕ → ℕ) (xs : List ℕ) (i v : ℕ) → i < length xs → v ≡ f i
-    → ((k : ℕ) → k < i → get_or xs k 0 ≡ f k) → (k : ℕ) → k < i + 1 → get_or (set xs i v) k 0 ≡ f k
-filled_more f xs i v lt e done = rw e (fill_by_more f xs i 0 lt done)
 
 -- The digits of a lane's number are the lane's codes, in any layout of the bytes.
 pub digit-code : (lanes width : ℕ) (values bytes : List ℕ) → AreBytes bytes → Layout lanes width values bytes

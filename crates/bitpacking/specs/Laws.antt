@@ -1,11 +1,13 @@
 -- Laws of the format, of the codes and of the width. Each is proved of the definitions alone.
-use Rattle.std.specs.Prelude.{◌≡◌, ℕ, ◌*◌, ◌^◌, ◌<◌, ◌≤◌, List, length, None, Some}
+use Rattle.std.specs.Prelude.{◌≡◌, ◌≢◌, ℕ, ◌+◌, ◌-◌, ◌*◌, ◌/◌, ◌%◌, ◌^◌, ◌<◌, ◌≤◌, ◌⊎◌, List, [], ◌∷◌, length, map, take, drop, slice_index, None, Some}
+use Rattle.std.specs.List.{range_with_len}
+use Rattle.std.specs.List.Sorted.{IsNonDecreasing, IsStrictlyIncreasing}
 use Rattle.bitpacking.specs.declared.kind.Kind.{Kind}
-use Rattle.bitpacking.specs.declared.kind.Kind.TheVariants.{StrictlySorted}
+use Rattle.bitpacking.specs.declared.kind.Kind.TheVariants.{Sorted, StrictlySorted}
 use Rattle.bitpacking.specs.Bits.{AreBytes}
 use Rattle.bitpacking.specs.Codes.{AreWords, codes, start}
-use Rattle.bitpacking.specs.Width.{Fits, Least}
-use Rattle.bitpacking.specs.Layout.{place, size, Layout}
+use Rattle.bitpacking.specs.Width.{Fits, IsWidth, Least}
+use Rattle.bitpacking.specs.Layout.{place, size, Holds, Layout}
 
 -- every bit of the bytes of a block is the place of one bit of one code, and of no other
 abbrev pub OneLayoutPlaces : Type 0
@@ -43,3 +45,71 @@ FitsGreater = (words : List ℕ) (width greater : ℕ) → width ≤ greater →
 -- no initial value stands for the last number
 abbrev pub NoneIsTheLastNumber : Type 0
 NoneIsTheLastNumber = (block : List ℕ) → codes (StrictlySorted None) block ≡ codes (StrictlySorted (Some 4294967295)) block
+
+-- of a block that increases from the initial value on, the strict width is the sorted one, or one less
+abbrev pub StrictSavesAtMostABit : Type 0
+StrictSavesAtMostABit = (initial : ℕ) (block : List ℕ) (width strict : ℕ)
+    → AreWords (initial ∷ block) → IsStrictlyIncreasing (initial ∷ block)
+    → IsWidth (Sorted initial) block width → IsWidth (StrictlySorted (Some initial)) block strict
+    → (strict ≡ width) ⊎ (strict + 1 ≡ width)
+
+-- each value less the one before it, with no value below that one; `before` stands before the first
+abbrev pub plain_differences : ℕ → List ℕ → List ℕ
+plain_differences before [] = []
+plain_differences before (value ∷ values) = (value - before) ∷ plain_differences value values
+
+-- of a block that does not decrease from the initial value on, the sorted codes are the plain differences
+abbrev pub SortedCodesAreDifferences : Type 0
+SortedCodesAreDifferences = (initial : ℕ) (block : List ℕ) → AreWords (initial ∷ block) → IsNonDecreasing (initial ∷ block)
+    → codes (Sorted initial) block ≡ plain_differences initial block
+
+-- the codes lane, lane + lanes, lane + 2 * lanes, ..
+abbrev pub lane_codes : ℕ → ℕ → List ℕ → List ℕ
+lane_codes lanes lane codes = map (λ i. slice_index codes (i * lanes + lane)) (range_with_len 0 32)
+
+-- the bytes of the words lane, lane + lanes, lane + 2 * lanes, .., one for each bit of the width
+abbrev pub lane_bytes : ℕ → ℕ → ℕ → List ℕ → List ℕ
+lane_bytes lanes lane width bytes =
+    map (λ u. slice_index bytes (4 * (lanes * (u / 4) + lane) + u % 4)) (range_with_len 0 (4 * width))
+
+-- each lane's words are the layout of one lane for its codes
+abbrev pub LanesAreOneLaneLayouts : Type 0
+LanesAreOneLaneLayouts = (lanes width lane : ℕ) (codes bytes : List ℕ) → lane < lanes → Layout lanes width codes bytes
+    → Layout 1 width (lane_codes lanes lane codes) (lane_bytes lanes lane width bytes)
+
+-- bytes that hold a block hold no other: unpacking what was packed gives the block back
+abbrev pub BytesHoldOneBlock : Type 0
+BytesHoldOneBlock = (lanes width : ℕ) (kind : Kind) (block other bytes : List ℕ) → AreWords block → AreWords other
+    → Holds lanes width kind block bytes → Holds lanes width kind other bytes → other ≡ block
+
+-- a block is held by one list of bytes: packing what was unpacked gives the bytes back
+abbrev pub BlockHasOneList : Type 0
+BlockHasOneList = (lanes width : ℕ) (kind : Kind) (block bytes others : List ℕ) → 0 < lanes
+    → AreBytes bytes → AreBytes others
+    → Holds lanes width kind block bytes → Holds lanes width kind block others → others ≡ bytes
+
+-- different blocks never share bytes
+abbrev pub BlocksShareNoBytes : Type 0
+BlocksShareNoBytes = (lanes width : ℕ) (kind : Kind) (block other bytes others : List ℕ) → AreWords block → AreWords other
+    → block ≢ other → Holds lanes width kind block bytes → Holds lanes width kind other others → bytes ≢ others
+
+-- the buffer begins with bytes that hold the block, and goes on as it was
+pub record IsPacked (lanes width : ℕ) (kind : Kind) (block old new : List ℕ) : Type 0 where
+  pub bytes : Holds lanes width kind block (take (size lanes width) new)
+  pub rest : drop (size lanes width) new ≡ drop (size lanes width) old
+
+-- the values begin with the block that the bytes hold, and go on as they were
+pub record IsUnpacked (lanes width : ℕ) (kind : Kind) (bytes old new : List ℕ) : Type 0 where
+  pub block : Holds lanes width kind (take (32 * lanes) new) (take (size lanes width) bytes)
+  pub rest : drop (32 * lanes) new ≡ drop (32 * lanes) old
+
+-- two calls that pack one block into equal buffers leave equal buffers
+abbrev pub EqualPackedBuffers : Type 0
+EqualPackedBuffers = (lanes width : ℕ) (kind : Kind) (block old new other : List ℕ) → 0 < lanes
+    → AreBytes new → AreBytes other
+    → IsPacked lanes width kind block old new → IsPacked lanes width kind block old other → other ≡ new
+
+-- two calls that unpack equal bytes over equal values leave equal values
+abbrev pub EqualUnpackedValues : Type 0
+EqualUnpackedValues = (lanes width : ℕ) (kind : Kind) (bytes old new other : List ℕ) → AreWords new → AreWords other
+    → IsUnpacked lanes width kind bytes old new → IsUnpacked lanes width kind bytes old other → other ≡ new

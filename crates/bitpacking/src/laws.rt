@@ -2,16 +2,24 @@
 //!
 //! The definitions stand in `specs/`: `bit_of` and `AreBytes` in Bits, `start` and `codes` in Codes, `Fits`, `Least` and
 //! `IsWidth` in Width, `place`, `size`, `Layout` and `Holds` in Layout. `bit_at` is the library's; `lanes` is a member of
-//! the trait `BitPacker`.
+//! the trait `BitPacker`. The laws themselves, and the words that only they need, are in Laws.
 
 ghost use Rattle.bitpacking.specs.Laws.{
+  BlocksShareNoBytes,
+  EqualPackedBuffers,
+  EqualUnpackedValues,
   FitsGreater,
+  LanesAreOneLaneLayouts,
   NoneIsTheLastNumber,
   OneBlock,
+  BytesHoldOneBlock,
+  BlockHasOneList,
   OneLayoutBytes,
   OneLayoutCodes,
   OneLayoutPlaces,
   OneLeastWidth,
+  SortedCodesAreDifferences,
+  StrictSavesAtMostABit,
 };
 
 /// Each bit of the bytes of a block is the place of exactly one bit of its codes. Codes that fit a width have exactly one
@@ -36,4 +44,34 @@ pub fn one_least_width()
 /// `StrictlySorted(None)` and `StrictlySorted(Some(4294967295))` have equal codes.
 pub fn none_is_the_last_number()
     ensures { NoneIsTheLastNumber }
+{}
+
+/// On a strictly increasing block above an initial value, the strict width is the sorted width or one less.
+pub fn strict_saves_at_most_a_bit()
+    ensures { StrictSavesAtMostABit }
+{}
+
+/// On a block in order, from an initial value up to its first, the sorted codes are the plain differences.
+pub fn sorted_codes_are_differences()
+    ensures { SortedCodesAreDifferences }
+{}
+
+/// The words of each lane are the bytes that the layout of one lane gives for the codes of that lane.
+pub fn lanes_are_one_lane_layouts()
+    ensures { LanesAreOneLaneLayouts }
+{}
+
+/// Round trips, for one kind with its initial value and one width. Decompressing what was compressed gives the block back;
+/// compressing what was decompressed gives the bytes back; and two different blocks never share bytes.
+pub fn round_trips()
+    ensures block { BytesHoldOneBlock }
+    ensures bytes { BlockHasOneList }
+    ensures shared { BlocksShareNoBytes }
+{}
+
+/// Calls with equal arguments and equal buffers leave equal buffers, whichever kernel runs: two that meet the clauses of a
+/// compress call, and two that meet those of a decompress call.
+pub fn equal_calls_leave_equal_buffers()
+    ensures packed { EqualPackedBuffers }
+    ensures unpacked { EqualUnpackedValues }
 {}

@@ -1,0 +1,8 @@
+use Rattle.bitpacking.proofs.RoundTrips.{equal_packed_buffers, equal_unpacked_values}
+use Rattle.bitpacking.proofs.laws.equal_calls_leave_equal_buffers.Goals as goal
+
+pub returns-clause-packed : goal.returns-clause-packed
+returns-clause-packed c = equal_packed_buffers
+
+pub returns-clause-unpacked : goal.returns-clause-unpacked
+returns-clause-unpacked c = equal_unpacked_values

@@ -1,0 +1,5 @@
+use Rattle.bitpacking.proofs.OrderLemmas.{sorted_codes_are_differences}
+use Rattle.bitpacking.proofs.laws.sorted_codes_are_differences.Goals as goal
+
+pub returns : goal.returns
+returns c = sorted_codes_are_differences
