@@ -2,6 +2,7 @@
 
 ghost use Rattle.std.proofs.Common.{lit≤, refl};
 
+use crate::bodies::SimpleLoops;
 use crate::calls::{pack_kind, unpack_kind, width_kind};
 use crate::{BitPacker, Counted, Kind, Steps};
 
@@ -136,7 +137,7 @@ impl Counted for BitPacker1x {
         num_bits: u8,
         steps: &mut Steps,
     ) -> usize {
-        pack_kind::<u32>(kind, decompressed, compressed, num_bits, steps)
+        pack_kind::<SimpleLoops, u32>(kind, decompressed, compressed, num_bits, steps)
     }
 
     fn unpack_counted(
@@ -147,7 +148,7 @@ impl Counted for BitPacker1x {
         num_bits: u8,
         steps: &mut Steps,
     ) -> usize {
-        unpack_kind::<u32>(kind, compressed, decompressed, num_bits, steps)
+        unpack_kind::<SimpleLoops, u32>(kind, compressed, decompressed, num_bits, steps)
     }
 
     fn width_counted(&self, kind: Kind, decompressed: &[u32], steps: &mut Steps) -> u8 {

@@ -162,3 +162,15 @@ impl Counted for BitPacker4x {
         width::<u32x4, [u32; 4]>(self.0, kind, decompressed, steps)
     }
 }
+
+#[cfg(test)]
+mod tests {
+    use super::*;
+
+    // No clause tells the two kernels apart.
+    #[test]
+    fn new_holds_lanes_and_scalar_arrays(rt: HostRuntime) {
+        assert!(rt; matches!(BitPacker4x::new().0, InstructionSet::Lanes));
+        assert!(rt; matches!(BitPacker4x::scalar().0, InstructionSet::Scalar));
+    }
+}

@@ -6,6 +6,7 @@ ghost use Rattle.bitpacking.specs.Width.{Fits, IsWidth};
 ghost use Rattle.bitpacking.specs.Layout.{Holds, size};
 ghost use Rattle.bitpacking.specs.Moves.{Moves};
 
+use crate::bodies::SimpleLoops;
 use crate::calls::{pack_kind, unpack_kind, width_kind};
 use crate::{Kind, Steps};
 use bitpacking_register::Register;
@@ -39,8 +40,20 @@ pub(crate) fn pack<V: Register, A: Register>(
     ensures counts { 0 < num_bits → Moves steps.old steps.new 32 num_bits (32 + num_bits) }
 {
     match set {
-        InstructionSet::Lanes => pack_kind::<V>(kind, decompressed, compressed, num_bits, steps),
-        InstructionSet::Scalar => pack_kind::<A>(kind, decompressed, compressed, num_bits, steps),
+        InstructionSet::Lanes => pack_kind::<SimpleLoops, V>(
+            kind,
+            decompressed,
+            compressed,
+            num_bits,
+            steps,
+        ),
+        InstructionSet::Scalar => pack_kind::<SimpleLoops, A>(
+            kind,
+            decompressed,
+            compressed,
+            num_bits,
+            steps,
+        ),
     }
 }
 
@@ -63,9 +76,15 @@ pub(crate) fn unpack<V: Register, A: Register>(
     ensures counts { Moves steps.old steps.new num_bits 32 (32 + num_bits) }
 {
     match set {
-        InstructionSet::Lanes => unpack_kind::<V>(kind, compressed, decompressed, num_bits, steps),
+        InstructionSet::Lanes => unpack_kind::<SimpleLoops, V>(
+            kind,
+            compressed,
+            decompressed,
+            num_bits,
+            steps,
+        ),
         InstructionSet::Scalar => {
-            unpack_kind::<A>(kind, compressed, decompressed, num_bits, steps)
+            unpack_kind::<SimpleLoops, A>(kind, compressed, decompressed, num_bits, steps)
         }
     }
 }

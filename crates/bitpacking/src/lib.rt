@@ -8,6 +8,7 @@ mod bit_packer;
 mod bitpacker1x;
 mod bitpacker4x;
 mod bitpacker8x;
+mod bodies;
 mod calls;
 mod counted;
 mod instruction_set;
