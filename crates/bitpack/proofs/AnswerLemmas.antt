@@ -1,5 +1,5 @@
 -- STAND-IN, to be replaced: the two laws of answers that the line loop takes.
-use Rattle.std.proofs.Common.{◌≡◌, ◌<◌, ◌≤◌, ℕ, List, [], ◌∷◌, ◌++◌, Bool, true, false, length, take, refl, sym, ap, ◌∙◌, arith, take_all, suc, inl, inr, nat_le, codes, if◌then◌else◌}
+use Rattle.std.proofs.Common.{◌≡◌, ◌<◌, ◌≤◌, ℕ, List, [], ◌∷◌, ◌++◌, false, length, take, refl, sym, ap, ◌∙◌, arith, take_all, suc, inl, inr, nat_le, codes, if◌then◌else◌}
 use Rattle.std.proofs.lemmas.Bool.Decides.{leb_tells, nat_tests}
 use Rattle.std.proofs.lemmas.List.{length-take-le}
 use Rattle.bitpack.specs.Answers.{IsAnswer, toy_answer}

@@ -4,7 +4,7 @@ use Rattle.std.specs.Prelude.{count_by}
 use Rattle.std.specs.List.{concat, onto_first}
 use Rattle.std.proofs.lemmas.List.{length-take, take-append-le, take_at, drop_at}
 use Rattle.std.proofs.lemmas.Bool.Decides.{eqb_tells}
-use Rattle.std.proofs.lemmas.List.Sums.{sum_by-cons, sum_by-append}
+use Rattle.std.proofs.lemmas.List.Sums.{sum_by-cons}
 use Rattle.bitpack.specs.Lines.{is_feed, lines, ended, open_line, held}
 
 -- ---- lines and line feeds

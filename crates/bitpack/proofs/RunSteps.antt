@@ -1,13 +1,13 @@
 -- What is written, a line at a time: answers, and beginnings of answers.
 use Rattle.std.proofs.Common.{◌≡◌, ◌≢◌, ℕ, Option, List, [], ◌∷◌, ◌++◌, Result, Ok, Err, OnErr, OnOk, IfErr, false, length, flat_map, refl, sym, ap, subst, ◌∙◌, append_assoc, append-nil}
 use Rattle.std.specs.List.{AllZip}
-use Rattle.std.specs.Io.KnownBytes.{Appends, Keeps}
+use Rattle.std.specs.Io.KnownBytes.{Keeps}
 use Rattle.std.proofs.KnownBytes.{Appends-kept, Appends-nil, Appends-trans}
 use Rattle.std.proofs.lemmas.List.Concat.{flat_map-append}
 use Rattle.bitpack.specs.Answers.{IsAnswer}
-use Rattle.bitpack.specs.Lines.{AnsweredSoFar, AppendsAnswer, AppendsAnswerInPart, AppendsAnswers, AppendsAnswersInPart, AreAnswers, IsBeginning, ended, held, is_feed, lines, open_line}
+use Rattle.bitpack.specs.Lines.{AnsweredSoFar, AppendsAnswer, AppendsAnswerInPart, AppendsAnswers, AppendsAnswersInPart, AreAnswers, ended, held, is_feed, lines, open_line}
 use Rattle.bitpack.proofs.AnswerLemmas.{answer_of, answer-held}
-use Rattle.bitpack.proofs.LineLemmas.{ended-feed, ended-nil, ended-other, held-nil, held-none, held-some, last_line, lines-all, lines-begin, open_line-feed, open_line-nil, open_line-other}
+use Rattle.bitpack.proofs.LineLemmas.{ended-feed, ended-nil, ended-other, held-nil, held-none, held-some, lines-all, lines-begin, open_line-feed, open_line-nil, open_line-other}
 
 -- ---- answers of lines
 

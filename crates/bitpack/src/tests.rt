@@ -9,6 +9,7 @@ mod faults;
 
 use super::run;
 use fakes::{Giver, Letters, Taker};
+use std::io::Read;
 use std::test::Fail;
 
 /// Three lines, the last without a line feed, and their answers.
@@ -63,7 +64,7 @@ fn a_line_is_at_most_65536_bytes(rt: HostRuntime) -> Result<(), Fail> {
         (65_537, b"", b"refused 6\n"),
     ];
     for (letters, then, answers) in cases {
-        let mut reader = Letters::new(letters, then);
+        let mut reader = Letters { left: letters }.chain(then);
         let mut writer = Taker::new(rt.alloc(), 100);
         assert_eq!(rt; run(rt.alloc(), &mut reader, &mut writer), Ok(()));
         assert_eq!(rt; writer.taken.as_slice(), answers, "{letters} letters");

@@ -42,37 +42,17 @@ impl<'a> Read for Giver<'a> {
     }
 }
 
-/// Gives so many letters `a`, and then the bytes of `then`. It needs no memory for the letters.
+/// Gives so many letters `a`, and needs no memory for them.
 #[derive(Drop)]
-pub struct Letters<'a> {
-    letters: usize,
-    then: Giver<'a>,
+pub struct Letters {
+    pub left: usize,
 }
 
-impl<'a> Letters<'a> {
-    pub fn new(letters: usize, then: &'a [u8]) -> Letters<'a> {
-        Letters {
-            letters,
-            then: Giver::new(then, 100),
-        }
-    }
-
-    /// The read after the letters and the bytes fails.
-    pub fn failing(letters: usize, then: &'a [u8]) -> Letters<'a> {
-        let mut reader = Letters::new(letters, then);
-        reader.then.fails_at = if then.is_empty() { 0 } else { 1 };
-        reader
-    }
-}
-
-impl<'a> Read for Letters<'a> {
+impl Read for Letters {
     fn read(&mut self, buffer: &mut [u8]) -> io::Result<usize> {
-        if self.letters == 0 {
-            return self.then.read(buffer);
-        }
-        let count = self.letters.min(buffer.len());
+        let count = self.left.min(buffer.len());
         buffer[..count].fill(b'a');
-        self.letters -= count;
+        self.left -= count;
         Ok(count)
     }
 }

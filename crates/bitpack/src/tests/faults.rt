@@ -6,11 +6,12 @@ use super::fakes::{Giver, Letters, Taker};
 use super::{ANSWERS, INPUT};
 use crate::{RunError, ending, run};
 use std::alloc::{AllocError, Global};
+use std::io::Read;
 use std::test::Fail;
 
 #[test]
 fn each_read_fails_in_turn(rt: HostRuntime) -> Result<(), Fail> {
-    // How many lines have ended after so many bytes of the input. The fifth read is the one that finds its end.
+    // How many lines have ended after so many bytes of the input; the last read is the one that finds its end.
     let ended = [0usize, 0, 1, 2, 2, 2];
     for (call, lines) in ended.iter().enumerate() {
         let mut reader = Giver::new(INPUT, 1);
@@ -34,7 +35,9 @@ fn a_line_is_answered_at_its_end(rt: HostRuntime) -> Result<(), Fail> {
         (100_000, b"\na", b"refused 6\n"),
     ];
     for (letters, then, answers) in cases {
-        let mut reader = Letters::failing(letters, then);
+        let mut fault = Giver::new(b"", 1);
+        fault.fails_at = 0;
+        let mut reader = Letters { left: letters }.chain(then).chain(fault);
         let mut writer = Taker::new(rt.alloc(), 100);
         let outcome = run(rt.alloc(), &mut reader, &mut writer);
         assert_eq!(rt; outcome, Err(RunError::Read), "{letters} letters");
@@ -115,28 +118,47 @@ fn take_all(alloc: Global) -> Result<Vec<Vec<u8>>, AllocError> {
     Ok(blocks)
 }
 
-/// So many blocks of so many bytes.
-fn spare(alloc: Global, count: usize, size: usize) -> Result<Vec<Vec<u8>>, AllocError> {
-    let mut blocks = Vec::with_capacity(alloc, count)?;
-    for _ in 0..count {
-        blocks.push(Vec::with_capacity(alloc, size)?)?;
+/// So many blocks of twice the bytes each, from 8 on: what a vector of bytes takes as it grows.
+fn growths(alloc: Global, count: u32) -> Result<Vec<Vec<u8>>, AllocError> {
+    let mut blocks = Vec::with_capacity(alloc, 20)?;
+    for power in 0..count.min(20) {
+        blocks.push(Vec::with_capacity(alloc, 8 << power)?)?;
     }
     Ok(blocks)
 }
 
+/// Runs over an empty line and one of so many letters, where so many growths of the line find memory.
+fn run_short_of_memory(
+    alloc: Global,
+    letters: usize,
+    count: u32,
+) -> Result<(Result<(), RunError>, Taker), AllocError> {
+    let first: &[u8] = b"\n";
+    let mut reader = first.chain(Letters { left: letters });
+    let mut writer = Taker::new(alloc, 100);
+    writer.taken.try_reserve(100)?;
+    let kept = growths(alloc, count)?;
+    let blocks = take_all(alloc)?;
+    drop(kept);
+    let outcome = run(alloc, &mut reader, &mut writer);
+    drop(blocks);
+    Ok((outcome, writer))
+}
+
 #[test]
 fn each_growth_is_refused_in_turn(rt: HostRuntime) -> Result<(), Fail> {
-    for count in 0..8usize {
-        let mut writer = Taker::new(rt.alloc(), 100);
-        writer.taken.try_reserve(100)?;
-        let mut reader = Letters::new(100, b"\n\n");
-        let kept = spare(rt.alloc(), count, 300)?;
-        let blocks = take_all(rt.alloc())?;
-        drop(kept);
-        let outcome = run(rt.alloc(), &mut reader, &mut writer);
-        drop(blocks);
-        let written = writer.taken.len();
-        println!(rt; "{count}: {outcome:?} {written}")?;
+    // The 15th growth has room for 131,072 bytes, and no line needs more, however long it is.
+    for letters in [65_537, 3_000_000] {
+        for count in 0..16u32 {
+            let (outcome, writer) = run_short_of_memory(rt.alloc(), letters, count)?;
+            let (want, answers): (Result<(), RunError>, &[u8]) = if count < 15 {
+                (Err(RunError::Memory), b"refused 1\n")
+            } else {
+                (Ok(()), b"refused 1\nrefused 6\n")
+            };
+            assert_eq!(rt; outcome, want, "{letters} letters, {count} growths");
+            assert_eq!(rt; writer.taken.as_slice(), answers, "{count} growths");
+        }
     }
     Ok(())
 }

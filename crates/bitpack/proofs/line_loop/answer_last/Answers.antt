@@ -1,4 +1,4 @@
-use Rattle.std.proofs.Common.{◌≡◌, ◌≢◌, length, rules}
+use Rattle.std.proofs.Common.{◌≢◌, length, rules}
 use Rattle.bitpack.specs.Lines.{AppendsAnswer, AppendsAnswerInPart, AppendsAnswers, AppendsAnswersInPart, lines}
 use Rattle.bitpack.proofs.RunSteps.{OnErr-to, OnOk-to, end_stop, end_with, end_without}
 use Rattle.bitpack.proofs.line_loop.answer_last.Goals as goal

@@ -1,7 +1,7 @@
-use Rattle.std.proofs.Common.{append-nil, ◌≡◌, ◌≢◌, ℕ, List, [], ◌++◌, OnOk, IfSome, Option, take, sym, ap, subst, ◌∙◌, rules, arith}
-use Rattle.std.specs.Io.KnownBytes.{Appends, Consumes}
+use Rattle.std.proofs.Common.{append-nil, ◌≡◌, ℕ, List, [], ◌++◌, Option, take, sym, ap, subst, ◌∙◌, rules}
+use Rattle.std.specs.Io.KnownBytes.{Consumes}
 use Rattle.std.proofs.KnownBytes.{Consumes-nil, Consumes-trans, Consumes-whole}
-use Rattle.bitpack.specs.Lines.{AnsweredSoFar, AnswersAll, AnswersInPart, AppendsAnswers, AppendsAnswersInPart, lines}
+use Rattle.bitpack.specs.Lines.{AnsweredSoFar, AnswersAll, AnswersInPart, AppendsAnswers, lines}
 use Rattle.bitpack.proofs.RunSteps.{IfErr-by, OnOk-by, appends-kept, none_step, part-all}
 use Rattle.bitpack.proofs.line_loop.run.Goals as goal
 

@@ -1,4 +1,4 @@
-use Rattle.std.proofs.Common.{◌≡◌, List, [], ◌∷◌, ◌++◌, rules, sym, ap, subst, ◌∙◌}
+use Rattle.std.proofs.Common.{◌≡◌, [], ◌∷◌, ◌++◌, rules, sym, subst}
 use Rattle.bitpack.specs.Lines.{AnsweredSoFar, AppendsAnswer, AppendsAnswerInPart, AppendsAnswersInPart, held, lines, open_line}
 use Rattle.bitpack.proofs.LineLemmas.{not_feed}
 use Rattle.bitpack.proofs.RunSteps.{OnErr-by, OnOk-to, feed_step, feed_stop, other_step, stop}

@@ -1,4 +1,4 @@
-use Rattle.std.proofs.Common.{◌≡◌, ℕ, ◌+◌, List, [], ◌∷◌, ◌++◌, get_or, length, take, drop, sym, ap, subst, ◌∙◌, rules, arith, append_assoc, append-nil, take_all, take-append-drop, ◌<◌}
+use Rattle.std.proofs.Common.{◌≡◌, ℕ, ◌+◌, List, [], ◌∷◌, ◌++◌, get_or, length, take, drop, sym, ap, subst, ◌∙◌, rules, append_assoc, append-nil, take_all, take-append-drop, ◌<◌}
 use Rattle.std.proofs.lemmas.List.{take_more, drop_more}
 use Rattle.bitpack.specs.Lines.{AnsweredSoFar, AppendsAnswersInPart, lines}
 use Rattle.bitpack.proofs.RunSteps.{OnErr-by}

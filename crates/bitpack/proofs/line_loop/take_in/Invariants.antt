@@ -1,4 +1,4 @@
-use Rattle.std.proofs.Common.{◌≡◌, ℕ, Option, List, ◌++◌, take}
+use Rattle.std.proofs.Common.{ℕ, Option, List, ◌++◌, take}
 use Rattle.bitpack.specs.Lines.{AnsweredSoFar}
 use Rattle.bitpack.proofs.line_loop.take_in.Given as goal
 
