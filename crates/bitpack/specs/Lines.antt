@@ -6,19 +6,20 @@ use Rattle.bitpack.specs.Answers.{IsAnswer}
 
 -- ---- lines
 
+-- a line feed
 abbrev pub is_feed : ℕ → Bool
 is_feed byte = byte == 10
 
--- the lines of an input: a line feed ends a line, and any other byte begins the line that goes on after it
+-- the lines of an input: a line feed ends one, and any other byte stands at the front of the line that goes on after it
 unfoldable pub lines : List ℕ → List (List ℕ)
 lines [] = []
 lines (byte ∷ bytes) = if is_feed byte then [] ∷ lines bytes else onto_first byte (lines bytes)
 
--- the lines whose line feed has come: only the last line can be without one
+-- the lines that have ended, one for each line feed: only the last line can be without
 unfoldable pub ended : List ℕ → List (List ℕ)
 ended bytes = take (count_by is_feed bytes) (lines bytes)
 
--- what has come of a line whose line feed has not
+-- what has come of a line that has not ended
 unfoldable pub open_line : List ℕ → List ℕ
 open_line bytes = concat (drop (count_by is_feed bytes) (lines bytes))
 

@@ -15,7 +15,7 @@ const LONGEST: usize = 65_536;
 /// The bytes of one read.
 const PIECE: usize = 4096;
 
-/// Adds a byte to the line. One byte too many is kept as well, to tell an over-long line, and the rest is passed over.
+/// Adds a byte to the line. Of an over-long line one byte too many is kept, which tells it, and the rest passed over.
 fn hold(line: &mut Vec<u8>, byte: u8) -> Result<(), RunError>
     ensures ok { (begun : List ℕ) → line.old.items ≡ held begun → OnOk result (line.new.items ≡ held (begun ++ byte ∷ [])) }
     ensures kind { IfErr result (λ e. e ≡ RunError.Memory) }
@@ -88,8 +88,9 @@ fn answer_last<W: Write>(alloc: Global, line: &[u8], writer: &mut W) -> Result<(
 
 /// Reads lines to the end of input and writes one answer for each; then flushes, once.
 ///
-/// Nothing is tried again: the first read, write or growth that fails ends the run. A reader whose end has not come after
-/// 2^64 - 1 reads is taken to have failed. Of a line at most 65,537 bytes are kept, whatever comes.
+/// Nothing is tried again: the first read, write or growth that fails ends the run, and after a fault nothing is flushed.
+/// A reader whose end has not come after 2^64 - 1 reads is taken to have failed. Of a line at most 65,537 bytes are kept,
+/// whatever comes.
 pub fn run<R: Read, W: Write>(alloc: Global, reader: &mut R, writer: &mut W) -> Result<(), RunError>
     // All that the reader gave, to its end, has been answered.
     ensures ok { OnOk result (AnswersAll (R.remaining reader.old) (R.remaining reader.new) (W.contents writer.old) (W.contents writer.new)) }

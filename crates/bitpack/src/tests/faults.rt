@@ -98,7 +98,7 @@ fn each_outcome_has_its_ending(rt: HostRuntime) -> Result<(), Fail> {
     Ok(())
 }
 
-/// Takes all the memory that there is to take, in blocks of falling size, down to a byte.
+/// Takes all the memory that there is to take, in blocks of falling size, until even a byte is refused.
 fn take_all(alloc: Global) -> Result<Vec<Vec<u8>>, AllocError> {
     let mut blocks = Vec::with_capacity(alloc, 100_000)?;
     let mut size = 1usize << 46;
