@@ -1,0 +1,14 @@
+-- How the program ends, by what its run came to.
+use Rattle.std.specs.Prelude.{ℕ, List, [], codes, Result, Ok, Err}
+use Rattle.bitpack.specs.declared.run_error.RunError.{RunError}
+use Rattle.bitpack.specs.declared.run_error.RunError.TheVariants.{Read, Write, Memory}
+
+abbrev pub ending_status : Result (Unit {0}) RunError → ℕ
+ending_status (Ok _) = 0
+ending_status (Err _) = 1
+
+abbrev pub ending_text : Result (Unit {0}) RunError → List ℕ
+ending_text (Ok _) = []
+ending_text (Err Read) = codes "bitpack: read failed"
+ending_text (Err Write) = codes "bitpack: write failed"
+ending_text (Err Memory) = codes "bitpack: out of memory"

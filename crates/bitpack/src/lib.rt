@@ -1,0 +1,20 @@
+//! The line program: one answer for each line of its input.
+//!
+//! [`run`] reads lines to the end of a reader and writes the answer to each; [`ending`] says how a program then ends.
+//!
+//! ```text
+//! pack 1x plain 1 1*32    ffffffff
+//! size 1x 13              52
+//! hello                   refused 1
+//! ```
+#![tactic(auto)]
+
+mod answer;
+mod line_loop;
+mod run_error;
+#[cfg(test)]
+mod tests;
+mod writing;
+
+pub use line_loop::run;
+pub use run_error::{RunError, ending};
