@@ -1,0 +1,7 @@
+//! Chains of packed blocks.
+#![tactic(auto)]
+
+pub mod chain;
+pub mod laws;
+#[cfg(test)]
+mod tests;
