@@ -1,6 +1,7 @@
-//! The line program: one answer for each line of its input.
+//! Chains of packed blocks, and the line program.
 //!
-//! [`run`] reads lines to the end of a reader and writes the answer to each; [`ending`] says how a program then ends.
+//! [`chain`] packs many blocks of one kind end to end. [`run`] reads lines to the end of a reader and writes the answer to
+//! each; [`ending`] says how a program then ends.
 //!
 //! ```text
 //! pack 1x plain 1 1*32    ffffffff
@@ -10,6 +11,8 @@
 #![tactic(auto)]
 
 mod answer;
+pub mod chain;
+pub mod laws;
 mod line_loop;
 mod run_error;
 #[cfg(test)]

@@ -1,0 +1,36 @@
+-- Chains of blocks: each begins at the last value of the one before it.
+use Rattle.std.specs.Prelude.{◌≡◌, ℕ, ◌-◌, ◌*◌, ◌≤◌, List, [], ◌∷◌, take, drop, slice_index, Some, ⊤}
+use Rattle.bitpacking.specs.declared.kind.Kind.{Kind}
+use Rattle.bitpacking.specs.declared.kind.Kind.TheVariants.{Plain, Sorted, StrictlySorted}
+use Rattle.bitpacking.specs.Width.{IsWidth}
+use Rattle.bitpacking.specs.Layout.{size, Holds}
+
+-- the kind of the block after one of this kind that ends with this value
+abbrev pub next_kind : Kind → ℕ → Kind
+next_kind Plain last = Plain
+next_kind (Sorted initial) last = Sorted last
+next_kind (StrictlySorted initial) last = StrictlySorted (Some last)
+
+-- the kind of the block after the first one of these values
+abbrev pub second_kind : ℕ → Kind → List ℕ → Kind
+second_kind lanes kind values = next_kind kind (slice_index values (32 * lanes - 1))
+
+-- the values are blocks, one for each width, and the bytes hold them one after the other; the widths need not be the least
+abbrev pub Loose : ℕ → Kind → List ℕ → List ℕ → List ℕ → Type 0
+Loose lanes kind values [] bytes = (values ≡ []) × (bytes ≡ [])
+Loose lanes kind values (width ∷ widths) bytes =
+    (width ≤ 32)
+    × Holds lanes width kind (take (32 * lanes) values) (take (size lanes width) bytes)
+    × Loose lanes (second_kind lanes kind values) (drop (32 * lanes) values) widths (drop (size lanes width) bytes)
+
+-- each width is the least of its block
+abbrev pub LeastWidths : ℕ → Kind → List ℕ → List ℕ → Type 0
+LeastWidths lanes kind values [] = ⊤
+LeastWidths lanes kind values (width ∷ widths) =
+    IsWidth kind (take (32 * lanes) values) width
+    × LeastWidths lanes (second_kind lanes kind values) (drop (32 * lanes) values) widths
+
+-- the same at the least widths
+pub record Chained (lanes : ℕ) (kind : Kind) (values widths bytes : List ℕ) : Type 0 where
+  pub loose : Loose lanes kind values widths bytes
+  pub least : LeastWidths lanes kind values widths
