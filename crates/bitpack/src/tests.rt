@@ -4,9 +4,11 @@
 //! The expected text is worked by hand from the line language: a line that is none of its commands, also an empty one, is
 //! answered `refused 1`, and one of more than 65,536 bytes `refused 6`.
 
+mod blocks;
 mod chains;
 mod fakes;
 mod faults;
+mod worked;
 
 use super::run;
 use fakes::{Giver, Letters, Taker};
