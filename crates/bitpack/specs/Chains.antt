@@ -30,7 +30,7 @@ LeastWidths lanes kind values (width ∷ widths) =
     IsWidth kind (take (32 * lanes) values) width
     × LeastWidths lanes (second_kind lanes kind values) (drop (32 * lanes) values) widths
 
--- the same at the least widths
+-- the same, with each width the least
 pub record Chained (lanes : ℕ) (kind : Kind) (values widths bytes : List ℕ) : Type 0 where
   pub loose : Loose lanes kind values widths bytes
   pub least : LeastWidths lanes kind values widths

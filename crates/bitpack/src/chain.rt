@@ -27,14 +27,15 @@ pub fn pack_all<P: BitPacker>(
     ensures rest { drop result out.new ≡ drop result out.old }
 {
     let len = P::BLOCK_LEN;
-    let mut kind = kind;
+    let blocks = widths.len();
+    let mut block_kind = kind;
     let mut written = 0;
-    for index in 0..widths.len() {
+    for index in 0..blocks {
         let block = &values[index * len..index * len + len];
-        let width = width_kind(packer, kind, block);
+        let width = width_kind(packer, block_kind, block);
         widths[index] = width;
-        written += compress_kind(packer, kind, block, &mut out[written..], width);
-        kind = next_kind(kind, block[len - 1]);
+        written += compress_kind(packer, block_kind, block, &mut out[written..], width);
+        block_kind = next_kind(block_kind, block[len - 1]);
     }
     written
 }
@@ -53,16 +54,18 @@ pub fn unpack_all<P: BitPacker>(
     requires bytes { 4 * P.lanes * sum widths.now ≤ length bytes.now }
     requires room { P.BLOCK_LEN * length widths.now ≤ length values.old }
     ensures size { result ≡ 4 * P.lanes * sum widths.now }
-    ensures chain { Loose P.lanes kind (take (P.BLOCK_LEN * length widths.now) values.new) widths.now (take result bytes.now) }
-    ensures rest { drop (P.BLOCK_LEN * length widths.now) values.new ≡ drop (P.BLOCK_LEN * length widths.now) values.old }
+    ensures chain { Loose P.lanes kind (take (P.BLOCK_LEN * length widths.now) values.new) widths.now
+        (take result bytes.now) }
+    ensures rest { drop (P.BLOCK_LEN * length widths.now) values.new
+        ≡ drop (P.BLOCK_LEN * length widths.now) values.old }
 {
     let len = P::BLOCK_LEN;
-    let mut kind = kind;
+    let mut block_kind = kind;
     let mut read = 0;
     for index in 0..widths.len() {
-        let block = &mut values[index * len..index * len + len];
-        read += decompress_kind(packer, kind, &bytes[read..], block, widths[index]);
-        kind = next_kind(kind, block[len - 1]);
+        let unpacked = &mut values[index * len..index * len + len];
+        read += decompress_kind(packer, block_kind, &bytes[read..], unpacked, widths[index]);
+        block_kind = next_kind(block_kind, unpacked[len - 1]);
     }
     read
 }

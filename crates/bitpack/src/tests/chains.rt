@@ -4,56 +4,40 @@ use crate::chain::{pack_all, unpack_all};
 use bitpacking::{BitPacker, BitPacker1x, Kind};
 use std::process::Abort;
 
-/// Fills the places with what follows `previous`, each value that much greater, and returns the last.
-fn fill(places: &mut [u32], previous: u32, step: u32) -> u32 {
+/// Places of which the first go on from `previous` in steps, modulo 2 ^ 32. The others hold 9.
+fn rising<const N: usize>(count: usize, previous: u32, step: u32) -> [u32; N] {
     let mut value = previous;
-    for place in places {
+    let mut places = [9; N];
+    for place in places.iter_mut().take(count) {
         value = value.wrapping_add(step);
         *place = value;
     }
-    value
+    places
 }
 
 #[test]
 fn differences_of_1_and_then_of_2(rt: HostRuntime) {
     let packer = BitPacker1x::new();
+    let kind = Kind::Sorted(0);
     let mut values = [0; 64];
-    let last = fill(&mut values[..32], 0, 1);
-    fill(&mut values[32..], last, 2);
+    let mut value: u32 = 0;
+    for (index, place) in values.iter_mut().enumerate() {
+        value = value.wrapping_add(if index < 32 { 1 } else { 2 });
+        *place = value;
+    }
+    let bytes = [255, 255, 255, 255, 170, 170, 170, 170, 170, 170, 170, 170];
     let mut widths = [99; 2];
     let mut out = [9; 256];
-    let size = pack_all(&packer, Kind::Sorted(0), &values, &mut widths, &mut out);
-    assert_eq!(rt; size, 12);
+    assert_eq!(rt; pack_all(&packer, kind, &values, &mut widths, &mut out), 12);
     assert!(rt; widths == [1, 2]);
-    let bytes = [255, 255, 255, 255, 170, 170, 170, 170, 170, 170, 170, 170];
     assert!(rt; out[..12] == bytes[..]);
     assert!(rt; out[12..].iter().all(|byte| *byte == 9));
-    let mut back = [9; 65];
-    let size = unpack_all(&packer, Kind::Sorted(0), &[1, 2], &bytes, &mut back);
-    assert_eq!(rt; size, 12);
-    assert!(rt; back[..64] == values[..]);
-    assert_eq!(rt; back[64], 9);
-}
-
-#[test]
-fn blocks_of_width_0(rt: HostRuntime) {
-    let packer = BitPacker1x::new();
-    let kind = Kind::StrictlySorted(None);
-    let mut values = [0; 64];
-    fill(&mut values, u32::MAX, 1);
-    let mut widths = [99; 2];
-    let mut out = [9; 256];
-    assert_eq!(rt; pack_all(&packer, kind, &values, &mut widths, &mut out), 0);
-    assert!(rt; widths == [0, 0]);
-    assert!(rt; out == [9; 256]);
     let mut back = [9; 64];
-    assert_eq!(rt; unpack_all(&packer, kind, &[0, 0], &[], &mut back), 0);
+    assert_eq!(rt; unpack_all(&packer, kind, &[1, 2], &bytes, &mut back), 12);
     assert!(rt; back == values);
 }
 
-#[test]
-fn no_blocks(rt: HostRuntime) {
-    let packer = BitPacker1x::new();
+fn no_blocks<P: BitPacker>(rt: &impl Abort, packer: &P) {
     for kind in [
         Kind::Plain,
         Kind::Sorted(5),
@@ -61,27 +45,37 @@ fn no_blocks(rt: HostRuntime) {
         Kind::StrictlySorted(Some(5)),
     ] {
         let mut out = [9; 2];
-        assert_eq!(rt; pack_all(&packer, kind, &[], &mut [], &mut out), 0);
+        assert_eq!(rt; pack_all(packer, kind, &[], &mut [], &mut out), 0);
         assert!(rt; out == [9; 2]);
         let mut values = [9; 2];
-        assert_eq!(rt; unpack_all(&packer, kind, &[], &[1, 2], &mut values), 0);
+        assert_eq!(rt; unpack_all(packer, kind, &[], &[1, 2], &mut values), 0);
         assert!(rt; values == [9; 2]);
     }
 }
 
-#[test]
-fn a_width_above_the_least(rt: HostRuntime) {
-    let mut values = [9; 33];
-    let size = unpack_all(
-        &BitPacker1x::new(),
-        Kind::Plain,
-        &[2],
-        &[85; 8],
-        &mut values,
-    );
-    assert_eq!(rt; size, 8);
-    assert!(rt; values[..32].iter().all(|value| *value == 1));
-    assert_eq!(rt; values[32], 9);
+/// 0, 1, 2, .. after the last number.
+fn two_blocks_of_width_0<P: BitPacker>(rt: &impl Abort, packer: &P) {
+    let len = P::BLOCK_LEN;
+    let kind = Kind::StrictlySorted(None);
+    let values: [u32; 513] = rising(2 * len, u32::MAX, 1);
+    let mut widths = [99; 2];
+    let mut out = [9; 2048];
+    let size = pack_all(packer, kind, &values[..2 * len], &mut widths, &mut out);
+    assert_eq!(rt; size, 0);
+    assert!(rt; widths == [0, 0]);
+    assert!(rt; out.iter().all(|byte| *byte == 9));
+    let mut back = [9; 513];
+    assert_eq!(rt; unpack_all(packer, kind, &[0, 0], &[], &mut back), 0);
+    assert!(rt; back == values);
+}
+
+/// Ones, in two bits each.
+fn a_width_above_the_least<P: BitPacker>(rt: &impl Abort, packer: &P) {
+    let ones: [u32; 257] = rising(P::BLOCK_LEN, 1, 0);
+    let mut values = [9; 257];
+    let size = unpack_all(packer, Kind::Plain, &[2], &[0x55; 64], &mut values);
+    assert_eq!(rt; size, P::BLOCK_LEN / 4);
+    assert!(rt; values == ones);
 }
 
 /// The value with this code.
@@ -130,7 +124,10 @@ fn three_blocks<P: BitPacker>(rt: &impl Abort, packer: &P, kind: Kind, start: u3
     assert!(rt; back == values);
 }
 
-fn three_blocks_of_each_kind<P: BitPacker>(rt: &impl Abort, packer: &P) {
+fn chains<P: BitPacker>(rt: &impl Abort, packer: &P) {
+    no_blocks(rt, packer);
+    two_blocks_of_width_0(rt, packer);
+    a_width_above_the_least(rt, packer);
     for (kind, start) in [
         (Kind::Plain, 0),
         (Kind::Sorted(7), 7),
@@ -143,6 +140,6 @@ fn three_blocks_of_each_kind<P: BitPacker>(rt: &impl Abort, packer: &P) {
 }
 
 #[test]
-fn three_blocks_of_1x(rt: HostRuntime) {
-    three_blocks_of_each_kind(&rt, &BitPacker1x::new());
+fn chains_of_1x(rt: HostRuntime) {
+    chains(&rt, &BitPacker1x::new());
 }

@@ -1,4 +1,4 @@
-use Rattle.std.proofs.Common.{◌≡◌, ℕ, ◌+◌, ◌-◌, ◌*◌, ◌<◌, ◌≤◌, List, ◌∷◌, [], ◌++◌, length, take, drop, get_or, set, sum, add-one, refl, sym, ◌∙◌, ap, arith}
+use Rattle.std.proofs.Common.{◌≡◌, ℕ, ◌+◌, ◌-◌, ◌*◌, ◌≤◌, List, ◌∷◌, [], ◌++◌, length, take, drop, get_or, set, add-one, refl, sym, ◌∙◌, ap, arith}
 use Rattle.std.proofs.Math.Seq.{take-suc-set}
 use Rattle.std.proofs.lemmas.List.{take_all, length-take, length-drop}
 use Rattle.std.proofs.lemmas.Nat.{mul-le}
@@ -6,6 +6,19 @@ use Rattle.bitpacking.specs.Layout.{size}
 use Rattle.bitpack.specs.Chains.{next_kind}
 use Rattle.bitpack.proofs.ChainLemmas.{Loose_step, LeastWidths_step, Loose_done, LeastWidths_done, take-block, length-block, take-put_end, drop-put_end, drop-further, sum-more, bound-more}
 use Rattle.bitpack.proofs.chain.pack_all.Goals as goal
+
+pub compress_kind-written-requires-clause-room : goal.compress_kind-written-requires-clause-room
+compress_kind-written-requires-clause-room g c =
+    let lanes : ℕ = g.P.BitPacker.lanes in
+    let width : ℕ = c.width_kind-width.result in
+    let i : ℕ = c.loop-index.index in
+    let blocks : ℕ = length c.args.widths.now in
+    let all : length c.args.values.now ≡ 32 * lanes * blocks =
+    c.requires.blocks ∙ ap (λ n. n * blocks) g.met.P.BitPacker.block_len in
+    let reach : 32 * lanes * (i + 1) ≤ 32 * lanes * blocks = mul-le (32 * lanes) (i + 1) (32 * lanes) blocks (omega arith) (omega arith) in
+    let more = bound-more lanes c.loop-index.written (size lanes width) width i c.loop-index.invariant.bound refl
+    c.width_kind-width.ensures.narrow in
+    simp (length-take, length-drop) (omega arith)
 
 pub loop-index-preserved : goal.loop-index-preserved
 loop-index-preserved g c =
@@ -32,8 +45,8 @@ loop-index-preserved g c =
     let within : written ≤ length out = omega arith in
     let room : length part ≡ length out - written =
     c.compress_kind-written.auto.out ∙ simp (length-take, length-drop) (omega arith) in
-    let kind : c.next_kind-kind.result ≡ next_kind c.loop-index.kind (get_or block (32 * lanes - 1) 0) =
-    c.next_kind-kind.ensures ∙ ap (λ n. next_kind c.loop-index.kind (get_or block (n - 1) 0)) whole in
+    let kind : c.next_kind-block_kind.result ≡ next_kind c.loop-index.block_kind (get_or block (32 * lanes - 1) 0) =
+    c.next_kind-block_kind.ensures ∙ ap (λ n. next_kind c.loop-index.block_kind (get_or block (n - 1) 0)) whole in
     let more : take (i + 1) (set widths i width) ≡ take i widths ++ width ∷ [] =
     rw add-one (take-suc-set widths i width (omega arith)) in
     let bytes = take-put_end written added out part within room in
@@ -45,11 +58,11 @@ loop-index-preserved g c =
       bound = bound-more lanes written added width i before.bound c.compress_kind-written.ensures.size c.width_kind-width.ensures.narrow;
       loose =
           rw (kind, more, bytes, take-block (32 * lanes) len i values whole)
-          (Loose_step lanes width c.args.kind c.loop-index.kind (take (32 * lanes * i) values) (take i widths) block some long
+          (Loose_step lanes width c.args.kind c.loop-index.block_kind (take (32 * lanes * i) values) (take i widths) block some long
           (take written out) (take added part) c.width_kind-width.ensures.narrow holds before.loose);
       least =
           rw (kind, more, take-block (32 * lanes) len i values whole)
-          (LeastWidths_step lanes width c.args.kind c.loop-index.kind (take (32 * lanes * i) values) (take i widths) block some long
+          (LeastWidths_step lanes width c.args.kind c.loop-index.block_kind (take (32 * lanes * i) values) (take i widths) block some long
           c.width_kind-width.ensures.width before.least);
       rest = rest ∙ drop-further written added out c.args.out.now before.rest;
     }
@@ -66,8 +79,8 @@ returns-clause-chain g c =
     let blocks : take (32 * lanes * i) values ≡ values = take_all (32 * lanes * i) values (rw end (omega arith)) in
     let widths : take i c.loop-index.widths ≡ c.loop-index.widths = take_all i c.loop-index.widths (omega arith) in
     record {
-      loose = rw (blocks, widths) at (Loose_done lanes c.args.kind c.loop-index.kind (take (32 * lanes * i) values)
+      loose = rw (blocks, widths) at (Loose_done lanes c.args.kind c.loop-index.block_kind (take (32 * lanes * i) values)
           (take i c.loop-index.widths) (take c.loop-index.written c.loop-index.out) before.loose);
-      least = rw (blocks, widths) at (LeastWidths_done lanes c.args.kind c.loop-index.kind (take (32 * lanes * i) values)
+      least = rw (blocks, widths) at (LeastWidths_done lanes c.args.kind c.loop-index.block_kind (take (32 * lanes * i) values)
           (take i c.loop-index.widths) before.least);
     }

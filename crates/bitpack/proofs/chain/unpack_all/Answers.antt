@@ -1,9 +1,7 @@
-use Rattle.std.proofs.Common.{◌≡◌, ℕ, ◌+◌, ◌-◌, ◌*◌, ◌<◌, ◌≤◌, List, ◌∷◌, [], ◌++◌, All, length, take, drop, get_or, sum, add-one, refl, sym, ◌∙◌, ap, arith}
+use Rattle.std.proofs.Common.{◌≡◌, ℕ, ◌+◌, ◌-◌, ◌*◌, ◌<◌, ◌≤◌, List, ◌∷◌, [], ◌++◌, length, take, drop, get_or, sum, add-one, refl, ◌∙◌, ap, arith}
 use Rattle.std.proofs.Math.Seq.{take-add, take-suc}
 use Rattle.std.proofs.lemmas.List.{take_all, length-take, length-drop}
 use Rattle.std.proofs.lemmas.Nat.{mul-le}
-use Rattle.std.proofs.lemmas.Slice.{take-put_mid, drop-put_mid}
-use borrow.Rule.Slice.PartMut.{put_mid}
 use Rattle.bitpacking.specs.Layout.{size}
 use Rattle.bitpack.specs.Chains.{next_kind}
 use Rattle.bitpack.proofs.ChainLemmas.{Loose_step, Loose_done, drop-further, sum-more, sum-prefix, take-put_block, drop-put_block}
@@ -49,8 +47,8 @@ loop-index-preserved g c =
     omega (arith, mul-le (32 * lanes) (i + 1) (32 * lanes) (length widths) (omega arith) (omega arith)) in
     let long : length block ≡ 32 * lanes =
     c.decompress_kind-read.auto.block ∙ rw whole (simp (length-take, length-drop) (omega arith)) in
-    let kind : c.next_kind-kind.result ≡ next_kind c.loop-index.kind (get_or block (32 * lanes - 1) 0) =
-    c.next_kind-kind.ensures ∙ ap (λ n. next_kind c.loop-index.kind (get_or block (n - 1) 0)) whole in
+    let kind : c.next_kind-block_kind.result ≡ next_kind c.loop-index.block_kind (get_or block (32 * lanes - 1) 0) =
+    c.next_kind-block_kind.ensures ∙ ap (λ n. next_kind c.loop-index.block_kind (get_or block (n - 1) 0)) whole in
     let given : take (size lanes width) (take (length bytes - read) (drop read bytes)) ≡ take added (drop read bytes) =
     rw (c.decompress_kind-read.ensures.size, take_all (length bytes - read) (drop read bytes) (simp length-drop (omega arith))) refl in
     let front : take g.P.BitPacker.BLOCK_LEN block ≡ block = take_all g.P.BitPacker.BLOCK_LEN block (omega (arith, g.met.P.BitPacker.block_len)) in
@@ -60,7 +58,7 @@ loop-index-preserved g c =
       read = rw (found.1) (sum-more lanes read added width (take i widths) before.read c.decompress_kind-read.ensures.size);
       loose =
           rw (kind, found.1, take-add read added bytes, take-put_block (32 * lanes) len i values block whole (omega arith) long)
-          (Loose_step lanes width c.args.kind c.loop-index.kind (take (32 * lanes * i) values) (take i widths) block some long
+          (Loose_step lanes width c.args.kind c.loop-index.block_kind (take (32 * lanes * i) values) (take i widths) block some long
           (take read bytes) (take added (drop read bytes)) (c.requires.widths i 0 c.loop-index-test.true) holds before.loose);
       rest =
           drop-put_block (32 * lanes) len i values block whole (omega arith) long
@@ -74,5 +72,5 @@ returns-clause-chain g c =
     let end : i ≡ length c.args.widths.now = omega arith in
     let widths : take i c.args.widths.now ≡ c.args.widths.now = take_all i c.args.widths.now (omega arith) in
     let blocks : g.P.BitPacker.BLOCK_LEN * length c.args.widths.now ≡ 32 * lanes * i = rw (end, g.met.P.BitPacker.block_len) refl in
-    rw blocks (rw widths at (Loose_done lanes c.args.kind c.loop-index.kind (take (32 * lanes * i) c.loop-index.values)
+    rw blocks (rw widths at (Loose_done lanes c.args.kind c.loop-index.block_kind (take (32 * lanes * i) c.loop-index.values)
     (take i c.args.widths.now) (take c.loop-index.read c.args.bytes.now) c.loop-index.invariant.loose))
