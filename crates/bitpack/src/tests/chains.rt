@@ -1,7 +1,7 @@
 //! Chains. The expected widths, bytes and values were worked by hand from the layout of the bits.
 
 use crate::chain::{pack_all, unpack_all};
-use bitpacking::{BitPacker, BitPacker1x, Kind};
+use bitpacking::{BitPacker, BitPacker1x, BitPacker4x, BitPacker8x, Kind};
 use std::process::Abort;
 
 /// Places of which the first go on from `previous` in steps, modulo 2 ^ 32. The others hold 9.
@@ -142,4 +142,16 @@ fn chains<P: BitPacker>(rt: &impl Abort, packer: &P) {
 #[test]
 fn chains_of_1x(rt: HostRuntime) {
     chains(&rt, &BitPacker1x::new());
+}
+
+#[test]
+fn chains_of_4x(rt: HostRuntime) {
+    chains(&rt, &BitPacker4x::new());
+    chains(&rt, &BitPacker4x::scalar());
+}
+
+#[test]
+fn chains_of_8x(rt: HostRuntime) {
+    chains(&rt, &BitPacker8x::new());
+    chains(&rt, &BitPacker8x::scalar());
 }
