@@ -8,6 +8,7 @@ mod blocks;
 mod chains;
 mod fakes;
 mod faults;
+mod no_memory;
 mod worked;
 
 use super::run;

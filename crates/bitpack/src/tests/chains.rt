@@ -124,7 +124,7 @@ fn three_blocks<P: BitPacker>(rt: &impl Abort, packer: &P, kind: Kind, start: u3
     assert!(rt; back == values);
 }
 
-fn chains<P: BitPacker>(rt: &impl Abort, packer: &P) {
+pub(super) fn chains<P: BitPacker>(rt: &impl Abort, packer: &P) {
     no_blocks(rt, packer);
     two_blocks_of_width_0(rt, packer);
     a_width_above_the_least(rt, packer);
@@ -154,4 +154,26 @@ fn chains_of_4x(rt: HostRuntime) {
 fn chains_of_8x(rt: HostRuntime) {
     chains(&rt, &BitPacker8x::new());
     chains(&rt, &BitPacker8x::scalar());
+}
+
+/// The example of the README: 70 documents, every third number from 0 on. Each strict code is 2 but the first, which is 0.
+#[test]
+fn a_posting_list_by_hand(rt: HostRuntime) {
+    let documents = rising::<70>(70, u32::MAX - 2, 3);
+    let packer = BitPacker1x::new();
+    let (blocks, tail) = documents.split_at(64);
+    let mut widths = [0; 2];
+    let mut bytes = [0; 256];
+    let start = Kind::StrictlySorted(None);
+    let written = pack_all(&packer, start, blocks, &mut widths, &mut bytes);
+    assert_eq!(rt; written, 16);
+    assert!(rt; widths == [2, 2]);
+    let mut expected = [0xaa; 16];
+    expected[0] = 0xa8;
+    assert!(rt; bytes[..16] == expected[..]);
+    let mut numbers = [0; 64];
+    let read = unpack_all(&packer, start, &[2, 2], &bytes[..16], &mut numbers);
+    assert_eq!(rt; read, 16);
+    assert!(rt; numbers[..] == blocks[..]);
+    assert_eq!(rt; tail.len(), 6);
 }

@@ -266,7 +266,7 @@ fn greatest_width_and_copies<P: BitPacker>(rt: &impl Abort, packer: &P) {
 }
 
 /// What every packer is tested with.
-fn every_packer<P: BitPacker>(rt: &impl Abort, packer: &P) {
+pub(super) fn every_packer<P: BitPacker>(rt: &impl Abort, packer: &P) {
     widths_of_one_code(rt, packer);
     greatest_width_and_copies(rt, packer);
 }
