@@ -1,14 +1,16 @@
 -- Each list of codes is that of exactly one block.
-use Rattle.std.proofs.lemmas.List.{take_more_set, drop-set-lt, drop_more, append_assoc}
-use Rattle.std.proofs.Common.{take, drop, set, map, get_or, ◌++◌, ◌≡◌, ℕ, ◌+◌, ◌-◌, ◌%◌, ◌^◌, ◌<◌, ◌≤◌, List, [], ◌∷◌, length, suc, refl, sym, ◌∙◌, ap, Some, None, arith}
-use Rattle.std.specs.Prelude.{All, unwrap_or}
+use Rattle.std.proofs.Common.{map, get_or, ◌++◌, ◌≡◌, ℕ, ◌+◌, ◌-◌, ◌%◌, ◌^◌, ◌<◌, ◌≤◌, List, [], ◌∷◌, length, suc, sum, refl, sym, ◌∙◌, ap, Some, None, arith}
+use Rattle.std.proofs.Math.Nat.{mod-eq_of_lt, mod-mod}
+use Rattle.std.proofs.lemmas.Simd.{Each1-from_get_or}
+use Rattle.std.specs.Prelude.{unwrap_or}
 use Rattle.std.proofs.lemmas.List.Elements.{All-nil, All-cons, All-head, All-tail}
 use Rattle.std.proofs.lemmas.List.{length-map, ext_get_or, get_or-map}
 use Rattle.bitpacking.specs.declared.kind.Kind.{Kind}
 use Rattle.bitpacking.specs.declared.kind.Kind.TheVariants.{Plain, Sorted, StrictlySorted}
-use Rattle.bitpacking_register.specs.Words.{wrapping_sum}
 use Rattle.bitpacking_register.specs.Deltas.{differences, running_sums}
-use Rattle.bitpacking_register.proofs.SumLemmas.{differences-running_sums, running_sums-differences, length-running_sums, running_sums-mod, running_sums-append, last-running_sums}
+use Rattle.bitpacking_register.proofs.SumLemmas.{differences-running_sums, running_sums-differences, running_sums-mod, running_sums-append, last-running_sums}
+use Rattle.std.proofs.Math.Pow.{pow_mono}
+use Rattle.bitpacking.specs.Layout.{Layout, Holds}
 use Rattle.bitpacking.specs.Codes.{AreWords, codes, one_less, one_more, start}
 
 -- what was subtracted and added again
@@ -18,32 +20,23 @@ wrap_back x y hx hy = omega arith
 pub wrap_forth : (x y : ℕ) → x < 2 ^ 32 → y ≤ 2 ^ 32 → ((y + x) % 2 ^ 32 + (2 ^ 32 - y)) % 2 ^ 32 ≡ x
 wrap_forth x y hx hy = omega arith
 
-pub running_sums-differences : (previous : ℕ) (values : List ℕ) → previous < 2 ^ 32 → AreWords values
-    → running_sums previous (differences previous values) ≡ values
-running_sums-differences previous [] hp words = refl
-running_sums-differences previous (value ∷ values) hp words =
-    let P : ℕ → Type 0 = λ v. v < 2 ^ 32 in
-    let here : value < 2 ^ 32 = All-head P value values words in
-    let e : (previous + (value + (2 ^ 32 - previous)) % 2 ^ 32) % 2 ^ 32 ≡ value =
-    wrap_back value previous here (omega arith) in
-    rw e (ap (λ xs. value ∷ xs) (running_sums-differences value values here (All-tail P value values words)))
+pub running_sums-of_differences : (before : ℕ) (values : List ℕ) → before < 2 ^ 32 → AreWords values
+    → running_sums before (differences before values) ≡ values
+running_sums-of_differences before values small words =
+    running_sums-differences before before values (mod-eq_of_lt small)
+    (Each1-from_get_or (λ v. v < 2 ^ 32) values 0 (λ k lt. words k 0 lt))
 
-pub differences-running_sums : (previous : ℕ) (values : List ℕ) → previous < 2 ^ 32 → AreWords values
-    → differences previous (running_sums previous values) ≡ values
-differences-running_sums previous [] hp words = refl
-differences-running_sums previous (code ∷ values) hp words =
-    let P : ℕ → Type 0 = λ v. v < 2 ^ 32 in
-    let here : code < 2 ^ 32 = All-head P code values words in
-    let e : ((previous + code) % 2 ^ 32 + (2 ^ 32 - previous)) % 2 ^ 32 ≡ code =
-    wrap_forth code previous here (omega arith) in
-    rw e (ap (λ xs. code ∷ xs)
-    (differences-running_sums ((previous + code) % 2 ^ 32) values (omega arith) (All-tail P code values words)))
+pub differences-of_running_sums : (before : ℕ) (values : List ℕ) → before < 2 ^ 32 → AreWords values
+    → differences before (running_sums before values) ≡ values
+differences-of_running_sums before values small words =
+    differences-running_sums before before values (mod-eq_of_lt small)
+    (Each1-from_get_or (λ v. v < 2 ^ 32) values 0 (λ k lt. words k 0 lt))
 
 pub AreWords-running_sums : (previous : ℕ) (values : List ℕ) → AreWords (running_sums previous values)
 AreWords-running_sums previous [] = All-nil (λ v. v < 2 ^ 32)
 AreWords-running_sums previous (code ∷ values) =
-    All-cons (λ v. v < 2 ^ 32) ((previous + code) % 2 ^ 32) (running_sums ((previous + code) % 2 ^ 32) values) (omega arith)
-    (AreWords-running_sums ((previous + code) % 2 ^ 32) values)
+    All-cons (λ v. v < 2 ^ 32) ((previous + code) % 2 ^ 32) (running_sums (previous + code) values) (omega arith)
+    (AreWords-running_sums (previous + code) values)
 
 pub AreWords-differences : (previous : ℕ) (values : List ℕ) → AreWords (differences previous values)
 AreWords-differences previous [] = All-nil (λ v. v < 2 ^ 32)
@@ -54,10 +47,6 @@ AreWords-differences previous (value ∷ values) =
 pub length-differences : (previous : ℕ) (values : List ℕ) → length (differences previous values) ≡ length values
 length-differences previous [] = refl
 length-differences previous (value ∷ values) = ap suc (length-differences value values)
-
-pub length-running_sums : (previous : ℕ) (values : List ℕ) → length (running_sums previous values) ≡ length values
-length-running_sums previous [] = refl
-length-running_sums previous (code ∷ values) = ap suc (length-running_sums ((previous + code) % 2 ^ 32) values)
 
 pub less-more : (values : List ℕ) → AreWords values → map one_less (map one_more values) ≡ values
 less-more [] words = refl
@@ -105,19 +94,19 @@ block_of (StrictlySorted initial) values = running_sums (unwrap_or initial 42949
 pub codes-block_of : (kind : Kind) (values : List ℕ) → start kind < 2 ^ 32 → AreWords values
     → codes kind (block_of kind values) ≡ values
 codes-block_of Plain values h words = refl
-codes-block_of (Sorted initial) values h words = differences-running_sums initial values h words
+codes-block_of (Sorted initial) values h words = differences-of_running_sums initial values h words
 codes-block_of (StrictlySorted initial) values h words =
-    ap (map one_less) (differences-running_sums (unwrap_or initial 4294967295) (map one_more values) h (AreWords-more values))
+    ap (map one_less) (differences-of_running_sums (unwrap_or initial 4294967295) (map one_more values) h (AreWords-more values))
     ∙ less-more values words
 
 pub block_of-codes : (kind : Kind) (block : List ℕ) → start kind < 2 ^ 32 → AreWords block
     → block_of kind (codes kind block) ≡ block
 block_of-codes Plain block h words = refl
-block_of-codes (Sorted initial) block h words = running_sums-differences initial block h words
+block_of-codes (Sorted initial) block h words = running_sums-of_differences initial block h words
 block_of-codes (StrictlySorted initial) block h words =
     ap (running_sums (unwrap_or initial 4294967295))
     (more-less (differences (unwrap_or initial 4294967295) block) (AreWords-differences (unwrap_or initial 4294967295) block))
-    ∙ running_sums-differences (unwrap_or initial 4294967295) block h words
+    ∙ running_sums-of_differences (unwrap_or initial 4294967295) block h words
 
 pub AreWords-block_of : (kind : Kind) (values : List ℕ) → AreWords values → AreWords (block_of kind values)
 AreWords-block_of Plain values words = words
@@ -160,42 +149,16 @@ differences-register previous lanes xs ys len some =
     let last' : last_or previous xs ≡ get_or xs (lanes - 1) 0 = rw len at last in
     differences-append previous xs ys ∙ rw last' refl
 
-pub running_sums-append : (previous : ℕ) (xs ys : List ℕ)
-    → running_sums previous (xs ++ ys) ≡ running_sums previous xs ++ running_sums (last_or previous (running_sums previous xs)) ys
-running_sums-append previous [] ys = refl
-running_sums-append previous (x ∷ xs) ys =
-    ap (λ zs. (previous + x) % 2 ^ 32 ∷ zs) (running_sums-append ((previous + x) % 2 ^ 32) xs ys)
-
-pub running_sums-register : (previous lanes : ℕ) (xs ys out : List ℕ) → length xs ≡ lanes → 1 ≤ lanes → out ≡ running_sums previous xs
-    → running_sums previous (xs ++ ys) ≡ out ++ running_sums (get_or out (lanes - 1) 0) ys
-running_sums-register previous lanes xs ys out len some e =
-    let len' : length (running_sums previous xs) ≡ lanes = length-running_sums previous xs ∙ len in
-    let last : last_or previous (running_sums previous xs) ≡ get_or (running_sums previous xs) (length (running_sums previous xs) - 1) 0 =
-    last_or-get_or previous (running_sums previous xs) (omega arith) in
-    let last' : last_or previous (running_sums previous xs) ≡ get_or (running_sums previous xs) (lanes - 1) 0 = rw len' at last in
-    rw e (running_sums-append previous xs ys ∙ rw last' refl)
-
--- A loop's step that takes the differences in place.
-pub differences_more : (xs all : List ℕ) (i p v : ℕ) → i < length xs → v ≡ (get_or xs i 0 + (2 ^ 32 - p)) % 2 ^ 32
-    → take i xs ++ differences p (drop i xs) ≡ all
-    → take (i + 1) (set xs i v) ++ differences (get_or xs i 0) (drop (i + 1) (set xs i v)) ≡ all
-differences_more xs all i p v lt e h =
-    let front : take (i + 1) (set xs i v) ≡ take i xs ++ (v ∷ []) = take_more_set xs i v lt in
-    let back : drop (i + 1) (set xs i v) ≡ drop (i + 1) xs = drop-set-lt (i + 1) xs i v (omega arith) in
-    let here : drop i xs ≡ get_or xs i 0 ∷ drop (i + 1) xs = drop_more xs i 0 lt in
-    let h' : take i xs ++ ((get_or xs i 0 + (2 ^ 32 - p)) % 2 ^ 32 ∷ differences (get_or xs i 0) (drop (i + 1) xs)) ≡ all = rw here at h in
-    rw (front, back) (append_assoc (take i xs) (v ∷ []) (differences (get_or xs i 0) (drop (i + 1) xs)) ∙ rw e h')
-
--- A loop's step that takes the running_sums in place.
-pub sums_more : (xs all : List ℕ) (i p v : ℕ) → i < length xs → v ≡ (p + get_or xs i 0) % 2 ^ 32
-    → take i xs ++ running_sums p (drop i xs) ≡ all
-    → take (i + 1) (set xs i v) ++ running_sums v (drop (i + 1) (set xs i v)) ≡ all
-sums_more xs all i p v lt e h =
-    let front : take (i + 1) (set xs i v) ≡ take i xs ++ (v ∷ []) = take_more_set xs i v lt in
-    let back : drop (i + 1) (set xs i v) ≡ drop (i + 1) xs = drop-set-lt (i + 1) xs i v (omega arith) in
-    let here : drop i xs ≡ get_or xs i 0 ∷ drop (i + 1) xs = drop_more xs i 0 lt in
-    let h' : take i xs ++ ((p + get_or xs i 0) % 2 ^ 32 ∷ running_sums ((p + get_or xs i 0) % 2 ^ 32) (drop (i + 1) xs)) ≡ all = rw here at h in
-    rw (front, back) (append_assoc (take i xs) (v ∷ []) (running_sums v (drop (i + 1) xs)) ∙ rw e h')
+-- Of a register, whose last sum is then the one before the next.
+pub running_sums-register : (before lanes : ℕ) (xs ys out : List ℕ) → length xs ≡ lanes → 1 ≤ lanes → out ≡ running_sums before xs
+    → running_sums before (xs ++ ys) ≡ out ++ running_sums (get_or out (lanes - 1) 0) ys
+running_sums-register before lanes xs ys out len some e =
+    let last : get_or (running_sums before xs) (lanes - 1) 0 ≡ (before + sum xs) % 2 ^ 32 =
+    rw len at (last-running_sums before xs (omega arith)) in
+    let same : (before + sum xs) % 2 ^ 32 ≡ get_or (running_sums before xs) (lanes - 1) 0 % 2 ^ 32 =
+    rw last (sym (mod-mod (before + sum xs) (2 ^ 32))) in
+    rw e (running_sums-append before xs ys
+    ∙ ap (λ zs. running_sums before xs ++ zs) (running_sums-mod (before + sum xs) (get_or (running_sums before xs) (lanes - 1) 0) ys same))
 
 -- A register whose words are those of another, one less or one more.
 pub mapped : (f : ℕ → ℕ) (xs out : List ℕ) (lanes : ℕ) → length xs ≡ lanes → length out ≡ lanes
@@ -237,3 +200,13 @@ same_block (StrictlySorted initial) xs ys hx hy e =
     (sym (more-less (differences (unwrap_or initial 4294967295) xs) (AreWords-differences (unwrap_or initial 4294967295) xs))
     ∙ ap (map one_more) e
     ∙ more-less (differences (unwrap_or initial 4294967295) ys) (AreWords-differences (unwrap_or initial 4294967295) ys))
+
+-- The values that are given for the codes of a layout are the block that the bytes hold.
+pub Holds-block_of : (lanes width : ℕ) (kind : Kind) (values block bytes : List ℕ) → width ≤ 32 → start kind < 2 ^ 32
+    → Layout lanes width values bytes → block ≡ block_of kind values → Holds lanes width kind block bytes
+Holds-block_of lanes width kind values block bytes narrow small layout e =
+    let words : AreWords values = λ k d lt.
+    let fits : get_or values k d < 2 ^ width = layout.fits k d lt in
+    let le : 2 ^ width ≤ 2 ^ 32 = pow_mono narrow in
+    omega arith in
+    rw (e, codes-block_of kind values small words) layout

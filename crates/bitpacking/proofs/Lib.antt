@@ -10,4 +10,7 @@ pub mod PackSteps
 pub mod UnpackSteps
 pub mod Storing
 pub mod Parts
+pub mod RegisterLemmas
+pub mod RowSteps
 pub mod LawProofs
+pub mod WorkedProofs

@@ -8,7 +8,7 @@ use Rattle.std.proofs.lemmas.Bool.{cases_order}
 use Rattle.std.proofs.lemmas.List.Elements.{All-nil, All-cons, All-head, All-tail}
 use lib.Count.{count_leading_zeros}
 use Rattle.bitpacking.specs.Width.{Fits, Least}
-use Rattle.bitpacking.proofs.Blocks.{AreWords}
+use Rattle.bitpacking.specs.Codes.{AreWords}
 
 pub Fits-more : (values : List ℕ) (width more : ℕ) → width ≤ more → Fits values width → Fits values more
 Fits-more values width more le fits k d lt =

@@ -1,5 +1,5 @@
 -- The codes of a block: what is packed in place of its values.
-use Rattle.std.specs.Prelude.{ℕ, ◌+◌, ◌-◌, ◌^◌, ◌%◌, ◌<◌, List, map, All, unwrap_or}
+use Rattle.std.specs.Prelude.{ℕ, ◌^◌, ◌<◌, List, map, All, unwrap_or}
 use Rattle.bitpacking_register.specs.Words.{wrapping_sum, wrapping_difference}
 use Rattle.bitpacking_register.specs.Deltas.{differences}
 use Rattle.bitpacking.specs.declared.kind.Kind.{Kind}

@@ -6,3 +6,4 @@ pub mod Layout
 pub mod Words
 pub mod Moves
 pub mod Laws
+pub mod WorkedBlocks

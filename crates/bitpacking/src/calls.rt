@@ -36,15 +36,11 @@ pub(crate) fn pack_kind<R: Register>(
     match kind {
         Kind::Plain => pack_codes::<R, _>(NoDelta, decompressed, compressed, num_bits, steps),
         Kind::Sorted(initial) => {
-            let transformer = DeltaComputer {
-                previous: R::splat(initial),
-            };
+            let transformer = DeltaComputer::new(initial);
             pack_codes::<R, _>(transformer, decompressed, compressed, num_bits, steps)
         }
         Kind::StrictlySorted(initial) => {
-            let transformer = StrictDeltaComputer {
-                previous: R::splat(initial.unwrap_or(u32::MAX)),
-            };
+            let transformer = StrictDeltaComputer::new(initial);
             pack_codes::<R, _>(transformer, decompressed, compressed, num_bits, steps)
         }
     }
@@ -103,21 +99,14 @@ pub(crate) fn unpack_kind<R: Register>(
 {
     match kind {
         Kind::Plain => {
-            let sink = Store { position: 0 };
-            unpack_codes::<R, _>(sink, compressed, decompressed, num_bits, steps)
+            unpack_codes::<R, _>(Store::new(), compressed, decompressed, num_bits, steps)
         }
         Kind::Sorted(initial) => {
-            let sink = DeltaIntegrate {
-                position: 0,
-                previous: R::splat(initial),
-            };
+            let sink = DeltaIntegrate::new(initial);
             unpack_codes::<R, _>(sink, compressed, decompressed, num_bits, steps)
         }
         Kind::StrictlySorted(initial) => {
-            let sink = StrictDeltaIntegrate {
-                position: 0,
-                previous: R::splat(initial.unwrap_or(u32::MAX)),
-            };
+            let sink = StrictDeltaIntegrate::new(initial);
             unpack_codes::<R, _>(sink, compressed, decompressed, num_bits, steps)
         }
     }
@@ -161,17 +150,9 @@ pub(crate) fn width_kind<R: Register>(kind: Kind, decompressed: &[u32], steps: &
     let source = ValueSource::new(decompressed, 0);
     match kind {
         Kind::Plain => width::<R, _>(&source, &mut NoDelta, steps),
-        Kind::Sorted(initial) => {
-            let mut transformer = DeltaComputer {
-                previous: R::splat(initial),
-            };
-            width::<R, _>(&source, &mut transformer, steps)
-        }
+        Kind::Sorted(initial) => width::<R, _>(&source, &mut DeltaComputer::new(initial), steps),
         Kind::StrictlySorted(initial) => {
-            let mut transformer = StrictDeltaComputer {
-                previous: R::splat(initial.unwrap_or(u32::MAX)),
-            };
-            width::<R, _>(&source, &mut transformer, steps)
+            width::<R, _>(&source, &mut StrictDeltaComputer::new(initial), steps)
         }
     }
 }

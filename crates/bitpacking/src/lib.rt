@@ -6,16 +6,22 @@
 
 mod bit_packer;
 mod bitpacker1x;
+mod bitpacker4x;
+mod bitpacker8x;
 mod calls;
 mod counted;
+mod instruction_set;
 mod kernel;
 mod kind;
 mod kinds;
 pub mod laws;
 mod memory;
+mod worked_blocks;
 
 pub use bit_packer::BitPacker;
 pub use bitpacker1x::BitPacker1x;
+pub use bitpacker4x::BitPacker4x;
+pub use bitpacker8x::BitPacker8x;
 pub use counted::Counted;
 pub use kind::Kind;
 pub use memory::Steps;

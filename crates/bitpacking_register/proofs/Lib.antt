@@ -1,3 +1,4 @@
 pub mod WordLemmas
 pub mod ByteLemmas
 pub mod SumLemmas
+pub mod ArrayLemmas

@@ -55,4 +55,6 @@ fn each_register(rt: HostRuntime) {
         0x0403_0210,
     ];
     check::<u32>(&rt, &words, &bytes, &sums);
+    check::<[u32; 4]>(&rt, &words, &bytes, &sums);
+    check::<[u32; 8]>(&rt, &words, &bytes, &sums);
 }

@@ -35,7 +35,7 @@ pub(crate) fn pack<R: Register, T: Transformer<R>>(
     let mut pending = R::splat(0);
     let mut filled = 0;
     let mut stored = 0;
-    for i in 0..32 {
+    'rows: for i in 0..32 {
         let codes = transformer.transform(source.load(i, steps));
         let word = pending.or(codes.shift_left(filled));
         if filled + width < 32 {
@@ -70,7 +70,7 @@ pub(crate) fn pack_32<R: Register, T: Transformer<R>>(
     ensures rest { drop (size R.LANES 32) target.new.bytes.now ≡ drop (size R.LANES 32) target.old.bytes.now }
     ensures counts { Moves steps.old steps.new 32 32 64 }
 {
-    for i in 0..32 {
+    'registers: for i in 0..32 {
         let codes: R = transformer.transform(source.load(i, steps));
         target.store(i, codes, steps);
     }

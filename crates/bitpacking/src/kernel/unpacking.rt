@@ -34,7 +34,7 @@ pub(crate) fn unpack<R: Register, S: Sink<R>>(
     let mut pending = R::splat(0);
     let mut left = 0;
     let mut loaded = 0;
-    for _ in 0..32 {
+    'rows: for i in 0..32u32 {
         let codes = if left < width {
             let word: R = source.load(loaded, steps);
             loaded += 1;

@@ -1,7 +1,7 @@
 //! The least width of a block's codes.
 
 ghost use Rattle.std.specs.Prelude.{◌≡◌, ◌+◌, ◌*◌, length, fold, bit_or};
-ghost use Rattle.std.specs.Int.{count_leading_zeros};
+ghost use lib.Count.{count_leading_zeros};
 ghost use Rattle.bitpacking.specs.Width.{Least};
 ghost use Rattle.bitpacking.specs.Codes.{AreWords};
 ghost use Rattle.bitpacking.specs.Moves.{Moves};

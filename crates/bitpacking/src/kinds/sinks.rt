@@ -18,7 +18,8 @@ ghost use Rattle.std.specs.Prelude.{
 };
 ghost use Rattle.std.proofs.Common.{refl};
 ghost use Rattle.bitpacking_register.specs.Deltas.{running_sums};
-ghost use Rattle.bitpacking.specs.Codes.{one_more};
+ghost use Rattle.bitpacking.specs.declared.kind.Kind.TheVariants.{Sorted, StrictlySorted};
+ghost use Rattle.bitpacking.specs.Codes.{one_more, start};
 ghost use Rattle.bitpacking.specs.Moves.{IsStore};
 
 use crate::memory::{Steps, ValueTarget};
@@ -52,7 +53,16 @@ pub(crate) trait Sink<R: Register>: Drop {
 /// The codes are the values.
 #[derive(Drop)]
 pub(crate) struct Store {
-    pub(crate) position: usize,
+    position: usize,
+}
+
+impl Store {
+    #[inline(always)]
+    pub(crate) fn new() -> Self
+        ensures { result.position ≡ 0 }
+    {
+        Store { position: 0 }
+    }
 }
 
 impl<R: Register> Sink<R> for Store {
@@ -72,8 +82,22 @@ impl<R: Register> Sink<R> for Store {
 /// The codes are the differences. The last lane of `previous` is the value before.
 #[derive(Drop)]
 pub(crate) struct DeltaIntegrate<R: Register> {
-    pub(crate) position: usize,
-    pub(crate) previous: R,
+    position: usize,
+    previous: R,
+}
+
+impl<R: Register> DeltaIntegrate<R> {
+    /// Before the first value stands `initial`.
+    #[inline(always)]
+    pub(crate) fn new(initial: u32) -> Self
+        ensures position { result.position ≡ 0 }
+        ensures start { slice_index (R.words result.previous) (R.LANES - 1) ≡ start (Sorted initial) }
+    {
+        DeltaIntegrate {
+            position: 0,
+            previous: R::splat(initial),
+        }
+    }
 }
 
 impl<R: Register> Sink<R> for DeltaIntegrate<R> {
@@ -94,8 +118,22 @@ impl<R: Register> Sink<R> for DeltaIntegrate<R> {
 /// The codes are the differences, each one less.
 #[derive(Drop)]
 pub(crate) struct StrictDeltaIntegrate<R: Register> {
-    pub(crate) position: usize,
-    pub(crate) previous: R,
+    position: usize,
+    previous: R,
+}
+
+impl<R: Register> StrictDeltaIntegrate<R> {
+    /// Before the first value stands `initial`, and for `None` the last number.
+    #[inline(always)]
+    pub(crate) fn new(initial: Option<u32>) -> Self
+        ensures position { result.position ≡ 0 }
+        ensures start { slice_index (R.words result.previous) (R.LANES - 1) ≡ start (StrictlySorted initial) }
+    {
+        StrictDeltaIntegrate {
+            position: 0,
+            previous: R::splat(initial.unwrap_or(u32::MAX)),
+        }
+    }
 }
 
 impl<R: Register> Sink<R> for StrictDeltaIntegrate<R> {

@@ -2,7 +2,8 @@
 
 ghost use Rattle.std.specs.Prelude.{◌≡◌, ℕ, ◌-◌, List, ◌++◌, map, slice_index};
 ghost use Rattle.bitpacking_register.specs.Deltas.{differences};
-ghost use Rattle.bitpacking.specs.Codes.{one_less};
+ghost use Rattle.bitpacking.specs.declared.kind.Kind.TheVariants.{Sorted, StrictlySorted};
+ghost use Rattle.bitpacking.specs.Codes.{one_less, start};
 
 use bitpacking_register::Register;
 
@@ -31,7 +32,19 @@ impl<R: Register> Transformer<R> for NoDelta {
 /// The codes are the differences. The last lane of `previous` is the value before.
 #[derive(Drop)]
 pub(crate) struct DeltaComputer<R: Register> {
-    pub(crate) previous: R,
+    previous: R,
+}
+
+impl<R: Register> DeltaComputer<R> {
+    /// Before the first value stands `initial`.
+    #[inline(always)]
+    pub(crate) fn new(initial: u32) -> Self
+        ensures { slice_index (R.words result.previous) (R.LANES - 1) ≡ start (Sorted initial) }
+    {
+        DeltaComputer {
+            previous: R::splat(initial),
+        }
+    }
 }
 
 impl<R: Register> Transformer<R> for DeltaComputer<R> {
@@ -48,7 +61,19 @@ impl<R: Register> Transformer<R> for DeltaComputer<R> {
 /// The codes are the differences, each one less.
 #[derive(Drop)]
 pub(crate) struct StrictDeltaComputer<R: Register> {
-    pub(crate) previous: R,
+    previous: R,
+}
+
+impl<R: Register> StrictDeltaComputer<R> {
+    /// Before the first value stands `initial`, and for `None` the last number.
+    #[inline(always)]
+    pub(crate) fn new(initial: Option<u32>) -> Self
+        ensures { slice_index (R.words result.previous) (R.LANES - 1) ≡ start (StrictlySorted initial) }
+    {
+        StrictDeltaComputer {
+            previous: R::splat(initial.unwrap_or(u32::MAX)),
+        }
+    }
 }
 
 impl<R: Register> Transformer<R> for StrictDeltaComputer<R> {

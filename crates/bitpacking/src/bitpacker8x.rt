@@ -1,0 +1,163 @@
+//! Blocks of 256 numbers: eight lanes.
+
+ghost use Rattle.std.proofs.Common.{lit≤, refl};
+
+use crate::instruction_set::{InstructionSet, pack, unpack, width};
+use crate::{BitPacker, Counted, Kind, Steps};
+
+/// Packs blocks of 256 numbers. Number k stands in lane k % 8; the codes of a lane stand end to end in every eighth word.
+#[derive(Clone, Copy)]
+pub struct BitPacker8x(InstructionSet);
+
+impl BitPacker8x {
+    /// The packer on arrays, a word at a time. It meets the contracts of the one that `new` gives.
+    pub fn scalar() -> Self {
+        BitPacker8x(InstructionSet::Scalar)
+    }
+}
+
+impl BitPacker for BitPacker8x {
+    const BLOCK_LEN: usize = 256;
+
+    ghost BLOCK_LEN = { 256 };
+
+    ghost lanes = { 8 };
+
+    fn new() -> Self {
+        BitPacker8x(InstructionSet::Scalar)
+    }
+
+    fn compress(&self, decompressed: &[u32], compressed: &mut [u8], num_bits: u8) -> usize {
+        self.pack_counted(
+            Kind::Plain,
+            decompressed,
+            compressed,
+            num_bits,
+            &mut Steps::new(),
+        )
+    }
+
+    fn compress_sorted(
+        &self,
+        initial: u32,
+        decompressed: &[u32],
+        compressed: &mut [u8],
+        num_bits: u8,
+    ) -> usize {
+        self.pack_counted(
+            Kind::Sorted(initial),
+            decompressed,
+            compressed,
+            num_bits,
+            &mut Steps::new(),
+        )
+    }
+
+    fn compress_strictly_sorted(
+        &self,
+        initial: Option<u32>,
+        decompressed: &[u32],
+        compressed: &mut [u8],
+        num_bits: u8,
+    ) -> usize {
+        self.pack_counted(
+            Kind::StrictlySorted(initial),
+            decompressed,
+            compressed,
+            num_bits,
+            &mut Steps::new(),
+        )
+    }
+
+    fn decompress(&self, compressed: &[u8], decompressed: &mut [u32], num_bits: u8) -> usize {
+        self.unpack_counted(
+            Kind::Plain,
+            compressed,
+            decompressed,
+            num_bits,
+            &mut Steps::new(),
+        )
+    }
+
+    fn decompress_sorted(
+        &self,
+        initial: u32,
+        compressed: &[u8],
+        decompressed: &mut [u32],
+        num_bits: u8,
+    ) -> usize {
+        self.unpack_counted(
+            Kind::Sorted(initial),
+            compressed,
+            decompressed,
+            num_bits,
+            &mut Steps::new(),
+        )
+    }
+
+    fn decompress_strictly_sorted(
+        &self,
+        initial: Option<u32>,
+        compressed: &[u8],
+        decompressed: &mut [u32],
+        num_bits: u8,
+    ) -> usize {
+        self.unpack_counted(
+            Kind::StrictlySorted(initial),
+            compressed,
+            decompressed,
+            num_bits,
+            &mut Steps::new(),
+        )
+    }
+
+    fn num_bits(&self, decompressed: &[u32]) -> u8 {
+        self.width_counted(Kind::Plain, decompressed, &mut Steps::new())
+    }
+
+    fn num_bits_sorted(&self, initial: u32, decompressed: &[u32]) -> u8 {
+        self.width_counted(Kind::Sorted(initial), decompressed, &mut Steps::new())
+    }
+
+    fn num_bits_strictly_sorted(&self, initial: Option<u32>, decompressed: &[u32]) -> u8 {
+        self.width_counted(
+            Kind::StrictlySorted(initial),
+            decompressed,
+            &mut Steps::new(),
+        )
+    }
+
+    ghost block_len = { refl };
+
+    ghost some_lanes = { lit≤ tt };
+
+    ghost few_lanes = { lit≤ tt };
+}
+
+impl Counted for BitPacker8x {
+    fn pack_counted(
+        &self,
+        kind: Kind,
+        decompressed: &[u32],
+        compressed: &mut [u8],
+        num_bits: u8,
+        steps: &mut Steps,
+    ) -> usize {
+        pack::<[u32; 8], [u32; 8]>(self.0, kind, decompressed, compressed, num_bits, steps)
+    }
+
+    fn unpack_counted(
+        &self,
+        kind: Kind,
+        compressed: &[u8],
+        decompressed: &mut [u32],
+        num_bits: u8,
+        steps: &mut Steps,
+    ) -> usize {
+        unpack::<[u32; 8], [u32; 8]>(self.0, kind, compressed, decompressed, num_bits, steps)
+    }
+
+    fn width_counted(&self, kind: Kind, decompressed: &[u32], steps: &mut Steps) -> u8 {
+        width::<[u32; 8], [u32; 8]>(self.0, kind, decompressed, steps)
+    }
+}

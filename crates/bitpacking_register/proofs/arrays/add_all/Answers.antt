@@ -1,0 +1,15 @@
+use Rattle.std.proofs.Common.{rules, arith}
+use Rattle.bitpacking_register.specs.Words.{wrapping_sum}
+use Rattle.bitpacking_register.proofs.WordLemmas.{AreWords-array, wrapping_sum-fits}
+use Rattle.bitpacking_register.proofs.ArrayLemmas.{zip2_step, zip2_done}
+use Rattle.bitpacking_register.proofs.arrays.add_all.Goals as goal
+
+pub loop-lane-preserved : goal.loop-lane-preserved
+loop-lane-preserved g c =
+    zip2_step wrapping_sum c.args.left c.args.right c.loop-lane.word-items c.loop-lane.lane c.loop-lane.invariant (omega arith) (omega arith)
+
+pub returns : goal.returns
+returns g c =
+    zip2_done g.row.N wrapping_sum (λ x y _ _. wrapping_sum-fits x y) c.args.left c.args.right c.loop-lane.word-items c.loop-lane.lane c.loop-lane.invariant
+    (AreWords-array g.row.N c.args.left (search rules) (search rules))
+    (AreWords-array g.row.N c.args.right (search rules) (search rules)) c.loop-lane-test.false

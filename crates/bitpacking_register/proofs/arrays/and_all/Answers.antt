@@ -1,0 +1,14 @@
+use Rattle.std.proofs.Common.{rules, arith, bit_and}
+use Rattle.bitpacking_register.proofs.WordLemmas.{AreWords-array, and-fits}
+use Rattle.bitpacking_register.proofs.ArrayLemmas.{zip2_step, zip2_done}
+use Rattle.bitpacking_register.proofs.arrays.and_all.Goals as goal
+
+pub loop-lane-preserved : goal.loop-lane-preserved
+loop-lane-preserved g c =
+    zip2_step bit_and c.args.left c.args.right c.loop-lane.word-items c.loop-lane.lane c.loop-lane.invariant (omega arith) (omega arith)
+
+pub returns : goal.returns
+returns g c =
+    zip2_done g.row.N bit_and and-fits c.args.left c.args.right c.loop-lane.word-items c.loop-lane.lane c.loop-lane.invariant
+    (AreWords-array g.row.N c.args.left (search rules) (search rules))
+    (AreWords-array g.row.N c.args.right (search rules) (search rules)) c.loop-lane-test.false

@@ -1,0 +1,17 @@
+use Rattle.std.proofs.Common.{rules, arith}
+use Rattle.bitpacking_register.specs.Deltas.{running_sums}
+use Rattle.bitpacking_register.proofs.WordLemmas.{AreWords-array, AreWords-running_sums}
+use Rattle.bitpacking_register.proofs.ArrayLemmas.{running_sums_step, neighbours_done}
+use Rattle.bitpacking_register.proofs.arrays.integrate_all.Goals as goal
+
+pub loop-word-preserved : goal.loop-word-preserved
+loop-word-preserved g c =
+    let step = running_sums_step _ c.args.delta c.loop-word.word-items c.loop-word.word-index c.loop-word.sum
+    c.loop-word.invariant.neighbour c.loop-word.invariant.written (omega arith) in
+    record { neighbour = step.0; written = step.1 }
+
+pub returns : goal.returns
+returns g c =
+    neighbours_done g.row.N running_sums AreWords-running_sums c.args.previous c.args.delta c.loop-word.word-items c.loop-word.word-index c.loop-word.invariant.written
+    (AreWords-array g.row.N c.args.previous (search rules) (search rules))
+    (AreWords-array g.row.N c.args.delta (search rules) (search rules)) c.loop-word-test.false

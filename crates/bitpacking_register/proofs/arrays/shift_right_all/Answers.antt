@@ -1,0 +1,14 @@
+use Rattle.std.proofs.Common.{rules, arith}
+use Rattle.bitpacking_register.specs.Words.{shifted_right}
+use Rattle.bitpacking_register.proofs.WordLemmas.{AreWords-array, shifted_right-fits}
+use Rattle.bitpacking_register.proofs.ArrayLemmas.{map_step, map_done}
+use Rattle.bitpacking_register.proofs.arrays.shift_right_all.Goals as goal
+
+pub loop-word-preserved : goal.loop-word-preserved
+loop-word-preserved g c =
+    map_step (shifted_right c.args.shift) c.args.words c.loop-word.word-items c.loop-word.word-index c.loop-word.invariant (omega arith)
+
+pub returns : goal.returns
+returns g c =
+    map_done g.row.N (shifted_right c.args.shift) (shifted_right-fits c.args.shift) c.args.words c.loop-word.word-items c.loop-word.word-index c.loop-word.invariant
+    (AreWords-array g.row.N c.args.words (search rules) (search rules)) c.loop-word-test.false

@@ -1,0 +1,7 @@
+use Rattle.std.proofs.Common.{replicate}
+use Rattle.bitpacking_register.proofs.WordLemmas.{AreWords-replicate, first_words-whole}
+use Rattle.bitpacking_register.proofs.arrays.splat_all.Goals as goal
+
+pub returns : goal.returns
+returns g c =
+    first_words-whole g.row.N (replicate g.row.N c.args.word) (AreWords-replicate g.row.N c.args.word c.ranges.word)
