@@ -16,7 +16,7 @@ use Rattle.bitpack.specs.declared.line.PackerName.{PackerName}
 use Rattle.bitpack.specs.declared.line.PackerName.TheVariants.{OneLane}
 use Rattle.bitpack.specs.declared.line.values.Item.{Item}
 use Rattle.bitpack.specs.declared.line.values.Item.TheVariants.{Once, Times}
-use Rattle.bitpack.specs.Grammar.{Asks, IsItem, IsKind, Pack, Request, SpellsBytes, SpellsValues, item_text, items_text, kind_text, packer_text}
+use Rattle.bitpack.specs.Grammar.{Asks, IsItem, IsKind, Pack, Request, Size, SpellsBytes, SpellsValues, Unpack, Width, item_text, items_text, kind_text, packer_text}
 use Rattle.bitpack.proofs.Cuts.{Lacks}
 use Rattle.bitpack.proofs.Numerals.{decimal-digit}
 
@@ -108,6 +108,27 @@ AreFields-same : (a b : List (List ℕ)) → a ≡ b → AreFields b → AreFiel
 AreFields-same a b e fields = subst AreFields (sym e) fields
 
 pub are_fields : (fields : List (List ℕ)) (packer : PackerName) (request : Request) → Asks fields packer request → AreFields fields
+are_fields fields packer (Size width) (is, small) =
+    AreFields-same fields _ is (record {
+      some = omega arith;
+      few = omega arith;
+      printed = All-from_recursion IsPrinted (codes "size" ∷ packer_text packer ∷ decimal width ∷ [])
+          (IsPrinted-literal (codes "size") refl, (IsPrinted-packer packer, (IsPrinted-decimal width (omega arith), tt)));
+    })
+are_fields fields packer (Width kind values) (text, is, is_kind, spelled) =
+    AreFields-same fields _ is (record {
+      some = omega arith;
+      few = omega arith;
+      printed = All-from_recursion IsPrinted (codes "width" ∷ packer_text packer ∷ kind_text kind ∷ text ∷ [])
+          (IsPrinted-literal (codes "width") refl, (IsPrinted-packer packer, (IsPrinted-kind kind is_kind, (IsPrinted-values text values spelled, tt))));
+    })
+are_fields fields packer (Unpack kind width bytes) (text, is, is_kind, small, spelled) =
+    AreFields-same fields _ is (record {
+      some = omega arith;
+      few = omega arith;
+      printed = All-from_recursion IsPrinted (codes "unpack" ∷ packer_text packer ∷ kind_text kind ∷ decimal width ∷ text ∷ [])
+          (IsPrinted-literal (codes "unpack") refl, (IsPrinted-packer packer, (IsPrinted-kind kind is_kind, (IsPrinted-decimal width (omega arith), (IsPrinted-bytes text bytes spelled, tt)))));
+    })
 are_fields fields packer (Pack kind width values) (text, is, is_kind, small, spelled) =
     AreFields-same fields _ is (record {
       some = omega arith;

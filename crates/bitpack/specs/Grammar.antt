@@ -74,13 +74,24 @@ SpellsBytes text (byte ∷ bytes) = decode_of text ≡ Ok (byte ∷ bytes)
 
 -- what a line asks of a packer
 pub data Request : Type 0 where
+  Size : ℕ → Request
+  Width : Kind → List ℕ → Request
   Pack : Kind → ℕ → List ℕ → Request
+  Unpack : Kind → ℕ → List ℕ → Request
 
 -- the fields of a line ask this of this packer
 abbrev pub Asks : List (List ℕ) → PackerName → Request → Type 0
+Asks fields packer (Size width) =
+    (fields ≡ codes "size" ∷ packer_text packer ∷ decimal width ∷ []) × IsSmall width
+Asks fields packer (Width kind values) =
+    (text : List ℕ) × (fields ≡ codes "width" ∷ packer_text packer ∷ kind_text kind ∷ text ∷ [])
+    × IsKind kind × SpellsValues text values
 Asks fields packer (Pack kind width values) =
     (text : List ℕ) × (fields ≡ codes "pack" ∷ packer_text packer ∷ kind_text kind ∷ decimal width ∷ text ∷ [])
     × IsKind kind × IsSmall width × SpellsValues text values
+Asks fields packer (Unpack kind width bytes) =
+    (text : List ℕ) × (fields ≡ codes "unpack" ∷ packer_text packer ∷ kind_text kind ∷ decimal width ∷ text ∷ [])
+    × IsKind kind × IsSmall width × SpellsBytes text bytes
 
 -- the line spells the request of the packer: one space stands between two fields
 pub record Spells (line : List ℕ) (packer : PackerName) (request : Request) : Type 0 where

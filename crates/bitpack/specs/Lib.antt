@@ -1,2 +1,4 @@
 pub mod Grammar
 pub mod Found
+pub mod Answers
+pub mod Lines

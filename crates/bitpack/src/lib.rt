@@ -1,6 +1,9 @@
 //! Chains, packed lists and the line program.
 #![tactic(auto)]
 
+mod answer;
 mod line;
+mod run_error;
+mod writing;
 
-pub(crate) use line::{Command, Line, PackerName};
+pub use run_error::RunError;

@@ -14,7 +14,7 @@ mod values;
 pub(crate) use error::ParseError;
 
 use bitpacking::Kind;
-use forms::pack_of;
+use forms::{pack_of, size_of, unpack_of, width_of};
 use std::alloc::Global;
 
 /// The packers that a line can name.
@@ -27,8 +27,14 @@ pub(crate) enum PackerName {
 /// What a line asks of its packer.
 #[derive(Debug, Drop)]
 pub(crate) enum Command {
-    /// `pack`: the bytes of a block, at a width.
+    /// `size`: how many bytes a block takes at a width.
+    Size(u8),
+    /// `width`: the least width of a block.
+    Width(Kind, Vec<u32>),
+    /// `pack`: the bytes of a block at a width.
     Pack(Kind, u8, Vec<u32>),
+    /// `unpack`: the block of the bytes at a width.
+    Unpack(Kind, u8, Vec<u8>),
 }
 
 /// A line of the language.
@@ -56,7 +62,10 @@ fn line_of(alloc: Global, fields: &[&str]) -> Result<Line, ParseError>
     ensures { Parses asked_by (λ asked. Asks (map (λ field. field.now) fields.now) asked.0 asked.1) result }
 {
     match *fields {
+        ["size", packer, width] => size_of(packer, width),
+        ["width", packer, kind, values] => width_of(alloc, packer, kind, values),
         ["pack", packer, kind, width, values] => pack_of(alloc, packer, kind, width, values),
+        ["unpack", packer, kind, width, bytes] => unpack_of(alloc, packer, kind, width, bytes),
         _ => Err(ParseError::Spelling),
     }
 }
