@@ -7,7 +7,7 @@ use Rattle.bitpacking.specs.declared.kind.Kind.{Kind}
 use Rattle.bitpacking.specs.declared.kind.Kind.TheVariants.{Plain, Sorted, StrictlySorted}
 use Rattle.bitpacking.specs.Codes.{start}
 use Rattle.bitpack.specs.declared.line.PackerName.{PackerName}
-use Rattle.bitpack.specs.declared.line.PackerName.TheVariants.{OneLane}
+use Rattle.bitpack.specs.declared.line.PackerName.TheVariants.{EightLanes, FourLanes, OneLane}
 use Rattle.bitpack.specs.declared.line.values.Item.{Item}
 use Rattle.bitpack.specs.declared.line.values.Item.TheVariants.{Once, Times}
 
@@ -26,6 +26,8 @@ IsCount n = (1 ≤ n) × (n ≤ 65536)
 
 abbrev pub packer_text : PackerName → List ℕ
 packer_text OneLane = codes "1x"
+packer_text FourLanes = codes "4x"
+packer_text EightLanes = codes "8x"
 
 abbrev pub kind_text : Kind → List ℕ
 kind_text Plain = codes "plain"

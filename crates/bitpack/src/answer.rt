@@ -12,7 +12,7 @@ mod texts;
 use crate::RunError;
 use crate::line::{Command, Line, PackerName, ParseError, parse};
 use crate::writing::put;
-use bitpacking::{BitPacker, BitPacker1x};
+use bitpacking::{BitPacker, BitPacker1x, BitPacker4x, BitPacker8x};
 use replies::{pack_text, size_text, unpack_text, width_text};
 use std::alloc::{AllocError, Global};
 use std::io::Write;
@@ -67,6 +67,8 @@ fn reply(alloc: Global, line: &Line) -> Result<String, AllocError>
 {
     match line.packer {
         PackerName::OneLane => reply_by(alloc, &BitPacker1x::new(), &line.command),
+        PackerName::FourLanes => reply_by(alloc, &BitPacker4x::new(), &line.command),
+        PackerName::EightLanes => reply_by(alloc, &BitPacker8x::new(), &line.command),
     }
 }
 

@@ -22,6 +22,10 @@ use std::alloc::Global;
 pub(crate) enum PackerName {
     /// `1x`
     OneLane,
+    /// `4x`
+    FourLanes,
+    /// `8x`
+    EightLanes,
 }
 
 /// What a line asks of its packer.

@@ -13,6 +13,8 @@ pub(crate) fn packer_of(text: &str) -> Option<PackerName>
 {
     match text {
         "1x" => Some(PackerName::OneLane),
+        "4x" => Some(PackerName::FourLanes),
+        "8x" => Some(PackerName::EightLanes),
         _ => None,
     }
 }
