@@ -28,6 +28,11 @@ split_fields : (fields : List (List ℕ)) → AreFields fields → between_space
 split_fields [] are = absurd (omega (arith, are.some))
 split_fields (field ∷ fields) are = split-join 32 field fields (All-weaker IsPrinted (Lacks 32) (λ text printed. Lacks-printed 32 text (omega arith) printed) (field ∷ fields) are.printed)
 
+-- a line that spells a request is cut into its fields
+pub fields_of : (line : List ℕ) (packer : PackerName) (request : Request) (spells : Spells line packer request) → between_spaces line ≡ spells.fields
+fields_of line packer request spells =
+    ap between_spaces spells.line_is ∙ split_fields spells.fields (are_fields spells.fields packer request spells.asks)
+
 -- what the first six fields ask, the line spells, and the other way round
 module _ (line : List ℕ) (found : List (List ℕ)) (is : found ≡ take 6 (between_spaces line)) (packer : PackerName) (request : Request) where
   pub spells_from_fields : Asks found packer request → Spells line packer request
@@ -39,7 +44,7 @@ module _ (line : List ℕ) (found : List (List ℕ)) (is : found ≡ take 6 (bet
   pub fields_from_spells : Spells line packer request → Asks found packer request
   fields_from_spells spells =
       let fields = are_fields spells.fields packer request spells.asks in
-      let cut : between_spaces line ≡ spells.fields = ap between_spaces spells.line_is ∙ split_fields spells.fields fields in
+      let cut = fields_of line packer request spells in
       let same : found ≡ spells.fields = is ∙ ap (take 6) cut ∙ take_all 6 spells.fields (omega (arith, fields.few)) in
       subst (λ f. Asks f packer request) (sym same) spells.asks
 

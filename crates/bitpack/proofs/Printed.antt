@@ -100,9 +100,9 @@ IsPrinted-bytes text (byte ∷ bytes) spelled =
 
 -- ---- lines
 
--- the fields of a request: at least one, at most five, and each is printed
+-- the fields of a request: at least three, at most five, and each is printed
 pub record AreFields (fields : List (List ℕ)) : Type 0 where
-  pub some : 1 ≤ length fields
+  pub some : 3 ≤ length fields
   pub few : length fields ≤ 5
   pub printed : All IsPrinted fields
 

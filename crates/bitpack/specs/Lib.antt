@@ -2,3 +2,4 @@ pub mod Grammar
 pub mod Found
 pub mod Answers
 pub mod Lines
+pub mod Laws

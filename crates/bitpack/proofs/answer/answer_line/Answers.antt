@@ -1,0 +1,9 @@
+use Rattle.std.proofs.Common.{◌++◌, ◌∷◌, [], refl, rules}
+use Rattle.bitpack.proofs.AnswerLemmas.{answer_of}
+use Rattle.bitpack.proofs.answer.answer_line.Goals as goal
+
+-- nothing was written yet
+pub returns-in_default-clause-err : goal.returns-in_default-clause-err
+returns-in_default-clause-err g c =
+    let (text, answers) = answer_of c.args.line.now in
+    (text, answers, ([], (text ++ 10 ∷ [], refl), search rules))
