@@ -109,23 +109,23 @@ module _ (lanes : ℕ) (some : 0 < lanes) where
   reply_of (Size width) range = (decimal (size lanes width), refl)
   reply_of (Width kind values) (is_kind, words) =
       refused_or _ 2 _ (is_other (length values) (32 * lanes)) (λ block.
-          let (width, low, least, one) = one_least_width (codes kind values) (AreWords-codes kind values words) in
-          (decimal width, record { width = width; least = least; text_is = refl }))
+      let (width, low, least, one) = one_least_width (codes kind values) (AreWords-codes kind values words) in
+      (decimal width, record { width = width; least = least; text_is = refl }))
   reply_of (Pack kind width values) (is_kind, words) =
       let are_words = AreWords-codes kind values words in
       refused_or _ 2 _ (is_other (length values) (32 * lanes)) (λ block.
       refused_or _ 3 _ (is_above 32 width) (λ narrow.
       refused_or _ 4 _ (fits_or_not (codes kind values) width are_words) (λ fit.
-          let (bytes, are_bytes, layout, one) = one_layout_bytes lanes width (codes kind values) some
-              (length-codes kind values ∙ same_from (length values) (32 * lanes) block) (fits_at_least (codes kind values) width are_words fit) in
-          (bytes_text bytes, record { bytes = bytes; are_bytes = are_bytes; holds = layout; text_is = refl }))))
+      let (bytes, are_bytes, layout, one) = one_layout_bytes lanes width (codes kind values) some
+      (length-codes kind values ∙ same_from (length values) (32 * lanes) block) (fits_at_least (codes kind values) width are_words fit) in
+      (bytes_text bytes, record { bytes = bytes; are_bytes = are_bytes; holds = layout; text_is = refl }))))
   reply_of (Unpack kind width bytes) is_kind =
       refused_or _ 3 _ (is_above 32 width) (λ narrow.
       refused_or _ 5 _ (is_other (length bytes) (size lanes width)) (λ room.
-          let (words, layout, one) = one_layout_codes lanes width bytes (same_from (length bytes) (size lanes width) room) in
-          let are_words = words_from_fits words width (narrow_width width narrow) layout.fits in
-          let (block, are_values, codes_are, only_block) = one_block kind words is_kind are_words in
-          (values_text block, record { block = block; are_words = are_values; holds = subst (λ c. Layout lanes width c bytes) (sym codes_are) layout; text_is = refl })))
+      let (words, layout, one) = one_layout_codes lanes width bytes (same_from (length bytes) (size lanes width) room) in
+      let are_words = words_from_fits words width (narrow_width width narrow) layout.fits in
+      let (block, are_values, codes_are, only_block) = one_block kind words is_kind are_words in
+      (values_text block, record { block = block; are_words = are_values; holds = subst (λ c. Layout lanes width c bytes) (sym codes_are) layout; text_is = refl })))
 
   same_packed : (width : ℕ) (kind : Kind) (values a b : List ℕ) → IsPacked lanes width kind values a → IsPacked lanes width kind values b → a ≡ b
   same_packed width kind values a b first second =
@@ -168,7 +168,7 @@ same_replied : (line a b : List ℕ) → IsReplied line a → IsReplied line b �
 same_replied line a b first second =
     let (packers, requests) = one_command line first.packer second.packer first.request second.request first.spelled second.spelled in
     let moved : IsReply (lanes_of first.packer) first.request b =
-        subst (λ p. IsReply (lanes_of p) first.request b) (sym packers) (subst (λ r. IsReply (lanes_of second.packer) r b) (sym requests) second.replied) in
+    subst (λ p. IsReply (lanes_of p) first.request b) (sym packers) (subst (λ r. IsReply (lanes_of second.packer) r b) (sym requests) second.replied) in
     same_reply (lanes_of first.packer) (some_lanes first.packer) first.request (in_range first.spelled.fields first.packer first.request first.spelled.asks) a b first.replied moved
 
 pub same_answer : (line a b : List ℕ) → IsAnswer line a → IsAnswer line b → a ≡ b

@@ -58,7 +58,7 @@ pub find_number : (IsRange : ℕ → Type 0) → ((n : ℕ) → Dec (IsRange n))
 find_number IsRange range small text =
     let n = digits_value 10 text in
     only (SpellsNumber IsRange text) n (both (same_text text (decimal n)) (range n)) (λ m (spelled, in_range).
-        sym (digits_value-decimal numeral m (small m in_range)) ∙ ap (digits_value 10) (sym spelled))
+    sym (digits_value-decimal numeral m (small m in_range)) ∙ ap (digits_value 10) (sym spelled))
 
 below : (limit n : ℕ) → Dec (n < limit)
 below limit n = elim (cases_lt n limit) [ inl lt ↦ inl lt | inr ge ↦ inr (λ lt. omega arith) ]
@@ -101,8 +101,10 @@ find_kind text = from (is_kind_text text Plain) (is_kind_text text (Sorted n)) (
   where
     n : ℕ
     n = digits_value 10 (drop 7 text)
+
     behind : (m : ℕ) (front : List ℕ) → IsWord m → drop 7 text ≡ decimal m → m ≡ n
     behind m front word e = sym (digits_value-decimal numeral m (omega arith)) ∙ ap (digits_value 10) (sym e)
+
     from : Dec (SpellsKind text Plain) → Dec (SpellsKind text (Sorted n)) → Dec (SpellsKind text (StrictlySorted None)) → Dec (SpellsKind text (StrictlySorted (Some n))) → Search (SpellsKind text)
     from (inl plain) b c d = (Some Plain, plain)
     from (inr plain) (inl sorted) c d = (Some (Sorted n), sorted)
@@ -124,9 +126,9 @@ cut_at byte [] = inr (λ i h. absurd (omega arith))
 cut_at byte (x ∷ text) = elim (eqb_tells x byte) [
   | inl (_, is) ↦ inl ([], text, ap (λ b. b ∷ text) is, λ i h. absurd (omega arith))
   | inr (_, other) ↦ elim (cut_at byte text) [
-      | inl (front, back, split, lacks) ↦ inl (x ∷ front, back, ap (λ t. x ∷ t) split, Lacks-cons byte x front other lacks)
-      | inr lacks ↦ inr (Lacks-cons byte x text other lacks)
-    ]
+    | inl (front, back, split, lacks) ↦ inl (x ∷ front, back, ap (λ t. x ∷ t) split, Lacks-cons byte x front other lacks)
+    | inr lacks ↦ inr (Lacks-cons byte x text other lacks)
+  ]
 ]
 
 find_item : (text : List ℕ) → Search (SpellsItem text)
@@ -135,6 +137,7 @@ find_item text = elim (cut_at 42 text) [ inl (front, back, split, lacks) ↦ sta
     whole : Lacks 42 text → Search (SpellsNumber IsWord text) → Search (SpellsItem text)
     whole lacks (Some n, spelled) = (Some (Once n), spelled)
     whole lacks (None, none) = (None, λ item spelled. let (n, word) = item_whole text lacks item spelled in none n word)
+
     starred : (front back : List ℕ) → text ≡ front ++ 42 ∷ back → Lacks 42 front → Search (SpellsNumber IsWord front) → Search (SpellsNumber IsCount back) → Search (SpellsItem text)
     starred front back split lacks (None, none) count = (None, λ item spelled. let (n, k, word, counts) = item_parts text front back split lacks item spelled in none n word)
     starred front back split lacks (Some n, word) (None, none) = (None, λ item spelled. let (m, k, other, counts) = item_parts text front back split lacks item spelled in none k counts)
@@ -143,16 +146,22 @@ find_item text = elim (cut_at 42 text) [ inl (front, back, split, lacks) ↦ sta
 module _ (text : List ℕ) (texts : List (List ℕ)) (values : List ℕ) where
   gather_item : (item : Item) → SpellsItem text item → Search (Gathers texts (values ++ item_values item)) → Search (Gathers (text ∷ texts) values)
   gather_item item spelled (Some all, rest) = (Some all, (item, spelled, rest))
-  gather_item item spelled (None, none) = (None, λ all (other, is_other, rest).
-      none all (subst (λ i. Gathers texts (values ++ item_values i) all) (same_item text other item is_other spelled) rest))
+  gather_item item spelled (None, none) = (
+    None,
+    λ all (other, is_other, rest).
+        none all (subst (λ i. Gathers texts (values ++ item_values i) all) (same_item text other item is_other spelled) rest),
+  )
 
   gather_step : ((more : List ℕ) → length more ≤ 65536 → Search (Gathers texts more)) → Search (SpellsItem text) → Search (Gathers (text ∷ texts) values)
   gather_step others (None, none) = (None, λ all (item, spelled, rest). none item spelled)
   gather_step others (Some item, spelled) = elim (cases_lt 65536 (length (values ++ item_values item))) [
-    | inl many ↦ (None, λ all (other, is_other, rest).
-        let same = same_item text other item is_other spelled in
-        let (le, few) = gathers_few texts (values ++ item_values item) all (subst (λ i. Gathers texts (values ++ item_values i) all) same rest) in
-        omega arith)
+    | inl many ↦ (
+      None,
+      λ all (other, is_other, rest).
+          let same = same_item text other item is_other spelled in
+          let (le, few) = gathers_few texts (values ++ item_values item) all (subst (λ i. Gathers texts (values ++ item_values i) all) same rest) in
+          omega arith,
+    )
     | inr few ↦ gather_item item spelled (others (values ++ item_values item) few)
   ]
 
@@ -266,9 +275,9 @@ find_asked (word ∷ p ∷ k ∷ v ∷ []) = elim (same_text word (codes "width"
 find_asked (word ∷ p ∷ k ∷ w ∷ v ∷ []) = elim (same_text word (codes "pack")) [
   | inl is ↦ with_word word (codes "pack") (p ∷ k ∷ w ∷ v ∷ []) is (find_pack p k w v)
   | inr pack ↦ elim (same_text word (codes "unpack")) [
-      | inl is ↦ with_word word (codes "unpack") (p ∷ k ∷ w ∷ v ∷ []) is (find_unpack p k w v)
-      | inr unpack ↦ (None, λ asked asks. not_five word p asked.0 k w v pack unpack asked.1 asks)
-    ]
+    | inl is ↦ with_word word (codes "unpack") (p ∷ k ∷ w ∷ v ∷ []) is (find_unpack p k w v)
+    | inr unpack ↦ (None, λ asked asks. not_five word p asked.0 k w v pack unpack asked.1 asks)
+  ]
 ]
 find_asked fields = (None, λ asked asks. let are = are_fields fields asked.0 asked.1 asks in omega (arith, are.some, are.few))
 

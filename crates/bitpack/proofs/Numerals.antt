@@ -8,7 +8,7 @@ use Rattle.std.specs.Fmt.{decimal}
 use Rattle.std.proofs.lemmas.Str.Parse.{IsNumeralModel, numerals_by_value, tells_digits, digit_at, parse_plain}
 use Rattle.std.proofs.lemmas.Fmt.{decimal-digits_value, decimal_nonempty, digits_decimal, digits_value-decimal, first_decimal, decimal_digit}
 use Rattle.std.proofs.lemmas.Bool.{cases_eq}
-use Rattle.bitpack.specs.Found.{Finds, IsPlain}
+use Rattle.bitpack.specs.Found.{Finds, BeginsNumber}
 
 -- digits, and the number that they write
 pub numeral : IsNumeralModel (AllDigits 10) (digits_value 10)
@@ -18,8 +18,8 @@ numeral = numerals_by_value (AllDigits 10) tells_digits
 pub decimal-digit : (n i : ℕ) → n < 2 ^ 64 → i < length (decimal n) → IsInRange 48 57 (get_or (decimal n) i 0)
 decimal-digit n i small h = digit_at (decimal n) i (digits_decimal numeral n small) h
 
-pub IsPlain-decimal : (n : ℕ) → n < 2 ^ 64 → IsPlain (decimal n)
-IsPlain-decimal n small = record {
+pub BeginsNumber-decimal : (n : ℕ) → n < 2 ^ 64 → BeginsNumber (decimal n)
+BeginsNumber-decimal n small = record {
   digit = decimal-digit n 0 small (decimal_nonempty n small);
   zero = λ e.
       elim (cases_eq n 0) [
@@ -29,7 +29,7 @@ IsPlain-decimal n small = record {
 }
 
 -- what the library's parser takes of a text that begins as a number does
-pub parsed : {E : Type 0} (k : ℕ) (text : List ℕ) (r : Result ℕ E) → 2 ^ k ≤ 2 ^ 64 → ParsesUnsigned k 10 text r → IsPlain text
+pub parsed : {E : Type 0} (k : ℕ) (text : List ℕ) (r : Result ℕ E) → 2 ^ k ≤ 2 ^ 64 → ParsesUnsigned k 10 text r → BeginsNumber text
     → Finds (λ n. (text ≡ decimal n) × (n < 2 ^ k)) (result_ok r)
 parsed k text r wide parses plain =
     let no_plus : get_or text 0 0 ≢ 43 = λ e. omega (arith, plain.digit) in
@@ -47,5 +47,5 @@ parsed k text r wide parses plain =
     )
 
 -- a number is no other text
-pub not_plain : (limit : ℕ) (text : List ℕ) → limit ≤ 2 ^ 64 → (IsPlain text → ⊥) → (n : ℕ) → (text ≡ decimal n) × (n < limit) → ⊥
-not_plain limit text wide other n (spelled, fits) = other (subst IsPlain (sym spelled) (IsPlain-decimal n (omega arith)))
+pub not_plain : (limit : ℕ) (text : List ℕ) → limit ≤ 2 ^ 64 → (BeginsNumber text → ⊥) → (n : ℕ) → (text ≡ decimal n) × (n < limit) → ⊥
+not_plain limit text wide other n (spelled, fits) = other (subst BeginsNumber (sym spelled) (BeginsNumber-decimal n (omega arith)))

@@ -34,7 +34,7 @@ abbrev pub SpellsItem : List ℕ → Item → Type 0
 SpellsItem text item = (text ≡ item_text item) × IsItem item
 
 -- the text begins with a digit, and with `0` only where that is all
-pub record IsPlain (text : List ℕ) : Type 0 where
+pub record BeginsNumber (text : List ℕ) : Type 0 where
   pub digit : IsInRange 48 57 (slice_index text 0)
   pub zero : slice_index text 0 ≡ 48 → length text ≡ 1
 

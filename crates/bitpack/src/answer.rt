@@ -23,10 +23,15 @@ const LONGEST: usize = 65_536;
 
 // The numbers of the refusals.
 const NOT_SPELLED: u8 = 1;
+
 const NOT_A_BLOCK: u8 = 2;
+
 const TOO_WIDE: u8 = 3;
+
 const TOO_GREAT: u8 = 4;
+
 const NOT_ITS_BYTES: u8 = 5;
+
 const TOO_LONG: u8 = 6;
 
 /// Writes the answer to a line, with its line feed.

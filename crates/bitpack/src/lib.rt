@@ -5,6 +5,8 @@ mod answer;
 pub mod laws;
 mod line;
 mod run_error;
+#[cfg(test)]
+mod tests;
 mod writing;
 
 pub use run_error::RunError;

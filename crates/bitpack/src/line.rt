@@ -11,9 +11,8 @@ mod names;
 mod numbers;
 mod values;
 
-pub(crate) use error::ParseError;
-
 use bitpacking::Kind;
+pub(crate) use error::ParseError;
 use forms::{pack_of, size_of, unpack_of, width_of};
 use std::alloc::Global;
 

@@ -10,6 +10,9 @@ use super::{NOT_A_BLOCK, NOT_ITS_BYTES, TOO_GREAT, TOO_WIDE};
 use bitpacking::{BitPacker, Kind};
 use std::alloc::{AllocError, Global};
 
+/// The widest width.
+const WIDEST: u8 = 32;
+
 /// The most bytes of a block: 8 lanes at 32 bits a code.
 const MOST_BYTES: usize = 1024;
 
@@ -50,7 +53,7 @@ pub(crate) fn pack_text<P: BitPacker>(
     if values.len() != P::BLOCK_LEN {
         return refused(alloc, NOT_A_BLOCK);
     }
-    if width > 32 {
+    if width > WIDEST {
         return refused(alloc, TOO_WIDE);
     }
     if width < width_of(packer, kind, values) {
@@ -70,7 +73,7 @@ pub(crate) fn unpack_text<P: BitPacker>(
 ) -> Result<String, AllocError>
     ensures { IfOk result (λ text. IsReply P.lanes (Unpack kind width bytes.now) (string_bytes text)) }
 {
-    if width > 32 {
+    if width > WIDEST {
         return refused(alloc, TOO_WIDE);
     }
     if bytes.len() != P::compressed_block_size(width) {

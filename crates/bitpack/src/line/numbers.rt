@@ -2,14 +2,16 @@
 
 ghost use Rattle.std.specs.Prelude.{◌↔◌, IsTrue};
 ghost use Rattle.bitpack.specs.Grammar.{IsCount, IsSmall, IsWord};
-ghost use Rattle.bitpack.specs.Found.{Finds, IsPlain, SpellsNumber};
+ghost use Rattle.bitpack.specs.Found.{BeginsNumber, Finds, SpellsNumber};
 
-/// The most values of a line.
-pub(crate) const MOST_VALUES: usize = 65_536;
+/// The least and the most times that an item stands.
+const LEAST_COUNT: u32 = 1;
+
+const MOST_COUNT: u32 = 65_536;
 
 /// Whether the text begins as a number does. The library's parser takes `+1` and `01` too.
-fn is_plain(text: &str) -> bool
-    ensures { IsTrue result ↔ IsPlain text.now }
+fn begins_number(text: &str) -> bool
+    ensures { IsTrue result ↔ BeginsNumber text.now }
 {
     match text.as_bytes() {
         [b'0'] => true,
@@ -22,7 +24,7 @@ fn is_plain(text: &str) -> bool
 pub(crate) fn small_of(text: &str) -> Option<u8>
     ensures { Finds (SpellsNumber IsSmall text.now) result }
 {
-    if is_plain(text) {
+    if begins_number(text) {
         text.parse().ok()
     } else {
         None
@@ -33,19 +35,19 @@ pub(crate) fn small_of(text: &str) -> Option<u8>
 pub(crate) fn word_of(text: &str) -> Option<u32>
     ensures { Finds (SpellsNumber IsWord text.now) result }
 {
-    if is_plain(text) {
+    if begins_number(text) {
         text.parse().ok()
     } else {
         None
     }
 }
 
-/// How often an item stands: a number from 1 to 65,536.
+/// How often an item stands.
 pub(crate) fn count_of(text: &str) -> Option<u32>
     ensures { Finds (SpellsNumber IsCount text.now) result }
 {
     let count = word_of(text)?;
-    if count == 0 || count as usize > MOST_VALUES {
+    if count < LEAST_COUNT || count > MOST_COUNT {
         return None;
     }
     Some(count)

@@ -5,8 +5,11 @@ ghost use Rattle.bitpack.specs.Grammar.{SpellsValues};
 ghost use Rattle.bitpack.specs.Found.{AddsItem, Finds, Parses, SpellsItem};
 
 use super::error::ParseError;
-use super::numbers::{MOST_VALUES, count_of, word_of};
+use super::numbers::{count_of, word_of};
 use std::alloc::Global;
+
+/// The most values of a line.
+const MOST_VALUES: usize = 65_536;
 
 /// A part of a list of values.
 #[derive(Clone, Copy, PartialEq, Eq, Debug)]

@@ -10,5 +10,5 @@ pub returns-in_err-bytes : goal.returns-in_err-bytes
 returns-in_err-bytes c =
     let p = err_from_is_err_and c.from_residual-in_err-bytes.result c.from_residual-in_err-bytes.ensures.1 in
     passes_on asked_by _ (λ (bytes : Vec ℕ Global). bytes.items) (SpellsBytes c.args.bytes.now) _ c.in_err-bytes.field-0.0 (p.1 ∙ ap Err p.2) c.in_err-bytes.ensures (λ none asked asks.
-        let parts = unpack_parts c.args.packer.now c.args.kind.now c.args.width.now c.args.bytes.now asked.0 asked.1 asks in
-        none parts.bytes parts.spelled)
+    let parts = unpack_parts c.args.packer.now c.args.kind.now c.args.width.now c.args.bytes.now asked.0 asked.1 asks in
+    none parts.bytes parts.spelled)

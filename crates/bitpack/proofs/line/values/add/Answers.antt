@@ -10,8 +10,8 @@ returns-then-count-len c new adds =
     let spelled = rw c.in_ok-value.ensures.ok_part at c.item_of.ensures in
     let same = same_item c.args.text.now adds.item _ adds.spelled spelled in
     let size : length (item_values adds.item) ≡ c.match-branch-2.value.1 =
-        elim c.match-branch-2.branch [
-          | in-Once w ↦ rw (same, w.in-Once.is, w.value-is) refl
-          | in-Times w ↦ rw (same, w.in-Times.is, w.value-is) (length-replicate w.in-Times.count w.in-Times.value)
-        ] in
+    elim c.match-branch-2.branch [
+      | in-Once w ↦ rw (same, w.in-Once.is, w.value-is) refl
+      | in-Times w ↦ rw (same, w.in-Times.is, w.value-is) (length-replicate w.in-Times.count w.in-Times.value)
+    ] in
     omega (arith, adds.few, ap length adds.added, length-append c.args.values.now.items (item_values adds.item), c.args.values.now.ok.0)

@@ -30,7 +30,7 @@ returns-in_err-add c =
     let other : c.args.text.now ≢ codes "-" = search (rules, tests) in
     let p = err_from_is_err_and c.from_residual.result c.from_residual.ensures.1 in
     passes_on _ _ (λ (x : Unit {0}). c.add.new.values.items) _ c.from_residual.result c.in_err-add.field-0.0 (p.1 ∙ ap Err p.2) c.in_err-add.ensures (λ none all spelled.
-        stops_at (between_commas c.args.text.now) (length c.loop-item.yielded) c.loop-item.values.items c.loop-item.invariant.read c.in-Some.item.now more is none all (spelled_gathers c.args.text.now all other spelled))
+    stops_at (between_commas c.args.text.now) (length c.loop-item.yielded) c.loop-item.values.items c.loop-item.invariant.read c.in-Some.item.now more is none all (spelled_gathers c.args.text.now all other spelled))
 
 pub returns : goal.returns
 returns c =

@@ -1,0 +1,3 @@
+//! What no clause says: texts written down by hand.
+
+mod lines;
