@@ -1,23 +1,21 @@
 -- Every line has an answer, and one only.
-use Rattle.std.proofs.Common.{◌≡◌, ◌≢◌, ℕ, ◌+◌, ◌*◌, ◌^◌, ◌<◌, ◌≤◌, List, [], ◌∷◌, ◌++◌, length, take, refl, sym, ap, subst, ◌∙◌, arith, inl, inr, Option, Some, None, length-take-le, take_all}
+use Rattle.std.proofs.Common.{◌≡◌, ◌≢◌, ℕ, ◌*◌, ◌^◌, ◌<◌, ◌≤◌, List, [], ◌∷◌, length, take, refl, sym, ap, subst, ◌∙◌, arith, inl, inr, Some, None, length-take-le, take_all}
 use Rattle.std.specs.Prelude.{All}
 use Rattle.std.specs.List.{flat_map}
 use Rattle.std.specs.Fmt.{decimal}
 use Rattle.std.proofs.lemmas.Bool.{cases_eq, cases_lt}
 use Rattle.std.proofs.lemmas.List.Elements.{All-append, All-cons, All-head, All-nil, All-replicate, All-tail}
 use Rattle.bitpacking.specs.declared.kind.Kind.{Kind}
-use Rattle.bitpacking.specs.Bits.{AreBytes}
-use Rattle.bitpacking.specs.Codes.{AreWords, codes, start}
-use Rattle.bitpacking.specs.Width.{Fits, IsWidth, Least}
-use Rattle.bitpacking.specs.Layout.{Holds, Layout, size}
+use Rattle.bitpacking.specs.Codes.{AreWords, codes}
+use Rattle.bitpacking.specs.Width.{Fits}
+use Rattle.bitpacking.specs.Layout.{Layout, size}
 use Rattle.bitpacking.proofs.Blocks.{AreWords-codes, length-codes}
 use Rattle.bitpacking.proofs.LawProofs.{fits_greater, one_block, one_layout_bytes, one_layout_codes, one_least_width}
 use Rattle.bitpack.specs.declared.line.PackerName.{PackerName}
 use Rattle.bitpack.specs.declared.line.PackerName.TheVariants.{EightLanes, FourLanes, OneLane}
 use Rattle.bitpack.specs.declared.line.values.Item.{Item}
 use Rattle.bitpack.specs.declared.line.values.Item.TheVariants.{Once, Times}
-use Rattle.bitpack.specs.Grammar.{Asks, IsItem, IsKind, IsWord, Pack, Request, Size, Spells, SpellsValues, Unpack, Width, item_values}
-use Rattle.bitpack.specs.Found.{Finds}
+use Rattle.bitpack.specs.Grammar.{Asks, IsItem, IsKind, Pack, Request, Size, Spells, SpellsValues, Unpack, Width, item_values}
 use Rattle.bitpack.specs.Answers.{IsAnswer, IsPacked, IsReplied, IsReply, IsUnpacked, IsWidthText, Passed, Refused, RefusedIf, SpellsNone, bytes_text, lanes_of, refused, values_text}
 use Rattle.bitpack.specs.Laws.{OneAnswer}
 use Rattle.bitpack.proofs.Finding.{Dec, Search, find_line}

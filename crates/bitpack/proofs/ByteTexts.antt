@@ -1,6 +1,5 @@
 -- The texts of bytes.
-use Rattle.std.proofs.Common.{◌≡◌, ◌≢◌, ℕ, ◌*◌, ◌%◌, List, [], ◌∷◌, length, Ok, codes, ◌⊎◌, inl, inr, arith}
-use Rattle.hex.specs.Hex.{decode_of}
+use Rattle.std.proofs.Common.{◌≡◌, ◌≢◌, ℕ, ◌%◌, List, [], ◌∷◌, length, codes, ◌⊎◌, inl, inr, arith}
 use Rattle.hex.proofs.HexLemmas.{decode_of-ok}
 use Rattle.bitpack.specs.Grammar.{SpellsBytes}
 

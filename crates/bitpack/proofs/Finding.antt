@@ -1,5 +1,5 @@
 -- What each part of a line spells is found, or that it spells nothing.
-use Rattle.std.proofs.Common.{◌≡◌, ◌≢◌, ℕ, ◌+◌, ◌^◌, ◌<◌, ◌≤◌, Bool, true, false, List, [], ◌∷◌, ◌++◌, length, drop, codes, refl, sym, ap, subst, ◌∙◌, arith, bytes_eq, ◌⊎◌, inl, inr, Option, Some, None, Result, Ok, Err, ◌==◌, get_or}
+use Rattle.std.proofs.Common.{◌≡◌, ◌≢◌, ℕ, ◌^◌, ◌<◌, ◌≤◌, Bool, true, false, List, [], ◌∷◌, ◌++◌, length, drop, codes, refl, sym, ap, subst, ◌∙◌, arith, bytes_eq, ◌⊎◌, inl, inr, Option, Some, None, Result, Ok, Err}
 use Rattle.std.specs.Fmt.{decimal}
 use Rattle.std.specs.Str.Parse.{digits_value}
 use Rattle.std.proofs.lemmas.Bool.{cases_lt}
@@ -16,7 +16,7 @@ use Rattle.bitpack.specs.declared.line.PackerName.{PackerName}
 use Rattle.bitpack.specs.declared.line.PackerName.TheVariants.{EightLanes, FourLanes, OneLane}
 use Rattle.bitpack.specs.declared.line.values.Item.{Item}
 use Rattle.bitpack.specs.declared.line.values.Item.TheVariants.{Once, Times}
-use Rattle.bitpack.specs.Grammar.{Asks, IsCount, IsItem, IsKind, IsSmall, IsWord, Pack, Request, Size, Spells, SpellsBytes, SpellsValues, Unpack, Width, item_values, kind_text, packer_text}
+use Rattle.bitpack.specs.Grammar.{Asks, IsCount, IsItem, IsSmall, IsWord, Pack, Request, Size, Spells, SpellsBytes, SpellsValues, Unpack, Width, item_values, kind_text, packer_text}
 use Rattle.bitpack.specs.Found.{Finds, SpellsItem, SpellsKind, SpellsNumber}
 use Rattle.bitpack.proofs.Numerals.{numeral}
 use Rattle.bitpack.proofs.Cuts.{Lacks, Lacks-cons}

@@ -1,5 +1,5 @@
 -- A line spells at most one request.
-use Rattle.std.proofs.Common.{◌≡◌, ◌≢◌, ℕ, ◌^◌, ◌<◌, ◌≤◌, List, [], ◌∷◌, ◌++◌, codes, drop, get_or, refl, sym, ap, subst, ◌∙◌, arith, inl, inr, Some, None, Ok, Err}
+use Rattle.std.proofs.Common.{◌≡◌, ◌≢◌, ℕ, List, [], ◌∷◌, ◌++◌, codes, drop, get_or, refl, sym, ap, subst, ◌∙◌, arith, inl, inr, Some, None, Ok}
 use Rattle.std.specs.Prelude.{All}
 use Rattle.std.specs.Int.{IsInRange}
 use Rattle.std.specs.List.{flat_map}
@@ -12,14 +12,14 @@ use Rattle.bitpacking.specs.declared.kind.Kind.TheVariants.{Plain, Sorted, Stric
 use Rattle.bitpack.specs.declared.line.PackerName.{PackerName}
 use Rattle.bitpack.specs.declared.line.PackerName.TheVariants.{EightLanes, FourLanes, OneLane}
 use Rattle.bitpack.specs.declared.line.values.Item.{Item}
-use Rattle.bitpack.specs.Grammar.{Asks, IsItem, IsSmall, IsWord, Pack, Request, Size, Spells, SpellsBytes, SpellsValues, Unpack, Width, item_text, item_values, items_text, kind_text, packer_text}
-use Rattle.bitpack.specs.Found.{SpellsItem, SpellsKind}
+use Rattle.bitpack.specs.Grammar.{Asks, IsItem, IsSmall, IsWord, Pack, Request, Size, SpellsBytes, SpellsValues, Unpack, Width, item_text, item_values, items_text, kind_text, packer_text}
+use Rattle.bitpack.specs.Found.{SpellsKind}
 use Rattle.bitpack.specs.Laws.{OneCommand}
 use Rattle.bitpack.proofs.Cuts.{Lacks, Lacks-append, Lacks-cons}
 use Rattle.bitpack.proofs.Finding.{same_text}
 use Rattle.bitpack.proofs.Forms.{pack_parts, size_parts, unpack_parts, width_parts}
 use Rattle.bitpack.proofs.Items.{Lacks-item, same_item}
-use Rattle.bitpack.proofs.LineTexts.{between_spaces, fields_of}
+use Rattle.bitpack.proofs.LineTexts.{fields_of}
 use Rattle.bitpack.proofs.Numerals.{decimal-digit}
 use Rattle.bitpack.proofs.ValueLists.{Gathers, between_commas, spelled_gathers}
 

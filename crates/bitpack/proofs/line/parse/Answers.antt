@@ -1,10 +1,8 @@
-use Rattle.std.proofs.Common.{◌≡◌, ◌∙◌, ap, lit<, map, sym, subst, take}
+use Rattle.std.proofs.Common.{◌≡◌, ◌∙◌, ap, lit<, take}
 use Rattle.std.proofs.lemmas.Iterator.{YieldsList-from_take}
 use Rattle.std.proofs.lemmas.Iterator.Consumers.{YieldsList-at, map_from_collect}
 use Rattle.std.proofs.lemmas.Iterator.Splits.{YieldsList-from_str_split}
 use Rattle.std.proofs.lemmas.Result.{IfOk-at_ok}
-use Rattle.bitpack.specs.Grammar.{Asks, Spells}
-use Rattle.bitpack.specs.Found.{Parses, asked_by}
 use Rattle.bitpack.proofs.Forms.{texts_of}
 use Rattle.bitpack.proofs.LineTexts.{IsUtf8-line, between_spaces, parses_line}
 use Rattle.bitpack.proofs.line.parse.Goals as goal

@@ -1,4 +1,4 @@
-use Rattle.std.proofs.Common.{arith, rules, take}
+use Rattle.std.proofs.Common.{arith, take}
 use Rattle.std.proofs.lemmas.Result.{IfOk-weaker}
 use Rattle.bitpacking.proofs.LawProofs.{fits_greater}
 use Rattle.bitpack.specs.Answers.{Passed}

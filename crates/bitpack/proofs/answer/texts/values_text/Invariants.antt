@@ -1,4 +1,4 @@
-use Rattle.std.proofs.Common.{◌≡◌, ◌∷◌, drop, get_or, string_bytes, take}
+use Rattle.std.proofs.Common.{◌≡◌, ◌∷◌, get_or, string_bytes, take}
 use Rattle.bitpack.specs.Answers.{values_text}
 use Rattle.bitpack.proofs.answer.texts.values_text.Given as goal
 

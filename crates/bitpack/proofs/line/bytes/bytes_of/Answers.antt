@@ -1,4 +1,4 @@
-use Rattle.std.proofs.Common.{◌≢◌, codes, inl, inr, arith, rules, tests}
+use Rattle.std.proofs.Common.{◌≢◌, codes, inl, inr, rules, tests}
 use Rattle.bitpack.proofs.ByteTexts.{no_bytes}
 use Rattle.bitpack.proofs.line.bytes.bytes_of.Goals as goal
 use Rattle.bitpack.proofs.line.bytes.bytes_of.Goals.{then-is_empty-via-then-is_empty, then-is_empty-via-else-is_empty+then-text-eq1}

@@ -1,4 +1,4 @@
-use Rattle.std.proofs.Common.{◌≡◌, ◌∙◌, ap, arith, length, length-append, refl}
+use Rattle.std.proofs.Common.{◌≡◌, ap, arith, length, length-append, refl}
 use Rattle.std.proofs.lemmas.List.{length-replicate}
 use Rattle.bitpack.specs.Grammar.{item_values}
 use Rattle.bitpack.proofs.Items.{same_item}
