@@ -1,43 +1,196 @@
--- STAND-IN, to be replaced: the two laws of answers that the line loop takes.
-use Rattle.std.proofs.Common.{◌≡◌, ◌<◌, ◌≤◌, ℕ, List, [], ◌∷◌, ◌++◌, false, length, take, refl, sym, ap, ◌∙◌, arith, take_all, suc, inl, inr, nat_le, codes, if◌then◌else◌}
-use Rattle.std.proofs.lemmas.Bool.Decides.{leb_tells, nat_tests}
-use Rattle.std.proofs.lemmas.List.{length-take-le}
-use Rattle.bitpack.specs.Answers.{IsAnswer, toy_answer}
+-- Every line has an answer, and one only.
+use Rattle.std.proofs.Common.{◌≡◌, ◌≢◌, ℕ, ◌*◌, ◌^◌, ◌<◌, ◌≤◌, List, [], ◌∷◌, length, take, refl, sym, ap, subst, ◌∙◌, arith, inl, inr, Some, None, length-take-le, take_all}
+use Rattle.std.specs.Prelude.{All}
+use Rattle.std.specs.List.{flat_map}
+use Rattle.std.specs.Fmt.{decimal}
+use Rattle.std.proofs.lemmas.Bool.{cases_eq, cases_lt}
+use Rattle.std.proofs.lemmas.List.Elements.{All-append, All-cons, All-head, All-nil, All-replicate, All-tail}
+use Rattle.bitpacking.specs.declared.kind.Kind.{Kind}
+use Rattle.bitpacking.specs.Codes.{AreWords, codes}
+use Rattle.bitpacking.specs.Width.{Fits}
+use Rattle.bitpacking.specs.Layout.{Layout, size}
+use Rattle.bitpacking.proofs.Blocks.{AreWords-codes, length-codes}
+use Rattle.bitpacking.proofs.LawProofs.{fits_greater, one_block, one_layout_bytes, one_layout_codes, one_least_width}
+use Rattle.bitpack.specs.declared.line.PackerName.{PackerName}
+use Rattle.bitpack.specs.declared.line.PackerName.TheVariants.{EightLanes, FourLanes, OneLane}
+use Rattle.bitpack.specs.declared.line.values.Item.{Item}
+use Rattle.bitpack.specs.declared.line.values.Item.TheVariants.{Once, Times}
+use Rattle.bitpack.specs.Grammar.{Asks, IsItem, IsKind, Pack, Request, Size, Spells, SpellsValues, Unpack, Width, item_values}
+use Rattle.bitpack.specs.Answers.{IsAnswer, IsPacked, IsReplied, IsReply, IsUnpacked, IsWidthText, Passed, Refused, RefusedIf, SpellsNone, bytes_text, lanes_of, refused, values_text}
+use Rattle.bitpack.specs.Laws.{OneAnswer}
 use Rattle.bitpack.specs.Lines.{held}
+use Rattle.bitpack.proofs.Finding.{Dec, Search, find_line}
+use Rattle.bitpack.proofs.GrammarLemmas.{one_command}
 
--- every line has an answer
+-- ---- a refusal, or a reply
+
+module _ (Fault : Type 0) (number : ℕ) (Reply : List ℕ → Type 0) where
+  -- where a fault can be told, there is a text
+  refused_or : Dec Fault → ((Fault → ⊥) → (text : List ℕ) × Reply text) → (text : List ℕ) × RefusedIf Fault number Reply text
+  refused_or (inl fault) reply = (refused number, Refused fault refl)
+  refused_or (inr sound) reply = let (text, replies) = reply sound in (text, Passed sound replies)
+
+  -- two texts are equal where two replies are
+  same_refusal : ((Fault → ⊥) → (a b : List ℕ) → Reply a → Reply b → a ≡ b) → (a b : List ℕ) → RefusedIf Fault number Reply a → RefusedIf Fault number Reply b → a ≡ b
+  same_refusal same a b (Refused fault is_a) (Refused other is_b) = is_a ∙ sym is_b
+  same_refusal same a b (Refused fault is_a) (Passed sound reply) = absurd (sound fault)
+  same_refusal same a b (Passed sound reply) (Refused fault is_b) = absurd (sound fault)
+  same_refusal same a b (Passed sound first) (Passed also second) = same sound a b first second
+
+is_other : (m n : ℕ) → Dec (m ≢ n)
+is_other m n = elim (cases_eq m n) [ inl same ↦ inr (λ other. other same) | inr other ↦ inl other ]
+
+is_above : (m n : ℕ) → Dec (m < n)
+is_above m n = elim (cases_lt m n) [ inl less ↦ inl less | inr more ↦ inr (λ less. omega arith) ]
+
+same_from : (m n : ℕ) → (m ≢ n → ⊥) → m ≡ n
+same_from m n not_other = elim (cases_eq m n) [ inl same ↦ same | inr other ↦ absurd (not_other other) ]
+
+-- ---- what a request holds
+
+-- the numbers of a request are words
+abbrev AreInRange : Request → Type 0
+AreInRange (Size width) = Unit {0}
+AreInRange (Width kind values) = IsKind kind × AreWords values
+AreInRange (Pack kind width values) = IsKind kind × AreWords values
+AreInRange (Unpack kind width bytes) = IsKind kind
+
+words_of_items : (items : List Item) → All IsItem items → AreWords (flat_map item_values items)
+words_of_items [] are = All-nil (λ v. v < 2 ^ 32)
+words_of_items (Once value ∷ items) are =
+    All-append (λ v. v < 2 ^ 32) (value ∷ []) (flat_map item_values items) (All-cons (λ v. v < 2 ^ 32) value [] (All-head IsItem (Once value) items are) (All-nil (λ v. v < 2 ^ 32))) (words_of_items items (All-tail IsItem (Once value) items are))
+words_of_items (Times value count ∷ items) are =
+    All-append (λ v. v < 2 ^ 32) (item_values (Times value count)) (flat_map item_values items)
+    (All-replicate (λ v. v < 2 ^ 32) count value (All-head IsItem (Times value count) items are).0) (words_of_items items (All-tail IsItem (Times value count) items are))
+
+words_of : (text values : List ℕ) → SpellsValues text values → AreWords values
+words_of text values spelled = subst AreWords (sym spelled.values_are) (words_of_items spelled.items spelled.are_items)
+
+in_range : (fields : List (List ℕ)) (packer : PackerName) (request : Request) → Asks fields packer request → AreInRange request
+in_range fields packer (Size width) asks = tt
+in_range fields packer (Width kind values) (text, is, is_kind, spelled) = (is_kind, words_of text values spelled)
+in_range fields packer (Pack kind width values) (text, is, is_kind, small, spelled) = (is_kind, words_of text values spelled)
+in_range fields packer (Unpack kind width bytes) (text, is, is_kind, small, spelled) = is_kind
+
+some_lanes : (packer : PackerName) → 0 < lanes_of packer
+some_lanes OneLane = omega arith
+some_lanes FourLanes = omega arith
+some_lanes EightLanes = omega arith
+
+-- ---- replies
+
+-- whether codes fit a width is told by their least width
+fits_or_not : (words : List ℕ) (width : ℕ) → AreWords words → Dec (Fits words width → ⊥)
+fits_or_not words width are_words =
+    let (least_width, low, least, one) = one_least_width words are_words in
+    elim (cases_lt width least_width) [
+      | inl below ↦ inl (least.least width below)
+      | inr above ↦ inr (λ none. none (fits_greater words least_width width above least.fits))
+    ]
+
+fits_at_least : (words : List ℕ) (width : ℕ) → AreWords words → ((Fits words width → ⊥) → ⊥) → Fits words width
+fits_at_least words width are_words not_none =
+    let (least_width, low, least, one) = one_least_width words are_words in
+    elim (cases_lt width least_width) [
+      | inl below ↦ absurd (not_none (least.least width below))
+      | inr above ↦ fits_greater words least_width width above least.fits
+    ]
+
+-- codes that fit a width of at most 32 are words
+words_from_fits : (words : List ℕ) (width : ℕ) → width ≤ 32 → Fits words width → AreWords words
+words_from_fits words width narrow fits = fits_greater words width 32 narrow fits
+
+narrow_width : (width : ℕ) → (32 < width → ⊥) → width ≤ 32
+narrow_width width narrow = elim (cases_lt 32 width) [ inl wide ↦ absurd (narrow wide) | inr fine ↦ fine ]
+
+module _ (lanes : ℕ) (some : 0 < lanes) where
+  reply_of : (request : Request) → AreInRange request → (text : List ℕ) × IsReply lanes request text
+  reply_of (Size width) range = (decimal (size lanes width), refl)
+  reply_of (Width kind values) (is_kind, words) =
+      refused_or _ 2 _ (is_other (length values) (32 * lanes)) (λ block.
+      let (width, low, least, one) = one_least_width (codes kind values) (AreWords-codes kind values words) in
+      (decimal width, record { width = width; least = least; text_is = refl }))
+  reply_of (Pack kind width values) (is_kind, words) =
+      let are_words = AreWords-codes kind values words in
+      refused_or _ 2 _ (is_other (length values) (32 * lanes)) (λ block.
+      refused_or _ 3 _ (is_above 32 width) (λ narrow.
+      refused_or _ 4 _ (fits_or_not (codes kind values) width are_words) (λ fit.
+      let (bytes, are_bytes, layout, one) = one_layout_bytes lanes width (codes kind values) some
+      (length-codes kind values ∙ same_from (length values) (32 * lanes) block) (fits_at_least (codes kind values) width are_words fit) in
+      (bytes_text bytes, record { bytes = bytes; are_bytes = are_bytes; holds = layout; text_is = refl }))))
+  reply_of (Unpack kind width bytes) is_kind =
+      refused_or _ 3 _ (is_above 32 width) (λ narrow.
+      refused_or _ 5 _ (is_other (length bytes) (size lanes width)) (λ room.
+      let (words, layout, one) = one_layout_codes lanes width bytes (same_from (length bytes) (size lanes width) room) in
+      let are_words = words_from_fits words width (narrow_width width narrow) layout.fits in
+      let (block, are_values, codes_are, only_block) = one_block kind words is_kind are_words in
+      (values_text block, record { block = block; are_words = are_values; holds = subst (λ c. Layout lanes width c bytes) (sym codes_are) layout; text_is = refl })))
+
+  same_packed : (width : ℕ) (kind : Kind) (values a b : List ℕ) → IsPacked lanes width kind values a → IsPacked lanes width kind values b → a ≡ b
+  same_packed width kind values a b first second =
+      let (bytes, are_bytes, layout, one) = one_layout_bytes lanes width (codes kind values) some first.holds.code_count first.holds.fits in
+      first.text_is ∙ ap bytes_text (one first.bytes first.are_bytes first.holds ∙ sym (one second.bytes second.are_bytes second.holds)) ∙ sym second.text_is
+
+  same_unpacked : (width : ℕ) (kind : Kind) (bytes a b : List ℕ) → width ≤ 32 → IsKind kind → IsUnpacked lanes width kind bytes a → IsUnpacked lanes width kind bytes b → a ≡ b
+  same_unpacked width kind bytes a b narrow is_kind first second =
+      let (words, layout, one) = one_layout_codes lanes width bytes first.holds.byte_count in
+      let are_words = words_from_fits words width narrow layout.fits in
+      let (block, are_values, codes_are, only_block) = one_block kind words is_kind are_words in
+      first.text_is ∙ ap values_text (only_block first.block first.are_words (one (codes kind first.block) first.holds) ∙ sym (only_block second.block second.are_words (one (codes kind second.block) second.holds))) ∙ sym second.text_is
+
+  same_width : (kind : Kind) (values a b : List ℕ) → AreWords values → IsWidthText kind values a → IsWidthText kind values b → a ≡ b
+  same_width kind values a b words first second =
+      let (width, low, least, one) = one_least_width (codes kind values) (AreWords-codes kind values words) in
+      first.text_is ∙ ap decimal (one first.width first.least ∙ sym (one second.width second.least)) ∙ sym second.text_is
+
+  same_reply : (request : Request) → AreInRange request → (a b : List ℕ) → IsReply lanes request a → IsReply lanes request b → a ≡ b
+  same_reply (Size width) range = λ a b is_a is_b. is_a ∙ sym is_b
+  same_reply (Width kind values) (is_kind, words) = same_refusal _ 2 _ (λ block a b. same_width kind values a b words)
+  same_reply (Pack kind width values) (is_kind, words) =
+      same_refusal _ 2 _ (λ block. same_refusal _ 3 _ (λ narrow. same_refusal _ 4 _ (λ fit. same_packed width kind values)))
+  same_reply (Unpack kind width bytes) is_kind =
+      same_refusal _ 3 _ (λ narrow. same_refusal _ 5 _ (λ room a b. same_unpacked width kind bytes a b (narrow_width width narrow) is_kind))
+
+-- ---- answers
+
+reply_to : (line : List ℕ) (found : Search (λ (asked : PackerName × Request). Spells line asked.0 asked.1)) → (text : List ℕ) × RefusedIf (SpellsNone line) 1 (IsReplied line) text
+reply_to line (None, none) = (refused 1, Refused (λ packer request spells. none (packer, request) spells) refl)
+reply_to line (Some asked, spells) =
+    let (text, replies) = reply_of (lanes_of asked.0) (some_lanes asked.0) asked.1 (in_range spells.fields asked.0 asked.1 spells.asks) in
+    (text, Passed (λ none. none asked.0 asked.1 spells) (record { packer = asked.0; request = asked.1; spelled = spells; replied = replies }))
+
 pub answer_of : (line : List ℕ) → (text : List ℕ) × IsAnswer line text
-answer_of line = (toy_answer line, record { is = refl })
+unfolding IsAnswer
+answer_of line = refused_or _ 6 _ (is_above 65536 (length line)) (λ short. reply_to line (find_line line))
 
-same_answer : (n : ℕ) (line : List ℕ) → (if nat_le (length (take (suc n) line)) n then codes "refused 1" else codes "refused 6") ≡ (if nat_le (length line) n then codes "refused 1" else codes "refused 6")
-same_answer n line = elim (leb_tells (length line) n) [
-  | inl (_, short) ↦ ap (λ l. if nat_le (length l) n then codes "refused 1" else codes "refused 6") (take_all (suc n) line (omega arith))
-  | inr (long, above) ↦
-      let kept : length (take (suc n) line) ≡ suc n = length-take-le (suc n) line (omega arith) in
-      let kept_long : nat_le (length (take (suc n) line)) n ≡ false = grind (arith, nat_tests) in
-      ap (λ t. if t then codes "refused 1" else codes "refused 6") kept_long ∙ sym (ap (λ t. if t then codes "refused 1" else codes "refused 6") long)
+same_replied : (line a b : List ℕ) → IsReplied line a → IsReplied line b → a ≡ b
+same_replied line a b first second =
+    let (packers, requests) = one_command line first.packer second.packer first.request second.request first.spelled second.spelled in
+    let moved : IsReply (lanes_of first.packer) first.request b =
+    subst (λ p. IsReply (lanes_of p) first.request b) (sym packers) (subst (λ r. IsReply (lanes_of second.packer) r b) (sym requests) second.replied) in
+    same_reply (lanes_of first.packer) (some_lanes first.packer) first.request (in_range first.spelled.fields first.packer first.request first.spelled.asks) a b first.replied moved
+
+pub same_answer : (line a b : List ℕ) → IsAnswer line a → IsAnswer line b → a ≡ b
+unfolding IsAnswer
+same_answer line a b = same_refusal _ 6 _ (λ short. same_refusal _ 1 _ (λ some. same_replied line)) a b
+
+pub one_answer : OneAnswer
+one_answer line = let (text, answers) = answer_of line in (text, answers, λ other also. same_answer line other text also answers)
+
+-- ---- a line that is too long is answered by its first bytes
+
+same_when_long : (held line text : List ℕ) → 65536 < length held → 65536 < length line → IsAnswer held text → IsAnswer line text
+unfolding IsAnswer
+same_when_long held line text long_held long (Refused fault is) = Refused long is
+same_when_long held line text long_held long (Passed short replies) = absurd (short long_held)
+
+first_bytes : (n : ℕ) (line text : List ℕ) → n ≡ 65537 → IsAnswer (take n line) text → IsAnswer line text
+first_bytes n line text is answers = elim (cases_lt 65536 (length line)) [
+  | inl long ↦ same_when_long (take n line) line text (omega (arith, length-take-le n line (omega arith))) long answers
+  | inr short ↦ subst (λ l. IsAnswer l text) (take_all n line (omega arith)) answers
 ]
 
-same_toy : (line : List ℕ) → toy_answer (held line) ≡ toy_answer line
-unfolding held toy_answer
-same_toy line = same_answer 65536 line
-
--- what is kept of a line has the line's answers
+-- the bytes of a line that are kept answer for it
 pub answer-held : (line text : List ℕ) → IsAnswer (held line) text → IsAnswer line text
-answer-held line text answers = record { is = answers.is ∙ same_toy line }
-
--- ---- of the stand-in alone
-
-short_at : (n : ℕ) (line : List ℕ) → length line ≤ n → (if nat_le (length line) n then codes "refused 1" else codes "refused 6") ≡ codes "refused 1"
-short_at n line h = elim (leb_tells (length line) n) [ inl (e, _) ↦ ap (λ t. if t then codes "refused 1" else codes "refused 6") e | inr (_, above) ↦ absurd (omega arith) ]
-
-long_at : (n : ℕ) (line : List ℕ) → n < length line → (if nat_le (length line) n then codes "refused 1" else codes "refused 6") ≡ codes "refused 6"
-long_at n line h = elim (leb_tells (length line) n) [ inl (_, short) ↦ absurd (omega arith) | inr (e, _) ↦ ap (λ t. if t then codes "refused 1" else codes "refused 6") e ]
-
-pub toy_short : (line : List ℕ) → length line ≤ 65536 → codes "refused 1\n" ≡ toy_answer line ++ 10 ∷ []
-unfolding toy_answer
-toy_short line h = sym (ap (λ l. l ++ 10 ∷ []) (short_at 65536 line h))
-
-pub toy_long : (line : List ℕ) → 65536 < length line → codes "refused 6\n" ≡ toy_answer line ++ 10 ∷ []
-unfolding toy_answer
-toy_long line h = sym (ap (λ l. l ++ 10 ∷ []) (long_at 65536 line h))
+unfolding held
+answer-held line text = first_bytes 65537 line text refl

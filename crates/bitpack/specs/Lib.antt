@@ -1,5 +1,7 @@
 pub mod Answers
 pub mod Chains
 pub mod Ending
+pub mod Found
+pub mod Grammar
 pub mod Laws
 pub mod Lines

@@ -13,6 +13,7 @@
 mod answer;
 pub mod chain;
 pub mod laws;
+mod line;
 mod line_loop;
 mod run_error;
 #[cfg(test)]

@@ -8,6 +8,7 @@ mod blocks;
 mod chains;
 mod fakes;
 mod faults;
+mod lines;
 mod no_memory;
 mod worked;
 

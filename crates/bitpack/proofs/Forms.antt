@@ -1,0 +1,94 @@
+-- What the fields of each form spell.
+use Rattle.std.proofs.Common.{◌≡◌, ℕ, ◌≤◌, ◌<◌, Bor, List, [], ◌∷◌, codes, get_or, length, map, refl, sym, subst, arith}
+use Rattle.bitpack.specs.declared.line.PackerName.{PackerName}
+use Rattle.bitpacking.specs.declared.kind.Kind.{Kind}
+use Rattle.bitpack.specs.Grammar.{Asks, IsSmall, Pack, Request, Size, SpellsBytes, SpellsValues, Unpack, Width, packer_text}
+use Rattle.bitpack.specs.Found.{SpellsKind, SpellsNumber}
+
+-- the text of a field
+abbrev pub field_at : List (Bor (List ℕ)) → ℕ → List ℕ
+field_at fields i = (get_or fields i (record { ref_ptr = (0, 0); now = [] })).now
+
+abbrev pub texts_of : List (Bor (List ℕ)) → List (List ℕ)
+texts_of fields = map (λ field. field.now) fields
+
+pub three_fields : (fields : List (Bor (List ℕ))) → 3 ≤ length fields → length fields < 4
+    → texts_of fields ≡ field_at fields 0 ∷ field_at fields 1 ∷ field_at fields 2 ∷ []
+three_fields (a ∷ b ∷ c ∷ []) low high = refl
+three_fields fields low high = absurd (omega arith)
+
+pub four_fields : (fields : List (Bor (List ℕ))) → 4 ≤ length fields → length fields < 5
+    → texts_of fields ≡ field_at fields 0 ∷ field_at fields 1 ∷ field_at fields 2 ∷ field_at fields 3 ∷ []
+four_fields (a ∷ b ∷ c ∷ d ∷ []) low high = refl
+four_fields fields low high = absurd (omega arith)
+
+pub five_fields : (fields : List (Bor (List ℕ))) → 5 ≤ length fields → length fields < 6
+    → texts_of fields ≡ field_at fields 0 ∷ field_at fields 1 ∷ field_at fields 2 ∷ field_at fields 3 ∷ field_at fields 4 ∷ []
+five_fields (a ∷ b ∷ c ∷ d ∷ e ∷ []) low high = refl
+five_fields fields low high = absurd (omega arith)
+
+-- ---- what the fields of each form ask, part by part
+
+pub record SizeParts (p w : List ℕ) (packer : PackerName) (request : Request) : Type 0 where
+  pub width : ℕ
+  pub request_is : request ≡ Size width
+  pub packer_is : p ≡ packer_text packer
+  pub small : SpellsNumber IsSmall w width
+
+pub size_parts : (p w : List ℕ) (packer : PackerName) (request : Request) → Asks (codes "size" ∷ p ∷ w ∷ []) packer request → SizeParts p w packer request
+size_parts p w packer (Size width) (fields, small) = record { width = width; request_is = refl; packer_is = cc; small = (cc, small) }
+size_parts p w packer (Width kind values) (text, fields, is_kind, spelled) = absurd cc
+size_parts p w packer (Pack kind width values) (text, fields, is_kind, small, spelled) = absurd cc
+size_parts p w packer (Unpack kind width bytes) (text, fields, is_kind, small, spelled) = absurd cc
+
+pub record WidthParts (p k v : List ℕ) (packer : PackerName) (request : Request) : Type 0 where
+  pub kind : Kind
+  pub values : List ℕ
+  pub request_is : request ≡ Width kind values
+  pub packer_is : p ≡ packer_text packer
+  pub is_kind : SpellsKind k kind
+  pub spelled : SpellsValues v values
+
+pub width_parts : (p k v : List ℕ) (packer : PackerName) (request : Request) → Asks (codes "width" ∷ p ∷ k ∷ v ∷ []) packer request → WidthParts p k v packer request
+width_parts p k v packer (Size width) (fields, small) = absurd cc
+width_parts p k v packer (Width kind values) (text, fields, is_kind, spelled) =
+    let same : v ≡ text = cc in
+    record { kind = kind; values = values; request_is = refl; packer_is = cc; is_kind = (cc, is_kind); spelled = subst (λ t. SpellsValues t values) (sym same) spelled }
+width_parts p k v packer (Pack kind width values) (text, fields, is_kind, small, spelled) = absurd cc
+width_parts p k v packer (Unpack kind width bytes) (text, fields, is_kind, small, spelled) = absurd cc
+
+pub record PackParts (p k w v : List ℕ) (packer : PackerName) (request : Request) : Type 0 where
+  pub kind : Kind
+  pub width : ℕ
+  pub values : List ℕ
+  pub request_is : request ≡ Pack kind width values
+  pub packer_is : p ≡ packer_text packer
+  pub is_kind : SpellsKind k kind
+  pub small : SpellsNumber IsSmall w width
+  pub spelled : SpellsValues v values
+
+pub pack_parts : (p k w v : List ℕ) (packer : PackerName) (request : Request) → Asks (codes "pack" ∷ p ∷ k ∷ w ∷ v ∷ []) packer request → PackParts p k w v packer request
+pack_parts p k w v packer (Size width) (fields, small) = absurd cc
+pack_parts p k w v packer (Width kind values) (text, fields, is_kind, spelled) = absurd cc
+pack_parts p k w v packer (Pack kind width values) (text, fields, is_kind, small, spelled) =
+    let same : v ≡ text = cc in
+    record { kind = kind; width = width; values = values; request_is = refl; packer_is = cc; is_kind = (cc, is_kind); small = (cc, small); spelled = subst (λ t. SpellsValues t values) (sym same) spelled }
+pack_parts p k w v packer (Unpack kind width bytes) (text, fields, is_kind, small, spelled) = absurd cc
+
+pub record UnpackParts (p k w b : List ℕ) (packer : PackerName) (request : Request) : Type 0 where
+  pub kind : Kind
+  pub width : ℕ
+  pub bytes : List ℕ
+  pub request_is : request ≡ Unpack kind width bytes
+  pub packer_is : p ≡ packer_text packer
+  pub is_kind : SpellsKind k kind
+  pub small : SpellsNumber IsSmall w width
+  pub spelled : SpellsBytes b bytes
+
+pub unpack_parts : (p k w b : List ℕ) (packer : PackerName) (request : Request) → Asks (codes "unpack" ∷ p ∷ k ∷ w ∷ b ∷ []) packer request → UnpackParts p k w b packer request
+unpack_parts p k w b packer (Size width) (fields, small) = absurd cc
+unpack_parts p k w b packer (Width kind values) (text, fields, is_kind, spelled) = absurd cc
+unpack_parts p k w b packer (Pack kind width values) (text, fields, is_kind, small, spelled) = absurd cc
+unpack_parts p k w b packer (Unpack kind width bytes) (text, fields, is_kind, small, spelled) =
+    let same : b ≡ text = cc in
+    record { kind = kind; width = width; bytes = bytes; request_is = refl; packer_is = cc; is_kind = (cc, is_kind); small = (cc, small); spelled = subst (λ t. SpellsBytes t bytes) (sym same) spelled }

@@ -1,0 +1,16 @@
+use Rattle.std.proofs.Common.{◌∙◌, ◌≡◌, ◌+◌, ◌∷◌, ◌++◌, [], ap, get_or, sym, take}
+use Rattle.std.specs.Fmt.{decimal}
+use Rattle.std.proofs.lemmas.List.{take_more}
+use Rattle.bitpack.specs.Answers.{values_text}
+use Rattle.bitpack.proofs.AnswerTexts.{values_text-push}
+use Rattle.bitpack.proofs.answer.texts.values_text.Goals as goal
+
+pub loop-value-preserved : goal.loop-value-preserved
+loop-value-preserved c =
+    let first = get_or c.args.values.now 0 0 in
+    let rest = c.in-Some.rest.now in
+    let i = c.loop-value.value-index in
+    let value = get_or rest i 0 in
+    let more : take (i + 1) rest ≡ take i rest ++ value ∷ [] = take_more rest i 0 c.loop-value-test.true in
+    c.in_ok-write.ensures.bytes ∙ ap (λ t. t ++ 44 ∷ decimal value) c.loop-value.invariant
+    ∙ sym (values_text-push first (take i rest) value) ∙ ap (λ t. values_text (first ∷ t)) (sym more)

@@ -1,0 +1,5 @@
+use Rattle.bitpack.proofs.GrammarLemmas.{one_command}
+use Rattle.bitpack.proofs.laws.one_command.Goals as goal
+
+pub returns : goal.returns
+returns c = one_command

@@ -1,0 +1,74 @@
+//! A line of the program: what it asks, and of which packer.
+
+ghost use Rattle.std.specs.Prelude.{map};
+ghost use Rattle.bitpack.specs.Grammar.{Asks, Spells};
+ghost use Rattle.bitpack.specs.Found.{Parses, asked_by};
+
+mod bytes;
+mod error;
+mod forms;
+mod names;
+mod numbers;
+mod values;
+
+use bitpacking::Kind;
+pub(crate) use error::ParseError;
+use forms::{pack_of, size_of, unpack_of, width_of};
+use std::alloc::Global;
+
+/// The packers that a line can name.
+#[derive(Clone, Copy, PartialEq, Eq, Debug)]
+pub(crate) enum PackerName {
+    /// `1x`
+    OneLane,
+    /// `4x`
+    FourLanes,
+    /// `8x`
+    EightLanes,
+}
+
+/// What a line asks of its packer.
+#[derive(Debug, Drop)]
+pub(crate) enum Command {
+    /// `size`: how many bytes a block takes at a width.
+    Size(u8),
+    /// `width`: the least width of a block.
+    Width(Kind, Vec<u32>),
+    /// `pack`: the bytes of a block at a width.
+    Pack(Kind, u8, Vec<u32>),
+    /// `unpack`: the block of the bytes at a width.
+    Unpack(Kind, u8, Vec<u8>),
+}
+
+/// A line of the language.
+#[derive(Debug, Drop)]
+pub(crate) struct Line {
+    pub(crate) packer: PackerName,
+    pub(crate) command: Command,
+}
+
+/// The most fields of a line.
+const MOST_FIELDS: usize = 5;
+
+/// What the line asks, all of it. The answer is an error where it is in no way a line of the language, or memory runs out.
+pub(crate) fn parse(alloc: Global, line: &[u8]) -> Result<Line, ParseError>
+    ensures { Parses asked_by (λ asked. Spells line.now asked.0 asked.1) result }
+{
+    let Ok(text) = std::str::from_utf8(line) else {
+        return Err(ParseError::Spelling);
+    };
+    let fields: Vec<&str> = text.split(' ').take(MOST_FIELDS + 1).collect(alloc)?;
+    line_of(alloc, &fields)
+}
+
+fn line_of(alloc: Global, fields: &[&str]) -> Result<Line, ParseError>
+    ensures { Parses asked_by (λ asked. Asks (map (λ field. field.now) fields.now) asked.0 asked.1) result }
+{
+    match *fields {
+        ["size", packer, width] => size_of(packer, width),
+        ["width", packer, kind, values] => width_of(alloc, packer, kind, values),
+        ["pack", packer, kind, width, values] => pack_of(alloc, packer, kind, width, values),
+        ["unpack", packer, kind, width, bytes] => unpack_of(alloc, packer, kind, width, bytes),
+        _ => Err(ParseError::Spelling),
+    }
+}

@@ -1,0 +1,35 @@
+//! The words for packers and kinds.
+
+ghost use Rattle.std.specs.Prelude.{◌≡◌};
+ghost use Rattle.bitpack.specs.Grammar.{packer_text};
+ghost use Rattle.bitpack.specs.Found.{Finds, SpellsKind};
+
+use super::PackerName;
+use super::numbers::word_of;
+use bitpacking::Kind;
+
+pub(crate) fn packer_of(text: &str) -> Option<PackerName>
+    ensures { Finds (λ packer. text.now ≡ packer_text packer) result }
+{
+    match text {
+        "1x" => Some(PackerName::OneLane),
+        "4x" => Some(PackerName::FourLanes),
+        "8x" => Some(PackerName::EightLanes),
+        _ => None,
+    }
+}
+
+pub(crate) fn kind_of(text: &str) -> Option<Kind>
+    ensures { Finds (SpellsKind text.now) result }
+{
+    if text == "plain" {
+        return Some(Kind::Plain);
+    }
+    let (name, start) = text.split_once(':')?;
+    match name {
+        "sorted" => Some(Kind::Sorted(word_of(start)?)),
+        "strict" if start == "none" => Some(Kind::StrictlySorted(None)),
+        "strict" => Some(Kind::StrictlySorted(Some(word_of(start)?))),
+        _ => None,
+    }
+}
