@@ -118,7 +118,7 @@ pub(super) fn take_all(alloc: Global) -> Result<Vec<Vec<u8>>, AllocError> {
     Ok(blocks)
 }
 
-/// So many blocks of twice the bytes each, from 8 on: what a vector of bytes takes as it grows.
+/// So many blocks of twice the bytes each, from 8 on: what vectors take as they grow.
 fn growths(alloc: Global, count: u32) -> Result<Vec<Vec<u8>>, AllocError> {
     let mut blocks = Vec::with_capacity(alloc, 20)?;
     for power in 0..count.min(20) {
@@ -127,16 +127,23 @@ fn growths(alloc: Global, count: u32) -> Result<Vec<Vec<u8>>, AllocError> {
     Ok(blocks)
 }
 
-/// Runs over an empty line and one of so many letters, where so many growths of the line find memory.
+const BLOCKS: &[u8] = b"\npack 1x plain 1 1*32\nunpack 1x plain 0 -\n";
+
+const BLOCKS_AND_LETTERS: &[u8] = b"refused 1
+ffffffff
+0,0,0,0,0,0,0,0,0,0,0,0,0,0,0,0,0,0,0,0,0,0,0,0,0,0,0,0,0,0,0,0
+refused 6
+";
+
+/// Runs over lines of each form and one of so many letters, where no more memory is left than so many growths.
 fn run_short_of_memory(
     alloc: Global,
     letters: usize,
     count: u32,
 ) -> Result<(Result<(), RunError>, Taker), AllocError> {
-    let first: &[u8] = b"\n";
-    let mut reader = first.chain(Letters { left: letters });
+    let mut reader = BLOCKS.chain(Letters { left: letters });
     let mut writer = Taker::new(alloc, 100);
-    writer.taken.try_reserve(100)?;
+    writer.taken.try_reserve(200)?;
     let kept = growths(alloc, count)?;
     let blocks = take_all(alloc)?;
     drop(kept);
@@ -149,15 +156,17 @@ fn run_short_of_memory(
 fn each_growth_is_refused_in_turn(rt: HostRuntime) -> Result<(), Fail> {
     // The 15th growth has room for 131,072 bytes, and no line needs more, however long it is.
     for letters in [65_537, 3_000_000] {
-        for count in 0..16u32 {
+        let mut last = 0;
+        for count in 0..18u32 {
             let (outcome, writer) = run_short_of_memory(rt.alloc(), letters, count)?;
-            let (want, answers): (Result<(), RunError>, &[u8]) = if count < 15 {
-                (Err(RunError::Memory), b"refused 1\n")
-            } else {
-                (Ok(()), b"refused 1\nrefused 6\n")
-            };
+            let answers = writer.taken.as_slice();
+            assert!(rt; BLOCKS_AND_LETTERS.starts_with(answers), "{count} growths");
+            assert!(rt; answers.len() >= last, "{count} growths");
+            last = answers.len();
+            let ends = last == BLOCKS_AND_LETTERS.len();
+            let want = if ends { Ok(()) } else { Err(RunError::Memory) };
             assert_eq!(rt; outcome, want, "{letters} letters, {count} growths");
-            assert_eq!(rt; writer.taken.as_slice(), answers, "{count} growths");
+            assert!(rt; ends == (count > 14), "{letters} letters, {count} growths");
         }
     }
     Ok(())

@@ -1,6 +1,8 @@
 //! Lines and their answers, as the format and the blocks worked by hand give them.
 
+use super::fakes::{Giver, Taker};
 use crate::answer::answer;
+use crate::run;
 use std::alloc::{AllocError, Global};
 use std::test::Fail;
 
@@ -108,6 +110,29 @@ const LINES: [(&str, &str); 74] = [
     ("unpack 1x plain 33 0", "refused 1"),
     ("unpack 1x plain 1 ffffffgg", "refused 1"),
 ];
+
+/// All lines in one input, a byte a read, and three bytes a write.
+#[test]
+fn worked_lines_in_small_steps(rt: HostRuntime) -> Result<(), Fail> {
+    let mut input = String::new(rt.alloc());
+    let mut answers = String::new(rt.alloc());
+    for (line, wanted) in LINES {
+        input.push_str(line)?;
+        input.push('\n')?;
+        answers.push_str(wanted)?;
+        answers.push('\n')?;
+    }
+    for (read, written) in [(1, 3), (3, 1), (4096, 4096)] {
+        let mut reader = Giver::new(input.as_bytes(), read);
+        let mut writer = Taker::new(rt.alloc(), written);
+        assert_eq!(rt; run(rt.alloc(), &mut reader, &mut writer), Ok(()));
+        assert!(rt;
+            writer.taken.as_slice() == answers.as_bytes(),
+            "steps {read} and {written}"
+        );
+    }
+    Ok(())
+}
 
 #[test]
 fn worked_lines(rt: HostRuntime) -> Result<(), Fail> {
