@@ -12,4 +12,6 @@ pub mod Storing
 pub mod Parts
 pub mod RegisterLemmas
 pub mod RowSteps
+pub mod PackedRows
+pub mod UnpackedRows
 pub mod LawProofs

@@ -5,4 +5,5 @@ pub mod Width
 pub mod Layout
 pub mod Words
 pub mod Moves
+pub mod Partway
 pub mod Laws
