@@ -7,6 +7,7 @@
 mod bit_packer;
 mod bitpacker1x;
 mod calls;
+mod calls_at_width;
 mod counted;
 mod kernel;
 mod kind;
