@@ -1,17 +1,17 @@
 -- One row more is packed.
-use Rattle.std.proofs.Common.{◌≡◌, ℕ, ◌+◌, ◌-◌, ◌*◌, ◌/◌, ◌%◌, ◌^◌, ◌<◌, ◌≤◌, List, ◌++◌, length, get_or, replicate, take, drop, bit_or, refl, sym, ◌∙◌, ap, arith}
+use Rattle.std.proofs.Common.{◌≡◌, ℕ, ◌+◌, ◌-◌, ◌*◌, ◌/◌, ◌%◌, ◌^◌, ◌<◌, ◌≤◌, List, ◌++◌, length, get_or, replicate, take, drop, bit_or, refl, ◌∙◌, arith}
 use Rattle.std.proofs.Math.Nat.{div-eq_of_lt}
 use Rattle.std.proofs.lemmas.List.{length-take}
 use Rattle.std.proofs.lemmas.Nat.{mul-add-lt, mul-le}
 use Rattle.bitpacking.specs.Bits.{AreBytes}
 use Rattle.bitpacking.specs.Layout.{Layout}
 use Rattle.bitpacking.specs.Moves.{IsLoad, IsStore}
-use Rattle.bitpacking.specs.Partway.{Packed, RowsPacked, PacksRows}
+use Rattle.bitpacking.specs.Partway.{RowsPacked, PacksRows}
 use Rattle.bitpacking.specs.Width.{Fits}
 use Rattle.bitpacking.specs.Words.{word as word_of}
 use Rattle.bitpacking.specs.declared.memory.Steps.{Steps}
 use Rattle.bitpacking.proofs.LaneNumbers.{lane_code, lane_word, Layout-from_lanes}
-use Rattle.bitpacking.proofs.PackSteps.{Packed-start, Packed-keep, Packed-store, Packed-end, room_left, row_room}
+use Rattle.bitpacking.proofs.PackSteps.{Packed-start, Packed-keep, Packed-store, Packed-end, room_left}
 use Rattle.bitpacking.proofs.Parts.{row_after, row_at}
 use Rattle.bitpacking.proofs.RegisterLemmas.{lane-splat}
 use Rattle.bitpacking.proofs.RowSteps.{codes_step}

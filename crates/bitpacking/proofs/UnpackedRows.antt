@@ -1,5 +1,5 @@
 -- One row more is unpacked.
-use Rattle.std.proofs.Common.{◌≡◌, ℕ, ◌+◌, ◌-◌, ◌*◌, ◌/◌, ◌%◌, ◌^◌, ◌<◌, ◌≤◌, List, [], ◌++◌, length, get_or, replicate, take, drop, bit_or, bit_and, refl, sym, ◌∙◌, ap, arith}
+use Rattle.std.proofs.Common.{◌≡◌, ℕ, ◌+◌, ◌-◌, ◌*◌, ◌/◌, ◌%◌, ◌^◌, ◌<◌, ◌≤◌, List, [], ◌++◌, length, get_or, replicate, take, bit_or, bit_and, refl, sym, ◌∙◌, ap, arith}
 use lib.Lanes.{zip2}
 use Rattle.bitpacking.specs.Bits.{AreBytes}
 use Rattle.bitpacking.specs.Layout.{Layout}
@@ -8,7 +8,6 @@ use Rattle.bitpacking.specs.Partway.{Unpacked, RowsUnpacked, UnpacksRows, words_
 use Rattle.bitpacking.specs.Words.{joined}
 use Rattle.bitpacking.specs.declared.memory.Steps.{Steps}
 use Rattle.bitpacking.proofs.LaneNumbers.{word-lt, lane_word}
-use Rattle.bitpacking.proofs.PackSteps.{row_room}
 use Rattle.bitpacking.proofs.RegisterLemmas.{lane-zip2, lane-splat}
 use Rattle.bitpacking.proofs.RowSteps.{values_step, values_done}
 use Rattle.bitpacking.proofs.Storing.{joined-front, AreBytes-take}

@@ -140,7 +140,7 @@ fn unpack_rows<R: Register, S: Sink<R>>(
     ensures counts { UnpacksRows steps.old steps.new width from (from + 8) }
 {
     let mask = R::splat((1 << width) - 1);
-    for i in from..from + 8 {
+    'rows: for i in from..from + 8 {
         let loaded = (i * width + 31) / 32;
         let left = 32 * loaded - i * width;
         let codes = if left < width {

@@ -1,4 +1,4 @@
-use Rattle.std.proofs.Common.{List, ◌≡◌, ℕ, ◌*◌, ◌≤◌, length, refl, ◌∙◌}
+use Rattle.std.proofs.Common.{List, ◌≡◌, ℕ, length, refl, ◌∙◌}
 use Rattle.bitpacking.proofs.PackedRows.{RowsPacked-start, RowsPacked-done}
 use Rattle.bitpacking.proofs.kernel.at_width.pack_at_width.Goals as goal
 

@@ -3,8 +3,8 @@ use Rattle.std.proofs.Common.{◌≡◌, ℕ, ◌*◌, List, length, drop}
 use Rattle.bitpacking.specs.Partway.{RowsUnpacked, UnpacksRows}
 use Rattle.bitpacking.proofs.kernel.at_width.unpack_rows.Given as goal
 
-abbrev pub invariant-loop-i : goal.invariant-loop-i
-invariant-loop-i g l = record {
+abbrev pub invariant-rows : goal.invariant-rows
+invariant-rows g l = record {
   position : g.S.Sink.position l.sink ≡ l.i;
   same_reference : l.target.words.ghost_name ≡ l.initial.target.words.ghost_name;
   same_room : length l.target.words.now ≡ length l.initial.target.words.now;
