@@ -47,7 +47,7 @@ module _ (lanes width i : ℕ) (codes values row given : List ℕ) (old new : Li
   code : (l : ℕ) → l < lanes → lane_code lanes codes l i ≡ get_or given l 0
   code l h = row_at lanes i codes given (new (drop (lanes * (i + 1)) values)) l count left h
 
-  pub code_fits : (l : ℕ) → l < lanes → get_or given l 0 < 2 ^ width
+  code_fits : (l : ℕ) → l < lanes → get_or given l 0 < 2 ^ width
   code_fits l h =
       rw (code l h) at (rows.fits (i * lanes + l) 0 (omega (arith, rows.code_count, mul-add-lt i lanes l 32 lt h)))
 
@@ -71,7 +71,7 @@ module _ (lanes width i : ℕ) (codes values row given : List ℕ) (old new : Li
   pub RowsPacked-store : (over bytes' : List ℕ) → 32 ≤ i * width % 32 + width → width < 32 → AreBytes bytes'
       → ((l : ℕ) → l < lanes → word_of bytes' (lanes * (i * width / 32) + l) ≡ get_or word l 0)
       → ((q : ℕ) → q < lanes * (i * width / 32) → word_of bytes' q ≡ word_of bytes q)
-      → ((l : ℕ) → l < lanes → get_or over l 0 ≡ get_or given l 0 / 2 ^ (32 - i * width % 32))
+      → ((l : ℕ) → l < lanes → get_or given l 0 < 2 ^ width → get_or over l 0 ≡ get_or given l 0 / 2 ^ (32 - i * width % 32))
       → RowsPacked lanes width (i + 1) codes values new bytes' over
   RowsPacked-store over bytes' full narrow are_bytes stores before left_over =
       let next : (i + 1) * width ≡ i * width + width = omega arith in
@@ -82,7 +82,7 @@ module _ (lanes width i : ℕ) (codes values row given : List ℕ) (old new : Li
         fits = rows.fits;
         are_bytes = are_bytes;
         left = after;
-        packed = λ l h. rw (stored, filled, left_over l h)
+        packed = λ l h. rw (stored, filled, left_over l h (code_fits l h))
             (Packed-store width (lane_word lanes bytes l) (lane_word lanes bytes' l) (lane_code lanes codes l)
             i (i * width / 32) (i * width % 32) (get_or pending l 0) (get_or given l 0)
             (code l h) (code_fits l h) (row_place width i) full (omega arith)
