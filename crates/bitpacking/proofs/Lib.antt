@@ -14,5 +14,7 @@ pub mod RegisterLemmas
 pub mod RowSteps
 pub mod OrderLemmas
 pub mod RoundTrips
+pub mod PackedRows
+pub mod UnpackedRows
 pub mod LawProofs
 pub mod WorkedProofs

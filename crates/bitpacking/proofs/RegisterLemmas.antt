@@ -1,9 +1,9 @@
 -- From the lists that a register's operations speak of to the words of single lanes.
-use Rattle.std.proofs.Common.{◌≡◌, ℕ, zero, suc, ◌+◌, ◌*◌, ◌^◌, ◌<◌, List, [], ◌∷◌, length, map, replicate, get_or, refl, sym, ◌∙◌, ap, arith}
+use Rattle.std.proofs.Common.{◌≡◌, ℕ, zero, suc, ◌+◌, ◌*◌, ◌%◌, ◌^◌, ◌<◌, List, [], ◌∷◌, length, map, replicate, get_or, bit_or, refl, sym, ◌∙◌, ap, arith}
 use lib.Lanes.{zip2}
 use Rattle.std.proofs.lemmas.List.{get_or-map, get_or-replicate}
 use Rattle.std.proofs.lemmas.Simd.{get_or-zip2, zip2_splat}
-use Rattle.bitpacking_register.specs.Words.{words_of_bytes, bytes_of_words}
+use Rattle.bitpacking_register.specs.Words.{words_of_bytes, bytes_of_words, shifted_left}
 use Rattle.bitpacking.specs.Words.{joined, word}
 use Rattle.bitpacking.proofs.Digits.{joined-same}
 use Rattle.bitpacking.proofs.Parts.{word-to_le_bytes}
@@ -57,3 +57,11 @@ pub zip2-splat : (f : ℕ → ℕ → ℕ) (x lanes : ℕ) (xs ys out : List ℕ
     → out ≡ zip2 f xs ys → out ≡ map (λ y. f y x) xs
 zip2-splat f x lanes xs ys out long same e =
     e ∙ ap (zip2 f xs) same ∙ zip2_splat f xs lanes x long
+
+-- the words of one register above those of another
+pub lane-or_shifted : (shift lanes : ℕ) (xs ys shifted out : List ℕ) → length xs ≡ lanes → length ys ≡ lanes
+    → length shifted ≡ lanes → shifted ≡ map (shifted_left shift) ys → out ≡ zip2 bit_or xs shifted
+    → (l : ℕ) → l < lanes → get_or out l 0 ≡ bit_or (get_or xs l 0) ((get_or ys l 0 * 2 ^ shift) % 2 ^ 32)
+lane-or_shifted shift lanes xs ys shifted out long long' long'' e f l lt =
+    lane-zip2 bit_or lanes xs shifted out long long'' f l lt
+    ∙ ap (λ x. bit_or (get_or xs l 0) x) (lane-map (shifted_left shift) lanes ys shifted long' e l lt)

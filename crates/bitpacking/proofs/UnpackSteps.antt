@@ -2,6 +2,7 @@
 use Rattle.bitpacking.specs.Layout.{Layout}
 use Rattle.bitpacking.proofs.LaneNumbers.{lane_code, lane_word, lane_code-lt, lanes-from_layout}
 use Rattle.bitpacking.specs.Words.{joined}
+pub use Rattle.bitpacking.specs.Partway.{Unpacked}
 use Rattle.bitpacking.specs.Bits.{AreBytes}
 use Rattle.std.proofs.Common.{List, ◌≡◌, ℕ, zero, suc, ◌+◌, ◌-◌, ◌*◌, ◌/◌, ◌%◌, ◌^◌, ◌<◌, ◌≤◌, sym, ◌∙◌, ap, arith}
 use Rattle.std.specs.Prelude.{bit_and, bit_or}
@@ -29,10 +30,6 @@ digit-joined w f n i small lt =
     same_digits w (digit w (joined w f n)) f n
     (λ k h. mod_below (joined w f n / 2 ^ (w * k)) (2 ^ w) (pow_pos w)) small
     (joined-digit w (joined w f n) n ∙ mod-eq_of_lt (joined-lt w f n small)) i lt
-
--- After n codes of w bits, `loaded` words are read, and their last `left` bits are in `pending`.
-pub record Unpacked (w number n loaded left pending : ℕ) : Type 0 where
-  pub is : pending ≡ number / 2 ^ (w * n) % 2 ^ left
 
 pub Unpacked-start : (w number : ℕ) → Unpacked w number 0 0 0 0
 Unpacked-start w number = record { is = omega arith }

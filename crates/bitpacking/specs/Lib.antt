@@ -5,5 +5,6 @@ pub mod Width
 pub mod Layout
 pub mod Words
 pub mod Moves
+pub mod Partway
 pub mod Laws
 pub mod WorkedBlocks

@@ -1,9 +1,11 @@
-//! The bodies of a packer's calls: a loop that is handed the width, for every register.
+//! The bodies of a packer's calls: one loop that is handed the width, or a body for each width.
 
 ghost use Rattle.std.specs.Prelude.{◌≡◌, ℕ, ◌+◌, ◌*◌, ◌<◌, ◌≤◌, List, length, take, drop};
 ghost use Rattle.bitpacking.specs.Width.{Fits};
 ghost use Rattle.bitpacking.specs.Layout.{Layout, size};
 ghost use Rattle.bitpacking.specs.Moves.{Moves};
+
+mod each_width;
 
 use crate::kernel::packing::{pack, pack_32};
 use crate::kernel::unpacking::{unpack, unpack_32};
@@ -11,6 +13,7 @@ use crate::kinds::sinks::Sink;
 use crate::kinds::transformers::Transformer;
 use crate::memory::{ByteSource, ByteTarget, Steps, ValueSource, ValueTarget};
 use bitpacking_register::Register;
+pub(crate) use each_width::EachWidth;
 
 /// How the codes of a block are packed and unpacked. The bodies are handed the slices, and make of them the sources and
 /// targets that a kernel is handed.

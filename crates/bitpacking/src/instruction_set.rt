@@ -6,16 +6,16 @@ ghost use Rattle.bitpacking.specs.Width.{Fits, IsWidth};
 ghost use Rattle.bitpacking.specs.Layout.{Holds, size};
 ghost use Rattle.bitpacking.specs.Moves.{Moves};
 
-use crate::bodies::SimpleLoops;
+use crate::bodies::{EachWidth, SimpleLoops};
 use crate::calls::{pack_kind, unpack_kind, width_kind};
 use crate::{Kind, Steps};
 use bitpacking_register::Register;
 
 #[derive(Clone, Copy)]
 pub(crate) enum InstructionSet {
-    /// Vectors.
+    /// Vectors, with a body for each width.
     Lanes,
-    /// Arrays, a word at a time.
+    /// Arrays, a word at a time, with one loop for all widths.
     Scalar,
 }
 
@@ -40,7 +40,7 @@ pub(crate) fn pack<V: Register, A: Register>(
     ensures counts { 0 < num_bits → Moves steps.old steps.new 32 num_bits (32 + num_bits) }
 {
     match set {
-        InstructionSet::Lanes => pack_kind::<SimpleLoops, V>(
+        InstructionSet::Lanes => pack_kind::<EachWidth, V>(
             kind,
             decompressed,
             compressed,
@@ -76,7 +76,7 @@ pub(crate) fn unpack<V: Register, A: Register>(
     ensures counts { Moves steps.old steps.new num_bits 32 (32 + num_bits) }
 {
     match set {
-        InstructionSet::Lanes => unpack_kind::<SimpleLoops, V>(
+        InstructionSet::Lanes => unpack_kind::<EachWidth, V>(
             kind,
             compressed,
             decompressed,

@@ -1,0 +1,153 @@
+//! Packing and unpacking with the width as a const parameter, eight rows at a time: each shift and index is then a constant.
+
+ghost use Rattle.std.specs.Prelude.{◌≡◌, ℕ, ◌+◌, ◌*◌, ◌%◌, ◌<◌, ◌≤◌, List, length, take, drop};
+ghost use Rattle.bitpacking.specs.Bits.{AreBytes};
+ghost use Rattle.bitpacking.specs.Width.{Fits};
+ghost use Rattle.bitpacking.specs.Layout.{Layout, size};
+ghost use Rattle.bitpacking.specs.Moves.{Moves};
+ghost use Rattle.bitpacking.specs.Partway.{RowsPacked, RowsUnpacked, PacksRows, UnpacksRows, left_at};
+
+use crate::kinds::sinks::Sink;
+use crate::kinds::transformers::Transformer;
+use crate::memory::{ByteSource, ByteTarget, Steps, ValueSource, ValueTarget};
+use bitpacking_register::Register;
+
+/// Packs a block of codes of fewer than 32 bits.
+#[inline(always)]
+pub(crate) fn pack_at_width<R: Register, T: Transformer<R>, const WIDTH: u32>(
+    source: &ValueSource<'_>,
+    target: &mut ByteTarget<'_>,
+    transformer: &mut T,
+    steps: &mut Steps,
+)
+    requires narrow { WIDTH < 32 }
+    requires bits { source.now.bits ≡ WIDTH }
+    requires block { length source.now.words.now ≡ 32 * R.LANES }
+    requires codes { length (T.codes transformer.old source.now.words.now) ≡ 32 * R.LANES }
+    requires are_bytes { AreBytes target.old.bytes.now }
+    requires room { size R.LANES WIDTH ≤ length target.old.bytes.now }
+    requires fits { Fits (T.codes transformer.old source.now.words.now) WIDTH }
+    ensures same_reference { target.new.bytes.ghost_name ≡ target.old.bytes.ghost_name }
+    ensures layout { Layout R.LANES WIDTH (T.codes transformer.old source.now.words.now)
+        (take (size R.LANES WIDTH) target.new.bytes.now) }
+    ensures rest { drop (size R.LANES WIDTH) target.new.bytes.now ≡ drop (size R.LANES WIDTH) target.old.bytes.now }
+    ensures counts { Moves steps.old steps.new 32 WIDTH (32 + WIDTH) }
+{
+    let pending = R::splat(0);
+    let pending = pack_rows::<R, T, WIDTH, 0>(source, target, transformer, pending, steps);
+    let pending = pack_rows::<R, T, WIDTH, 8>(source, target, transformer, pending, steps);
+    let pending = pack_rows::<R, T, WIDTH, 16>(source, target, transformer, pending, steps);
+    pack_rows::<R, T, WIDTH, 24>(source, target, transformer, pending, steps);
+}
+
+// Packs eight rows. Into and out of it go the bits that fill no word yet.
+#[inline(always)]
+fn pack_rows<R: Register, T: Transformer<R>, const WIDTH: u32, const FROM: u32>(
+    source: &ValueSource<'_>,
+    target: &mut ByteTarget<'_>,
+    transformer: &mut T,
+    mut pending: R,
+    steps: &mut Steps,
+) -> R
+    requires narrow { WIDTH < 32 }
+    requires from { FROM ≤ 24 }
+    requires bits { source.now.bits ≡ WIDTH }
+    requires block { length source.now.words.now ≡ 32 * R.LANES }
+    requires room { size R.LANES WIDTH ≤ length target.old.bytes.now }
+    requires loaded { FROM * WIDTH % 32 ≤ steps.old.inside }
+    ensures same_reference { target.new.bytes.ghost_name ≡ target.old.bytes.ghost_name }
+    ensures same_room { length target.new.bytes.now ≡ length target.old.bytes.now }
+    ensures packed { (codes : List ℕ)
+        → RowsPacked R.LANES WIDTH FROM codes source.now.words.now (T.codes transformer.old) target.old.bytes.now (R.words pending)
+        → RowsPacked R.LANES WIDTH (FROM + 8) codes source.now.words.now (T.codes transformer.new) target.new.bytes.now (R.words result) }
+    ensures rest { drop (size R.LANES WIDTH) target.new.bytes.now ≡ drop (size R.LANES WIDTH) target.old.bytes.now }
+    ensures counts { PacksRows steps.old steps.new WIDTH FROM (FROM + 8) }
+{
+    for i in FROM..FROM + 8 {
+        let filled = i * WIDTH % 32;
+        let codes = transformer.transform(source.load(i as usize, steps));
+        let word = pending.or(codes.shift_left(filled));
+        if filled + WIDTH < 32 {
+            pending = word;
+        } else {
+            let over = if filled + WIDTH > 32 {
+                codes.shift_right(32 - filled)
+            } else {
+                R::splat(0)
+            };
+            target.store((i * WIDTH / 32) as usize, word, steps);
+            pending = over;
+        }
+    }
+    pending
+}
+
+/// Unpacks a block of codes of fewer than 32 bits.
+#[inline(always)]
+pub(crate) fn unpack_at_width<R: Register, S: Sink<R>, const WIDTH: u32>(
+    source: &ByteSource<'_>,
+    target: &mut ValueTarget<'_>,
+    sink: &mut S,
+    steps: &mut Steps,
+)
+    requires narrow { WIDTH < 32 }
+    requires start { S.position sink.old ≡ 0 }
+    requires bits { target.old.bits ≡ WIDTH }
+    requires are_bytes { AreBytes source.now.bytes.now }
+    requires whole { size R.LANES WIDTH ≤ length source.now.bytes.now }
+    requires room { 32 * R.LANES ≤ length target.old.words.now }
+    ensures same_reference { target.new.words.ghost_name ≡ target.old.words.ghost_name }
+    ensures layout { (codes : List ℕ) × (Layout R.LANES WIDTH codes (take (size R.LANES WIDTH) source.now.bytes.now))
+        × (take (32 * R.LANES) target.new.words.now ≡ S.values sink.old codes) }
+    ensures rest { drop (32 * R.LANES) target.new.words.now ≡ drop (32 * R.LANES) target.old.words.now }
+    ensures counts { Moves steps.old steps.new WIDTH 32 (32 + WIDTH) }
+{
+    let pending = R::splat(0);
+    let pending = unpack_rows::<R, S, WIDTH, 0>(source, target, sink, pending, steps);
+    let pending = unpack_rows::<R, S, WIDTH, 8>(source, target, sink, pending, steps);
+    let pending = unpack_rows::<R, S, WIDTH, 16>(source, target, sink, pending, steps);
+    unpack_rows::<R, S, WIDTH, 24>(source, target, sink, pending, steps);
+}
+
+// Unpacks eight rows. Into and out of it go the bits of the last word loaded that are of no code yet.
+#[inline(always)]
+fn unpack_rows<R: Register, S: Sink<R>, const WIDTH: u32, const FROM: u32>(
+    source: &ByteSource<'_>,
+    target: &mut ValueTarget<'_>,
+    sink: &mut S,
+    mut pending: R,
+    steps: &mut Steps,
+) -> R
+    requires narrow { WIDTH < 32 }
+    requires from { FROM ≤ 24 }
+    requires start { S.position sink.old ≡ FROM }
+    requires bits { target.old.bits ≡ WIDTH }
+    requires whole { size R.LANES WIDTH ≤ length source.now.bytes.now }
+    requires room { 32 * R.LANES ≤ length target.old.words.now }
+    requires loaded { left_at WIDTH FROM ≤ steps.old.inside }
+    ensures position { S.position sink.new ≡ FROM + 8 }
+    ensures same_reference { target.new.words.ghost_name ≡ target.old.words.ghost_name }
+    ensures same_room { length target.new.words.now ≡ length target.old.words.now }
+    ensures same_bits { target.new.bits ≡ target.old.bits }
+    ensures unpacked { (codes values : List ℕ)
+        → RowsUnpacked R.LANES WIDTH FROM source.now.bytes.now codes (S.values sink.old) values target.old.words.now (R.words pending)
+        → RowsUnpacked R.LANES WIDTH (FROM + 8) source.now.bytes.now codes (S.values sink.new) values target.new.words.now (R.words result) }
+    ensures rest { drop (32 * R.LANES) target.new.words.now ≡ drop (32 * R.LANES) target.old.words.now }
+    ensures counts { UnpacksRows steps.old steps.new WIDTH FROM (FROM + 8) }
+{
+    let mask = R::splat((1 << WIDTH) - 1);
+    'rows: for i in FROM..FROM + 8 {
+        let loaded = (i * WIDTH + 31) / 32;
+        let left = 32 * loaded - i * WIDTH;
+        let mut codes = pending;
+        if left < WIDTH {
+            let word: R = source.load(loaded as usize, steps);
+            codes = pending.or(word.shift_left(left));
+            pending = word.shift_right(WIDTH - left);
+        } else {
+            pending = pending.shift_right(WIDTH);
+        }
+        sink.put(codes.and(mask), target, steps);
+    }
+    pending
+}
