@@ -1,4 +1,5 @@
-//! From slices to the body of each width. The sources and targets are made beside the match, which keeps them in registers.
+//! From slices to the body of each width. The sources and targets are made beside the match, so that no body reads them from
+//! memory.
 
 ghost use Rattle.std.specs.Prelude.{◌≡◌, ℕ, ◌+◌, ◌*◌, ◌<◌, ◌≤◌, List, length, take, drop};
 ghost use Rattle.bitpacking.specs.Width.{Fits};
