@@ -11,11 +11,11 @@ pub record Packed (w : ℕ) (words codes : ℕ → ℕ) (n stored filled pending
   pub below : pending < 2 ^ filled
   pub same : pending * 2 ^ (32 * stored) + joined 32 words stored ≡ joined w codes n
 
--- Of a lane's words, the bits from code n on are in `pending`, as far as words are read.
+-- Of a lane's words, as one number, the first `loaded` are read, and `pending` has their last `left` bits: those from code n on.
 pub record Unpacked (w number n loaded left pending : ℕ) : Type 0 where
   pub is : pending ≡ number / 2 ^ (w * n) % 2 ^ left
 
--- How many words of a lane the codes before code n are in, and how many bits of them are not of these codes.
+-- How many words of a lane have bits of the codes before code n, and how many of their bits are of later codes.
 abbrev pub words_to : ℕ → ℕ → ℕ
 words_to width n = (n * width + 31) / 32
 

@@ -1,4 +1,5 @@
-//! Packing and unpacking with the width as a const parameter, eight rows at a time: each shift and index is then a constant.
+//! Packing and unpacking with the width as a const parameter, eight rows at a time: a loop as short as that is unrolled, and
+//! each shift and index is then a constant.
 
 ghost use Rattle.std.specs.Prelude.{◌≡◌, ℕ, ◌+◌, ◌*◌, ◌%◌, ◌<◌, ◌≤◌, List, length, take, drop};
 ghost use Rattle.bitpacking.specs.Bits.{AreBytes};
@@ -40,7 +41,7 @@ pub(crate) fn pack_at_width<R: Register, T: Transformer<R>, const WIDTH: u32>(
     pack_rows::<R, T, WIDTH, 24>(source, target, transformer, pending, steps);
 }
 
-// Packs eight rows. Into and out of it go the bits that fill no word yet.
+// Packs eight rows. Into and out of it go the bits that fill no word yet: after a full word a plain 0, which costs nothing.
 #[inline(always)]
 fn pack_rows<R: Register, T: Transformer<R>, const WIDTH: u32, const FROM: u32>(
     source: &ValueSource<'_>,
