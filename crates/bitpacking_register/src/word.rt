@@ -29,7 +29,7 @@ impl Register for u32 {
         values[0] = self;
     }
 
-    // A vector of one lane, since four loads of a byte are not joined into one inside a kernel.
+    // A vector of one lane, since loads and stores of single bytes are not joined inside a kernel.
     #[inline(always)]
     fn from_bytes(bytes: &[u8]) -> u32 {
         u32x1::from_le_bytes(u8x4::from_slice(bytes)).to_array()[0]
@@ -37,7 +37,7 @@ impl Register for u32 {
 
     #[inline(always)]
     fn to_bytes(self, bytes: &mut [u8]) {
-        bytes.copy_from_slice(&self.to_le_bytes());
+        u32x1::from_array([self]).to_le_bytes().copy_to_slice(bytes);
     }
 
     #[inline(always)]
