@@ -12,7 +12,7 @@ use Rattle.bitpacking.specs.Layout.{Layout, size}
 use Rattle.bitpacking.proofs.Blocks.{AreWords-codes, length-codes}
 use Rattle.bitpacking.proofs.LawProofs.{fits_greater, one_block, one_layout_bytes, one_layout_codes, one_least_width}
 use Rattle.bitpack.specs.declared.line.PackerName.{PackerName}
-use Rattle.bitpack.specs.declared.line.PackerName.TheVariants.{EightLanes, FourLanes, OneLane}
+use Rattle.bitpack.specs.declared.line.PackerName.TheVariants.{EightLanes, EightScalar, FourLanes, FourScalar, OneLane}
 use Rattle.bitpack.specs.declared.line.values.Item.{Item}
 use Rattle.bitpack.specs.declared.line.values.Item.TheVariants.{Once, Times}
 use Rattle.bitpack.specs.Grammar.{Asks, IsItem, IsKind, Pack, Request, Size, Spells, SpellsValues, Unpack, Width, item_values}
@@ -76,6 +76,8 @@ some_lanes : (packer : PackerName) → 0 < lanes_of packer
 some_lanes OneLane = omega arith
 some_lanes FourLanes = omega arith
 some_lanes EightLanes = omega arith
+some_lanes FourScalar = omega arith
+some_lanes EightScalar = omega arith
 
 -- ---- replies
 

@@ -13,7 +13,7 @@ use Rattle.bitpacking.specs.declared.kind.Kind.{Kind}
 use Rattle.bitpacking.specs.declared.kind.Kind.TheVariants.{Plain, Sorted, StrictlySorted}
 use Rattle.bitpacking.specs.Codes.{start}
 use Rattle.bitpack.specs.declared.line.PackerName.{PackerName}
-use Rattle.bitpack.specs.declared.line.PackerName.TheVariants.{EightLanes, FourLanes, OneLane}
+use Rattle.bitpack.specs.declared.line.PackerName.TheVariants.{EightLanes, EightScalar, FourLanes, FourScalar, OneLane}
 use Rattle.bitpack.specs.declared.line.values.Item.{Item}
 use Rattle.bitpack.specs.declared.line.values.Item.TheVariants.{Once, Times}
 use Rattle.bitpack.specs.Grammar.{Asks, IsCount, IsItem, IsSmall, IsWord, Pack, Request, Size, Spells, SpellsBytes, SpellsValues, Unpack, Width, item_values, kind_text, packer_text}
@@ -80,18 +80,25 @@ find_count = find_number IsCount is_count (λ n counts. omega (arith, counts))
 -- ---- packers and kinds: one of few texts
 
 pub find_packer : (text : List ℕ) → Search (λ packer. text ≡ packer_text packer)
-find_packer text = from (same_text text (codes "1x")) (same_text text (codes "4x")) (same_text text (codes "8x"))
+find_packer text = from (is OneLane) (is FourLanes) (is EightLanes) (is FourScalar) (is EightScalar)
   where
-    from : Dec (text ≡ codes "1x") → Dec (text ≡ codes "4x") → Dec (text ≡ codes "8x") → Search (λ packer. text ≡ packer_text packer)
-    from (inl one) four eight = (Some OneLane, one)
-    from (inr one) (inl four) eight = (Some FourLanes, four)
-    from (inr one) (inr four) (inl eight) = (Some EightLanes, eight)
-    from (inr one) (inr four) (inr eight) = (None, none)
+    is : (packer : PackerName) → Dec (text ≡ packer_text packer)
+    is packer = same_text text (packer_text packer)
+    from : Dec (text ≡ packer_text OneLane) → Dec (text ≡ packer_text FourLanes) → Dec (text ≡ packer_text EightLanes)
+        → Dec (text ≡ packer_text FourScalar) → Dec (text ≡ packer_text EightScalar) → Search (λ packer. text ≡ packer_text packer)
+    from (inl one) four eight four_s eight_s = (Some OneLane, one)
+    from (inr one) (inl four) eight four_s eight_s = (Some FourLanes, four)
+    from (inr one) (inr four) (inl eight) four_s eight_s = (Some EightLanes, eight)
+    from (inr one) (inr four) (inr eight) (inl four_s) eight_s = (Some FourScalar, four_s)
+    from (inr one) (inr four) (inr eight) (inr four_s) (inl eight_s) = (Some EightScalar, eight_s)
+    from (inr one) (inr four) (inr eight) (inr four_s) (inr eight_s) = (None, none)
       where
         none : (packer : PackerName) → text ≡ packer_text packer → ⊥
         none OneLane = one
         none FourLanes = four
         none EightLanes = eight
+        none FourScalar = four_s
+        none EightScalar = eight_s
 
 is_kind_text : (text : List ℕ) (kind : Kind) → Dec (SpellsKind text kind)
 is_kind_text text kind = both (same_text text (kind_text kind)) (below (2 ^ 32) (start kind))

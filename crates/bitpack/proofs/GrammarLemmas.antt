@@ -10,7 +10,7 @@ use Rattle.hex.specs.Hex.{decode_of}
 use Rattle.bitpacking.specs.declared.kind.Kind.{Kind}
 use Rattle.bitpacking.specs.declared.kind.Kind.TheVariants.{Plain, Sorted, StrictlySorted}
 use Rattle.bitpack.specs.declared.line.PackerName.{PackerName}
-use Rattle.bitpack.specs.declared.line.PackerName.TheVariants.{EightLanes, FourLanes, OneLane}
+use Rattle.bitpack.specs.declared.line.PackerName.TheVariants.{EightLanes, EightScalar, FourLanes, FourScalar, OneLane}
 use Rattle.bitpack.specs.declared.line.values.Item.{Item}
 use Rattle.bitpack.specs.Grammar.{Asks, IsItem, IsSmall, IsWord, Pack, Request, Size, SpellsBytes, SpellsValues, Unpack, Width, item_text, item_values, items_text, kind_text, packer_text}
 use Rattle.bitpack.specs.Found.{SpellsKind}
@@ -29,7 +29,9 @@ same_packer : (a b : PackerName) → packer_text a ≡ packer_text b → a ≡ b
 same_packer OneLane OneLane e = refl
 same_packer FourLanes FourLanes e = refl
 same_packer EightLanes EightLanes e = refl
-same_packer a b e = absurd (omega (arith, ap (λ t. get_or t 0 0) e))
+same_packer FourScalar FourScalar e = refl
+same_packer EightScalar EightScalar e = refl
+same_packer a b e = absurd (omega (arith, ap (λ t. get_or t 0 0) e, ap (λ t. get_or t 1 0) e))
 
 -- the texts of two kinds differ at a byte
 differ : (text a b : List ℕ) (i : ℕ) → text ≡ a → text ≡ b → (get_or a i 0 ≡ get_or b i 0 → ⊥) → ⊥

@@ -12,7 +12,7 @@ use Rattle.hex.proofs.HexLemmas.{decode_of-ok}
 use Rattle.bitpacking.specs.declared.kind.Kind.{Kind}
 use Rattle.bitpacking.specs.declared.kind.Kind.TheVariants.{Plain, Sorted, StrictlySorted}
 use Rattle.bitpack.specs.declared.line.PackerName.{PackerName}
-use Rattle.bitpack.specs.declared.line.PackerName.TheVariants.{EightLanes, FourLanes, OneLane}
+use Rattle.bitpack.specs.declared.line.PackerName.TheVariants.{EightLanes, EightScalar, FourLanes, FourScalar, OneLane}
 use Rattle.bitpack.specs.declared.line.values.Item.{Item}
 use Rattle.bitpack.specs.declared.line.values.Item.TheVariants.{Once, Times}
 use Rattle.bitpack.specs.Grammar.{Asks, IsItem, IsKind, Pack, Request, Size, SpellsBytes, SpellsValues, Unpack, Width, item_text, items_text, kind_text, packer_text}
@@ -62,6 +62,8 @@ IsPrinted-packer : (packer : PackerName) → IsPrinted (packer_text packer)
 IsPrinted-packer OneLane = IsPrinted-literal (packer_text OneLane) refl
 IsPrinted-packer FourLanes = IsPrinted-literal (packer_text FourLanes) refl
 IsPrinted-packer EightLanes = IsPrinted-literal (packer_text EightLanes) refl
+IsPrinted-packer FourScalar = IsPrinted-literal (packer_text FourScalar) refl
+IsPrinted-packer EightScalar = IsPrinted-literal (packer_text EightScalar) refl
 
 IsPrinted-kind : (kind : Kind) → IsKind kind → IsPrinted (kind_text kind)
 IsPrinted-kind Plain word = IsPrinted-literal (codes "plain") refl

@@ -9,7 +9,7 @@ use Rattle.bitpacking.specs.Codes.{AreWords, codes}
 use Rattle.bitpacking.specs.Width.{Fits, IsWidth}
 use Rattle.bitpacking.specs.Layout.{Holds, size}
 use Rattle.bitpack.specs.declared.line.PackerName.{PackerName}
-use Rattle.bitpack.specs.declared.line.PackerName.TheVariants.{EightLanes, FourLanes, OneLane}
+use Rattle.bitpack.specs.declared.line.PackerName.TheVariants.{EightLanes, EightScalar, FourLanes, FourScalar, OneLane}
 use Rattle.bitpack.specs.declared.line.values.Item.TheVariants.{Once}
 use Rattle.bitpack.specs.Grammar.{Pack, Request, Size, Spells, Unpack, Width, items_text}
 
@@ -17,6 +17,8 @@ abbrev pub lanes_of : PackerName → ℕ
 lanes_of OneLane = 1
 lanes_of FourLanes = 4
 lanes_of EightLanes = 8
+lanes_of FourScalar = 4
+lanes_of EightScalar = 8
 
 -- `-` for none, and else two lower-case hexadecimal digits for each byte
 abbrev pub bytes_text : List ℕ → List ℕ

@@ -7,7 +7,7 @@ use Rattle.bitpacking.specs.declared.kind.Kind.{Kind}
 use Rattle.bitpacking.specs.declared.kind.Kind.TheVariants.{Plain, Sorted, StrictlySorted}
 use Rattle.bitpacking.specs.Codes.{start}
 use Rattle.bitpack.specs.declared.line.PackerName.{PackerName}
-use Rattle.bitpack.specs.declared.line.PackerName.TheVariants.{EightLanes, FourLanes, OneLane}
+use Rattle.bitpack.specs.declared.line.PackerName.TheVariants.{EightLanes, EightScalar, FourLanes, FourScalar, OneLane}
 use Rattle.bitpack.specs.declared.line.values.Item.{Item}
 use Rattle.bitpack.specs.declared.line.values.Item.TheVariants.{Once, Times}
 
@@ -28,6 +28,8 @@ abbrev pub packer_text : PackerName → List ℕ
 packer_text OneLane = codes "1x"
 packer_text FourLanes = codes "4x"
 packer_text EightLanes = codes "8x"
+packer_text FourScalar = codes "4s"
+packer_text EightScalar = codes "8s"
 
 abbrev pub kind_text : Kind → List ℕ
 kind_text Plain = codes "plain"

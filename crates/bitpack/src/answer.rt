@@ -74,6 +74,8 @@ fn reply(alloc: Global, line: &Line) -> Result<String, AllocError>
         PackerName::OneLane => reply_by(alloc, &BitPacker1x::new(), &line.command),
         PackerName::FourLanes => reply_by(alloc, &BitPacker4x::new(), &line.command),
         PackerName::EightLanes => reply_by(alloc, &BitPacker8x::new(), &line.command),
+        PackerName::FourScalar => reply_by(alloc, &BitPacker4x::scalar(), &line.command),
+        PackerName::EightScalar => reply_by(alloc, &BitPacker8x::scalar(), &line.command),
     }
 }
 

@@ -25,6 +25,10 @@ pub(crate) enum PackerName {
     FourLanes,
     /// `8x`
     EightLanes,
+    /// `4s`: four lanes on arrays
+    FourScalar,
+    /// `8s`: eight lanes on arrays
+    EightScalar,
 }
 
 /// What a line asks of its packer.

@@ -15,6 +15,8 @@ pub(crate) fn packer_of(text: &str) -> Option<PackerName>
         "1x" => Some(PackerName::OneLane),
         "4x" => Some(PackerName::FourLanes),
         "8x" => Some(PackerName::EightLanes),
+        "4s" => Some(PackerName::FourScalar),
+        "8s" => Some(PackerName::EightScalar),
         _ => None,
     }
 }

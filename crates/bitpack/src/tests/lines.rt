@@ -6,7 +6,7 @@ use crate::run;
 use std::alloc::{AllocError, Global};
 use std::test::Fail;
 
-const LINES: [(&str, &str); 74] = [
+const LINES: [(&str, &str); 78] = [
     // Whole lines of each form.
     (
         "pack 1x plain 3 0,1,2,3,4,5,6,7,0,1,2,3,4,5,6,7,0,1,2,3,4,5,6,7,0,1,2,3,4,5,6,7",
@@ -16,6 +16,8 @@ const LINES: [(&str, &str); 74] = [
     ("size 1x 0", "0"),
     ("size 4x 13", "208"),
     ("size 8x 32", "1024"),
+    ("size 4s 13", "208"),
+    ("size 8s 255", "8160"),
     ("size 8x 255", "8160"),
     ("width 1x plain 0*31,5", "3"),
     ("width 1x plain 0*32", "0"),
@@ -39,6 +41,10 @@ const LINES: [(&str, &str); 74] = [
         "unpack 1x plain 3 ffffffffffffffffffffffff",
         "7,7,7,7,7,7,7,7,7,7,7,7,7,7,7,7,7,7,7,7,7,7,7,7,7,7,7,7,7,7,7,7",
     ),
+    (
+        "pack 8s plain 1 1*8,0*248",
+        "0100000001000000010000000100000001000000010000000100000001000000",
+    ),
     // The kinds: differences wrap, and the start stands before the first value.
     ("width 1x sorted:5 5*32", "0"),
     ("width 1x sorted:0 5,4*31", "32"),
@@ -47,6 +53,7 @@ const LINES: [(&str, &str); 74] = [
     ("width 1x strict:none 0*32", "32"),
     ("width 1x strict:4294967295 4294967295*32", "32"),
     ("width 4x sorted:0 2147483648*128", "32"),
+    ("width 4s sorted:0 2147483648*128", "32"),
     (
         "pack 1x sorted:0 3 0,1,3,6,10,15,21,28,28,29,31,34,38,43,49,56,56,57,59,62,66,71,77,84,84,85,87,90,94,99,105,112",
         "88c6fa88c6fa88c6fa88c6fa",
