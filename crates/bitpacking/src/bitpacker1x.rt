@@ -17,10 +17,12 @@ impl BitPacker for BitPacker1x {
 
     ghost lanes = { 1 };
 
+    #[inline]
     fn new() -> Self {
         BitPacker1x
     }
 
+    #[inline]
     fn compress(&self, decompressed: &[u32], compressed: &mut [u8], num_bits: u8) -> usize {
         self.pack_counted(
             Kind::Plain,
@@ -31,6 +33,7 @@ impl BitPacker for BitPacker1x {
         )
     }
 
+    #[inline]
     fn compress_sorted(
         &self,
         initial: u32,
@@ -47,6 +50,7 @@ impl BitPacker for BitPacker1x {
         )
     }
 
+    #[inline]
     fn compress_strictly_sorted(
         &self,
         initial: Option<u32>,
@@ -63,6 +67,7 @@ impl BitPacker for BitPacker1x {
         )
     }
 
+    #[inline]
     fn decompress(&self, compressed: &[u8], decompressed: &mut [u32], num_bits: u8) -> usize {
         self.unpack_counted(
             Kind::Plain,
@@ -73,6 +78,7 @@ impl BitPacker for BitPacker1x {
         )
     }
 
+    #[inline]
     fn decompress_sorted(
         &self,
         initial: u32,
@@ -89,6 +95,7 @@ impl BitPacker for BitPacker1x {
         )
     }
 
+    #[inline]
     fn decompress_strictly_sorted(
         &self,
         initial: Option<u32>,
@@ -105,14 +112,17 @@ impl BitPacker for BitPacker1x {
         )
     }
 
+    #[inline]
     fn num_bits(&self, decompressed: &[u32]) -> u8 {
         self.width_counted(Kind::Plain, decompressed, &mut Steps::new())
     }
 
+    #[inline]
     fn num_bits_sorted(&self, initial: u32, decompressed: &[u32]) -> u8 {
         self.width_counted(Kind::Sorted(initial), decompressed, &mut Steps::new())
     }
 
+    #[inline]
     fn num_bits_strictly_sorted(&self, initial: Option<u32>, decompressed: &[u32]) -> u8 {
         self.width_counted(
             Kind::StrictlySorted(initial),
@@ -129,6 +139,7 @@ impl BitPacker for BitPacker1x {
 }
 
 impl Counted for BitPacker1x {
+    #[inline]
     fn pack_counted(
         &self,
         kind: Kind,
@@ -140,6 +151,7 @@ impl Counted for BitPacker1x {
         pack_kind::<SimpleLoops, u32>(kind, decompressed, compressed, num_bits, steps)
     }
 
+    #[inline]
     fn unpack_counted(
         &self,
         kind: Kind,
@@ -151,6 +163,7 @@ impl Counted for BitPacker1x {
         unpack_kind::<SimpleLoops, u32>(kind, compressed, decompressed, num_bits, steps)
     }
 
+    #[inline]
     fn width_counted(&self, kind: Kind, decompressed: &[u32], steps: &mut Steps) -> u8 {
         width_kind::<u32>(kind, decompressed, steps)
     }

@@ -24,10 +24,12 @@ impl BitPacker for BitPacker4x {
 
     ghost lanes = { 4 };
 
+    #[inline]
     fn new() -> Self {
         BitPacker4x(InstructionSet::Lanes)
     }
 
+    #[inline]
     fn compress(&self, decompressed: &[u32], compressed: &mut [u8], num_bits: u8) -> usize {
         self.pack_counted(
             Kind::Plain,
@@ -38,6 +40,7 @@ impl BitPacker for BitPacker4x {
         )
     }
 
+    #[inline]
     fn compress_sorted(
         &self,
         initial: u32,
@@ -54,6 +57,7 @@ impl BitPacker for BitPacker4x {
         )
     }
 
+    #[inline]
     fn compress_strictly_sorted(
         &self,
         initial: Option<u32>,
@@ -70,6 +74,7 @@ impl BitPacker for BitPacker4x {
         )
     }
 
+    #[inline]
     fn decompress(&self, compressed: &[u8], decompressed: &mut [u32], num_bits: u8) -> usize {
         self.unpack_counted(
             Kind::Plain,
@@ -80,6 +85,7 @@ impl BitPacker for BitPacker4x {
         )
     }
 
+    #[inline]
     fn decompress_sorted(
         &self,
         initial: u32,
@@ -96,6 +102,7 @@ impl BitPacker for BitPacker4x {
         )
     }
 
+    #[inline]
     fn decompress_strictly_sorted(
         &self,
         initial: Option<u32>,
@@ -112,14 +119,17 @@ impl BitPacker for BitPacker4x {
         )
     }
 
+    #[inline]
     fn num_bits(&self, decompressed: &[u32]) -> u8 {
         self.width_counted(Kind::Plain, decompressed, &mut Steps::new())
     }
 
+    #[inline]
     fn num_bits_sorted(&self, initial: u32, decompressed: &[u32]) -> u8 {
         self.width_counted(Kind::Sorted(initial), decompressed, &mut Steps::new())
     }
 
+    #[inline]
     fn num_bits_strictly_sorted(&self, initial: Option<u32>, decompressed: &[u32]) -> u8 {
         self.width_counted(
             Kind::StrictlySorted(initial),
@@ -136,6 +146,7 @@ impl BitPacker for BitPacker4x {
 }
 
 impl Counted for BitPacker4x {
+    #[inline]
     fn pack_counted(
         &self,
         kind: Kind,
@@ -147,6 +158,7 @@ impl Counted for BitPacker4x {
         pack::<u32x4, [u32; 4]>(self.0, kind, decompressed, compressed, num_bits, steps)
     }
 
+    #[inline]
     fn unpack_counted(
         &self,
         kind: Kind,
@@ -158,6 +170,7 @@ impl Counted for BitPacker4x {
         unpack::<u32x4, [u32; 4]>(self.0, kind, compressed, decompressed, num_bits, steps)
     }
 
+    #[inline]
     fn width_counted(&self, kind: Kind, decompressed: &[u32], steps: &mut Steps) -> u8 {
         width::<u32x4, [u32; 4]>(self.0, kind, decompressed, steps)
     }

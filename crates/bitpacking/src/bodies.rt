@@ -60,6 +60,7 @@ pub(crate) trait Bodies {
 pub(crate) struct SimpleLoops;
 
 impl Bodies for SimpleLoops {
+    #[inline(always)]
     fn pack_codes<R: Register, T: Transformer<R>>(
         mut transformer: T,
         decompressed: &[u32],
@@ -83,6 +84,7 @@ impl Bodies for SimpleLoops {
         4 * R::LANES * num_bits as usize
     }
 
+    #[inline(always)]
     fn unpack_codes<R: Register, S: Sink<R>>(
         mut sink: S,
         compressed: &[u8],

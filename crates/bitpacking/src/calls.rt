@@ -15,6 +15,7 @@ use crate::memory::{Steps, ValueSource};
 use bitpacking_register::Register;
 
 /// Packs a block of a kind.
+#[inline(always)]
 pub(crate) fn pack_kind<B: Bodies, R: Register>(
     kind: Kind,
     decompressed: &[u32],
@@ -46,6 +47,7 @@ pub(crate) fn pack_kind<B: Bodies, R: Register>(
 }
 
 /// Unpacks a block of a kind.
+#[inline(always)]
 pub(crate) fn unpack_kind<B: Bodies, R: Register>(
     kind: Kind,
     compressed: &[u8],
@@ -77,6 +79,7 @@ pub(crate) fn unpack_kind<B: Bodies, R: Register>(
 }
 
 /// The least width of a block of a kind.
+#[inline(always)]
 pub(crate) fn width_kind<R: Register>(kind: Kind, decompressed: &[u32], steps: &mut Steps) -> u8
     requires { length decompressed.now ≡ 32 * R.LANES }
     ensures width { IsWidth kind decompressed.now result }

@@ -20,6 +20,7 @@ pub(crate) enum InstructionSet {
 }
 
 /// Packs a block with vectors `V` or arrays `A` of as many lanes.
+#[inline(always)]
 pub(crate) fn pack<V: Register, A: Register>(
     set: InstructionSet,
     kind: Kind,
@@ -58,6 +59,7 @@ pub(crate) fn pack<V: Register, A: Register>(
 }
 
 /// Unpacks a block with vectors `V` or arrays `A` of as many lanes.
+#[inline(always)]
 pub(crate) fn unpack<V: Register, A: Register>(
     set: InstructionSet,
     kind: Kind,
@@ -90,6 +92,7 @@ pub(crate) fn unpack<V: Register, A: Register>(
 }
 
 /// The least width of a block, with vectors `V` or arrays `A` of as many lanes.
+#[inline(always)]
 pub(crate) fn width<V: Register, A: Register>(
     set: InstructionSet,
     kind: Kind,

@@ -18,6 +18,7 @@ use bitpacking_register::Register;
 pub(crate) struct EachWidth;
 
 impl Bodies for EachWidth {
+    #[inline(always)]
     fn pack_codes<R: Register, T: Transformer<R>>(
         transformer: T,
         decompressed: &[u32],
@@ -29,6 +30,7 @@ impl Bodies for EachWidth {
         4 * R::LANES * num_bits as usize
     }
 
+    #[inline(always)]
     fn unpack_codes<R: Register, S: Sink<R>>(
         sink: S,
         compressed: &[u8],
