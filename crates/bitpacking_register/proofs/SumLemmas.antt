@@ -34,10 +34,6 @@ differences-running_sums t p (x ∷ xs) e h =
     let rest = differences-running_sums (t + x) ((t + x) % 2 ^ 32) xs refl h.1 in
     cc
 
-pub length-running_sums : (t : ℕ) (xs : List ℕ) → length (running_sums t xs) ≡ length xs
-length-running_sums t [] = refl
-length-running_sums t (x ∷ xs) = ap suc (length-running_sums (t + x) xs)
-
 pub running_sums-append : (t : ℕ) (xs ys : List ℕ) → running_sums t (xs ++ ys) ≡ running_sums t xs ++ running_sums (t + sum xs) ys
 running_sums-append t [] ys = running_sums-mod t (t + 0) ys (ap (λ n. n % 2 ^ 32) (omega arith))
 running_sums-append t (x ∷ xs) ys =
