@@ -3,3 +3,5 @@ pub mod Chains
 pub mod Ending
 pub mod Laws
 pub mod Lines
+pub mod Parts
+pub mod Version1
