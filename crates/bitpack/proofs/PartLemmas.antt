@@ -7,7 +7,7 @@ use Rattle.std.proofs.lemmas.Bool.Decides.{Decides-by_and, Decides-ltb, Decides-
 use Rattle.std.proofs.Math.Seq.{take-suc, drop-cons}
 use Rattle.std.proofs.lemmas.List.Concat.{flat_map-append}
 use Rattle.std.proofs.lemmas.List.{append-nil, get_or-take, get_or-drop, get_or_past, get_or_append_left, length-take, length-drop, length-append, take-append-drop, drop_at, take_at}
-use Rattle.std.proofs.lemmas.List.Elements.{All-nil, All-cons, All-head, All-tail}
+use Rattle.std.proofs.lemmas.List.Elements.{All-nil, All-cons, All-head, All-tail, All-drop}
 use Rattle.std.proofs.lemmas.Nat.{le_bytes_4, from_le_bytes-to_le_bytes_4}
 use Rattle.bitpacking.specs.Bits.{AreBytes}
 use Rattle.bitpacking.specs.Codes.{AreWords}
@@ -44,6 +44,9 @@ AreBytes-left xs ys small = rw (take_at xs ys (length xs) refl) at (AreBytes-tak
 
 pub AreBytes-right : (xs ys : List ℕ) → AreBytes (xs ++ ys) → AreBytes ys
 AreBytes-right xs ys small = rw (drop_at xs ys (length xs) refl) at (AreBytes-drop (length xs) (xs ++ ys) small)
+
+pub AreWords-right : (xs ys : List ℕ) → AreWords (xs ++ ys) → AreWords ys
+AreWords-right xs ys words = rw (drop_at xs ys (length xs) refl) at (All-drop (λ v. v < 2 ^ 32) (length xs) (xs ++ ys) words)
 
 -- What the type of a vector of bytes says of its items.
 pub AreBytes-from_items : (bytes : List ℕ) → ((k d : ℕ) → k < length bytes → get_or bytes k d < 2 ^ 8) → AreBytes bytes

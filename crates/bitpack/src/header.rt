@@ -1,6 +1,6 @@
 //! The seven bytes before the blocks of a packed list, in both versions: version, kind, lanes, and the count of values.
 
-ghost use Rattle.std.specs.Prelude.{◌≡◌, ◌+◌, ◌^◌, ◌≤◌, ◌<◌, ◌++◌, IfOk, vec_len, vec_capacity};
+ghost use Rattle.std.specs.Prelude.{◌≡◌, ◌+◌, ◌^◌, ◌≤◌, ◌<◌, ◌++◌, OnOk, IfOk, length, vec_len, vec_capacity};
 ghost use Rattle.bitpack.specs.Parts.{BeginsWithHeader, Finds, header, header_fault};
 
 use super::list_error::ListError;
@@ -24,6 +24,7 @@ impl Header {
     pub(crate) fn read(version: u8, lanes: usize, bytes: &[u8]) -> Result<Header, ListError>
         ensures fault { Finds result (header_fault version lanes bytes.now) }
         ensures header { IfOk result (λ found. BeginsWithHeader version lanes found.kind found.count bytes.now) }
+        ensures long { OnOk result (7 ≤ length bytes.now) }
     {
         if bytes.len() < 7 {
             return Err(ListError::Short);

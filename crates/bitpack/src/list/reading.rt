@@ -1,6 +1,6 @@
 //! Texts into their lists. The bytes may be anyone's.
 
-ghost use Rattle.std.specs.Prelude.{◌≡◌, ◌+◌, ◌-◌, ◌*◌, ◌/◌, ◌%◌, ◌^◌, ◌<◌, ◌≤◌, ◌∷◌, ◌++◌, ℕ, List, length, take, drop, slice_index, OnOk, OnErr, IfOk, IfErr, MatchOption, None, Some, vec_len, vec_capacity};
+ghost use Rattle.std.specs.Prelude.{◌≡◌, ◌+◌, ◌-◌, ◌*◌, ◌/◌, ◌%◌, ◌^◌, ◌<◌, ◌≤◌, ◌∷◌, ◌++◌, ℕ, List, length, take, drop, slice_index, OnOk, OnErr, IfOk, IfErr, MatchOption, false, None, Some, vec_len, vec_capacity};
 ghost use Rattle.bitpacking.specs.Layout.{size};
 ghost use Rattle.bitpacking.specs.Codes.{AreWords};
 ghost use Rattle.bitpack.specs.Chains.{second_kind};
@@ -42,10 +42,12 @@ pub fn decode<P: BitPacker>(
 fn test<P: BitPacker>(packer: &P, bytes: &[u8]) -> Result<Header, ListError>
     ensures fault { Finds result (fault1 P.lanes bytes.now) }
     ensures header { IfOk result (λ header. BeginsWithHeader 1 P.lanes header.kind header.count bytes.now) }
+    ensures long { OnOk result (7 ≤ length bytes.now) }
 {
-    let header = Header::read(1, P::BLOCK_LEN / 32, bytes)?;
-    let blocks = header.count / P::BLOCK_LEN;
-    let tail = 4 * (header.count % P::BLOCK_LEN);
+    let len = P::BLOCK_LEN;
+    let header = Header::read(1, len / 32, bytes)?;
+    let blocks = header.count / len;
+    let tail = 4 * (header.count % len);
     let rest = &bytes[7..];
     if rest.len() < blocks + tail {
         return Err(ListError::Short);
@@ -120,9 +122,10 @@ fn read_blocks<P: BitPacker>(packer: &P, header: Header, bytes: &[u8], out: &mut
     requires room { vec_len out.old + header.count ≤ vec_capacity out.old }
     ensures { (values : List ℕ) → AreWords values → Blocks1 P.lanes (whole_blocks P.lanes header.count) (first_kind header.kind) values bytes.now → out.new.items ≡ out.old.items ++ values }
 {
+    let blocks = header.count / P::BLOCK_LEN;
     let mut kind = header.kind.first();
     let mut rest = bytes;
-    for _ in 0..header.count / P::BLOCK_LEN {
+    for _ in 0..blocks {
         (kind, rest) = read_block(packer, kind, rest, out);
     }
     read_all(rest, out);
@@ -135,9 +138,11 @@ fn read_block<'a, P: BitPacker>(
     bytes: &'a [u8],
     out: &mut Vec<u32>,
 ) -> (Kind, &'a [u8])
-    requires sound { (index : ℕ) × (block_fault1 P.lanes index bytes.now ≡ None) }
+    requires width { slice_index bytes.now 0 ≤ 32 }
+    requires body { 1 + size P.lanes (slice_index bytes.now 0) ≤ length bytes.now }
+    requires least { Rattle.bitpack.specs.Parts.is_loose P.lanes (slice_index bytes.now 0) (take (size P.lanes (slice_index bytes.now 0)) (drop 1 bytes.now)) ≡ false }
     requires room { vec_len out.old + P.BLOCK_LEN ≤ vec_capacity out.old }
-    ensures block { (block : List ℕ) × (part : List ℕ) × IsPart1 P.lanes kind block part × (bytes.now ≡ part ++ result.1.now)
+    ensures block { (block : List ℕ) × (part : List ℕ) × AreWords block × IsPart1 P.lanes kind block part × (bytes.now ≡ part ++ result.1.now)
         × (out.new.items ≡ out.old.items ++ block) × (result.0 ≡ second_kind P.lanes kind block) }
     ensures capacity { vec_capacity out.old ≤ vec_capacity out.new }
 {
@@ -145,6 +150,8 @@ fn read_block<'a, P: BitPacker>(
     let mut block = [0; 256];
     let size = decompress_kind(packer, kind, &bytes[1..], &mut block, width);
     let values = &block[..P::BLOCK_LEN];
+    let next = next_kind(kind, values[values.len() - 1]);
+    let rest = &bytes[1 + size..];
     append(out, values);
-    (next_kind(kind, values[values.len() - 1]), &bytes[1 + size..])
+    (next, rest)
 }
