@@ -5,3 +5,5 @@ pub mod Found
 pub mod Grammar
 pub mod Laws
 pub mod Lines
+pub mod Parts
+pub mod Version1

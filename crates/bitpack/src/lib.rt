@@ -12,13 +12,21 @@
 
 mod answer;
 pub mod chain;
+mod header;
 pub mod laws;
 mod line;
 mod line_loop;
+pub mod list;
+mod list_error;
+mod list_kind;
+mod little_endian;
+mod room;
 mod run_error;
 #[cfg(test)]
 mod tests;
 mod writing;
 
 pub use line_loop::run;
+pub use list_error::ListError;
+pub use list_kind::ListKind;
 pub use run_error::{RunError, ending};

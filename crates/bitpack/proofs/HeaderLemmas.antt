@@ -1,0 +1,109 @@
+-- A header without a fault is the header of a kind and a count, and the other way round.
+use Rattle.std.proofs.Common.{◌≡◌, ℕ, zero, suc, ◌+◌, ◌^◌, ◌<◌, ◌≤◌, Bool, true, false, not, cond, ltb, eqb, List, [], ◌∷◌, ◌++◌, length, take, drop, get_or, Option, Some, None, refl, sym, ◌∙◌, ap, arith, inl, inr, ◌⊎◌}
+use Rattle.std.proofs.lemmas.Bool.{le-ltb, ltb-false, eq-eqb, eqb-true, not-false, cases_Bool}
+use Rattle.std.proofs.lemmas.List.{get_or-take, get_or-drop, length-take, take-append-drop}
+use Rattle.bitpacking.specs.Bits.{AreBytes}
+use Rattle.bitpack.specs.declared.list_kind.ListKind.{ListKind}
+use Rattle.bitpack.specs.declared.list_kind.ListKind.TheVariants as lists
+use Rattle.bitpack.specs.declared.list_error.ListError.{ListError}
+use Rattle.bitpack.specs.Parts.{four_bytes, number_at, kind_byte, header, header_fault, BeginsWithHeader}
+use Rattle.bitpack.proofs.PartLemmas.{four_bytes-number_at, number_at-four_bytes, number_at-drop, length-four_bytes}
+
+-- A test that was passed.
+passed : {A : Type 0} (test : Bool) (fault : A) (rest : Option A) → cond test (Some fault) rest ≡ None → (test ≡ false) × (rest ≡ None)
+passed true fault rest e = absurd cc
+passed false fault rest e = (refl, e)
+
+kind_of : (byte : ℕ) → byte ≤ 2 → (kind : ListKind) × (byte ≡ kind_byte kind)
+kind_of zero le = (lists.Plain, refl)
+kind_of (suc zero) le = (lists.Sorted, refl)
+kind_of (suc (suc zero)) le = (lists.StrictlySorted, refl)
+kind_of (suc (suc (suc byte))) le = absurd (omega arith)
+
+pub kind_byte-le : (kind : ListKind) → kind_byte kind ≤ 2
+kind_byte-le lists.Plain = omega arith
+kind_byte-le lists.Sorted = omega arith
+kind_byte-le lists.StrictlySorted = omega arith
+
+pub kind_byte-same : (one other : ListKind) → kind_byte one ≡ kind_byte other → one ≡ other
+kind_byte-same lists.Plain lists.Plain e = refl
+kind_byte-same lists.Plain lists.Sorted e = absurd (omega arith)
+kind_byte-same lists.Plain lists.StrictlySorted e = absurd (omega arith)
+kind_byte-same lists.Sorted lists.Plain e = absurd (omega arith)
+kind_byte-same lists.Sorted lists.Sorted e = refl
+kind_byte-same lists.Sorted lists.StrictlySorted e = absurd (omega arith)
+kind_byte-same lists.StrictlySorted lists.Plain e = absurd (omega arith)
+kind_byte-same lists.StrictlySorted lists.Sorted e = absurd (omega arith)
+kind_byte-same lists.StrictlySorted lists.StrictlySorted e = refl
+
+-- Bytes that were read are the header's.
+pub header_from_bytes : (version lanes : ℕ) (kind : ListKind) (bytes : List ℕ) → AreBytes bytes → 7 ≤ length bytes
+    → get_or bytes 0 0 ≡ version → get_or bytes 1 0 ≡ kind_byte kind → get_or bytes 2 0 ≡ lanes
+    → number_at bytes 3 ≤ 2 ^ 28 → BeginsWithHeader version lanes kind (number_at bytes 3) bytes
+header_from_bytes version lanes kind [] small long one two three few = absurd (omega arith)
+header_from_bytes version lanes kind (a ∷ []) small long one two three few = absurd (omega arith)
+header_from_bytes version lanes kind (a ∷ b ∷ []) small long one two three few = absurd (omega arith)
+header_from_bytes version lanes kind (a ∷ b ∷ c ∷ bytes) small long one two three few = record {
+  few = few;
+  front =
+      let count : four_bytes (number_at (a ∷ b ∷ c ∷ bytes) 3) ≡ take 4 bytes = four_bytes-number_at (a ∷ b ∷ c ∷ bytes) 3 small (omega arith) in
+      rw (count, ← one, ← two, ← three) refl;
+}
+
+-- The bytes of a header, read again.
+pub record HeaderBytes (version lanes : ℕ) (kind : ListKind) (count : ℕ) (bytes : List ℕ) : Type 0 where
+  pub long : 7 ≤ length bytes
+  pub version_is : get_or bytes 0 0 ≡ version
+  pub kind_is : get_or bytes 1 0 ≡ kind_byte kind
+  pub lanes_is : get_or bytes 2 0 ≡ lanes
+  pub count_is : number_at bytes 3 ≡ count
+
+pub header_bytes : (version lanes : ℕ) (kind : ListKind) (count : ℕ) (bytes : List ℕ) → BeginsWithHeader version lanes kind count bytes
+    → HeaderBytes version lanes kind count bytes
+header_bytes version lanes kind count bytes begins =
+    let e = begins.front in
+    let few = begins.few in
+    let front : List ℕ = header version kind lanes count in
+    let rest : List ℕ = drop 7 bytes in
+    let length_of : length front ≡ 7 = omega (arith, length-four_bytes count) in
+    let seven : length (take 7 bytes) ≡ 7 = ap length e ∙ length_of in
+    let whole : bytes ≡ front ++ rest = sym (take-append-drop 7 bytes) ∙ ap (λ zs. zs ++ rest) e in
+    record {
+      long = omega (arith, length-take 7 bytes);
+      version_is = ap (λ zs. get_or zs 0 0) whole;
+      kind_is = ap (λ zs. get_or zs 1 0) whole;
+      lanes_is = ap (λ zs. get_or zs 2 0) whole;
+      count_is = ap (λ zs. number_at zs 3) whole ∙ number_at-drop (front ++ rest) 3 ∙ number_at-four_bytes count rest (omega arith);
+    }
+
+pub header_fault-none : (version lanes : ℕ) (kind : ListKind) (count : ℕ) (bytes : List ℕ)
+    → BeginsWithHeader version lanes kind count bytes → header_fault version lanes bytes ≡ None
+unfolding header_fault
+header_fault-none version lanes kind count bytes begins =
+    let found = header_bytes version lanes kind count bytes begins in
+    let few = begins.few in
+    let few' : number_at bytes 3 ≤ 2 ^ 28 = omega (arith, found.count_is) in
+    let kind_few = kind_byte-le kind in
+    rw (
+      le-ltb (length bytes) 7 found.long,
+      eq-eqb (get_or bytes 0 0) version found.version_is,
+      le-ltb 2 (get_or bytes 1 0) (omega (arith, found.kind_is)),
+      eq-eqb (get_or bytes 2 0) lanes found.lanes_is,
+      le-ltb (2 ^ 28) (number_at bytes 3) few',
+    ) refl
+
+pub header_from_fault : (version lanes : ℕ) (bytes : List ℕ) → AreBytes bytes → header_fault version lanes bytes ≡ None
+    → (kind : ListKind) × BeginsWithHeader version lanes kind (number_at bytes 3) bytes
+unfolding header_fault
+header_from_fault version lanes bytes small none =
+    let one = passed _ _ _ none in
+    let two = passed _ _ _ one.1 in
+    let three = passed _ _ _ two.1 in
+    let four = passed _ _ _ three.1 in
+    let five = passed _ _ _ four.1 in
+    let found = kind_of (get_or bytes 1 0) (ltb-false _ _ three.0) in
+    (
+      found.0,
+      header_from_bytes version lanes found.0 bytes small (ltb-false _ _ one.0) (eqb-true _ _ (not-false _ two.0)) found.1
+      (eqb-true _ _ (not-false _ four.0)) (ltb-false _ _ five.0),
+    )

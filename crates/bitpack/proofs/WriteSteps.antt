@@ -1,0 +1,99 @@
+-- The loops that measure and write a text: what is behind the blocks so far.
+use Rattle.std.proofs.Common.{◌≡◌, ℕ, zero, suc, ◌+◌, ◌-◌, ◌*◌, ◌/◌, ◌<◌, ◌≤◌, List, [], ◌∷◌, ◌++◌, length, take, drop, get_or, refl, sym, ◌∙◌, ap, arith, append_assoc}
+use Rattle.std.proofs.lemmas.List.{length-append, get_or-take}
+use Rattle.std.proofs.lemmas.Nat.{mul-le}
+use Rattle.bitpacking.specs.declared.kind.Kind.{Kind}
+use Rattle.bitpacking.specs.Bits.{AreBytes}
+use Rattle.bitpacking.specs.Width.{IsWidth}
+use Rattle.bitpacking.specs.Layout.{size}
+use Rattle.bitpack.specs.Chains.{next_kind, second_kind}
+use Rattle.bitpack.specs.Parts.{numbers}
+use Rattle.bitpack.specs.Version1.{IsPart1, Blocks1}
+use Rattle.bitpack.proofs.PartLemmas.{AreBytes-left, AreBytes-right, length-numbers}
+use Rattle.bitpack.proofs.TextLemmas.{length-part, same_part}
+
+-- ---- the values that are left
+
+pub block-left : (n i count left : ℕ) → 0 < n → i < count / n → left + n * i ≡ count → n ≤ left
+block-left n i count left some lt e =
+    let le : n * (i + 1) ≤ n * (count / n) = mul-le n (i + 1) n (count / n) (omega arith) (omega arith) in
+    omega arith
+
+pub left-more : (n i count left after : ℕ) → left + n * i ≡ count → after ≡ left - n → n ≤ left → after + n * (i + 1) ≡ count
+left-more n i count left after e more room = omega arith
+
+pub last-block : (lanes : ℕ) (kind : Kind) (len : ℕ) (values block : List ℕ) → 1 ≤ lanes → len ≡ 32 * lanes → block ≡ take len values
+    → next_kind kind (get_or block (len - 1) 0) ≡ second_kind lanes kind values
+last-block lanes kind len values block some whole e =
+    let within : len - 1 < len = omega arith in
+    let last : get_or block (len - 1) 0 ≡ get_or values (len - 1) 0 = ap (λ xs. get_or xs (len - 1) 0) e ∙ get_or-take len values (len - 1) 0 within in
+    ap (next_kind kind) last ∙ ap (λ n. next_kind kind (get_or values (n - 1) 0)) whole
+
+one-less : (blocks i : ℕ) → i < blocks → blocks - i ≡ suc (blocks - (i + 1))
+one-less blocks i lt = omega arith
+
+-- ---- how long what is left of a text is
+
+abbrev pub Behind : ℕ → ℕ → Kind → List ℕ → ℕ → ℕ → Type 0
+Behind lanes left kind rest size all = (behind : List ℕ) × Blocks1 lanes left kind rest behind × (7 + all ≡ size + length behind)
+
+pub behind_step : (lanes blocks i : ℕ) (kind : Kind) (rest : List ℕ) (width size_of all : ℕ) → i < blocks
+    → IsWidth kind (take (32 * lanes) rest) width
+    → Behind lanes (blocks - i) kind rest size_of all
+    → Behind lanes (blocks - (i + 1)) (second_kind lanes kind rest) (drop (32 * lanes) rest) (size_of + (1 + size lanes width)) all
+behind_step lanes blocks i kind rest width size_of all lt least before =
+    let more = rw (one-less blocks i lt) at before.1 in
+    let long : length more.0 ≡ 1 + size lanes width = length-part lanes kind (take (32 * lanes) rest) more.0 width more.3 least in
+    let both : length before.0 ≡ length more.0 + length more.1 = ap length more.2 ∙ length-append more.0 more.1 in
+    (more.1, more.4, omega (arith, before.2))
+
+pub behind_done : (lanes blocks i : ℕ) (kind : Kind) (rest : List ℕ) (size_of all : ℕ) → blocks ≤ i
+    → Behind lanes (blocks - i) kind rest size_of all → 7 + all ≡ size_of + 4 * length rest
+behind_done lanes blocks i kind rest size_of all le before =
+    let none : blocks - i ≡ 0 = omega arith in
+    let is : before.0 ≡ numbers rest = rw none at before.1 in
+    omega (arith, before.2, ap length is, length-numbers rest)
+
+-- ---- what is written, with what is left of the text behind it
+
+abbrev pub Written : ℕ → ℕ → Kind → List ℕ → List ℕ → List ℕ → Type 0
+Written lanes left kind rest out all = (behind : List ℕ) × AreBytes behind × Blocks1 lanes left kind rest behind × (out ++ behind ≡ all)
+
+pub written_step : (lanes blocks i : ℕ) (kind : Kind) (rest out part new all : List ℕ) → 0 < lanes → i < blocks
+    → AreBytes part → IsPart1 lanes kind (take (32 * lanes) rest) part → new ≡ out ++ part
+    → Written lanes (blocks - i) kind rest out all
+    → Written lanes (blocks - (i + 1)) (second_kind lanes kind rest) (drop (32 * lanes) rest) new all
+written_step lanes blocks i kind rest out part new all some lt small is items before =
+    let more = rw (one-less blocks i lt) at before.2 in
+    let bytes : AreBytes (more.0 ++ more.1) = rw more.2 at before.1 in
+    let same : part ≡ more.0 =
+    same_part lanes kind (take (32 * lanes) rest) more.0 part some (AreBytes-left more.0 more.1 bytes) small more.3 is in
+    let whole : new ++ more.1 ≡ all =
+    ap (λ zs. zs ++ more.1) (items ∙ ap (λ zs. out ++ zs) same) ∙ append_assoc out more.0 more.1
+    ∙ ap (λ zs. out ++ zs) (sym more.2) ∙ before.3 in
+    (more.1, AreBytes-right more.0 more.1 bytes, more.4, whole)
+
+-- The next part is no longer than what is left.
+pub written_room : (lanes blocks i : ℕ) (kind : Kind) (rest out part all : List ℕ) → i < blocks
+    → IsPart1 lanes kind (take (32 * lanes) rest) part
+    → Written lanes (blocks - i) kind rest out all → length out + length part ≤ length all
+written_room lanes blocks i kind rest out part all lt is before =
+    let block : List ℕ = take (32 * lanes) rest in
+    let more = rw (one-less blocks i lt) at before.2 in
+    let long : length part ≡ 1 + size lanes is.width = length-part lanes kind block part is.width is is.least in
+    let long' : length more.0 ≡ 1 + size lanes is.width = length-part lanes kind block more.0 is.width more.3 is.least in
+    let both : length before.0 ≡ length more.0 + length more.1 = ap length more.2 ∙ length-append more.0 more.1 in
+    let total : length out + length before.0 ≡ length all = sym (length-append out before.0) ∙ ap length before.3 in
+    omega arith
+
+pub written_tail : (lanes blocks i : ℕ) (kind : Kind) (rest out all : List ℕ) → blocks ≤ i
+    → Written lanes (blocks - i) kind rest out all → out ++ numbers rest ≡ all
+written_tail lanes blocks i kind rest out all le before =
+    let none : blocks - i ≡ 0 = omega arith in
+    let is : before.0 ≡ numbers rest = rw none at before.2 in
+    ap (λ zs. out ++ zs) (sym is) ∙ before.3
+
+pub written_tail_room : (lanes blocks i : ℕ) (kind : Kind) (rest out all : List ℕ) → blocks ≤ i
+    → Written lanes (blocks - i) kind rest out all → length out + 4 * length rest ≡ length all
+written_tail_room lanes blocks i kind rest out all le before =
+    omega (arith, ap length (written_tail lanes blocks i kind rest out all le before), length-append out (numbers rest), length-numbers rest)

@@ -1,0 +1,18 @@
+use Rattle.std.proofs.Common.{◌≡◌, refl, sym, arith, get_or}
+use Rattle.bitpack.specs.Parts.{kind_byte, number_at, BeginsWithHeader}
+use Rattle.bitpack.proofs.HeaderLemmas.{header_from_bytes}
+use Rattle.bitpack.proofs.header.Header.read.Goals.{in-0, in-1, in-2}
+use Rattle.bitpack.proofs.header.Header.read.Goals as goal
+
+pub returns-clause-header : goal.returns-clause-header
+returns-clause-header c =
+    let bytes = c.args.bytes.now in
+    let kind : get_or bytes 1 0 ≡ kind_byte c.match-bytes.kind =
+    elim c.match-bytes.branch [
+      in-0 w ↦ rw w.kind-is w.in-0.is
+      | in-1 w ↦ rw w.kind-is w.in-1.is
+      | in-2 w ↦ rw w.kind-is w.in-2.is
+    ] in
+    rw c.read_one-count.ensures
+    (header_from_bytes c.args.version c.args.lanes c.match-bytes.kind bytes (λ k. omega (arith, c.type_inv.bytes k)) c.if-bytes-lt7.false
+    c.if-bytes-version.false kind c.if-bytes-lanes.false (omega (arith, c.read_one-count.ensures)))

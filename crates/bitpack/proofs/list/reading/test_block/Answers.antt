@@ -1,0 +1,44 @@
+use Rattle.std.proofs.Common.{◌≡◌, ◌-◌, ◌<◌, ◌≤◌, ◌∷◌, ℕ, List, length, take, drop, get_or, Bool, true, false, sym, ◌∙◌, ap, arith}
+use Rattle.bitpacking.specs.Layout.{size}
+use Rattle.bitpack.specs.Parts.{is_loose}
+use Rattle.bitpack.proofs.FaultLemmas.{front-is, no_byte, wide, missing, loose, right}
+use Rattle.bitpack.proofs.list.reading.test_block.Goals as goal
+
+pub returns-in_default-clause-fault : goal.returns-in_default-clause-fault
+returns-in_default-clause-fault g c = no_byte g.P.BitPacker.lanes c.args.block c.args.bytes.now c.in_default.len_below
+
+pub returns-then-width-gt32-clause-fault : goal.returns-then-width-gt32-clause-fault
+returns-then-width-gt32-clause-fault g c =
+    let bytes : List ℕ = c.args.bytes.now in
+    wide g.P.BitPacker.lanes c.args.block (get_or bytes 0 0) bytes (take (length bytes - 1) (drop 1 bytes)) (front-is bytes c.in-len1-up.len_at_least)
+    c.if-width-gt32.true
+
+pub returns-then-rest-size-clause-fault : goal.returns-then-rest-size-clause-fault
+returns-then-rest-size-clause-fault g c =
+    let bytes : List ℕ = c.args.bytes.now in
+    missing g.P.BitPacker.lanes c.args.block (get_or bytes 0 0) bytes (take (length bytes - 1) (drop 1 bytes)) (front-is bytes c.in-len1-up.len_at_least)
+    c.if-width-gt32.false (rw c.compressed_block_size-size.ensures at c.if-rest-size.true)
+
+pub returns-then-is_loose-clause-fault : goal.returns-then-is_loose-clause-fault
+returns-then-is_loose-clause-fault g c =
+    let bytes : List ℕ = c.args.bytes.now in
+    let lanes : ℕ = g.P.BitPacker.lanes in
+    let width : ℕ = get_or bytes 0 0 in
+    let rest : List ℕ = take (length bytes - 1) (drop 1 bytes) in
+    let body : c.split_at.result.0.now ≡ take (size lanes width) rest = c.split_at.ensures.front ∙ ap (λ n. take n rest) c.compressed_block_size-size.ensures in
+    let answer : is_loose lanes width (take (size lanes width) rest) ≡ true =
+    ap (is_loose lanes width) (sym body) ∙ sym c.is_loose.ensures ∙ c.if-is_loose.true in
+    loose lanes c.args.block width bytes rest (front-is bytes c.in-len1-up.len_at_least) c.if-width-gt32.false
+    (rw c.compressed_block_size-size.ensures at c.if-rest-size.false) answer
+
+pub returns-clause-fault : goal.returns-clause-fault
+returns-clause-fault g c =
+    let bytes : List ℕ = c.args.bytes.now in
+    let lanes : ℕ = g.P.BitPacker.lanes in
+    let width : ℕ = get_or bytes 0 0 in
+    let rest : List ℕ = take (length bytes - 1) (drop 1 bytes) in
+    let body : c.split_at.result.0.now ≡ take (size lanes width) rest = c.split_at.ensures.front ∙ ap (λ n. take n rest) c.compressed_block_size-size.ensures in
+    let answer : is_loose lanes width (take (size lanes width) rest) ≡ false =
+    ap (is_loose lanes width) (sym body) ∙ sym c.is_loose.ensures ∙ c.if-is_loose.false in
+    right lanes c.args.block width bytes rest (front-is bytes c.in-len1-up.len_at_least) c.if-width-gt32.false
+    (rw c.compressed_block_size-size.ensures at c.if-rest-size.false) answer

@@ -1,0 +1,52 @@
+use Rattle.std.proofs.Common.{◌≡◌, ◌+◌, ◌*◌, ◌/◌, ◌<◌, ◌≤◌, ◌++◌, ◌^◌, ℕ, List, length, refl, sym, subst, ◌∙◌, ap, arith, append_assoc, vec_len, vec_capacity}
+use Rattle.std.proofs.lemmas.List.{length-append}
+use Rattle.std.proofs.lemmas.List.Elements.{All-from_get_or}
+use Rattle.bitpacking.specs.Codes.{AreWords}
+use Rattle.bitpack.specs.Parts.{header, whole_blocks, first_kind}
+use Rattle.bitpack.specs.Version1.{Blocks1, List1}
+use Rattle.bitpack.proofs.ListLemmas.{length-header, lanes-is, List1-from_blocks, behind_of, on_ok}
+use Rattle.bitpack.proofs.list.writing.encode.Goals as goal
+
+
+pub write-requires-clause-room : goal.write-requires-clause-room
+write-requires-clause-room g c =
+    let lanes : ℕ = g.P.BitPacker.lanes in
+    let values : List ℕ = c.args.values.now in
+    let words : AreWords values = All-from_get_or (λ v. v < 2 ^ 32) values 0 (λ k h. (c.type_inv.values k).fits) in
+    let found = behind_of lanes c.args.kind values g.met.P.BitPacker.some_lanes words in
+    let front : List ℕ = header 1 c.args.kind lanes (length values) in
+    let long = c.text_len.ensures (front ++ found.0) (List1-from_blocks lanes c.args.kind values found.0 c.if-values-gt-MOST_VALUES.false found.2) in
+    let room = on_ok c.reserve.result (sym c.is_err.ensures.value ∙ c.if-is_err.false) c.reserve.ensures.ok in
+    omega (arith, room, long, length-append front found.0, length-header 1 c.args.kind lanes (length values))
+
+pub write_blocks-requires : goal.write_blocks-requires
+write_blocks-requires g c =
+    let lanes : ℕ = g.P.BitPacker.lanes in
+    let values : List ℕ = c.args.values.now in
+    let front : List ℕ = header 1 c.args.kind lanes (length values) in
+    let room = on_ok c.reserve.result (sym c.is_err.ensures.value ∙ c.if-is_err.false) c.reserve.ensures.ok in
+    let whole : c.BLOCK_LEN.result / 32 ≡ lanes = lanes-is g.P.BitPacker.lanes c.BLOCK_LEN.result (c.BLOCK_LEN.ensures ∙ g.met.P.BitPacker.block_len) in
+    let items : c.write.new.out.items ≡ c.args.out.now.items ++ front = rw (← whole, ← c.reserve.ensures.items) c.write.ensures.items in
+    record {
+      room = λ text blocks.
+          let blocks' : Blocks1 lanes (whole_blocks lanes (length values)) (first_kind c.args.kind) values text = rw c.first.ensures at blocks in
+          let long = c.text_len.ensures (front ++ text) (List1-from_blocks lanes c.args.kind values text c.if-values-gt-MOST_VALUES.false blocks') in
+          omega (arith, room, long, ap length items, length-append c.args.out.now.items front, length-append front text,
+          length-header 1 c.args.kind lanes (length values), c.write.ensures.capacity, c.write.new.out.ok, c.args.out.now.ok, c.reserve.ensures.len);
+    }
+
+pub returns-clause-ok : goal.returns-clause-ok
+returns-clause-ok g c =
+    let lanes : ℕ = g.P.BitPacker.lanes in
+    let values : List ℕ = c.args.values.now in
+    let words : AreWords values = All-from_get_or (λ v. v < 2 ^ 32) values 0 (λ k h. (c.type_inv.values k).fits) in
+    let front : List ℕ = header 1 c.args.kind lanes (length values) in
+    let found = behind_of lanes c.args.kind values g.met.P.BitPacker.some_lanes words in
+    let whole : c.BLOCK_LEN.result / 32 ≡ lanes = lanes-is g.P.BitPacker.lanes c.BLOCK_LEN.result (c.BLOCK_LEN.ensures ∙ g.met.P.BitPacker.block_len) in
+    let items : c.write.new.out.items ≡ c.args.out.now.items ++ front = rw (← whole, ← c.reserve.ensures.items) c.write.ensures.items in
+    (
+      front ++ found.0,
+      List1-from_blocks lanes c.args.kind values found.0 c.if-values-gt-MOST_VALUES.false found.2,
+      c.write_blocks.ensures found.0 found.1 (rw c.first.ensures found.2)
+      ∙ ap (λ zs. zs ++ found.0) items ∙ append_assoc c.args.out.now.items front found.0,
+    )

@@ -1,0 +1,157 @@
+//! Texts into their lists. The bytes may be anyone's.
+
+ghost use Rattle.std.specs.Prelude.{◌≡◌, ◌+◌, ◌-◌, ◌*◌, ◌/◌, ◌%◌, ◌^◌, ◌<◌, ◌≤◌, ◌∷◌, ◌++◌, ℕ, List, length, take, drop, slice_index, OnOk, OnErr, IfOk, IfErr, MatchOption, false, None, Some, vec_len, vec_capacity};
+ghost use Rattle.bitpacking.specs.Layout.{size};
+ghost use Rattle.bitpacking.specs.Codes.{AreWords};
+ghost use Rattle.bitpack.specs.Chains.{second_kind};
+ghost use Rattle.bitpack.specs.Parts.{BeginsWithHeader, Finds, first_kind, is_loose, tail_values, whole_blocks};
+ghost use Rattle.bitpack.specs.Version1.{Blocks1, IsPart1, List1, behind_block1, block_fault1, blocks_fault1, fault1};
+
+use crate::chain::{decompress_kind, next_kind};
+use crate::header::Header;
+use crate::list_error::ListError;
+use crate::list_kind::ListKind;
+use crate::room::append;
+use crate::little_endian::read_all;
+use bitpacking::{BitPacker, Kind};
+
+/// Appends the values of a text and returns its kind.
+///
+/// Any bytes are taken. The whole text is tested before a value is appended, and the vector grows once at most, by as many
+/// values as the text has: at most 32 for each lane and byte of the text.
+pub fn decode<P: BitPacker>(
+    packer: &P,
+    bytes: &[u8],
+    out: &mut Vec<u32>,
+) -> Result<ListKind, ListError>
+    // What is read is the text of these values, and they stand behind what the vector held.
+    ensures ok { IfOk result (λ kind. (values : List ℕ) × List1 P.lanes kind values bytes.now × (out.new.items ≡ out.old.items ++ values)) }
+    // A text with a fault is refused for the first, and one without only for want of memory.
+    ensures err { MatchOption (fault1 P.lanes bytes.now) (IfErr result (λ e. e ≡ ListError.Memory)) (λ fault. result ≡ Err fault) }
+    ensures unchanged { OnErr result (out.new.items ≡ out.old.items) }
+{
+    let header = test(packer, bytes)?;
+    if out.reserve(header.count).is_err() {
+        return Err(ListError::Memory);
+    }
+    read_blocks(packer, header, &bytes[7..], out);
+    Ok(header.kind)
+}
+
+/// Tests the whole text.
+fn test<P: BitPacker>(packer: &P, bytes: &[u8]) -> Result<Header, ListError>
+    ensures fault { Finds result (fault1 P.lanes bytes.now) }
+    ensures header { IfOk result (λ header. BeginsWithHeader 1 P.lanes header.kind header.count bytes.now) }
+    ensures long { OnOk result (7 ≤ length bytes.now) }
+{
+    let len = P::BLOCK_LEN;
+    let header = Header::read(1, len / 32, bytes)?;
+    let blocks = header.count / len;
+    let tail = 4 * (header.count % len);
+    let rest = &bytes[7..];
+    if rest.len() < blocks + tail {
+        return Err(ListError::Short);
+    }
+    test_blocks(packer, blocks, tail, rest)?;
+    Ok(header)
+}
+
+/// Tests the blocks and how many bytes stand behind them.
+fn test_blocks<P: BitPacker>(
+    packer: &P,
+    blocks: usize,
+    tail: usize,
+    bytes: &[u8],
+) -> Result<(), ListError>
+    ensures { Finds result (blocks_fault1 P.lanes tail 0 blocks bytes.now) }
+{
+    let mut rest = bytes;
+    for block in 0..blocks {
+        rest = test_block(packer, block, rest)?;
+    }
+    if rest.len() < tail {
+        return Err(ListError::Short);
+    }
+    if rest.len() > tail {
+        return Err(ListError::Trailing);
+    }
+    Ok(())
+}
+
+/// Tests the block at the front of the bytes, and returns the bytes behind it.
+fn test_block<'a, P: BitPacker>(
+    packer: &P,
+    block: usize,
+    bytes: &'a [u8],
+) -> Result<&'a [u8], ListError>
+    ensures fault { Finds result (block_fault1 P.lanes block bytes.now) }
+    ensures behind { IfOk result (λ rest. rest.now ≡ behind_block1 P.lanes bytes.now) }
+{
+    let [width, rest @ ..] = bytes else {
+        return Err(ListError::Short);
+    };
+    let width = *width;
+    if width > 32 {
+        return Err(ListError::BadWidth(block, width));
+    }
+    let size = P::compressed_block_size(width);
+    if rest.len() < size {
+        return Err(ListError::Short);
+    }
+    let (body, rest) = rest.split_at(size);
+    if is_loose(packer, width, body) {
+        return Err(ListError::LooseWidth(block, width));
+    }
+    Ok(rest)
+}
+
+/// Whether the codes of a block fit a smaller width. Their kind and start do not matter: as a plain block they are its values.
+fn is_loose<P: BitPacker>(packer: &P, width: u8, body: &[u8]) -> bool
+    requires width { width ≤ 32 }
+    requires body { length body.now ≡ size P.lanes width }
+    ensures { result ≡ Rattle.bitpack.specs.Parts.is_loose P.lanes width body.now }
+{
+    let mut block = [0; 256];
+    packer.decompress(body, &mut block, width);
+    packer.num_bits(&block[..P::BLOCK_LEN]) < width
+}
+
+/// Appends the values of blocks and tail that were tested, where there is room for them.
+fn read_blocks<P: BitPacker>(packer: &P, header: Header, bytes: &[u8], out: &mut Vec<u32>)
+    requires sound { blocks_fault1 P.lanes (4 * tail_values P.lanes header.count) 0 (whole_blocks P.lanes header.count) bytes.now ≡ None }
+    requires room { vec_len out.old + header.count ≤ vec_capacity out.old }
+    ensures { (values : List ℕ) → AreWords values → Blocks1 P.lanes (whole_blocks P.lanes header.count) (first_kind header.kind) values bytes.now → out.new.items ≡ out.old.items ++ values }
+{
+    let blocks = header.count / P::BLOCK_LEN;
+    let mut kind = header.kind.first();
+    let mut rest = bytes;
+    for _ in 0..blocks {
+        (kind, rest) = read_block(packer, kind, rest, out);
+    }
+    read_all(rest, out);
+}
+
+/// Appends the values of the block at the front of the bytes. Returns the kind of the block after it, and the bytes there.
+fn read_block<'a, P: BitPacker>(
+    packer: &P,
+    kind: Kind,
+    bytes: &'a [u8],
+    out: &mut Vec<u32>,
+) -> (Kind, &'a [u8])
+    requires width { slice_index bytes.now 0 ≤ 32 }
+    requires body { 1 + size P.lanes (slice_index bytes.now 0) ≤ length bytes.now }
+    requires least { Rattle.bitpack.specs.Parts.is_loose P.lanes (slice_index bytes.now 0) (take (size P.lanes (slice_index bytes.now 0)) (drop 1 bytes.now)) ≡ false }
+    requires room { vec_len out.old + P.BLOCK_LEN ≤ vec_capacity out.old }
+    ensures block { (block : List ℕ) × (part : List ℕ) × AreWords block × IsPart1 P.lanes kind block part × (bytes.now ≡ part ++ result.1.now)
+        × (out.new.items ≡ out.old.items ++ block) × (result.0 ≡ second_kind P.lanes kind block) }
+    ensures capacity { vec_capacity out.old ≤ vec_capacity out.new }
+{
+    let width = bytes[0];
+    let mut block = [0; 256];
+    let size = decompress_kind(packer, kind, &bytes[1..], &mut block, width);
+    let values = &block[..P::BLOCK_LEN];
+    let next = next_kind(kind, values[values.len() - 1]);
+    let rest = &bytes[1 + size..];
+    append(out, values);
+    (next, rest)
+}

@@ -1,0 +1,96 @@
+//! Lists into their texts.
+
+ghost use Rattle.std.specs.Prelude.{◌≡◌, ◌+◌, ◌*◌, ◌/◌, ◌^◌, ◌<◌, ◌≤◌, ◌∷◌, ◌++◌, ℕ, List, length, drop, OnOk, OnErr, IfErr, vec_len, vec_capacity};
+ghost use Rattle.bitpacking.specs.Bits.{AreBytes};
+ghost use Rattle.bitpack.specs.Parts.{whole_blocks};
+ghost use Rattle.bitpack.specs.Version1.{Blocks1, IsPart1, List1};
+
+use crate::chain::{compress_kind, next_kind, width_kind};
+use crate::header::{Header, MOST_VALUES};
+use crate::list_error::ListError;
+use crate::list_kind::ListKind;
+use crate::room::append;
+use crate::little_endian::write_all;
+use bitpacking::{BitPacker, Kind};
+
+/// Appends the text of the values. In every kind they may stand in any order.
+///
+/// A list has at most 268,435,456 values. The vector grows once at most.
+pub fn encode<P: BitPacker>(
+    packer: &P,
+    kind: ListKind,
+    values: &[u32],
+    out: &mut Vec<u8>,
+) -> Result<(), ListError>
+    // What is appended is the text of the values.
+    ensures ok { OnOk result ((text : List ℕ) × List1 P.lanes kind values.now text × (out.new.items ≡ out.old.items ++ text)) }
+    // Too many values are refused as such, and others only for want of memory.
+    ensures long { 2 ^ 28 < length values.now → result ≡ Err (ListError.TooLong (length values.now)) }
+    ensures memory { length values.now ≤ 2 ^ 28 → IfErr result (λ e. e ≡ ListError.Memory) }
+    ensures unchanged { OnErr result (out.new.items ≡ out.old.items) }
+{
+    if values.len() > MOST_VALUES {
+        return Err(ListError::TooLong(values.len()));
+    }
+    if out.reserve(text_len(packer, kind, values)).is_err() {
+        return Err(ListError::Memory);
+    }
+    let count = values.len();
+    Header { kind, count }.write(1, P::BLOCK_LEN / 32, out);
+    write_blocks(packer, kind.first(), values, out);
+    Ok(())
+}
+
+/// How many bytes the text of the values has.
+fn text_len<P: BitPacker>(packer: &P, kind: ListKind, values: &[u32]) -> usize
+    requires { length values.now ≤ 2 ^ 28 }
+    ensures { (text : List ℕ) → List1 P.lanes kind values.now text → length text ≡ result }
+{
+    let len = P::BLOCK_LEN;
+    let blocks = values.len() / len;
+    let mut kind = kind.first();
+    let mut rest = values;
+    let mut size = 7;
+    for _ in 0..blocks {
+        let (block, after) = rest.split_at(len);
+        let width = width_kind(packer, kind, block);
+        size += 1 + P::compressed_block_size(width);
+        kind = next_kind(kind, block[len - 1]);
+        rest = after;
+    }
+    size + 4 * rest.len()
+}
+
+/// Appends the blocks and the tail of the values, where there is room for them.
+fn write_blocks<P: BitPacker>(packer: &P, kind: Kind, values: &[u32], out: &mut Vec<u8>)
+    requires room { (text : List ℕ) → Blocks1 P.lanes (whole_blocks P.lanes (length values.now)) kind values.now text
+        → vec_len out.old + length text ≤ vec_capacity out.old }
+    ensures { (text : List ℕ) → AreBytes text → Blocks1 P.lanes (whole_blocks P.lanes (length values.now)) kind values.now text
+        → out.new.items ≡ out.old.items ++ text }
+{
+    let len = P::BLOCK_LEN;
+    let blocks = values.len() / len;
+    let mut kind = kind;
+    let mut rest = values;
+    for _ in 0..blocks {
+        let (block, after) = rest.split_at(len);
+        write_block(packer, kind, block, out);
+        kind = next_kind(kind, block[len - 1]);
+        rest = after;
+    }
+    write_all(rest, out);
+}
+
+/// Appends the least width of a block and the bytes that hold it, where there is room for them.
+fn write_block<P: BitPacker>(packer: &P, kind: Kind, block: &[u32], out: &mut Vec<u8>)
+    requires block { length block.now ≡ P.BLOCK_LEN }
+    requires room { (part : List ℕ) → IsPart1 P.lanes kind block.now part → vec_len out.old + length part ≤ vec_capacity out.old }
+    ensures part { (part : List ℕ) × AreBytes part × IsPart1 P.lanes kind block.now part × (out.new.items ≡ out.old.items ++ part) }
+    ensures capacity { vec_capacity out.old ≤ vec_capacity out.new }
+{
+    let width = width_kind(packer, kind, block);
+    let mut body = [0; 1024];
+    let size = compress_kind(packer, kind, block, &mut body, width);
+    append(out, &[width]);
+    append(out, &body[..size]);
+}

@@ -1,0 +1,13 @@
+//! Vectors that were given their room before.
+
+ghost use Rattle.std.specs.Prelude.{◌≡◌, ◌+◌, ◌≤◌, ◌++◌, length, vec_len, vec_capacity};
+
+/// Appends to a vector that has the room.
+pub(crate) fn append<T: Copy>(out: &mut Vec<T>, part: &[T])
+    requires room { vec_len out.old + length part.now ≤ vec_capacity out.old }
+    ensures items { out.new.items ≡ out.old.items ++ part.now }
+    ensures len { vec_len out.new ≡ vec_len out.old + length part.now }
+    ensures capacity { vec_capacity out.old ≤ vec_capacity out.new }
+{
+    out.extend_from_slice(part).unwrap();
+}
