@@ -5,7 +5,6 @@ ghost use Rattle.bitpack.specs.Found.{request_of};
 ghost use Rattle.bitpack.specs.Answers.{IsAnswer, IsReply, lanes_of};
 ghost use Rattle.bitpack.specs.Lines.{AppendsAnswer, AppendsAnswerInPart};
 
-mod blocks;
 mod replies;
 mod texts;
 

@@ -4,9 +4,9 @@ ghost use Rattle.std.specs.Prelude.{IfOk, string_bytes};
 ghost use Rattle.bitpack.specs.Grammar.{Pack, Size, Unpack, Width};
 ghost use Rattle.bitpack.specs.Answers.{IsReply};
 
-use super::blocks::{pack, unpack, width_of};
 use super::texts::{bytes_text, refused, values_text};
 use super::{NOT_A_BLOCK, NOT_ITS_BYTES, TOO_GREAT, TOO_WIDE};
+use crate::chain::{compress_kind, decompress_kind, width_kind};
 use bitpacking::{BitPacker, Kind};
 use std::alloc::{AllocError, Global};
 
@@ -37,7 +37,7 @@ pub(crate) fn width_text<P: BitPacker>(
     if values.len() != P::BLOCK_LEN {
         return refused(alloc, NOT_A_BLOCK);
     }
-    let width = width_of(packer, kind, values);
+    let width = width_kind(packer, kind, values);
     format!(in alloc; "{width}")
 }
 
@@ -56,11 +56,11 @@ pub(crate) fn pack_text<P: BitPacker>(
     if width > WIDEST {
         return refused(alloc, TOO_WIDE);
     }
-    if width < width_of(packer, kind, values) {
+    if width < width_kind(packer, kind, values) {
         return refused(alloc, TOO_GREAT);
     }
     let mut bytes = [0; MOST_BYTES];
-    let byte_len = pack(packer, kind, values, &mut bytes, width);
+    let byte_len = compress_kind(packer, kind, values, &mut bytes, width);
     bytes_text(alloc, &bytes[..byte_len])
 }
 
@@ -80,6 +80,6 @@ pub(crate) fn unpack_text<P: BitPacker>(
         return refused(alloc, NOT_ITS_BYTES);
     }
     let mut block = [0; LONGEST_BLOCK];
-    unpack(packer, kind, bytes, &mut block, width);
+    decompress_kind(packer, kind, bytes, &mut block, width);
     values_text(alloc, &block[..P::BLOCK_LEN])
 }
