@@ -139,7 +139,7 @@ impl BitPacker for BitPacker1x {
 }
 
 impl Counted for BitPacker1x {
-    #[inline]
+    #[inline(always)]
     fn pack_counted(
         &self,
         kind: Kind,
@@ -151,7 +151,7 @@ impl Counted for BitPacker1x {
         pack_kind::<SimpleLoops, u32>(kind, decompressed, compressed, num_bits, steps)
     }
 
-    #[inline]
+    #[inline(always)]
     fn unpack_counted(
         &self,
         kind: Kind,
@@ -163,7 +163,7 @@ impl Counted for BitPacker1x {
         unpack_kind::<SimpleLoops, u32>(kind, compressed, decompressed, num_bits, steps)
     }
 
-    #[inline]
+    #[inline(always)]
     fn width_counted(&self, kind: Kind, decompressed: &[u32], steps: &mut Steps) -> u8 {
         width_kind::<u32>(kind, decompressed, steps)
     }

@@ -146,7 +146,7 @@ impl BitPacker for BitPacker8x {
 }
 
 impl Counted for BitPacker8x {
-    #[inline]
+    #[inline(always)]
     fn pack_counted(
         &self,
         kind: Kind,
@@ -158,7 +158,7 @@ impl Counted for BitPacker8x {
         pack::<u32x8, [u32; 8]>(self.0, kind, decompressed, compressed, num_bits, steps)
     }
 
-    #[inline]
+    #[inline(always)]
     fn unpack_counted(
         &self,
         kind: Kind,
@@ -170,7 +170,7 @@ impl Counted for BitPacker8x {
         unpack::<u32x8, [u32; 8]>(self.0, kind, compressed, decompressed, num_bits, steps)
     }
 
-    #[inline]
+    #[inline(always)]
     fn width_counted(&self, kind: Kind, decompressed: &[u32], steps: &mut Steps) -> u8 {
         width::<u32x8, [u32; 8]>(self.0, kind, decompressed, steps)
     }
