@@ -1,5 +1,5 @@
 -- What each part of a line spells is found, or that it spells nothing.
-use Rattle.std.proofs.Common.{◌≡◌, ◌≢◌, ℕ, ◌^◌, ◌<◌, ◌≤◌, Bool, true, false, List, [], ◌∷◌, ◌++◌, length, drop, codes, refl, sym, ap, subst, ◌∙◌, arith, bytes_eq, ◌⊎◌, inl, inr, Option, Some, None, Result, Ok, Err}
+use Rattle.std.proofs.Common.{get_or, ◌≡◌, ◌≢◌, ℕ, ◌^◌, ◌<◌, ◌≤◌, Bool, true, false, List, [], ◌∷◌, ◌++◌, length, drop, codes, refl, sym, ap, subst, ◌∙◌, arith, bytes_eq, ◌⊎◌, inl, inr, Option, Some, None, Result, Ok, Err}
 use Rattle.std.specs.Fmt.{decimal}
 use Rattle.std.specs.Str.Parse.{digits_value}
 use Rattle.std.proofs.lemmas.Bool.{cases_lt}
@@ -20,7 +20,7 @@ use Rattle.bitpack.specs.Grammar.{Asks, IsCount, IsItem, IsSmall, IsWord, Pack, 
 use Rattle.bitpack.specs.Found.{Finds, SpellsItem, SpellsKind, SpellsNumber}
 use Rattle.bitpack.proofs.Numerals.{numeral}
 use Rattle.bitpack.proofs.Cuts.{Lacks, Lacks-cons}
-use Rattle.bitpack.proofs.Forms.{pack_parts, size_parts, unpack_parts, width_parts}
+use Rattle.bitpack.proofs.Forms.{HasForm, has_form, pack_parts, size_parts, unpack_parts, width_parts}
 use Rattle.bitpack.proofs.LineTexts.{between_spaces, fields_of}
 use Rattle.bitpack.proofs.Printed.{are_fields}
 use Rattle.std.proofs.lemmas.List.Splits.{join_with_byte-slice_split}
@@ -248,24 +248,22 @@ find_unpack p k w b = carried _ (Asked (codes "unpack" ∷ p ∷ k ∷ w ∷ b �
     (λ asked asks. let parts = unpack_parts p k w b asked.0 asked.1 asks in ((asked.0, (parts.kind, (parts.width, parts.bytes))), (parts.packer_is, (parts.is_kind, (parts.small, parts.spelled)))))
     (find_both (IsPacker p) _ (find_packer p) (find_both (SpellsKind k) _ (find_kind k) (find_both (SpellsNumber IsSmall w) (SpellsBytes b) (find_small w) (find_bytes b))))
 
-module _ (word p : List ℕ) (packer : PackerName) where
-  not_three : (w : List ℕ) → word ≢ codes "size" → (request : Request) → Asks (word ∷ p ∷ w ∷ []) packer request → ⊥
-  not_three w other (Size width) (fields, small) = let is : word ≡ codes "size" = cc in other is
-  not_three w other (Width kind values) (text, fields, is_kind, spelled) = cc
-  not_three w other (Pack kind width values) (text, fields, is_kind, small, spelled) = cc
-  not_three w other (Unpack kind width bytes) (text, fields, is_kind, small, spelled) = cc
+-- fields of which no request has the word
+not_three : (fields : List (List ℕ)) → length fields ≡ 3 → get_or fields 0 [] ≢ codes "size" → (request : Request) → HasForm fields request → ⊥
+not_three fields three size (Size width) form = size form.word
+not_three fields three size request form = omega (arith, form.count)
 
-  not_four : (k v : List ℕ) → word ≢ codes "width" → (request : Request) → Asks (word ∷ p ∷ k ∷ v ∷ []) packer request → ⊥
-  not_four k v other (Size width) (fields, small) = cc
-  not_four k v other (Width kind values) (text, fields, is_kind, spelled) = let is : word ≡ codes "width" = cc in other is
-  not_four k v other (Pack kind width values) (text, fields, is_kind, small, spelled) = cc
-  not_four k v other (Unpack kind width bytes) (text, fields, is_kind, small, spelled) = cc
+not_four : (fields : List (List ℕ)) → length fields ≡ 4 → get_or fields 0 [] ≢ codes "width" → (request : Request) → HasForm fields request → ⊥
+not_four fields four width (Width kind values) form = width form.word
+not_four fields four width request form = omega (arith, form.count)
 
-  not_five : (k w v : List ℕ) → word ≢ codes "pack" → word ≢ codes "unpack" → (request : Request) → Asks (word ∷ p ∷ k ∷ w ∷ v ∷ []) packer request → ⊥
-  not_five k w v pack unpack (Size width) (fields, small) = cc
-  not_five k w v pack unpack (Width kind values) (text, fields, is_kind, spelled) = cc
-  not_five k w v pack unpack (Pack kind width values) (text, fields, is_kind, small, spelled) = let is : word ≡ codes "pack" = cc in pack is
-  not_five k w v pack unpack (Unpack kind width bytes) (text, fields, is_kind, small, spelled) = let is : word ≡ codes "unpack" = cc in unpack is
+not_five : (fields : List (List ℕ)) → length fields ≡ 5 → get_or fields 0 [] ≢ codes "pack" → get_or fields 0 [] ≢ codes "unpack" → (request : Request) → HasForm fields request → ⊥
+not_five fields five pack unpack (Pack kind width values) form = pack form.word
+not_five fields five pack unpack (Unpack kind width bytes) form = unpack form.word
+not_five fields five pack unpack request form = omega (arith, form.count)
+
+no_form : (fields : List (List ℕ)) → ((request : Request) → HasForm fields request → ⊥) → Search (Asked fields)
+no_form fields none = (None, λ asked asks. none asked.1 (has_form fields asked.0 asked.1 asks))
 
 with_word : (word known : List ℕ) (rest : List (List ℕ)) → word ≡ known → Search (Asked (known ∷ rest)) → Search (Asked (word ∷ rest))
 with_word word known rest is search = subst (λ w. Search (Asked (w ∷ rest))) (sym is) search
@@ -273,17 +271,17 @@ with_word word known rest is search = subst (λ w. Search (Asked (w ∷ rest))) 
 find_asked : (fields : List (List ℕ)) → Search (Asked fields)
 find_asked (word ∷ p ∷ w ∷ []) = elim (same_text word (codes "size")) [
   | inl is ↦ with_word word (codes "size") (p ∷ w ∷ []) is (find_size p w)
-  | inr other ↦ (None, λ asked asks. not_three word p asked.0 w other asked.1 asks)
+  | inr other ↦ no_form (word ∷ p ∷ w ∷ []) (not_three (word ∷ p ∷ w ∷ []) refl other)
 ]
 find_asked (word ∷ p ∷ k ∷ v ∷ []) = elim (same_text word (codes "width")) [
   | inl is ↦ with_word word (codes "width") (p ∷ k ∷ v ∷ []) is (find_width p k v)
-  | inr other ↦ (None, λ asked asks. not_four word p asked.0 k v other asked.1 asks)
+  | inr other ↦ no_form (word ∷ p ∷ k ∷ v ∷ []) (not_four (word ∷ p ∷ k ∷ v ∷ []) refl other)
 ]
 find_asked (word ∷ p ∷ k ∷ w ∷ v ∷ []) = elim (same_text word (codes "pack")) [
   | inl is ↦ with_word word (codes "pack") (p ∷ k ∷ w ∷ v ∷ []) is (find_pack p k w v)
   | inr pack ↦ elim (same_text word (codes "unpack")) [
     | inl is ↦ with_word word (codes "unpack") (p ∷ k ∷ w ∷ v ∷ []) is (find_unpack p k w v)
-    | inr unpack ↦ (None, λ asked asks. not_five word p asked.0 k w v pack unpack asked.1 asks)
+    | inr unpack ↦ no_form (word ∷ p ∷ k ∷ w ∷ v ∷ []) (not_five (word ∷ p ∷ k ∷ w ∷ v ∷ []) refl pack unpack)
   ]
 ]
 find_asked fields = (None, λ asked asks. let are = are_fields fields asked.0 asked.1 asks in omega (arith, are.some, are.few))

@@ -1,5 +1,6 @@
 -- What the fields of each form spell.
-use Rattle.std.proofs.Common.{◌≡◌, ℕ, ◌≤◌, ◌<◌, Bor, List, [], ◌∷◌, codes, get_or, length, map, refl, sym, subst, arith}
+use Rattle.std.proofs.Common.{◌≡◌, false, ap, bytes_eq, ℕ, ◌≤◌, ◌<◌, Bor, List, [], ◌∷◌, codes, get_or, length, map, refl, sym, subst, arith}
+use Rattle.std.proofs.lemmas.Slice.Eq.{bytes_eq-Decides}
 use Rattle.bitpack.specs.declared.line.PackerName.{PackerName}
 use Rattle.bitpacking.specs.declared.kind.Kind.{Kind}
 use Rattle.bitpack.specs.Grammar.{Asks, IsSmall, Pack, Request, Size, SpellsBytes, SpellsValues, Unpack, Width, packer_text}
@@ -27,6 +28,37 @@ pub five_fields : (fields : List (Bor (List ℕ))) → 5 ≤ length fields → l
 five_fields (a ∷ b ∷ c ∷ d ∷ e ∷ []) low high = refl
 five_fields fields low high = absurd (omega arith)
 
+-- ---- the first word of the fields, and how many they are
+
+abbrev pub word_of : Request → List ℕ
+word_of (Size width) = codes "size"
+word_of (Width kind values) = codes "width"
+word_of (Pack kind width values) = codes "pack"
+word_of (Unpack kind width bytes) = codes "unpack"
+
+abbrev pub count_of : Request → ℕ
+count_of (Size width) = 3
+count_of (Width kind values) = 4
+count_of (Pack kind width values) = 5
+count_of (Unpack kind width bytes) = 5
+
+pub record HasForm (fields : List (List ℕ)) (request : Request) : Type 0 where
+  pub word : get_or fields 0 [] ≡ word_of request
+  pub count : length fields ≡ count_of request
+
+pub has_form : (fields : List (List ℕ)) (packer : PackerName) (request : Request) → Asks fields packer request → HasForm fields request
+has_form fields packer (Size width) (is, small) = record { word = ap (λ f. get_or f 0 []) is; count = ap length is }
+has_form fields packer (Width kind values) (text, is, is_kind, spelled) = record { word = ap (λ f. get_or f 0 []) is; count = ap length is }
+has_form fields packer (Pack kind width values) (text, is, is_kind, small, spelled) = record { word = ap (λ f. get_or f 0 []) is; count = ap length is }
+has_form fields packer (Unpack kind width bytes) (text, is, is_kind, small, spelled) = record { word = ap (λ f. get_or f 0 []) is; count = ap length is }
+
+-- a request has no other word than its own
+pub other_word : (word : List ℕ) (rest : List (List ℕ)) (packer : PackerName) (request : Request) → Asks (word ∷ rest) packer request → bytes_eq word (word_of request) ≡ false → ⊥
+other_word word rest packer request asks apart =
+    let form = has_form (word ∷ rest) packer request asks in
+    let same = (bytes_eq-Decides word (word_of request)).1 form.word in
+    cc
+
 -- ---- what the fields of each form ask, part by part
 
 pub record SizeParts (p w : List ℕ) (packer : PackerName) (request : Request) : Type 0 where
@@ -37,9 +69,7 @@ pub record SizeParts (p w : List ℕ) (packer : PackerName) (request : Request) 
 
 pub size_parts : (p w : List ℕ) (packer : PackerName) (request : Request) → Asks (codes "size" ∷ p ∷ w ∷ []) packer request → SizeParts p w packer request
 size_parts p w packer (Size width) (fields, small) = record { width = width; request_is = refl; packer_is = cc; small = (cc, small) }
-size_parts p w packer (Width kind values) (text, fields, is_kind, spelled) = absurd cc
-size_parts p w packer (Pack kind width values) (text, fields, is_kind, small, spelled) = absurd cc
-size_parts p w packer (Unpack kind width bytes) (text, fields, is_kind, small, spelled) = absurd cc
+size_parts p w packer request asks = absurd (other_word (codes "size") (p ∷ w ∷ []) packer request asks refl)
 
 pub record WidthParts (p k v : List ℕ) (packer : PackerName) (request : Request) : Type 0 where
   pub kind : Kind
@@ -50,12 +80,10 @@ pub record WidthParts (p k v : List ℕ) (packer : PackerName) (request : Reques
   pub spelled : SpellsValues v values
 
 pub width_parts : (p k v : List ℕ) (packer : PackerName) (request : Request) → Asks (codes "width" ∷ p ∷ k ∷ v ∷ []) packer request → WidthParts p k v packer request
-width_parts p k v packer (Size width) (fields, small) = absurd cc
 width_parts p k v packer (Width kind values) (text, fields, is_kind, spelled) =
     let same : v ≡ text = cc in
     record { kind = kind; values = values; request_is = refl; packer_is = cc; is_kind = (cc, is_kind); spelled = subst (λ t. SpellsValues t values) (sym same) spelled }
-width_parts p k v packer (Pack kind width values) (text, fields, is_kind, small, spelled) = absurd cc
-width_parts p k v packer (Unpack kind width bytes) (text, fields, is_kind, small, spelled) = absurd cc
+width_parts p k v packer request asks = absurd (other_word (codes "width") (p ∷ k ∷ v ∷ []) packer request asks refl)
 
 pub record PackParts (p k w v : List ℕ) (packer : PackerName) (request : Request) : Type 0 where
   pub kind : Kind
@@ -68,12 +96,10 @@ pub record PackParts (p k w v : List ℕ) (packer : PackerName) (request : Reque
   pub spelled : SpellsValues v values
 
 pub pack_parts : (p k w v : List ℕ) (packer : PackerName) (request : Request) → Asks (codes "pack" ∷ p ∷ k ∷ w ∷ v ∷ []) packer request → PackParts p k w v packer request
-pack_parts p k w v packer (Size width) (fields, small) = absurd cc
-pack_parts p k w v packer (Width kind values) (text, fields, is_kind, spelled) = absurd cc
 pack_parts p k w v packer (Pack kind width values) (text, fields, is_kind, small, spelled) =
     let same : v ≡ text = cc in
     record { kind = kind; width = width; values = values; request_is = refl; packer_is = cc; is_kind = (cc, is_kind); small = (cc, small); spelled = subst (λ t. SpellsValues t values) (sym same) spelled }
-pack_parts p k w v packer (Unpack kind width bytes) (text, fields, is_kind, small, spelled) = absurd cc
+pack_parts p k w v packer request asks = absurd (other_word (codes "pack") (p ∷ k ∷ w ∷ v ∷ []) packer request asks refl)
 
 pub record UnpackParts (p k w b : List ℕ) (packer : PackerName) (request : Request) : Type 0 where
   pub kind : Kind
@@ -86,9 +112,7 @@ pub record UnpackParts (p k w b : List ℕ) (packer : PackerName) (request : Req
   pub spelled : SpellsBytes b bytes
 
 pub unpack_parts : (p k w b : List ℕ) (packer : PackerName) (request : Request) → Asks (codes "unpack" ∷ p ∷ k ∷ w ∷ b ∷ []) packer request → UnpackParts p k w b packer request
-unpack_parts p k w b packer (Size width) (fields, small) = absurd cc
-unpack_parts p k w b packer (Width kind values) (text, fields, is_kind, spelled) = absurd cc
-unpack_parts p k w b packer (Pack kind width values) (text, fields, is_kind, small, spelled) = absurd cc
 unpack_parts p k w b packer (Unpack kind width bytes) (text, fields, is_kind, small, spelled) =
     let same : b ≡ text = cc in
     record { kind = kind; width = width; bytes = bytes; request_is = refl; packer_is = cc; is_kind = (cc, is_kind); small = (cc, small); spelled = subst (λ t. SpellsBytes t bytes) (sym same) spelled }
+unpack_parts p k w b packer request asks = absurd (other_word (codes "unpack") (p ∷ k ∷ w ∷ b ∷ []) packer request asks refl)

@@ -13,12 +13,15 @@ use Rattle.bitpack.specs.declared.line.values.Item.TheVariants.{Once, Times}
 
 -- ---- numbers: a number is spelled by its decimal digits, with no sign and no zero in front
 
+-- at most 255
 abbrev pub IsSmall : ℕ → Type 0
 IsSmall n = n < 2 ^ 8
 
+-- at most 4294967295
 abbrev pub IsWord : ℕ → Type 0
 IsWord n = n < 2 ^ 32
 
+-- how often an item stands
 abbrev pub IsCount : ℕ → Type 0
 IsCount n = (1 ≤ n) × (n ≤ 65536)
 
@@ -41,7 +44,7 @@ kind_text (StrictlySorted (Some initial)) = codes "strict:" ++ decimal initial
 abbrev pub IsKind : Kind → Type 0
 IsKind kind = IsWord (start kind)
 
--- ---- values: items, each a word, or a word and how often it stands
+-- ---- values: items, each a word, or a word, `*` and how often it stands
 
 abbrev pub item_text : Item → List ℕ
 item_text (Once value) = decimal value
