@@ -1,6 +1,6 @@
 -- Version 1: a header before blocks and tail is a text.
-use Rattle.std.proofs.Common.{◌≡◌, ℕ, ◌+◌, ◌*◌, ◌/◌, ◌^◌, ◌<◌, ◌≤◌, List, ◌++◌, All, length, take, drop, Bool, false, Result, Ok, Err, OnOk, is_err, refl, sym, ◌∙◌, ap, arith}
-use Rattle.std.proofs.lemmas.List.{take_at, drop_at, length-append}
+use Rattle.std.proofs.Common.{◌≡◌, ℕ, ◌*◌, ◌/◌, ◌^◌, ◌≤◌, List, ◌++◌, length, false, Result, Ok, Err, OnOk, is_err, arith}
+use Rattle.std.proofs.lemmas.List.{take_at, drop_at}
 use Rattle.bitpacking.specs.Bits.{AreBytes}
 use Rattle.bitpacking.specs.Codes.{AreWords}
 use Rattle.bitpack.specs.declared.list_kind.ListKind.{ListKind}

@@ -1,16 +1,14 @@
 -- Version 1: bytes without a fault are the text of one list, and a text has no fault.
-use Rattle.std.proofs.Common.{◌≡◌, ℕ, ◌+◌, ◌*◌, ◌/◌, ◌%◌, ◌^◌, ◌<◌, ◌≤◌, List, ◌++◌, ◌∷◌, length, take, drop, get_or, Option, Some, None, refl, sym, subst, ◌∙◌, ap, arith}
-use Rattle.std.proofs.lemmas.List.{take-append-drop}
+use Rattle.std.proofs.Common.{◌≡◌, ℕ, ◌+◌, ◌*◌, ◌^◌, ◌<◌, ◌≤◌, List, length, drop, None, refl, sym, subst, ◌∙◌, arith}
 use Rattle.bitpacking.specs.Bits.{AreBytes}
 use Rattle.bitpacking.specs.Codes.{AreWords, start}
 use Rattle.bitpack.specs.declared.list_kind.ListKind.{ListKind}
 use Rattle.bitpack.specs.declared.list_kind.ListKind.TheVariants as lists
-use Rattle.bitpack.specs.Parts.{header_fault, number_at, header, whole_blocks, tail_values, first_kind, BeginsWithHeader}
-use Rattle.bitpack.specs.Version1.{Blocks1, List1, blocks_fault1, body_fault1, fault1}
+use Rattle.bitpack.specs.Parts.{whole_blocks, tail_values, first_kind, BeginsWithHeader}
+use Rattle.bitpack.specs.Version1.{Blocks1, List1, blocks_fault1, fault1}
 use Rattle.bitpack.proofs.PartLemmas.{AreBytes-drop}
-use Rattle.bitpack.proofs.HeaderLemmas.{header_bytes, header_fault-none, header_from_fault, kind_byte-same}
-use Rattle.bitpack.proofs.FaultLemmas.{none_first, body_next, body_blocks, body_from_none}
-use Rattle.bitpack.proofs.TextLemmas.{same_blocks, same_values}
+use Rattle.bitpack.proofs.HeaderLemmas.{header_bytes, header_fault-none}
+use Rattle.bitpack.proofs.FaultLemmas.{body_next, body_blocks, body_from_none}
 use Rattle.bitpack.proofs.ReadSteps.{values_from_none, none_from_values}
 
 start-first : (kind : ListKind) → start (first_kind kind) < 2 ^ 32

@@ -1,12 +1,11 @@
-use Rattle.std.proofs.Common.{◌≢◌, codes, inl, inr, rules, tests}
+use Rattle.std.proofs.Common.{◌≢◌, codes, rules, tests}
+use Rattle.std.specs.Prelude.{IsTrue}
 use Rattle.bitpack.proofs.ByteTexts.{no_bytes}
 use Rattle.bitpack.proofs.line.bytes.bytes_of.Goals as goal
-use Rattle.bitpack.proofs.line.bytes.bytes_of.Goals.{then-is_empty-via-then-is_empty, then-is_empty-via-else-is_empty+then-text-eq1}
 
-pub returns-then-is_empty : goal.returns-then-is_empty
-returns-then-is_empty c =
+pub returns-then-not-is_pairs : goal.returns-then-not-is_pairs
+returns-then-not-is_pairs c =
     let other : c.args.text.now ≢ codes "-" = search (rules, tests) in
-    elim c.then-is_empty.branch [
-      | then-is_empty-via-then-is_empty w ↦ no_bytes c.args.text.now other (inl (search (rules, tests)))
-      | then-is_empty-via-else-is_empty+then-text-eq1 w ↦ no_bytes c.args.text.now other (inr (search (rules, tests)))
-    ]
+    no_bytes c.args.text.now other (λ pairs.
+    let yes : IsTrue c.is_pairs.result = c.is_pairs.ensures.1 pairs in
+    search (rules, tests))

@@ -1,9 +1,9 @@
-use Rattle.std.proofs.Common.{◌≡◌, ◌-◌, ◌<◌, ◌≤◌, ◌^◌, ◌++◌, ℕ, List, length, take, drop, None, refl, sym, ◌∙◌, ap, subst, arith}
+use Rattle.std.proofs.Common.{◌≡◌, ◌-◌, ◌++◌, ℕ, List, length, take, drop, refl, sym, ◌∙◌, ap, subst, arith}
 use Rattle.std.proofs.lemmas.List.{take_all, length-drop}
 use Rattle.std.proofs.lemmas.Result.{err_from_is_err_and}
 use Rattle.bitpacking.specs.Bits.{AreBytes}
-use Rattle.bitpack.specs.Parts.{tail_values, whole_blocks, first_kind}
-use Rattle.bitpack.specs.Version1.{Blocks1, blocks_fault1}
+use Rattle.bitpack.specs.Parts.{whole_blocks, first_kind}
+use Rattle.bitpack.specs.Version1.{Blocks1}
 use Rattle.bitpack.proofs.ListLemmas.{on_ok}
 use Rattle.bitpack.proofs.OneText.{behind_from_none, list_from_none}
 use Rattle.bitpack.proofs.list.reading.decode.Goals as goal
