@@ -1,11 +1,10 @@
 -- A header without a fault is the header of a kind and a count, and the other way round.
-use Rattle.std.proofs.Common.{◌≡◌, ℕ, zero, suc, ◌+◌, ◌^◌, ◌<◌, ◌≤◌, Bool, true, false, not, cond, ltb, eqb, List, [], ◌∷◌, ◌++◌, length, take, drop, get_or, Option, Some, None, refl, sym, ◌∙◌, ap, arith, inl, inr, ◌⊎◌}
-use Rattle.std.proofs.lemmas.Bool.{le-ltb, ltb-false, eq-eqb, eqb-true, not-false, cases_Bool}
-use Rattle.std.proofs.lemmas.List.{get_or-take, get_or-drop, length-take, take-append-drop}
+use Rattle.std.proofs.Common.{◌≡◌, ℕ, zero, suc, ◌^◌, ◌≤◌, Bool, true, false, cond, List, [], ◌∷◌, ◌++◌, length, take, drop, get_or, Option, Some, None, refl, sym, ◌∙◌, ap, arith}
+use Rattle.std.proofs.lemmas.Bool.{le-ltb, ltb-false, eq-eqb, eqb-true, not-false}
+use Rattle.std.proofs.lemmas.List.{length-take, take-append-drop}
 use Rattle.bitpacking.specs.Bits.{AreBytes}
 use Rattle.bitpack.specs.declared.list_kind.ListKind.{ListKind}
 use Rattle.bitpack.specs.declared.list_kind.ListKind.TheVariants as lists
-use Rattle.bitpack.specs.declared.list_error.ListError.{ListError}
 use Rattle.bitpack.specs.Parts.{four_bytes, number_at, kind_byte, header, header_fault, BeginsWithHeader}
 use Rattle.bitpack.proofs.PartLemmas.{four_bytes-number_at, number_at-four_bytes, number_at-drop, length-four_bytes}
 

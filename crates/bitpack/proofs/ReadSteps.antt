@@ -1,5 +1,5 @@
 -- The loop that reads a text without faults: what is behind the blocks so far.
-use Rattle.std.proofs.Common.{◌≡◌, ℕ, zero, suc, ◌+◌, ◌-◌, ◌*◌, ◌/◌, ◌%◌, ◌^◌, ◌<◌, ◌≤◌, List, [], ◌∷◌, ◌++◌, All, length, take, drop, get_or, Option, Some, None, refl, sym, ◌∙◌, ap, arith, append_assoc, Bool, true, false, mul-suc, one-add}
+use Rattle.std.proofs.Common.{◌≡◌, ℕ, zero, suc, ◌+◌, ◌-◌, ◌*◌, ◌^◌, ◌<◌, ◌≤◌, List, [], ◌∷◌, ◌++◌, length, take, drop, get_or, None, refl, sym, ◌∙◌, ap, arith, append_assoc, false, mul-suc, one-add}
 use Rattle.std.proofs.lemmas.List.{take_all, length-append, length-take-le, length-drop, take-append-drop, take_at, drop_at, get_or_append_left, get_or-take}
 use Rattle.std.proofs.lemmas.Bool.{both_ways, false_from_ne_true}
 use Rattle.std.proofs.lemmas.List.Elements.{All-take, All-drop, All-append, All-get_or}
@@ -7,7 +7,7 @@ use Rattle.bitpacking.specs.declared.kind.Kind.{Kind}
 use Rattle.bitpacking.specs.declared.kind.Kind.TheVariants as blocks
 use Rattle.bitpacking.specs.Bits.{AreBytes}
 use Rattle.bitpacking.specs.Codes.{AreWords, codes, start}
-use Rattle.bitpacking.specs.Width.{Fits, Least, IsWidth}
+use Rattle.bitpacking.specs.Width.{Least}
 use Rattle.bitpacking.specs.Layout.{size, Holds, Layout}
 use Rattle.bitpacking.proofs.LawProofs.{one_block, one_least_width, fits_greater}
 use Rattle.bitpacking.proofs.Blocks.{length-codes}
@@ -17,8 +17,8 @@ use Rattle.bitpack.specs.Version1.{IsPart1, Blocks1, block_fault1, behind_block1
 use Rattle.bitpack.proofs.PartLemmas.{AreBytes-right, words_of, length-numbers}
 use Rattle.bitpack.proofs.LooseLemmas.{Layout-codes_of_bytes, Decides-loose}
 use Rattle.bitpack.proofs.ChainLemmas.{width_at_most_32}
-use Rattle.bitpack.proofs.TextLemmas.{same_front, next-same}
-use Rattle.bitpack.proofs.FaultLemmas.{IsRight, front-is, right_from_none, tail_from_none, blocks_left, no_blocks_left, none_first, right, tail_right}
+use Rattle.bitpack.proofs.TextLemmas.{same_front}
+use Rattle.bitpack.proofs.FaultLemmas.{IsRight, right_from_none, tail_from_none, blocks_left, no_blocks_left, none_first, right, tail_right}
 
 -- ---- one block without a fault
 

@@ -1,13 +1,12 @@
 -- Version 1: parts and texts are one for one block and one list, and each list has its text.
-use Rattle.std.proofs.Common.{◌≡◌, ℕ, zero, suc, ◌+◌, ◌-◌, ◌*◌, ◌^◌, ◌<◌, ◌≤◌, List, [], ◌∷◌, ◌++◌, All, length, take, drop, get_or, refl, sym, ◌∙◌, ap, arith, append_assoc, mul-suc}
-use Rattle.std.proofs.lemmas.List.{take_at, drop_at, length-take, length-drop, length-append, take-append-drop, take-append-le, get_or-take, append_cancel_left}
-use Rattle.std.proofs.lemmas.List.Elements.{All-take, All-drop, All-append}
-use Rattle.std.proofs.lemmas.Nat.{mul-le}
+use Rattle.std.proofs.Common.{◌≡◌, ℕ, zero, suc, ◌+◌, ◌-◌, ◌*◌, ◌^◌, ◌<◌, ◌≤◌, List, ◌∷◌, ◌++◌, length, take, drop, get_or, refl, sym, ◌∙◌, ap, arith, mul-suc}
+use Rattle.std.proofs.lemmas.List.{take_at, drop_at, length-take, length-drop, take-append-drop, get_or-take}
+use Rattle.std.proofs.lemmas.List.Elements.{All-take, All-drop}
 use Rattle.bitpacking.specs.declared.kind.Kind.{Kind}
 use Rattle.bitpacking.specs.Bits.{AreBytes}
 use Rattle.bitpacking.specs.Codes.{AreWords, codes}
-use Rattle.bitpacking.specs.Width.{Least, IsWidth}
-use Rattle.bitpacking.specs.Layout.{size, Holds}
+use Rattle.bitpacking.specs.Width.{IsWidth}
+use Rattle.bitpacking.specs.Layout.{size}
 use Rattle.bitpacking.proofs.Blocks.{length-codes, AreWords-codes}
 use Rattle.bitpacking.proofs.Widths.{Least-same}
 use Rattle.bitpacking.proofs.LawProofs.{one_layout_bytes, one_least_width}
@@ -15,7 +14,7 @@ use Rattle.bitpacking.proofs.RoundTrips.{bytes_hold_one_block, block_has_one_lis
 use Rattle.bitpack.specs.Chains.{second_kind}
 use Rattle.bitpack.specs.Parts.{numbers}
 use Rattle.bitpack.specs.Version1.{IsPart1, Blocks1}
-use Rattle.bitpack.proofs.PartLemmas.{AreBytes-append, AreBytes-cons, AreBytes-left, AreBytes-right, AreBytes-drop, AreBytes-numbers, same_numbers}
+use Rattle.bitpack.proofs.PartLemmas.{AreBytes-append, AreBytes-cons, AreBytes-left, AreBytes-right, AreBytes-numbers, same_numbers}
 
 -- ---- one block
 

@@ -8,7 +8,7 @@ use Rattle.bitpack.specs.declared.list_kind.ListKind.{ListKind}
 use Rattle.bitpack.specs.declared.list_error.ListError.{ListError}
 use Rattle.bitpack.specs.declared.list_error.ListError.TheVariants.{Short, BadWidth, LooseWidth, Trailing}
 use Rattle.bitpack.specs.Chains.{second_kind}
-use Rattle.bitpack.specs.Parts.{header, header_fault, numbers, number_at, whole_blocks, tail_values, first_kind, is_loose, BeginsWithHeader}
+use Rattle.bitpack.specs.Parts.{header_fault, numbers, number_at, whole_blocks, tail_values, first_kind, is_loose, BeginsWithHeader}
 
 -- ---- the text of a list
 

@@ -1,8 +1,9 @@
 //! Laws of the definitions, each the contract of a function that does nothing at run time, for generic code to call.
 //!
-//! The definitions stand in `specs/`: `Loose` and `Chained` in Chains.
+//! The definitions stand in `specs/`: `Loose` and `Chained` in Chains, `header`, `is_loose` and the other parts of packed
+//! lists in Parts, `List1` and `fault1` in Version1. The laws themselves are in Laws.
 
-ghost use Rattle.bitpack.specs.Laws.{ChainsReadBack};
+ghost use Rattle.bitpack.specs.Laws.{ChainsReadBack, LooseFitsSmaller, NoFault1, OneList1, OneText1};
 
 use bitpacking::laws::round_trips;
 
@@ -12,3 +13,12 @@ pub fn chains_read_back()
 {
     round_trips();
 }
+
+/// Values have at most one text of version 1, and a text is that of one kind and one list. Bytes have no fault exactly where
+/// they are a text; a fault in a width says that a smaller one holds the same codes.
+pub fn one_text()
+    ensures text { OneText1 }
+    ensures list { OneList1 }
+    ensures fault { NoFault1 }
+    ensures loose { LooseFitsSmaller }
+{}

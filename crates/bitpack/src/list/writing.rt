@@ -27,6 +27,9 @@ pub fn encode<P: BitPacker>(
     // Too many values are refused as such, and others only for want of memory.
     ensures long { 2 ^ 28 < length values.now → result ≡ Err (ListError.TooLong (length values.now)) }
     ensures memory { length values.now ≤ 2 ^ 28 → IfErr result (λ e. e ≡ ListError.Memory) }
+    // Memory is wanting only where the vector has no room for the text.
+    ensures room { length values.now ≤ 2 ^ 28 → OnErr result ((text : List ℕ) → List1 P.lanes kind values.now text
+        → vec_capacity out.old < vec_len out.old + length text) }
     ensures unchanged { OnErr result (out.new.items ≡ out.old.items) }
 {
     if values.len() > MOST_VALUES {

@@ -1,8 +1,7 @@
-use Rattle.std.proofs.Common.{◌≡◌, ◌+◌, ◌*◌, ◌<◌, ◌++◌, ◌∷◌, [], ℕ, List, length, take, get_or, sym, ◌∙◌, ap, append_assoc, arith, add-one}
+use Rattle.std.proofs.Common.{◌≡◌, ◌*◌, ◌<◌, ◌++◌, ◌∷◌, [], ℕ, List, length, take, get_or, ◌∙◌, ap, append_assoc, arith, add-one}
 use Rattle.std.proofs.Math.Seq.{take-suc}
 use Rattle.std.proofs.lemmas.List.{take_all}
-use Rattle.bitpacking.specs.Codes.{AreWords}
-use Rattle.bitpack.specs.Parts.{numbers, number_at}
+use Rattle.bitpack.specs.Parts.{number_at}
 use Rattle.bitpack.proofs.PartLemmas.{number_at-numbers, length-numbers}
 use Rattle.bitpack.proofs.little_endian.read_all.Goals as goal
 

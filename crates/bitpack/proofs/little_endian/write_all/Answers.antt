@@ -1,4 +1,4 @@
-use Rattle.std.proofs.Common.{◌≡◌, ◌++◌, ℕ, List, length, take, get_or, refl, sym, ◌∙◌, ap, append_assoc, arith}
+use Rattle.std.proofs.Common.{◌≡◌, ℕ, List, length, take, get_or, ap, append_assoc, arith}
 use Rattle.std.proofs.lemmas.List.{take_all}
 use Rattle.bitpack.specs.Parts.{four_bytes, numbers}
 use Rattle.bitpack.proofs.PartLemmas.{numbers_more, is_four_bytes, length-four_bytes}

@@ -1,5 +1,5 @@
-use Rattle.std.proofs.Common.{◌≡◌, refl, sym, arith, get_or}
-use Rattle.bitpack.specs.Parts.{kind_byte, number_at, BeginsWithHeader}
+use Rattle.std.proofs.Common.{◌≡◌, arith, get_or}
+use Rattle.bitpack.specs.Parts.{kind_byte}
 use Rattle.bitpack.proofs.HeaderLemmas.{header_from_bytes}
 use Rattle.bitpack.proofs.header.Header.read.Goals.{in-0, in-1, in-2}
 use Rattle.bitpack.proofs.header.Header.read.Goals as goal

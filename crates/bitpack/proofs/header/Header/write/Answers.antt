@@ -1,5 +1,5 @@
-use Rattle.std.proofs.Common.{◌≡◌, ◌++◌, ◌∷◌, [], ℕ, List, sym, ◌∙◌, ap, append_assoc, arith}
-use Rattle.bitpack.specs.Parts.{four_bytes, kind_byte, header}
+use Rattle.std.proofs.Common.{◌≡◌, ◌∷◌, [], append_assoc}
+use Rattle.bitpack.specs.Parts.{four_bytes, kind_byte}
 use Rattle.bitpack.proofs.PartLemmas.{is_four_bytes}
 use Rattle.bitpack.proofs.header.Header.write.Goals as goal
 

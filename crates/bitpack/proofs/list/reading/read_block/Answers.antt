@@ -1,9 +1,8 @@
-use Rattle.std.proofs.Common.{◌≡◌, ◌+◌, ◌-◌, ◌*◌, ◌≤◌, ◌++◌, ◌∷◌, ℕ, List, length, take, drop, get_or, refl, sym, ◌∙◌, ap, arith}
+use Rattle.std.proofs.Common.{◌≡◌, ◌+◌, ◌-◌, ◌*◌, ◌++◌, ℕ, List, length, take, drop, get_or, refl, sym, ◌∙◌, ap, arith}
 use Rattle.std.proofs.lemmas.List.{take_all, length-drop}
 use Rattle.bitpacking.specs.Codes.{AreWords}
 use Rattle.bitpacking.specs.Layout.{size}
 use Rattle.bitpacking.proofs.Blocks.{length-codes}
-use Rattle.bitpack.specs.Chains.{next_kind, second_kind}
 use Rattle.bitpack.specs.Version1.{behind_block1}
 use Rattle.bitpack.proofs.FaultLemmas.{IsRight}
 use Rattle.bitpack.proofs.PartLemmas.{AreWords-right}

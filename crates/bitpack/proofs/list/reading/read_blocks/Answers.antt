@@ -1,13 +1,11 @@
-use Rattle.std.proofs.Common.{◌≡◌, ◌+◌, ◌-◌, ◌*◌, ◌/◌, ◌%◌, ◌<◌, ◌≤◌, ◌++◌, ◌∷◌, ℕ, List, length, take, drop, get_or, None, refl, sym, ◌∙◌, ap, arith, vec_len, vec_capacity}
+use Rattle.std.proofs.Common.{◌≡◌, ◌+◌, ◌*◌, ◌/◌, ◌<◌, ◌≤◌, ◌++◌, ℕ, List, length, refl, sym, ◌∙◌, ap, arith}
 use Rattle.std.proofs.Math.Nat.{sub-zero}
 use Rattle.std.proofs.lemmas.List.{length-append, length-drop}
 use Rattle.std.proofs.lemmas.Nat.{mul-le}
-use Rattle.bitpacking.specs.Codes.{AreWords}
-use Rattle.bitpacking.specs.Layout.{size}
 use Rattle.bitpacking.proofs.Blocks.{length-codes}
-use Rattle.bitpack.specs.Parts.{first_kind, tail_values, whole_blocks}
-use Rattle.bitpack.specs.Version1.{Blocks1, blocks_fault1, behind_block1}
-use Rattle.bitpack.proofs.ReadSteps.{Read, read_step, read_done, right_left, tail_left, after_right}
+use Rattle.bitpack.specs.Parts.{first_kind, tail_values}
+use Rattle.bitpack.specs.Version1.{Blocks1}
+use Rattle.bitpack.proofs.ReadSteps.{read_step, read_done, right_left, tail_left, after_right}
 use Rattle.bitpack.proofs.list.reading.read_blocks.Goals as goal
 
 pub loop-init : goal.loop-init

@@ -1,5 +1,5 @@
 -- What is left has no fault and its values have room; with those that were read they are all values.
-use Rattle.std.proofs.Common.{◌≡◌, ◌+◌, ◌-◌, ◌*◌, ◌≤◌, ◌++◌, ℕ, List, length, vec_len, vec_capacity, None}
+use Rattle.std.proofs.Common.{◌≡◌, ◌+◌, ◌-◌, ◌*◌, ◌≤◌, ◌++◌, ℕ, List, vec_len, vec_capacity, None}
 use Rattle.bitpacking.specs.Codes.{AreWords}
 use Rattle.bitpack.specs.Parts.{first_kind, tail_values}
 use Rattle.bitpack.specs.Version1.{Blocks1, blocks_fault1}

@@ -1,9 +1,9 @@
-use Rattle.std.proofs.Common.{◌≡◌, ◌-◌, ◌+◌, ◌*◌, ◌/◌, ◌%◌, ◌<◌, ◌≤◌, ℕ, List, length, take, drop, Some, None, Option, refl, sym, ◌∙◌, ap, arith}
+use Rattle.std.proofs.Common.{◌≡◌, ◌-◌, ◌+◌, ◌*◌, ◌/◌, ◌%◌, ◌<◌, ◌≤◌, ℕ, List, length, take, drop, Some, None, refl, ◌∙◌, ap, arith}
 use Rattle.std.proofs.lemmas.List.{take_all, length-drop}
 use Rattle.std.proofs.lemmas.Result.{err_from_is_err_and}
 use Rattle.bitpack.specs.declared.list_kind.ListKind.{ListKind}
 use Rattle.bitpack.specs.declared.list_error.ListError.TheVariants.{Short}
-use Rattle.bitpack.specs.Parts.{header_fault, whole_blocks, tail_values, BeginsWithHeader}
+use Rattle.bitpack.specs.Parts.{header_fault, BeginsWithHeader}
 use Rattle.bitpack.specs.Version1.{fault1, body_fault1, blocks_fault1}
 use Rattle.bitpack.proofs.FaultLemmas.{header_first, body_next, body_short, body_blocks}
 use Rattle.bitpack.proofs.HeaderLemmas.{header_bytes}

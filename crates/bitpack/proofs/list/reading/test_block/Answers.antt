@@ -1,4 +1,4 @@
-use Rattle.std.proofs.Common.{◌≡◌, ◌-◌, ◌<◌, ◌≤◌, ◌∷◌, ℕ, List, length, take, drop, get_or, Bool, true, false, sym, ◌∙◌, ap, arith}
+use Rattle.std.proofs.Common.{◌≡◌, ◌-◌, ℕ, List, length, take, drop, get_or, true, false, sym, ◌∙◌, ap}
 use Rattle.bitpacking.specs.Layout.{size}
 use Rattle.bitpack.specs.Parts.{is_loose}
 use Rattle.bitpack.proofs.FaultLemmas.{front-is, no_byte, wide, missing, loose, right}

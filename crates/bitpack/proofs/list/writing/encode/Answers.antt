@@ -1,9 +1,9 @@
-use Rattle.std.proofs.Common.{◌≡◌, ◌+◌, ◌*◌, ◌/◌, ◌<◌, ◌≤◌, ◌++◌, ◌^◌, ℕ, List, length, refl, sym, subst, ◌∙◌, ap, arith, append_assoc, vec_len, vec_capacity}
+use Rattle.std.proofs.Common.{◌≡◌, ◌/◌, ◌<◌, ◌++◌, ◌^◌, ℕ, List, length, sym, ◌∙◌, ap, arith, append_assoc}
 use Rattle.std.proofs.lemmas.List.{length-append}
 use Rattle.std.proofs.lemmas.List.Elements.{All-from_get_or}
 use Rattle.bitpacking.specs.Codes.{AreWords}
 use Rattle.bitpack.specs.Parts.{header, whole_blocks, first_kind}
-use Rattle.bitpack.specs.Version1.{Blocks1, List1}
+use Rattle.bitpack.specs.Version1.{Blocks1}
 use Rattle.bitpack.proofs.ListLemmas.{length-header, lanes-is, List1-from_blocks, behind_of, on_ok}
 use Rattle.bitpack.proofs.list.writing.encode.Goals as goal
 

@@ -1,13 +1,12 @@
-use Rattle.std.proofs.Common.{◌≡◌, ◌+◌, ◌-◌, ◌*◌, ◌/◌, ◌<◌, ◌≤◌, ℕ, List, length, take, drop, get_or, refl, sym, ◌∙◌, ap, arith}
+use Rattle.std.proofs.Common.{◌≡◌, ◌*◌, ◌/◌, ◌≤◌, ℕ, List, length, take, drop, refl, ◌∙◌, ap, arith}
 use Rattle.std.proofs.lemmas.List.{length-drop}
 use Rattle.std.proofs.lemmas.Nat.{mul-le}
 use Rattle.std.proofs.Math.Nat.{sub-zero}
-use Rattle.bitpacking.specs.Layout.{size}
 use Rattle.bitpack.specs.Chains.{second_kind}
 use Rattle.bitpack.specs.Parts.{first_kind}
 use Rattle.bitpack.specs.Version1.{Blocks1}
 use Rattle.bitpack.proofs.HeaderLemmas.{header_bytes}
-use Rattle.bitpack.proofs.WriteSteps.{Behind, block-left, left-more, last-block, behind_step, behind_done}
+use Rattle.bitpack.proofs.WriteSteps.{block-left, left-more, last-block, behind_step, behind_done}
 use Rattle.bitpack.proofs.list.writing.text_len.Goals as goal
 
 pub loop-init : goal.loop-init

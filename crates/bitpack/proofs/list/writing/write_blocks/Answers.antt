@@ -1,4 +1,4 @@
-use Rattle.std.proofs.Common.{◌≡◌, ◌+◌, ◌-◌, ◌*◌, ◌/◌, ◌<◌, ◌≤◌, ◌++◌, ◌^◌, ℕ, List, length, take, drop, get_or, refl, sym, subst, ◌∙◌, ap, arith, vec_len, vec_capacity}
+use Rattle.std.proofs.Common.{◌≡◌, ◌+◌, ◌*◌, ◌/◌, ◌<◌, ◌≤◌, ◌++◌, ◌^◌, ℕ, List, length, take, drop, refl, sym, subst, ◌∙◌, ap, arith, vec_len, vec_capacity}
 use Rattle.std.proofs.lemmas.List.{length-drop, length-append}
 use Rattle.std.proofs.Math.Nat.{sub-zero}
 use Rattle.std.proofs.lemmas.List.Elements.{All-from_get_or}
@@ -9,7 +9,7 @@ use Rattle.bitpack.specs.Chains.{second_kind}
 use Rattle.bitpack.specs.Parts.{whole_blocks}
 use Rattle.bitpack.specs.Version1.{Blocks1}
 use Rattle.bitpack.proofs.TextLemmas.{blocks_of}
-use Rattle.bitpack.proofs.WriteSteps.{Written, block-left, left-more, last-block, written_step, written_room, written_tail, written_tail_room}
+use Rattle.bitpack.proofs.WriteSteps.{block-left, left-more, last-block, written_step, written_room, written_tail, written_tail_room}
 use Rattle.bitpack.proofs.list.writing.write_blocks.Goals as goal
 
 pub loop-init : goal.loop-init
