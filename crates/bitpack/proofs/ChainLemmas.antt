@@ -1,21 +1,21 @@
 -- A chain grows by a block at its end, and is read back.
-use Rattle.std.proofs.Common.{◌≡◌, ℕ, ◌+◌, ◌-◌, ◌*◌, ◌%◌, ◌^◌, ◌<◌, ◌≤◌, List, [], ◌∷◌, ◌++◌, map, length, take, drop, get_or, sum, refl, sym, ◌∙◌, ap, arith, append_assoc}
-use Rattle.std.specs.Prelude.{unwrap_or}
-use Rattle.std.proofs.lemmas.List.{take_at, drop_at, get_or_append_left, get_or-take, append-nil, take-append-drop, length-take, length-drop, drop-drop, take_all, drop_all}
+use Rattle.std.proofs.Common.{◌≡◌, ℕ, ◌+◌, ◌-◌, ◌*◌, ◌%◌, ◌^◌, ◌<◌, ◌≤◌, List, [], ◌∷◌, ◌++◌, map, All, length, take, drop, get_or, set, sum, add-one, refl, sym, ◌∙◌, ap, arith, append_assoc}
+use Rattle.std.specs.Prelude.{⊤, unwrap_or}
+use Rattle.std.proofs.lemmas.List.{take_at, drop_at, get_or_append_left, get_or-take, append-nil, take-append-drop, length-take, length-drop, drop-drop, take_all, drop_all, take-append-le}
 use Rattle.std.proofs.lemmas.List.Sums.{sum_by-append, sum_by-take-drop}
 use Rattle.std.proofs.lemmas.Nat.{mul-le}
 use Rattle.std.proofs.lemmas.Slice.{take-put_mid, drop-put_mid}
-use Rattle.std.proofs.Math.Seq.{take-add}
-use borrow.Rule.Slice.PartMut.{put_mid}
+use Rattle.std.proofs.Math.Seq.{take-add, take-suc, take-suc-set}
+use borrow.Rule.Slice.PartMut.{put_mid, post_of}
 use Rattle.std.proofs.lemmas.List.Elements.{All-nil, All-cons, All-take, All-drop}
 use Rattle.bitpacking.specs.declared.kind.Kind.{Kind}
 use Rattle.bitpacking.specs.declared.kind.Kind.TheVariants.{Plain, Sorted, StrictlySorted}
 use Rattle.bitpacking.specs.Deltas.{differences}
 use Rattle.bitpacking.specs.Codes.{AreWords, codes, one_less}
-use Rattle.bitpacking.specs.Width.{IsWidth}
+use Rattle.bitpacking.specs.Width.{Fits, Least, IsWidth}
 use Rattle.bitpacking.specs.Layout.{Holds, size}
 use Rattle.bitpacking.specs.Laws.{OneLeastWidth, BytesHoldOneBlock}
-use Rattle.bitpack.specs.Chains.{next_kind, second_kind, Loose, LeastWidths}
+use Rattle.bitpack.specs.Chains.{next_kind, second_kind, Loose, LeastWidths, Chained}
 use Rattle.bitpack.specs.Laws.{ChainsReadBack}
 
 -- Codes are words, so that a least width is at most 32.

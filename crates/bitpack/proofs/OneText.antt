@@ -35,11 +35,15 @@ list_from_none lanes count kind bytes some small begins none =
     let right = behind_from_none lanes count kind bytes begins none in
     let found = values_from_none lanes (tail_values lanes count) (whole_blocks lanes count) 0 (first_kind kind) (drop 7 bytes) some (start-first kind)
     (AreBytes-drop 7 bytes small) right in
-    let long : length found.0 ≡ count = omega (arith, found.2) in
-    (found.0, found.1, long, record {
-      begins = subst (λ n. BeginsWithHeader 1 lanes kind n bytes) (sym long) begins;
-      behind = subst (λ n. Blocks1 lanes (whole_blocks lanes n) (first_kind kind) found.0 (drop 7 bytes)) (sym long) found.3;
-    })
+    let long : length found.0 ≡ count = omega (arith, found.2) in (
+      found.0,
+      found.1,
+      long,
+      record {
+        begins = subst (λ n. BeginsWithHeader 1 lanes kind n bytes) (sym long) begins;
+        behind = subst (λ n. Blocks1 lanes (whole_blocks lanes n) (first_kind kind) found.0 (drop 7 bytes)) (sym long) found.3;
+      },
+    )
 
 -- A text has no fault.
 pub none_from_list : (lanes : ℕ) (kind : ListKind) (values bytes : List ℕ) → 1 ≤ lanes → AreWords values → List1 lanes kind values bytes
@@ -78,11 +82,10 @@ one_list1 lanes kind kind' values others text some words words' one two =
     let same : kind' ≡ kind = kind_byte-same kind' kind (sym second.kind_is ∙ first.kind_is) in
     let long : length others ≡ length values = sym second.count_is ∙ first.count_is in
     let blocks : Blocks1 lanes (whole_blocks lanes (length values)) (first_kind kind') others (drop 7 text) =
-    subst (λ n. Blocks1 lanes (whole_blocks lanes n) (first_kind kind') others (drop 7 text)) long two.behind in
-    (
+    subst (λ n. Blocks1 lanes (whole_blocks lanes n) (first_kind kind') others (drop 7 text)) long two.behind in (
       same,
       same_values lanes (whole_blocks lanes (length values)) (first_kind kind) (first_kind kind') values others (drop 7 text) some (ap first_kind same)
-      words words' one.behind blocks,
+          words words' one.behind blocks,
     )
 
 pub no_fault1 : NoFault1

@@ -7,6 +7,8 @@
 mod chains;
 mod fakes;
 mod faults;
+mod list_memory;
+mod lists;
 
 use super::run;
 use fakes::{Giver, Letters, Taker};

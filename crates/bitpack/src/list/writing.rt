@@ -1,6 +1,6 @@
 //! Lists into their texts.
 
-ghost use Rattle.std.specs.Prelude.{◌≡◌, ◌+◌, ◌*◌, ◌/◌, ◌^◌, ◌<◌, ◌≤◌, ◌∷◌, ◌++◌, ℕ, List, length, drop, OnOk, OnErr, IfErr, vec_len, vec_capacity};
+ghost use Rattle.std.specs.Prelude.{◌≡◌, ◌+◌, ◌^◌, ◌<◌, ◌≤◌, ◌++◌, ℕ, List, length, OnOk, OnErr, IfErr, vec_len, vec_capacity};
 ghost use Rattle.bitpacking.specs.Bits.{AreBytes};
 ghost use Rattle.bitpack.specs.Parts.{whole_blocks};
 ghost use Rattle.bitpack.specs.Version1.{Blocks1, IsPart1, List1};
@@ -9,8 +9,8 @@ use crate::chain::{compress_kind, next_kind, width_kind};
 use crate::header::{Header, MOST_VALUES};
 use crate::list_error::ListError;
 use crate::list_kind::ListKind;
-use crate::room::append;
 use crate::little_endian::write_all;
+use crate::room::append;
 use bitpacking::{BitPacker, Kind};
 
 /// Appends the text of the values. In every kind they may stand in any order.

@@ -99,7 +99,7 @@ fn each_outcome_has_its_ending(rt: HostRuntime) -> Result<(), Fail> {
 }
 
 /// Takes all the memory that there is to take, in blocks of falling size, until even a byte is refused.
-fn take_all(alloc: Global) -> Result<Vec<Vec<u8>>, AllocError> {
+pub fn take_all(alloc: Global) -> Result<Vec<Vec<u8>>, AllocError> {
     let mut blocks = Vec::with_capacity(alloc, 100_000)?;
     let mut size = 1usize << 46;
     for _ in 0..200_000u32 {

@@ -1,7 +1,8 @@
-use Rattle.std.proofs.Common.{◌≡◌, ℕ, ◌+◌, ◌-◌, ◌*◌, ◌≤◌, List, ◌∷◌, [], ◌++◌, length, take, drop, get_or, set, add-one, sym, ◌∙◌, ap, arith}
+use Rattle.std.proofs.Common.{◌≡◌, ℕ, ◌+◌, ◌-◌, ◌*◌, ◌<◌, ◌≤◌, List, ◌∷◌, [], ◌++◌, length, take, drop, get_or, set, sum, add-one, refl, sym, ◌∙◌, ap, arith}
 use Rattle.std.proofs.Math.Seq.{take-suc-set}
 use Rattle.std.proofs.lemmas.List.{take_all, length-take, length-drop}
 use Rattle.std.proofs.lemmas.Nat.{mul-le}
+use Rattle.bitpacking.specs.Layout.{size}
 use Rattle.bitpack.specs.Chains.{next_kind}
 use Rattle.bitpack.proofs.ChainLemmas.{Loose_step, LeastWidths_step, Loose_done, LeastWidths_done, take-block, length-block, take-put_end, drop-put_end, drop-further, sum-more, bound-more}
 use Rattle.bitpack.proofs.chain.pack_all.Goals as goal

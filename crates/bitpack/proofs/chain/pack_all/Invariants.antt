@@ -1,5 +1,5 @@
 -- The blocks before this one are a chain of least widths.
-use Rattle.std.proofs.Common.{◌≡◌, ◌*◌, ◌≤◌, take, drop, sum}
+use Rattle.std.proofs.Common.{◌≡◌, ℕ, ◌*◌, ◌≤◌, length, take, drop, sum}
 use Rattle.bitpack.proofs.ChainLemmas.{LooseSoFar, LeastSoFar}
 use Rattle.bitpack.proofs.chain.pack_all.Given as goal
 

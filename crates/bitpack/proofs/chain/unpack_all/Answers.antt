@@ -1,7 +1,9 @@
-use Rattle.std.proofs.Common.{◌≡◌, ℕ, ◌+◌, ◌-◌, ◌*◌, ◌<◌, ◌≤◌, List, ◌∷◌, [], ◌++◌, length, take, drop, get_or, sum, add-one, refl, ◌∙◌, ap, arith}
+use Rattle.std.proofs.Common.{◌≡◌, ℕ, ◌+◌, ◌-◌, ◌*◌, ◌<◌, ◌≤◌, List, ◌∷◌, [], ◌++◌, All, length, take, drop, get_or, sum, add-one, refl, sym, ◌∙◌, ap, arith}
 use Rattle.std.proofs.Math.Seq.{take-add, take-suc}
 use Rattle.std.proofs.lemmas.List.{take_all, length-take, length-drop}
 use Rattle.std.proofs.lemmas.Nat.{mul-le}
+use Rattle.std.proofs.lemmas.Slice.{take-put_mid, drop-put_mid}
+use borrow.Rule.Slice.PartMut.{put_mid}
 use Rattle.bitpacking.specs.Layout.{size}
 use Rattle.bitpack.specs.Chains.{next_kind}
 use Rattle.bitpack.proofs.ChainLemmas.{Loose_step, Loose_done, drop-further, sum-more, sum-prefix, take-put_block, drop-put_block}

@@ -1,5 +1,5 @@
 -- The blocks before this one are a chain.
-use Rattle.std.proofs.Common.{◌≡◌, ◌*◌, take, drop, sum}
+use Rattle.std.proofs.Common.{◌≡◌, ℕ, ◌*◌, ◌≤◌, length, take, drop, sum}
 use Rattle.bitpack.proofs.ChainLemmas.{LooseSoFar}
 use Rattle.bitpack.proofs.chain.unpack_all.Given as goal
 
