@@ -100,9 +100,8 @@ header_from_fault version lanes bytes small none =
     let three = passed _ _ _ two.1 in
     let four = passed _ _ _ three.1 in
     let five = passed _ _ _ four.1 in
-    let found = kind_of (get_or bytes 1 0) (ltb-false _ _ three.0) in
-    (
+    let found = kind_of (get_or bytes 1 0) (ltb-false _ _ three.0) in (
       found.0,
       header_from_bytes version lanes found.0 bytes small (ltb-false _ _ one.0) (eqb-true _ _ (not-false _ two.0)) found.1
-      (eqb-true _ _ (not-false _ four.0)) (ltb-false _ _ five.0),
+          (eqb-true _ _ (not-false _ four.0)) (ltb-false _ _ five.0),
     )

@@ -1,5 +1,5 @@
 -- Version 1: a header before blocks and tail is a text.
-use Rattle.std.proofs.Common.{◌≡◌, ℕ, ◌*◌, ◌/◌, ◌^◌, ◌≤◌, List, ◌++◌, length, false, Result, Ok, Err, OnOk, is_err, arith}
+use Rattle.std.proofs.Common.{◌≡◌, ℕ, ◌*◌, ◌/◌, ◌^◌, ◌≤◌, List, ◌++◌, length, true, false, Result, Ok, Err, OnOk, OnErr, is_err, arith}
 use Rattle.std.proofs.lemmas.List.{take_at, drop_at}
 use Rattle.bitpacking.specs.Bits.{AreBytes}
 use Rattle.bitpacking.specs.Codes.{AreWords}
@@ -31,6 +31,10 @@ behind_of lanes kind values some words = blocks_of lanes (whole_blocks lanes (le
 pub on_ok : {A E P : Type 0} (result : Result A E) → is_err result ≡ false → OnOk result P → P
 on_ok (Ok x) e holds = holds
 on_ok (Err x) e holds = absurd cc
+
+pub on_err : {A E P : Type 0} (result : Result A E) → is_err result ≡ true → OnErr result P → P
+on_err (Ok x) e holds = absurd cc
+on_err (Err x) e holds = holds
 
 pub lanes-is : (lanes len : ℕ) → len ≡ 32 * lanes → len / 32 ≡ lanes
 lanes-is lanes len e = omega arith

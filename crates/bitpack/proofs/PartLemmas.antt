@@ -131,8 +131,7 @@ words_of zero (b ∷ bytes) small long = absurd (omega arith)
 words_of (suc n) bytes small long =
     let rest : length (drop 4 bytes) ≡ 4 * n = simp length-drop (omega arith) in
     let found = words_of n (drop 4 bytes) (AreBytes-drop 4 bytes small) rest in
-    let front : four_bytes (number_at bytes 0) ≡ take 4 bytes = four_bytes-number_at bytes 0 small (omega arith) in
-    (
+    let front : four_bytes (number_at bytes 0) ≡ take 4 bytes = four_bytes-number_at bytes 0 small (omega arith) in (
       number_at bytes 0 ∷ found.0,
       All-cons (λ v. v < 2 ^ 32) (number_at bytes 0) found.0 (number_at-lt bytes 0 small) found.1,
       ap suc found.2,

@@ -53,11 +53,11 @@ module _ (lanes : ℕ) (kind : Kind) (block bytes : List ℕ) (is : IsRight lane
   pub right_parts : bytes ≡ right_part ++ behind_block1 lanes bytes
   unfolding right_part
   right_parts = parts bytes is.some
-      where
-    parts : (bytes : List ℕ) → 1 ≤ length bytes
-        → bytes ≡ (get_or bytes 0 0 ∷ take (size lanes (get_or bytes 0 0)) (drop 1 bytes)) ++ behind_block1 lanes bytes
-    parts [] some = absurd (omega arith)
-    parts (width ∷ rest) some = ap (λ zs. width ∷ zs) (sym (take-append-drop (size lanes width) rest))
+    where
+      parts : (bytes : List ℕ) → 1 ≤ length bytes
+          → bytes ≡ (get_or bytes 0 0 ∷ take (size lanes (get_or bytes 0 0)) (drop 1 bytes)) ++ behind_block1 lanes bytes
+      parts [] some = absurd (omega arith)
+      parts (width ∷ rest) some = ap (λ zs. width ∷ zs) (sym (take-append-drop (size lanes width) rest))
 
 -- A block whose part is there has no fault.
 pub right_from_part : (lanes index : ℕ) (kind : Kind) (block part rest : List ℕ) → AreWords block → IsPart1 lanes kind block part
@@ -66,10 +66,9 @@ right_from_part lanes index kind block part rest words is =
     let whole : part ++ rest ≡ is.width ∷ (is.body ++ rest) = ap (λ zs. zs ++ rest) is.parts in
     let long : length is.body ≡ size lanes is.width = is.holds.byte_count in
     let front : take (size lanes is.width) (is.body ++ rest) ≡ is.body = take_at is.body rest (size lanes is.width) long in
-    let tight : is_loose lanes is.width is.body ≡ false = tight_from_least lanes is.width (codes kind block) is.body is.holds is.least in
-    (
+    let tight : is_loose lanes is.width is.body ≡ false = tight_from_least lanes is.width (codes kind block) is.body is.holds is.least in (
       right lanes index is.width (part ++ rest) (is.body ++ rest) whole (width_at_most_32 one_least_width kind block is.width words is.least)
-      (omega (arith, length-append is.body rest)) (ap (is_loose lanes is.width) front ∙ tight),
+          (omega (arith, length-append is.body rest)) (ap (is_loose lanes is.width) front ∙ tight),
       ap (behind_block1 lanes) whole ∙ drop_at is.body rest (size lanes is.width) long,
     )
 
@@ -111,8 +110,7 @@ values_from_none lanes tail (suc count) block kind bytes some small bytes_small 
     let last_small : last < 2 ^ 32 = All-get_or (λ v. v < 2 ^ 32) one.0 (n - 1) 0 (omega arith) one.1 in
     let more = values_from_none lanes tail count (block + 1) (next_kind kind last) behind some (start-next kind last last_small)
     (AreBytes-right part behind (rw parts at bytes_small)) both.1 in
-    let same_last : get_or (one.0 ++ more.0) (n - 1) 0 ≡ last = get_or_append_left one.0 more.0 0 (n - 1) (omega arith) in
-    (
+    let same_last : get_or (one.0 ++ more.0) (n - 1) 0 ≡ last = get_or_append_left one.0 more.0 0 (n - 1) (omega arith) in (
       one.0 ++ more.0,
       All-append (λ v. v < 2 ^ 32) one.0 more.0 one.1 more.1,
       omega (arith, length-append one.0 more.0, more.2, mul-suc n count),
@@ -138,8 +136,7 @@ none_from_values lanes tail (suc count) block kind values bytes words long (part
     let here = right_from_part lanes block kind (take n values) part rest (All-take P n values words) is in
     let left : length (drop n values) ≡ n * count + tail = simp length-drop (omega (arith, mul-suc n count)) in
     let behind = none_from_values lanes tail count (block + 1) (second_kind lanes kind values) (drop n values) rest (All-drop P n values words) left more in
-    let part_long : 1 ≤ length part = omega (arith, ap length is.parts) in
-    (
+    let part_long : 1 ≤ length part = omega (arith, ap length is.parts) in (
       rw (e, here.0, here.1) behind.0,
       omega (arith, ap length e, length-append part rest, behind.1),
     )

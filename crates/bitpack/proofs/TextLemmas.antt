@@ -56,8 +56,7 @@ same_front lanes kind one other part part' rest rest' words words' a b e =
     let body : a.body ≡ b.body =
     sym (take_at a.body rest n a.holds.byte_count) ∙ ap (take n) behind ∙ take_at b.body rest' n long in
     let after : rest ≡ rest' =
-    sym (drop_at a.body rest n a.holds.byte_count) ∙ ap (drop n) behind ∙ drop_at b.body rest' n long in
-    (
+    sym (drop_at a.body rest n a.holds.byte_count) ∙ ap (drop n) behind ∙ drop_at b.body rest' n long in (
       bytes_hold_one_block lanes a.width kind other one a.body words' words (rw (width, body) b.holds) a.holds,
       a.parts ∙ rw (width, body) (sym b.parts),
       after,
@@ -70,8 +69,7 @@ part_of lanes kind block some words long =
     let least = one_least_width (codes kind block) (AreWords-codes kind block words) in
     let count : length (codes kind block) ≡ 32 * lanes = length-codes kind block ∙ long in
     let found = one_layout_bytes lanes least.0 (codes kind block) some count least.2.fits in
-    let narrow : least.0 ≤ 32 = least.1 in
-    (
+    let narrow : least.0 ≤ 32 = least.1 in (
       least.0 ∷ found.0,
       AreBytes-cons least.0 found.0 (omega arith) found.1,
       record { width = least.0; body = found.0; least = least.2; holds = found.2; parts = refl },

@@ -71,13 +71,22 @@ impl fmt::Display for ListError {
                 write!(f, "block {block} has width {width}, above 32")
             }
             ListError::LooseWidth(block, width) => {
-                write!(f, "block {block} has width {width}, and a smaller one holds it")
+                write!(
+                    f,
+                    "block {block} has width {width}, and a smaller one holds it"
+                )
             }
             ListError::BadOffset(block) => {
-                write!(f, "the offset of block {block} is not the sum of the widths before it")
+                write!(
+                    f,
+                    "the offset of block {block} is not the sum of the widths before it"
+                )
             }
             ListError::BadLast(block) => {
-                write!(f, "block {block} ends with another value than its entry says")
+                write!(
+                    f,
+                    "block {block} ends with another value than its entry says"
+                )
             }
             ListError::NotSorted(position) => {
                 write!(f, "the value at position {position} is out of order")

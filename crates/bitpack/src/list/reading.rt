@@ -1,18 +1,18 @@
 //! Texts into their lists. The bytes may be anyone's.
 
-ghost use Rattle.std.specs.Prelude.{◌≡◌, ◌+◌, ◌-◌, ◌*◌, ◌/◌, ◌%◌, ◌^◌, ◌<◌, ◌≤◌, ◌∷◌, ◌++◌, ℕ, List, length, take, drop, slice_index, OnOk, OnErr, IfOk, IfErr, MatchOption, false, None, Some, vec_len, vec_capacity};
+ghost use Rattle.std.specs.Prelude.{◌≡◌, ◌+◌, ◌*◌, ◌<◌, ◌≤◌, ◌++◌, ℕ, List, length, take, drop, slice_index, OnOk, OnErr, IfOk, IfErr, MatchOption, false, None, vec_len, vec_capacity};
 ghost use Rattle.bitpacking.specs.Layout.{size};
 ghost use Rattle.bitpacking.specs.Codes.{AreWords};
 ghost use Rattle.bitpack.specs.Chains.{second_kind};
-ghost use Rattle.bitpack.specs.Parts.{BeginsWithHeader, Finds, first_kind, is_loose, tail_values, whole_blocks};
+ghost use Rattle.bitpack.specs.Parts.{BeginsWithHeader, Finds, first_kind, is_loose, number_at, tail_values, whole_blocks};
 ghost use Rattle.bitpack.specs.Version1.{Blocks1, IsPart1, List1, behind_block1, block_fault1, blocks_fault1, fault1};
 
 use crate::chain::{decompress_kind, next_kind};
 use crate::header::Header;
 use crate::list_error::ListError;
 use crate::list_kind::ListKind;
-use crate::room::append;
 use crate::little_endian::read_all;
+use crate::room::append;
 use bitpacking::{BitPacker, Kind};
 
 /// Appends the values of a text and returns its kind.
@@ -28,6 +28,8 @@ pub fn decode<P: BitPacker>(
     ensures ok { IfOk result (λ kind. (values : List ℕ) × List1 P.lanes kind values bytes.now × (out.new.items ≡ out.old.items ++ values)) }
     // A text with a fault is refused for the first, and one without only for want of memory.
     ensures err { MatchOption (fault1 P.lanes bytes.now) (IfErr result (λ e. e ≡ ListError.Memory)) (λ fault. result ≡ Err fault) }
+    // Memory is wanting only where the vector has no room for the values.
+    ensures room { fault1 P.lanes bytes.now ≡ None → OnErr result (vec_capacity out.old < vec_len out.old + number_at bytes.now 3) }
     ensures unchanged { OnErr result (out.new.items ≡ out.old.items) }
 {
     let header = test(packer, bytes)?;
@@ -99,17 +101,17 @@ fn test_block<'a, P: BitPacker>(
         return Err(ListError::Short);
     }
     let (body, rest) = rest.split_at(size);
-    if is_loose(packer, width, body) {
+    if fits_smaller(packer, width, body) {
         return Err(ListError::LooseWidth(block, width));
     }
     Ok(rest)
 }
 
 /// Whether the codes of a block fit a smaller width. Their kind and start do not matter: as a plain block they are its values.
-fn is_loose<P: BitPacker>(packer: &P, width: u8, body: &[u8]) -> bool
+fn fits_smaller<P: BitPacker>(packer: &P, width: u8, body: &[u8]) -> bool
     requires width { width ≤ 32 }
     requires body { length body.now ≡ size P.lanes width }
-    ensures { result ≡ Rattle.bitpack.specs.Parts.is_loose P.lanes width body.now }
+    ensures { result ≡ is_loose P.lanes width body.now }
 {
     let mut block = [0; 256];
     packer.decompress(body, &mut block, width);
@@ -140,7 +142,7 @@ fn read_block<'a, P: BitPacker>(
 ) -> (Kind, &'a [u8])
     requires width { slice_index bytes.now 0 ≤ 32 }
     requires body { 1 + size P.lanes (slice_index bytes.now 0) ≤ length bytes.now }
-    requires least { Rattle.bitpack.specs.Parts.is_loose P.lanes (slice_index bytes.now 0) (take (size P.lanes (slice_index bytes.now 0)) (drop 1 bytes.now)) ≡ false }
+    requires least { is_loose P.lanes (slice_index bytes.now 0) (take (size P.lanes (slice_index bytes.now 0)) (drop 1 bytes.now)) ≡ false }
     requires room { vec_len out.old + P.BLOCK_LEN ≤ vec_capacity out.old }
     ensures block { (block : List ℕ) × (part : List ℕ) × AreWords block × IsPart1 P.lanes kind block part × (bytes.now ≡ part ++ result.1.now)
         × (out.new.items ≡ out.old.items ++ block) × (result.0 ≡ second_kind P.lanes kind block) }

@@ -1,6 +1,6 @@
 //! Lists into their texts.
 
-ghost use Rattle.std.specs.Prelude.{◌≡◌, ◌+◌, ◌*◌, ◌/◌, ◌^◌, ◌<◌, ◌≤◌, ◌∷◌, ◌++◌, ℕ, List, length, drop, OnOk, OnErr, IfErr, vec_len, vec_capacity};
+ghost use Rattle.std.specs.Prelude.{◌≡◌, ◌+◌, ◌^◌, ◌<◌, ◌≤◌, ◌++◌, ℕ, List, length, OnOk, OnErr, IfErr, vec_len, vec_capacity};
 ghost use Rattle.bitpacking.specs.Bits.{AreBytes};
 ghost use Rattle.bitpack.specs.Parts.{whole_blocks};
 ghost use Rattle.bitpack.specs.Version1.{Blocks1, IsPart1, List1};
@@ -9,8 +9,8 @@ use crate::chain::{compress_kind, next_kind, width_kind};
 use crate::header::{Header, MOST_VALUES};
 use crate::list_error::ListError;
 use crate::list_kind::ListKind;
-use crate::room::append;
 use crate::little_endian::write_all;
+use crate::room::append;
 use bitpacking::{BitPacker, Kind};
 
 /// Appends the text of the values. In every kind they may stand in any order.
@@ -27,6 +27,9 @@ pub fn encode<P: BitPacker>(
     // Too many values are refused as such, and others only for want of memory.
     ensures long { 2 ^ 28 < length values.now → result ≡ Err (ListError.TooLong (length values.now)) }
     ensures memory { length values.now ≤ 2 ^ 28 → IfErr result (λ e. e ≡ ListError.Memory) }
+    // Memory is wanting only where the vector has no room for the text.
+    ensures room { length values.now ≤ 2 ^ 28 → OnErr result ((text : List ℕ) → List1 P.lanes kind values.now text
+        → vec_capacity out.old < vec_len out.old + length text) }
     ensures unchanged { OnErr result (out.new.items ≡ out.old.items) }
 {
     if values.len() > MOST_VALUES {

@@ -9,7 +9,7 @@ returns-clause-header c =
     let bytes = c.args.bytes.now in
     let kind : get_or bytes 1 0 ≡ kind_byte c.match-bytes.kind =
     elim c.match-bytes.branch [
-      in-0 w ↦ rw w.kind-is w.in-0.is
+      | in-0 w ↦ rw w.kind-is w.in-0.is
       | in-1 w ↦ rw w.kind-is w.in-1.is
       | in-2 w ↦ rw w.kind-is w.in-2.is
     ] in

@@ -4,7 +4,8 @@ use Rattle.std.proofs.lemmas.Result.{err_from_is_err_and}
 use Rattle.bitpacking.specs.Bits.{AreBytes}
 use Rattle.bitpack.specs.Parts.{whole_blocks, first_kind}
 use Rattle.bitpack.specs.Version1.{Blocks1}
-use Rattle.bitpack.proofs.ListLemmas.{on_ok}
+use Rattle.bitpack.proofs.ListLemmas.{on_ok, on_err}
+use Rattle.bitpack.proofs.HeaderLemmas.{header_bytes}
 use Rattle.bitpack.proofs.OneText.{behind_from_none, list_from_none}
 use Rattle.bitpack.proofs.list.reading.decode.Goals as goal
 
@@ -15,6 +16,13 @@ returns-in_err-header-clause-err g c =
 
 pub returns-then-is_err-clause-err : goal.returns-then-is_err-clause-err
 returns-then-is_err-clause-err g c = rw c.in_ok-header.ensures.fault refl
+
+pub returns-then-is_err-clause-room : goal.returns-then-is_err-clause-room
+returns-then-is_err-clause-room g c = λ none.
+    let header = c.in_ok-header.header in
+    let found = header_bytes 1 g.P.BitPacker.lanes header.kind header.count c.args.bytes.now c.in_ok-header.ensures.header in
+    let full = on_err c.reserve.result (sym c.is_err.ensures.value ∙ c.if-is_err.true) c.reserve.ensures.full in
+    omega (arith, full, found.count_is)
 
 pub read_blocks-requires : goal.read_blocks-requires
 read_blocks-requires g c =

@@ -32,8 +32,7 @@ returns-clause-block g c =
     let behind : take (length bytes - (1 + taken)) (drop (1 + taken) bytes) ≡ behind_block1 lanes bytes =
     behind-is lanes taken bytes is.some c.decompress_kind-size.ensures.size in
     let items : c.append.new.out.items ≡ c.args.out.now.items ++ block = c.append.ensures.items ∙ ap (λ zs. c.args.out.now.items ++ zs) whole in
-    let words : AreWords (c.args.out.now.items ++ block) = rw items at c.type_inv.out in
-    (
+    let words : AreWords (c.args.out.now.items ++ block) = rw items at c.type_inv.out in (
       block,
       part,
       AreWords-right c.args.out.now.items block words,

@@ -49,8 +49,16 @@ loop-preserved g c =
     let length_of : length block ≡ 32 * lanes = sym (length-codes c.loop.kind block) ∙ is.holds.code_count in
     record {
       right = rw (after_right lanes i c.loop.kind block part c.read_block.result.1.now rest words is parts) at right.1;
-      room = omega (arith, length_of, ap length items, length-append c.loop.out.items block, c.read_block.new.out.ok, c.loop.out.ok,
-          c.read_block.ensures.capacity, c.loop.invariant.room);
+      room = omega (
+        arith,
+        length_of,
+        ap length items,
+        length-append c.loop.out.items block,
+        c.read_block.new.out.ok,
+        c.loop.out.ok,
+        c.read_block.ensures.capacity,
+        c.loop.invariant.room,
+      );
       read = λ values words' is'.
           rw next (read_step lanes blocks i c.loop.kind rest c.read_block.result.1.now c.loop.out.items block part c.read_block.new.out.items
           (c.args.out.now.items ++ values) some c.loop-test.true words is parts items (c.loop.invariant.read values words' is'));
@@ -74,6 +82,6 @@ returns g c =
     let count : ℕ = c.args.header.count in
     let whole : c.BLOCK_LEN.result ≡ 32 * lanes = c.BLOCK_LEN.ensures ∙ g.met.P.BitPacker.block_len in
     λ values words is.
-        let is' : Blocks1 lanes (count / c.BLOCK_LEN.result) (first_kind c.args.header.kind) values c.args.bytes.now = rw whole is in
-        read_done lanes (count / c.BLOCK_LEN.result) c.loop.counter c.loop.kind c.loop.rest.now c.loop.out.items c.read_all.new.out.items
-        (c.args.out.now.items ++ values) c.loop-test.false c.read_all.ensures.items (c.loop.invariant.read values words is')
+    let is' : Blocks1 lanes (count / c.BLOCK_LEN.result) (first_kind c.args.header.kind) values c.args.bytes.now = rw whole is in
+    read_done lanes (count / c.BLOCK_LEN.result) c.loop.counter c.loop.kind c.loop.rest.now c.loop.out.items c.read_all.new.out.items
+    (c.args.out.now.items ++ values) c.loop-test.false c.read_all.ensures.items (c.loop.invariant.read values words is')

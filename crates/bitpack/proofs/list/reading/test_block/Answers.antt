@@ -19,15 +19,15 @@ returns-then-rest-size-clause-fault g c =
     missing g.P.BitPacker.lanes c.args.block (get_or bytes 0 0) bytes (take (length bytes - 1) (drop 1 bytes)) (front-is bytes c.in-len1-up.len_at_least)
     c.if-width-gt32.false (rw c.compressed_block_size-size.ensures at c.if-rest-size.true)
 
-pub returns-then-is_loose-clause-fault : goal.returns-then-is_loose-clause-fault
-returns-then-is_loose-clause-fault g c =
+pub returns-then-fits_smaller-clause-fault : goal.returns-then-fits_smaller-clause-fault
+returns-then-fits_smaller-clause-fault g c =
     let bytes : List ℕ = c.args.bytes.now in
     let lanes : ℕ = g.P.BitPacker.lanes in
     let width : ℕ = get_or bytes 0 0 in
     let rest : List ℕ = take (length bytes - 1) (drop 1 bytes) in
     let body : c.split_at.result.0.now ≡ take (size lanes width) rest = c.split_at.ensures.front ∙ ap (λ n. take n rest) c.compressed_block_size-size.ensures in
     let answer : is_loose lanes width (take (size lanes width) rest) ≡ true =
-    ap (is_loose lanes width) (sym body) ∙ sym c.is_loose.ensures ∙ c.if-is_loose.true in
+    ap (is_loose lanes width) (sym body) ∙ sym c.fits_smaller.ensures ∙ c.if-fits_smaller.true in
     loose lanes c.args.block width bytes rest (front-is bytes c.in-len1-up.len_at_least) c.if-width-gt32.false
     (rw c.compressed_block_size-size.ensures at c.if-rest-size.false) answer
 
@@ -39,6 +39,6 @@ returns-clause-fault g c =
     let rest : List ℕ = take (length bytes - 1) (drop 1 bytes) in
     let body : c.split_at.result.0.now ≡ take (size lanes width) rest = c.split_at.ensures.front ∙ ap (λ n. take n rest) c.compressed_block_size-size.ensures in
     let answer : is_loose lanes width (take (size lanes width) rest) ≡ false =
-    ap (is_loose lanes width) (sym body) ∙ sym c.is_loose.ensures ∙ c.if-is_loose.false in
+    ap (is_loose lanes width) (sym body) ∙ sym c.fits_smaller.ensures ∙ c.if-fits_smaller.false in
     right lanes c.args.block width bytes rest (front-is bytes c.in-len1-up.len_at_least) c.if-width-gt32.false
     (rw c.compressed_block_size-size.ensures at c.if-rest-size.false) answer

@@ -7,7 +7,6 @@ use Rattle.bitpack.specs.Version1.{Blocks1}
 use Rattle.bitpack.proofs.ListLemmas.{length-header, lanes-is, List1-from_blocks, behind_of, on_ok}
 use Rattle.bitpack.proofs.list.writing.encode.Goals as goal
 
-
 pub write-requires-clause-room : goal.write-requires-clause-room
 write-requires-clause-room g c =
     let lanes : ℕ = g.P.BitPacker.lanes in
@@ -31,8 +30,19 @@ write_blocks-requires g c =
       room = λ text blocks.
           let blocks' : Blocks1 lanes (whole_blocks lanes (length values)) (first_kind c.args.kind) values text = rw c.first.ensures at blocks in
           let long = c.text_len.ensures (front ++ text) (List1-from_blocks lanes c.args.kind values text c.if-values-gt-MOST_VALUES.false blocks') in
-          omega (arith, room, long, ap length items, length-append c.args.out.now.items front, length-append front text,
-          length-header 1 c.args.kind lanes (length values), c.write.ensures.capacity, c.write.new.out.ok, c.args.out.now.ok, c.reserve.ensures.len);
+          omega (
+            arith,
+            room,
+            long,
+            ap length items,
+            length-append c.args.out.now.items front,
+            length-append front text,
+            length-header 1 c.args.kind lanes (length values),
+            c.write.ensures.capacity,
+            c.write.new.out.ok,
+            c.args.out.now.ok,
+            c.reserve.ensures.len,
+          );
     }
 
 pub returns-clause-ok : goal.returns-clause-ok
@@ -43,10 +53,9 @@ returns-clause-ok g c =
     let front : List ℕ = header 1 c.args.kind lanes (length values) in
     let found = behind_of lanes c.args.kind values g.met.P.BitPacker.some_lanes words in
     let whole : c.BLOCK_LEN.result / 32 ≡ lanes = lanes-is g.P.BitPacker.lanes c.BLOCK_LEN.result (c.BLOCK_LEN.ensures ∙ g.met.P.BitPacker.block_len) in
-    let items : c.write.new.out.items ≡ c.args.out.now.items ++ front = rw (← whole, ← c.reserve.ensures.items) c.write.ensures.items in
-    (
+    let items : c.write.new.out.items ≡ c.args.out.now.items ++ front = rw (← whole, ← c.reserve.ensures.items) c.write.ensures.items in (
       front ++ found.0,
       List1-from_blocks lanes c.args.kind values found.0 c.if-values-gt-MOST_VALUES.false found.2,
       c.write_blocks.ensures found.0 found.1 (rw c.first.ensures found.2)
-      ∙ ap (λ zs. zs ++ found.0) items ∙ append_assoc c.args.out.now.items front found.0,
+          ∙ ap (λ zs. zs ++ found.0) items ∙ append_assoc c.args.out.now.items front found.0,
     )

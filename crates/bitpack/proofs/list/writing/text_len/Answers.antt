@@ -60,8 +60,8 @@ returns g c =
     let values : List ℕ = c.args.values.now in
     let whole : len ≡ 32 * lanes = c.BLOCK_LEN-len.ensures ∙ g.met.P.BitPacker.block_len in
     λ text list.
-        let blocks : Blocks1 lanes (length values / len) (first_kind c.args.kind) values (drop 7 text) = rw whole list.behind in
-        let found = header_bytes 1 lanes c.args.kind (length values) text list.begins in
-        let total = behind_done lanes (length values / len) c.loop.counter c.loop.kind c.loop.rest.now c.loop.size (length (drop 7 text))
-        c.loop-test.false (c.loop.invariant.behind (drop 7 text) blocks) in
-        omega (arith, total, length-drop 7 text, found.long)
+    let blocks : Blocks1 lanes (length values / len) (first_kind c.args.kind) values (drop 7 text) = rw whole list.behind in
+    let found = header_bytes 1 lanes c.args.kind (length values) text list.begins in
+    let total = behind_done lanes (length values / len) c.loop.counter c.loop.kind c.loop.rest.now c.loop.size (length (drop 7 text))
+    c.loop-test.false (c.loop.invariant.behind (drop 7 text) blocks) in
+    omega (arith, total, length-drop 7 text, found.long)

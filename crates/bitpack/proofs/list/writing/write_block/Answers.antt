@@ -57,8 +57,7 @@ returns-clause-part g c =
     let new : List ℕ = c.append-2.new.out.items in
     let items : new ≡ old ++ width ∷ take written body =
     c.append-2.ensures.items ∙ ap (λ zs. zs ++ take written body) c.append.ensures.items ∙ append_assoc old (width ∷ []) (take written body) in
-    let bytes : AreBytes new = AreBytes-from_items new c.type_inv.out in
-    (
+    let bytes : AreBytes new = AreBytes-from_items new c.type_inv.out in (
       width ∷ take written body,
       AreBytes-right old (width ∷ take written body) (rw items at bytes),
       part lanes c.args.kind block body width written c.width_kind-width.ensures.width c.compress_kind-size.ensures.bytes c.compress_kind-size.ensures.size,

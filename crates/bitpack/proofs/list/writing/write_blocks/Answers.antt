@@ -108,7 +108,7 @@ returns g c =
     let values : List ℕ = c.args.values.now in
     let whole : len ≡ 32 * lanes = c.BLOCK_LEN-len.ensures ∙ g.met.P.BitPacker.block_len in
     λ text small blocks.
-        let blocks' : Blocks1 lanes (length values / len) c.args.kind values text = rw whole blocks in
-        c.write_all.ensures.items
-        ∙ written_tail lanes (length values / len) c.loop.counter c.loop.kind c.loop.rest.now c.loop.out.items (c.args.out.now.items ++ text)
-        c.loop-test.false (c.loop.invariant.written text small blocks')
+    let blocks' : Blocks1 lanes (length values / len) c.args.kind values text = rw whole blocks in
+    c.write_all.ensures.items
+    ∙ written_tail lanes (length values / len) c.loop.counter c.loop.kind c.loop.rest.now c.loop.out.items (c.args.out.now.items ++ text)
+    c.loop-test.false (c.loop.invariant.written text small blocks')

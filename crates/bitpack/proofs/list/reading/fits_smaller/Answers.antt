@@ -4,7 +4,7 @@ use Rattle.std.proofs.lemmas.List.{take_all}
 use Rattle.bitpacking.specs.Layout.{size}
 use Rattle.bitpack.specs.Parts.{is_loose}
 use Rattle.bitpack.proofs.LooseLemmas.{Decides-loose, Decides-above_least}
-use Rattle.bitpack.proofs.list.reading.is_loose.Goals as goal
+use Rattle.bitpack.proofs.list.reading.fits_smaller.Goals as goal
 
 pub returns : goal.returns
 returns g c =

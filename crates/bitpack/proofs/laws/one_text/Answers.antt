@@ -1,0 +1,14 @@
+use Rattle.bitpack.proofs.OneText.{one_text1, one_list1, no_fault1, loose_fits_smaller}
+use Rattle.bitpack.proofs.laws.one_text.Goals as goal
+
+pub returns-clause-text : goal.returns-clause-text
+returns-clause-text c = one_text1
+
+pub returns-clause-list : goal.returns-clause-list
+returns-clause-list c = one_list1
+
+pub returns-clause-fault : goal.returns-clause-fault
+returns-clause-fault c = no_fault1
+
+pub returns-clause-loose : goal.returns-clause-loose
+returns-clause-loose c = loose_fits_smaller
