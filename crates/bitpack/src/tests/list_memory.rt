@@ -1,7 +1,7 @@
-//! Packed lists short of memory: how many growths a call asks for, and what it leaves when one is refused.
+//! Packed lists short of memory: that a call grows its vector once, to the size that it ends with, and what it leaves when
+//! that is refused.
 
 use super::faults::take_all;
-use super::lists::three_blocks;
 use crate::list::{decode, encode};
 use crate::{ListError, ListKind};
 use bitpacking::{BitPacker, BitPacker1x, BitPacker4x, BitPacker8x};
@@ -42,10 +42,18 @@ fn decode_within<P: BitPacker>(
 }
 
 /// With room for the one growth each call succeeds; with none it answers `Memory`, and the vector holds its one item.
+///
+/// Ten blocks of width 32 and five values: text and values take more than the thousand bytes up to which the C library keeps
+/// a freed block for an equal one.
 fn one_growth<P: BitPacker>(rt: &impl Abort, alloc: Global, packer: &P) -> Result<(), Fail> {
-    let values = three_blocks::<P>(alloc, ListKind::Plain)?;
+    let mut values = Vec::new(alloc);
+    for _ in 0..P::BLOCK_LEN * 10 + 5 {
+        values.push(u32::MAX)?;
+    }
     let mut text = vec![in alloc; 9u8]?;
     assert_eq!(rt; encode(packer, ListKind::Plain, &values, &mut text), Ok(()));
+    assert_eq!(rt; text.len(), P::BLOCK_LEN * 40 + 38);
+    assert_eq!(rt; text.capacity(), text.len());
     let (outcome, written) = encode_within(alloc, packer, &values, text.capacity())?;
     assert_eq!(rt; outcome, Ok(()));
     assert_eq!(rt; written.as_slice(), text.as_slice());
@@ -56,6 +64,8 @@ fn one_growth<P: BitPacker>(rt: &impl Abort, alloc: Global, packer: &P) -> Resul
     let text = text.get(1..).unwrap_or(&[]);
     let mut all = vec![in alloc; 7u32]?;
     assert_eq!(rt; decode(packer, text, &mut all), Ok(ListKind::Plain));
+    assert_eq!(rt; all.len(), P::BLOCK_LEN * 10 + 6);
+    assert_eq!(rt; all.capacity(), all.len());
     let (outcome, read) = decode_within(alloc, packer, text, all.capacity())?;
     assert_eq!(rt; outcome, Ok(ListKind::Plain));
     assert!(rt; read.as_slice() == all.as_slice());

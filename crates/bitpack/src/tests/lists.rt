@@ -174,7 +174,7 @@ fn value_of(kind: ListKind, previous: u32, code: u32) -> u32 {
 }
 
 /// The values of three blocks, of the codes 1, 2 and 5, and of a tail of five values.
-pub fn three_blocks<P: BitPacker>(alloc: Global, kind: ListKind) -> Result<Vec<u32>, AllocError> {
+fn three_blocks<P: BitPacker>(alloc: Global, kind: ListKind) -> Result<Vec<u32>, AllocError> {
     let mut values = Vec::new(alloc);
     let mut value = if kind == ListKind::StrictlySorted {
         u32::MAX
