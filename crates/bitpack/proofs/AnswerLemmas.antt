@@ -6,6 +6,7 @@ use Rattle.std.specs.Fmt.{decimal}
 use Rattle.std.proofs.lemmas.Bool.{cases_eq, cases_lt}
 use Rattle.std.proofs.lemmas.List.Elements.{All-append, All-cons, All-head, All-nil, All-replicate, All-tail}
 use Rattle.bitpacking.specs.declared.kind.Kind.{Kind}
+use Rattle.bitpacking.specs.Bits.{AreBytes}
 use Rattle.bitpacking.specs.Codes.{AreWords, codes}
 use Rattle.bitpacking.specs.Width.{Fits}
 use Rattle.bitpacking.specs.Layout.{Layout, size}
@@ -15,12 +16,15 @@ use Rattle.bitpack.specs.declared.line.PackerName.{PackerName}
 use Rattle.bitpack.specs.declared.line.PackerName.TheVariants.{EightLanes, EightScalar, FourLanes, FourScalar, OneLane}
 use Rattle.bitpack.specs.declared.line.values.Item.{Item}
 use Rattle.bitpack.specs.declared.line.values.Item.TheVariants.{Once, Times}
-use Rattle.bitpack.specs.Grammar.{Asks, IsItem, IsKind, Pack, Request, Size, Spells, SpellsValues, Unpack, Width, item_values}
+use Rattle.bitpack.specs.Grammar.{Asks, Enc, IsItem, IsKind, Pack, Request, Size, Spells, SpellsValues, Unpack, Width, item_values}
+use Rattle.bitpack.specs.Grammar.{Dec as DecRequest}
 use Rattle.bitpack.specs.Answers.{IsAnswer, IsPacked, IsReplied, IsReply, IsUnpacked, IsWidthText, Passed, Refused, RefusedIf, SpellsNone, bytes_text, lanes_of, refused, values_text}
 use Rattle.bitpack.specs.Laws.{OneAnswer}
+use Rattle.bitpack.specs.Version1.{fault1}
 use Rattle.bitpack.specs.Lines.{held}
 use Rattle.bitpack.proofs.Finding.{Dec, Search, find_line}
 use Rattle.bitpack.proofs.GrammarLemmas.{one_command}
+use Rattle.bitpack.proofs.ListAnswers.{AreBytes-spelled, decoded_of, encoded_of, same_decoded, same_encoded}
 
 -- ---- a refusal, or a reply
 
@@ -48,12 +52,14 @@ same_from m n not_other = elim (cases_eq m n) [ inl same ↦ same | inr other �
 
 -- ---- what a request holds
 
--- the numbers of a request are words
+-- the numbers of a request are words or bytes, and not too many for a list
 abbrev AreInRange : Request → Type 0
 AreInRange (Size width) = Unit {0}
 AreInRange (Width kind values) = IsKind kind × AreWords values
 AreInRange (Pack kind width values) = IsKind kind × AreWords values
 AreInRange (Unpack kind width bytes) = IsKind kind
+AreInRange (Enc kind values) = AreWords values × (length values ≤ 2 ^ 28)
+AreInRange (DecRequest bytes) = AreBytes bytes
 
 words_of_items : (items : List Item) → All IsItem items → AreWords (flat_map item_values items)
 words_of_items [] are = All-nil (λ v. v < 2 ^ 32)
@@ -71,6 +77,8 @@ in_range fields packer (Size width) asks = tt
 in_range fields packer (Width kind values) (text, is, is_kind, spelled) = (is_kind, words_of text values spelled)
 in_range fields packer (Pack kind width values) (text, is, is_kind, small, spelled) = (is_kind, words_of text values spelled)
 in_range fields packer (Unpack kind width bytes) (text, is, is_kind, small, spelled) = is_kind
+in_range fields packer (Enc kind values) (text, is, spelled) = (words_of text values spelled, omega (arith, spelled.few))
+in_range fields packer (DecRequest bytes) (text, is, spelled) = AreBytes-spelled text bytes spelled
 
 some_lanes : (packer : PackerName) → 0 < lanes_of packer
 some_lanes OneLane = omega arith
@@ -78,6 +86,13 @@ some_lanes FourLanes = omega arith
 some_lanes EightLanes = omega arith
 some_lanes FourScalar = omega arith
 some_lanes EightScalar = omega arith
+
+few_lanes : (packer : PackerName) → lanes_of packer < 2 ^ 8
+few_lanes OneLane = omega arith
+few_lanes FourLanes = omega arith
+few_lanes EightLanes = omega arith
+few_lanes FourScalar = omega arith
+few_lanes EightScalar = omega arith
 
 -- ---- replies
 
@@ -106,13 +121,13 @@ narrow_width : (width : ℕ) → (32 < width → ⊥) → width ≤ 32
 narrow_width width narrow = elim (cases_lt 32 width) [ inl wide ↦ absurd (narrow wide) | inr fine ↦ fine ]
 
 module _ (lanes : ℕ) (some : 0 < lanes) where
-  reply_of : (request : Request) → AreInRange request → (text : List ℕ) × IsReply lanes request text
-  reply_of (Size width) range = (decimal (size lanes width), refl)
-  reply_of (Width kind values) (is_kind, words) =
+  reply_of : lanes < 2 ^ 8 → (request : Request) → AreInRange request → (text : List ℕ) × IsReply lanes request text
+  reply_of few (Size width) range = (decimal (size lanes width), refl)
+  reply_of few (Width kind values) (is_kind, words) =
       refused_or _ 2 _ (is_other (length values) (32 * lanes)) (λ block.
       let (width, low, least, one) = one_least_width (codes kind values) (AreWords-codes kind values words) in
       (decimal width, record { width = width; least = least; text_is = refl }))
-  reply_of (Pack kind width values) (is_kind, words) =
+  reply_of few (Pack kind width values) (is_kind, words) =
       let are_words = AreWords-codes kind values words in
       refused_or _ 2 _ (is_other (length values) (32 * lanes)) (λ block.
       refused_or _ 3 _ (is_above 32 width) (λ narrow.
@@ -120,13 +135,15 @@ module _ (lanes : ℕ) (some : 0 < lanes) where
       let (bytes, are_bytes, layout, one) = one_layout_bytes lanes width (codes kind values) some
       (length-codes kind values ∙ same_from (length values) (32 * lanes) block) (fits_at_least (codes kind values) width are_words fit) in
       (bytes_text bytes, record { bytes = bytes; are_bytes = are_bytes; holds = layout; text_is = refl }))))
-  reply_of (Unpack kind width bytes) is_kind =
+  reply_of few (Unpack kind width bytes) is_kind =
       refused_or _ 3 _ (is_above 32 width) (λ narrow.
       refused_or _ 5 _ (is_other (length bytes) (size lanes width)) (λ room.
       let (words, layout, one) = one_layout_codes lanes width bytes (same_from (length bytes) (size lanes width) room) in
       let are_words = words_from_fits words width (narrow_width width narrow) layout.fits in
       let (block, are_values, codes_are, only_block) = one_block kind words is_kind are_words in
       (values_text block, record { block = block; are_words = are_values; holds = subst (λ c. Layout lanes width c bytes) (sym codes_are) layout; text_is = refl })))
+  reply_of few (Enc kind values) (words, short) = encoded_of lanes kind values some few words short
+  reply_of few (DecRequest bytes) are_bytes = decoded_of lanes bytes some are_bytes
 
   same_packed : (width : ℕ) (kind : Kind) (values a b : List ℕ) → IsPacked lanes width kind values a → IsPacked lanes width kind values b → a ≡ b
   same_packed width kind values a b first second =
@@ -152,13 +169,15 @@ module _ (lanes : ℕ) (some : 0 < lanes) where
       same_refusal _ 2 _ (λ block. same_refusal _ 3 _ (λ narrow. same_refusal _ 4 _ (λ fit. same_packed width kind values)))
   same_reply (Unpack kind width bytes) is_kind =
       same_refusal _ 3 _ (λ narrow. same_refusal _ 5 _ (λ room a b. same_unpacked width kind bytes a b (narrow_width width narrow) is_kind))
+  same_reply (Enc kind values) range = λ a b. same_encoded lanes kind values a b some
+  same_reply (DecRequest bytes) are_bytes = λ a b. same_decoded lanes bytes (fault1 lanes bytes) a b some
 
 -- ---- answers
 
 reply_to : (line : List ℕ) (found : Search (λ (asked : PackerName × Request). Spells line asked.0 asked.1)) → (text : List ℕ) × RefusedIf (SpellsNone line) 1 (IsReplied line) text
 reply_to line (None, none) = (refused 1, Refused (λ packer request spells. none (packer, request) spells) refl)
 reply_to line (Some asked, spells) =
-    let (text, replies) = reply_of (lanes_of asked.0) (some_lanes asked.0) asked.1 (in_range spells.fields asked.0 asked.1 spells.asks) in
+    let (text, replies) = reply_of (lanes_of asked.0) (some_lanes asked.0) (few_lanes asked.0) asked.1 (in_range spells.fields asked.0 asked.1 spells.asks) in
     (text, Passed (λ none. none asked.0 asked.1 spells) (record { packer = asked.0; request = asked.1; spelled = spells; replied = replies }))
 
 pub answer_of : (line : List ℕ) → (text : List ℕ) × IsAnswer line text

@@ -1,5 +1,5 @@
 -- What each part of a line spells is found, or that it spells nothing.
-use Rattle.std.proofs.Common.{get_or, ◌≡◌, ◌≢◌, ℕ, ◌^◌, ◌<◌, ◌≤◌, Bool, true, false, List, [], ◌∷◌, ◌++◌, length, drop, codes, refl, sym, ap, subst, ◌∙◌, arith, bytes_eq, ◌⊎◌, inl, inr, Option, Some, None, Result, Ok, Err}
+use Rattle.std.proofs.Common.{◌≡◌, ◌≢◌, ℕ, ◌^◌, ◌<◌, ◌≤◌, Bool, true, false, List, [], ◌∷◌, ◌++◌, length, drop, codes, refl, sym, ap, subst, ◌∙◌, arith, bytes_eq, ◌⊎◌, inl, inr, Option, Some, None, Result, Ok, Err}
 use Rattle.std.specs.Fmt.{decimal}
 use Rattle.std.specs.Str.Parse.{digits_value}
 use Rattle.std.proofs.lemmas.Bool.{cases_lt}
@@ -16,11 +16,14 @@ use Rattle.bitpack.specs.declared.line.PackerName.{PackerName}
 use Rattle.bitpack.specs.declared.line.PackerName.TheVariants.{EightLanes, EightScalar, FourLanes, FourScalar, OneLane}
 use Rattle.bitpack.specs.declared.line.values.Item.{Item}
 use Rattle.bitpack.specs.declared.line.values.Item.TheVariants.{Once, Times}
-use Rattle.bitpack.specs.Grammar.{Asks, IsCount, IsItem, IsSmall, IsWord, Pack, Request, Size, Spells, SpellsBytes, SpellsValues, Unpack, Width, item_values, kind_text, packer_text}
+use Rattle.bitpack.specs.declared.list_kind.ListKind.{ListKind}
+use Rattle.bitpack.specs.declared.list_kind.ListKind.TheVariants as lists
+use Rattle.bitpack.specs.Grammar.{Asks, Enc, IsCount, IsItem, IsSmall, IsWord, Pack, Request, Size, Spells, SpellsBytes, SpellsValues, Unpack, Width, item_values, kind_text, listkind_text, packer_text}
+use Rattle.bitpack.specs.Grammar.{Dec as DecRequest}
 use Rattle.bitpack.specs.Found.{Finds, SpellsItem, SpellsKind, SpellsNumber}
 use Rattle.bitpack.proofs.Numerals.{numeral}
 use Rattle.bitpack.proofs.Cuts.{Lacks, Lacks-cons}
-use Rattle.bitpack.proofs.Forms.{HasForm, has_form, pack_parts, size_parts, unpack_parts, width_parts}
+use Rattle.bitpack.proofs.Forms.{dec_parts, enc_parts, not_five, not_four, not_three, pack_parts, size_parts, unpack_parts, width_parts}
 use Rattle.bitpack.proofs.LineTexts.{between_spaces, fields_of}
 use Rattle.bitpack.proofs.Printed.{are_fields}
 use Rattle.std.proofs.lemmas.List.Splits.{join_with_byte-slice_split}
@@ -84,6 +87,7 @@ find_packer text = from (is OneLane) (is FourLanes) (is EightLanes) (is FourScal
   where
     is : (packer : PackerName) → Dec (text ≡ packer_text packer)
     is packer = same_text text (packer_text packer)
+
     from : Dec (text ≡ packer_text OneLane) → Dec (text ≡ packer_text FourLanes) → Dec (text ≡ packer_text EightLanes)
         → Dec (text ≡ packer_text FourScalar) → Dec (text ≡ packer_text EightScalar) → Search (λ packer. text ≡ packer_text packer)
     from (inl one) four eight four_s eight_s = (Some OneLane, one)
@@ -124,6 +128,24 @@ find_kind text = from (is_kind_text text Plain) (is_kind_text text (Sorted n)) (
         no_kind (Sorted m) = λ h. sorted (subst (λ k. SpellsKind text (Sorted k)) (behind m [] h.1 (ap (drop 7) h.0)) h)
         no_kind (StrictlySorted None) = none
         no_kind (StrictlySorted (Some m)) = λ h. some (subst (λ k. SpellsKind text (StrictlySorted (Some k))) (behind m [] h.1 (ap (drop 7) h.0)) h)
+
+find_listkind : (text : List ℕ) → Search (λ kind. text ≡ listkind_text kind)
+find_listkind text = from (is lists.Plain) (is lists.Sorted) (is lists.StrictlySorted)
+  where
+    is : (kind : ListKind) → Dec (text ≡ listkind_text kind)
+    is kind = same_text text (listkind_text kind)
+
+    from : Dec (text ≡ listkind_text lists.Plain) → Dec (text ≡ listkind_text lists.Sorted) → Dec (text ≡ listkind_text lists.StrictlySorted)
+        → Search (λ kind. text ≡ listkind_text kind)
+    from (inl plain) sorted strict = (Some lists.Plain, plain)
+    from (inr plain) (inl sorted) strict = (Some lists.Sorted, sorted)
+    from (inr plain) (inr sorted) (inl strict) = (Some lists.StrictlySorted, strict)
+    from (inr plain) (inr sorted) (inr strict) = (None, none)
+      where
+        none : (kind : ListKind) → text ≡ listkind_text kind → ⊥
+        none lists.Plain = plain
+        none lists.Sorted = sorted
+        none lists.StrictlySorted = strict
 
 -- ---- values
 
@@ -248,22 +270,17 @@ find_unpack p k w b = carried _ (Asked (codes "unpack" ∷ p ∷ k ∷ w ∷ b �
     (λ asked asks. let parts = unpack_parts p k w b asked.0 asked.1 asks in ((asked.0, (parts.kind, (parts.width, parts.bytes))), (parts.packer_is, (parts.is_kind, (parts.small, parts.spelled)))))
     (find_both (IsPacker p) _ (find_packer p) (find_both (SpellsKind k) _ (find_kind k) (find_both (SpellsNumber IsSmall w) (SpellsBytes b) (find_small w) (find_bytes b))))
 
--- fields of which no request has the word
-not_three : (fields : List (List ℕ)) → length fields ≡ 3 → get_or fields 0 [] ≢ codes "size" → (request : Request) → HasForm fields request → ⊥
-not_three fields three size (Size width) form = size form.word
-not_three fields three size request form = omega (arith, form.count)
+find_enc : (p k v : List ℕ) → Search (Asked (codes "enc" ∷ p ∷ k ∷ v ∷ []))
+find_enc p k v = carried _ (Asked (codes "enc" ∷ p ∷ k ∷ v ∷ [])) (λ (x : PackerName × (ListKind × List ℕ)). (x.0, Enc x.1.0 x.1.1))
+    (λ x (packer, (kind, spelled)). (v, cc (packer, kind), spelled))
+    (λ asked asks. let parts = enc_parts p k v asked.0 asked.1 asks in ((asked.0, (parts.kind, parts.values)), (parts.packer_is, (parts.kind_is, parts.spelled))))
+    (find_both (IsPacker p) _ (find_packer p) (find_both (λ kind. k ≡ listkind_text kind) (SpellsValues v) (find_listkind k) (find_values v)))
 
-not_four : (fields : List (List ℕ)) → length fields ≡ 4 → get_or fields 0 [] ≢ codes "width" → (request : Request) → HasForm fields request → ⊥
-not_four fields four width (Width kind values) form = width form.word
-not_four fields four width request form = omega (arith, form.count)
-
-not_five : (fields : List (List ℕ)) → length fields ≡ 5 → get_or fields 0 [] ≢ codes "pack" → get_or fields 0 [] ≢ codes "unpack" → (request : Request) → HasForm fields request → ⊥
-not_five fields five pack unpack (Pack kind width values) form = pack form.word
-not_five fields five pack unpack (Unpack kind width bytes) form = unpack form.word
-not_five fields five pack unpack request form = omega (arith, form.count)
-
-no_form : (fields : List (List ℕ)) → ((request : Request) → HasForm fields request → ⊥) → Search (Asked fields)
-no_form fields none = (None, λ asked asks. none asked.1 (has_form fields asked.0 asked.1 asks))
+find_dec : (p b : List ℕ) → Search (Asked (codes "dec" ∷ p ∷ b ∷ []))
+find_dec p b = carried _ (Asked (codes "dec" ∷ p ∷ b ∷ [])) (λ (x : PackerName × List ℕ). (x.0, DecRequest x.1))
+    (λ x (packer, spelled). (b, cc packer, spelled))
+    (λ asked asks. let parts = dec_parts p b asked.0 asked.1 asks in ((asked.0, parts.bytes), (parts.packer_is, parts.spelled)))
+    (find_both (IsPacker p) (SpellsBytes b) (find_packer p) (find_bytes b))
 
 with_word : (word known : List ℕ) (rest : List (List ℕ)) → word ≡ known → Search (Asked (known ∷ rest)) → Search (Asked (word ∷ rest))
 with_word word known rest is search = subst (λ w. Search (Asked (w ∷ rest))) (sym is) search
@@ -271,17 +288,23 @@ with_word word known rest is search = subst (λ w. Search (Asked (w ∷ rest))) 
 find_asked : (fields : List (List ℕ)) → Search (Asked fields)
 find_asked (word ∷ p ∷ w ∷ []) = elim (same_text word (codes "size")) [
   | inl is ↦ with_word word (codes "size") (p ∷ w ∷ []) is (find_size p w)
-  | inr other ↦ no_form (word ∷ p ∷ w ∷ []) (not_three (word ∷ p ∷ w ∷ []) refl other)
+  | inr size ↦ elim (same_text word (codes "dec")) [
+    | inl is ↦ with_word word (codes "dec") (p ∷ w ∷ []) is (find_dec p w)
+    | inr dec ↦ (None, λ asked asks. not_three (word ∷ p ∷ w ∷ []) refl size dec asked.0 asked.1 asks)
+  ]
 ]
 find_asked (word ∷ p ∷ k ∷ v ∷ []) = elim (same_text word (codes "width")) [
   | inl is ↦ with_word word (codes "width") (p ∷ k ∷ v ∷ []) is (find_width p k v)
-  | inr other ↦ no_form (word ∷ p ∷ k ∷ v ∷ []) (not_four (word ∷ p ∷ k ∷ v ∷ []) refl other)
+  | inr width ↦ elim (same_text word (codes "enc")) [
+    | inl is ↦ with_word word (codes "enc") (p ∷ k ∷ v ∷ []) is (find_enc p k v)
+    | inr enc ↦ (None, λ asked asks. not_four (word ∷ p ∷ k ∷ v ∷ []) refl width enc asked.0 asked.1 asks)
+  ]
 ]
 find_asked (word ∷ p ∷ k ∷ w ∷ v ∷ []) = elim (same_text word (codes "pack")) [
   | inl is ↦ with_word word (codes "pack") (p ∷ k ∷ w ∷ v ∷ []) is (find_pack p k w v)
   | inr pack ↦ elim (same_text word (codes "unpack")) [
     | inl is ↦ with_word word (codes "unpack") (p ∷ k ∷ w ∷ v ∷ []) is (find_unpack p k w v)
-    | inr unpack ↦ no_form (word ∷ p ∷ k ∷ w ∷ v ∷ []) (not_five (word ∷ p ∷ k ∷ w ∷ v ∷ []) refl pack unpack)
+    | inr unpack ↦ (None, λ asked asks. not_five (word ∷ p ∷ k ∷ w ∷ v ∷ []) refl pack unpack asked.0 asked.1 asks)
   ]
 ]
 find_asked fields = (None, λ asked asks. let are = are_fields fields asked.0 asked.1 asks in omega (arith, are.some, are.few))

@@ -1,9 +1,10 @@
 -- What the fields of each form spell.
-use Rattle.std.proofs.Common.{◌≡◌, false, ap, bytes_eq, ℕ, ◌≤◌, ◌<◌, Bor, List, [], ◌∷◌, codes, get_or, length, map, refl, sym, subst, arith}
+use Rattle.std.proofs.Common.{◌≡◌, ◌≢◌, false, ap, bytes_eq, ℕ, ◌≤◌, ◌<◌, Bor, List, [], ◌∷◌, codes, get_or, length, map, refl, sym, subst, arith}
 use Rattle.std.proofs.lemmas.Slice.Eq.{bytes_eq-Decides}
 use Rattle.bitpack.specs.declared.line.PackerName.{PackerName}
 use Rattle.bitpacking.specs.declared.kind.Kind.{Kind}
-use Rattle.bitpack.specs.Grammar.{Asks, IsSmall, Pack, Request, Size, SpellsBytes, SpellsValues, Unpack, Width, packer_text}
+use Rattle.bitpack.specs.declared.list_kind.ListKind.{ListKind}
+use Rattle.bitpack.specs.Grammar.{Asks, Dec, Enc, IsSmall, Pack, Request, Size, SpellsBytes, SpellsValues, Unpack, Width, listkind_text, packer_text}
 use Rattle.bitpack.specs.Found.{SpellsKind, SpellsNumber}
 
 -- the text of a field
@@ -35,29 +36,63 @@ word_of (Size width) = codes "size"
 word_of (Width kind values) = codes "width"
 word_of (Pack kind width values) = codes "pack"
 word_of (Unpack kind width bytes) = codes "unpack"
+word_of (Enc kind values) = codes "enc"
+word_of (Dec bytes) = codes "dec"
 
 abbrev pub count_of : Request → ℕ
 count_of (Size width) = 3
 count_of (Width kind values) = 4
 count_of (Pack kind width values) = 5
 count_of (Unpack kind width bytes) = 5
+count_of (Enc kind values) = 4
+count_of (Dec bytes) = 3
 
-pub record HasForm (fields : List (List ℕ)) (request : Request) : Type 0 where
+record HasForm (fields : List (List ℕ)) (request : Request) : Type 0 where
   pub word : get_or fields 0 [] ≡ word_of request
   pub count : length fields ≡ count_of request
 
-pub has_form : (fields : List (List ℕ)) (packer : PackerName) (request : Request) → Asks fields packer request → HasForm fields request
+has_form : (fields : List (List ℕ)) (packer : PackerName) (request : Request) → Asks fields packer request → HasForm fields request
 has_form fields packer (Size width) (is, small) = record { word = ap (λ f. get_or f 0 []) is; count = ap length is }
 has_form fields packer (Width kind values) (text, is, is_kind, spelled) = record { word = ap (λ f. get_or f 0 []) is; count = ap length is }
 has_form fields packer (Pack kind width values) (text, is, is_kind, small, spelled) = record { word = ap (λ f. get_or f 0 []) is; count = ap length is }
 has_form fields packer (Unpack kind width bytes) (text, is, is_kind, small, spelled) = record { word = ap (λ f. get_or f 0 []) is; count = ap length is }
+has_form fields packer (Enc kind values) (text, is, spelled) = record { word = ap (λ f. get_or f 0 []) is; count = ap length is }
+has_form fields packer (Dec bytes) (text, is, spelled) = record { word = ap (λ f. get_or f 0 []) is; count = ap length is }
 
 -- a request has no other word than its own
-pub other_word : (word : List ℕ) (rest : List (List ℕ)) (packer : PackerName) (request : Request) → Asks (word ∷ rest) packer request → bytes_eq word (word_of request) ≡ false → ⊥
+other_word : (word : List ℕ) (rest : List (List ℕ)) (packer : PackerName) (request : Request) → Asks (word ∷ rest) packer request → bytes_eq word (word_of request) ≡ false → ⊥
 other_word word rest packer request asks apart =
     let form = has_form (word ∷ rest) packer request asks in
     let same = (bytes_eq-Decides word (word_of request)).1 form.word in
     cc
+
+-- fields of which no request has the word
+pub not_three : (fields : List (List ℕ)) → length fields ≡ 3 → get_or fields 0 [] ≢ codes "size" → get_or fields 0 [] ≢ codes "dec"
+    → (packer : PackerName) (request : Request) → Asks fields packer request → ⊥
+not_three fields three size dec packer request asks = from request (has_form fields packer request asks)
+  where
+    from : (request : Request) → HasForm fields request → ⊥
+    from (Size width) form = size form.word
+    from (Dec bytes) form = dec form.word
+    from request form = omega (arith, form.count)
+
+pub not_four : (fields : List (List ℕ)) → length fields ≡ 4 → get_or fields 0 [] ≢ codes "width" → get_or fields 0 [] ≢ codes "enc"
+    → (packer : PackerName) (request : Request) → Asks fields packer request → ⊥
+not_four fields four width enc packer request asks = from request (has_form fields packer request asks)
+  where
+    from : (request : Request) → HasForm fields request → ⊥
+    from (Width kind values) form = width form.word
+    from (Enc kind values) form = enc form.word
+    from request form = omega (arith, form.count)
+
+pub not_five : (fields : List (List ℕ)) → length fields ≡ 5 → get_or fields 0 [] ≢ codes "pack" → get_or fields 0 [] ≢ codes "unpack"
+    → (packer : PackerName) (request : Request) → Asks fields packer request → ⊥
+not_five fields five pack unpack packer request asks = from request (has_form fields packer request asks)
+  where
+    from : (request : Request) → HasForm fields request → ⊥
+    from (Pack kind width values) form = pack form.word
+    from (Unpack kind width bytes) form = unpack form.word
+    from request form = omega (arith, form.count)
 
 -- ---- what the fields of each form ask, part by part
 
@@ -116,3 +151,29 @@ unpack_parts p k w b packer (Unpack kind width bytes) (text, fields, is_kind, sm
     let same : b ≡ text = cc in
     record { kind = kind; width = width; bytes = bytes; request_is = refl; packer_is = cc; is_kind = (cc, is_kind); small = (cc, small); spelled = subst (λ t. SpellsBytes t bytes) (sym same) spelled }
 unpack_parts p k w b packer request asks = absurd (other_word (codes "unpack") (p ∷ k ∷ w ∷ b ∷ []) packer request asks refl)
+
+pub record EncParts (p k v : List ℕ) (packer : PackerName) (request : Request) : Type 0 where
+  pub kind : ListKind
+  pub values : List ℕ
+  pub request_is : request ≡ Enc kind values
+  pub packer_is : p ≡ packer_text packer
+  pub kind_is : k ≡ listkind_text kind
+  pub spelled : SpellsValues v values
+
+pub enc_parts : (p k v : List ℕ) (packer : PackerName) (request : Request) → Asks (codes "enc" ∷ p ∷ k ∷ v ∷ []) packer request → EncParts p k v packer request
+enc_parts p k v packer (Enc kind values) (text, fields, spelled) =
+    let same : v ≡ text = cc in
+    record { kind = kind; values = values; request_is = refl; packer_is = cc; kind_is = cc; spelled = subst (λ t. SpellsValues t values) (sym same) spelled }
+enc_parts p k v packer request asks = absurd (other_word (codes "enc") (p ∷ k ∷ v ∷ []) packer request asks refl)
+
+pub record DecParts (p b : List ℕ) (packer : PackerName) (request : Request) : Type 0 where
+  pub bytes : List ℕ
+  pub request_is : request ≡ Dec bytes
+  pub packer_is : p ≡ packer_text packer
+  pub spelled : SpellsBytes b bytes
+
+pub dec_parts : (p b : List ℕ) (packer : PackerName) (request : Request) → Asks (codes "dec" ∷ p ∷ b ∷ []) packer request → DecParts p b packer request
+dec_parts p b packer (Dec bytes) (text, fields, spelled) =
+    let same : b ≡ text = cc in
+    record { bytes = bytes; request_is = refl; packer_is = cc; spelled = subst (λ t. SpellsBytes t bytes) (sym same) spelled }
+dec_parts p b packer request asks = absurd (other_word (codes "dec") (p ∷ b ∷ []) packer request asks refl)

@@ -12,12 +12,14 @@ use Rattle.bitpacking.specs.declared.kind.Kind.TheVariants.{Plain, Sorted, Stric
 use Rattle.bitpack.specs.declared.line.PackerName.{PackerName}
 use Rattle.bitpack.specs.declared.line.PackerName.TheVariants.{EightLanes, EightScalar, FourLanes, FourScalar, OneLane}
 use Rattle.bitpack.specs.declared.line.values.Item.{Item}
-use Rattle.bitpack.specs.Grammar.{Asks, IsItem, IsSmall, IsWord, Pack, Request, Size, SpellsBytes, SpellsValues, Unpack, Width, item_text, item_values, items_text, kind_text, packer_text}
+use Rattle.bitpack.specs.declared.list_kind.ListKind.{ListKind}
+use Rattle.bitpack.specs.declared.list_kind.ListKind.TheVariants as lists
+use Rattle.bitpack.specs.Grammar.{Asks, Dec, Enc, IsItem, IsSmall, IsWord, Pack, Request, Size, SpellsBytes, SpellsValues, Unpack, Width, item_text, item_values, items_text, kind_text, listkind_text, packer_text}
 use Rattle.bitpack.specs.Found.{SpellsKind}
 use Rattle.bitpack.specs.Laws.{OneCommand}
 use Rattle.bitpack.proofs.Cuts.{Lacks, Lacks-append, Lacks-cons}
 use Rattle.bitpack.proofs.Finding.{same_text}
-use Rattle.bitpack.proofs.Forms.{pack_parts, size_parts, unpack_parts, width_parts}
+use Rattle.bitpack.proofs.Forms.{dec_parts, enc_parts, pack_parts, size_parts, unpack_parts, width_parts}
 use Rattle.bitpack.proofs.Items.{Lacks-item, same_item}
 use Rattle.bitpack.proofs.LineTexts.{fields_of}
 use Rattle.bitpack.proofs.Numerals.{decimal-digit}
@@ -59,6 +61,12 @@ same_kind text (StrictlySorted (Some x)) (Sorted y) (ea, wa) (eb, wb) = absurd (
 same_kind text (StrictlySorted (Some x)) (StrictlySorted None) (ea, wa) (eb, wb) = absurd (differ text _ _ 7 ea eb (λ e. no_digit x wa e))
 same_kind text (StrictlySorted (Some x)) (StrictlySorted (Some y)) (ea, wa) (eb, wb) =
     ap (λ n. StrictlySorted (Some n)) (decimal_injective x y (omega arith) (omega arith) (ap (drop 7) (sym ea ∙ eb)))
+
+same_listkind : (a b : ListKind) → listkind_text a ≡ listkind_text b → a ≡ b
+same_listkind lists.Plain lists.Plain e = refl
+same_listkind lists.Sorted lists.Sorted e = refl
+same_listkind lists.StrictlySorted lists.StrictlySorted e = refl
+same_listkind a b e = absurd (omega (arith, ap (λ t. get_or t 0 0) e, ap (λ t. get_or t 1 0) e))
 
 same_gathered : (texts : List (List ℕ)) (values a b : List ℕ) → Gathers texts values a → Gathers texts values b → a ≡ b
 same_gathered [] values a b (ea, fa) (eb, fb) = ea ∙ sym eb
@@ -125,6 +133,16 @@ asks_one fields p q (Unpack kind width bytes) s (text, is, is_kind, small, spell
     let lists = same_bytes text bytes parts.bytes spelled parts.spelled in
     let same : Unpack kind width bytes ≡ Unpack parts.kind parts.width parts.bytes = cc (kinds, widths, lists) in
     (same_packer p q parts.packer_is, same ∙ sym parts.request_is)
+asks_one fields p q (Enc kind values) s (text, is, spelled) second =
+    let parts = enc_parts (packer_text p) (listkind_text kind) text q s (subst (λ f. Asks f q s) is second) in
+    let kinds = same_listkind kind parts.kind parts.kind_is in
+    let lists = same_values text values parts.values spelled parts.spelled in
+    let same : Enc kind values ≡ Enc parts.kind parts.values = cc (kinds, lists) in
+    (same_packer p q parts.packer_is, same ∙ sym parts.request_is)
+asks_one fields p q (Dec bytes) s (text, is, spelled) second =
+    let parts = dec_parts (packer_text p) text q s (subst (λ f. Asks f q s) is second) in
+    let lists = same_bytes text bytes parts.bytes spelled parts.spelled in
+    (same_packer p q parts.packer_is, ap Dec lists ∙ sym parts.request_is)
 
 pub one_command : OneCommand
 one_command line p q r s first second =

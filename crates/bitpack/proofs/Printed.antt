@@ -15,7 +15,9 @@ use Rattle.bitpack.specs.declared.line.PackerName.{PackerName}
 use Rattle.bitpack.specs.declared.line.PackerName.TheVariants.{EightLanes, EightScalar, FourLanes, FourScalar, OneLane}
 use Rattle.bitpack.specs.declared.line.values.Item.{Item}
 use Rattle.bitpack.specs.declared.line.values.Item.TheVariants.{Once, Times}
-use Rattle.bitpack.specs.Grammar.{Asks, IsItem, IsKind, Pack, Request, Size, SpellsBytes, SpellsValues, Unpack, Width, item_text, items_text, kind_text, packer_text}
+use Rattle.bitpack.specs.declared.list_kind.ListKind.{ListKind}
+use Rattle.bitpack.specs.declared.list_kind.ListKind.TheVariants as lists
+use Rattle.bitpack.specs.Grammar.{Asks, Dec, Enc, IsItem, IsKind, Pack, Request, Size, SpellsBytes, SpellsValues, Unpack, Width, item_text, items_text, kind_text, listkind_text, packer_text}
 use Rattle.bitpack.proofs.Cuts.{Lacks}
 use Rattle.bitpack.proofs.Numerals.{decimal-digit}
 
@@ -70,6 +72,11 @@ IsPrinted-kind Plain word = IsPrinted-literal (codes "plain") refl
 IsPrinted-kind (Sorted initial) word = IsPrinted-append (codes "sorted:") (decimal initial) (IsPrinted-literal (codes "sorted:") refl) (IsPrinted-decimal initial (omega arith))
 IsPrinted-kind (StrictlySorted None) word = IsPrinted-literal (codes "strict:none") refl
 IsPrinted-kind (StrictlySorted (Some initial)) word = IsPrinted-append (codes "strict:") (decimal initial) (IsPrinted-literal (codes "strict:") refl) (IsPrinted-decimal initial (omega arith))
+
+IsPrinted-listkind : (kind : ListKind) → IsPrinted (listkind_text kind)
+IsPrinted-listkind lists.Plain = IsPrinted-literal (codes "plain") refl
+IsPrinted-listkind lists.Sorted = IsPrinted-literal (codes "sorted") refl
+IsPrinted-listkind lists.StrictlySorted = IsPrinted-literal (codes "strict") refl
 
 IsPrinted-item : (item : Item) → IsItem item → IsPrinted (item_text item)
 IsPrinted-item (Once value) word = IsPrinted-decimal value (omega arith)
@@ -138,6 +145,20 @@ are_fields fields packer (Pack kind width values) (text, is, is_kind, small, spe
       few = omega arith;
       printed = All-from_recursion IsPrinted (codes "pack" ∷ packer_text packer ∷ kind_text kind ∷ decimal width ∷ text ∷ [])
           (IsPrinted-literal (codes "pack") refl, (IsPrinted-packer packer, (IsPrinted-kind kind is_kind, (IsPrinted-decimal width (omega arith), (IsPrinted-values text values spelled, tt)))));
+    })
+are_fields fields packer (Enc kind values) (text, is, spelled) =
+    AreFields-same fields _ is (record {
+      some = omega arith;
+      few = omega arith;
+      printed = All-from_recursion IsPrinted (codes "enc" ∷ packer_text packer ∷ listkind_text kind ∷ text ∷ [])
+          (IsPrinted-literal (codes "enc") refl, (IsPrinted-packer packer, (IsPrinted-listkind kind, (IsPrinted-values text values spelled, tt))));
+    })
+are_fields fields packer (Dec bytes) (text, is, spelled) =
+    AreFields-same fields _ is (record {
+      some = omega arith;
+      few = omega arith;
+      printed = All-from_recursion IsPrinted (codes "dec" ∷ packer_text packer ∷ text ∷ [])
+          (IsPrinted-literal (codes "dec") refl, (IsPrinted-packer packer, (IsPrinted-bytes text bytes spelled, tt)));
     })
 
 pub Lacks-printed : (byte : ℕ) (text : List ℕ) → byte < 33 → IsPrinted text → Lacks byte text

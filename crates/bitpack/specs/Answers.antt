@@ -1,5 +1,5 @@
 -- The answer to a line: the first refusal that applies, and else what the format says.
-use Rattle.std.specs.Prelude.{◌≡◌, ◌≢◌, ℕ, ◌*◌, ◌<◌, List, [], ◌∷◌, ◌++◌, length, map}
+use Rattle.std.specs.Prelude.{◌≡◌, ◌≢◌, ℕ, ◌+◌, ◌*◌, ◌<◌, List, [], ◌∷◌, ◌++◌, length, map, MatchOption}
 use Rattle.std.specs.Prelude.{codes as text_bytes}
 use Rattle.std.specs.Fmt.{decimal}
 use Rattle.hex.specs.Hex.{encode_lower}
@@ -8,10 +8,13 @@ use Rattle.bitpacking.specs.Bits.{AreBytes}
 use Rattle.bitpacking.specs.Codes.{AreWords, codes}
 use Rattle.bitpacking.specs.Width.{Fits, IsWidth}
 use Rattle.bitpacking.specs.Layout.{Holds, size}
+use Rattle.bitpack.specs.declared.list_kind.ListKind.{ListKind}
 use Rattle.bitpack.specs.declared.line.PackerName.{PackerName}
 use Rattle.bitpack.specs.declared.line.PackerName.TheVariants.{EightLanes, EightScalar, FourLanes, FourScalar, OneLane}
 use Rattle.bitpack.specs.declared.line.values.Item.TheVariants.{Once}
-use Rattle.bitpack.specs.Grammar.{Pack, Request, Size, Spells, Unpack, Width, items_text}
+use Rattle.bitpack.specs.Grammar.{Dec, Enc, Pack, Request, Size, Spells, Unpack, Width, items_text, listkind_text}
+use Rattle.bitpack.specs.Parts.{number_of}
+use Rattle.bitpack.specs.Version1.{List1, fault1}
 
 abbrev pub lanes_of : PackerName → ℕ
 lanes_of OneLane = 1
@@ -57,6 +60,25 @@ pub record IsUnpacked (lanes width : ℕ) (kind : Kind) (bytes text : List ℕ) 
   pub holds : Holds lanes width kind block bytes
   pub text_is : text ≡ values_text block
 
+-- the text is that of the bytes of the list
+pub record IsEncoded (lanes : ℕ) (kind : ListKind) (values text : List ℕ) : Type 0 where
+  pub bytes : List ℕ
+  pub are_bytes : AreBytes bytes
+  pub list : List1 lanes kind values bytes
+  pub text_is : text ≡ bytes_text bytes
+
+-- a list as its kind, a space and its values
+abbrev pub list_text : ListKind → List ℕ → List ℕ
+list_text kind values = listkind_text kind ++ 32 ∷ values_text values
+
+-- the text is that of the list of the bytes
+pub record IsDecoded (lanes : ℕ) (bytes text : List ℕ) : Type 0 where
+  pub kind : ListKind
+  pub values : List ℕ
+  pub are_words : AreWords values
+  pub list : List1 lanes kind values bytes
+  pub text_is : text ≡ list_text kind values
+
 -- the text replies to the request, put to a packer of so many lanes
 abbrev pub IsReply : ℕ → Request → List ℕ → Type 0
 IsReply lanes (Size width) = λ text. text ≡ decimal (size lanes width)
@@ -72,6 +94,8 @@ IsReply lanes (Unpack kind width bytes) =
     RefusedIf (32 < width) 3
     (RefusedIf (length bytes ≢ size lanes width) 5
     (IsUnpacked lanes width kind bytes))
+IsReply lanes (Enc kind values) = IsEncoded lanes kind values
+IsReply lanes (Dec bytes) = λ text. MatchOption (fault1 lanes bytes) (IsDecoded lanes bytes text) (λ fault. text ≡ refused (20 + number_of fault))
 
 -- the line spells no request
 abbrev pub SpellsNone : List ℕ → Type 0

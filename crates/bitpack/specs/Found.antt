@@ -10,7 +10,7 @@ use Rattle.bitpack.specs.declared.line.PackerName.{PackerName}
 use Rattle.bitpack.specs.declared.line.values.Item.{Item}
 use Rattle.bitpack.specs.declared.line.error.ParseError.{ParseError}
 use Rattle.bitpack.specs.declared.line.error.ParseError.TheVariants.{Memory, Spelling}
-use Rattle.bitpack.specs.Grammar.{IsItem, IsKind, Pack, Request, Size, Unpack, Width, item_text, item_values, kind_text}
+use Rattle.bitpack.specs.Grammar.{Dec, Enc, IsItem, IsKind, Pack, Request, Size, Unpack, Width, item_text, item_values, kind_text}
 
 -- what was found is spelled; where nothing was found, nothing is
 abbrev pub Finds : {Y : Type 0} → (Y → Type 0) → Option Y → Type 0
@@ -51,6 +51,8 @@ request_of (commands.Size width) = Size width
 request_of (commands.Width kind values) = Width kind values.items
 request_of (commands.Pack kind width values) = Pack kind width values.items
 request_of (commands.Unpack kind width bytes) = Unpack kind width bytes.items
+request_of (commands.Enc kind values) = Enc kind values.items
+request_of (commands.Dec bytes) = Dec bytes.items
 
 abbrev pub asked_by : Line → PackerName × Request
 asked_by line = (line.packer, request_of line.command)

@@ -6,6 +6,8 @@ use Rattle.hex.specs.Hex.{decode_of}
 use Rattle.bitpacking.specs.declared.kind.Kind.{Kind}
 use Rattle.bitpacking.specs.declared.kind.Kind.TheVariants.{Plain, Sorted, StrictlySorted}
 use Rattle.bitpacking.specs.Codes.{start}
+use Rattle.bitpack.specs.declared.list_kind.ListKind.{ListKind}
+use Rattle.bitpack.specs.declared.list_kind.ListKind.TheVariants as lists
 use Rattle.bitpack.specs.declared.line.PackerName.{PackerName}
 use Rattle.bitpack.specs.declared.line.PackerName.TheVariants.{EightLanes, EightScalar, FourLanes, FourScalar, OneLane}
 use Rattle.bitpack.specs.declared.line.values.Item.{Item}
@@ -39,6 +41,12 @@ kind_text Plain = codes "plain"
 kind_text (Sorted initial) = codes "sorted:" ++ decimal initial
 kind_text (StrictlySorted None) = codes "strict:none"
 kind_text (StrictlySorted (Some initial)) = codes "strict:" ++ decimal initial
+
+-- the kind of a list
+abbrev pub listkind_text : ListKind → List ℕ
+listkind_text lists.Plain = codes "plain"
+listkind_text lists.Sorted = codes "sorted"
+listkind_text lists.StrictlySorted = codes "strict"
 
 -- the number in a kind is a word
 abbrev pub IsKind : Kind → Type 0
@@ -85,6 +93,8 @@ pub data Request : Type 0 where
   Width : Kind → List ℕ → Request
   Pack : Kind → ℕ → List ℕ → Request
   Unpack : Kind → ℕ → List ℕ → Request
+  Enc : ListKind → List ℕ → Request
+  Dec : List ℕ → Request
 
 -- the fields of a line ask this of this packer
 abbrev pub Asks : List (List ℕ) → PackerName → Request → Type 0
@@ -99,6 +109,10 @@ Asks fields packer (Pack kind width values) =
 Asks fields packer (Unpack kind width bytes) =
     (text : List ℕ) × (fields ≡ codes "unpack" ∷ packer_text packer ∷ kind_text kind ∷ decimal width ∷ text ∷ [])
     × IsKind kind × IsSmall width × SpellsBytes text bytes
+Asks fields packer (Enc kind values) =
+    (text : List ℕ) × (fields ≡ codes "enc" ∷ packer_text packer ∷ listkind_text kind ∷ text ∷ []) × SpellsValues text values
+Asks fields packer (Dec bytes) =
+    (text : List ℕ) × (fields ≡ codes "dec" ∷ packer_text packer ∷ text ∷ []) × SpellsBytes text bytes
 
 -- the line spells the request of the packer: one space stands between two fields
 pub record Spells (line : List ℕ) (packer : PackerName) (request : Request) : Type 0 where

@@ -5,6 +5,7 @@ ghost use Rattle.bitpack.specs.Found.{request_of};
 ghost use Rattle.bitpack.specs.Answers.{IsAnswer, IsReply, lanes_of};
 ghost use Rattle.bitpack.specs.Lines.{AppendsAnswer, AppendsAnswerInPart};
 
+mod lists;
 mod replies;
 mod texts;
 
@@ -12,6 +13,7 @@ use crate::RunError;
 use crate::line::{Command, Line, PackerName, ParseError, parse};
 use crate::writing::put;
 use bitpacking::{BitPacker, BitPacker1x, BitPacker4x, BitPacker8x};
+use lists::{dec_text, enc_text};
 use replies::{pack_text, size_text, unpack_text, width_text};
 use std::alloc::{AllocError, Global};
 use std::io::Write;
@@ -94,5 +96,7 @@ fn reply_by<P: BitPacker>(
         Command::Unpack(kind, width, bytes) => {
             unpack_text(alloc, packer, *kind, *width, bytes.as_slice())
         }
+        Command::Enc(kind, values) => enc_text(alloc, packer, *kind, values.as_slice()),
+        Command::Dec(bytes) => dec_text(alloc, packer, bytes.as_slice()),
     }
 }

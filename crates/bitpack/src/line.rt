@@ -11,9 +11,10 @@ mod names;
 mod numbers;
 mod values;
 
+use crate::ListKind;
 use bitpacking::Kind;
 pub(crate) use error::ParseError;
-use forms::{pack_of, size_of, unpack_of, width_of};
+use forms::{dec_of, enc_of, pack_of, size_of, unpack_of, width_of};
 use std::alloc::Global;
 
 /// The packers that a line can name.
@@ -42,6 +43,10 @@ pub(crate) enum Command {
     Pack(Kind, u8, Vec<u32>),
     /// `unpack`: the block of the bytes at a width.
     Unpack(Kind, u8, Vec<u8>),
+    /// `enc`: the bytes of a packed list.
+    Enc(ListKind, Vec<u32>),
+    /// `dec`: the list of the bytes.
+    Dec(Vec<u8>),
 }
 
 /// A line of the language.
@@ -73,6 +78,8 @@ fn line_of(alloc: Global, fields: &[&str]) -> Result<Line, ParseError>
         ["width", packer, kind, values] => width_of(alloc, packer, kind, values),
         ["pack", packer, kind, width, values] => pack_of(alloc, packer, kind, width, values),
         ["unpack", packer, kind, width, bytes] => unpack_of(alloc, packer, kind, width, bytes),
+        ["enc", packer, kind, values] => enc_of(alloc, packer, kind, values),
+        ["dec", packer, bytes] => dec_of(alloc, packer, bytes),
         _ => Err(ParseError::Spelling),
     }
 }

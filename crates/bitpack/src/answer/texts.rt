@@ -1,10 +1,12 @@
 //! Texts of answers.
 
-ghost use Rattle.std.specs.Prelude.{◌≡◌, IfOk, string_bytes};
+ghost use Rattle.std.specs.Prelude.{◌≡◌, ◌++◌, IfOk, OnOk, string_bytes};
 ghost use Rattle.bitpacking.specs.Bits.{AreBytes};
 ghost use Rattle.bitpacking.specs.Codes.{AreWords};
-ghost use Rattle.bitpack.specs.Answers.{bytes_text, refused, values_text};
+ghost use Rattle.bitpack.specs.Grammar.{listkind_text};
+ghost use Rattle.bitpack.specs.Answers.{bytes_text, list_text, refused, values_text};
 
+use crate::ListKind;
 use std::alloc::{AllocError, Global};
 use std::fmt::Write;
 
@@ -27,17 +29,48 @@ pub(crate) fn bytes_text(alloc: Global, bytes: &[u8]) -> Result<String, AllocErr
     }
 }
 
+/// Appends values as decimals, with commas between them.
+fn push_values(text: &mut String, values: &[u32]) -> Result<(), AllocError>
+    ensures text { OnOk result (string_bytes text.new ≡ string_bytes text.old ++ values_text values.now) }
+{
+    let Some((first, rest)) = values.split_first() else {
+        return text.push('-');
+    };
+    write!(text, "{first}")?;
+    for value in rest {
+        write!(text, ",{value}")?;
+    }
+    Ok(())
+}
+
 /// Values as decimals, with commas between them.
 pub(crate) fn values_text(alloc: Global, values: &[u32]) -> Result<String, AllocError>
     ensures text { IfOk result (λ text. string_bytes text ≡ values_text values.now) }
     ensures range { AreWords values.now }
 {
-    let Some((first, rest)) = values.split_first() else {
-        return String::from_str(alloc, "-");
-    };
-    let mut text = format!(in alloc; "{first}")?;
-    for value in rest {
-        write!(text, ",{value}")?;
+    let mut text = String::new(alloc);
+    push_values(&mut text, values)?;
+    Ok(text)
+}
+
+/// The word for a kind of lists.
+fn listkind_name(kind: ListKind) -> &'static str
+    ensures { result.now ≡ listkind_text kind }
+{
+    match kind {
+        ListKind::Plain => "plain",
+        ListKind::Sorted => "sorted",
+        ListKind::StrictlySorted => "strict",
     }
+}
+
+/// A list as its kind, a space and its values.
+pub(crate) fn list_text(alloc: Global, kind: ListKind, values: &[u32]) -> Result<String, AllocError>
+    ensures text { IfOk result (λ text. string_bytes text ≡ list_text kind values.now) }
+    ensures range { AreWords values.now }
+{
+    let mut text = String::from_str(alloc, listkind_name(kind))?;
+    text.push(' ')?;
+    push_values(&mut text, values)?;
     Ok(text)
 }

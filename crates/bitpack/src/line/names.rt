@@ -1,11 +1,12 @@
-//! The words for packers and kinds.
+//! The words for packers, kinds and kinds of lists.
 
 ghost use Rattle.std.specs.Prelude.{◌≡◌};
-ghost use Rattle.bitpack.specs.Grammar.{packer_text};
+ghost use Rattle.bitpack.specs.Grammar.{listkind_text, packer_text};
 ghost use Rattle.bitpack.specs.Found.{Finds, SpellsKind};
 
 use super::PackerName;
 use super::numbers::word_of;
+use crate::ListKind;
 use bitpacking::Kind;
 
 pub(crate) fn packer_of(text: &str) -> Option<PackerName>
@@ -32,6 +33,17 @@ pub(crate) fn kind_of(text: &str) -> Option<Kind>
         "sorted" => Some(Kind::Sorted(word_of(start)?)),
         "strict" if start == "none" => Some(Kind::StrictlySorted(None)),
         "strict" => Some(Kind::StrictlySorted(Some(word_of(start)?))),
+        _ => None,
+    }
+}
+
+pub(crate) fn listkind_of(text: &str) -> Option<ListKind>
+    ensures { Finds (λ kind. text.now ≡ listkind_text kind) result }
+{
+    match text {
+        "plain" => Some(ListKind::Plain),
+        "sorted" => Some(ListKind::Sorted),
+        "strict" => Some(ListKind::StrictlySorted),
         _ => None,
     }
 }

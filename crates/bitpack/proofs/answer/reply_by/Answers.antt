@@ -8,3 +8,9 @@ returns-in-Pack g c = rw (c.in-Pack.is, ← c.as_slice-in-Pack.ensures.value) c.
 
 pub returns-in-Unpack : goal.returns-in-Unpack
 returns-in-Unpack g c = rw (c.in-Unpack.is, ← c.as_slice-in-Unpack.ensures.value) c.unpack_text.ensures
+
+pub returns-in-Enc : goal.returns-in-Enc
+returns-in-Enc g c = rw (c.in-Enc.is, ← c.as_slice-in-Enc.ensures.value) c.enc_text.ensures
+
+pub returns-in-Dec : goal.returns-in-Dec
+returns-in-Dec g c = rw (c.in-Dec.is, ← c.as_slice-in-Dec.ensures.value) c.dec_text.ensures
