@@ -6,124 +6,127 @@ use crate::run;
 use std::alloc::{AllocError, Global};
 use std::test::Fail;
 
-const LINES: [(&str, &str); 78] = [
-    // Whole lines of each form.
-    (
-        "pack 1x plain 3 0,1,2,3,4,5,6,7,0,1,2,3,4,5,6,7,0,1,2,3,4,5,6,7,0,1,2,3,4,5,6,7",
-        "88c6fa88c6fa88c6fa88c6fa",
-    ),
-    ("size 1x 1", "4"),
-    ("size 1x 0", "0"),
-    ("size 4x 13", "208"),
-    ("size 8x 32", "1024"),
-    ("size 4s 13", "208"),
-    ("size 8s 255", "8160"),
-    ("size 8x 255", "8160"),
-    ("width 1x plain 0*31,5", "3"),
-    ("width 1x plain 0*32", "0"),
-    ("width 1x plain 4294967295*32", "32"),
-    ("pack 1x plain 1 1*32", "ffffffff"),
-    ("pack 1x plain 2 1*32", "5555555555555555"),
-    ("pack 1x plain 0 0*32", "-"),
-    (
-        "pack 8x plain 1 1*8,0*248",
-        "0100000001000000010000000100000001000000010000000100000001000000",
-    ),
-    (
-        "unpack 1x plain 1 FFffFfFf",
-        "1,1,1,1,1,1,1,1,1,1,1,1,1,1,1,1,1,1,1,1,1,1,1,1,1,1,1,1,1,1,1,1",
-    ),
-    (
-        "unpack 1x plain 2 5555555555555555",
-        "1,1,1,1,1,1,1,1,1,1,1,1,1,1,1,1,1,1,1,1,1,1,1,1,1,1,1,1,1,1,1,1",
-    ),
-    (
-        "unpack 1x plain 3 ffffffffffffffffffffffff",
-        "7,7,7,7,7,7,7,7,7,7,7,7,7,7,7,7,7,7,7,7,7,7,7,7,7,7,7,7,7,7,7,7",
-    ),
-    (
-        "pack 8s plain 1 1*8,0*248",
-        "0100000001000000010000000100000001000000010000000100000001000000",
-    ),
-    // The kinds: differences wrap, and the start stands before the first value.
-    ("width 1x sorted:5 5*32", "0"),
-    ("width 1x sorted:0 5,4*31", "32"),
-    ("width 1x sorted:4294967295 4294967295*32", "0"),
-    ("width 1x strict:0 5*32", "32"),
-    ("width 1x strict:none 0*32", "32"),
-    ("width 1x strict:4294967295 4294967295*32", "32"),
-    ("width 4x sorted:0 2147483648*128", "32"),
-    ("width 4s sorted:0 2147483648*128", "32"),
-    (
-        "pack 1x sorted:0 3 0,1,3,6,10,15,21,28,28,29,31,34,38,43,49,56,56,57,59,62,66,71,77,84,84,85,87,90,94,99,105,112",
-        "88c6fa88c6fa88c6fa88c6fa",
-    ),
-    (
-        "unpack 1x strict:none 0 -",
-        "0,1,2,3,4,5,6,7,8,9,10,11,12,13,14,15,16,17,18,19,20,21,22,23,24,25,26,27,28,29,30,31",
-    ),
-    (
-        "unpack 1x sorted:7 0 -",
-        "7,7,7,7,7,7,7,7,7,7,7,7,7,7,7,7,7,7,7,7,7,7,7,7,7,7,7,7,7,7,7,7",
-    ),
-    // Refusals in their order.
-    ("width 1x plain -", "refused 2"),
-    ("width 1x plain 1*1", "refused 2"),
-    ("width 4x plain 0*127", "refused 2"),
-    ("width 4x plain 0*129", "refused 2"),
-    ("pack 1x plain 33 0*31", "refused 2"),
-    ("pack 1x plain 255 0*31", "refused 2"),
-    ("pack 1x plain 33 0*32", "refused 3"),
-    ("pack 1x plain 33 2*32", "refused 3"),
-    ("pack 1x plain 255 0*32", "refused 3"),
-    ("pack 1x plain 1 2*32", "refused 4"),
-    ("pack 4x strict:none 0 0*128", "refused 4"),
-    ("unpack 1x plain 33 00", "refused 3"),
-    ("unpack 1x plain 255 -", "refused 3"),
-    ("unpack 1x plain 1 00", "refused 5"),
-    ("unpack 1x plain 1 0000000000", "refused 5"),
-    ("unpack 1x plain 0 00", "refused 5"),
-    ("unpack 1x plain 1 -", "refused 5"),
-    // No line of the language.
-    ("", "refused 1"),
-    (" ", "refused 1"),
-    ("pack", "refused 1"),
-    ("size 1x", "refused 1"),
-    ("size 2x 1", "refused 1"),
-    ("size  1x 1", "refused 1"),
-    (" size 1x 1", "refused 1"),
-    ("size 1x 1 ", "refused 1"),
-    ("size 1x 1 1", "refused 1"),
-    ("size 1x 8\r", "refused 1"),
-    ("PACK 1x plain 1 1*32", "refused 1"),
-    ("pack  1x plain 1 1*32", "refused 1"),
-    ("size 1x 01", "refused 1"),
-    ("size 1x +1", "refused 1"),
-    ("size 1x 256", "refused 1"),
-    ("size 1x -", "refused 1"),
-    ("pack 1x plain 256 0*32", "refused 1"),
-    ("width 1x sorted:4294967296 0*32", "refused 1"),
-    ("width 1x sorted:none 0*32", "refused 1"),
-    ("width 1x strict 0*32", "refused 1"),
-    ("width 1x plain:0 0*32", "refused 1"),
-    ("width 1x plain 1*032", "refused 1"),
-    ("width 1x plain 1*0", "refused 1"),
-    ("width 1x plain 1,,2", "refused 1"),
-    ("width 1x plain 0*31,4294967296", "refused 1"),
-    ("width 1x plain 1*18446744073709551648", "refused 1"),
-    ("width 1x plain 0*65537", "refused 1"),
-    ("width 1x plain 0*65536,0", "refused 1"),
-    ("unpack 1x plain 1 fff", "refused 1"),
-    ("unpack 1x plain 33 0", "refused 1"),
-    ("unpack 1x plain 1 ffffffgg", "refused 1"),
-];
+/// Each line with its answer.
+fn lines() -> [(&'static str, &'static str); 78] {
+    [
+        // Whole lines of each form.
+        (
+            "pack 1x plain 3 0,1,2,3,4,5,6,7,0,1,2,3,4,5,6,7,0,1,2,3,4,5,6,7,0,1,2,3,4,5,6,7",
+            "88c6fa88c6fa88c6fa88c6fa",
+        ),
+        ("size 1x 1", "4"),
+        ("size 1x 0", "0"),
+        ("size 4x 13", "208"),
+        ("size 8x 32", "1024"),
+        ("size 4s 13", "208"),
+        ("size 8s 255", "8160"),
+        ("size 8x 255", "8160"),
+        ("width 1x plain 0*31,5", "3"),
+        ("width 1x plain 0*32", "0"),
+        ("width 1x plain 4294967295*32", "32"),
+        ("pack 1x plain 1 1*32", "ffffffff"),
+        ("pack 1x plain 2 1*32", "5555555555555555"),
+        ("pack 1x plain 0 0*32", "-"),
+        (
+            "pack 8x plain 1 1*8,0*248",
+            "0100000001000000010000000100000001000000010000000100000001000000",
+        ),
+        (
+            "unpack 1x plain 1 FFffFfFf",
+            "1,1,1,1,1,1,1,1,1,1,1,1,1,1,1,1,1,1,1,1,1,1,1,1,1,1,1,1,1,1,1,1",
+        ),
+        (
+            "unpack 1x plain 2 5555555555555555",
+            "1,1,1,1,1,1,1,1,1,1,1,1,1,1,1,1,1,1,1,1,1,1,1,1,1,1,1,1,1,1,1,1",
+        ),
+        (
+            "unpack 1x plain 3 ffffffffffffffffffffffff",
+            "7,7,7,7,7,7,7,7,7,7,7,7,7,7,7,7,7,7,7,7,7,7,7,7,7,7,7,7,7,7,7,7",
+        ),
+        (
+            "pack 8s plain 1 1*8,0*248",
+            "0100000001000000010000000100000001000000010000000100000001000000",
+        ),
+        // The kinds: differences wrap, and the start stands before the first value.
+        ("width 1x sorted:5 5*32", "0"),
+        ("width 1x sorted:0 5,4*31", "32"),
+        ("width 1x sorted:4294967295 4294967295*32", "0"),
+        ("width 1x strict:0 5*32", "32"),
+        ("width 1x strict:none 0*32", "32"),
+        ("width 1x strict:4294967295 4294967295*32", "32"),
+        ("width 4x sorted:0 2147483648*128", "32"),
+        ("width 4s sorted:0 2147483648*128", "32"),
+        (
+            "pack 1x sorted:0 3 0,1,3,6,10,15,21,28,28,29,31,34,38,43,49,56,56,57,59,62,66,71,77,84,84,85,87,90,94,99,105,112",
+            "88c6fa88c6fa88c6fa88c6fa",
+        ),
+        (
+            "unpack 1x strict:none 0 -",
+            "0,1,2,3,4,5,6,7,8,9,10,11,12,13,14,15,16,17,18,19,20,21,22,23,24,25,26,27,28,29,30,31",
+        ),
+        (
+            "unpack 1x sorted:7 0 -",
+            "7,7,7,7,7,7,7,7,7,7,7,7,7,7,7,7,7,7,7,7,7,7,7,7,7,7,7,7,7,7,7,7",
+        ),
+        // Refusals in their order.
+        ("width 1x plain -", "refused 2"),
+        ("width 1x plain 1*1", "refused 2"),
+        ("width 4x plain 0*127", "refused 2"),
+        ("width 4x plain 0*129", "refused 2"),
+        ("pack 1x plain 33 0*31", "refused 2"),
+        ("pack 1x plain 255 0*31", "refused 2"),
+        ("pack 1x plain 33 0*32", "refused 3"),
+        ("pack 1x plain 33 2*32", "refused 3"),
+        ("pack 1x plain 255 0*32", "refused 3"),
+        ("pack 1x plain 1 2*32", "refused 4"),
+        ("pack 4x strict:none 0 0*128", "refused 4"),
+        ("unpack 1x plain 33 00", "refused 3"),
+        ("unpack 1x plain 255 -", "refused 3"),
+        ("unpack 1x plain 1 00", "refused 5"),
+        ("unpack 1x plain 1 0000000000", "refused 5"),
+        ("unpack 1x plain 0 00", "refused 5"),
+        ("unpack 1x plain 1 -", "refused 5"),
+        // No line of the language.
+        ("", "refused 1"),
+        (" ", "refused 1"),
+        ("pack", "refused 1"),
+        ("size 1x", "refused 1"),
+        ("size 2x 1", "refused 1"),
+        ("size  1x 1", "refused 1"),
+        (" size 1x 1", "refused 1"),
+        ("size 1x 1 ", "refused 1"),
+        ("size 1x 1 1", "refused 1"),
+        ("size 1x 8\r", "refused 1"),
+        ("PACK 1x plain 1 1*32", "refused 1"),
+        ("pack  1x plain 1 1*32", "refused 1"),
+        ("size 1x 01", "refused 1"),
+        ("size 1x +1", "refused 1"),
+        ("size 1x 256", "refused 1"),
+        ("size 1x -", "refused 1"),
+        ("pack 1x plain 256 0*32", "refused 1"),
+        ("width 1x sorted:4294967296 0*32", "refused 1"),
+        ("width 1x sorted:none 0*32", "refused 1"),
+        ("width 1x strict 0*32", "refused 1"),
+        ("width 1x plain:0 0*32", "refused 1"),
+        ("width 1x plain 1*032", "refused 1"),
+        ("width 1x plain 1*0", "refused 1"),
+        ("width 1x plain 1,,2", "refused 1"),
+        ("width 1x plain 0*31,4294967296", "refused 1"),
+        ("width 1x plain 1*18446744073709551648", "refused 1"),
+        ("width 1x plain 0*65537", "refused 1"),
+        ("width 1x plain 0*65536,0", "refused 1"),
+        ("unpack 1x plain 1 fff", "refused 1"),
+        ("unpack 1x plain 33 0", "refused 1"),
+        ("unpack 1x plain 1 ffffffgg", "refused 1"),
+    ]
+}
 
 /// All lines in one input, a byte a read, and three bytes a write.
 #[test]
 fn worked_lines_in_small_steps(rt: HostRuntime) -> Result<(), Fail> {
     let mut input = String::new(rt.alloc());
     let mut answers = String::new(rt.alloc());
-    for (line, wanted) in LINES {
+    for (line, wanted) in lines() {
         input.push_str(line)?;
         input.push('\n')?;
         answers.push_str(wanted)?;
@@ -143,7 +146,7 @@ fn worked_lines_in_small_steps(rt: HostRuntime) -> Result<(), Fail> {
 
 #[test]
 fn worked_lines(rt: HostRuntime) -> Result<(), Fail> {
-    for (line, wanted) in LINES {
+    for (line, wanted) in lines() {
         let text = answer(rt.alloc(), line.as_bytes())?;
         assert_eq!(rt; text.as_str(), wanted, "the answer to {line}");
     }
