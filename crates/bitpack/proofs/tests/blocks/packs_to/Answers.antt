@@ -1,4 +1,4 @@
-use Rattle.std.proofs.Common.{◌≤◌, rules, arith}
+use Rattle.std.proofs.Common.{◌≤◌, rules}
 use Rattle.bitpacking.specs.Codes.{codes}
 use Rattle.bitpack.proofs.tests.blocks.packs_to.Goals as goal
 
