@@ -9,6 +9,7 @@ mod chains;
 mod fakes;
 mod faults;
 mod lines;
+mod list_lines;
 mod no_memory;
 mod worked;
 

@@ -4,10 +4,11 @@ use super::fakes::{Giver, Taker};
 use crate::answer::answer;
 use crate::run;
 use std::alloc::{AllocError, Global};
+use std::process::Abort;
 use std::test::Fail;
 
-const LINES: [(&str, &str); 78] = [
-    // Whole lines of each form.
+/// Lines of each form, and what they are answered.
+const ANSWERED: [(&str, &str); 30] = [
     (
         "pack 1x plain 3 0,1,2,3,4,5,6,7,0,1,2,3,4,5,6,7,0,1,2,3,4,5,6,7,0,1,2,3,4,5,6,7",
         "88c6fa88c6fa88c6fa88c6fa",
@@ -66,6 +67,10 @@ const LINES: [(&str, &str); 78] = [
         "unpack 1x sorted:7 0 -",
         "7,7,7,7,7,7,7,7,7,7,7,7,7,7,7,7,7,7,7,7,7,7,7,7,7,7,7,7,7,7,7,7",
     ),
+];
+
+/// Lines that are refused.
+const REFUSED: [(&str, &str); 48] = [
     // Refusals in their order.
     ("width 1x plain -", "refused 2"),
     ("width 1x plain 1*1", "refused 2"),
@@ -118,12 +123,28 @@ const LINES: [(&str, &str); 78] = [
     ("unpack 1x plain 1 ffffffgg", "refused 1"),
 ];
 
+/// Each line has its answer.
+fn each_is_answered(
+    rt: &impl Abort,
+    alloc: Global,
+    lines: &[(&str, &str)],
+) -> Result<(), AllocError> {
+    for (line, wanted) in lines {
+        let text = answer(alloc, line.as_bytes())?;
+        assert_eq!(rt; text.as_str(), *wanted, "the answer to {line}");
+    }
+    Ok(())
+}
+
 /// All lines in one input, a byte a read, and three bytes a write.
-#[test]
-fn worked_lines_in_small_steps(rt: HostRuntime) -> Result<(), Fail> {
-    let mut input = String::new(rt.alloc());
-    let mut answers = String::new(rt.alloc());
-    for (line, wanted) in LINES {
+fn all_are_answered_in_small_steps(
+    rt: &impl Abort,
+    alloc: Global,
+    lines: &[(&str, &str)],
+) -> Result<(), AllocError> {
+    let mut input = String::new(alloc);
+    let mut answers = String::new(alloc);
+    for (line, wanted) in lines {
         input.push_str(line)?;
         input.push('\n')?;
         answers.push_str(wanted)?;
@@ -131,8 +152,8 @@ fn worked_lines_in_small_steps(rt: HostRuntime) -> Result<(), Fail> {
     }
     for (read, written) in [(1, 3), (3, 1), (4096, 4096)] {
         let mut reader = Giver::new(input.as_bytes(), read);
-        let mut writer = Taker::new(rt.alloc(), written);
-        assert_eq!(rt; run(rt.alloc(), &mut reader, &mut writer), Ok(()));
+        let mut writer = Taker::new(alloc, written);
+        assert_eq!(rt; run(alloc, &mut reader, &mut writer), Ok(()));
         assert!(rt;
             writer.taken.as_slice() == answers.as_bytes(),
             "steps {read} and {written}"
@@ -143,15 +164,20 @@ fn worked_lines_in_small_steps(rt: HostRuntime) -> Result<(), Fail> {
 
 #[test]
 fn worked_lines(rt: HostRuntime) -> Result<(), Fail> {
-    for (line, wanted) in LINES {
-        let text = answer(rt.alloc(), line.as_bytes())?;
-        assert_eq!(rt; text.as_str(), wanted, "the answer to {line}");
-    }
+    each_is_answered(&rt, rt.alloc(), &ANSWERED)?;
+    all_are_answered_in_small_steps(&rt, rt.alloc(), &ANSWERED)?;
+    Ok(())
+}
+
+#[test]
+fn refused_lines(rt: HostRuntime) -> Result<(), Fail> {
+    each_is_answered(&rt, rt.alloc(), &REFUSED)?;
+    all_are_answered_in_small_steps(&rt, rt.alloc(), &REFUSED)?;
     Ok(())
 }
 
 /// So many times the same text.
-fn repeated(alloc: Global, text: &str, count: usize) -> Result<String, AllocError> {
+pub(super) fn repeated(alloc: Global, text: &str, count: usize) -> Result<String, AllocError> {
     let mut all = String::new(alloc);
     for _ in 0..count {
         all.push_str(text)?;
@@ -160,7 +186,12 @@ fn repeated(alloc: Global, text: &str, count: usize) -> Result<String, AllocErro
 }
 
 /// So many numbers, each `step` more than the one before it, modulo 2 ^ 32.
-fn counted(alloc: Global, first: u32, step: u32, count: usize) -> Result<String, AllocError> {
+pub(super) fn counted(
+    alloc: Global,
+    first: u32,
+    step: u32,
+    count: usize,
+) -> Result<String, AllocError> {
     let mut all = String::new(alloc);
     let mut number = first;
     for place in 0..count {
