@@ -9,6 +9,7 @@ mod chains;
 mod fakes;
 mod faults;
 mod lines;
+mod list_lines;
 mod list_memory;
 mod lists;
 mod no_memory;

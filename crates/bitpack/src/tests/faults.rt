@@ -3,6 +3,7 @@
 //! The expected text is worked by hand from the line language: each line here is answered `refused 1`.
 
 use super::fakes::{Giver, Letters, Taker};
+use super::lines::{counted, repeated};
 use super::{ANSWERS, INPUT};
 use crate::{RunError, ending, run};
 use std::alloc::{AllocError, Global};
@@ -135,15 +136,16 @@ ffffffff
 refused 6
 ";
 
-/// Runs over lines of each form and one of so many letters, where no more memory is left than so many growths.
+/// Runs over lines and one of so many letters, where no more memory is left than so many growths.
 fn run_short_of_memory(
     alloc: Global,
+    lines: &[u8],
     letters: usize,
     count: u32,
 ) -> Result<(Result<(), RunError>, Taker), AllocError> {
-    let mut reader = BLOCKS.chain(Letters { left: letters });
+    let mut reader = lines.chain(Letters { left: letters });
     let mut writer = Taker::new(alloc, 100);
-    writer.taken.try_reserve(200)?;
+    writer.taken.try_reserve(100_000)?;
     let kept = growths(alloc, count)?;
     let blocks = take_all(alloc)?;
     drop(kept);
@@ -158,7 +160,7 @@ fn each_growth_is_refused_in_turn(rt: HostRuntime) -> Result<(), Fail> {
     for letters in [65_537, 3_000_000] {
         let mut last = 0;
         for count in 0..18u32 {
-            let (outcome, writer) = run_short_of_memory(rt.alloc(), letters, count)?;
+            let (outcome, writer) = run_short_of_memory(rt.alloc(), BLOCKS, letters, count)?;
             let answers = writer.taken.as_slice();
             assert!(rt; BLOCKS_AND_LETTERS.starts_with(answers), "{count} growths");
             assert!(rt; answers.len() >= last, "{count} growths");
@@ -169,5 +171,33 @@ fn each_growth_is_refused_in_turn(rt: HostRuntime) -> Result<(), Fail> {
             assert!(rt; ends == (count > 14), "{letters} letters, {count} growths");
         }
     }
+    Ok(())
+}
+
+#[test]
+fn each_growth_of_a_list_is_refused_in_turn(rt: HostRuntime) -> Result<(), Fail> {
+    let alloc = rt.alloc();
+    // 64 blocks of 256 zeros are a byte each, and 2,048 blocks of 32 zeros too.
+    let few = repeated(alloc, "00", 64)?;
+    let many = repeated(alloc, "00", 2048)?;
+    let zeros = counted(alloc, 0, 0, 16_384)?;
+    let lines = format!(in alloc; "dec 8x 01000800400000{few}\nenc 1x plain 0*65536\n")?;
+    let first = format!(in alloc; "plain {zeros}\n")?;
+    let answers = format!(in alloc; "{first}01000100000100{many}\n")?;
+    let mut last = 0;
+    for count in 0..20u32 {
+        let (outcome, writer) = run_short_of_memory(alloc, lines.as_bytes(), 0, count)?;
+        let taken = writer.taken.as_slice();
+        assert!(rt; answers.as_bytes().starts_with(taken), "{count} growths");
+        assert!(rt; taken.len() >= last, "{count} growths");
+        last = taken.len();
+        let ends = last == answers.len();
+        let want = if ends { Ok(()) } else { Err(RunError::Memory) };
+        assert_eq!(rt; outcome, want, "{count} growths");
+        // The values of the first line take 65,536 bytes, and those of the second four times as many.
+        assert!(rt; last < first.len() || count > 13, "{count} growths");
+        assert!(rt; !ends || count > 15, "{count} growths");
+    }
+    assert!(rt; last == answers.len());
     Ok(())
 }

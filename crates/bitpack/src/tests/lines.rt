@@ -4,12 +4,12 @@ use super::fakes::{Giver, Taker};
 use crate::answer::answer;
 use crate::run;
 use std::alloc::{AllocError, Global};
+use std::process::Abort;
 use std::test::Fail;
 
-/// Each line with its answer.
-fn lines() -> [(&'static str, &'static str); 78] {
+/// Lines of each form, and what they are answered.
+fn answered() -> [(&'static str, &'static str); 30] {
     [
-        // Whole lines of each form.
         (
             "pack 1x plain 3 0,1,2,3,4,5,6,7,0,1,2,3,4,5,6,7,0,1,2,3,4,5,6,7,0,1,2,3,4,5,6,7",
             "88c6fa88c6fa88c6fa88c6fa",
@@ -68,6 +68,12 @@ fn lines() -> [(&'static str, &'static str); 78] {
             "unpack 1x sorted:7 0 -",
             "7,7,7,7,7,7,7,7,7,7,7,7,7,7,7,7,7,7,7,7,7,7,7,7,7,7,7,7,7,7,7,7",
         ),
+    ]
+}
+
+/// Lines that are refused.
+fn refused() -> [(&'static str, &'static str); 48] {
+    [
         // Refusals in their order.
         ("width 1x plain -", "refused 2"),
         ("width 1x plain 1*1", "refused 2"),
@@ -121,12 +127,28 @@ fn lines() -> [(&'static str, &'static str); 78] {
     ]
 }
 
+/// Each line has its answer.
+fn each_is_answered(
+    rt: &impl Abort,
+    alloc: Global,
+    lines: &[(&str, &str)],
+) -> Result<(), AllocError> {
+    for (line, wanted) in lines {
+        let text = answer(alloc, line.as_bytes())?;
+        assert_eq!(rt; text.as_str(), *wanted, "the answer to {line}");
+    }
+    Ok(())
+}
+
 /// All lines in one input, a byte a read, and three bytes a write.
-#[test]
-fn worked_lines_in_small_steps(rt: HostRuntime) -> Result<(), Fail> {
-    let mut input = String::new(rt.alloc());
-    let mut answers = String::new(rt.alloc());
-    for (line, wanted) in lines() {
+fn all_are_answered_in_small_steps(
+    rt: &impl Abort,
+    alloc: Global,
+    lines: &[(&str, &str)],
+) -> Result<(), AllocError> {
+    let mut input = String::new(alloc);
+    let mut answers = String::new(alloc);
+    for (line, wanted) in lines {
         input.push_str(line)?;
         input.push('\n')?;
         answers.push_str(wanted)?;
@@ -134,8 +156,8 @@ fn worked_lines_in_small_steps(rt: HostRuntime) -> Result<(), Fail> {
     }
     for (read, written) in [(1, 3), (3, 1), (4096, 4096)] {
         let mut reader = Giver::new(input.as_bytes(), read);
-        let mut writer = Taker::new(rt.alloc(), written);
-        assert_eq!(rt; run(rt.alloc(), &mut reader, &mut writer), Ok(()));
+        let mut writer = Taker::new(alloc, written);
+        assert_eq!(rt; run(alloc, &mut reader, &mut writer), Ok(()));
         assert!(rt;
             writer.taken.as_slice() == answers.as_bytes(),
             "steps {read} and {written}"
@@ -146,15 +168,20 @@ fn worked_lines_in_small_steps(rt: HostRuntime) -> Result<(), Fail> {
 
 #[test]
 fn worked_lines(rt: HostRuntime) -> Result<(), Fail> {
-    for (line, wanted) in lines() {
-        let text = answer(rt.alloc(), line.as_bytes())?;
-        assert_eq!(rt; text.as_str(), wanted, "the answer to {line}");
-    }
+    each_is_answered(&rt, rt.alloc(), &answered())?;
+    all_are_answered_in_small_steps(&rt, rt.alloc(), &answered())?;
+    Ok(())
+}
+
+#[test]
+fn refused_lines(rt: HostRuntime) -> Result<(), Fail> {
+    each_is_answered(&rt, rt.alloc(), &refused())?;
+    all_are_answered_in_small_steps(&rt, rt.alloc(), &refused())?;
     Ok(())
 }
 
 /// So many times the same text.
-fn repeated(alloc: Global, text: &str, count: usize) -> Result<String, AllocError> {
+pub(super) fn repeated(alloc: Global, text: &str, count: usize) -> Result<String, AllocError> {
     let mut all = String::new(alloc);
     for _ in 0..count {
         all.push_str(text)?;
@@ -163,7 +190,12 @@ fn repeated(alloc: Global, text: &str, count: usize) -> Result<String, AllocErro
 }
 
 /// So many numbers, each `step` more than the one before it, modulo 2 ^ 32.
-fn counted(alloc: Global, first: u32, step: u32, count: usize) -> Result<String, AllocError> {
+pub(super) fn counted(
+    alloc: Global,
+    first: u32,
+    step: u32,
+    count: usize,
+) -> Result<String, AllocError> {
     let mut all = String::new(alloc);
     let mut number = first;
     for place in 0..count {

@@ -1,0 +1,229 @@
+//! Lines for packed lists, and their answers. Each text was written down by hand from the format: the seven bytes of the
+//! header, a byte of width and the bytes of each whole block, and four bytes for each value behind them.
+
+use super::fakes::{Giver, Taker};
+use super::lines::{counted, repeated};
+use crate::run;
+use std::alloc::{AllocError, Global};
+use std::test::Fail;
+
+/// Each line with its answer.
+fn lines() -> [(&'static str, &'static str); 63] {
+    [
+        ("enc 1x plain -", "01000100000000"),
+        ("enc 8s strict -", "01020800000000"),
+        ("dec 1x 01000100000000", "plain -"),
+        ("dec 1x 01010100000000", "sorted -"),
+        ("dec 1x 01020100000000", "strict -"),
+        ("enc 1x plain 5", "0100010100000005000000"),
+        ("dec 1x 0100010100000005000000", "plain 5"),
+        // A tail may stand in any order in every kind, and keeps its values.
+        (
+            "enc 4x sorted 5,3,4294967295",
+            "010104030000000500000003000000ffffffff",
+        ),
+        (
+            "dec 4s 010104030000000500000003000000FFFFFFFF",
+            "sorted 5,3,4294967295",
+        ),
+        ("enc 8x strict 7*2", "010208020000000700000007000000"),
+        (
+            "enc 1x strict 0,1,2,3,4,5,6,7,8,9,10,11,12,13,14,15,16,17,18,19,20,21,22,23,24,25,26,27,28,29,30,31,32",
+            "010201210000000020000000",
+        ),
+        (
+            "dec 1x 010201210000000020000000",
+            "strict 0,1,2,3,4,5,6,7,8,9,10,11,12,13,14,15,16,17,18,19,20,21,22,23,24,25,26,27,28,29,30,31,32",
+        ),
+        (
+            "enc 1x sorted 1,2,3,4,5,6,7,8,9,10,11,12,13,14,15,16,17,18,19,20,21,22,23,24,25,26,27,28,29,30,31,32,34,36,38,40,42,44,46,48,50,52,54,56,58,60,62,64,66,68,70,72,74,76,78,80,82,84,86,88,90,92,94,96",
+            "0101014000000001ffffffff02aaaaaaaaaaaaaaaa",
+        ),
+        (
+            "dec 1x 0101014000000001ffffffff02aaaaaaaaaaaaaaaa",
+            "sorted 1,2,3,4,5,6,7,8,9,10,11,12,13,14,15,16,17,18,19,20,21,22,23,24,25,26,27,28,29,30,31,32,34,36,38,40,42,44,46,48,50,52,54,56,58,60,62,64,66,68,70,72,74,76,78,80,82,84,86,88,90,92,94,96",
+        ),
+        // One bit in the first word of each lane.
+        (
+            "enc 4x plain 1*4,0*124",
+            "010004800000000101000000010000000100000001000000",
+        ),
+        (
+            "enc 4s plain 0,1,0*126",
+            "010004800000000100000000010000000000000000000000",
+        ),
+        // What is refused, in the order of the tests.
+        ("dec 4x 01000100000000", "refused 24"),
+        ("dec 4s 01000100000000", "refused 24"),
+        ("dec 8x 01000400000000", "refused 24"),
+        ("dec 1x -", "refused 21"),
+        ("dec 1x 01", "refused 21"),
+        ("dec 1x 010001200000", "refused 21"),
+        ("dec 1x 0100012000000021", "refused 26"),
+        ("dec 1x 010001200000000100000000", "refused 27"),
+        ("dec 1x 010001200000000000", "refused 31"),
+        ("dec 1x 01000120000000", "refused 21"),
+        ("dec 1x 0100012000000001", "refused 21"),
+        ("dec 1x 0100042000000000", "refused 24"),
+        ("dec 1x 03000100000000", "refused 22"),
+        ("dec 1x 01030100000000", "refused 23"),
+        ("dec 1x 01000101000010", "refused 25"),
+        ("dec 1x 01000100000010", "refused 21"),
+        ("dec 1x 010001010000000500000000", "refused 31"),
+        ("dec 1x 0100010100000005", "refused 21"),
+        // Room for a byte of each block and for the tail is asked for before a width is looked at.
+        ("dec 1x 0100012100000021", "refused 21"),
+        // A loose block comes before the block that is missing behind it.
+        ("dec 1x 010001400000000100000000", "refused 27"),
+        // The header: version before kind, kind before lanes, lanes before the count.
+        ("dec 1x 02030400000000", "refused 22"),
+        ("dec 1x 01030400000000", "refused 23"),
+        ("dec 1x 01000401000010", "refused 24"),
+        // A text of another version, from seven bytes on.
+        ("dec 1x 02", "refused 21"),
+        ("dec 1x 020001000000", "refused 21"),
+        (
+            "dec 1x 0200014000000001000000000000000001010000000000000000000000",
+            "refused 22",
+        ),
+        (
+            "dec 1x 02000140000000000100000000000000210000000000000000",
+            "refused 22",
+        ),
+        ("dec 1x 02000120000000210100000000000000", "refused 22"),
+        (
+            "dec 1x 0200012000000001000000000900000000000000",
+            "refused 22",
+        ),
+        ("dec 1x 020001200000000000000000000000ff", "refused 22"),
+        // No line of the language.
+        ("seek 1x 0 0200010000000000", "refused 1"),
+        ("upgrade 1x 01000100000000", "refused 1"),
+        ("enc", "refused 1"),
+        ("enc 1x plain", "refused 1"),
+        ("enc 1x plain - -", "refused 1"),
+        ("enc 2x plain -", "refused 1"),
+        ("enc 1x Plain -", "refused 1"),
+        ("enc 1x sorted:0 0", "refused 1"),
+        ("enc 1x strict:none 0", "refused 1"),
+        ("enc 1x plain 0*65537", "refused 1"),
+        ("enc  1x plain -", "refused 1"),
+        ("enc 1x plain 4294967296", "refused 1"),
+        ("dec 1x", "refused 1"),
+        ("dec 1x 0", "refused 1"),
+        ("dec 1x plain 01000100000000", "refused 1"),
+        ("dec 1x 01000100000000 ", "refused 1"),
+        ("dec 1x 0100010000000g", "refused 1"),
+    ]
+}
+
+/// What a run writes for a line.
+pub(super) fn written(alloc: Global, line: &str, step: usize) -> Result<Vec<u8>, AllocError> {
+    let mut reader = Giver::new(line.as_bytes(), 4096);
+    let mut writer = Taker::new(alloc, step);
+    match run(alloc, &mut reader, &mut writer) {
+        Ok(()) => Ok(writer.taken),
+        Err(_) => Err(AllocError),
+    }
+}
+
+#[test]
+fn worked_list_lines(rt: HostRuntime) -> Result<(), Fail> {
+    let alloc = rt.alloc();
+    for (line, wanted) in lines() {
+        let wanted = format!(in alloc; "{wanted}\n")?;
+        for step in [1, 4096] {
+            let answer = written(alloc, line, step)?;
+            assert_eq!(rt;
+                answer.as_slice(),
+                wanted.as_bytes(),
+                "the answer to {line}"
+            );
+        }
+    }
+    Ok(())
+}
+
+/// Text, kind and values of lists, in four and in eight lanes. What one packer of a pair writes, the other reads.
+#[test]
+fn the_packers_of_a_pair_share_texts(rt: HostRuntime) -> Result<(), Fail> {
+    let alloc = rt.alloc();
+    let ones = repeated(alloc, "ff", 16)?;
+    let more_ones = repeated(alloc, "ff", 32)?;
+    let rows = [
+        (
+            "4x",
+            "4s",
+            "plain",
+            counted(alloc, 1, 0, 128)?,
+            format!(in alloc; "0100048000000001{ones}")?,
+        ),
+        (
+            "4x",
+            "4s",
+            "sorted",
+            counted(alloc, 1, 1, 128)?,
+            format!(in alloc; "0101048000000001{ones}")?,
+        ),
+        (
+            "4x",
+            "4s",
+            "strict",
+            counted(alloc, 0, 1, 129)?,
+            format!(in alloc; "010204810000000080000000")?,
+        ),
+        (
+            "8x",
+            "8s",
+            "plain",
+            counted(alloc, 1, 0, 256)?,
+            format!(in alloc; "0100080001000001{more_ones}")?,
+        ),
+        (
+            "8x",
+            "8s",
+            "sorted",
+            counted(alloc, 1, 1, 256)?,
+            format!(in alloc; "0101080001000001{more_ones}")?,
+        ),
+        (
+            "8x",
+            "8s",
+            "strict",
+            counted(alloc, 0, 1, 257)?,
+            format!(in alloc; "010208010100000000010000")?,
+        ),
+    ];
+    for (lanes, arrays, kind, values, text) in &rows {
+        for (writes, reads) in [(lanes, arrays), (arrays, lanes)] {
+            let line = format!(in alloc; "enc {writes} {kind} {values}\ndec {reads} {text}")?;
+            let wanted = format!(in alloc; "{text}\n{kind} {values}\n")?;
+            let answers = written(alloc, line.as_str(), 4096)?;
+            assert_eq!(rt;
+                answers.as_slice(),
+                wanted.as_bytes(),
+                "the answers to {line}"
+            );
+        }
+    }
+    Ok(())
+}
+
+/// The most values that a line can give, and many more than that: a byte of width 0 stands for a whole block.
+#[test]
+fn long_lists(rt: HostRuntime) -> Result<(), Fail> {
+    let alloc = rt.alloc();
+    let widths = repeated(alloc, "00", 2048)?;
+    let zeros = counted(alloc, 0, 0, 65_536)?;
+    let answer = written(alloc, "enc 1x plain 0*65536", 4096)?;
+    let text = format!(in alloc; "01000100000100{widths}")?;
+    assert!(rt; answer.as_slice() == format!(in alloc; "{text}\n")?.as_bytes());
+    let answer = written(alloc, format!(in alloc; "dec 1x {text}")?.as_str(), 4096)?;
+    assert!(rt; answer.as_slice() == format!(in alloc; "plain {zeros}\n")?.as_bytes());
+    // 2,048 blocks of 256 values, from 0 on.
+    let text = format!(in alloc; "01020800000800{widths}")?;
+    let answer = written(alloc, format!(in alloc; "dec 8x {text}")?.as_str(), 100_000)?;
+    let values = counted(alloc, 0, 1, 524_288)?;
+    assert!(rt; answer.as_slice() == format!(in alloc; "strict {values}\n")?.as_bytes());
+    Ok(())
+}
