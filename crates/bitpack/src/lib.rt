@@ -1,11 +1,12 @@
-//! Chains of packed blocks, and the line program.
+//! Chains of packed blocks, packed lists, and the line program.
 //!
-//! [`chain`] packs many blocks of one kind end to end. [`run`] reads lines to the end of a reader and writes the answer to
-//! each; [`ending`] says how a program then ends.
+//! [`chain`] packs many blocks of one kind end to end. [`list`] writes a list of any length as one text, and reads a text that
+//! may be anyone's. [`run`] reads lines to the end of a reader and writes the answer to each; [`ending`] says how a program
+//! then ends.
 //!
 //! ```text
 //! pack 1x plain 1 1*32    ffffffff
-//! size 1x 13              52
+//! enc 1x plain 5          0100010100000005000000
 //! hello                   refused 1
 //! ```
 #![tactic(auto)]
