@@ -8,8 +8,13 @@ use std::alloc::{AllocError, Global};
 use std::process::Abort;
 use std::test::Fail;
 
-/// So many values, the first of them and each further one so much greater, modulo 2 ^ 32.
-fn run(values: &mut Vec<u32>, first: u32, step: u32, count: usize) -> Result<(), AllocError> {
+/// Appends so many values: the first, and each further one so much greater, modulo 2 ^ 32.
+fn push_steps(
+    values: &mut Vec<u32>,
+    first: u32,
+    step: u32,
+    count: usize,
+) -> Result<(), AllocError> {
     let mut value = first;
     for _ in 0..count {
         values.push(value)?;
@@ -67,7 +72,7 @@ fn worked_texts(rt: HostRuntime) -> Result<(), Fail> {
     let five = [1, 0, 1, 1, 0, 0, 0, 5, 0, 0, 0];
     is_text(&rt, alloc, &packer, ListKind::Plain, &[5], &five)?;
     let mut values = Vec::new(alloc);
-    run(&mut values, 0, 1, 33)?;
+    push_steps(&mut values, 0, 1, 33)?;
     let strict = [1, 2, 1, 0x21, 0, 0, 0, 0, 0x20, 0, 0, 0];
     is_text(
         &rt,
@@ -78,8 +83,8 @@ fn worked_texts(rt: HostRuntime) -> Result<(), Fail> {
         &strict,
     )?;
     let mut values = Vec::new(alloc);
-    run(&mut values, 1, 1, 32)?;
-    run(&mut values, 34, 2, 32)?;
+    push_steps(&mut values, 1, 1, 32)?;
+    push_steps(&mut values, 34, 2, 32)?;
     let sorted = [
         1, 1, 1, 0x40, 0, 0, 0, 1, 0xff, 0xff, 0xff, 0xff, 2, 0xaa, 0xaa, 0xaa, 0xaa, 0xaa, 0xaa,
         0xaa, 0xaa,
