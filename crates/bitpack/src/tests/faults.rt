@@ -175,7 +175,7 @@ fn each_growth_is_refused_in_turn(rt: HostRuntime) -> Result<(), Fail> {
 }
 
 #[test]
-fn each_growth_of_a_list_is_refused_in_turn(rt: HostRuntime) -> Result<(), Fail> {
+fn lists_with_memory_for_so_many_doublings(rt: HostRuntime) -> Result<(), Fail> {
     let alloc = rt.alloc();
     // 64 blocks of 256 zeros are a byte each, and 2,048 blocks of 32 zeros too.
     let few = repeated(alloc, "00", 64)?;
