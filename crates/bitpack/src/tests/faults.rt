@@ -145,7 +145,7 @@ fn run_short_of_memory(
 ) -> Result<(Result<(), RunError>, Taker), AllocError> {
     let mut reader = lines.chain(Letters { left: letters });
     let mut writer = Taker::new(alloc, 100);
-    writer.taken.try_reserve(100_000)?;
+    writer.taken.try_reserve(600_000)?;
     let kept = growths(alloc, count)?;
     let blocks = take_all(alloc)?;
     drop(kept);
@@ -177,11 +177,12 @@ fn each_growth_is_refused_in_turn(rt: HostRuntime) -> Result<(), Fail> {
 #[test]
 fn lists_with_memory_for_so_many_doublings(rt: HostRuntime) -> Result<(), Fail> {
     let alloc = rt.alloc();
-    // 64 blocks of 256 zeros are a byte each, and 2,048 blocks of 32 zeros too.
+    // 64 blocks of 256 zeros are a byte each. 2,048 blocks of width 32 are 264,192 bytes, more than the values take.
     let few = repeated(alloc, "00", 64)?;
-    let many = repeated(alloc, "00", 2048)?;
+    let ones = repeated(alloc, "ff", 128)?;
+    let many = repeated(alloc, format!(in alloc; "20{ones}")?.as_str(), 2048)?;
     let zeros = counted(alloc, 0, 0, 16_384)?;
-    let lines = format!(in alloc; "dec 8x 01000800400000{few}\nenc 1x plain 0*65536\n")?;
+    let lines = format!(in alloc; "dec 8x 01000800400000{few}\nenc 1x plain 4294967295*65536\n")?;
     let first = format!(in alloc; "plain {zeros}\n")?;
     let answers = format!(in alloc; "{first}01000100000100{many}\n")?;
     let mut last = 0;
