@@ -6,7 +6,6 @@ ghost use Rattle.bitpacking.specs.Width.{Fits, IsWidth};
 ghost use Rattle.bitpacking.specs.Layout.{Holds, size};
 ghost use Rattle.bitpack.specs.Chains.{Chained, Loose};
 
-use bitpacking::laws::one_least_width;
 use bitpacking::{BitPacker, Kind};
 
 /// Packs blocks of one kind, each at its least width, and returns the number of bytes written.
@@ -125,7 +124,6 @@ pub(crate) fn width_kind<P: BitPacker>(packer: &P, kind: Kind, block: &[u32]) ->
     ensures width { IsWidth kind block.now result }
     ensures narrow { result ≤ 32 }
 {
-    one_least_width();
     match kind {
         Kind::Plain => packer.num_bits(block),
         Kind::Sorted(initial) => packer.num_bits_sorted(initial, block),

@@ -8,6 +8,7 @@ use Rattle.bitpacking.specs.Bits.{AreBytes}
 use Rattle.bitpacking.specs.Codes.{AreWords, codes, start}
 use Rattle.bitpacking.specs.Width.{Fits, IsWidth, Least}
 use Rattle.bitpacking.specs.Layout.{place, size, Holds, Layout}
+use Rattle.bitpacking.specs.Calls.{IsPacked, IsUnpacked}
 
 -- every bit of the bytes of a block is the place of one bit of one code, and of no other
 abbrev pub OneLayoutPlaces : Type 0
@@ -92,16 +93,6 @@ BlockHasOneList = (lanes width : ℕ) (kind : Kind) (block bytes others : List �
 abbrev pub BlocksShareNoBytes : Type 0
 BlocksShareNoBytes = (lanes width : ℕ) (kind : Kind) (block other bytes others : List ℕ) → AreWords block → AreWords other
     → block ≢ other → Holds lanes width kind block bytes → Holds lanes width kind other others → bytes ≢ others
-
--- the buffer begins with bytes that hold the block, and goes on as it was
-pub record IsPacked (lanes width : ℕ) (kind : Kind) (block old new : List ℕ) : Type 0 where
-  pub bytes : Holds lanes width kind block (take (size lanes width) new)
-  pub rest : drop (size lanes width) new ≡ drop (size lanes width) old
-
--- the values begin with the block that the bytes hold, and go on as they were
-pub record IsUnpacked (lanes width : ℕ) (kind : Kind) (bytes old new : List ℕ) : Type 0 where
-  pub block : Holds lanes width kind (take (32 * lanes) new) (take (size lanes width) bytes)
-  pub rest : drop (32 * lanes) new ≡ drop (32 * lanes) old
 
 -- two calls that pack one block into equal buffers leave equal buffers
 abbrev pub EqualPackedBuffers : Type 0

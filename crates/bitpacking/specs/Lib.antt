@@ -5,6 +5,7 @@ pub mod Width
 pub mod Layout
 pub mod Words
 pub mod Moves
+pub mod Calls
 pub mod Partway
 pub mod Laws
 pub mod WorkedBlocks

@@ -4,6 +4,7 @@ ghost use Rattle.std.specs.Prelude.{◌≡◌, ℕ, ◌+◌, ◌*◌, ◌<◌, �
 ghost use Rattle.bitpacking.specs.Codes.{AreWords, codes};
 ghost use Rattle.bitpacking.specs.Width.{Fits, IsWidth, Least};
 ghost use Rattle.bitpacking.specs.Layout.{Holds, Layout, size};
+ghost use Rattle.bitpacking.specs.Calls.{CanPack, CanUnpack, IsPacked, IsUnpacked, MovesToPack};
 ghost use Rattle.bitpacking.specs.Moves.{Moves};
 
 use crate::Kind;
@@ -23,15 +24,10 @@ pub(crate) fn pack_kind<B: Bodies, R: Register>(
     num_bits: u8,
     steps: &mut Steps,
 ) -> usize
-    requires block { length decompressed.now ≡ 32 * R.LANES }
-    requires width { num_bits ≤ 32 }
-    requires room { size R.LANES num_bits ≤ length compressed.old }
-    requires fits { Fits (codes kind decompressed.now) num_bits }
+    requires { CanPack R.LANES num_bits kind decompressed.now compressed.old }
     ensures size { result ≡ size R.LANES num_bits }
-    ensures bytes { Holds R.LANES num_bits kind decompressed.now (take (size R.LANES num_bits) compressed.new) }
-    ensures rest { drop (size R.LANES num_bits) compressed.new ≡ drop (size R.LANES num_bits) compressed.old }
-    ensures none { num_bits ≡ 0 → Moves steps.old steps.new 0 0 0 }
-    ensures counts { 0 < num_bits → Moves steps.old steps.new 32 num_bits (32 + num_bits) }
+    ensures packed { IsPacked R.LANES num_bits kind decompressed.now compressed.old compressed.new }
+    ensures counts { MovesToPack steps.old steps.new num_bits }
 {
     match kind {
         Kind::Plain => B::pack_codes::<R, _>(NoDelta, decompressed, compressed, num_bits, steps),
@@ -55,12 +51,9 @@ pub(crate) fn unpack_kind<B: Bodies, R: Register>(
     num_bits: u8,
     steps: &mut Steps,
 ) -> usize
-    requires width { num_bits ≤ 32 }
-    requires bytes { size R.LANES num_bits ≤ length compressed.now }
-    requires room { 32 * R.LANES ≤ length decompressed.old }
+    requires { CanUnpack R.LANES num_bits compressed.now decompressed.old }
     ensures size { result ≡ size R.LANES num_bits }
-    ensures block { Holds R.LANES num_bits kind (take (32 * R.LANES) decompressed.new) (take (size R.LANES num_bits) compressed.now) }
-    ensures rest { drop (32 * R.LANES) decompressed.new ≡ drop (32 * R.LANES) decompressed.old }
+    ensures unpacked { IsUnpacked R.LANES num_bits kind compressed.now decompressed.old decompressed.new }
     ensures counts { Moves steps.old steps.new num_bits 32 (32 + num_bits) }
 {
     match kind {
@@ -83,6 +76,7 @@ pub(crate) fn unpack_kind<B: Bodies, R: Register>(
 pub(crate) fn width_kind<R: Register>(kind: Kind, decompressed: &[u32], steps: &mut Steps) -> u8
     requires { length decompressed.now ≡ 32 * R.LANES }
     ensures width { IsWidth kind decompressed.now result }
+    ensures narrow { result ≤ 32 }
     ensures counts { Moves steps.old steps.new 32 0 0 }
     ensures held { steps.new.held ≡ steps.old.held }
 {

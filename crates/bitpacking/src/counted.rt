@@ -1,9 +1,9 @@
 //! The calls of a packer by kind, each with the registers that it moves.
 
-ghost use Rattle.std.specs.Prelude.{◌≡◌, ◌+◌, ◌<◌, ◌≤◌, length, take, drop};
-ghost use Rattle.bitpacking.specs.Codes.{codes};
-ghost use Rattle.bitpacking.specs.Width.{Fits, IsWidth};
-ghost use Rattle.bitpacking.specs.Layout.{Holds, size};
+ghost use Rattle.std.specs.Prelude.{◌≡◌, ◌+◌, ◌≤◌, length};
+ghost use Rattle.bitpacking.specs.Width.{IsWidth};
+ghost use Rattle.bitpacking.specs.Layout.{size};
+ghost use Rattle.bitpacking.specs.Calls.{CanPack, CanUnpack, IsPacked, IsUnpacked, MovesToPack};
 ghost use Rattle.bitpacking.specs.Moves.{Moves};
 
 use crate::{BitPacker, Kind, Steps};
@@ -22,15 +22,10 @@ pub trait Counted: BitPacker {
         num_bits: u8,
         steps: &mut Steps,
     ) -> usize
-        requires block { length decompressed.now ≡ Self.BLOCK_LEN }
-        requires width { num_bits ≤ 32 }
-        requires room { size Self.lanes num_bits ≤ length compressed.old }
-        requires fits { Fits (codes kind decompressed.now) num_bits }
+        requires { CanPack Self.lanes num_bits kind decompressed.now compressed.old }
         ensures size { result ≡ size Self.lanes num_bits }
-        ensures bytes { Holds Self.lanes num_bits kind decompressed.now (take (size Self.lanes num_bits) compressed.new) }
-        ensures rest { drop (size Self.lanes num_bits) compressed.new ≡ drop (size Self.lanes num_bits) compressed.old }
-        ensures none { num_bits ≡ 0 → Moves steps.old steps.new 0 0 0 }
-        ensures counts { 0 < num_bits → Moves steps.old steps.new 32 num_bits (32 + num_bits) };
+        ensures packed { IsPacked Self.lanes num_bits kind decompressed.now compressed.old compressed.new }
+        ensures counts { MovesToPack steps.old steps.new num_bits };
 
     /// Unpacks a block: a load for each bit of the width, and 32 stores.
     fn unpack_counted(
@@ -41,18 +36,16 @@ pub trait Counted: BitPacker {
         num_bits: u8,
         steps: &mut Steps,
     ) -> usize
-        requires width { num_bits ≤ 32 }
-        requires bytes { size Self.lanes num_bits ≤ length compressed.now }
-        requires room { Self.BLOCK_LEN ≤ length decompressed.old }
+        requires { CanUnpack Self.lanes num_bits compressed.now decompressed.old }
         ensures size { result ≡ size Self.lanes num_bits }
-        ensures block { Holds Self.lanes num_bits kind (take Self.BLOCK_LEN decompressed.new) (take (size Self.lanes num_bits) compressed.now) }
-        ensures rest { drop Self.BLOCK_LEN decompressed.new ≡ drop Self.BLOCK_LEN decompressed.old }
+        ensures unpacked { IsUnpacked Self.lanes num_bits kind compressed.now decompressed.old decompressed.new }
         ensures counts { Moves steps.old steps.new num_bits 32 (32 + num_bits) };
 
     /// The least width of a block: 32 loads, and nothing is stored or held.
     fn width_counted(&self, kind: Kind, decompressed: &[u32], steps: &mut Steps) -> u8
         requires { length decompressed.now ≡ Self.BLOCK_LEN }
         ensures width { IsWidth kind decompressed.now result }
+        ensures narrow { result ≤ 32 }
         ensures counts { Moves steps.old steps.new 32 0 0 }
         ensures held { steps.new.held ≡ steps.old.held };
 }

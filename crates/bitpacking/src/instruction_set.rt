@@ -1,9 +1,9 @@
 //! Which registers a packer of several lanes runs on, and the one match that picks them.
 
-ghost use Rattle.std.specs.Prelude.{◌≡◌, ◌+◌, ◌*◌, ◌<◌, ◌≤◌, length, take, drop};
-ghost use Rattle.bitpacking.specs.Codes.{codes};
-ghost use Rattle.bitpacking.specs.Width.{Fits, IsWidth};
-ghost use Rattle.bitpacking.specs.Layout.{Holds, size};
+ghost use Rattle.std.specs.Prelude.{◌≡◌, ◌+◌, ◌*◌, ◌≤◌, length};
+ghost use Rattle.bitpacking.specs.Width.{IsWidth};
+ghost use Rattle.bitpacking.specs.Layout.{size};
+ghost use Rattle.bitpacking.specs.Calls.{CanPack, CanUnpack, IsPacked, IsUnpacked, MovesToPack};
 ghost use Rattle.bitpacking.specs.Moves.{Moves};
 
 use crate::bodies::{EachWidth, SimpleLoops};
@@ -30,15 +30,10 @@ pub(crate) fn pack<V: Register, A: Register>(
     steps: &mut Steps,
 ) -> usize
     requires lanes { V.LANES ≡ A.LANES }
-    requires block { length decompressed.now ≡ 32 * A.LANES }
-    requires width { num_bits ≤ 32 }
-    requires room { size A.LANES num_bits ≤ length compressed.old }
-    requires fits { Fits (codes kind decompressed.now) num_bits }
+    requires given { CanPack A.LANES num_bits kind decompressed.now compressed.old }
     ensures size { result ≡ size A.LANES num_bits }
-    ensures bytes { Holds A.LANES num_bits kind decompressed.now (take (size A.LANES num_bits) compressed.new) }
-    ensures rest { drop (size A.LANES num_bits) compressed.new ≡ drop (size A.LANES num_bits) compressed.old }
-    ensures none { num_bits ≡ 0 → Moves steps.old steps.new 0 0 0 }
-    ensures counts { 0 < num_bits → Moves steps.old steps.new 32 num_bits (32 + num_bits) }
+    ensures packed { IsPacked A.LANES num_bits kind decompressed.now compressed.old compressed.new }
+    ensures counts { MovesToPack steps.old steps.new num_bits }
 {
     match set {
         InstructionSet::Lanes => pack_kind::<EachWidth, V>(
@@ -69,12 +64,9 @@ pub(crate) fn unpack<V: Register, A: Register>(
     steps: &mut Steps,
 ) -> usize
     requires lanes { V.LANES ≡ A.LANES }
-    requires width { num_bits ≤ 32 }
-    requires bytes { size A.LANES num_bits ≤ length compressed.now }
-    requires room { 32 * A.LANES ≤ length decompressed.old }
+    requires given { CanUnpack A.LANES num_bits compressed.now decompressed.old }
     ensures size { result ≡ size A.LANES num_bits }
-    ensures block { Holds A.LANES num_bits kind (take (32 * A.LANES) decompressed.new) (take (size A.LANES num_bits) compressed.now) }
-    ensures rest { drop (32 * A.LANES) decompressed.new ≡ drop (32 * A.LANES) decompressed.old }
+    ensures unpacked { IsUnpacked A.LANES num_bits kind compressed.now decompressed.old decompressed.new }
     ensures counts { Moves steps.old steps.new num_bits 32 (32 + num_bits) }
 {
     match set {
@@ -102,6 +94,7 @@ pub(crate) fn width<V: Register, A: Register>(
     requires lanes { V.LANES ≡ A.LANES }
     requires block { length decompressed.now ≡ 32 * A.LANES }
     ensures width { IsWidth kind decompressed.now result }
+    ensures narrow { result ≤ 32 }
     ensures counts { Moves steps.old steps.new 32 0 0 }
     ensures held { steps.new.held ≡ steps.old.held }
 {

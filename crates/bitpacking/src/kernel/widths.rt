@@ -1,6 +1,6 @@
 //! The least width of a block's codes.
 
-ghost use Rattle.std.specs.Prelude.{◌≡◌, ◌+◌, ◌*◌, length, fold, bit_or};
+ghost use Rattle.std.specs.Prelude.{◌≡◌, ◌+◌, ◌*◌, ◌≤◌, length, fold, bit_or};
 ghost use lib.Count.{count_leading_zeros};
 ghost use Rattle.bitpacking.specs.Width.{Least};
 ghost use Rattle.bitpacking.specs.Codes.{AreWords};
@@ -22,6 +22,7 @@ pub(crate) fn width<R: Register, T: Transformer<R>>(
     requires codes { length (T.codes transformer.old source.now.words.now) ≡ 32 * R.LANES }
     requires words { AreWords (T.codes transformer.old source.now.words.now) }
     ensures width { Least (T.codes transformer.old source.now.words.now) result }
+    ensures narrow { result ≤ 32 }
     ensures counts { Moves steps.old steps.new 32 0 0 }
     ensures held { steps.new.held ≡ steps.old.held }
 {

@@ -1,0 +1,36 @@
+-- What a call that packs or unpacks a block is given, and what it leaves in the buffer.
+use Rattle.std.specs.Prelude.{◌≡◌, ℕ, ◌+◌, ◌*◌, ◌<◌, ◌≤◌, List, length, take, drop}
+use Rattle.bitpacking.specs.declared.kind.Kind.{Kind}
+use Rattle.bitpacking.specs.declared.memory.Steps.{Steps}
+use Rattle.bitpacking.specs.Codes.{codes}
+use Rattle.bitpacking.specs.Width.{Fits}
+use Rattle.bitpacking.specs.Layout.{size, Holds}
+use Rattle.bitpacking.specs.Moves.{Moves}
+
+-- a whole block, whose codes fit the width, and room for its bytes
+pub record CanPack (lanes width : ℕ) (kind : Kind) (block buffer : List ℕ) : Type 0 where
+  pub whole : length block ≡ 32 * lanes
+  pub narrow : width ≤ 32
+  pub room : size lanes width ≤ length buffer
+  pub fits : Fits (codes kind block) width
+
+-- all bytes of a block, and room for its values
+pub record CanUnpack (lanes width : ℕ) (bytes values : List ℕ) : Type 0 where
+  pub narrow : width ≤ 32
+  pub whole : size lanes width ≤ length bytes
+  pub room : 32 * lanes ≤ length values
+
+-- the buffer begins with bytes that hold the block, and goes on as it was
+pub record IsPacked (lanes width : ℕ) (kind : Kind) (block old new : List ℕ) : Type 0 where
+  pub bytes : Holds lanes width kind block (take (size lanes width) new)
+  pub rest : drop (size lanes width) new ≡ drop (size lanes width) old
+
+-- the values begin with the block that the bytes hold, and go on as they were
+pub record IsUnpacked (lanes width : ℕ) (kind : Kind) (bytes old new : List ℕ) : Type 0 where
+  pub block : Holds lanes width kind (take (32 * lanes) new) (take (size lanes width) bytes)
+  pub rest : drop (32 * lanes) new ≡ drop (32 * lanes) old
+
+-- packing loads 32 registers and stores one for each bit of the width; at width 0 it moves nothing
+pub record MovesToPack (old new : Steps) (width : ℕ) : Type 0 where
+  pub none : width ≡ 0 → Moves old new 0 0 0
+  pub counts : 0 < width → Moves old new 32 width (32 + width)
