@@ -4,13 +4,13 @@ use Rattle.std.proofs.Math.Nat.{mod-eq_of_lt, mod-mod}
 use Rattle.std.proofs.lemmas.Simd.{Each1-from_get_or}
 use Rattle.std.specs.Prelude.{unwrap_or}
 use Rattle.std.proofs.lemmas.List.Elements.{All-nil, All-cons, All-head, All-tail}
-use Rattle.std.proofs.lemmas.List.{length-map}
 use Rattle.bitpacking.specs.declared.kind.Kind.{Kind}
 use Rattle.bitpacking.specs.declared.kind.Kind.TheVariants.{Plain, Sorted, StrictlySorted}
 use Rattle.bitpacking_register.specs.Deltas.{differences, running_sums}
 use Rattle.bitpacking_register.proofs.SumLemmas.{differences-running_sums, running_sums-mod, running_sums-append, last-running_sums}
 use Rattle.std.proofs.Math.Pow.{pow_mono}
 use Rattle.bitpacking.specs.Layout.{Layout, Holds}
+use Rattle.bitpacking.specs.CodeLaws.{length-differences, length-strict}
 use Rattle.bitpacking.specs.Codes.{AreWords, codes, one_less, one_more, start}
 
 pub differences-of_running_sums : (before : ℕ) (values : List ℕ) → before < 2 ^ 32 → AreWords values
@@ -30,10 +30,6 @@ AreWords-differences previous [] = All-nil (λ v. v < 2 ^ 32)
 AreWords-differences previous (value ∷ values) =
     All-cons (λ v. v < 2 ^ 32) ((value + (2 ^ 32 - previous)) % 2 ^ 32) (differences value values) (omega arith)
     (AreWords-differences value values)
-
-pub length-differences : (previous : ℕ) (values : List ℕ) → length (differences previous values) ≡ length values
-length-differences previous [] = refl
-length-differences previous (value ∷ values) = ap suc (length-differences value values)
 
 pub less-more : (values : List ℕ) → AreWords values → map one_less (map one_more values) ≡ values
 less-more [] words = refl
@@ -63,9 +59,7 @@ AreWords-less (x ∷ xs) =
 pub length-codes : (kind : Kind) (block : List ℕ) → length (codes kind block) ≡ length block
 length-codes Plain block = refl
 length-codes (Sorted initial) block = length-differences initial block
-length-codes (StrictlySorted initial) block =
-    length-map (differences (unwrap_or initial 4294967295) block) one_less
-    ∙ length-differences (unwrap_or initial 4294967295) block
+length-codes (StrictlySorted initial) block = length-strict (unwrap_or initial 4294967295) block
 
 pub AreWords-codes : (kind : Kind) (block : List ℕ) → AreWords block → AreWords (codes kind block)
 AreWords-codes Plain block words = words

@@ -1,6 +1,7 @@
 pub use Rattle.bitpacking_register.specs.Deltas
 pub mod Bits
 pub mod Codes
+pub mod CodeLaws
 pub mod Width
 pub mod Layout
 pub mod Words

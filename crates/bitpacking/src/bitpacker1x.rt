@@ -2,8 +2,8 @@
 
 ghost use Rattle.std.proofs.Common.{lit≤, refl};
 
-use crate::bodies::SimpleLoops;
-use crate::calls::{pack_kind, unpack_kind, width_kind};
+use crate::by_kind::{pack_kind, unpack_kind, width_kind};
+use crate::code_kernels::SimpleLoops;
 use crate::{BitPacker, Counted, Kind, Steps};
 
 /// Packs blocks of 32 numbers: the codes stand end to end, from the lowest bit on.

@@ -2,7 +2,9 @@
 
 ghost use Rattle.std.proofs.Common.{lit≤, refl};
 
-use crate::instruction_set::{InstructionSet, pack, unpack, width};
+use crate::by_kind::{pack_kind, unpack_kind, width_kind};
+use crate::code_kernels::{ByWidth, SimpleLoops};
+use crate::instruction_set::InstructionSet;
 use crate::{BitPacker, Counted, Kind, Steps};
 use std::simd::prelude::*;
 
@@ -155,7 +157,14 @@ impl Counted for BitPacker4x {
         num_bits: u8,
         steps: &mut Steps,
     ) -> usize {
-        pack::<u32x4, [u32; 4]>(self.0, kind, decompressed, compressed, num_bits, steps)
+        match self.0 {
+            InstructionSet::Lanes => {
+                pack_kind::<ByWidth, u32x4>(kind, decompressed, compressed, num_bits, steps)
+            }
+            InstructionSet::Scalar => {
+                pack_kind::<SimpleLoops, [u32; 4]>(kind, decompressed, compressed, num_bits, steps)
+            }
+        }
     }
 
     #[inline(always)]
@@ -167,12 +176,28 @@ impl Counted for BitPacker4x {
         num_bits: u8,
         steps: &mut Steps,
     ) -> usize {
-        unpack::<u32x4, [u32; 4]>(self.0, kind, compressed, decompressed, num_bits, steps)
+        match self.0 {
+            InstructionSet::Lanes => {
+                unpack_kind::<ByWidth, u32x4>(kind, compressed, decompressed, num_bits, steps)
+            }
+            InstructionSet::Scalar => {
+                unpack_kind::<SimpleLoops, [u32; 4]>(
+                    kind,
+                    compressed,
+                    decompressed,
+                    num_bits,
+                    steps,
+                )
+            }
+        }
     }
 
     #[inline(always)]
     fn width_counted(&self, kind: Kind, decompressed: &[u32], steps: &mut Steps) -> u8 {
-        width::<u32x4, [u32; 4]>(self.0, kind, decompressed, steps)
+        match self.0 {
+            InstructionSet::Lanes => width_kind::<u32x4>(kind, decompressed, steps),
+            InstructionSet::Scalar => width_kind::<[u32; 4]>(kind, decompressed, steps),
+        }
     }
 }
 

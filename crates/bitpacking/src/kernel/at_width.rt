@@ -1,10 +1,10 @@
 //! Packing and unpacking with the width as a const parameter, eight rows at a time: a loop as short as that is unrolled, and
 //! each shift and index is then a constant.
 
-ghost use Rattle.std.specs.Prelude.{◌≡◌, ℕ, ◌+◌, ◌*◌, ◌%◌, ◌<◌, ◌≤◌, List, length, take, drop};
+ghost use Rattle.std.specs.Prelude.{◌≡◌, ℕ, ◌+◌, ◌*◌, ◌%◌, ◌<◌, ◌≤◌, List, length, drop};
 ghost use Rattle.bitpacking.specs.Bits.{AreBytes};
-ghost use Rattle.bitpacking.specs.Width.{Fits};
-ghost use Rattle.bitpacking.specs.Layout.{Layout, size};
+ghost use Rattle.bitpacking.specs.Calls.{CanPackCodes, CanUnpack, PackedCodes, UnpackedCodes};
+ghost use Rattle.bitpacking.specs.Layout.{size};
 ghost use Rattle.bitpacking.specs.Moves.{Moves};
 ghost use Rattle.bitpacking.specs.Partway.{RowsPacked, RowsUnpacked, PacksRows, UnpacksRows, left_at};
 
@@ -13,32 +13,31 @@ use crate::kinds::transformers::Transformer;
 use crate::memory::{ByteSource, ByteTarget, Steps, ValueSource, ValueTarget};
 use bitpacking_register::Register;
 
-/// Packs a block of codes of fewer than 32 bits.
+/// Packs a block of codes of fewer than 32 bits, the first of them after the value `start`, and returns the number of bytes
+/// written.
 #[inline(always)]
 pub(crate) fn pack_at_width<R: Register, T: Transformer<R>, const WIDTH: u32>(
     source: &ValueSource<'_>,
     target: &mut ByteTarget<'_>,
-    transformer: &mut T,
+    start: u32,
     steps: &mut Steps,
-)
+) -> usize
     requires narrow { WIDTH < 32 }
     requires bits { source.now.bits ≡ WIDTH }
-    requires block { length source.now.words.now ≡ 32 * R.LANES }
-    requires codes { length (T.codes transformer.old source.now.words.now) ≡ 32 * R.LANES }
     requires are_bytes { AreBytes target.old.bytes.now }
-    requires room { size R.LANES WIDTH ≤ length target.old.bytes.now }
-    requires fits { Fits (T.codes transformer.old source.now.words.now) WIDTH }
+    requires can { CanPackCodes R.LANES WIDTH source.now.words.now (T.block_codes start source.now.words.now) target.old.bytes.now }
+    ensures size { result ≡ size R.LANES WIDTH }
     ensures same_reference { target.new.bytes.ghost_name ≡ target.old.bytes.ghost_name }
-    ensures layout { Layout R.LANES WIDTH (T.codes transformer.old source.now.words.now)
-        (take (size R.LANES WIDTH) target.new.bytes.now) }
-    ensures rest { drop (size R.LANES WIDTH) target.new.bytes.now ≡ drop (size R.LANES WIDTH) target.old.bytes.now }
+    ensures packed { PackedCodes R.LANES WIDTH (T.block_codes start source.now.words.now) target.old.bytes.now target.new.bytes.now }
     ensures counts { Moves steps.old steps.new 32 WIDTH (32 + WIDTH) }
 {
+    let mut transformer = T::after(start);
     let pending = R::splat(0);
-    let pending = pack_rows::<R, T, WIDTH, 0>(source, target, transformer, pending, steps);
-    let pending = pack_rows::<R, T, WIDTH, 8>(source, target, transformer, pending, steps);
-    let pending = pack_rows::<R, T, WIDTH, 16>(source, target, transformer, pending, steps);
-    pack_rows::<R, T, WIDTH, 24>(source, target, transformer, pending, steps);
+    let pending = pack_rows::<R, T, WIDTH, 0>(source, target, &mut transformer, pending, steps);
+    let pending = pack_rows::<R, T, WIDTH, 8>(source, target, &mut transformer, pending, steps);
+    let pending = pack_rows::<R, T, WIDTH, 16>(source, target, &mut transformer, pending, steps);
+    pack_rows::<R, T, WIDTH, 24>(source, target, &mut transformer, pending, steps);
+    4 * R::LANES * WIDTH as usize
 }
 
 // Packs eight rows. Into and out of it go the bits that fill no word yet: after a full word a plain 0, which costs nothing.
@@ -83,31 +82,31 @@ fn pack_rows<R: Register, T: Transformer<R>, const WIDTH: u32, const FROM: u32>(
     pending
 }
 
-/// Unpacks a block of codes of fewer than 32 bits.
+/// Unpacks a block of codes of fewer than 32 bits, the first of them after the value `start`, and returns the number of bytes
+/// read.
 #[inline(always)]
 pub(crate) fn unpack_at_width<R: Register, S: Sink<R>, const WIDTH: u32>(
     source: &ByteSource<'_>,
     target: &mut ValueTarget<'_>,
-    sink: &mut S,
+    start: u32,
     steps: &mut Steps,
-)
+) -> usize
     requires narrow { WIDTH < 32 }
-    requires start { S.position sink.old ≡ 0 }
     requires bits { target.old.bits ≡ WIDTH }
     requires are_bytes { AreBytes source.now.bytes.now }
-    requires whole { size R.LANES WIDTH ≤ length source.now.bytes.now }
-    requires room { 32 * R.LANES ≤ length target.old.words.now }
+    requires can { CanUnpack R.LANES WIDTH source.now.bytes.now target.old.words.now }
+    ensures size { result ≡ size R.LANES WIDTH }
     ensures same_reference { target.new.words.ghost_name ≡ target.old.words.ghost_name }
-    ensures layout { (codes : List ℕ) × (Layout R.LANES WIDTH codes (take (size R.LANES WIDTH) source.now.bytes.now))
-        × (take (32 * R.LANES) target.new.words.now ≡ S.values sink.old codes) }
-    ensures rest { drop (32 * R.LANES) target.new.words.now ≡ drop (32 * R.LANES) target.old.words.now }
+    ensures unpacked { UnpackedCodes R.LANES WIDTH (S.block_values start) source.now.bytes.now target.old.words.now target.new.words.now }
     ensures counts { Moves steps.old steps.new WIDTH 32 (32 + WIDTH) }
 {
+    let mut sink = S::after(start);
     let pending = R::splat(0);
-    let pending = unpack_rows::<R, S, WIDTH, 0>(source, target, sink, pending, steps);
-    let pending = unpack_rows::<R, S, WIDTH, 8>(source, target, sink, pending, steps);
-    let pending = unpack_rows::<R, S, WIDTH, 16>(source, target, sink, pending, steps);
-    unpack_rows::<R, S, WIDTH, 24>(source, target, sink, pending, steps);
+    let pending = unpack_rows::<R, S, WIDTH, 0>(source, target, &mut sink, pending, steps);
+    let pending = unpack_rows::<R, S, WIDTH, 8>(source, target, &mut sink, pending, steps);
+    let pending = unpack_rows::<R, S, WIDTH, 16>(source, target, &mut sink, pending, steps);
+    unpack_rows::<R, S, WIDTH, 24>(source, target, &mut sink, pending, steps);
+    4 * R::LANES * WIDTH as usize
 }
 
 // Unpacks eight rows. Into and out of it go the bits of the last word loaded that are of no code yet.

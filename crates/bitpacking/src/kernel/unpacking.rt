@@ -1,35 +1,34 @@
 //! From bytes to codes.
 
-ghost use Rattle.std.specs.Prelude.{◌≡◌, ℕ, ◌+◌, ◌*◌, ◌<◌, ◌≤◌, List, length, take, drop};
+ghost use Rattle.std.specs.Prelude.{◌≡◌, ◌+◌, ◌<◌};
 ghost use Rattle.bitpacking.specs.Bits.{AreBytes};
-ghost use Rattle.bitpacking.specs.Layout.{Layout, size};
+ghost use Rattle.bitpacking.specs.Calls.{CanUnpack, UnpackedCodes};
+ghost use Rattle.bitpacking.specs.Layout.{size};
 ghost use Rattle.bitpacking.specs.Moves.{Moves};
 
 use crate::kinds::sinks::Sink;
 use crate::memory::{ByteSource, Steps, ValueTarget};
 use bitpacking_register::Register;
 
-/// Unpacks a block of codes of fewer than 32 bits. A word is loaded only where bits are wanted, so that exactly `width`
-/// registers are.
+/// Unpacks a block of codes of fewer than 32 bits, the first of them after the value `start`, and returns the number of bytes
+/// read. A word is loaded only where bits are wanted, so that exactly `width` registers are.
 pub(crate) fn unpack<R: Register, S: Sink<R>>(
     source: &ByteSource<'_>,
     target: &mut ValueTarget<'_>,
-    sink: &mut S,
+    start: u32,
     width: u32,
     steps: &mut Steps,
-)
+) -> usize
     requires narrow { width < 32 }
-    requires start { S.position sink.old ≡ 0 }
     requires bits { target.old.bits ≡ width }
     requires are_bytes { AreBytes source.now.bytes.now }
-    requires whole { size R.LANES width ≤ length source.now.bytes.now }
-    requires room { 32 * R.LANES ≤ length target.old.words.now }
+    requires can { CanUnpack R.LANES width source.now.bytes.now target.old.words.now }
+    ensures size { result ≡ size R.LANES width }
     ensures same_reference { target.new.words.ghost_name ≡ target.old.words.ghost_name }
-    ensures layout { (codes : List ℕ) × (Layout R.LANES width codes (take (size R.LANES width) source.now.bytes.now))
-        × (take (32 * R.LANES) target.new.words.now ≡ S.values sink.old codes) }
-    ensures rest { drop (32 * R.LANES) target.new.words.now ≡ drop (32 * R.LANES) target.old.words.now }
+    ensures unpacked { UnpackedCodes R.LANES width (S.block_values start) source.now.bytes.now target.old.words.now target.new.words.now }
     ensures counts { Moves steps.old steps.new width 32 (32 + width) }
 {
+    let mut sink = S::after(start);
     let mask = R::splat((1 << width) - 1);
     let mut pending = R::splat(0);
     let mut left = 0;
@@ -50,29 +49,29 @@ pub(crate) fn unpack<R: Register, S: Sink<R>>(
         };
         sink.put(codes.and(mask), target, steps);
     }
+    4 * R::LANES * width as usize
 }
 
-/// Unpacks a block of codes of 32 bits.
+/// Unpacks a block of codes of 32 bits, the first of them after the value `start`, and returns the number of bytes read.
 #[inline(always)]
 pub(crate) fn unpack_32<R: Register, S: Sink<R>>(
     source: &ByteSource<'_>,
     target: &mut ValueTarget<'_>,
-    sink: &mut S,
+    start: u32,
     steps: &mut Steps,
-)
-    requires start { S.position sink.old ≡ 0 }
+) -> usize
     requires bits { target.old.bits ≡ 32 }
     requires are_bytes { AreBytes source.now.bytes.now }
-    requires whole { size R.LANES 32 ≤ length source.now.bytes.now }
-    requires room { 32 * R.LANES ≤ length target.old.words.now }
+    requires can { CanUnpack R.LANES 32 source.now.bytes.now target.old.words.now }
+    ensures size { result ≡ size R.LANES 32 }
     ensures same_reference { target.new.words.ghost_name ≡ target.old.words.ghost_name }
-    ensures layout { (codes : List ℕ) × (Layout R.LANES 32 codes (take (size R.LANES 32) source.now.bytes.now))
-        × (take (32 * R.LANES) target.new.words.now ≡ S.values sink.old codes) }
-    ensures rest { drop (32 * R.LANES) target.new.words.now ≡ drop (32 * R.LANES) target.old.words.now }
+    ensures unpacked { UnpackedCodes R.LANES 32 (S.block_values start) source.now.bytes.now target.old.words.now target.new.words.now }
     ensures counts { Moves steps.old steps.new 32 32 64 }
 {
+    let mut sink = S::after(start);
     for i in 0..32 {
         let codes: R = source.load(i, steps);
         sink.put(codes, target, steps);
     }
+    4 * R::LANES * 32
 }

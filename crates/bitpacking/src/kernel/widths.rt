@@ -10,22 +10,22 @@ use crate::kinds::transformers::Transformer;
 use crate::memory::{Steps, ValueSource};
 use bitpacking_register::Register;
 
-/// The least width of the codes: that of the bits which are set in some code.
+/// The least width of a block's codes after the value `start`: that of the bits which are set in some code.
 #[inline(always)]
 pub(crate) fn width<R: Register, T: Transformer<R>>(
     source: &ValueSource<'_>,
-    transformer: &mut T,
+    start: u32,
     steps: &mut Steps,
 ) -> u8
     requires bits { source.now.bits ≡ 0 }
     requires block { length source.now.words.now ≡ 32 * R.LANES }
-    requires codes { length (T.codes transformer.old source.now.words.now) ≡ 32 * R.LANES }
-    requires words { AreWords (T.codes transformer.old source.now.words.now) }
-    ensures width { Least (T.codes transformer.old source.now.words.now) result }
+    requires words { AreWords (T.block_codes start source.now.words.now) }
+    ensures width { Least (T.block_codes start source.now.words.now) result }
     ensures narrow { result ≤ 32 }
     ensures counts { Moves steps.old steps.new 32 0 0 }
     ensures held { steps.new.held ≡ steps.old.held }
 {
+    let mut transformer = T::after(start);
     let mut all = R::splat(0);
     for i in 0..32 {
         all = all.or(transformer.transform(source.load(i, steps)));

@@ -18,8 +18,7 @@ ghost use Rattle.std.specs.Prelude.{
 };
 ghost use Rattle.std.proofs.Common.{refl};
 ghost use Rattle.bitpacking_register.specs.Deltas.{running_sums};
-ghost use Rattle.bitpacking.specs.declared.kind.Kind.TheVariants.{Sorted, StrictlySorted};
-ghost use Rattle.bitpacking.specs.Codes.{one_more, start};
+ghost use Rattle.bitpacking.specs.Codes.{one_more};
 ghost use Rattle.bitpacking.specs.Moves.{IsStore};
 
 use crate::memory::{Steps, ValueTarget};
@@ -32,6 +31,14 @@ pub(crate) trait Sink<R: Register>: Drop {
 
     // The values of the codes that come next.
     ghost values: { Self → List ℕ → List ℕ };
+
+    // The values of a block's codes after the value `start`.
+    ghost block_values: { ℕ → List ℕ → List ℕ };
+
+    // At the start of a block, after the value `start`.
+    fn after(start: u32) -> Self
+        ensures position { position result ≡ 0 }
+        ensures values { values result ≡ block_values start };
 
     fn put(&mut self, codes: R, target: &mut ValueTarget<'_>, steps: &mut Steps)
         requires within { R.LANES * position self.old + R.LANES ≤ length target.old.words.now }
@@ -56,19 +63,17 @@ pub(crate) struct Store {
     position: usize,
 }
 
-impl Store {
-    #[inline(always)]
-    pub(crate) fn new() -> Self
-        ensures { result.position ≡ 0 }
-    {
-        Store { position: 0 }
-    }
-}
-
 impl<R: Register> Sink<R> for Store {
     ghost position = { λ s. s.position };
 
     ghost values = { λ _ codes. codes };
+
+    ghost block_values = { λ _ codes. codes };
+
+    #[inline(always)]
+    fn after(_start: u32) -> Self {
+        Store { position: 0 }
+    }
 
     #[inline(always)]
     fn put(&mut self, codes: R, target: &mut ValueTarget<'_>, steps: &mut Steps) {
@@ -79,31 +84,27 @@ impl<R: Register> Sink<R> for Store {
     ghost values_of_none = { λ _. refl };
 }
 
-/// The codes are the differences. The last lane of `previous` is the value before.
+/// The codes are the differences. The last lane of `previous` is the value before the next register.
 #[derive(Drop)]
 pub(crate) struct DeltaIntegrate<R: Register> {
     position: usize,
     previous: R,
 }
 
-impl<R: Register> DeltaIntegrate<R> {
-    /// Before the first value stands `initial`.
-    #[inline(always)]
-    pub(crate) fn new(initial: u32) -> Self
-        ensures position { result.position ≡ 0 }
-        ensures start { slice_index (R.words result.previous) (R.LANES - 1) ≡ start (Sorted initial) }
-    {
-        DeltaIntegrate {
-            position: 0,
-            previous: R::splat(initial),
-        }
-    }
-}
-
 impl<R: Register> Sink<R> for DeltaIntegrate<R> {
     ghost position = { λ s. s.position };
 
-    ghost values = { λ s codes. running_sums (slice_index (R.words s.previous) (R.LANES - 1)) codes };
+    ghost values = { λ s. running_sums (slice_index (R.words s.previous) (R.LANES - 1)) };
+
+    ghost block_values = { λ start. running_sums start };
+
+    #[inline(always)]
+    fn after(start: u32) -> Self {
+        DeltaIntegrate {
+            position: 0,
+            previous: R::splat(start),
+        }
+    }
 
     #[inline(always)]
     fn put(&mut self, codes: R, target: &mut ValueTarget<'_>, steps: &mut Steps) {
@@ -122,24 +123,20 @@ pub(crate) struct StrictDeltaIntegrate<R: Register> {
     previous: R,
 }
 
-impl<R: Register> StrictDeltaIntegrate<R> {
-    /// Before the first value stands `initial`, and for `None` the last number.
-    #[inline(always)]
-    pub(crate) fn new(initial: Option<u32>) -> Self
-        ensures position { result.position ≡ 0 }
-        ensures start { slice_index (R.words result.previous) (R.LANES - 1) ≡ start (StrictlySorted initial) }
-    {
-        StrictDeltaIntegrate {
-            position: 0,
-            previous: R::splat(initial.unwrap_or(u32::MAX)),
-        }
-    }
-}
-
 impl<R: Register> Sink<R> for StrictDeltaIntegrate<R> {
     ghost position = { λ s. s.position };
 
     ghost values = { λ s codes. running_sums (slice_index (R.words s.previous) (R.LANES - 1)) (map one_more codes) };
+
+    ghost block_values = { λ start codes. running_sums start (map one_more codes) };
+
+    #[inline(always)]
+    fn after(start: u32) -> Self {
+        StrictDeltaIntegrate {
+            position: 0,
+            previous: R::splat(start),
+        }
+    }
 
     #[inline(always)]
     fn put(&mut self, codes: R, target: &mut ValueTarget<'_>, steps: &mut Steps) {

@@ -1,25 +1,32 @@
-use Rattle.std.proofs.Common.{List, ℕ, ◌*◌, take, arith}
+use Rattle.std.proofs.Common.{List, ℕ, ◌*◌, ◌∙◌, take, arith}
 use Rattle.std.proofs.lemmas.List.{length-take}
 use Rattle.bitpacking.specs.Layout.{Layout}
 use Rattle.bitpacking.proofs.OneToOne.{codes_of, Layout-codes_of}
 use Rattle.bitpacking.proofs.UnpackedRows.{RowsUnpacked-start, RowsUnpacked-done}
 use Rattle.bitpacking.proofs.kernel.at_width.unpack_at_width.Goals as goal
 
-pub returns-clause-layout : goal.returns-clause-layout
-returns-clause-layout g c =
+pub returns-clause-unpacked : goal.returns-clause-unpacked
+returns-clause-unpacked g c =
     let lanes : ℕ = g.R.Register.LANES in
     let width : ℕ = g.row.WIDTH in
     let bytes : List ℕ = c.args.source.now.bytes.now in
     let front : List ℕ = take (4 * lanes * width) bytes in
     let codes : List ℕ = codes_of lanes width front in
-    let layout : Layout lanes width codes front = Layout-codes_of lanes width front (simp length-take (omega arith)) in
-    let values : List ℕ = g.S.Sink.values c.args.sink.now codes in (
-      codes,
-      layout,
-      RowsUnpacked-done lanes width bytes codes (g.S.Sink.values c.unpack_rows.new.sink) values c.unpack_rows.new.target.words.now
-          (g.R.Register.words c.unpack_rows.result) (g.met.S.Sink.values_of_none c.unpack_rows.new.sink)
-          (c.unpack_rows.ensures.unpacked codes values (c.unpack_rows-pending-3.ensures.unpacked codes values
-          (c.unpack_rows-pending-2.ensures.unpacked codes values (c.unpack_rows-pending.ensures.unpacked codes values
-          (RowsUnpacked-start lanes width bytes codes (g.S.Sink.values c.args.sink.now) c.args.target.now.words.now
-          (g.R.Register.words c.splat-pending.result) c.requires.are_bytes layout c.splat-pending.ensures))))),
-    )
+    let layout : Layout lanes width codes front =
+    Layout-codes_of lanes width front (simp length-take (omega (arith, c.requires.can.whole))) in
+    let values : List ℕ = g.S.Sink.values c.after-sink.result codes in
+    record {
+      block = (
+        codes,
+        layout,
+        rw c.after-sink.ensures.values at (RowsUnpacked-done lanes width bytes codes (g.S.Sink.values c.unpack_rows.new.sink) values
+            c.unpack_rows.new.target.words.now
+            (g.R.Register.words c.unpack_rows.result) (g.met.S.Sink.values_of_none c.unpack_rows.new.sink)
+            (c.unpack_rows.ensures.unpacked codes values (c.unpack_rows-pending-3.ensures.unpacked codes values
+            (c.unpack_rows-pending-2.ensures.unpacked codes values (c.unpack_rows-pending.ensures.unpacked codes values
+            (RowsUnpacked-start lanes width bytes codes (g.S.Sink.values c.after-sink.result) c.args.target.now.words.now
+            (g.R.Register.words c.splat-pending.result) c.requires.are_bytes layout c.splat-pending.ensures)))))),
+      );
+      rest = c.unpack_rows.ensures.rest ∙ c.unpack_rows-pending-3.ensures.rest
+          ∙ c.unpack_rows-pending-2.ensures.rest ∙ c.unpack_rows-pending.ensures.rest;
+    }

@@ -1,4 +1,4 @@
-use Rattle.std.proofs.Common.{List, ◌++◌, ◌≡◌, ℕ, ◌+◌, ◌-◌, ◌*◌, ◌%◌, ◌^◌, ◌<◌, ◌≤◌, length, take, drop, get_or, bit_or, refl, ◌∙◌, ap, arith}
+use Rattle.std.proofs.Common.{List, ◌++◌, ◌≡◌, ℕ, ◌+◌, ◌-◌, ◌*◌, ◌%◌, ◌^◌, ◌<◌, ◌≤◌, length, take, drop, get_or, bit_or, refl, sym, ◌∙◌, ap, arith}
 use Rattle.std.proofs.lemmas.List.{length-take}
 use Rattle.std.proofs.lemmas.Nat.{mul-add-lt, mul-le}
 use Rattle.bitpacking_register.specs.Words.{shifted_left, shifted_right}
@@ -14,12 +14,12 @@ use Rattle.bitpacking.proofs.kernel.packing.pack.Goals.{then-filled-width-lt32, 
 pub rows-init : goal.rows-init
 rows-init g c =
     let lanes : ℕ = g.R.Register.LANES in
-    let all : List ℕ = g.T.Transformer.codes c.args.transformer.now c.args.source.now.words.now in
+    let all : List ℕ = g.T.Transformer.block_codes c.args.start c.args.source.now.words.now in
     let none : lanes * 0 ≡ 0 = omega arith in
     record {
       place = omega arith;
       filled = omega arith;
-      codes = rw none refl;
+      codes = rw none (ap (λ f. f c.args.source.now.words.now) (sym c.after-transformer.ensures));
       packed = λ lane lt.
           rw (lane-splat 0 lanes (g.R.Register.words c.splat-pending.result) c.splat-pending.ensures lane lt)
           (Packed-start c.args.width (lane_word lanes c.args.target.now.bytes.now lane) (lane_code lanes all lane));
@@ -42,7 +42,7 @@ store-requires-clause-within g c =
     room_left c.args.width c.rows.i c.rows.stored c.rows.filled c.rows-test.true
     c.rows.invariant.place c.if-filled-width-lt32.false c.rows.invariant.filled in
     row_room g.R.Register.LANES c.rows.stored c.args.width (length c.rows.target.bytes.now) there
-    (omega (arith, c.rows.invariant.same_room))
+    (omega (arith, c.rows.invariant.same_room, c.requires.can.room))
 
 pub store-requires-clause-loaded : goal.store-requires-clause-loaded
 store-requires-clause-loaded g c =
@@ -55,7 +55,7 @@ rows-preserved g c =
     let width : ℕ = c.args.width in
     let i : ℕ = c.rows.i in
     let values : List ℕ = c.args.source.now.words.now in
-    let all : List ℕ = g.T.Transformer.codes c.args.transformer.now values in
+    let all : List ℕ = g.T.Transformer.block_codes c.args.start values in
     let codes : List ℕ = g.R.Register.words c.transform-codes.result in
     let pending : List ℕ = g.R.Register.words c.rows.pending in
     let left : List ℕ = g.T.Transformer.codes c.transform-codes.new.self (drop (lanes * (i + 1)) values) in
@@ -66,8 +66,8 @@ rows-preserved g c =
     let code : (lane : ℕ) → lane < lanes → lane_code lanes all lane i ≡ get_or codes lane 0 =
     λ lane lt. row_at lanes i all codes left lane (count c.transform-codes.result) given lt in
     let small : (lane : ℕ) → lane < lanes → get_or codes lane 0 < 2 ^ width =
-    λ lane lt. rw (code lane lt) at (c.requires.fits (i * lanes + lane) 0
-    (omega (arith, c.requires.codes, mul-add-lt i lanes lane 32 c.rows-test.true lt))) in
+    λ lane lt. rw (code lane lt) at (c.requires.can.fits (i * lanes + lane) 0
+    (omega (arith, (g.met.T.Transformer.codes_count c.args.start c.args.source.now.words.now ∙ c.requires.can.whole), mul-add-lt i lanes lane 32 c.rows-test.true lt))) in
     let word : (lane : ℕ) → lane < lanes
     → get_or (g.R.Register.words c.or-word.result) lane 0
     ≡ bit_or (get_or pending lane 0) ((get_or codes lane 0 * 2 ^ c.rows.filled) % 2 ^ 32) =
@@ -123,21 +123,25 @@ rows-preserved g c =
       })
     ]
 
-pub returns-clause-layout : goal.returns-clause-layout
-returns-clause-layout g c =
+pub returns-clause-packed : goal.returns-clause-packed
+returns-clause-packed g c =
     let lanes : ℕ = g.R.Register.LANES in
     let width : ℕ = c.args.width in
     let bytes : List ℕ = c.rows.target.bytes.now in
-    let all : List ℕ = g.T.Transformer.codes c.args.transformer.now c.args.source.now.words.now in
+    let values : List ℕ = c.args.source.now.words.now in
+    let all : List ℕ = g.T.Transformer.block_codes c.args.start values in
     let whole : c.rows.i ≡ 32 = omega arith in
-    Layout-from_lanes lanes width all (take (4 * lanes * width) bytes)
-    (AreBytes-take bytes (4 * lanes * width) c.rows.invariant.are_bytes)
-    g.met.R.Register.some_lanes c.requires.codes
-    (simp length-take (omega (arith, c.rows.invariant.same_room))) c.requires.fits
-    (λ lane lt. record {
-      same =
-          joined-front lanes width bytes lane lt
-          ∙ Packed-end width (lane_word lanes bytes lane) (lane_code lanes all lane)
-          c.rows.i c.rows.stored c.rows.filled (get_or (g.R.Register.words c.rows.pending) lane 0)
-          whole c.rows.invariant.place c.rows.invariant.filled (c.rows.invariant.packed lane lt);
-    })
+    record {
+      bytes = Layout-from_lanes lanes width all (take (4 * lanes * width) bytes)
+          (AreBytes-take bytes (4 * lanes * width) c.rows.invariant.are_bytes)
+          g.met.R.Register.some_lanes (g.met.T.Transformer.codes_count c.args.start values ∙ c.requires.can.whole)
+          (simp length-take (omega (arith, c.rows.invariant.same_room, c.requires.can.room))) c.requires.can.fits
+          (λ lane lt. record {
+            same =
+                joined-front lanes width bytes lane lt
+                ∙ Packed-end width (lane_word lanes bytes lane) (lane_code lanes all lane)
+                c.rows.i c.rows.stored c.rows.filled (get_or (g.R.Register.words c.rows.pending) lane 0)
+                whole c.rows.invariant.place c.rows.invariant.filled (c.rows.invariant.packed lane lt);
+          });
+      rest = c.rows.invariant.rest;
+    }

@@ -9,11 +9,11 @@ abbrev pub invariant-rows : goal.invariant-rows
 invariant-rows g l = record {
   place : 32 * l.stored + l.filled ≡ l.width * l.i;
   filled : l.filled < 32;
-  codes : drop (g.R.Register.LANES * l.i) (g.T.Transformer.codes l.initial.transformer l.source.words.now)
+  codes : drop (g.R.Register.LANES * l.i) (g.T.Transformer.block_codes l.start l.source.words.now)
       ≡ g.T.Transformer.codes l.transformer (drop (g.R.Register.LANES * l.i) l.source.words.now);
   packed : (lane : ℕ) → lane < g.R.Register.LANES
       → Packed l.width (lane_word g.R.Register.LANES l.target.bytes.now lane)
-      (lane_code g.R.Register.LANES (g.T.Transformer.codes l.initial.transformer l.source.words.now) lane)
+      (lane_code g.R.Register.LANES (g.T.Transformer.block_codes l.start l.source.words.now) lane)
       l.i l.stored l.filled (get_or (g.R.Register.words l.pending) lane 0);
   are_bytes : AreBytes l.target.bytes.now;
   rest : drop (4 * g.R.Register.LANES * l.width) l.target.bytes.now ≡ drop (4 * g.R.Register.LANES * l.width) l.initial.target.bytes.now;

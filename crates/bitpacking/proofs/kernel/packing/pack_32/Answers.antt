@@ -1,4 +1,4 @@
-use Rattle.std.proofs.Common.{List, ◌++◌, ◌≡◌, ℕ, ◌+◌, ◌*◌, ◌<◌, ◌≤◌, take, drop, sym, ◌∙◌, ⊎_elim, refl, arith}
+use Rattle.std.proofs.Common.{List, ◌++◌, ◌≡◌, ℕ, ◌+◌, ◌*◌, ◌<◌, ◌≤◌, take, drop, sym, ◌∙◌, ap, ⊎_elim, refl, arith}
 use Rattle.std.proofs.lemmas.List.{length-take}
 use Rattle.std.proofs.lemmas.Bool.{cases_lt}
 use Rattle.std.proofs.lemmas.Nat.{mul-le}
@@ -13,7 +13,7 @@ pub registers-init : goal.registers-init
 registers-init g c =
     let none : g.R.Register.LANES * 0 ≡ 0 = omega arith in
     record {
-      codes = rw none refl;
+      codes = rw none (ap (λ f. f c.args.source.now.words.now) (sym c.after-transformer.ensures));
       done = λ lane lt q h. absurd (omega (arith, h));
       are_bytes = c.requires.are_bytes;
       rest = refl;
@@ -31,7 +31,7 @@ registers-preserved g c =
     let i : ℕ = c.registers.i in
     let count = g.met.R.Register.words_count in
     let values : List ℕ = c.args.source.now.words.now in
-    let all : List ℕ = g.T.Transformer.codes c.args.transformer.now values in
+    let all : List ℕ = g.T.Transformer.block_codes c.args.start values in
     let codes : List ℕ = g.R.Register.words c.transform-codes.result in
     let left : List ℕ = g.T.Transformer.codes c.transform-codes.new.self (drop (lanes * (i + 1)) values) in
     let given : drop (lanes * i) all ≡ codes ++ left =
@@ -60,17 +60,22 @@ registers-preserved g c =
       held = omega (arith, c.registers.invariant.held, c.registers.invariant.inside, c.requires.bits, c.load.ensures.counts.held, c.store.ensures.counts.held);
     }
 
-pub returns-clause-layout : goal.returns-clause-layout
-returns-clause-layout g c =
+pub returns-clause-packed : goal.returns-clause-packed
+returns-clause-packed g c =
     let lanes : ℕ = g.R.Register.LANES in
     let bytes : List ℕ = c.registers.target.bytes.now in
-    let all : List ℕ = g.T.Transformer.codes c.args.transformer.now c.args.source.now.words.now in
-    Layout-from_lanes lanes 32 all (take (4 * lanes * 32) bytes)
-    (AreBytes-take bytes (4 * lanes * 32) c.registers.invariant.are_bytes)
-    g.met.R.Register.some_lanes c.requires.codes (simp length-take (omega arith)) c.requires.fits
-    (λ lane lt. record {
-      same =
-          joined-front lanes 32 bytes lane lt
-          ∙ joined-same 32 (lane_word lanes bytes lane) (lane_code lanes all lane) 32
-          (λ q hq. c.registers.invariant.done lane lt q (omega arith));
-    })
+    let values : List ℕ = c.args.source.now.words.now in
+    let all : List ℕ = g.T.Transformer.block_codes c.args.start values in
+    record {
+      bytes = Layout-from_lanes lanes 32 all (take (4 * lanes * 32) bytes)
+          (AreBytes-take bytes (4 * lanes * 32) c.registers.invariant.are_bytes)
+          g.met.R.Register.some_lanes (g.met.T.Transformer.codes_count c.args.start values ∙ c.requires.can.whole)
+          (simp length-take (omega (arith, c.registers.invariant.same_room, c.requires.can.room))) c.requires.can.fits
+          (λ lane lt. record {
+            same =
+                joined-front lanes 32 bytes lane lt
+                ∙ joined-same 32 (lane_word lanes bytes lane) (lane_code lanes all lane) 32
+                (λ q hq. c.registers.invariant.done lane lt q (omega arith));
+          });
+      rest = c.registers.invariant.rest;
+    }

@@ -6,11 +6,11 @@ use Rattle.bitpacking.proofs.kernel.packing.pack_32.Given as goal
 
 abbrev pub invariant-registers : goal.invariant-registers
 invariant-registers g l = record {
-  codes : drop (g.R.Register.LANES * l.i) (g.T.Transformer.codes l.initial.transformer l.source.words.now)
+  codes : drop (g.R.Register.LANES * l.i) (g.T.Transformer.block_codes l.start l.source.words.now)
       ≡ g.T.Transformer.codes l.transformer (drop (g.R.Register.LANES * l.i) l.source.words.now);
   done : (lane : ℕ) → lane < g.R.Register.LANES → (q : ℕ) → q < l.i
       → lane_word g.R.Register.LANES l.target.bytes.now lane q
-      ≡ lane_code g.R.Register.LANES (g.T.Transformer.codes l.initial.transformer l.source.words.now) lane q;
+      ≡ lane_code g.R.Register.LANES (g.T.Transformer.block_codes l.start l.source.words.now) lane q;
   are_bytes : AreBytes l.target.bytes.now;
   rest : drop (4 * g.R.Register.LANES * 32) l.target.bytes.now ≡ drop (4 * g.R.Register.LANES * 32) l.initial.target.bytes.now;
   same_reference : l.target.bytes.ghost_name ≡ l.initial.target.bytes.ghost_name;

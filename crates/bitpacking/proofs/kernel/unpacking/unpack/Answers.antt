@@ -24,8 +24,8 @@ rows-init g c =
       unpacked = λ lane lt.
           rw (lane-splat 0 lanes (g.R.Register.words c.splat-pending.result) c.splat-pending.ensures lane lt)
           (Unpacked-start c.args.width (joined 32 (lane_word lanes c.args.source.now.bytes.now lane) c.args.width));
-      position = c.requires.start;
-      done = rw none refl;
+      position = c.after-sink.ensures.position;
+      done = rw none (ap (λ f. f (codes_of lanes c.args.width (take (4 * lanes * c.args.width) c.args.source.now.bytes.now))) c.after-sink.ensures.values);
       rest = refl;
       same_reference = refl;
       same_room = refl;
@@ -40,13 +40,13 @@ pub load-word-requires : goal.load-word-requires
 load-word-requires g c =
     let there : c.rows.loaded < c.args.width =
     words_left c.args.width c.rows.i c.rows.loaded c.rows.left c.rows-test.true c.rows.invariant.place c.if-left-width.true in
-    row_room g.R.Register.LANES c.rows.loaded c.args.width (length c.args.source.now.bytes.now) there c.requires.whole
+    row_room g.R.Register.LANES c.rows.loaded c.args.width (length c.args.source.now.bytes.now) there c.requires.can.whole
 
 pub put-requires-clause-within : goal.put-requires-clause-within
 put-requires-clause-within g c =
     let lanes : ℕ = g.R.Register.LANES in
     rw c.rows.invariant.position
-    (omega (arith, c.rows.invariant.same_room, mul-le lanes (c.rows.i + 1) lanes 32 (omega arith) (omega (arith, c.rows-test.true))))
+    (omega (arith, c.rows.invariant.same_room, c.requires.can.room, mul-le lanes (c.rows.i + 1) lanes 32 (omega arith) (omega (arith, c.rows-test.true))))
 
 -- of the bits that were left and those that were loaded, the code has `width`
 pub put-requires-clause-loaded : goal.put-requires-clause-loaded
@@ -108,7 +108,7 @@ rows-preserved g c =
     ] in
     let front : List ℕ = take (4 * lanes * width) source in
     let codes : List ℕ = codes_of lanes width front in
-    let layout : Layout lanes width codes front = Layout-codes_of lanes width front (simp length-take (omega arith)) in
+    let layout : Layout lanes width codes front = Layout-codes_of lanes width front (simp length-take (omega (arith, c.requires.can.whole))) in
     let position : g.S.Sink.position c.rows.sink ≡ i = c.rows.invariant.position in
     record {
       place = elim c.if-left-width.branch [
@@ -122,7 +122,7 @@ rows-preserved g c =
       unpacked = λ lane lt. (step lane lt).1;
       position = c.put.ensures.position ∙ ap (λ n. n + 1) position;
       done = values_step lanes i codes (g.R.Register.words c.and.result) c.rows.target.words.now c.put.new.target.words.now
-          (g.S.Sink.values c.args.sink.now codes) (g.S.Sink.values c.rows.sink) (g.S.Sink.values c.put.new.self)
+          (g.S.Sink.block_values c.args.start codes) (g.S.Sink.values c.rows.sink) (g.S.Sink.values c.put.new.self)
           layout.code_count c.rows-test.true (count c.and.result)
           (λ l lt. lane-zip2 bit_and lanes (g.R.Register.words c.if-left-width.codes) (g.R.Register.words c.splat-mask.result)
           (g.R.Register.words c.and.result) (count c.if-left-width.codes) (count c.splat-mask.result) c.and.ensures l lt
@@ -156,15 +156,21 @@ rows-preserved g c =
       ];
     }
 
-pub returns-clause-layout : goal.returns-clause-layout
-returns-clause-layout g c =
+pub returns-clause-unpacked : goal.returns-clause-unpacked
+returns-clause-unpacked g c =
     let lanes : ℕ = g.R.Register.LANES in
     let width : ℕ = c.args.width in
     let front : List ℕ = take (4 * lanes * width) c.args.source.now.bytes.now in
     let codes : List ℕ = codes_of lanes width front in
-    let layout : Layout lanes width codes front = Layout-codes_of lanes width front (simp length-take (omega arith)) in (
-      codes,
-      layout,
-      values_done lanes c.rows.i codes c.rows.target.words.now (g.S.Sink.values c.args.sink.now codes) (g.S.Sink.values c.rows.sink)
-          (omega arith) layout.code_count (g.met.S.Sink.values_of_none c.rows.sink) c.rows.invariant.done,
-    )
+    let layout : Layout lanes width codes front = Layout-codes_of lanes width front (simp length-take (omega (arith, c.requires.can.whole))) in
+    let block : lanes * 32 ≡ 32 * lanes = omega arith in
+    record {
+      block = (
+        codes,
+        layout,
+        values_done lanes c.rows.i codes c.rows.target.words.now (g.S.Sink.block_values c.args.start codes)
+            (g.S.Sink.values c.rows.sink) (omega arith) layout.code_count (g.met.S.Sink.values_of_none c.rows.sink)
+            c.rows.invariant.done,
+      );
+      rest = rw block at c.rows.invariant.rest;
+    }

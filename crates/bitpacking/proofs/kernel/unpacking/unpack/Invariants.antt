@@ -18,7 +18,7 @@ invariant-rows g l = record {
   done : take (g.R.Register.LANES * l.i) l.target.words.now
       ++ g.S.Sink.values l.sink
       (drop (g.R.Register.LANES * l.i) (codes_of g.R.Register.LANES l.width (take (4 * g.R.Register.LANES * l.width) l.source.bytes.now)))
-      ≡ g.S.Sink.values l.initial.sink (codes_of g.R.Register.LANES l.width (take (4 * g.R.Register.LANES * l.width) l.source.bytes.now));
+      ≡ g.S.Sink.block_values l.start (codes_of g.R.Register.LANES l.width (take (4 * g.R.Register.LANES * l.width) l.source.bytes.now));
   rest : drop (g.R.Register.LANES * 32) l.target.words.now ≡ drop (g.R.Register.LANES * 32) l.initial.target.words.now;
   same_reference : l.target.words.ghost_name ≡ l.initial.target.words.ghost_name;
   same_room : length l.target.words.now ≡ length l.initial.target.words.now;

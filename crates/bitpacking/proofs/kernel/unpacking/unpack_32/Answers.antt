@@ -11,10 +11,11 @@ use Rattle.bitpacking.proofs.kernel.unpacking.unpack_32.Goals as goal
 
 pub loop-i-init : goal.loop-i-init
 loop-i-init g c =
-    let none : g.R.Register.LANES * 0 ≡ 0 = omega arith in
+    let lanes : ℕ = g.R.Register.LANES in
+    let none : lanes * 0 ≡ 0 = omega arith in
     record {
-      position = c.requires.start;
-      done = rw none refl;
+      position = c.after-sink.ensures.position;
+      done = rw none (ap (λ f. f (codes_of lanes 32 (take (4 * lanes * 32) c.args.source.now.bytes.now))) c.after-sink.ensures.values);
       rest = refl;
       same_reference = refl;
       same_room = refl;
@@ -29,7 +30,7 @@ pub put-requires-clause-within : goal.put-requires-clause-within
 put-requires-clause-within g c =
     let lanes : ℕ = g.R.Register.LANES in
     rw c.loop-i.invariant.position
-    (omega (arith, c.loop-i.invariant.same_room, mul-le lanes (c.loop-i.i + 1) lanes 32 (omega arith) (omega (arith, c.loop-i-test.true))))
+    (omega (arith, c.loop-i.invariant.same_room, c.requires.can.room, mul-le lanes (c.loop-i.i + 1) lanes 32 (omega arith) (omega (arith, c.loop-i-test.true))))
 
 pub put-requires-clause-loaded : goal.put-requires-clause-loaded
 put-requires-clause-loaded g c =
@@ -42,12 +43,12 @@ loop-i-preserved g c =
     let source : List ℕ = c.args.source.now.bytes.now in
     let front : List ℕ = take (4 * lanes * 32) source in
     let codes : List ℕ = codes_of lanes 32 front in
-    let layout : Layout lanes 32 codes front = Layout-codes_of lanes 32 front (simp length-take (omega arith)) in
+    let layout : Layout lanes 32 codes front = Layout-codes_of lanes 32 front (simp length-take (omega (arith, c.requires.can.whole))) in
     let position : g.S.Sink.position c.loop-i.sink ≡ i = c.loop-i.invariant.position in
     record {
       position = c.put.ensures.position ∙ ap (λ n. n + 1) position;
       done = values_step lanes i codes (g.R.Register.words c.load-codes.result) c.loop-i.target.words.now c.put.new.target.words.now
-          (g.S.Sink.values c.args.sink.now codes) (g.S.Sink.values c.loop-i.sink) (g.S.Sink.values c.put.new.self)
+          (g.S.Sink.block_values c.args.start codes) (g.S.Sink.values c.loop-i.sink) (g.S.Sink.values c.put.new.self)
           layout.code_count c.loop-i-test.true (g.met.R.Register.words_count c.load-codes.result)
           (λ l lt. c.load-codes.ensures.words l lt
           ∙ sym (digit-joined 32 (lane_word lanes source l) 32 i
@@ -67,14 +68,20 @@ loop-i-preserved g c =
       held = omega (arith, c.loop-i.invariant.held, c.loop-i.invariant.inside, c.load-codes.ensures.counts.held, c.put.ensures.counts.held);
     }
 
-pub returns-clause-layout : goal.returns-clause-layout
-returns-clause-layout g c =
+pub returns-clause-unpacked : goal.returns-clause-unpacked
+returns-clause-unpacked g c =
     let lanes : ℕ = g.R.Register.LANES in
     let front : List ℕ = take (4 * lanes * 32) c.args.source.now.bytes.now in
     let codes : List ℕ = codes_of lanes 32 front in
-    let layout : Layout lanes 32 codes front = Layout-codes_of lanes 32 front (simp length-take (omega arith)) in (
-      codes,
-      layout,
-      values_done lanes c.loop-i.i codes c.loop-i.target.words.now (g.S.Sink.values c.args.sink.now codes) (g.S.Sink.values c.loop-i.sink)
-          (omega arith) layout.code_count (g.met.S.Sink.values_of_none c.loop-i.sink) c.loop-i.invariant.done,
-    )
+    let layout : Layout lanes 32 codes front = Layout-codes_of lanes 32 front (simp length-take (omega (arith, c.requires.can.whole))) in
+    let block : lanes * 32 ≡ 32 * lanes = omega arith in
+    record {
+      block = (
+        codes,
+        layout,
+        values_done lanes c.loop-i.i codes c.loop-i.target.words.now (g.S.Sink.block_values c.args.start codes)
+            (g.S.Sink.values c.loop-i.sink) (omega arith) layout.code_count (g.met.S.Sink.values_of_none c.loop-i.sink)
+            c.loop-i.invariant.done,
+      );
+      rest = rw block at c.loop-i.invariant.rest;
+    }

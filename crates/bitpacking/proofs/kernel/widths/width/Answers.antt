@@ -1,4 +1,4 @@
-use Rattle.std.proofs.Common.{List, ◌++◌, ◌≡◌, ℕ, ◌+◌, ◌-◌, ◌*◌, ◌^◌, ◌<◌, ◌≤◌, drop, get_or, bit_or, refl, ⊎_elim, arith}
+use Rattle.std.proofs.Common.{List, ◌++◌, ◌≡◌, ◌∙◌, sym, ap, ℕ, ◌+◌, ◌-◌, ◌*◌, ◌^◌, ◌<◌, ◌≤◌, drop, get_or, bit_or, refl, ⊎_elim, arith}
 use Rattle.std.proofs.lemmas.Bool.{cases_lt}
 use Rattle.std.proofs.lemmas.Nat.{mul-add-lt, le_or_l, le_or_r, or_lt, pow_pos}
 use Rattle.std.proofs.lemmas.List.Elements.{All-from_get_or}
@@ -14,7 +14,7 @@ loop-i-init g c =
     let lanes : ℕ = g.R.Register.LANES in
     let none : lanes * 0 ≡ 0 = omega arith in
     record {
-      codes = rw none refl;
+      codes = rw none (ap (λ f. f c.args.source.now.words.now) (sym c.after-transformer.ensures));
       above = λ w fits k lt. absurd (omega (arith, lt));
       below = λ w fits lane lt.
           rw (lane-splat 0 lanes (g.R.Register.words c.splat-all.result) c.splat-all.ensures lane lt) (pow_pos w);
@@ -30,7 +30,7 @@ loop-i-preserved g c =
     let count = g.met.R.Register.words_count in
     let i : ℕ = c.loop-i.i in
     let values : List ℕ = c.args.source.now.words.now in
-    let all : List ℕ = g.T.Transformer.codes c.args.transformer.now values in
+    let all : List ℕ = g.T.Transformer.block_codes c.args.start values in
     let codes : List ℕ = g.R.Register.words c.transform.result in
     let set : List ℕ = g.R.Register.words c.loop-i.all in
     let left : List ℕ = g.T.Transformer.codes c.transform.new.self (drop (lanes * (i + 1)) values) in
@@ -66,7 +66,7 @@ loop-i-preserved g c =
           rw (both lane lt) (or_lt w (get_or set lane 0) (get_or codes lane 0)
           (c.loop-i.invariant.below w fits lane lt)
           (rw (code lane lt) at (fits (i * lanes + lane) 0
-          (omega (arith, c.requires.codes, mul-add-lt i lanes lane 32 c.loop-i-test.true lt)))));
+          (omega (arith, (g.met.T.Transformer.codes_count c.args.start c.args.source.now.words.now ∙ c.requires.block), mul-add-lt i lanes lane 32 c.loop-i-test.true lt)))));
       loads = omega (arith, c.loop-i.invariant.loads, c.load.ensures.counts.loads);
       stores = omega (arith, c.loop-i.invariant.stores, c.load.ensures.counts.stores);
       inside = omega (arith, c.loop-i.invariant.inside, c.requires.bits, c.load.ensures.counts.inside);
@@ -76,11 +76,11 @@ loop-i-preserved g c =
 pub returns-clause-width : goal.returns-clause-width
 returns-clause-width g c =
     let lanes : ℕ = g.R.Register.LANES in
-    let all : List ℕ = g.T.Transformer.codes c.args.transformer.now c.args.source.now.words.now in
+    let all : List ℕ = g.T.Transformer.block_codes c.args.start c.args.source.now.words.now in
     let words : List ℕ = g.R.Register.words c.loop-i.all in
     let whole : lanes * c.loop-i.i ≡ 32 * lanes = (let e : c.loop-i.i ≡ 32 = omega arith in rw e (omega arith)) in
     let up : (w : ℕ) → Fits words w → Fits all w =
-    λ w fits. All-from_get_or (λ v. v < 2 ^ w) all 0 (λ k h. c.loop-i.invariant.above w fits k (omega (arith, whole, c.requires.codes))) in
+    λ w fits. All-from_get_or (λ v. v < 2 ^ w) all 0 (λ k h. c.loop-i.invariant.above w fits k (omega (arith, whole, (g.met.T.Transformer.codes_count c.args.start c.args.source.now.words.now ∙ c.requires.block)))) in
     let down : (w : ℕ) → Fits all w → Fits words w =
     λ w fits. All-from_get_or (λ v. v < 2 ^ w) words 0 (λ lane h. c.loop-i.invariant.below w fits lane (omega (arith, g.met.R.Register.words_count c.loop-i.all))) in
     Least-along words all c.most_significant_bit.result up down

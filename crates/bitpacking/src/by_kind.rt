@@ -1,14 +1,13 @@
-//! The three counted calls at any register: from slices and a kind to a kernel.
+//! The three counted calls at any register, by the kind of the block: what its codes are, and the value before the first.
 
-ghost use Rattle.std.specs.Prelude.{◌≡◌, ℕ, ◌+◌, ◌*◌, ◌<◌, ◌≤◌, List, length, take, drop};
-ghost use Rattle.bitpacking.specs.Codes.{AreWords, codes};
-ghost use Rattle.bitpacking.specs.Width.{Fits, IsWidth, Least};
-ghost use Rattle.bitpacking.specs.Layout.{Holds, Layout, size};
+ghost use Rattle.std.specs.Prelude.{◌≡◌, ◌+◌, ◌*◌, ◌≤◌, length};
+ghost use Rattle.bitpacking.specs.Width.{IsWidth};
+ghost use Rattle.bitpacking.specs.Layout.{size};
 ghost use Rattle.bitpacking.specs.Calls.{CanPack, CanUnpack, IsPacked, IsUnpacked, MovesToPack};
 ghost use Rattle.bitpacking.specs.Moves.{Moves};
 
 use crate::Kind;
-use crate::bodies::Bodies;
+use crate::code_kernels::CodeKernels;
 use crate::kernel::widths::width;
 use crate::kinds::sinks::{DeltaIntegrate, Store, StrictDeltaIntegrate};
 use crate::kinds::transformers::{DeltaComputer, NoDelta, StrictDeltaComputer};
@@ -17,7 +16,7 @@ use bitpacking_register::Register;
 
 /// Packs a block of a kind.
 #[inline(always)]
-pub(crate) fn pack_kind<B: Bodies, R: Register>(
+pub(crate) fn pack_kind<K: CodeKernels, R: Register>(
     kind: Kind,
     decompressed: &[u32],
     compressed: &mut [u8],
@@ -30,21 +29,26 @@ pub(crate) fn pack_kind<B: Bodies, R: Register>(
     ensures counts { MovesToPack steps.old steps.new num_bits }
 {
     match kind {
-        Kind::Plain => B::pack_codes::<R, _>(NoDelta, decompressed, compressed, num_bits, steps),
+        Kind::Plain => K::pack_codes::<R, NoDelta>(0, decompressed, compressed, num_bits, steps),
         Kind::Sorted(initial) => {
-            let transformer = DeltaComputer::new(initial);
-            B::pack_codes::<R, _>(transformer, decompressed, compressed, num_bits, steps)
+            K::pack_codes::<R, DeltaComputer<R>>(initial, decompressed, compressed, num_bits, steps)
         }
         Kind::StrictlySorted(initial) => {
-            let transformer = StrictDeltaComputer::new(initial);
-            B::pack_codes::<R, _>(transformer, decompressed, compressed, num_bits, steps)
+            let start = initial.unwrap_or(u32::MAX);
+            K::pack_codes::<R, StrictDeltaComputer<R>>(
+                start,
+                decompressed,
+                compressed,
+                num_bits,
+                steps,
+            )
         }
     }
 }
 
 /// Unpacks a block of a kind.
 #[inline(always)]
-pub(crate) fn unpack_kind<B: Bodies, R: Register>(
+pub(crate) fn unpack_kind<K: CodeKernels, R: Register>(
     kind: Kind,
     compressed: &[u8],
     decompressed: &mut [u32],
@@ -57,16 +61,25 @@ pub(crate) fn unpack_kind<B: Bodies, R: Register>(
     ensures counts { Moves steps.old steps.new num_bits 32 (32 + num_bits) }
 {
     match kind {
-        Kind::Plain => {
-            B::unpack_codes::<R, _>(Store::new(), compressed, decompressed, num_bits, steps)
-        }
+        Kind::Plain => K::unpack_codes::<R, Store>(0, compressed, decompressed, num_bits, steps),
         Kind::Sorted(initial) => {
-            let sink = DeltaIntegrate::new(initial);
-            B::unpack_codes::<R, _>(sink, compressed, decompressed, num_bits, steps)
+            K::unpack_codes::<R, DeltaIntegrate<R>>(
+                initial,
+                compressed,
+                decompressed,
+                num_bits,
+                steps,
+            )
         }
         Kind::StrictlySorted(initial) => {
-            let sink = StrictDeltaIntegrate::new(initial);
-            B::unpack_codes::<R, _>(sink, compressed, decompressed, num_bits, steps)
+            let start = initial.unwrap_or(u32::MAX);
+            K::unpack_codes::<R, StrictDeltaIntegrate<R>>(
+                start,
+                compressed,
+                decompressed,
+                num_bits,
+                steps,
+            )
         }
     }
 }
@@ -82,10 +95,10 @@ pub(crate) fn width_kind<R: Register>(kind: Kind, decompressed: &[u32], steps: &
 {
     let source = ValueSource::new(decompressed, 0);
     match kind {
-        Kind::Plain => width::<R, _>(&source, &mut NoDelta, steps),
-        Kind::Sorted(initial) => width::<R, _>(&source, &mut DeltaComputer::new(initial), steps),
+        Kind::Plain => width::<R, NoDelta>(&source, 0, steps),
+        Kind::Sorted(initial) => width::<R, DeltaComputer<R>>(&source, initial, steps),
         Kind::StrictlySorted(initial) => {
-            width::<R, _>(&source, &mut StrictDeltaComputer::new(initial), steps)
+            width::<R, StrictDeltaComputer<R>>(&source, initial.unwrap_or(u32::MAX), steps)
         }
     }
 }

@@ -1,0 +1,92 @@
+//! From slices and a width to a kernel: one loop that is handed the width, or a kernel for each width.
+
+ghost use Rattle.std.specs.Prelude.{◌≡◌, ◌+◌};
+ghost use Rattle.bitpacking.specs.Calls.{
+  CanPackCodes,
+  CanUnpack,
+  MovesToPack,
+  PackedCodes,
+  UnpackedCodes,
+};
+ghost use Rattle.bitpacking.specs.Layout.{size};
+ghost use Rattle.bitpacking.specs.Moves.{Moves};
+
+mod by_width;
+
+use crate::kernel::packing::{pack, pack_32};
+use crate::kernel::unpacking::{unpack, unpack_32};
+use crate::kinds::sinks::Sink;
+use crate::kinds::transformers::Transformer;
+use crate::memory::{ByteSource, ByteTarget, Steps, ValueSource, ValueTarget};
+use bitpacking_register::Register;
+pub(crate) use by_width::ByWidth;
+
+/// Packs and unpacks the codes of a block. It makes of the slices the sources and targets that a kernel is handed.
+///
+/// The value before the block is passed, and not a transformer or a sink: those would be passed through memory.
+pub(crate) trait CodeKernels {
+    /// Packs the codes of a block after the value `start`. At width 0 nothing is loaded.
+    fn pack_codes<R: Register, T: Transformer<R>>(
+        start: u32,
+        decompressed: &[u32],
+        compressed: &mut [u8],
+        num_bits: u8,
+        steps: &mut Steps,
+    ) -> usize
+        requires { CanPackCodes R.LANES num_bits decompressed.now (T.block_codes start decompressed.now) compressed.old }
+        ensures size { result ≡ size R.LANES num_bits }
+        ensures packed { PackedCodes R.LANES num_bits (T.block_codes start decompressed.now) compressed.old compressed.new }
+        ensures counts { MovesToPack steps.old steps.new num_bits };
+
+    /// Unpacks the codes of a block after the value `start`.
+    fn unpack_codes<R: Register, S: Sink<R>>(
+        start: u32,
+        compressed: &[u8],
+        decompressed: &mut [u32],
+        num_bits: u8,
+        steps: &mut Steps,
+    ) -> usize
+        requires { CanUnpack R.LANES num_bits compressed.now decompressed.old }
+        ensures size { result ≡ size R.LANES num_bits }
+        ensures unpacked { UnpackedCodes R.LANES num_bits (S.block_values start) compressed.now decompressed.old decompressed.new }
+        ensures counts { Moves steps.old steps.new num_bits 32 (32 + num_bits) };
+}
+
+/// One loop for all widths from 1 to 31.
+pub(crate) struct SimpleLoops;
+
+impl CodeKernels for SimpleLoops {
+    #[inline(always)]
+    fn pack_codes<R: Register, T: Transformer<R>>(
+        start: u32,
+        decompressed: &[u32],
+        compressed: &mut [u8],
+        num_bits: u8,
+        steps: &mut Steps,
+    ) -> usize {
+        let source = ValueSource::new(decompressed, num_bits as u32);
+        let mut target = ByteTarget::new(compressed);
+        match num_bits {
+            0 => 0,
+            32 => pack_32::<R, T>(&source, &mut target, start, steps),
+            _ => pack::<R, T>(&source, &mut target, start, num_bits as u32, steps),
+        }
+    }
+
+    #[inline(always)]
+    fn unpack_codes<R: Register, S: Sink<R>>(
+        start: u32,
+        compressed: &[u8],
+        decompressed: &mut [u32],
+        num_bits: u8,
+        steps: &mut Steps,
+    ) -> usize {
+        let source = ByteSource::new(compressed);
+        let mut target = ValueTarget::new(decompressed, num_bits as u32);
+        if num_bits < 32 {
+            unpack::<R, S>(&source, &mut target, start, num_bits as u32, steps)
+        } else {
+            unpack_32::<R, S>(&source, &mut target, start, steps)
+        }
+    }
+}
