@@ -4,7 +4,7 @@ use Rattle.bitpacking.specs.declared.kind.Kind.{Kind}
 use Rattle.bitpacking.specs.declared.memory.Steps.{Steps}
 use Rattle.bitpacking.specs.Codes.{codes}
 use Rattle.bitpacking.specs.Width.{Fits}
-use Rattle.bitpacking.specs.Layout.{size, Holds, Layout}
+use Rattle.bitpacking.specs.Layout.{size, Holds}
 use Rattle.bitpacking.specs.Moves.{Moves}
 
 -- the codes of a whole block, which fit the width, and room for their bytes
@@ -24,20 +24,10 @@ pub record CanUnpack (lanes width : ℕ) (bytes values : List ℕ) : Type 0 wher
   pub whole : size lanes width ≤ length bytes
   pub room : 32 * lanes ≤ length values
 
--- the buffer begins with the bytes that the codes have, and goes on as it was
-pub record PackedCodes (lanes width : ℕ) (codes old new : List ℕ) : Type 0 where
-  pub bytes : Layout lanes width codes (take (size lanes width) new)
+-- the buffer begins with bytes that hold the block, and goes on as it was
+pub record IsPacked (lanes width : ℕ) (kind : Kind) (block old new : List ℕ) : Type 0 where
+  pub bytes : Holds lanes width kind block (take (size lanes width) new)
   pub rest : drop (size lanes width) new ≡ drop (size lanes width) old
-
--- the buffer begins with the bytes that hold the block, and goes on as it was
-abbrev pub IsPacked : ℕ → ℕ → Kind → List ℕ → List ℕ → List ℕ → Type 0
-IsPacked lanes width kind block old new = PackedCodes lanes width (codes kind block) old new
-
--- the values begin with those of the codes that the bytes have, and go on as they were
-pub record UnpackedCodes (lanes width : ℕ) (values_of : List ℕ → List ℕ) (bytes old new : List ℕ) : Type 0 where
-  pub block : (codes : List ℕ) × Layout lanes width codes (take (size lanes width) bytes)
-      × (take (32 * lanes) new ≡ values_of codes)
-  pub rest : drop (32 * lanes) new ≡ drop (32 * lanes) old
 
 -- the values begin with the block that the bytes hold, and go on as they were
 pub record IsUnpacked (lanes width : ℕ) (kind : Kind) (bytes old new : List ℕ) : Type 0 where
@@ -48,3 +38,8 @@ pub record IsUnpacked (lanes width : ℕ) (kind : Kind) (bytes old new : List �
 pub record MovesToPack (old new : Steps) (width : ℕ) : Type 0 where
   pub none : width ≡ 0 → Moves old new 0 0 0
   pub counts : 0 < width → Moves old new 32 width (32 + width)
+
+-- a width call loads 32 registers, and holds nothing
+pub record MovesToMeasure (old new : Steps) : Type 0 where
+  pub counts : Moves old new 32 0 0
+  pub held : new.held ≡ old.held

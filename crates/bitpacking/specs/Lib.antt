@@ -7,6 +7,7 @@ pub mod Layout
 pub mod Words
 pub mod Moves
 pub mod Calls
+pub mod Kernels
 pub mod Partway
 pub mod Laws
 pub mod WorkedBlocks

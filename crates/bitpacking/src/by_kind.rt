@@ -3,7 +3,7 @@
 ghost use Rattle.std.specs.Prelude.{◌≡◌, ◌+◌, ◌*◌, ◌≤◌, length};
 ghost use Rattle.bitpacking.specs.Width.{IsWidth};
 ghost use Rattle.bitpacking.specs.Layout.{size};
-ghost use Rattle.bitpacking.specs.Calls.{CanPack, CanUnpack, IsPacked, IsUnpacked, MovesToPack};
+ghost use Rattle.bitpacking.specs.Calls.{CanPack, CanUnpack, IsPacked, IsUnpacked, MovesToMeasure, MovesToPack};
 ghost use Rattle.bitpacking.specs.Moves.{Moves};
 
 use crate::Kind;
@@ -90,8 +90,7 @@ pub(crate) fn width_kind<R: Register>(kind: Kind, decompressed: &[u32], steps: &
     requires { length decompressed.now ≡ 32 * R.LANES }
     ensures width { IsWidth kind decompressed.now result }
     ensures narrow { result ≤ 32 }
-    ensures counts { Moves steps.old steps.new 32 0 0 }
-    ensures held { steps.new.held ≡ steps.old.held }
+    ensures counts { MovesToMeasure steps.old steps.new }
 {
     let source = ValueSource::new(decompressed, 0);
     match kind {

@@ -1,14 +1,8 @@
 //! From slices and a width to a kernel: one loop that is handed the width, or a kernel for each width.
 
-ghost use Rattle.std.specs.Prelude.{◌≡◌, ◌+◌};
-ghost use Rattle.bitpacking.specs.Calls.{
-  CanPackCodes,
-  CanUnpack,
-  MovesToPack,
-  PackedCodes,
-  UnpackedCodes,
-};
-ghost use Rattle.bitpacking.specs.Layout.{size};
+ghost use Rattle.std.specs.Prelude.{◌+◌};
+ghost use Rattle.bitpacking.specs.Calls.{CanPackCodes, CanUnpack, MovesToPack};
+ghost use Rattle.bitpacking.specs.Kernels.{PackedCodes, UnpackedCodes};
 ghost use Rattle.bitpacking.specs.Moves.{Moves};
 
 mod by_width;
@@ -34,8 +28,7 @@ pub(crate) trait CodeKernels {
         steps: &mut Steps,
     ) -> usize
         requires { CanPackCodes R.LANES num_bits decompressed.now (T.block_codes start decompressed.now) compressed.old }
-        ensures size { result ≡ size R.LANES num_bits }
-        ensures packed { PackedCodes R.LANES num_bits (T.block_codes start decompressed.now) compressed.old compressed.new }
+        ensures packed { PackedCodes R.LANES num_bits (T.block_codes start decompressed.now) compressed.old compressed.new result }
         ensures counts { MovesToPack steps.old steps.new num_bits };
 
     /// Unpacks the codes of a block after the value `start`.
@@ -47,8 +40,7 @@ pub(crate) trait CodeKernels {
         steps: &mut Steps,
     ) -> usize
         requires { CanUnpack R.LANES num_bits compressed.now decompressed.old }
-        ensures size { result ≡ size R.LANES num_bits }
-        ensures unpacked { UnpackedCodes R.LANES num_bits (S.block_values start) compressed.now decompressed.old decompressed.new }
+        ensures unpacked { UnpackedCodes R.LANES num_bits (S.block_values start) compressed.now decompressed.old decompressed.new result }
         ensures counts { Moves steps.old steps.new num_bits 32 (32 + num_bits) };
 }
 

@@ -3,7 +3,7 @@
 ghost use Rattle.std.specs.Prelude.{◌≡◌, ◌+◌, ◌≤◌, length};
 ghost use Rattle.bitpacking.specs.Width.{IsWidth};
 ghost use Rattle.bitpacking.specs.Layout.{size};
-ghost use Rattle.bitpacking.specs.Calls.{CanPack, CanUnpack, IsPacked, IsUnpacked, MovesToPack};
+ghost use Rattle.bitpacking.specs.Calls.{CanPack, CanUnpack, IsPacked, IsUnpacked, MovesToMeasure, MovesToPack};
 ghost use Rattle.bitpacking.specs.Moves.{Moves};
 
 use crate::{BitPacker, Kind, Steps};
@@ -46,6 +46,5 @@ pub trait Counted: BitPacker {
         requires { length decompressed.now ≡ Self.BLOCK_LEN }
         ensures width { IsWidth kind decompressed.now result }
         ensures narrow { result ≤ 32 }
-        ensures counts { Moves steps.old steps.new 32 0 0 }
-        ensures held { steps.new.held ≡ steps.old.held };
+        ensures counts { MovesToMeasure steps.old steps.new };
 }

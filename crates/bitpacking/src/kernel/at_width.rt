@@ -2,8 +2,7 @@
 //! each shift and index is then a constant.
 
 ghost use Rattle.std.specs.Prelude.{◌≡◌, ℕ, ◌+◌, ◌*◌, ◌%◌, ◌<◌, ◌≤◌, List, length, drop};
-ghost use Rattle.bitpacking.specs.Bits.{AreBytes};
-ghost use Rattle.bitpacking.specs.Calls.{CanPackCodes, CanUnpack, PackedCodes, UnpackedCodes};
+ghost use Rattle.bitpacking.specs.Kernels.{KernelCanPack, KernelCanUnpack, PackedCodes, UnpackedCodes};
 ghost use Rattle.bitpacking.specs.Layout.{size};
 ghost use Rattle.bitpacking.specs.Moves.{Moves};
 ghost use Rattle.bitpacking.specs.Partway.{RowsPacked, RowsUnpacked, PacksRows, UnpacksRows, left_at};
@@ -23,12 +22,9 @@ pub(crate) fn pack_at_width<R: Register, T: Transformer<R>, const WIDTH: u32>(
     steps: &mut Steps,
 ) -> usize
     requires narrow { WIDTH < 32 }
-    requires bits { source.now.bits ≡ WIDTH }
-    requires are_bytes { AreBytes target.old.bytes.now }
-    requires can { CanPackCodes R.LANES WIDTH source.now.words.now (T.block_codes start source.now.words.now) target.old.bytes.now }
-    ensures size { result ≡ size R.LANES WIDTH }
+    requires can { KernelCanPack R.LANES WIDTH source.now.bits source.now.words.now (T.block_codes start source.now.words.now) target.old.bytes.now }
     ensures same_reference { target.new.bytes.ghost_name ≡ target.old.bytes.ghost_name }
-    ensures packed { PackedCodes R.LANES WIDTH (T.block_codes start source.now.words.now) target.old.bytes.now target.new.bytes.now }
+    ensures packed { PackedCodes R.LANES WIDTH (T.block_codes start source.now.words.now) target.old.bytes.now target.new.bytes.now result }
     ensures counts { Moves steps.old steps.new 32 WIDTH (32 + WIDTH) }
 {
     let mut transformer = T::after(start);
@@ -92,12 +88,9 @@ pub(crate) fn unpack_at_width<R: Register, S: Sink<R>, const WIDTH: u32>(
     steps: &mut Steps,
 ) -> usize
     requires narrow { WIDTH < 32 }
-    requires bits { target.old.bits ≡ WIDTH }
-    requires are_bytes { AreBytes source.now.bytes.now }
-    requires can { CanUnpack R.LANES WIDTH source.now.bytes.now target.old.words.now }
-    ensures size { result ≡ size R.LANES WIDTH }
+    requires can { KernelCanUnpack R.LANES WIDTH target.old.bits source.now.bytes.now target.old.words.now }
     ensures same_reference { target.new.words.ghost_name ≡ target.old.words.ghost_name }
-    ensures unpacked { UnpackedCodes R.LANES WIDTH (S.block_values start) source.now.bytes.now target.old.words.now target.new.words.now }
+    ensures unpacked { UnpackedCodes R.LANES WIDTH (S.block_values start) source.now.bytes.now target.old.words.now target.new.words.now result }
     ensures counts { Moves steps.old steps.new WIDTH 32 (32 + WIDTH) }
 {
     let mut sink = S::after(start);

@@ -1,9 +1,7 @@
 //! From codes to bytes.
 
 ghost use Rattle.std.specs.Prelude.{◌≡◌, ◌+◌, ◌<◌};
-ghost use Rattle.bitpacking.specs.Bits.{AreBytes};
-ghost use Rattle.bitpacking.specs.Calls.{CanPackCodes, PackedCodes};
-ghost use Rattle.bitpacking.specs.Layout.{size};
+ghost use Rattle.bitpacking.specs.Kernels.{KernelCanPack, PackedCodes};
 ghost use Rattle.bitpacking.specs.Moves.{Moves};
 
 use crate::kinds::transformers::Transformer;
@@ -20,12 +18,9 @@ pub(crate) fn pack<R: Register, T: Transformer<R>>(
 ) -> usize
     requires some { 0 < width }
     requires narrow { width < 32 }
-    requires bits { source.now.bits ≡ width }
-    requires are_bytes { AreBytes target.old.bytes.now }
-    requires can { CanPackCodes R.LANES width source.now.words.now (T.block_codes start source.now.words.now) target.old.bytes.now }
-    ensures size { result ≡ size R.LANES width }
+    requires can { KernelCanPack R.LANES width source.now.bits source.now.words.now (T.block_codes start source.now.words.now) target.old.bytes.now }
     ensures same_reference { target.new.bytes.ghost_name ≡ target.old.bytes.ghost_name }
-    ensures packed { PackedCodes R.LANES width (T.block_codes start source.now.words.now) target.old.bytes.now target.new.bytes.now }
+    ensures packed { PackedCodes R.LANES width (T.block_codes start source.now.words.now) target.old.bytes.now target.new.bytes.now result }
     ensures counts { Moves steps.old steps.new 32 width (32 + width) }
 {
     let mut transformer = T::after(start);
@@ -56,12 +51,9 @@ pub(crate) fn pack_32<R: Register, T: Transformer<R>>(
     start: u32,
     steps: &mut Steps,
 ) -> usize
-    requires bits { source.now.bits ≡ 32 }
-    requires are_bytes { AreBytes target.old.bytes.now }
-    requires can { CanPackCodes R.LANES 32 source.now.words.now (T.block_codes start source.now.words.now) target.old.bytes.now }
-    ensures size { result ≡ size R.LANES 32 }
+    requires can { KernelCanPack R.LANES 32 source.now.bits source.now.words.now (T.block_codes start source.now.words.now) target.old.bytes.now }
     ensures same_reference { target.new.bytes.ghost_name ≡ target.old.bytes.ghost_name }
-    ensures packed { PackedCodes R.LANES 32 (T.block_codes start source.now.words.now) target.old.bytes.now target.new.bytes.now }
+    ensures packed { PackedCodes R.LANES 32 (T.block_codes start source.now.words.now) target.old.bytes.now target.new.bytes.now result }
     ensures counts { Moves steps.old steps.new 32 32 64 }
 {
     let mut transformer = T::after(start);

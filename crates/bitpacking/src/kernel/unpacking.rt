@@ -1,9 +1,7 @@
 //! From bytes to codes.
 
 ghost use Rattle.std.specs.Prelude.{◌≡◌, ◌+◌, ◌<◌};
-ghost use Rattle.bitpacking.specs.Bits.{AreBytes};
-ghost use Rattle.bitpacking.specs.Calls.{CanUnpack, UnpackedCodes};
-ghost use Rattle.bitpacking.specs.Layout.{size};
+ghost use Rattle.bitpacking.specs.Kernels.{KernelCanUnpack, UnpackedCodes};
 ghost use Rattle.bitpacking.specs.Moves.{Moves};
 
 use crate::kinds::sinks::Sink;
@@ -20,12 +18,9 @@ pub(crate) fn unpack<R: Register, S: Sink<R>>(
     steps: &mut Steps,
 ) -> usize
     requires narrow { width < 32 }
-    requires bits { target.old.bits ≡ width }
-    requires are_bytes { AreBytes source.now.bytes.now }
-    requires can { CanUnpack R.LANES width source.now.bytes.now target.old.words.now }
-    ensures size { result ≡ size R.LANES width }
+    requires can { KernelCanUnpack R.LANES width target.old.bits source.now.bytes.now target.old.words.now }
     ensures same_reference { target.new.words.ghost_name ≡ target.old.words.ghost_name }
-    ensures unpacked { UnpackedCodes R.LANES width (S.block_values start) source.now.bytes.now target.old.words.now target.new.words.now }
+    ensures unpacked { UnpackedCodes R.LANES width (S.block_values start) source.now.bytes.now target.old.words.now target.new.words.now result }
     ensures counts { Moves steps.old steps.new width 32 (32 + width) }
 {
     let mut sink = S::after(start);
@@ -60,12 +55,9 @@ pub(crate) fn unpack_32<R: Register, S: Sink<R>>(
     start: u32,
     steps: &mut Steps,
 ) -> usize
-    requires bits { target.old.bits ≡ 32 }
-    requires are_bytes { AreBytes source.now.bytes.now }
-    requires can { CanUnpack R.LANES 32 source.now.bytes.now target.old.words.now }
-    ensures size { result ≡ size R.LANES 32 }
+    requires can { KernelCanUnpack R.LANES 32 target.old.bits source.now.bytes.now target.old.words.now }
     ensures same_reference { target.new.words.ghost_name ≡ target.old.words.ghost_name }
-    ensures unpacked { UnpackedCodes R.LANES 32 (S.block_values start) source.now.bytes.now target.old.words.now target.new.words.now }
+    ensures unpacked { UnpackedCodes R.LANES 32 (S.block_values start) source.now.bytes.now target.old.words.now target.new.words.now result }
     ensures counts { Moves steps.old steps.new 32 32 64 }
 {
     let mut sink = S::after(start);

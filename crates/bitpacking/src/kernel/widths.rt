@@ -4,7 +4,7 @@ ghost use Rattle.std.specs.Prelude.{◌≡◌, ◌+◌, ◌*◌, ◌≤◌, leng
 ghost use lib.Count.{count_leading_zeros};
 ghost use Rattle.bitpacking.specs.Width.{Least};
 ghost use Rattle.bitpacking.specs.Codes.{AreWords};
-ghost use Rattle.bitpacking.specs.Moves.{Moves};
+ghost use Rattle.bitpacking.specs.Calls.{MovesToMeasure};
 
 use crate::kinds::transformers::Transformer;
 use crate::memory::{Steps, ValueSource};
@@ -22,8 +22,7 @@ pub(crate) fn width<R: Register, T: Transformer<R>>(
     requires words { AreWords (T.block_codes start source.now.words.now) }
     ensures width { Least (T.block_codes start source.now.words.now) result }
     ensures narrow { result ≤ 32 }
-    ensures counts { Moves steps.old steps.new 32 0 0 }
-    ensures held { steps.new.held ≡ steps.old.held }
+    ensures counts { MovesToMeasure steps.old steps.new }
 {
     let mut transformer = T::after(start);
     let mut all = R::splat(0);

@@ -1,4 +1,4 @@
-use Rattle.std.proofs.Common.{List, ℕ, ◌*◌, ◌∙◌, take, arith}
+use Rattle.std.proofs.Common.{List, ℕ, ◌*◌, ◌∙◌, take, arith, ap}
 use Rattle.std.proofs.lemmas.List.{length-take}
 use Rattle.bitpacking.specs.Layout.{Layout}
 use Rattle.bitpacking.proofs.OneToOne.{codes_of, Layout-codes_of}
@@ -13,7 +13,7 @@ returns-clause-unpacked g c =
     let front : List ℕ = take (4 * lanes * width) bytes in
     let codes : List ℕ = codes_of lanes width front in
     let layout : Layout lanes width codes front =
-    Layout-codes_of lanes width front (simp length-take (omega (arith, c.requires.can.whole))) in
+    Layout-codes_of lanes width front (simp length-take (omega (arith, c.requires.can.can.whole))) in
     let values : List ℕ = g.S.Sink.values c.after-sink.result codes in
     record {
       block = (
@@ -25,8 +25,9 @@ returns-clause-unpacked g c =
             (c.unpack_rows.ensures.unpacked codes values (c.unpack_rows-pending-3.ensures.unpacked codes values
             (c.unpack_rows-pending-2.ensures.unpacked codes values (c.unpack_rows-pending.ensures.unpacked codes values
             (RowsUnpacked-start lanes width bytes codes (g.S.Sink.values c.after-sink.result) c.args.target.now.words.now
-            (g.R.Register.words c.splat-pending.result) c.requires.are_bytes layout c.splat-pending.ensures)))))),
+            (g.R.Register.words c.splat-pending.result) c.requires.can.are_bytes layout c.splat-pending.ensures)))))),
       );
       rest = c.unpack_rows.ensures.rest ∙ c.unpack_rows-pending-3.ensures.rest
           ∙ c.unpack_rows-pending-2.ensures.rest ∙ c.unpack_rows-pending.ensures.rest;
+      count = ap (λ n. 4 * n * width) c.LANES.ensures;
     }

@@ -23,7 +23,7 @@ rows-init g c =
       packed = λ lane lt.
           rw (lane-splat 0 lanes (g.R.Register.words c.splat-pending.result) c.splat-pending.ensures lane lt)
           (Packed-start c.args.width (lane_word lanes c.args.target.now.bytes.now lane) (lane_code lanes all lane));
-      are_bytes = c.requires.are_bytes;
+      are_bytes = c.requires.can.are_bytes;
       rest = refl;
       same_reference = refl;
       same_room = refl;
@@ -42,11 +42,11 @@ store-requires-clause-within g c =
     room_left c.args.width c.rows.i c.rows.stored c.rows.filled c.rows-test.true
     c.rows.invariant.place c.if-filled-width-lt32.false c.rows.invariant.filled in
     row_room g.R.Register.LANES c.rows.stored c.args.width (length c.rows.target.bytes.now) there
-    (omega (arith, c.rows.invariant.same_room, c.requires.can.room))
+    (omega (arith, c.rows.invariant.same_room, c.requires.can.can.room))
 
 pub store-requires-clause-loaded : goal.store-requires-clause-loaded
 store-requires-clause-loaded g c =
-    omega (arith, c.rows.invariant.inside, c.requires.bits, c.load.ensures.counts.inside, c.if-filled-width-lt32.false)
+    omega (arith, c.rows.invariant.inside, c.requires.can.bits, c.load.ensures.counts.inside, c.if-filled-width-lt32.false)
 
 pub rows-preserved : goal.rows-preserved
 rows-preserved g c =
@@ -66,8 +66,8 @@ rows-preserved g c =
     let code : (lane : ℕ) → lane < lanes → lane_code lanes all lane i ≡ get_or codes lane 0 =
     λ lane lt. row_at lanes i all codes left lane (count c.transform-codes.result) given lt in
     let small : (lane : ℕ) → lane < lanes → get_or codes lane 0 < 2 ^ width =
-    λ lane lt. rw (code lane lt) at (c.requires.can.fits (i * lanes + lane) 0
-    (omega (arith, (g.met.T.Transformer.codes_count c.args.start c.args.source.now.words.now ∙ c.requires.can.whole), mul-add-lt i lanes lane 32 c.rows-test.true lt))) in
+    λ lane lt. rw (code lane lt) at (c.requires.can.can.fits (i * lanes + lane) 0
+    (omega (arith, (g.met.T.Transformer.codes_count c.args.start c.args.source.now.words.now ∙ c.requires.can.can.whole), mul-add-lt i lanes lane 32 c.rows-test.true lt))) in
     let word : (lane : ℕ) → lane < lanes
     → get_or (g.R.Register.words c.or-word.result) lane 0
     ≡ bit_or (get_or pending lane 0) ((get_or codes lane 0 * 2 ^ c.rows.filled) % 2 ^ 32) =
@@ -94,8 +94,8 @@ rows-preserved g c =
         same_room = c.rows.invariant.same_room;
         loads = omega (arith, c.rows.invariant.loads, c.load.ensures.counts.loads);
         stores = omega (arith, c.rows.invariant.stores, c.load.ensures.counts.stores);
-        inside = omega (arith, c.rows.invariant.inside, c.requires.bits, c.load.ensures.counts.inside);
-        held = omega (arith, c.rows.invariant.held, c.rows.invariant.inside, c.requires.bits, c.load.ensures.counts.held);
+        inside = omega (arith, c.rows.invariant.inside, c.requires.can.bits, c.load.ensures.counts.inside);
+        held = omega (arith, c.rows.invariant.held, c.rows.invariant.inside, c.requires.can.bits, c.load.ensures.counts.held);
       })
       | else-filled-width-lt32 w ↦ rw (w.target-is, w.pending-is, w.filled-is, w.stored-is, w.steps-is) (record {
         place = omega arith;
@@ -118,8 +118,8 @@ rows-preserved g c =
         same_room = w.store.ensures.room ∙ c.rows.invariant.same_room;
         loads = omega (arith, c.rows.invariant.loads, c.load.ensures.counts.loads, w.store.ensures.counts.loads);
         stores = omega (arith, c.rows.invariant.stores, c.load.ensures.counts.stores, w.store.ensures.counts.stores);
-        inside = omega (arith, c.rows.invariant.inside, c.requires.bits, c.load.ensures.counts.inside, w.store.ensures.counts.inside, w.if-filled-width-lt32.false);
-        held = omega (arith, c.rows.invariant.held, c.rows.invariant.inside, c.requires.bits, c.load.ensures.counts.held, w.store.ensures.counts.held, c.rows.invariant.filled);
+        inside = omega (arith, c.rows.invariant.inside, c.requires.can.bits, c.load.ensures.counts.inside, w.store.ensures.counts.inside, w.if-filled-width-lt32.false);
+        held = omega (arith, c.rows.invariant.held, c.rows.invariant.inside, c.requires.can.bits, c.load.ensures.counts.held, w.store.ensures.counts.held, c.rows.invariant.filled);
       })
     ]
 
@@ -132,10 +132,10 @@ returns-clause-packed g c =
     let all : List ℕ = g.T.Transformer.block_codes c.args.start values in
     let whole : c.rows.i ≡ 32 = omega arith in
     record {
-      bytes = Layout-from_lanes lanes width all (take (4 * lanes * width) bytes)
+      layout = Layout-from_lanes lanes width all (take (4 * lanes * width) bytes)
           (AreBytes-take bytes (4 * lanes * width) c.rows.invariant.are_bytes)
-          g.met.R.Register.some_lanes (g.met.T.Transformer.codes_count c.args.start values ∙ c.requires.can.whole)
-          (simp length-take (omega (arith, c.rows.invariant.same_room, c.requires.can.room))) c.requires.can.fits
+          g.met.R.Register.some_lanes (g.met.T.Transformer.codes_count c.args.start values ∙ c.requires.can.can.whole)
+          (simp length-take (omega (arith, c.rows.invariant.same_room, c.requires.can.can.room))) c.requires.can.can.fits
           (λ lane lt. record {
             same =
                 joined-front lanes width bytes lane lt
@@ -144,4 +144,5 @@ returns-clause-packed g c =
                 whole c.rows.invariant.place c.rows.invariant.filled (c.rows.invariant.packed lane lt);
           });
       rest = c.rows.invariant.rest;
+      count = ap (λ n. 4 * n * c.args.width) c.LANES.ensures;
     }

@@ -15,7 +15,7 @@ registers-init g c =
     record {
       codes = rw none (ap (λ f. f c.args.source.now.words.now) (sym c.after-transformer.ensures));
       done = λ lane lt q h. absurd (omega (arith, h));
-      are_bytes = c.requires.are_bytes;
+      are_bytes = c.requires.can.are_bytes;
       rest = refl;
       same_reference = refl;
       same_room = refl;
@@ -56,8 +56,8 @@ registers-preserved g c =
       same_room = c.store.ensures.room ∙ c.registers.invariant.same_room;
       loads = omega (arith, c.registers.invariant.loads, c.load.ensures.counts.loads, c.store.ensures.counts.loads);
       stores = omega (arith, c.registers.invariant.stores, c.load.ensures.counts.stores, c.store.ensures.counts.stores);
-      inside = omega (arith, c.registers.invariant.inside, c.requires.bits, c.load.ensures.counts.inside, c.store.ensures.counts.inside);
-      held = omega (arith, c.registers.invariant.held, c.registers.invariant.inside, c.requires.bits, c.load.ensures.counts.held, c.store.ensures.counts.held);
+      inside = omega (arith, c.registers.invariant.inside, c.requires.can.bits, c.load.ensures.counts.inside, c.store.ensures.counts.inside);
+      held = omega (arith, c.registers.invariant.held, c.registers.invariant.inside, c.requires.can.bits, c.load.ensures.counts.held, c.store.ensures.counts.held);
     }
 
 pub returns-clause-packed : goal.returns-clause-packed
@@ -67,10 +67,10 @@ returns-clause-packed g c =
     let values : List ℕ = c.args.source.now.words.now in
     let all : List ℕ = g.T.Transformer.block_codes c.args.start values in
     record {
-      bytes = Layout-from_lanes lanes 32 all (take (4 * lanes * 32) bytes)
+      layout = Layout-from_lanes lanes 32 all (take (4 * lanes * 32) bytes)
           (AreBytes-take bytes (4 * lanes * 32) c.registers.invariant.are_bytes)
-          g.met.R.Register.some_lanes (g.met.T.Transformer.codes_count c.args.start values ∙ c.requires.can.whole)
-          (simp length-take (omega (arith, c.registers.invariant.same_room, c.requires.can.room))) c.requires.can.fits
+          g.met.R.Register.some_lanes (g.met.T.Transformer.codes_count c.args.start values ∙ c.requires.can.can.whole)
+          (simp length-take (omega (arith, c.registers.invariant.same_room, c.requires.can.can.room))) c.requires.can.can.fits
           (λ lane lt. record {
             same =
                 joined-front lanes 32 bytes lane lt
@@ -78,4 +78,5 @@ returns-clause-packed g c =
                 (λ q hq. c.registers.invariant.done lane lt q (omega arith));
           });
       rest = c.registers.invariant.rest;
+      count = ap (λ n. 4 * n * 32) c.LANES.ensures;
     }

@@ -40,22 +40,22 @@ pub load-word-requires : goal.load-word-requires
 load-word-requires g c =
     let there : c.rows.loaded < c.args.width =
     words_left c.args.width c.rows.i c.rows.loaded c.rows.left c.rows-test.true c.rows.invariant.place c.if-left-width.true in
-    row_room g.R.Register.LANES c.rows.loaded c.args.width (length c.args.source.now.bytes.now) there c.requires.can.whole
+    row_room g.R.Register.LANES c.rows.loaded c.args.width (length c.args.source.now.bytes.now) there c.requires.can.can.whole
 
 pub put-requires-clause-within : goal.put-requires-clause-within
 put-requires-clause-within g c =
     let lanes : ℕ = g.R.Register.LANES in
     rw c.rows.invariant.position
-    (omega (arith, c.rows.invariant.same_room, c.requires.can.room, mul-le lanes (c.rows.i + 1) lanes 32 (omega arith) (omega (arith, c.rows-test.true))))
+    (omega (arith, c.rows.invariant.same_room, c.requires.can.can.room, mul-le lanes (c.rows.i + 1) lanes 32 (omega arith) (omega (arith, c.rows-test.true))))
 
 -- of the bits that were left and those that were loaded, the code has `width`
 pub put-requires-clause-loaded : goal.put-requires-clause-loaded
 put-requires-clause-loaded g c =
     elim c.if-left-width.branch [
       | then-left-width w ↦ rw w.steps-is
-          (omega (arith, c.rows.invariant.same_bits, c.requires.bits, c.rows.invariant.inside, w.load-word.ensures.counts.inside))
+          (omega (arith, c.rows.invariant.same_bits, c.requires.can.bits, c.rows.invariant.inside, w.load-word.ensures.counts.inside))
       | else-left-width w ↦ rw w.steps-is
-          (omega (arith, c.rows.invariant.same_bits, c.requires.bits, c.rows.invariant.inside, w.if-left-width.false))
+          (omega (arith, c.rows.invariant.same_bits, c.requires.can.bits, c.rows.invariant.inside, w.if-left-width.false))
     ]
 
 pub rows-preserved : goal.rows-preserved
@@ -79,7 +79,7 @@ rows-preserved g c =
           let read : get_or words lane 0 ≡ digit 32 (number lane) c.rows.loaded =
           w.load-word.ensures.words lane lt
           ∙ sym (digit-joined 32 (lane_word lanes source lane) width c.rows.loaded
-          (λ q h. word-lt source c.requires.are_bytes (lanes * q + lane)) there) in
+          (λ q h. word-lt source c.requires.can.are_bytes (lanes * q + lane)) there) in
           let whole : get_or (g.R.Register.words w.or-whole.result) lane 0
           ≡ bit_or (get_or pending lane 0) ((get_or words lane 0 * 2 ^ c.rows.left) % 2 ^ 32) =
           lane-zip2 bit_or lanes pending (g.R.Register.words w.shift_left.result) (g.R.Register.words w.or-whole.result)
@@ -108,7 +108,7 @@ rows-preserved g c =
     ] in
     let front : List ℕ = take (4 * lanes * width) source in
     let codes : List ℕ = codes_of lanes width front in
-    let layout : Layout lanes width codes front = Layout-codes_of lanes width front (simp length-take (omega (arith, c.requires.can.whole))) in
+    let layout : Layout lanes width codes front = Layout-codes_of lanes width front (simp length-take (omega (arith, c.requires.can.can.whole))) in
     let position : g.S.Sink.position c.rows.sink ≡ i = c.rows.invariant.position in
     record {
       place = elim c.if-left-width.branch [
@@ -130,7 +130,7 @@ rows-preserved g c =
           (masked (get_or (g.R.Register.words c.if-left-width.codes) l 0) width c.requires.narrow)
           ∙ (step l lt).0
           ∙ ap (λ x. digit width x i) (sym (joined-front lanes width source l lt))
-          ∙ digit-code lanes width codes front (AreBytes-take source (4 * lanes * width) c.requires.are_bytes) layout l lt i c.rows-test.true)
+          ∙ digit-code lanes width codes front (AreBytes-take source (4 * lanes * width) c.requires.can.are_bytes) layout l lt i c.rows-test.true)
           (rw position at c.put.ensures.stored)
           c.rows.invariant.done;
       rest = rest_step lanes i 32 c.put.new.target.words.now c.rows.target.words.now c.args.target.now.words.now
@@ -147,8 +147,8 @@ rows-preserved g c =
         | else-left-width w ↦ omega (arith, c.rows.invariant.stores, ap (λ s. s.stores) w.steps-is, c.put.ensures.counts.stores)
       ];
       inside = elim c.if-left-width.branch [
-        | then-left-width w ↦ rw w.left-is (omega (arith, c.rows.invariant.inside, c.rows.invariant.same_bits, c.requires.bits, ap (λ s. s.inside) w.steps-is, w.load-word.ensures.counts.inside, c.put.ensures.counts.inside))
-        | else-left-width w ↦ rw w.left-is (omega (arith, c.rows.invariant.inside, c.rows.invariant.same_bits, c.requires.bits, ap (λ s. s.inside) w.steps-is, c.put.ensures.counts.inside))
+        | then-left-width w ↦ rw w.left-is (omega (arith, c.rows.invariant.inside, c.rows.invariant.same_bits, c.requires.can.bits, ap (λ s. s.inside) w.steps-is, w.load-word.ensures.counts.inside, c.put.ensures.counts.inside))
+        | else-left-width w ↦ rw w.left-is (omega (arith, c.rows.invariant.inside, c.rows.invariant.same_bits, c.requires.can.bits, ap (λ s. s.inside) w.steps-is, c.put.ensures.counts.inside))
       ];
       held = elim c.if-left-width.branch [
         | then-left-width w ↦ omega (arith, c.rows.invariant.held, c.rows.invariant.inside, ap (λ s. s.held) w.steps-is, w.load-word.ensures.counts.held, c.put.ensures.counts.held)
@@ -162,7 +162,7 @@ returns-clause-unpacked g c =
     let width : ℕ = c.args.width in
     let front : List ℕ = take (4 * lanes * width) c.args.source.now.bytes.now in
     let codes : List ℕ = codes_of lanes width front in
-    let layout : Layout lanes width codes front = Layout-codes_of lanes width front (simp length-take (omega (arith, c.requires.can.whole))) in
+    let layout : Layout lanes width codes front = Layout-codes_of lanes width front (simp length-take (omega (arith, c.requires.can.can.whole))) in
     let block : lanes * 32 ≡ 32 * lanes = omega arith in
     record {
       block = (
@@ -173,4 +173,5 @@ returns-clause-unpacked g c =
             c.rows.invariant.done,
       );
       rest = rw block at c.rows.invariant.rest;
+      count = ap (λ n. 4 * n * c.args.width) c.LANES.ensures;
     }

@@ -30,11 +30,11 @@ pub put-requires-clause-within : goal.put-requires-clause-within
 put-requires-clause-within g c =
     let lanes : ℕ = g.R.Register.LANES in
     rw c.loop-i.invariant.position
-    (omega (arith, c.loop-i.invariant.same_room, c.requires.can.room, mul-le lanes (c.loop-i.i + 1) lanes 32 (omega arith) (omega (arith, c.loop-i-test.true))))
+    (omega (arith, c.loop-i.invariant.same_room, c.requires.can.can.room, mul-le lanes (c.loop-i.i + 1) lanes 32 (omega arith) (omega (arith, c.loop-i-test.true))))
 
 pub put-requires-clause-loaded : goal.put-requires-clause-loaded
 put-requires-clause-loaded g c =
-    omega (arith, c.loop-i.invariant.same_bits, c.requires.bits, c.load-codes.ensures.counts.inside)
+    omega (arith, c.loop-i.invariant.same_bits, c.requires.can.bits, c.load-codes.ensures.counts.inside)
 
 pub loop-i-preserved : goal.loop-i-preserved
 loop-i-preserved g c =
@@ -43,7 +43,7 @@ loop-i-preserved g c =
     let source : List ℕ = c.args.source.now.bytes.now in
     let front : List ℕ = take (4 * lanes * 32) source in
     let codes : List ℕ = codes_of lanes 32 front in
-    let layout : Layout lanes 32 codes front = Layout-codes_of lanes 32 front (simp length-take (omega (arith, c.requires.can.whole))) in
+    let layout : Layout lanes 32 codes front = Layout-codes_of lanes 32 front (simp length-take (omega (arith, c.requires.can.can.whole))) in
     let position : g.S.Sink.position c.loop-i.sink ≡ i = c.loop-i.invariant.position in
     record {
       position = c.put.ensures.position ∙ ap (λ n. n + 1) position;
@@ -52,9 +52,9 @@ loop-i-preserved g c =
           layout.code_count c.loop-i-test.true (g.met.R.Register.words_count c.load-codes.result)
           (λ l lt. c.load-codes.ensures.words l lt
           ∙ sym (digit-joined 32 (lane_word lanes source l) 32 i
-          (λ q h. word-lt source c.requires.are_bytes (lanes * q + l)) c.loop-i-test.true)
+          (λ q h. word-lt source c.requires.can.are_bytes (lanes * q + l)) c.loop-i-test.true)
           ∙ ap (λ x. digit 32 x i) (sym (joined-front lanes 32 source l lt))
-          ∙ digit-code lanes 32 codes front (AreBytes-take source (4 * lanes * 32) c.requires.are_bytes) layout l lt i c.loop-i-test.true)
+          ∙ digit-code lanes 32 codes front (AreBytes-take source (4 * lanes * 32) c.requires.can.are_bytes) layout l lt i c.loop-i-test.true)
           (rw position at c.put.ensures.stored)
           c.loop-i.invariant.done;
       rest = rest_step lanes i 32 c.put.new.target.words.now c.loop-i.target.words.now c.args.target.now.words.now
@@ -64,7 +64,7 @@ loop-i-preserved g c =
       same_bits = c.put.ensures.bits ∙ c.loop-i.invariant.same_bits;
       loads = omega (arith, c.loop-i.invariant.loads, c.load-codes.ensures.counts.loads, c.put.ensures.counts.loads);
       stores = omega (arith, c.loop-i.invariant.stores, c.load-codes.ensures.counts.stores, c.put.ensures.counts.stores);
-      inside = omega (arith, c.loop-i.invariant.inside, c.requires.bits, c.loop-i.invariant.same_bits, c.load-codes.ensures.counts.inside, c.put.ensures.counts.inside);
+      inside = omega (arith, c.loop-i.invariant.inside, c.requires.can.bits, c.loop-i.invariant.same_bits, c.load-codes.ensures.counts.inside, c.put.ensures.counts.inside);
       held = omega (arith, c.loop-i.invariant.held, c.loop-i.invariant.inside, c.load-codes.ensures.counts.held, c.put.ensures.counts.held);
     }
 
@@ -73,7 +73,7 @@ returns-clause-unpacked g c =
     let lanes : ℕ = g.R.Register.LANES in
     let front : List ℕ = take (4 * lanes * 32) c.args.source.now.bytes.now in
     let codes : List ℕ = codes_of lanes 32 front in
-    let layout : Layout lanes 32 codes front = Layout-codes_of lanes 32 front (simp length-take (omega (arith, c.requires.can.whole))) in
+    let layout : Layout lanes 32 codes front = Layout-codes_of lanes 32 front (simp length-take (omega (arith, c.requires.can.can.whole))) in
     let block : lanes * 32 ≡ 32 * lanes = omega arith in
     record {
       block = (
@@ -84,4 +84,5 @@ returns-clause-unpacked g c =
             c.loop-i.invariant.done,
       );
       rest = rw block at c.loop-i.invariant.rest;
+      count = ap (λ n. 4 * n * 32) c.LANES.ensures;
     }
