@@ -85,7 +85,7 @@ AreWords-block_of Plain values words = words
 AreWords-block_of (Sorted initial) values words = AreWords-running_sums initial values
 AreWords-block_of (StrictlySorted initial) values words = AreWords-running_sums (unwrap_or initial 4294967295) (map one_more values)
 
--- no initial value stands for the greatest one
+-- no initial value means the greatest one
 pub codes-none : (block : List ℕ) → codes (StrictlySorted None) block ≡ codes (StrictlySorted (Some 4294967295)) block
 codes-none block = refl
 
@@ -127,7 +127,7 @@ running_sums-register before lanes xs ys out len some e =
     rw e (running_sums-append before xs ys
     ∙ ap (λ zs. running_sums before xs ++ zs) (running_sums-mod (before + sum xs) (get_or (running_sums before xs) (lanes - 1) 0) ys same))
 
--- Blocks with the same codes are the same, whatever stands before them.
+-- Blocks with the same codes after the same value are the same.
 pub head_same : (x y : ℕ) (xs ys : List ℕ) → x ∷ xs ≡ y ∷ ys → x ≡ y
 head_same x y xs ys e = cc
 

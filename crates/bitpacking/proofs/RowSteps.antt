@@ -45,7 +45,7 @@ values_done lanes i codes values all left whole long none done =
     ∙ ap (λ n. take n values ++ left (drop n codes)) (sym count)
     ∙ done
 
--- What stands past the block stays, where a store leaves what stands past its register.
+-- What is after the block stays, if a store leaves what is after its register.
 pub rest_step : (unit i rows : ℕ) (new old first : List ℕ) → i < rows
     → drop (unit * i + unit) new ≡ drop (unit * i + unit) old
     → drop (unit * rows) old ≡ drop (unit * rows) first

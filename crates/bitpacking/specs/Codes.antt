@@ -9,7 +9,7 @@ use Rattle.bitpacking.specs.declared.kind.Kind.TheVariants.{Plain, Sorted, Stric
 abbrev pub AreWords : List ℕ → Type 0
 AreWords values = All (λ value. value < 2 ^ 32) values
 
--- the value before the block; `None` stands for the last number, and a plain block uses none
+-- the value before the block: `None` means `u32::MAX`, and a plain block uses none
 abbrev pub start : Kind → ℕ
 start Plain = 0
 start (Sorted initial) = initial

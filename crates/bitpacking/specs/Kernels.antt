@@ -1,4 +1,4 @@
--- What a kernel is handed, and what it leaves: the clauses of the calls, of codes in place of a block and its kind.
+-- What a kernel is given, and what it leaves: as the clauses of the calls, but of codes in place of a block and its kind.
 use Rattle.std.specs.Prelude.{◌≡◌, ℕ, ◌*◌, List, take, drop}
 use Rattle.bitpacking.specs.Bits.{AreBytes}
 use Rattle.bitpacking.specs.Calls.{CanPackCodes, CanUnpack}
@@ -15,13 +15,13 @@ pub record KernelCanUnpack (lanes width counted : ℕ) (bytes values : List ℕ)
   pub bits : counted ≡ width
   pub are_bytes : AreBytes bytes
 
--- so many bytes are written, those that lay out the codes; the buffer goes on as it was
+-- the buffer begins with the layout of the codes, which has as many bytes as were written, and goes on as it was
 pub record PackedCodes (lanes width : ℕ) (codes old new : List ℕ) (written : ℕ) : Type 0 where
   pub layout : Layout lanes width codes (take (size lanes width) new)
   pub rest : drop (size lanes width) new ≡ drop (size lanes width) old
   pub count : written ≡ size lanes width
 
--- so many bytes are read, and the values begin with those of the codes that they lay out; they go on as they were
+-- the values begin with those of the codes whose layout was read, and go on as they were
 pub record UnpackedCodes (lanes width : ℕ) (values_of : List ℕ → List ℕ) (bytes old new : List ℕ) (read : ℕ) : Type 0 where
   pub block : (codes : List ℕ) × Layout lanes width codes (take (size lanes width) bytes)
       × (take (32 * lanes) new ≡ values_of codes)

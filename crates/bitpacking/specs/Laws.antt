@@ -22,7 +22,7 @@ OneLayoutBytes = (lanes width : ℕ) (codes : List ℕ) → 0 < lanes → length
     → (bytes : List ℕ) × AreBytes bytes × Layout lanes width codes bytes
     × ((others : List ℕ) → AreBytes others → Layout lanes width codes others → others ≡ bytes)
 
--- as many bytes as a block has lay out some codes, and any two such lists of codes are equal
+-- as many bytes as a block has are the layout of some codes, and any two such lists of codes are equal
 abbrev pub OneLayoutCodes : Type 0
 OneLayoutCodes = (lanes width : ℕ) (bytes : List ℕ) → length bytes ≡ size lanes width
     → (codes : List ℕ) × Layout lanes width codes bytes
@@ -43,7 +43,7 @@ OneLeastWidth = (words : List ℕ) → AreWords words
 abbrev pub FitsGreater : Type 0
 FitsGreater = (words : List ℕ) (width greater : ℕ) → width ≤ greater → Fits words width → Fits words greater
 
--- no initial value stands for the last number
+-- no initial value means `u32::MAX`
 abbrev pub NoneIsTheLastNumber : Type 0
 NoneIsTheLastNumber = (block : List ℕ) → codes (StrictlySorted None) block ≡ codes (StrictlySorted (Some 4294967295)) block
 
@@ -54,7 +54,7 @@ StrictSavesAtMostABit = (initial : ℕ) (block : List ℕ) (width strict : ℕ)
     → IsWidth (Sorted initial) block width → IsWidth (StrictlySorted (Some initial)) block strict
     → (strict ≡ width) ⊎ (strict + 1 ≡ width)
 
--- each value less the one before it, with no value below that one; `before` stands before the first
+-- each value less the one before it, with no value below that one; `before` is the value before the first
 abbrev pub plain_differences : ℕ → List ℕ → List ℕ
 plain_differences before [] = []
 plain_differences before (value ∷ values) = (value - before) ∷ plain_differences value values

@@ -1,4 +1,4 @@
--- Where each bit of each code of a block stands in its bytes.
+-- Where each bit of each code of a block is in its bytes.
 use Rattle.std.specs.Prelude.{◌≡◌, ℕ, ◌+◌, ◌*◌, ◌/◌, ◌%◌, ◌<◌, List, length, slice_index}
 use Rattle.std.specs.Int.{bit_at}
 use Rattle.bitpacking.specs.declared.kind.Kind.{Kind}
@@ -10,7 +10,7 @@ use Rattle.bitpacking.specs.Width.{Fits}
 abbrev pub size : ℕ → ℕ → ℕ
 size lanes width = 4 * lanes * width
 
--- The bit of the bytes in which bit j of code k stands. The codes of lane `k % lanes` stand end to end, from the lowest bit
+-- The bit of the bytes that bit j of code k is. The codes of lane `k % lanes` follow each other, from the lowest bit
 -- on, in every `lanes`-th word of 32 bits, from word `k % lanes` on.
 unfoldable pub place : ℕ → ℕ → ℕ → ℕ → ℕ
 place lanes width k j =

@@ -7,12 +7,12 @@ ghost use Rattle.bitpacking.specs.Width.{IsWidth};
 ghost use Rattle.bitpacking.specs.Layout.{size};
 ghost use Rattle.bitpacking.specs.Calls.{CanPack, CanUnpack, IsPacked, IsUnpacked};
 
-/// Packs blocks of `BLOCK_LEN` numbers.
+/// Packs blocks of `BLOCK_LEN` values.
 ///
-/// No call fails, allocates or stops the program: lengths and widths are conditions on the caller. The width calls are the
-/// test for the condition that the codes of a block fit.
+/// No call fails, allocates or panics: lengths and widths are conditions on the caller. Whether the codes of a block fit a
+/// width is told by the width calls: they fit the least width and every greater one.
 pub trait BitPacker: Sized + Clone + Copy {
-    /// How many numbers a block has: 32 for each lane of the packer.
+    /// How many values a block has: 32 for each lane of the packer.
     const BLOCK_LEN: usize;
 
     ghost BLOCK_LEN: { ℕ };
@@ -22,9 +22,9 @@ pub trait BitPacker: Sized + Clone + Copy {
     /// The packer with the fastest kernel.
     fn new() -> Self;
 
-    /// Packs a block at `num_bits` bits a number and returns the number of bytes written, 4 * lanes * `num_bits`.
+    /// Packs a block at `num_bits` bits per value and returns the number of bytes written, 4 * lanes * `num_bits`.
     ///
-    /// Any width from the block's least to 32 serves. Bytes past those written stay as they were.
+    /// Any width from the block's least to 32 will do. Bytes after those written stay as they were.
     fn compress(&self, decompressed: &[u32], compressed: &mut [u8], num_bits: u8) -> usize
         requires { CanPack lanes num_bits Plain decompressed.now compressed.old }
         ensures size { result ≡ size lanes num_bits }
@@ -44,7 +44,7 @@ pub trait BitPacker: Sized + Clone + Copy {
         ensures size { result ≡ size lanes num_bits }
         ensures packed { IsPacked lanes num_bits (Sorted initial) decompressed.now compressed.old compressed.new };
 
-    /// Packs one less than the differences of a block. `None` stands for the last number, so that a block may begin with 0.
+    /// Packs one less than the differences of a block. `None` means `u32::MAX`, so that a block may begin with 0.
     fn compress_strictly_sorted(
         &self,
         initial: Option<u32>,
@@ -56,9 +56,9 @@ pub trait BitPacker: Sized + Clone + Copy {
         ensures size { result ≡ size lanes num_bits }
         ensures packed { IsPacked lanes num_bits (StrictlySorted initial) decompressed.now compressed.old compressed.new };
 
-    /// Unpacks a block of `num_bits` bits a number and returns the number of bytes read, 4 * lanes * `num_bits`.
+    /// Unpacks a block of `num_bits` bits per value and returns the number of bytes read, 4 * lanes * `num_bits`.
     ///
-    /// Any bytes are taken. Later bytes are not looked at, and places past the block stay as they were.
+    /// Any bytes are taken. Later bytes are not looked at, and values after the block stay as they were.
     fn decompress(&self, compressed: &[u8], decompressed: &mut [u32], num_bits: u8) -> usize
         requires { CanUnpack lanes num_bits compressed.now decompressed.old }
         ensures size { result ≡ size lanes num_bits }
@@ -106,7 +106,7 @@ pub trait BitPacker: Sized + Clone + Copy {
         ensures width { IsWidth (StrictlySorted initial) decompressed.now result }
         ensures narrow { result ≤ 32 };
 
-    /// How many bytes a block takes at `num_bits` bits a number. Any width is taken, also above 32.
+    /// How many bytes a block takes at `num_bits` bits per value. Any width is taken, also above 32.
     #[must_use]
     fn compressed_block_size(num_bits: u8) -> usize
         ensures { result ≡ size lanes num_bits }

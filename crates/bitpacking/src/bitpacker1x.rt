@@ -1,4 +1,4 @@
-//! Blocks of 32 numbers: one lane.
+//! Blocks of 32 values in one lane.
 
 ghost use Rattle.std.proofs.Common.{lit≤, refl};
 
@@ -6,7 +6,7 @@ use crate::by_kind::{pack_kind, unpack_kind, width_kind};
 use crate::code_kernels::SimpleLoops;
 use crate::{BitPacker, Counted, Kind, Steps};
 
-/// Packs blocks of 32 numbers: the codes stand end to end, from the lowest bit on.
+/// Packs blocks of 32 values: the codes follow each other without gaps, from the lowest bit on.
 #[derive(Clone, Copy)]
 pub struct BitPacker1x;
 

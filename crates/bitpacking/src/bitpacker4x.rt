@@ -1,4 +1,4 @@
-//! Blocks of 128 numbers: four lanes.
+//! Blocks of 128 values in four lanes.
 
 ghost use Rattle.std.proofs.Common.{lit≤, refl};
 
@@ -8,7 +8,7 @@ use crate::instruction_set::InstructionSet;
 use crate::{BitPacker, Counted, Kind, Steps};
 use std::simd::prelude::*;
 
-/// Packs blocks of 128 numbers. Number k stands in lane k % 4; the codes of a lane stand end to end in every fourth word.
+/// Packs blocks of 128 values. Value k is in lane k % 4; the codes of a lane follow each other in every fourth word.
 #[derive(Clone, Copy)]
 pub struct BitPacker4x(InstructionSet);
 

@@ -1,4 +1,4 @@
-//! Blocks of 256 numbers: eight lanes.
+//! Blocks of 256 values in eight lanes.
 
 ghost use Rattle.std.proofs.Common.{lit≤, refl};
 
@@ -8,7 +8,7 @@ use crate::instruction_set::InstructionSet;
 use crate::{BitPacker, Counted, Kind, Steps};
 use std::simd::prelude::*;
 
-/// Packs blocks of 256 numbers. Number k stands in lane k % 8; the codes of a lane stand end to end in every eighth word.
+/// Packs blocks of 256 values. Value k is in lane k % 8; the codes of a lane follow each other in every eighth word.
 #[derive(Clone, Copy)]
 pub struct BitPacker8x(InstructionSet);
 

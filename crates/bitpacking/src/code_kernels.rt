@@ -1,4 +1,4 @@
-//! From slices and a width to a kernel: one loop that is handed the width, or a kernel for each width.
+//! From slices and a width to a kernel: one loop that takes the width, or a kernel for each width.
 
 ghost use Rattle.std.specs.Prelude.{◌+◌};
 ghost use Rattle.bitpacking.specs.Calls.{CanPackCodes, CanUnpack, MovesToPack};
@@ -15,7 +15,8 @@ use crate::memory::{ByteSource, ByteTarget, Steps, ValueSource, ValueTarget};
 use bitpacking_register::Register;
 pub(crate) use by_width::ByWidth;
 
-/// Packs and unpacks the codes of a block. It makes of the slices the sources and targets that a kernel is handed.
+/// Packs and unpacks the codes of a block: wraps the slices in the sources and targets that a kernel takes, and chooses the
+/// kernel by the width.
 ///
 /// The value before the block is passed, and not a transformer or a sink: those would be passed through memory.
 pub(crate) trait CodeKernels {

@@ -10,8 +10,8 @@ use crate::{BitPacker, Kind, Steps};
 
 /// The calls that compress, decompress or give a width, for any kind, with their loads and stores counted.
 ///
-/// A load or store of one register moves `BLOCK_LEN` / 32 numbers, or four times as many bytes. [`Steps`] takes no room at
-/// run time: the counts are for contracts alone.
+/// A load or store of one register moves `BLOCK_LEN` / 32 values, or four times as many bytes. [`Steps`] takes no room at
+/// run time: only contracts see the counts.
 pub trait Counted: BitPacker {
     /// Packs a block: 32 loads, and a store for each bit of the width. At width 0 nothing is loaded.
     fn pack_counted(

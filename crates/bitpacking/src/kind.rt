@@ -5,8 +5,8 @@
 pub enum Kind {
     /// The values.
     Plain,
-    /// The difference of each value and the one before it, modulo 2 ^ 32. Before the first stands this one.
+    /// Each value less the one before it, modulo 2 ^ 32. The number here is the value before the first.
     Sorted(u32),
-    /// One less than that, modulo 2 ^ 32. Before the first stands this value, and for `None` the last number, 4294967295.
+    /// One less than that, modulo 2 ^ 32. The value before the first is the number here, or `u32::MAX` for `None`.
     StrictlySorted(Option<u32>),
 }

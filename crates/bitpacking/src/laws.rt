@@ -1,6 +1,6 @@
 //! Laws of the definitions, each the contract of a function that does nothing at run time, for generic code to call.
 //!
-//! The definitions stand in `specs/`: `bit_of` and `AreBytes` in Bits, `start` and `codes` in Codes, `Fits`, `Least` and
+//! The definitions are in `specs/`: `bit_of` and `AreBytes` in Bits, `start` and `codes` in Codes, `Fits`, `Least` and
 //! `IsWidth` in Width, `place`, `size`, `Layout` and `Holds` in Layout. `bit_at` is the library's; `lanes` is a member of
 //! the trait `BitPacker`. The laws themselves, and the words that only they need, are in Laws.
 

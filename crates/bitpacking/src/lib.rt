@@ -1,7 +1,7 @@
-//! Blocks of integers, each packed in as many bits as its greatest code needs.
+//! Blocks of integers, each value packed in as many bits as the greatest code of its block needs.
 //!
-//! A packer takes blocks of a fixed length, finds the least width of a block, and writes the block in that many bits a
-//! number. The bytes hold neither the width nor the kind of the block: the caller keeps both.
+//! A packer takes blocks of a fixed length, finds the least width of a block, and writes the block in that many bits per
+//! value. The bytes hold neither the width nor the kind of the block: the caller keeps both.
 #![tactic(auto)]
 
 mod bit_packer;

@@ -15,7 +15,7 @@ ghost use Rattle.bitpacking.specs.WorkedBlocks.{
   NoStepsFromLastWidth,
 };
 
-// The statements stand in specs/WorkedBlocks.antt. This does nothing at run time.
+// The statements are in specs/WorkedBlocks.antt. This does nothing at run time.
 fn layouts()
     ensures three_bits { ThreeBits }
     ensures three_bits_sorted { ThreeBitsSorted }

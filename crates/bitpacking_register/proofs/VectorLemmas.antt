@@ -74,7 +74,7 @@ pub ruleset vector_steps = (first_words-or, first_words-and, fold_l-or, first_wo
 
 -- ---- neighbours
 
--- the word before lane k, where two vectors stand one behind the other
+-- the word before lane k, in two vectors one after the other
 neighbour : (n k : ℕ) (previous current : List ℕ) → length previous ≡ n → 1 ≤ n
     → get_or (previous ++ current) (n - 1 + k) 0 ≡ get_or (get_or previous (n - 1) 0 ∷ current) k 0
 neighbour n zero previous current long some =

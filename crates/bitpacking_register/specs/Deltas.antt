@@ -2,7 +2,7 @@
 use Rattle.std.specs.Prelude.{ℕ, ◌+◌, List, [], ◌∷◌}
 use Rattle.bitpacking_register.specs.Words.{wrapping_sum, wrapping_difference}
 
--- each word less the one before it; `before` stands before the first
+-- each word less the one before it; `before` is the word before the first
 abbrev pub differences : ℕ → List ℕ → List ℕ
 differences before [] = []
 differences before (x ∷ xs) = wrapping_difference x before ∷ differences x xs

@@ -1,4 +1,4 @@
--- The law of every register: `delta` and `integrate` undo one another, whatever word stands before.
+-- The law of every register: `delta` and `integrate` undo one another, whatever word comes before.
 use Rattle.std.specs.Prelude.{◌≡◌, ℕ, ◌<◌, ◌^◌, List, All}
 use Rattle.bitpacking_register.specs.Deltas.{differences, running_sums}
 

@@ -35,6 +35,6 @@ abbrev pub words_of_bytes : List ℕ → List ℕ
 words_of_bytes (a ∷ b ∷ c ∷ d ∷ bytes) = from_le_bytes w32 (a ∷ b ∷ c ∷ d ∷ []) ∷ words_of_bytes bytes
 words_of_bytes _ = []
 
--- the word whose little-endian bytes stand from `at` on
+-- the word whose little-endian bytes are those from `at` on
 unfoldable pub word_in : List ℕ → ℕ → ℕ
 word_in bytes at = from_le_bytes w32 (take 4 (drop at bytes))

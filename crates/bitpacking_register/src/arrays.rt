@@ -327,7 +327,7 @@ fn or_lanes_all<const N: usize>(words: [u32; N]) -> u32
     all
 }
 
-// `before` is the word that stood in the lane before.
+// `before` is the word of the lane before.
 #[inline(always)]
 fn delta_all<const N: usize>(mut current: [u32; N], previous: [u32; N]) -> [u32; N]
     requires { 1 ≤ N }
@@ -343,7 +343,7 @@ fn delta_all<const N: usize>(mut current: [u32; N], previous: [u32; N]) -> [u32;
     current
 }
 
-// `sum` is the word that now stands in the lane before.
+// `sum` is the new word of the lane before.
 #[inline(always)]
 fn integrate_all<const N: usize>(previous: [u32; N], mut delta: [u32; N]) -> [u32; N]
     requires { 1 ≤ N }

@@ -89,7 +89,7 @@ pub trait Register: Copy {
     fn or_lanes(self) -> u32
         ensures { result ≡ fold bit_or 0 (words self) };
 
-    /// Each word less the one before it, modulo 2 ^ 32. Before lane 0 stands the last lane of `previous`.
+    /// Each word less the one before it, modulo 2 ^ 32. Before lane 0 comes the last lane of `previous`.
     fn delta(current: Self, previous: Self) -> Self
         ensures { words result ≡ differences (slice_index (words previous) (LANES - 1)) (words current) };
 

@@ -24,7 +24,7 @@ ghost use Rattle.bitpacking.specs.Moves.{IsStore};
 use crate::memory::{Steps, ValueTarget};
 use bitpacking_register::Register;
 
-/// Stores the values whose codes it is handed, a register after the other.
+/// Stores the values of the codes that it is given, one register after another.
 pub(crate) trait Sink<R: Register>: Drop {
     // How many registers were stored.
     ghost position: { Self → ℕ };
