@@ -10,35 +10,18 @@ use borrow.Rule.Slice.PartMut.{put_mid}
 use Rattle.std.proofs.lemmas.List.Elements.{All-nil, All-cons, All-take, All-drop}
 use Rattle.bitpacking.specs.declared.kind.Kind.{Kind}
 use Rattle.bitpacking.specs.declared.kind.Kind.TheVariants.{Plain, Sorted, StrictlySorted}
-use Rattle.bitpacking.specs.Deltas.{differences}
-use Rattle.bitpacking.specs.Codes.{AreWords, codes, one_less}
+use Rattle.bitpacking.specs.Codes.{AreWords, codes}
+use Rattle.bitpacking.proofs.ForCallers.{codes_are_words, one_least_width}
 use Rattle.bitpacking.specs.Width.{IsWidth}
 use Rattle.bitpacking.specs.Layout.{Holds, size}
-use Rattle.bitpacking.specs.Laws.{OneLeastWidth, BytesHoldOneBlock}
+use Rattle.bitpacking.specs.Laws.{BytesHoldOneBlock}
 use Rattle.bitpack.specs.Chains.{next_kind, second_kind, Loose, LeastWidths}
 use Rattle.bitpack.specs.Laws.{ChainsReadBack}
 
--- Codes are words, so that a least width is at most 32.
-AreWords-differences : (before : ℕ) (values : List ℕ) → AreWords (differences before values)
-AreWords-differences before [] = All-nil (λ v. v < 2 ^ 32)
-AreWords-differences before (value ∷ values) =
-    All-cons (λ v. v < 2 ^ 32) ((value + (2 ^ 32 - before)) % 2 ^ 32) (differences value values) (omega arith)
-    (AreWords-differences value values)
-
-AreWords-less : (values : List ℕ) → AreWords (map one_less values)
-AreWords-less [] = All-nil (λ v. v < 2 ^ 32)
-AreWords-less (value ∷ values) =
-    All-cons (λ v. v < 2 ^ 32) ((value + (2 ^ 32 - 1)) % 2 ^ 32) (map one_less values) (omega arith) (AreWords-less values)
-
-AreWords-codes : (kind : Kind) (block : List ℕ) → AreWords block → AreWords (codes kind block)
-AreWords-codes Plain block words = words
-AreWords-codes (Sorted initial) block words = AreWords-differences initial block
-AreWords-codes (StrictlySorted initial) block words = AreWords-less (differences (unwrap_or initial 4294967295) block)
-
-pub width_at_most_32 : OneLeastWidth → (kind : Kind) (block : List ℕ) (width : ℕ) → AreWords block → IsWidth kind block width
+pub width_at_most_32 : (kind : Kind) (block : List ℕ) (width : ℕ) → AreWords block → IsWidth kind block width
     → width ≤ 32
-width_at_most_32 law kind block width words least =
-    let found = law (codes kind block) (AreWords-codes kind block words) in
+width_at_most_32 kind block width words least =
+    let found = one_least_width (codes kind block) (codes_are_words kind block words) in
     let same : width ≡ found.0 = found.3 width least in
     let narrow : found.0 ≤ 32 = found.1 in
     omega arith

@@ -6,7 +6,7 @@ use Rattle.std.proofs.lemmas.List.{take_all}
 use Rattle.bitpacking.specs.Layout.{size}
 use Rattle.bitpack.specs.declared.list_error.ListError.{ListError}
 use Rattle.bitpack.specs.declared.list_error.ListError.TheVariants.{Short, BadWidth, LooseWidth, Trailing}
-use Rattle.bitpack.specs.Parts.{is_loose, header_fault, number_at, whole_blocks, tail_values}
+use Rattle.bitpack.specs.Parts.{is_loose, header_fault, count_of, whole_blocks, tail_values}
 use Rattle.bitpack.specs.Version1.{block_fault1, behind_block1, blocks_fault1, body_fault1, fault1}
 
 pub front-is : (bytes : List ℕ) → 1 ≤ length bytes → bytes ≡ get_or bytes 0 0 ∷ take (length bytes - 1) (drop 1 bytes)
@@ -105,13 +105,13 @@ none_first (Some x) other e = absurd cc
 
 pub header_first : (lanes : ℕ) (bytes : List ℕ) (fault : ListError) → header_fault 1 lanes bytes ≡ Some fault → fault1 lanes bytes ≡ Some fault
 unfolding fault1
-header_first lanes bytes fault found = ap (λ o. option_or o (body_fault1 lanes (number_at bytes 3) (drop 7 bytes))) found
+header_first lanes bytes fault found = ap (λ o. option_or o (body_fault1 lanes (count_of bytes) (drop 7 bytes))) found
 
-pub body_next : (lanes count : ℕ) (bytes : List ℕ) → header_fault 1 lanes bytes ≡ None → number_at bytes 3 ≡ count
+pub body_next : (lanes count : ℕ) (bytes : List ℕ) → header_fault 1 lanes bytes ≡ None → count_of bytes ≡ count
     → fault1 lanes bytes ≡ body_fault1 lanes count (drop 7 bytes)
 unfolding fault1
 body_next lanes count bytes none is =
-    ap (λ o. option_or o (body_fault1 lanes (number_at bytes 3) (drop 7 bytes))) none ∙ ap (λ n. body_fault1 lanes n (drop 7 bytes)) is
+    ap (λ o. option_or o (body_fault1 lanes (count_of bytes) (drop 7 bytes))) none ∙ ap (λ n. body_fault1 lanes n (drop 7 bytes)) is
 
 pub body_short : (lanes count blocks tail : ℕ) (bytes : List ℕ) → blocks ≡ whole_blocks lanes count → tail ≡ 4 * tail_values lanes count
     → length bytes < blocks + tail → body_fault1 lanes count bytes ≡ Some Short

@@ -8,14 +8,14 @@ use Rattle.bitpacking.specs.declared.kind.Kind.TheVariants as blocks
 use Rattle.bitpacking.specs.Bits.{AreBytes}
 use Rattle.bitpacking.specs.Codes.{AreWords, codes, start}
 use Rattle.bitpacking.specs.Width.{Least}
-use Rattle.bitpacking.specs.Layout.{size, Holds, Layout}
-use Rattle.bitpacking.proofs.LawProofs.{one_block, one_least_width, fits_greater}
-use Rattle.bitpacking.proofs.Blocks.{length-codes}
+use Rattle.bitpacking.specs.Layout.{codes_of, size, Holds, Layout}
+use Rattle.bitpacking.proofs.ForCallers.{as_many_codes, fits_greater, length-bytes_of_words, one_block, one_layout_codes}
 use Rattle.bitpack.specs.Chains.{next_kind, second_kind}
-use Rattle.bitpack.specs.Parts.{numbers, is_loose, codes_of}
+use Rattle.bitpacking.specs.Words.{bytes_of_words}
+use Rattle.bitpack.specs.Parts.{is_loose}
 use Rattle.bitpack.specs.Version1.{IsPart1, Blocks1, block_fault1, behind_block1, blocks_fault1}
-use Rattle.bitpack.proofs.PartLemmas.{AreBytes-right, words_of, length-numbers}
-use Rattle.bitpack.proofs.LooseLemmas.{Layout-codes_of_bytes, Decides-loose}
+use Rattle.bitpack.proofs.PartLemmas.{AreBytes-right, words_of}
+use Rattle.bitpack.proofs.LooseLemmas.{Decides-loose}
 use Rattle.bitpack.proofs.ChainLemmas.{width_at_most_32}
 use Rattle.bitpack.proofs.TextLemmas.{same_front}
 use Rattle.bitpack.proofs.FaultLemmas.{IsRight, right_from_none, tail_from_none, blocks_left, no_blocks_left, none_first, right, tail_right}
@@ -67,7 +67,7 @@ right_from_part lanes index kind block part rest words is =
     let long : length is.body ≡ size lanes is.width = is.holds.byte_count in
     let front : take (size lanes is.width) (is.body ++ rest) ≡ is.body = take_at is.body rest (size lanes is.width) long in
     let tight : is_loose lanes is.width is.body ≡ false = tight_from_least lanes is.width (codes kind block) is.body is.holds is.least in (
-      right lanes index is.width (part ++ rest) (is.body ++ rest) whole (width_at_most_32 one_least_width kind block is.width words is.least)
+      right lanes index is.width (part ++ rest) (is.body ++ rest) whole (width_at_most_32 kind block is.width words is.least)
           (omega (arith, length-append is.body rest)) (ap (is_loose lanes is.width) front ∙ tight),
       ap (behind_block1 lanes) whole ∙ drop_at is.body rest (size lanes is.width) long,
     )
@@ -83,7 +83,7 @@ start-next (blocks.StrictlySorted initial) last lt = lt
 block_from_bytes : (lanes width : ℕ) (kind : Kind) (body : List ℕ) → start kind < 2 ^ 32 → width ≤ 32 → length body ≡ size lanes width
     → (block : List ℕ) × AreWords block × Holds lanes width kind block body
 block_from_bytes lanes width kind body small narrow long =
-    let layout = Layout-codes_of_bytes lanes width body long in
+    let layout = (one_layout_codes lanes width body long).0 in
     let found = one_block kind (codes_of lanes width body) small (fits_greater (codes_of lanes width body) width 32 narrow layout.fits) in
     (found.0, found.1, rw found.2 layout)
 
@@ -103,7 +103,7 @@ values_from_none lanes tail (suc count) block kind bytes some small bytes_small 
     let is = right_from_none lanes block bytes both.0 in
     let long : length body ≡ size lanes width = length-take-le (size lanes width) (drop 1 bytes) is.room in
     let one = block_from_bytes lanes width kind body small is.narrow long in
-    let length_of : length one.0 ≡ n = sym (length-codes kind one.0) ∙ one.2.code_count in
+    let length_of : length one.0 ≡ n = sym (as_many_codes kind one.0) ∙ one.2.code_count in
     let last : ℕ = get_or one.0 (n - 1) 0 in
     let part : List ℕ = right_part lanes kind one.0 bytes is one.2 in
     let parts : bytes ≡ part ++ behind = right_parts lanes kind one.0 bytes is one.2 in
@@ -128,7 +128,7 @@ pub none_from_values : (lanes tail count block : ℕ) (kind : Kind) (values byte
     → (blocks_fault1 lanes (4 * tail) block count bytes ≡ None) × (count + 4 * tail ≤ length bytes)
 unfolding blocks_fault1
 none_from_values lanes tail zero block kind values bytes words long is =
-    let length_of : length bytes ≡ 4 * tail = ap length is ∙ omega (arith, length-numbers values) in
+    let length_of : length bytes ≡ 4 * tail = ap length is ∙ omega (arith, length-bytes_of_words values) in
     (tail_right lanes (4 * tail) block bytes length_of, omega arith)
 none_from_values lanes tail (suc count) block kind values bytes words long (part, rest, e, is, more) =
     let n : ℕ = 32 * lanes in
@@ -174,11 +174,11 @@ read_step lanes blocks i kind rest after out block part new all some lt words is
     (drop n behind, All-drop P n behind before.1, rw (last, found.2) more.4, whole)
 
 pub read_done : (lanes blocks i : ℕ) (kind : Kind) (rest out new all : List ℕ) → blocks ≤ i
-    → ((values : List ℕ) → AreWords values → rest ≡ numbers values → new ≡ out ++ values)
+    → ((values : List ℕ) → AreWords values → rest ≡ bytes_of_words values → new ≡ out ++ values)
     → Read lanes (blocks - i) kind rest out all → new ≡ all
 read_done lanes blocks i kind rest out new all le appended before =
     let none : blocks - i ≡ 0 = omega arith in
-    let is : rest ≡ numbers before.0 = rw none at before.2 in
+    let is : rest ≡ bytes_of_words before.0 = rw none at before.2 in
     appended before.0 before.1 is ∙ before.3
 
 -- ---- what is left has no fault

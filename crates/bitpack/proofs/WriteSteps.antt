@@ -7,9 +7,10 @@ use Rattle.bitpacking.specs.Bits.{AreBytes}
 use Rattle.bitpacking.specs.Width.{IsWidth}
 use Rattle.bitpacking.specs.Layout.{size}
 use Rattle.bitpack.specs.Chains.{next_kind, second_kind}
-use Rattle.bitpack.specs.Parts.{numbers}
+use Rattle.bitpacking.specs.Words.{bytes_of_words}
 use Rattle.bitpack.specs.Version1.{IsPart1, Blocks1}
-use Rattle.bitpack.proofs.PartLemmas.{AreBytes-left, AreBytes-right, length-numbers}
+use Rattle.bitpacking.proofs.ForCallers.{length-bytes_of_words}
+use Rattle.bitpack.proofs.PartLemmas.{AreBytes-left, AreBytes-right}
 use Rattle.bitpack.proofs.TextLemmas.{length-part, same_part}
 
 -- ---- the values that are left
@@ -51,8 +52,8 @@ pub behind_done : (lanes blocks i : ℕ) (kind : Kind) (rest : List ℕ) (size_o
     → Behind lanes (blocks - i) kind rest size_of all → 7 + all ≡ size_of + 4 * length rest
 behind_done lanes blocks i kind rest size_of all le before =
     let none : blocks - i ≡ 0 = omega arith in
-    let is : before.0 ≡ numbers rest = rw none at before.1 in
-    omega (arith, before.2, ap length is, length-numbers rest)
+    let is : before.0 ≡ bytes_of_words rest = rw none at before.1 in
+    omega (arith, before.2, ap length is, length-bytes_of_words rest)
 
 -- ---- what is written, with what is left of the text behind it
 
@@ -87,13 +88,13 @@ written_room lanes blocks i kind rest out part all lt is before =
     omega arith
 
 pub written_tail : (lanes blocks i : ℕ) (kind : Kind) (rest out all : List ℕ) → blocks ≤ i
-    → Written lanes (blocks - i) kind rest out all → out ++ numbers rest ≡ all
+    → Written lanes (blocks - i) kind rest out all → out ++ bytes_of_words rest ≡ all
 written_tail lanes blocks i kind rest out all le before =
     let none : blocks - i ≡ 0 = omega arith in
-    let is : before.0 ≡ numbers rest = rw none at before.2 in
+    let is : before.0 ≡ bytes_of_words rest = rw none at before.2 in
     ap (λ zs. out ++ zs) (sym is) ∙ before.3
 
 pub written_tail_room : (lanes blocks i : ℕ) (kind : Kind) (rest out all : List ℕ) → blocks ≤ i
     → Written lanes (blocks - i) kind rest out all → length out + 4 * length rest ≡ length all
 written_tail_room lanes blocks i kind rest out all le before =
-    omega (arith, ap length (written_tail lanes blocks i kind rest out all le before), length-append out (numbers rest), length-numbers rest)
+    omega (arith, ap length (written_tail lanes blocks i kind rest out all le before), length-append out (bytes_of_words rest), length-bytes_of_words rest)

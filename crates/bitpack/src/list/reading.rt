@@ -4,7 +4,7 @@ ghost use Rattle.std.specs.Prelude.{◌≡◌, ◌+◌, ◌*◌, ◌<◌, ◌≤
 ghost use Rattle.bitpacking.specs.Layout.{size};
 ghost use Rattle.bitpacking.specs.Codes.{AreWords};
 ghost use Rattle.bitpack.specs.Chains.{second_kind};
-ghost use Rattle.bitpack.specs.Parts.{BeginsWithHeader, Finds, first_kind, is_loose, number_at, tail_values, whole_blocks};
+ghost use Rattle.bitpack.specs.Parts.{BeginsWithHeader, Finds, count_of, first_kind, is_loose, tail_values, whole_blocks};
 ghost use Rattle.bitpack.specs.Version1.{Blocks1, IsPart1, List1, behind_block1, block_fault1, blocks_fault1, fault1};
 
 use crate::chain::{decompress_kind, next_kind};
@@ -29,7 +29,7 @@ pub fn decode<P: BitPacker>(
     // A text with a fault is refused for the first, and one without only for want of memory.
     ensures err { MatchOption (fault1 P.lanes bytes.now) (IfErr result (λ e. e ≡ ListError.Memory)) (λ fault. result ≡ Err fault) }
     // Memory is wanting only where the vector has no room for the values.
-    ensures room { fault1 P.lanes bytes.now ≡ None → OnErr result (vec_capacity out.old < vec_len out.old + number_at bytes.now 3) }
+    ensures room { fault1 P.lanes bytes.now ≡ None → OnErr result (vec_capacity out.old < vec_len out.old + count_of bytes.now) }
     ensures unchanged { OnErr result (out.new.items ≡ out.old.items) }
 {
     let header = test(packer, bytes)?;

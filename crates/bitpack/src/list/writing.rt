@@ -23,7 +23,7 @@ pub fn encode<P: BitPacker>(
     out: &mut Vec<u8>,
 ) -> Result<(), ListError>
     // What is appended is the text of the values.
-    ensures ok { OnOk result ((text : List ℕ) × List1 P.lanes kind values.now text × (out.new.items ≡ out.old.items ++ text)) }
+    ensures ok { OnOk result ((text : List ℕ) × AreBytes text × List1 P.lanes kind values.now text × (out.new.items ≡ out.old.items ++ text)) }
     // Too many values are refused as such, and others only for want of memory.
     ensures long { 2 ^ 28 < length values.now → result ≡ Err (ListError.TooLong (length values.now)) }
     ensures memory { length values.now ≤ 2 ^ 28 → IfErr result (λ e. e ≡ ListError.Memory) }

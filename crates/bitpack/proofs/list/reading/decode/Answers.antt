@@ -43,13 +43,13 @@ returns-clause-ok g c =
     let header = c.in_ok-header.header in
     let small : AreBytes bytes = λ k. omega (arith, c.type_inv.bytes k) in
     let rest : take (length bytes - 7) (drop 7 bytes) ≡ drop 7 bytes = take_all (length bytes - 7) (drop 7 bytes) (omega (arith, length-drop 7 bytes)) in
-    let (values, words, long, list) =
+    let (values, long, list) =
     list_from_none lanes header.count header.kind bytes g.met.P.BitPacker.some_lanes small c.in_ok-header.ensures.header c.in_ok-header.ensures.fault in
     let blocks : Blocks1 lanes (whole_blocks lanes header.count) (first_kind header.kind) values (drop 7 bytes) =
     subst (λ n. Blocks1 lanes (whole_blocks lanes n) (first_kind header.kind) values (drop 7 bytes)) long list.behind in
     let given : Blocks1 lanes (whole_blocks lanes header.count) (first_kind header.kind) values (take (length bytes - 7) (drop 7 bytes)) =
     subst (λ zs. Blocks1 lanes (whole_blocks lanes header.count) (first_kind header.kind) values zs) (sym rest) blocks in
-    (values, list, c.read_blocks.ensures values words given ∙ ap (λ xs. xs ++ values) c.reserve.ensures.items)
+    (values, list, c.read_blocks.ensures values list.words given ∙ ap (λ xs. xs ++ values) c.reserve.ensures.items)
 
 pub returns-clause-err : goal.returns-clause-err
 returns-clause-err g c = rw c.in_ok-header.ensures.fault tt

@@ -2,7 +2,7 @@ use Rattle.std.proofs.Common.{◌≡◌, ◌+◌, ◌-◌, ◌*◌, ◌++◌, �
 use Rattle.std.proofs.lemmas.List.{take_all, length-drop}
 use Rattle.bitpacking.specs.Codes.{AreWords}
 use Rattle.bitpacking.specs.Layout.{size}
-use Rattle.bitpacking.proofs.Blocks.{length-codes}
+use Rattle.bitpacking.proofs.ForCallers.{as_many_codes}
 use Rattle.bitpack.specs.Version1.{behind_block1}
 use Rattle.bitpack.proofs.FaultLemmas.{IsRight}
 use Rattle.bitpack.proofs.PartLemmas.{AreWords-right}
@@ -15,18 +15,18 @@ returns-clause-block g c =
     let bytes : List ℕ = c.args.bytes.now in
     let n : ℕ = size lanes (get_or bytes 0 0) in
     let taken : ℕ = c.decompress_kind-size.result in
-    let block : List ℕ = take g.P.BitPacker.BLOCK_LEN c.decompress_kind-size.new.block in
+    let block : List ℕ = take (32 * lanes) c.decompress_kind-size.new.block in
     let given : take n (take (length bytes - 1) (drop 1 bytes)) ≡ take n (drop 1 bytes) =
     ap (take n) (take_all (length bytes - 1) (drop 1 bytes) (omega (arith, length-drop 1 bytes))) in
-    let holds = rw given at c.decompress_kind-size.ensures.block in
+    let holds = rw given at c.decompress_kind-size.ensures.unpacked.block in
     let is : IsRight lanes bytes = record {
       some = omega arith;
       narrow = c.requires.width;
       room = simp length-drop (omega (arith, c.requires.body));
       least = c.requires.least;
     } in
-    let whole : take c.BLOCK_LEN.result c.decompress_kind-size.new.block ≡ block = ap (λ m. take m c.decompress_kind-size.new.block) c.BLOCK_LEN.ensures in
-    let long : length block ≡ 32 * lanes = sym (length-codes c.args.kind block) ∙ holds.code_count in
+    let whole : take c.BLOCK_LEN.result c.decompress_kind-size.new.block ≡ block = ap (λ m. take m c.decompress_kind-size.new.block) (c.BLOCK_LEN.ensures ∙ g.met.P.BitPacker.block_len) in
+    let long : length block ≡ 32 * lanes = sym (as_many_codes c.args.kind block) ∙ holds.code_count in
     let last : length (take c.BLOCK_LEN.result c.decompress_kind-size.new.block) - 1 ≡ 32 * lanes - 1 = ap (λ xs. length xs - 1) whole ∙ ap (λ m. m - 1) long in
     let part : List ℕ = right_part lanes c.args.kind block bytes is holds in
     let behind : take (length bytes - (1 + taken)) (drop (1 + taken) bytes) ≡ behind_block1 lanes bytes =
