@@ -10,7 +10,7 @@ use Rattle.bitpack.specs.Parts.{kind_byte, header, header_fault, BeginsWithHeade
 use Rattle.bitpack.proofs.PartLemmas.{AreBytes-cons, AreBytes-drop, AreBytes-word, bytes-word, word-bytes}
 
 -- A test that was passed.
-passed : {A : Type 0} (test : Bool) (fault : A) (rest : Option A) → cond test (Some fault) rest ≡ None → (test ≡ false) × (rest ≡ None)
+pub passed : {A : Type 0} (test : Bool) (fault : A) (rest : Option A) → cond test (Some fault) rest ≡ None → (test ≡ false) × (rest ≡ None)
 passed true fault rest e = absurd cc
 passed false fault rest e = (refl, e)
 

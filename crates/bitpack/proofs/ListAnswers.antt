@@ -30,8 +30,8 @@ AreBytes-spelled text (byte ∷ bytes) spelled =
 pub encoded_of : (lanes : ℕ) (kind : ListKind) (values : List ℕ) → 1 ≤ lanes → lanes < 2 ^ 8 → AreWords values → length values ≤ 2 ^ 28
     → (text : List ℕ) × IsEncoded lanes kind values text
 encoded_of lanes kind values some few words short =
-    let (behind, small, blocks, are_bytes, list) = text_of lanes kind values some few words short in
-    let text : List ℕ = header 1 kind lanes (length values) ++ behind in
+    let (later, small, blocks, are_bytes, list) = text_of lanes kind values some few words short in
+    let text : List ℕ = header 1 kind lanes (length values) ++ later in
     (bytes_text text, record { bytes = text; are_bytes = are_bytes; list = list; text_is = refl })
 
 pub same_encoded : (lanes : ℕ) (kind : ListKind) (values a b : List ℕ) → 1 ≤ lanes → IsEncoded lanes kind values a → IsEncoded lanes kind values b → a ≡ b

@@ -20,10 +20,10 @@ start-first lists.Plain = omega arith
 start-first lists.Sorted = omega arith
 start-first lists.StrictlySorted = omega arith
 
--- What is behind a header without a fault.
-pub behind_from_none : (lanes count : ℕ) (kind : ListKind) (bytes : List ℕ) → BeginsWithHeader 1 lanes kind count bytes → fault1 lanes bytes ≡ None
+-- What is after a header without a fault.
+pub later_from_none : (lanes count : ℕ) (kind : ListKind) (bytes : List ℕ) → BeginsWithHeader 1 lanes kind count bytes → fault1 lanes bytes ≡ None
     → blocks_fault1 lanes (4 * tail_values lanes count) 0 (whole_blocks lanes count) (drop 7 bytes) ≡ None
-behind_from_none lanes count kind bytes begins none =
+later_from_none lanes count kind bytes begins none =
     let found = header_bytes 1 lanes kind count bytes begins in
     let right = header_fault-none 1 lanes kind count bytes begins in
     body_from_none lanes count (drop 7 bytes) (sym (body_next lanes count bytes right found.count_is) ∙ none)
@@ -32,7 +32,7 @@ pub list_from_none : (lanes count : ℕ) (kind : ListKind) (bytes : List ℕ) �
     → fault1 lanes bytes ≡ None
     → (values : List ℕ) × (length values ≡ count) × List1 lanes kind values bytes
 list_from_none lanes count kind bytes some small begins none =
-    let right = behind_from_none lanes count kind bytes begins none in
+    let right = later_from_none lanes count kind bytes begins none in
     let found = values_from_none lanes (tail_values lanes count) (whole_blocks lanes count) 0 (first_kind kind) (drop 7 bytes) some (start-first kind)
     (AreBytes-drop 7 bytes small) right in
     let long : length found.0 ≡ count = omega (arith, found.2) in (
@@ -41,7 +41,7 @@ list_from_none lanes count kind bytes some small begins none =
       record {
         words = found.1;
         begins = subst (λ n. BeginsWithHeader 1 lanes kind n bytes) (sym long) begins;
-        behind = subst (λ n. Blocks1 lanes (whole_blocks lanes n) (first_kind kind) found.0 (drop 7 bytes)) (sym long) found.3;
+        blocks = subst (λ n. Blocks1 lanes (whole_blocks lanes n) (first_kind kind) found.0 (drop 7 bytes)) (sym long) found.3;
       },
     )
 
@@ -53,10 +53,10 @@ none_from_list lanes kind values bytes some list =
     let found = header_bytes 1 lanes kind count bytes list.begins in
     let right = header_fault-none 1 lanes kind count bytes list.begins in
     let parts : count ≡ 32 * lanes * whole_blocks lanes count + tail_values lanes count = omega arith in
-    let behind = none_from_values lanes (tail_values lanes count) (whole_blocks lanes count) 0 (first_kind kind) values (drop 7 bytes) list.words parts list.behind in
+    let later = none_from_values lanes (tail_values lanes count) (whole_blocks lanes count) 0 (first_kind kind) values (drop 7 bytes) list.words parts list.blocks in
     body_next lanes count bytes right found.count_is
-    ∙ body_blocks lanes count (whole_blocks lanes count) (4 * tail_values lanes count) (drop 7 bytes) refl refl behind.1
-    ∙ behind.0
+    ∙ body_blocks lanes count (whole_blocks lanes count) (4 * tail_values lanes count) (drop 7 bytes) refl refl later.1
+    ∙ later.0
 
 header_right : (lanes : ℕ) (bytes : List ℕ) → fault1 lanes bytes ≡ None → header_fault 1 lanes bytes ≡ None
 unfolding fault1
@@ -70,10 +70,10 @@ loose_fits_smaller lanes width codes bytes layout = Decides-loose lanes width co
 pub one_text1 : OneText1
 one_text1 lanes kind values text other some small small' one two =
     let front : take 7 other ≡ take 7 text = two.begins.front ∙ sym one.begins.front in
-    let behind : drop 7 other ≡ drop 7 text =
+    let later : drop 7 other ≡ drop 7 text =
     same_blocks lanes (whole_blocks lanes (length values)) (first_kind kind) values (drop 7 text) (drop 7 other) some
-    (AreBytes-drop 7 text small) (AreBytes-drop 7 other small') one.behind two.behind in
-    sym (take-append-drop 7 other) ∙ rw (front, behind) (take-append-drop 7 text)
+    (AreBytes-drop 7 text small) (AreBytes-drop 7 other small') one.blocks two.blocks in
+    sym (take-append-drop 7 other) ∙ rw (front, later) (take-append-drop 7 text)
 
 pub one_list1 : OneList1
 one_list1 lanes kind kind' values others text some one two =
@@ -82,10 +82,10 @@ one_list1 lanes kind kind' values others text some one two =
     let same : kind' ≡ kind = kind_byte-same kind' kind (sym second.kind_is ∙ first.kind_is) in
     let long : length others ≡ length values = sym second.count_is ∙ first.count_is in
     let blocks : Blocks1 lanes (whole_blocks lanes (length values)) (first_kind kind') others (drop 7 text) =
-    subst (λ n. Blocks1 lanes (whole_blocks lanes n) (first_kind kind') others (drop 7 text)) long two.behind in (
+    subst (λ n. Blocks1 lanes (whole_blocks lanes n) (first_kind kind') others (drop 7 text)) long two.blocks in (
       same,
       same_values lanes (whole_blocks lanes (length values)) (first_kind kind) (first_kind kind') values others (drop 7 text) some (ap first_kind same)
-          one.words two.words one.behind blocks,
+          one.words two.words one.blocks blocks,
     )
 
 pub no_fault1 : NoFault1

@@ -11,6 +11,7 @@ use Rattle.bitpacking.proofs.ForCallers.{as_many_codes, block_has_one_list, byte
 use Rattle.bitpack.specs.Chains.{second_kind}
 use Rattle.bitpacking.specs.Words.{bytes_of_words}
 use Rattle.bitpack.specs.Version1.{IsPart1, Blocks1}
+use Rattle.bitpack.proofs.ChainLemmas.{next-same}
 use Rattle.bitpack.proofs.PartLemmas.{AreBytes-append, AreBytes-cons, AreBytes-left, AreBytes-right, AreBytes-words, same_words}
 
 -- ---- one block
@@ -49,11 +50,11 @@ same_front lanes kind one other part part' rest rest' words words' a b e =
     let width : a.width ≡ b.width = ap (λ zs. get_or zs 0 0) all in
     let n : ℕ = size lanes a.width in
     let long : length b.body ≡ n = b.holds.byte_count ∙ ap (size lanes) (sym width) in
-    let behind : a.body ++ rest ≡ b.body ++ rest' = ap (drop 1) all in
+    let later : a.body ++ rest ≡ b.body ++ rest' = ap (drop 1) all in
     let body : a.body ≡ b.body =
-    sym (take_at a.body rest n a.holds.byte_count) ∙ ap (take n) behind ∙ take_at b.body rest' n long in
+    sym (take_at a.body rest n a.holds.byte_count) ∙ ap (take n) later ∙ take_at b.body rest' n long in
     let after : rest ≡ rest' =
-    sym (drop_at a.body rest n a.holds.byte_count) ∙ ap (drop n) behind ∙ drop_at b.body rest' n long in (
+    sym (drop_at a.body rest n a.holds.byte_count) ∙ ap (drop n) later ∙ drop_at b.body rest' n long in (
       bytes_hold_one_block lanes a.width kind other one a.body words' words (rw (width, body) b.holds) a.holds,
       a.parts ∙ rw (width, body) (sym b.parts),
       after,
@@ -73,15 +74,6 @@ part_of lanes kind block some words long =
     )
 
 -- ---- blocks and tail
-
-pub next-same : (lanes : ℕ) (kind : Kind) (values others : List ℕ) → 1 ≤ lanes → take (32 * lanes) values ≡ take (32 * lanes) others
-    → second_kind lanes kind values ≡ second_kind lanes kind others
-next-same lanes kind values others some front =
-    let n : ℕ = 32 * lanes in
-    let within : n - 1 < n = omega arith in
-    let last : get_or values (n - 1) 0 ≡ get_or others (n - 1) 0 =
-    sym (get_or-take n values (n - 1) 0 within) ∙ ap (λ xs. get_or xs (n - 1) 0) front ∙ get_or-take n others (n - 1) 0 within in
-    rw last refl
 
 -- Values have one text.
 pub same_blocks : (lanes count : ℕ) (kind : Kind) (values one other : List ℕ) → 0 < lanes → AreBytes one → AreBytes other

@@ -26,9 +26,9 @@ number_of Trailing = 11
 number_of Memory = 12
 
 -- a test finds the fault that there is, if there is one
-abbrev pub Finds : {A : Type 0} → Result A ListError → Option ListError → Type 0
-Finds (Ok _) fault = fault ≡ None
-Finds (Err found) fault = fault ≡ Some found
+abbrev pub FindsFault : {A : Type 0} → Result A ListError → Option ListError → Type 0
+FindsFault (Ok _) fault = fault ≡ None
+FindsFault (Err found) fault = fault ≡ Some found
 
 -- ---- the header
 
@@ -62,7 +62,7 @@ pub record BeginsWithHeader (version lanes : ℕ) (kind : ListKind) (count : ℕ
 
 -- ---- blocks and tail
 
--- how many whole blocks so many values have, and how many values stand behind them
+-- how many whole blocks so many values have, and how many values follow them
 abbrev pub whole_blocks : ℕ → ℕ → ℕ
 whole_blocks lanes count = count / (32 * lanes)
 

@@ -34,7 +34,7 @@ Blocks1 lanes (suc count) kind values bytes =
 pub record List1 (lanes : ℕ) (kind : ListKind) (values bytes : List ℕ) : Type 0 where
   pub words : AreWords values
   pub begins : BeginsWithHeader 1 lanes kind (length values) bytes
-  pub behind : Blocks1 lanes (whole_blocks lanes (length values)) (first_kind kind) values (drop 7 bytes)
+  pub blocks : Blocks1 lanes (whole_blocks lanes (length values)) (first_kind kind) values (drop 7 bytes)
 
 -- ---- the first fault of bytes
 
@@ -47,10 +47,10 @@ block_fault1 lanes block (width ∷ bytes) =
     else if is_loose lanes width (take (size lanes width) bytes) then Some (LooseWidth block width)
     else None
 
--- the bytes behind that block
-abbrev pub behind_block1 : ℕ → List ℕ → List ℕ
-behind_block1 lanes [] = []
-behind_block1 lanes (width ∷ bytes) = drop (size lanes width) bytes
+-- the bytes after that block
+abbrev pub after_block1 : ℕ → List ℕ → List ℕ
+after_block1 lanes [] = []
+after_block1 lanes (width ∷ bytes) = drop (size lanes width) bytes
 
 -- of so many blocks, the first of them with this number, and of the tail that has so many bytes
 unfoldable pub blocks_fault1 : ℕ → ℕ → ℕ → ℕ → List ℕ → Option ListError
@@ -59,9 +59,9 @@ blocks_fault1 lanes tail block zero bytes =
     else if nat_lt tail (length bytes) then Some Trailing
     else None
 blocks_fault1 lanes tail block (suc count) bytes =
-    option_or (block_fault1 lanes block bytes) (blocks_fault1 lanes tail (block + 1) count (behind_block1 lanes bytes))
+    option_or (block_fault1 lanes block bytes) (blocks_fault1 lanes tail (block + 1) count (after_block1 lanes bytes))
 
--- of what stands behind the header of so many values: a byte for each block and the tail are there, and each block is right
+-- of what comes after the header of so many values: a byte for each block and the tail are there, and each block is right
 unfoldable pub body_fault1 : ℕ → ℕ → List ℕ → Option ListError
 body_fault1 lanes count bytes =
     let blocks = whole_blocks lanes count in

@@ -4,7 +4,7 @@ ghost use Rattle.std.specs.Prelude.{◌≡◌, ◌+◌, ◌*◌, ◌/◌, ◌≤
 ghost use Rattle.bitpacking.specs.Codes.{AreWords};
 ghost use Rattle.bitpacking.specs.Words.{bytes_of_words, word};
 
-use super::room::append;
+use super::reserved::append;
 
 /// The word whose bytes are those from this index on.
 #[tactic(auto, using(crate::proofs::PartLemmas::is_word))]

@@ -14,11 +14,11 @@ write-requires-clause-room g c =
     let values : List ℕ = c.args.values.now in
     let words : AreWords values = All-from_get_or (λ v. v < 2 ^ 32) values 0 (λ k h. (c.type_inv.values k).fits) in
     let few : lanes < 2 ^ 8 = omega (arith, g.met.P.BitPacker.few_lanes) in
-    let (behind, small, blocks, bytes, list) = text_of lanes c.args.kind values g.met.P.BitPacker.some_lanes few words c.if-values-gt-MOST_VALUES.false in
+    let (later, small, blocks, bytes, list) = text_of lanes c.args.kind values g.met.P.BitPacker.some_lanes few words c.if-values-gt-LONGEST_LIST.false in
     let front : List ℕ = header 1 c.args.kind lanes (length values) in
-    let long = c.text_len.ensures (front ++ behind) list in
+    let long = c.text_len.ensures (front ++ later) list in
     let room = on_ok c.reserve.result (sym c.is_err.ensures.value ∙ c.if-is_err.false) c.reserve.ensures.ok in
-    omega (arith, room, long, length-append front behind, length-header 1 c.args.kind lanes (length values))
+    omega (arith, room, long, length-append front later, length-header 1 c.args.kind lanes (length values))
 
 pub write_blocks-requires : goal.write_blocks-requires
 write_blocks-requires g c =
@@ -32,7 +32,7 @@ write_blocks-requires g c =
     record {
       room = λ text blocks.
           let blocks' : Blocks1 lanes (whole_blocks lanes (length values)) (first_kind c.args.kind) values text = rw c.first.ensures at blocks in
-          let long = c.text_len.ensures (front ++ text) (List1-from_blocks lanes c.args.kind values text words c.if-values-gt-MOST_VALUES.false blocks') in
+          let long = c.text_len.ensures (front ++ text) (List1-from_blocks lanes c.args.kind values text words c.if-values-gt-LONGEST_LIST.false blocks') in
           omega (
             arith,
             room,
@@ -55,12 +55,12 @@ returns-clause-ok g c =
     let words : AreWords values = All-from_get_or (λ v. v < 2 ^ 32) values 0 (λ k h. (c.type_inv.values k).fits) in
     let front : List ℕ = header 1 c.args.kind lanes (length values) in
     let few : lanes < 2 ^ 8 = omega (arith, g.met.P.BitPacker.few_lanes) in
-    let (behind, small, blocks, bytes, list) = text_of lanes c.args.kind values g.met.P.BitPacker.some_lanes few words c.if-values-gt-MOST_VALUES.false in
+    let (later, small, blocks, bytes, list) = text_of lanes c.args.kind values g.met.P.BitPacker.some_lanes few words c.if-values-gt-LONGEST_LIST.false in
     let whole : c.BLOCK_LEN.result / 32 ≡ lanes = lanes-is g.P.BitPacker.lanes c.BLOCK_LEN.result (c.BLOCK_LEN.ensures ∙ g.met.P.BitPacker.block_len) in
     let items : c.write.new.out.items ≡ c.args.out.now.items ++ front = rw (← whole, ← c.reserve.ensures.items) c.write.ensures.items in (
-      front ++ behind,
+      front ++ later,
       bytes,
       list,
-      c.write_blocks.ensures behind small (rw c.first.ensures blocks)
-          ∙ ap (λ zs. zs ++ behind) items ∙ append_assoc c.args.out.now.items front behind,
+      c.write_blocks.ensures later small (rw c.first.ensures blocks)
+          ∙ ap (λ zs. zs ++ later) items ∙ append_assoc c.args.out.now.items front later,
     )
