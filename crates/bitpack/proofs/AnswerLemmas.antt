@@ -9,9 +9,8 @@ use Rattle.bitpacking.specs.declared.kind.Kind.{Kind}
 use Rattle.bitpacking.specs.Bits.{AreBytes}
 use Rattle.bitpacking.specs.Codes.{AreWords, codes}
 use Rattle.bitpacking.specs.Width.{Fits}
-use Rattle.bitpacking.specs.Layout.{Layout, size}
-use Rattle.bitpacking.proofs.Blocks.{AreWords-codes, length-codes}
-use Rattle.bitpacking.proofs.LawProofs.{fits_greater, one_block, one_layout_bytes, one_layout_codes, one_least_width}
+use Rattle.bitpacking.specs.Layout.{Layout, codes_of, size}
+use Rattle.bitpacking.proofs.ForCallers.{as_many_codes, codes_are_words, fits_greater, one_block, one_layout_bytes, one_layout_codes, one_least_width}
 use Rattle.bitpack.specs.declared.line.PackerName.{PackerName}
 use Rattle.bitpack.specs.declared.line.PackerName.TheVariants.{EightLanes, EightScalar, FourLanes, FourScalar, OneLane}
 use Rattle.bitpack.specs.declared.line.values.Item.{Item}
@@ -125,20 +124,21 @@ module _ (lanes : ℕ) (some : 0 < lanes) where
   reply_of few (Size width) range = (decimal (size lanes width), refl)
   reply_of few (Width kind values) (is_kind, words) =
       refused_or _ 2 _ (is_other (length values) (32 * lanes)) (λ block.
-      let (width, low, least, one) = one_least_width (codes kind values) (AreWords-codes kind values words) in
+      let (width, low, least, one) = one_least_width (codes kind values) (codes_are_words kind values words) in
       (decimal width, record { width = width; least = least; text_is = refl }))
   reply_of few (Pack kind width values) (is_kind, words) =
-      let are_words = AreWords-codes kind values words in
+      let are_words = codes_are_words kind values words in
       refused_or _ 2 _ (is_other (length values) (32 * lanes)) (λ block.
       refused_or _ 3 _ (is_above 32 width) (λ narrow.
       refused_or _ 4 _ (fits_or_not (codes kind values) width are_words) (λ fit.
       let (bytes, are_bytes, layout, one) = one_layout_bytes lanes width (codes kind values) some
-      (length-codes kind values ∙ same_from (length values) (32 * lanes) block) (fits_at_least (codes kind values) width are_words fit) in
+      (as_many_codes kind values ∙ same_from (length values) (32 * lanes) block) (fits_at_least (codes kind values) width are_words fit) in
       (bytes_text bytes, record { bytes = bytes; are_bytes = are_bytes; holds = layout; text_is = refl }))))
   reply_of few (Unpack kind width bytes) is_kind =
       refused_or _ 3 _ (is_above 32 width) (λ narrow.
       refused_or _ 5 _ (is_other (length bytes) (size lanes width)) (λ room.
-      let (words, layout, one) = one_layout_codes lanes width bytes (same_from (length bytes) (size lanes width) room) in
+      let words : List ℕ = codes_of lanes width bytes in
+      let (layout, one) = one_layout_codes lanes width bytes (same_from (length bytes) (size lanes width) room) in
       let are_words = words_from_fits words width (narrow_width width narrow) layout.fits in
       let (block, are_values, codes_are, only_block) = one_block kind words is_kind are_words in
       (values_text block, record { block = block; are_words = are_values; holds = subst (λ c. Layout lanes width c bytes) (sym codes_are) layout; text_is = refl })))
@@ -152,14 +152,15 @@ module _ (lanes : ℕ) (some : 0 < lanes) where
 
   same_unpacked : (width : ℕ) (kind : Kind) (bytes a b : List ℕ) → width ≤ 32 → IsKind kind → IsUnpacked lanes width kind bytes a → IsUnpacked lanes width kind bytes b → a ≡ b
   same_unpacked width kind bytes a b narrow is_kind first second =
-      let (words, layout, one) = one_layout_codes lanes width bytes first.holds.byte_count in
+      let words : List ℕ = codes_of lanes width bytes in
+      let (layout, one) = one_layout_codes lanes width bytes first.holds.byte_count in
       let are_words = words_from_fits words width narrow layout.fits in
       let (block, are_values, codes_are, only_block) = one_block kind words is_kind are_words in
       first.text_is ∙ ap values_text (only_block first.block first.are_words (one (codes kind first.block) first.holds) ∙ sym (only_block second.block second.are_words (one (codes kind second.block) second.holds))) ∙ sym second.text_is
 
   same_width : (kind : Kind) (values a b : List ℕ) → AreWords values → IsWidthText kind values a → IsWidthText kind values b → a ≡ b
   same_width kind values a b words first second =
-      let (width, low, least, one) = one_least_width (codes kind values) (AreWords-codes kind values words) in
+      let (width, low, least, one) = one_least_width (codes kind values) (codes_are_words kind values words) in
       first.text_is ∙ ap decimal (one first.width first.least ∙ sym (one second.width second.least)) ∙ sym second.text_is
 
   same_reply : (request : Request) → AreInRange request → (a b : List ℕ) → IsReply lanes request a → IsReply lanes request b → a ≡ b

@@ -10,38 +10,12 @@ use borrow.Rule.Slice.PartMut.{put_mid}
 use Rattle.std.proofs.lemmas.List.Elements.{All-nil, All-cons, All-take, All-drop}
 use Rattle.bitpacking.specs.declared.kind.Kind.{Kind}
 use Rattle.bitpacking.specs.declared.kind.Kind.TheVariants.{Plain, Sorted, StrictlySorted}
-use Rattle.bitpacking.specs.Deltas.{differences}
-use Rattle.bitpacking.specs.Codes.{AreWords, codes, one_less}
+use Rattle.bitpacking.specs.Codes.{AreWords, codes}
+use Rattle.bitpacking.proofs.ForCallers.{bytes_hold_one_block}
 use Rattle.bitpacking.specs.Width.{IsWidth}
 use Rattle.bitpacking.specs.Layout.{Holds, size}
-use Rattle.bitpacking.specs.Laws.{OneLeastWidth, BytesHoldOneBlock}
 use Rattle.bitpack.specs.Chains.{next_kind, second_kind, Loose, LeastWidths}
 use Rattle.bitpack.specs.Laws.{ChainsReadBack}
-
--- Codes are words, so that a least width is at most 32.
-AreWords-differences : (before : ℕ) (values : List ℕ) → AreWords (differences before values)
-AreWords-differences before [] = All-nil (λ v. v < 2 ^ 32)
-AreWords-differences before (value ∷ values) =
-    All-cons (λ v. v < 2 ^ 32) ((value + (2 ^ 32 - before)) % 2 ^ 32) (differences value values) (omega arith)
-    (AreWords-differences value values)
-
-AreWords-less : (values : List ℕ) → AreWords (map one_less values)
-AreWords-less [] = All-nil (λ v. v < 2 ^ 32)
-AreWords-less (value ∷ values) =
-    All-cons (λ v. v < 2 ^ 32) ((value + (2 ^ 32 - 1)) % 2 ^ 32) (map one_less values) (omega arith) (AreWords-less values)
-
-AreWords-codes : (kind : Kind) (block : List ℕ) → AreWords block → AreWords (codes kind block)
-AreWords-codes Plain block words = words
-AreWords-codes (Sorted initial) block words = AreWords-differences initial block
-AreWords-codes (StrictlySorted initial) block words = AreWords-less (differences (unwrap_or initial 4294967295) block)
-
-pub width_at_most_32 : OneLeastWidth → (kind : Kind) (block : List ℕ) (width : ℕ) → AreWords block → IsWidth kind block width
-    → width ≤ 32
-width_at_most_32 law kind block width words least =
-    let found = law (codes kind block) (AreWords-codes kind block words) in
-    let same : width ≡ found.0 = found.3 width least in
-    let narrow : found.0 ≤ 32 = found.1 in
-    omega arith
 
 -- A block before a chain that goes on from its last value.
 module _ (lanes width : ℕ) (kind : Kind) (block values widths : List ℕ) (some : 1 ≤ lanes) (long : length block ≡ 32 * lanes) where
@@ -68,7 +42,7 @@ module _ (lanes width : ℕ) (kind : Kind) (block values widths : List ℕ) (som
   LeastWidths-cons least widths' =
       rw (last, take_at block values (32 * lanes) long, drop_at block values (32 * lanes) long) (least, widths')
 
--- The beginning of a chain: with any chain of the next kind behind it, it is a chain.
+-- The beginning of a chain: with any chain of the next kind after it, it is a chain.
 pub record LooseSoFar (lanes : ℕ) (first kind : Kind) (values widths bytes : List ℕ) : Type 0 where
   pub go_on : (values' widths' bytes' : List ℕ) → Loose lanes kind values' widths' bytes'
       → Loose lanes first (values ++ values') (widths ++ widths') (bytes ++ bytes')
@@ -111,30 +85,37 @@ module _ (lanes width : ℕ) (first kind : Kind) (values widths block : List ℕ
         (LeastWidths-cons lanes width kind block values' widths' some long least rest));
   }
 
+-- Values with the same first block have the same kind after it.
+pub next-same : (lanes : ℕ) (kind : Kind) (values others : List ℕ) → 1 ≤ lanes → take (32 * lanes) values ≡ take (32 * lanes) others
+    → second_kind lanes kind values ≡ second_kind lanes kind others
+next-same lanes kind values others some front =
+    let n : ℕ = 32 * lanes in
+    let within : n - 1 < n = omega arith in
+    let last : get_or values (n - 1) 0 ≡ get_or others (n - 1) 0 =
+    sym (get_or-take n values (n - 1) 0 within) ∙ ap (λ xs. get_or xs (n - 1) 0) front ∙ get_or-take n others (n - 1) 0 within in
+    rw last refl
+
 -- Two lists of values that the same bytes hold are equal.
-same_values : BytesHoldOneBlock → (lanes : ℕ) (kind kind' : Kind) (widths values others bytes : List ℕ) → 0 < lanes → kind' ≡ kind
+same_values : (lanes : ℕ) (kind kind' : Kind) (widths values others bytes : List ℕ) → 0 < lanes → kind' ≡ kind
     → AreWords values → AreWords others
     → Loose lanes kind values widths bytes → Loose lanes kind' others widths bytes → others ≡ values
-same_values law lanes kind kind' [] values others bytes some e words words' one two = two.0 ∙ sym one.0
-same_values law lanes kind kind' (width ∷ widths) values others bytes some e words words' one two =
+same_values lanes kind kind' [] values others bytes some e words words' one two = two.0 ∙ sym one.0
+same_values lanes kind kind' (width ∷ widths) values others bytes some e words words' one two =
     let n : ℕ = 32 * lanes in
     let P : ℕ → Type 0 = λ v. v < 2 ^ 32 in
     let front : take n others ≡ take n values =
-    law lanes width kind (take n values) (take n others) (take (size lanes width) bytes)
+    bytes_hold_one_block lanes width kind (take n values) (take n others) (take (size lanes width) bytes)
     (All-take P n values words) (All-take P n others words') one.1 (rw e at two.1) in
-    let within : 32 * lanes - 1 < 32 * lanes = omega arith in
-    let last : get_or others (n - 1) 0 ≡ get_or values (n - 1) 0 =
-    sym (get_or-take n others (n - 1) 0 within) ∙ ap (λ xs. get_or xs (n - 1) 0) front ∙ get_or-take n values (n - 1) 0 within in
-    let next : second_kind lanes kind' others ≡ second_kind lanes kind values = rw (e, last) refl in
+    let next : second_kind lanes kind' others ≡ second_kind lanes kind values = rw e (next-same lanes kind others values some front) in
     let back : drop n others ≡ drop n values =
-    same_values law lanes (second_kind lanes kind values) (second_kind lanes kind' others) widths (drop n values) (drop n others)
+    same_values lanes (second_kind lanes kind values) (second_kind lanes kind' others) widths (drop n values) (drop n others)
     (drop (size lanes width) bytes) some next (All-drop P n values words) (All-drop P n others words') one.2 two.2 in
     sym (take-append-drop n others) ∙ ap (λ xs. xs ++ drop n others) front ∙ ap (λ xs. take n values ++ xs) back
     ∙ take-append-drop n values
 
-pub chains_read_back : BytesHoldOneBlock → ChainsReadBack
-chains_read_back law lanes kind values others widths bytes some words words' chained loose =
-    same_values law lanes kind kind widths values others bytes some refl words words' chained.loose loose
+pub chains_read_back : ChainsReadBack
+chains_read_back lanes kind values others widths bytes some words words' chained loose =
+    same_values lanes kind kind widths values others bytes some refl words words' chained.loose loose
 
 -- ---- the parts of a list that the loops lend to a block
 

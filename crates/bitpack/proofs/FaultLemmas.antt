@@ -6,8 +6,9 @@ use Rattle.std.proofs.lemmas.List.{take_all}
 use Rattle.bitpacking.specs.Layout.{size}
 use Rattle.bitpack.specs.declared.list_error.ListError.{ListError}
 use Rattle.bitpack.specs.declared.list_error.ListError.TheVariants.{Short, BadWidth, LooseWidth, Trailing}
-use Rattle.bitpack.specs.Parts.{is_loose, header_fault, number_at, whole_blocks, tail_values}
-use Rattle.bitpack.specs.Version1.{block_fault1, behind_block1, blocks_fault1, body_fault1, fault1}
+use Rattle.bitpack.specs.Parts.{is_loose, header_fault, count_of, whole_blocks, tail_values}
+use Rattle.bitpack.proofs.HeaderLemmas.{passed}
+use Rattle.bitpack.specs.Version1.{block_fault1, after_block1, blocks_fault1, body_fault1, fault1}
 
 pub front-is : (bytes : List ℕ) → 1 ≤ length bytes → bytes ≡ get_or bytes 0 0 ∷ take (length bytes - 1) (drop 1 bytes)
 front-is [] some = absurd (omega arith)
@@ -46,10 +47,6 @@ pub record IsRight (lanes : ℕ) (bytes : List ℕ) : Type 0 where
   pub room : size lanes (get_or bytes 0 0) ≤ length (drop 1 bytes)
   pub least : is_loose lanes (get_or bytes 0 0) (take (size lanes (get_or bytes 0 0)) (drop 1 bytes)) ≡ false
 
-passed : {A : Type 0} (test : Bool) (fault : A) (rest : Option A) → cond test (Some fault) rest ≡ None → (test ≡ false) × (rest ≡ None)
-passed true fault rest e = absurd cc
-passed false fault rest e = (refl, e)
-
 pub right_from_none : (lanes block : ℕ) (bytes : List ℕ) → block_fault1 lanes block bytes ≡ None → IsRight lanes bytes
 unfolding block_fault1
 right_from_none lanes block [] none = absurd cc
@@ -85,7 +82,7 @@ tail_from_none lanes tail block bytes none =
 -- The loop that tests one block after the other.
 pub blocks_left : (lanes tail blocks i : ℕ) (bytes : List ℕ) → i < blocks
     → blocks_fault1 lanes tail i (blocks - i) bytes
-    ≡ option_or (block_fault1 lanes i bytes) (blocks_fault1 lanes tail (i + 1) (blocks - (i + 1)) (behind_block1 lanes bytes))
+    ≡ option_or (block_fault1 lanes i bytes) (blocks_fault1 lanes tail (i + 1) (blocks - (i + 1)) (after_block1 lanes bytes))
 unfolding blocks_fault1
 blocks_left lanes tail blocks i bytes lt =
     let one_less : blocks - i ≡ suc (blocks - (i + 1)) = omega arith in
@@ -105,13 +102,13 @@ none_first (Some x) other e = absurd cc
 
 pub header_first : (lanes : ℕ) (bytes : List ℕ) (fault : ListError) → header_fault 1 lanes bytes ≡ Some fault → fault1 lanes bytes ≡ Some fault
 unfolding fault1
-header_first lanes bytes fault found = ap (λ o. option_or o (body_fault1 lanes (number_at bytes 3) (drop 7 bytes))) found
+header_first lanes bytes fault found = ap (λ o. option_or o (body_fault1 lanes (count_of bytes) (drop 7 bytes))) found
 
-pub body_next : (lanes count : ℕ) (bytes : List ℕ) → header_fault 1 lanes bytes ≡ None → number_at bytes 3 ≡ count
+pub body_next : (lanes count : ℕ) (bytes : List ℕ) → header_fault 1 lanes bytes ≡ None → count_of bytes ≡ count
     → fault1 lanes bytes ≡ body_fault1 lanes count (drop 7 bytes)
 unfolding fault1
 body_next lanes count bytes none is =
-    ap (λ o. option_or o (body_fault1 lanes (number_at bytes 3) (drop 7 bytes))) none ∙ ap (λ n. body_fault1 lanes n (drop 7 bytes)) is
+    ap (λ o. option_or o (body_fault1 lanes (count_of bytes) (drop 7 bytes))) none ∙ ap (λ n. body_fault1 lanes n (drop 7 bytes)) is
 
 pub body_short : (lanes count blocks tail : ℕ) (bytes : List ℕ) → blocks ≡ whole_blocks lanes count → tail ≡ 4 * tail_values lanes count
     → length bytes < blocks + tail → body_fault1 lanes count bytes ≡ Some Short

@@ -1,15 +1,16 @@
 -- A header without a fault is the header of a kind and a count, and the other way round.
-use Rattle.std.proofs.Common.{◌≡◌, ℕ, zero, suc, ◌^◌, ◌≤◌, Bool, true, false, cond, List, [], ◌∷◌, ◌++◌, length, take, drop, get_or, Option, Some, None, refl, sym, ◌∙◌, ap, arith}
+use Rattle.std.proofs.Common.{◌≡◌, ℕ, zero, suc, ◌^◌, ◌<◌, ◌≤◌, Bool, true, false, cond, List, [], ◌∷◌, ◌++◌, length, take, drop, get_or, Option, Some, None, refl, sym, ◌∙◌, ap, arith}
 use Rattle.std.proofs.lemmas.Bool.{le-ltb, ltb-false, eq-eqb, eqb-true, not-false}
 use Rattle.std.proofs.lemmas.List.{length-take, take-append-drop}
 use Rattle.bitpacking.specs.Bits.{AreBytes}
 use Rattle.bitpack.specs.declared.list_kind.ListKind.{ListKind}
 use Rattle.bitpack.specs.declared.list_kind.ListKind.TheVariants as lists
-use Rattle.bitpack.specs.Parts.{four_bytes, number_at, kind_byte, header, header_fault, BeginsWithHeader}
-use Rattle.bitpack.proofs.PartLemmas.{four_bytes-number_at, number_at-four_bytes, number_at-drop, length-four_bytes}
+use Rattle.bitpacking.specs.Words.{bytes_of_words, word}
+use Rattle.bitpack.specs.Parts.{kind_byte, header, header_fault, BeginsWithHeader, count_of}
+use Rattle.bitpack.proofs.PartLemmas.{AreBytes-cons, AreBytes-drop, AreBytes-word, bytes-word, word-bytes}
 
 -- A test that was passed.
-passed : {A : Type 0} (test : Bool) (fault : A) (rest : Option A) → cond test (Some fault) rest ≡ None → (test ≡ false) × (rest ≡ None)
+pub passed : {A : Type 0} (test : Bool) (fault : A) (rest : Option A) → cond test (Some fault) rest ≡ None → (test ≡ false) × (rest ≡ None)
 passed true fault rest e = absurd cc
 passed false fault rest e = (refl, e)
 
@@ -35,17 +36,29 @@ kind_byte-same lists.StrictlySorted lists.Plain e = absurd (omega arith)
 kind_byte-same lists.StrictlySorted lists.Sorted e = absurd (omega arith)
 kind_byte-same lists.StrictlySorted lists.StrictlySorted e = refl
 
+pub length-header : (version : ℕ) (kind : ListKind) (lanes count : ℕ) → length (header version kind lanes count) ≡ 7
+unfolding header
+length-header version kind lanes count = refl
+
+pub AreBytes-header : (version : ℕ) (kind : ListKind) (lanes count : ℕ) → version < 2 ^ 8 → lanes < 2 ^ 8 → AreBytes (header version kind lanes count)
+unfolding header
+AreBytes-header version kind lanes count small few =
+    AreBytes-cons version (kind_byte kind ∷ lanes ∷ bytes_of_words (count ∷ [])) small
+    (AreBytes-cons (kind_byte kind) (lanes ∷ bytes_of_words (count ∷ [])) (omega (arith, kind_byte-le kind))
+    (AreBytes-cons lanes (bytes_of_words (count ∷ [])) few (AreBytes-word count)))
+
 -- Bytes that were read are the header's.
 pub header_from_bytes : (version lanes : ℕ) (kind : ListKind) (bytes : List ℕ) → AreBytes bytes → 7 ≤ length bytes
     → get_or bytes 0 0 ≡ version → get_or bytes 1 0 ≡ kind_byte kind → get_or bytes 2 0 ≡ lanes
-    → number_at bytes 3 ≤ 2 ^ 28 → BeginsWithHeader version lanes kind (number_at bytes 3) bytes
+    → count_of bytes ≤ 2 ^ 28 → BeginsWithHeader version lanes kind (count_of bytes) bytes
+unfolding header
 header_from_bytes version lanes kind [] small long one two three few = absurd (omega arith)
 header_from_bytes version lanes kind (a ∷ []) small long one two three few = absurd (omega arith)
 header_from_bytes version lanes kind (a ∷ b ∷ []) small long one two three few = absurd (omega arith)
 header_from_bytes version lanes kind (a ∷ b ∷ c ∷ bytes) small long one two three few = record {
   few = few;
   front =
-      let count : four_bytes (number_at (a ∷ b ∷ c ∷ bytes) 3) ≡ take 4 bytes = four_bytes-number_at (a ∷ b ∷ c ∷ bytes) 3 small (omega arith) in
+      let count : bytes_of_words (word bytes 0 ∷ []) ≡ take 4 bytes = bytes-word bytes (AreBytes-drop 3 (a ∷ b ∷ c ∷ bytes) small) (omega arith) in
       rw (count, ← one, ← two, ← three) refl;
 }
 
@@ -55,16 +68,17 @@ pub record HeaderBytes (version lanes : ℕ) (kind : ListKind) (count : ℕ) (by
   pub version_is : get_or bytes 0 0 ≡ version
   pub kind_is : get_or bytes 1 0 ≡ kind_byte kind
   pub lanes_is : get_or bytes 2 0 ≡ lanes
-  pub count_is : number_at bytes 3 ≡ count
+  pub count_is : count_of bytes ≡ count
 
 pub header_bytes : (version lanes : ℕ) (kind : ListKind) (count : ℕ) (bytes : List ℕ) → BeginsWithHeader version lanes kind count bytes
     → HeaderBytes version lanes kind count bytes
+unfolding header
 header_bytes version lanes kind count bytes begins =
     let e = begins.front in
     let few = begins.few in
     let front : List ℕ = header version kind lanes count in
     let rest : List ℕ = drop 7 bytes in
-    let length_of : length front ≡ 7 = omega (arith, length-four_bytes count) in
+    let length_of : length front ≡ 7 = length-header version kind lanes count in
     let seven : length (take 7 bytes) ≡ 7 = ap length e ∙ length_of in
     let whole : bytes ≡ front ++ rest = sym (take-append-drop 7 bytes) ∙ ap (λ zs. zs ++ rest) e in
     record {
@@ -72,7 +86,7 @@ header_bytes version lanes kind count bytes begins =
       version_is = ap (λ zs. get_or zs 0 0) whole;
       kind_is = ap (λ zs. get_or zs 1 0) whole;
       lanes_is = ap (λ zs. get_or zs 2 0) whole;
-      count_is = ap (λ zs. number_at zs 3) whole ∙ number_at-drop (front ++ rest) 3 ∙ number_at-four_bytes count rest (omega arith);
+      count_is = ap count_of whole ∙ word-bytes count rest (omega arith);
     }
 
 pub header_fault-none : (version lanes : ℕ) (kind : ListKind) (count : ℕ) (bytes : List ℕ)
@@ -81,18 +95,18 @@ unfolding header_fault
 header_fault-none version lanes kind count bytes begins =
     let found = header_bytes version lanes kind count bytes begins in
     let few = begins.few in
-    let few' : number_at bytes 3 ≤ 2 ^ 28 = omega (arith, found.count_is) in
+    let few' : count_of bytes ≤ 2 ^ 28 = omega (arith, found.count_is) in
     let kind_few = kind_byte-le kind in
     rw (
       le-ltb (length bytes) 7 found.long,
       eq-eqb (get_or bytes 0 0) version found.version_is,
       le-ltb 2 (get_or bytes 1 0) (omega (arith, found.kind_is)),
       eq-eqb (get_or bytes 2 0) lanes found.lanes_is,
-      le-ltb (2 ^ 28) (number_at bytes 3) few',
+      le-ltb (2 ^ 28) (count_of bytes) few',
     ) refl
 
 pub header_from_fault : (version lanes : ℕ) (bytes : List ℕ) → AreBytes bytes → header_fault version lanes bytes ≡ None
-    → (kind : ListKind) × BeginsWithHeader version lanes kind (number_at bytes 3) bytes
+    → (kind : ListKind) × BeginsWithHeader version lanes kind (count_of bytes) bytes
 unfolding header_fault
 header_from_fault version lanes bytes small none =
     let one = passed _ _ _ none in

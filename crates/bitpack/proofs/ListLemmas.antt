@@ -1,32 +1,45 @@
 -- Version 1: a header before blocks and tail is a text.
-use Rattle.std.proofs.Common.{◌≡◌, ℕ, ◌*◌, ◌/◌, ◌^◌, ◌≤◌, List, ◌++◌, length, true, false, Result, Ok, Err, OnOk, OnErr, is_err, arith}
+use Rattle.std.proofs.Common.{◌≡◌, ℕ, ◌*◌, ◌/◌, ◌^◌, ◌<◌, ◌≤◌, List, ◌++◌, length, true, false, Result, Ok, Err, OnOk, OnErr, is_err, arith}
 use Rattle.std.proofs.lemmas.List.{take_at, drop_at}
 use Rattle.bitpacking.specs.Bits.{AreBytes}
 use Rattle.bitpacking.specs.Codes.{AreWords}
 use Rattle.bitpack.specs.declared.list_kind.ListKind.{ListKind}
 use Rattle.bitpack.specs.Parts.{header, whole_blocks, first_kind}
 use Rattle.bitpack.specs.Version1.{Blocks1, List1}
-use Rattle.bitpack.proofs.PartLemmas.{length-four_bytes}
+use Rattle.bitpack.proofs.HeaderLemmas.{AreBytes-header, length-header}
+use Rattle.bitpack.proofs.PartLemmas.{AreBytes-append}
 use Rattle.bitpack.proofs.TextLemmas.{blocks_of}
 
-pub length-header : (version : ℕ) (kind : ListKind) (lanes count : ℕ) → length (header version kind lanes count) ≡ 7
-length-header version kind lanes count = omega (arith, length-four_bytes count)
-
-pub List1-from_blocks : (lanes : ℕ) (kind : ListKind) (values behind : List ℕ) → length values ≤ 2 ^ 28
-    → Blocks1 lanes (whole_blocks lanes (length values)) (first_kind kind) values behind
-    → List1 lanes kind values (header 1 kind lanes (length values) ++ behind)
-List1-from_blocks lanes kind values behind few blocks =
+pub List1-from_blocks : (lanes : ℕ) (kind : ListKind) (values later : List ℕ) → AreWords values → length values ≤ 2 ^ 28
+    → Blocks1 lanes (whole_blocks lanes (length values)) (first_kind kind) values later
+    → List1 lanes kind values (header 1 kind lanes (length values) ++ later)
+List1-from_blocks lanes kind values later words few blocks =
     let front : List ℕ = header 1 kind lanes (length values) in
     let seven : length front ≡ 7 = length-header 1 kind lanes (length values) in
     record {
-      begins = record { few = few; front = take_at front behind 7 seven };
-      behind = rw (drop_at front behind 7 seven) blocks;
+      words = words;
+      begins = record { few = few; front = take_at front later 7 seven };
+      blocks = rw (drop_at front later 7 seven) blocks;
     }
 
--- What is behind the header of values.
-pub behind_of : (lanes : ℕ) (kind : ListKind) (values : List ℕ) → 1 ≤ lanes → AreWords values
-    → (behind : List ℕ) × AreBytes behind × Blocks1 lanes (whole_blocks lanes (length values)) (first_kind kind) values behind
-behind_of lanes kind values some words = blocks_of lanes (whole_blocks lanes (length values)) (first_kind kind) values some words (omega arith)
+-- What is after the header of values.
+later_of : (lanes : ℕ) (kind : ListKind) (values : List ℕ) → 1 ≤ lanes → AreWords values
+    → (later : List ℕ) × AreBytes later × Blocks1 lanes (whole_blocks lanes (length values)) (first_kind kind) values later
+later_of lanes kind values some words = blocks_of lanes (whole_blocks lanes (length values)) (first_kind kind) values some words (omega arith)
+
+-- The text of values.
+pub text_of : (lanes : ℕ) (kind : ListKind) (values : List ℕ) → 1 ≤ lanes → lanes < 2 ^ 8 → AreWords values → length values ≤ 2 ^ 28
+    → (later : List ℕ) × AreBytes later × Blocks1 lanes (whole_blocks lanes (length values)) (first_kind kind) values later
+    × AreBytes (header 1 kind lanes (length values) ++ later) × List1 lanes kind values (header 1 kind lanes (length values) ++ later)
+text_of lanes kind values some few words short =
+    let (later, small, blocks) = later_of lanes kind values some words in
+    let front : List ℕ = header 1 kind lanes (length values) in (
+      later,
+      small,
+      blocks,
+      AreBytes-append front later (AreBytes-header 1 kind lanes (length values) (omega arith) few) small,
+      List1-from_blocks lanes kind values later words short blocks,
+    )
 
 pub on_ok : {A E P : Type 0} (result : Result A E) → is_err result ≡ false → OnOk result P → P
 on_ok (Ok x) e holds = holds

@@ -4,17 +4,9 @@ use Rattle.std.specs.List.{list_all}
 use Rattle.std.proofs.lemmas.Bool.{cases_lt}
 use Rattle.std.proofs.lemmas.Bool.Decides.{Decides-by_and, Decides-ltb, Decides-and, Decides-like}
 use Rattle.bitpacking.specs.Width.{Fits, Least}
-use Rattle.bitpacking.specs.Layout.{Layout, size}
-use Rattle.bitpacking.proofs.OneToOne.{Layout-codes_of, same_codes-from_layout}
-use Rattle.bitpacking.proofs.OneToOne as laid
-use Rattle.bitpacking.proofs.LawProofs.{fits_greater}
-use Rattle.bitpack.specs.Parts.{codes_of, is_loose}
-
--- The codes that the bytes lay out.
-pub Layout-codes_of_bytes : (lanes width : ℕ) (bytes : List ℕ) → length bytes ≡ size lanes width
-    → Layout lanes width (codes_of lanes width bytes) bytes
-unfolding codes_of laid.codes_of
-Layout-codes_of_bytes lanes width bytes long = Layout-codes_of lanes width bytes long
+use Rattle.bitpacking.specs.Layout.{codes_of, Layout}
+use Rattle.bitpacking.proofs.ForCallers.{fits_greater, one_layout_codes}
+use Rattle.bitpack.specs.Parts.{is_loose}
 
 Decides-fits : (codes : List ℕ) (width : ℕ) → Decides (list_all (λ code. ltb code (2 ^ width)) codes) (Fits codes width)
 Decides-fits codes width =
@@ -25,9 +17,7 @@ pub Decides-loose : (lanes width : ℕ) (codes bytes : List ℕ) → Layout lane
     → Decides (is_loose lanes width bytes) ((smaller : ℕ) × (smaller < width) × Fits codes smaller)
 unfolding is_loose
 Decides-loose lanes width codes bytes layout =
-    let same : codes ≡ codes_of lanes width bytes =
-    same_codes-from_layout lanes width codes (codes_of lanes width bytes) bytes layout
-    (Layout-codes_of_bytes lanes width bytes layout.byte_count) in
+    let same : codes ≡ codes_of lanes width bytes = (one_layout_codes lanes width bytes layout.byte_count).1 codes layout in
     rw same (Decides-like _
     (λ (h : (0 < width) × Fits (codes_of lanes width bytes) (width - 1)). (width - 1, omega (arith, h.0), h.1))
     (λ (h : (smaller : ℕ) × (smaller < width) × Fits (codes_of lanes width bytes) smaller).

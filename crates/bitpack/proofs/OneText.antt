@@ -5,7 +5,7 @@ use Rattle.bitpacking.specs.Bits.{AreBytes}
 use Rattle.bitpacking.specs.Codes.{AreWords, start}
 use Rattle.bitpack.specs.declared.list_kind.ListKind.{ListKind}
 use Rattle.bitpack.specs.declared.list_kind.ListKind.TheVariants as lists
-use Rattle.bitpack.specs.Parts.{header_fault, number_at, whole_blocks, tail_values, first_kind, BeginsWithHeader}
+use Rattle.bitpack.specs.Parts.{header_fault, count_of, whole_blocks, tail_values, first_kind, BeginsWithHeader}
 use Rattle.bitpack.specs.Version1.{Blocks1, List1, blocks_fault1, body_fault1, fault1}
 use Rattle.bitpack.specs.Laws.{LooseFitsSmaller, OneText1, OneList1, NoFault1}
 use Rattle.bitpack.proofs.PartLemmas.{AreBytes-drop}
@@ -20,47 +20,47 @@ start-first lists.Plain = omega arith
 start-first lists.Sorted = omega arith
 start-first lists.StrictlySorted = omega arith
 
--- What is behind a header without a fault.
-pub behind_from_none : (lanes count : ℕ) (kind : ListKind) (bytes : List ℕ) → BeginsWithHeader 1 lanes kind count bytes → fault1 lanes bytes ≡ None
+-- What is after a header without a fault.
+pub later_from_none : (lanes count : ℕ) (kind : ListKind) (bytes : List ℕ) → BeginsWithHeader 1 lanes kind count bytes → fault1 lanes bytes ≡ None
     → blocks_fault1 lanes (4 * tail_values lanes count) 0 (whole_blocks lanes count) (drop 7 bytes) ≡ None
-behind_from_none lanes count kind bytes begins none =
+later_from_none lanes count kind bytes begins none =
     let found = header_bytes 1 lanes kind count bytes begins in
     let right = header_fault-none 1 lanes kind count bytes begins in
     body_from_none lanes count (drop 7 bytes) (sym (body_next lanes count bytes right found.count_is) ∙ none)
 
 pub list_from_none : (lanes count : ℕ) (kind : ListKind) (bytes : List ℕ) → 1 ≤ lanes → AreBytes bytes → BeginsWithHeader 1 lanes kind count bytes
     → fault1 lanes bytes ≡ None
-    → (values : List ℕ) × AreWords values × (length values ≡ count) × List1 lanes kind values bytes
+    → (values : List ℕ) × (length values ≡ count) × List1 lanes kind values bytes
 list_from_none lanes count kind bytes some small begins none =
-    let right = behind_from_none lanes count kind bytes begins none in
+    let right = later_from_none lanes count kind bytes begins none in
     let found = values_from_none lanes (tail_values lanes count) (whole_blocks lanes count) 0 (first_kind kind) (drop 7 bytes) some (start-first kind)
     (AreBytes-drop 7 bytes small) right in
     let long : length found.0 ≡ count = omega (arith, found.2) in (
       found.0,
-      found.1,
       long,
       record {
+        words = found.1;
         begins = subst (λ n. BeginsWithHeader 1 lanes kind n bytes) (sym long) begins;
-        behind = subst (λ n. Blocks1 lanes (whole_blocks lanes n) (first_kind kind) found.0 (drop 7 bytes)) (sym long) found.3;
+        blocks = subst (λ n. Blocks1 lanes (whole_blocks lanes n) (first_kind kind) found.0 (drop 7 bytes)) (sym long) found.3;
       },
     )
 
 -- A text has no fault.
-pub none_from_list : (lanes : ℕ) (kind : ListKind) (values bytes : List ℕ) → 1 ≤ lanes → AreWords values → List1 lanes kind values bytes
+pub none_from_list : (lanes : ℕ) (kind : ListKind) (values bytes : List ℕ) → 1 ≤ lanes → List1 lanes kind values bytes
     → fault1 lanes bytes ≡ None
-none_from_list lanes kind values bytes some words list =
+none_from_list lanes kind values bytes some list =
     let count : ℕ = length values in
     let found = header_bytes 1 lanes kind count bytes list.begins in
     let right = header_fault-none 1 lanes kind count bytes list.begins in
     let parts : count ≡ 32 * lanes * whole_blocks lanes count + tail_values lanes count = omega arith in
-    let behind = none_from_values lanes (tail_values lanes count) (whole_blocks lanes count) 0 (first_kind kind) values (drop 7 bytes) words parts list.behind in
+    let later = none_from_values lanes (tail_values lanes count) (whole_blocks lanes count) 0 (first_kind kind) values (drop 7 bytes) list.words parts list.blocks in
     body_next lanes count bytes right found.count_is
-    ∙ body_blocks lanes count (whole_blocks lanes count) (4 * tail_values lanes count) (drop 7 bytes) refl refl behind.1
-    ∙ behind.0
+    ∙ body_blocks lanes count (whole_blocks lanes count) (4 * tail_values lanes count) (drop 7 bytes) refl refl later.1
+    ∙ later.0
 
 header_right : (lanes : ℕ) (bytes : List ℕ) → fault1 lanes bytes ≡ None → header_fault 1 lanes bytes ≡ None
 unfolding fault1
-header_right lanes bytes none = (none_first (header_fault 1 lanes bytes) (body_fault1 lanes (number_at bytes 3) (drop 7 bytes)) none).0
+header_right lanes bytes none = (none_first (header_fault 1 lanes bytes) (body_fault1 lanes (count_of bytes) (drop 7 bytes)) none).0
 
 -- ---- the laws
 
@@ -70,29 +70,29 @@ loose_fits_smaller lanes width codes bytes layout = Decides-loose lanes width co
 pub one_text1 : OneText1
 one_text1 lanes kind values text other some small small' one two =
     let front : take 7 other ≡ take 7 text = two.begins.front ∙ sym one.begins.front in
-    let behind : drop 7 other ≡ drop 7 text =
+    let later : drop 7 other ≡ drop 7 text =
     same_blocks lanes (whole_blocks lanes (length values)) (first_kind kind) values (drop 7 text) (drop 7 other) some
-    (AreBytes-drop 7 text small) (AreBytes-drop 7 other small') one.behind two.behind in
-    sym (take-append-drop 7 other) ∙ rw (front, behind) (take-append-drop 7 text)
+    (AreBytes-drop 7 text small) (AreBytes-drop 7 other small') one.blocks two.blocks in
+    sym (take-append-drop 7 other) ∙ rw (front, later) (take-append-drop 7 text)
 
 pub one_list1 : OneList1
-one_list1 lanes kind kind' values others text some words words' one two =
+one_list1 lanes kind kind' values others text some one two =
     let first = header_bytes 1 lanes kind (length values) text one.begins in
     let second = header_bytes 1 lanes kind' (length others) text two.begins in
     let same : kind' ≡ kind = kind_byte-same kind' kind (sym second.kind_is ∙ first.kind_is) in
     let long : length others ≡ length values = sym second.count_is ∙ first.count_is in
     let blocks : Blocks1 lanes (whole_blocks lanes (length values)) (first_kind kind') others (drop 7 text) =
-    subst (λ n. Blocks1 lanes (whole_blocks lanes n) (first_kind kind') others (drop 7 text)) long two.behind in (
+    subst (λ n. Blocks1 lanes (whole_blocks lanes n) (first_kind kind') others (drop 7 text)) long two.blocks in (
       same,
       same_values lanes (whole_blocks lanes (length values)) (first_kind kind) (first_kind kind') values others (drop 7 text) some (ap first_kind same)
-          words words' one.behind blocks,
+          one.words two.words one.blocks blocks,
     )
 
 pub no_fault1 : NoFault1
 no_fault1 lanes bytes some small = (
   λ none.
       let header = header_from_fault 1 lanes bytes small (header_right lanes bytes none) in
-      let found = list_from_none lanes (number_at bytes 3) header.0 bytes some small header.1 none in
-      (header.0, found.0, found.1, found.3),
-  λ found. none_from_list lanes found.0 found.1 bytes some found.2 found.3,
+      let found = list_from_none lanes (count_of bytes) header.0 bytes some small header.1 none in
+      (header.0, found.0, found.2),
+  λ found. none_from_list lanes found.0 found.1 bytes some found.2,
 )

@@ -1,4 +1,4 @@
--- The loop that reads a text without faults: what is behind the blocks so far.
+-- The loop that reads a text without faults: what is after the blocks so far.
 use Rattle.std.proofs.Common.{◌≡◌, ℕ, zero, suc, ◌+◌, ◌-◌, ◌*◌, ◌^◌, ◌<◌, ◌≤◌, List, [], ◌∷◌, ◌++◌, length, take, drop, get_or, None, refl, sym, ◌∙◌, ap, arith, append_assoc, false, mul-suc, one-add}
 use Rattle.std.proofs.lemmas.List.{take_all, length-append, length-take-le, length-drop, take-append-drop, take_at, drop_at, get_or_append_left, get_or-take}
 use Rattle.std.proofs.lemmas.Bool.{both_ways, false_from_ne_true}
@@ -7,16 +7,15 @@ use Rattle.bitpacking.specs.declared.kind.Kind.{Kind}
 use Rattle.bitpacking.specs.declared.kind.Kind.TheVariants as blocks
 use Rattle.bitpacking.specs.Bits.{AreBytes}
 use Rattle.bitpacking.specs.Codes.{AreWords, codes, start}
-use Rattle.bitpacking.specs.Width.{Least}
-use Rattle.bitpacking.specs.Layout.{size, Holds, Layout}
-use Rattle.bitpacking.proofs.LawProofs.{one_block, one_least_width, fits_greater}
-use Rattle.bitpacking.proofs.Blocks.{length-codes}
+use Rattle.bitpacking.specs.Width.{IsWidth, Least}
+use Rattle.bitpacking.specs.Layout.{codes_of, size, Holds, Layout}
+use Rattle.bitpacking.proofs.ForCallers.{as_many_codes, codes_are_words, fits_greater, length-bytes_of_words, one_block, one_layout_codes, one_least_width}
 use Rattle.bitpack.specs.Chains.{next_kind, second_kind}
-use Rattle.bitpack.specs.Parts.{numbers, is_loose, codes_of}
-use Rattle.bitpack.specs.Version1.{IsPart1, Blocks1, block_fault1, behind_block1, blocks_fault1}
-use Rattle.bitpack.proofs.PartLemmas.{AreBytes-right, words_of, length-numbers}
-use Rattle.bitpack.proofs.LooseLemmas.{Layout-codes_of_bytes, Decides-loose}
-use Rattle.bitpack.proofs.ChainLemmas.{width_at_most_32}
+use Rattle.bitpacking.specs.Words.{bytes_of_words}
+use Rattle.bitpack.specs.Parts.{is_loose}
+use Rattle.bitpack.specs.Version1.{IsPart1, Blocks1, block_fault1, after_block1, blocks_fault1}
+use Rattle.bitpack.proofs.PartLemmas.{AreBytes-right, words_of}
+use Rattle.bitpack.proofs.LooseLemmas.{Decides-loose}
 use Rattle.bitpack.proofs.TextLemmas.{same_front}
 use Rattle.bitpack.proofs.FaultLemmas.{IsRight, right_from_none, tail_from_none, blocks_left, no_blocks_left, none_first, right, tail_right}
 
@@ -50,26 +49,35 @@ module _ (lanes : ℕ) (kind : Kind) (block bytes : List ℕ) (is : IsRight lane
     parts = refl;
   }
 
-  pub right_parts : bytes ≡ right_part ++ behind_block1 lanes bytes
+  pub right_parts : bytes ≡ right_part ++ after_block1 lanes bytes
   unfolding right_part
   right_parts = parts bytes is.some
     where
       parts : (bytes : List ℕ) → 1 ≤ length bytes
-          → bytes ≡ (get_or bytes 0 0 ∷ take (size lanes (get_or bytes 0 0)) (drop 1 bytes)) ++ behind_block1 lanes bytes
+          → bytes ≡ (get_or bytes 0 0 ∷ take (size lanes (get_or bytes 0 0)) (drop 1 bytes)) ++ after_block1 lanes bytes
       parts [] some = absurd (omega arith)
       parts (width ∷ rest) some = ap (λ zs. width ∷ zs) (sym (take-append-drop (size lanes width) rest))
 
+-- The least width of a block of words is at most 32.
+narrow_least : (kind : Kind) (block : List ℕ) (width : ℕ) → AreWords block → IsWidth kind block width
+    → width ≤ 32
+narrow_least kind block width words least =
+    let found = one_least_width (codes kind block) (codes_are_words kind block words) in
+    let same : width ≡ found.0 = found.3 width least in
+    let narrow : found.0 ≤ 32 = found.1 in
+    omega arith
+
 -- A block whose part is there has no fault.
 pub right_from_part : (lanes index : ℕ) (kind : Kind) (block part rest : List ℕ) → AreWords block → IsPart1 lanes kind block part
-    → (block_fault1 lanes index (part ++ rest) ≡ None) × (behind_block1 lanes (part ++ rest) ≡ rest)
+    → (block_fault1 lanes index (part ++ rest) ≡ None) × (after_block1 lanes (part ++ rest) ≡ rest)
 right_from_part lanes index kind block part rest words is =
     let whole : part ++ rest ≡ is.width ∷ (is.body ++ rest) = ap (λ zs. zs ++ rest) is.parts in
     let long : length is.body ≡ size lanes is.width = is.holds.byte_count in
     let front : take (size lanes is.width) (is.body ++ rest) ≡ is.body = take_at is.body rest (size lanes is.width) long in
     let tight : is_loose lanes is.width is.body ≡ false = tight_from_least lanes is.width (codes kind block) is.body is.holds is.least in (
-      right lanes index is.width (part ++ rest) (is.body ++ rest) whole (width_at_most_32 one_least_width kind block is.width words is.least)
+      right lanes index is.width (part ++ rest) (is.body ++ rest) whole (narrow_least kind block is.width words is.least)
           (omega (arith, length-append is.body rest)) (ap (is_loose lanes is.width) front ∙ tight),
-      ap (behind_block1 lanes) whole ∙ drop_at is.body rest (size lanes is.width) long,
+      ap (after_block1 lanes) whole ∙ drop_at is.body rest (size lanes is.width) long,
     )
 
 -- ---- blocks and tail without a fault
@@ -83,7 +91,7 @@ start-next (blocks.StrictlySorted initial) last lt = lt
 block_from_bytes : (lanes width : ℕ) (kind : Kind) (body : List ℕ) → start kind < 2 ^ 32 → width ≤ 32 → length body ≡ size lanes width
     → (block : List ℕ) × AreWords block × Holds lanes width kind block body
 block_from_bytes lanes width kind body small narrow long =
-    let layout = Layout-codes_of_bytes lanes width body long in
+    let layout = (one_layout_codes lanes width body long).0 in
     let found = one_block kind (codes_of lanes width body) small (fits_greater (codes_of lanes width body) width 32 narrow layout.fits) in
     (found.0, found.1, rw found.2 layout)
 
@@ -98,25 +106,25 @@ values_from_none lanes tail (suc count) block kind bytes some small bytes_small 
     let n : ℕ = 32 * lanes in
     let width : ℕ = get_or bytes 0 0 in
     let body : List ℕ = take (size lanes width) (drop 1 bytes) in
-    let behind : List ℕ = behind_block1 lanes bytes in
-    let both = none_first (block_fault1 lanes block bytes) (blocks_fault1 lanes (4 * tail) (block + 1) count behind) none in
+    let later : List ℕ = after_block1 lanes bytes in
+    let both = none_first (block_fault1 lanes block bytes) (blocks_fault1 lanes (4 * tail) (block + 1) count later) none in
     let is = right_from_none lanes block bytes both.0 in
     let long : length body ≡ size lanes width = length-take-le (size lanes width) (drop 1 bytes) is.room in
     let one = block_from_bytes lanes width kind body small is.narrow long in
-    let length_of : length one.0 ≡ n = sym (length-codes kind one.0) ∙ one.2.code_count in
+    let length_of : length one.0 ≡ n = sym (as_many_codes kind one.0) ∙ one.2.code_count in
     let last : ℕ = get_or one.0 (n - 1) 0 in
     let part : List ℕ = right_part lanes kind one.0 bytes is one.2 in
-    let parts : bytes ≡ part ++ behind = right_parts lanes kind one.0 bytes is one.2 in
+    let parts : bytes ≡ part ++ later = right_parts lanes kind one.0 bytes is one.2 in
     let last_small : last < 2 ^ 32 = All-get_or (λ v. v < 2 ^ 32) one.0 (n - 1) 0 (omega arith) one.1 in
-    let more = values_from_none lanes tail count (block + 1) (next_kind kind last) behind some (start-next kind last last_small)
-    (AreBytes-right part behind (rw parts at bytes_small)) both.1 in
+    let more = values_from_none lanes tail count (block + 1) (next_kind kind last) later some (start-next kind last last_small)
+    (AreBytes-right part later (rw parts at bytes_small)) both.1 in
     let same_last : get_or (one.0 ++ more.0) (n - 1) 0 ≡ last = get_or_append_left one.0 more.0 0 (n - 1) (omega arith) in (
       one.0 ++ more.0,
       All-append (λ v. v < 2 ^ 32) one.0 more.0 one.1 more.1,
       omega (arith, length-append one.0 more.0, more.2, mul-suc n count),
       (
         part,
-        behind,
+        later,
         parts,
         rw (take_at one.0 more.0 n length_of) (IsPart1-right lanes kind one.0 bytes is one.2),
         rw (same_last, drop_at one.0 more.0 n length_of) more.3,
@@ -128,23 +136,23 @@ pub none_from_values : (lanes tail count block : ℕ) (kind : Kind) (values byte
     → (blocks_fault1 lanes (4 * tail) block count bytes ≡ None) × (count + 4 * tail ≤ length bytes)
 unfolding blocks_fault1
 none_from_values lanes tail zero block kind values bytes words long is =
-    let length_of : length bytes ≡ 4 * tail = ap length is ∙ omega (arith, length-numbers values) in
+    let length_of : length bytes ≡ 4 * tail = ap length is ∙ omega (arith, length-bytes_of_words values) in
     (tail_right lanes (4 * tail) block bytes length_of, omega arith)
 none_from_values lanes tail (suc count) block kind values bytes words long (part, rest, e, is, more) =
     let n : ℕ = 32 * lanes in
     let P : ℕ → Type 0 = λ v. v < 2 ^ 32 in
     let here = right_from_part lanes block kind (take n values) part rest (All-take P n values words) is in
     let left : length (drop n values) ≡ n * count + tail = simp length-drop (omega (arith, mul-suc n count)) in
-    let behind = none_from_values lanes tail count (block + 1) (second_kind lanes kind values) (drop n values) rest (All-drop P n values words) left more in
+    let later = none_from_values lanes tail count (block + 1) (second_kind lanes kind values) (drop n values) rest (All-drop P n values words) left more in
     let part_long : 1 ≤ length part = omega (arith, ap length is.parts) in (
-      rw (e, here.0, here.1) behind.0,
-      omega (arith, ap length e, length-append part rest, behind.1),
+      rw (e, here.0, here.1) later.0,
+      omega (arith, ap length e, length-append part rest, later.1),
     )
 
-pub behind-is : (lanes taken : ℕ) (bytes : List ℕ) → 1 ≤ length bytes → taken ≡ size lanes (get_or bytes 0 0)
-    → take (length bytes - (1 + taken)) (drop (1 + taken) bytes) ≡ behind_block1 lanes bytes
-behind-is lanes taken [] some e = absurd (omega arith)
-behind-is lanes taken (width ∷ rest) some e =
+pub after_block-is : (lanes taken : ℕ) (bytes : List ℕ) → 1 ≤ length bytes → taken ≡ size lanes (get_or bytes 0 0)
+    → take (length bytes - (1 + taken)) (drop (1 + taken) bytes) ≡ after_block1 lanes bytes
+after_block-is lanes taken [] some e = absurd (omega arith)
+after_block-is lanes taken (width ∷ rest) some e =
     let all : take (length (width ∷ rest) - (1 + taken)) (drop (1 + taken) (width ∷ rest)) ≡ drop (1 + taken) (width ∷ rest) =
     take_all (length (width ∷ rest) - (1 + taken)) (drop (1 + taken) (width ∷ rest)) (omega (arith, length-drop (1 + taken) (width ∷ rest))) in
     all ∙ rw one-add refl ∙ ap (λ n. drop n rest) e
@@ -153,7 +161,7 @@ behind-is lanes taken (width ∷ rest) some e =
 
 -- What was read and what is left are all values.
 abbrev pub Read : ℕ → ℕ → Kind → List ℕ → List ℕ → List ℕ → Type 0
-Read lanes left kind rest out all = (behind : List ℕ) × AreWords behind × Blocks1 lanes left kind behind rest × (out ++ behind ≡ all)
+Read lanes left kind rest out all = (later : List ℕ) × AreWords later × Blocks1 lanes left kind later rest × (out ++ later ≡ all)
 
 pub read_step : (lanes blocks i : ℕ) (kind : Kind) (rest after out block part new all : List ℕ) → 1 ≤ lanes → i < blocks
     → AreWords block → IsPart1 lanes kind block part → rest ≡ part ++ after → new ≡ out ++ block
@@ -162,39 +170,39 @@ pub read_step : (lanes blocks i : ℕ) (kind : Kind) (rest after out block part 
 read_step lanes blocks i kind rest after out block part new all some lt words is parts items before =
     let n : ℕ = 32 * lanes in
     let P : ℕ → Type 0 = λ v. v < 2 ^ 32 in
-    let behind : List ℕ = before.0 in
+    let later : List ℕ = before.0 in
     let one_less : blocks - i ≡ suc (blocks - (i + 1)) = omega arith in
     let more = rw one_less at before.2 in
-    let found = same_front lanes kind block (take n behind) part more.0 after more.1 words (All-take P n behind before.1) is more.3 (sym parts ∙ more.2) in
+    let found = same_front lanes kind block (take n later) part more.0 after more.1 words (All-take P n later before.1) is more.3 (sym parts ∙ more.2) in
     let within : n - 1 < n = omega arith in
-    let last : get_or block (n - 1) 0 ≡ get_or behind (n - 1) 0 = ap (λ xs. get_or xs (n - 1) 0) found.0 ∙ get_or-take n behind (n - 1) 0 within in
-    let whole : new ++ drop n behind ≡ all =
-    ap (λ zs. zs ++ drop n behind) (items ∙ ap (λ zs. out ++ zs) found.0) ∙ append_assoc out (take n behind) (drop n behind)
-    ∙ ap (λ zs. out ++ zs) (take-append-drop n behind) ∙ before.3 in
-    (drop n behind, All-drop P n behind before.1, rw (last, found.2) more.4, whole)
+    let last : get_or block (n - 1) 0 ≡ get_or later (n - 1) 0 = ap (λ xs. get_or xs (n - 1) 0) found.0 ∙ get_or-take n later (n - 1) 0 within in
+    let whole : new ++ drop n later ≡ all =
+    ap (λ zs. zs ++ drop n later) (items ∙ ap (λ zs. out ++ zs) found.0) ∙ append_assoc out (take n later) (drop n later)
+    ∙ ap (λ zs. out ++ zs) (take-append-drop n later) ∙ before.3 in
+    (drop n later, All-drop P n later before.1, rw (last, found.2) more.4, whole)
 
 pub read_done : (lanes blocks i : ℕ) (kind : Kind) (rest out new all : List ℕ) → blocks ≤ i
-    → ((values : List ℕ) → AreWords values → rest ≡ numbers values → new ≡ out ++ values)
+    → ((values : List ℕ) → AreWords values → rest ≡ bytes_of_words values → new ≡ out ++ values)
     → Read lanes (blocks - i) kind rest out all → new ≡ all
 read_done lanes blocks i kind rest out new all le appended before =
     let none : blocks - i ≡ 0 = omega arith in
-    let is : rest ≡ numbers before.0 = rw none at before.2 in
+    let is : rest ≡ bytes_of_words before.0 = rw none at before.2 in
     appended before.0 before.1 is ∙ before.3
 
 -- ---- what is left has no fault
 
 pub right_left : (lanes tail blocks i : ℕ) (bytes : List ℕ) → i < blocks → blocks_fault1 lanes tail i (blocks - i) bytes ≡ None
-    → IsRight lanes bytes × (blocks_fault1 lanes tail (i + 1) (blocks - (i + 1)) (behind_block1 lanes bytes) ≡ None)
+    → IsRight lanes bytes × (blocks_fault1 lanes tail (i + 1) (blocks - (i + 1)) (after_block1 lanes bytes) ≡ None)
 right_left lanes tail blocks i bytes lt none =
-    let behind = blocks_fault1 lanes tail (i + 1) (blocks - (i + 1)) (behind_block1 lanes bytes) in
-    let both = none_first (block_fault1 lanes i bytes) behind (sym (blocks_left lanes tail blocks i bytes lt) ∙ none) in
+    let later = blocks_fault1 lanes tail (i + 1) (blocks - (i + 1)) (after_block1 lanes bytes) in
+    let both = none_first (block_fault1 lanes i bytes) later (sym (blocks_left lanes tail blocks i bytes lt) ∙ none) in
     (right_from_none lanes i bytes both.0, both.1)
 
 pub tail_left : (lanes tail blocks i : ℕ) (bytes : List ℕ) → blocks ≤ i → blocks_fault1 lanes tail i (blocks - i) bytes ≡ None → length bytes ≡ tail
 tail_left lanes tail blocks i bytes le none = tail_from_none lanes tail i bytes (sym (no_blocks_left lanes tail blocks i bytes le) ∙ none)
 
--- The bytes behind a block that was read are those behind its part.
+-- The bytes after a block that was read are those after its part.
 pub after_right : (lanes index : ℕ) (kind : Kind) (block part after rest : List ℕ) → AreWords block → IsPart1 lanes kind block part → rest ≡ part ++ after
-    → behind_block1 lanes rest ≡ after
+    → after_block1 lanes rest ≡ after
 after_right lanes index kind block part after rest words is parts =
-    ap (behind_block1 lanes) parts ∙ (right_from_part lanes index kind block part after words is).1
+    ap (after_block1 lanes) parts ∙ (right_from_part lanes index kind block part after words is).1

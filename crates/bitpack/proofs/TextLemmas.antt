@@ -7,25 +7,23 @@ use Rattle.bitpacking.specs.Bits.{AreBytes}
 use Rattle.bitpacking.specs.Codes.{AreWords, codes}
 use Rattle.bitpacking.specs.Width.{IsWidth}
 use Rattle.bitpacking.specs.Layout.{size}
-use Rattle.bitpacking.proofs.Blocks.{length-codes, AreWords-codes}
-use Rattle.bitpacking.proofs.Widths.{Least-same}
-use Rattle.bitpacking.proofs.LawProofs.{one_layout_bytes, one_least_width}
-use Rattle.bitpacking.proofs.RoundTrips.{bytes_hold_one_block, block_has_one_list}
+use Rattle.bitpacking.proofs.ForCallers.{as_many_codes, block_has_one_list, bytes_hold_one_block, codes_are_words, one_layout_bytes, one_least_width, same_least_width}
 use Rattle.bitpack.specs.Chains.{second_kind}
-use Rattle.bitpack.specs.Parts.{numbers}
+use Rattle.bitpacking.specs.Words.{bytes_of_words}
 use Rattle.bitpack.specs.Version1.{IsPart1, Blocks1}
-use Rattle.bitpack.proofs.PartLemmas.{AreBytes-append, AreBytes-cons, AreBytes-left, AreBytes-right, AreBytes-numbers, same_numbers}
+use Rattle.bitpack.proofs.ChainLemmas.{next-same}
+use Rattle.bitpack.proofs.PartLemmas.{AreBytes-append, AreBytes-cons, AreBytes-left, AreBytes-right, AreBytes-words, same_words}
 
 -- ---- one block
 
 same_width : (lanes : ℕ) (kind : Kind) (block one other : List ℕ) → (a : IsPart1 lanes kind block one) (b : IsPart1 lanes kind block other)
     → b.width ≡ a.width
-same_width lanes kind block one other a b = Least-same (codes kind block) b.width a.width b.least a.least
+same_width lanes kind block one other a b = same_least_width (codes kind block) a.width b.width a.least b.least
 
 pub length-part : (lanes : ℕ) (kind : Kind) (block part : List ℕ) (width : ℕ) → IsPart1 lanes kind block part → IsWidth kind block width
     → length part ≡ 1 + size lanes width
 length-part lanes kind block part width is least =
-    let same : is.width ≡ width = Least-same (codes kind block) is.width width is.least least in
+    let same : is.width ≡ width = same_least_width (codes kind block) width is.width least is.least in
     let long : length is.body ≡ size lanes is.width = is.holds.byte_count in
     let whole : length part ≡ suc (length is.body) = ap length is.parts in
     let size_of : size lanes is.width ≡ size lanes width = ap (size lanes) same in
@@ -52,11 +50,11 @@ same_front lanes kind one other part part' rest rest' words words' a b e =
     let width : a.width ≡ b.width = ap (λ zs. get_or zs 0 0) all in
     let n : ℕ = size lanes a.width in
     let long : length b.body ≡ n = b.holds.byte_count ∙ ap (size lanes) (sym width) in
-    let behind : a.body ++ rest ≡ b.body ++ rest' = ap (drop 1) all in
+    let later : a.body ++ rest ≡ b.body ++ rest' = ap (drop 1) all in
     let body : a.body ≡ b.body =
-    sym (take_at a.body rest n a.holds.byte_count) ∙ ap (take n) behind ∙ take_at b.body rest' n long in
+    sym (take_at a.body rest n a.holds.byte_count) ∙ ap (take n) later ∙ take_at b.body rest' n long in
     let after : rest ≡ rest' =
-    sym (drop_at a.body rest n a.holds.byte_count) ∙ ap (drop n) behind ∙ drop_at b.body rest' n long in (
+    sym (drop_at a.body rest n a.holds.byte_count) ∙ ap (drop n) later ∙ drop_at b.body rest' n long in (
       bytes_hold_one_block lanes a.width kind other one a.body words' words (rw (width, body) b.holds) a.holds,
       a.parts ∙ rw (width, body) (sym b.parts),
       after,
@@ -66,8 +64,8 @@ same_front lanes kind one other part part' rest rest' words words' a b e =
 pub part_of : (lanes : ℕ) (kind : Kind) (block : List ℕ) → 0 < lanes → AreWords block → length block ≡ 32 * lanes
     → (part : List ℕ) × AreBytes part × IsPart1 lanes kind block part
 part_of lanes kind block some words long =
-    let least = one_least_width (codes kind block) (AreWords-codes kind block words) in
-    let count : length (codes kind block) ≡ 32 * lanes = length-codes kind block ∙ long in
+    let least = one_least_width (codes kind block) (codes_are_words kind block words) in
+    let count : length (codes kind block) ≡ 32 * lanes = as_many_codes kind block ∙ long in
     let found = one_layout_bytes lanes least.0 (codes kind block) some count least.2.fits in
     let narrow : least.0 ≤ 32 = least.1 in (
       least.0 ∷ found.0,
@@ -76,15 +74,6 @@ part_of lanes kind block some words long =
     )
 
 -- ---- blocks and tail
-
-pub next-same : (lanes : ℕ) (kind : Kind) (values others : List ℕ) → 1 ≤ lanes → take (32 * lanes) values ≡ take (32 * lanes) others
-    → second_kind lanes kind values ≡ second_kind lanes kind others
-next-same lanes kind values others some front =
-    let n : ℕ = 32 * lanes in
-    let within : n - 1 < n = omega arith in
-    let last : get_or values (n - 1) 0 ≡ get_or others (n - 1) 0 =
-    sym (get_or-take n values (n - 1) 0 within) ∙ ap (λ xs. get_or xs (n - 1) 0) front ∙ get_or-take n others (n - 1) 0 within in
-    rw last refl
 
 -- Values have one text.
 pub same_blocks : (lanes count : ℕ) (kind : Kind) (values one other : List ℕ) → 0 < lanes → AreBytes one → AreBytes other
@@ -103,7 +92,7 @@ same_blocks lanes (suc count) kind values one other some small small' (part, res
 -- A text is that of one list.
 pub same_values : (lanes count : ℕ) (kind kind' : Kind) (values others bytes : List ℕ) → 1 ≤ lanes → kind' ≡ kind → AreWords values → AreWords others
     → Blocks1 lanes count kind values bytes → Blocks1 lanes count kind' others bytes → others ≡ values
-same_values lanes zero kind kind' values others bytes some same words words' a b = same_numbers others values words' words (sym b ∙ a)
+same_values lanes zero kind kind' values others bytes some same words words' a b = same_words others values words' words (sym b ∙ a)
 same_values lanes (suc count) kind kind' values others bytes some same words words' (part, rest, e, is, more) (part', rest', e', is', more') =
     let n : ℕ = 32 * lanes in
     let P : ℕ → Type 0 = λ v. v < 2 ^ 32 in
@@ -118,7 +107,7 @@ same_values lanes (suc count) kind kind' values others bytes some same words wor
 -- Values of so many blocks and more have a text.
 pub blocks_of : (lanes count : ℕ) (kind : Kind) (values : List ℕ) → 1 ≤ lanes → AreWords values → 32 * lanes * count ≤ length values
     → (text : List ℕ) × AreBytes text × Blocks1 lanes count kind values text
-blocks_of lanes zero kind values some words room = (numbers values, AreBytes-numbers values, refl)
+blocks_of lanes zero kind values some words room = (bytes_of_words values, AreBytes-words values, refl)
 blocks_of lanes (suc count) kind values some words room =
     let n : ℕ = 32 * lanes in
     let P : ℕ → Type 0 = λ v. v < 2 ^ 32 in

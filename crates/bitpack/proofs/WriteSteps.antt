@@ -1,4 +1,4 @@
--- The loops that measure and write a text: what is behind the blocks so far.
+-- The loops that measure and write a text: what is after the blocks so far.
 use Rattle.std.proofs.Common.{◌≡◌, ℕ, suc, ◌+◌, ◌-◌, ◌*◌, ◌/◌, ◌<◌, ◌≤◌, List, ◌++◌, length, take, drop, get_or, sym, ◌∙◌, ap, arith, append_assoc}
 use Rattle.std.proofs.lemmas.List.{length-append, get_or-take}
 use Rattle.std.proofs.lemmas.Nat.{mul-le}
@@ -7,9 +7,10 @@ use Rattle.bitpacking.specs.Bits.{AreBytes}
 use Rattle.bitpacking.specs.Width.{IsWidth}
 use Rattle.bitpacking.specs.Layout.{size}
 use Rattle.bitpack.specs.Chains.{next_kind, second_kind}
-use Rattle.bitpack.specs.Parts.{numbers}
+use Rattle.bitpacking.specs.Words.{bytes_of_words}
 use Rattle.bitpack.specs.Version1.{IsPart1, Blocks1}
-use Rattle.bitpack.proofs.PartLemmas.{AreBytes-left, AreBytes-right, length-numbers}
+use Rattle.bitpacking.proofs.ForCallers.{length-bytes_of_words}
+use Rattle.bitpack.proofs.PartLemmas.{AreBytes-left, AreBytes-right}
 use Rattle.bitpack.proofs.TextLemmas.{length-part, same_part}
 
 -- ---- the values that are left
@@ -34,30 +35,30 @@ one-less blocks i lt = omega arith
 
 -- ---- how long what is left of a text is
 
-abbrev pub Behind : ℕ → ℕ → Kind → List ℕ → ℕ → ℕ → Type 0
-Behind lanes left kind rest size all = (behind : List ℕ) × Blocks1 lanes left kind rest behind × (7 + all ≡ size + length behind)
+abbrev pub Later : ℕ → ℕ → Kind → List ℕ → ℕ → ℕ → Type 0
+Later lanes left kind rest size all = (later : List ℕ) × Blocks1 lanes left kind rest later × (7 + all ≡ size + length later)
 
-pub behind_step : (lanes blocks i : ℕ) (kind : Kind) (rest : List ℕ) (width size_of all : ℕ) → i < blocks
+pub later_step : (lanes blocks i : ℕ) (kind : Kind) (rest : List ℕ) (width size_of all : ℕ) → i < blocks
     → IsWidth kind (take (32 * lanes) rest) width
-    → Behind lanes (blocks - i) kind rest size_of all
-    → Behind lanes (blocks - (i + 1)) (second_kind lanes kind rest) (drop (32 * lanes) rest) (size_of + (1 + size lanes width)) all
-behind_step lanes blocks i kind rest width size_of all lt least before =
+    → Later lanes (blocks - i) kind rest size_of all
+    → Later lanes (blocks - (i + 1)) (second_kind lanes kind rest) (drop (32 * lanes) rest) (size_of + (1 + size lanes width)) all
+later_step lanes blocks i kind rest width size_of all lt least before =
     let more = rw (one-less blocks i lt) at before.1 in
     let long : length more.0 ≡ 1 + size lanes width = length-part lanes kind (take (32 * lanes) rest) more.0 width more.3 least in
     let both : length before.0 ≡ length more.0 + length more.1 = ap length more.2 ∙ length-append more.0 more.1 in
     (more.1, more.4, omega (arith, before.2))
 
-pub behind_done : (lanes blocks i : ℕ) (kind : Kind) (rest : List ℕ) (size_of all : ℕ) → blocks ≤ i
-    → Behind lanes (blocks - i) kind rest size_of all → 7 + all ≡ size_of + 4 * length rest
-behind_done lanes blocks i kind rest size_of all le before =
+pub later_done : (lanes blocks i : ℕ) (kind : Kind) (rest : List ℕ) (size_of all : ℕ) → blocks ≤ i
+    → Later lanes (blocks - i) kind rest size_of all → 7 + all ≡ size_of + 4 * length rest
+later_done lanes blocks i kind rest size_of all le before =
     let none : blocks - i ≡ 0 = omega arith in
-    let is : before.0 ≡ numbers rest = rw none at before.1 in
-    omega (arith, before.2, ap length is, length-numbers rest)
+    let is : before.0 ≡ bytes_of_words rest = rw none at before.1 in
+    omega (arith, before.2, ap length is, length-bytes_of_words rest)
 
--- ---- what is written, with what is left of the text behind it
+-- ---- what is written, with what is left of the text after it
 
 abbrev pub Written : ℕ → ℕ → Kind → List ℕ → List ℕ → List ℕ → Type 0
-Written lanes left kind rest out all = (behind : List ℕ) × AreBytes behind × Blocks1 lanes left kind rest behind × (out ++ behind ≡ all)
+Written lanes left kind rest out all = (later : List ℕ) × AreBytes later × Blocks1 lanes left kind rest later × (out ++ later ≡ all)
 
 pub written_step : (lanes blocks i : ℕ) (kind : Kind) (rest out part new all : List ℕ) → 0 < lanes → i < blocks
     → AreBytes part → IsPart1 lanes kind (take (32 * lanes) rest) part → new ≡ out ++ part
@@ -87,13 +88,13 @@ written_room lanes blocks i kind rest out part all lt is before =
     omega arith
 
 pub written_tail : (lanes blocks i : ℕ) (kind : Kind) (rest out all : List ℕ) → blocks ≤ i
-    → Written lanes (blocks - i) kind rest out all → out ++ numbers rest ≡ all
+    → Written lanes (blocks - i) kind rest out all → out ++ bytes_of_words rest ≡ all
 written_tail lanes blocks i kind rest out all le before =
     let none : blocks - i ≡ 0 = omega arith in
-    let is : before.0 ≡ numbers rest = rw none at before.2 in
+    let is : before.0 ≡ bytes_of_words rest = rw none at before.2 in
     ap (λ zs. out ++ zs) (sym is) ∙ before.3
 
 pub written_tail_room : (lanes blocks i : ℕ) (kind : Kind) (rest out all : List ℕ) → blocks ≤ i
     → Written lanes (blocks - i) kind rest out all → length out + 4 * length rest ≡ length all
 written_tail_room lanes blocks i kind rest out all le before =
-    omega (arith, ap length (written_tail lanes blocks i kind rest out all le before), length-append out (numbers rest), length-numbers rest)
+    omega (arith, ap length (written_tail lanes blocks i kind rest out all le before), length-append out (bytes_of_words rest), length-bytes_of_words rest)

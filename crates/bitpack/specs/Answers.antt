@@ -75,7 +75,6 @@ list_text kind values = listkind_text kind ++ 32 ∷ values_text values
 pub record IsDecoded (lanes : ℕ) (bytes text : List ℕ) : Type 0 where
   pub kind : ListKind
   pub values : List ℕ
-  pub are_words : AreWords values
   pub list : List1 lanes kind values bytes
   pub text_is : text ≡ list_text kind values
 

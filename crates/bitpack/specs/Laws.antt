@@ -40,10 +40,10 @@ OneText1 = (lanes : ℕ) (kind : ListKind) (values text other : List ℕ) → 0 
 
 -- a text of version 1 is that of one kind and one list
 abbrev pub OneList1 : Type 0
-OneList1 = (lanes : ℕ) (kind kind' : ListKind) (values others text : List ℕ) → 0 < lanes → AreWords values → AreWords others
+OneList1 = (lanes : ℕ) (kind kind' : ListKind) (values others text : List ℕ) → 0 < lanes
     → List1 lanes kind values text → List1 lanes kind' others text → (kind' ≡ kind) × (others ≡ values)
 
 -- bytes have no fault exactly where they are the text of some list
 abbrev pub NoFault1 : Type 0
 NoFault1 = (lanes : ℕ) (bytes : List ℕ) → 0 < lanes → AreBytes bytes
-    → (fault1 lanes bytes ≡ None) ↔ ((kind : ListKind) × (values : List ℕ) × AreWords values × List1 lanes kind values bytes)
+    → (fault1 lanes bytes ≡ None) ↔ ((kind : ListKind) × (values : List ℕ) × List1 lanes kind values bytes)

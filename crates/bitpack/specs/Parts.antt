@@ -1,12 +1,10 @@
--- What packed lists of both versions are made of: numbers of four bytes, the header, whole blocks and the tail behind them.
-use Rattle.std.specs.Prelude.{◌≡◌, ℕ, ◌-◌, ◌*◌, ◌/◌, ◌%◌, ◌^◌, ◌≤◌, Bool, not, ◌&&◌, ◌==◌, nat_lt, if◌then◌else◌, List, ◌∷◌, map, length, take, drop, slice_index, Option, Some, None, Result, Ok, Err}
-use Rattle.std.specs.Int.{w32, to_le_bytes, from_le_bytes}
-use Rattle.std.specs.List.{range_with_len, flat_map, list_all}
+-- What packed lists of both versions are made of: the header, whole blocks and the tail after them.
+use Rattle.std.specs.Prelude.{◌≡◌, ℕ, ◌-◌, ◌*◌, ◌/◌, ◌%◌, ◌^◌, ◌≤◌, Bool, not, ◌&&◌, ◌==◌, nat_lt, if◌then◌else◌, List, [], ◌∷◌, length, take, drop, slice_index, Option, Some, None, Result, Ok, Err}
+use Rattle.std.specs.List.{list_all}
 use Rattle.bitpacking.specs.declared.kind.Kind.{Kind}
 use Rattle.bitpacking.specs.declared.kind.Kind.TheVariants as blocks
-use Rattle.bitpacking.specs.Words.{joined}
-use Rattle.bitpacking.specs.Bits.{bit_of}
-use Rattle.bitpacking.specs.Layout.{place}
+use Rattle.bitpacking.specs.Words.{bytes_of_words, word}
+use Rattle.bitpacking.specs.Layout.{codes_of}
 use Rattle.bitpack.specs.declared.list_kind.ListKind.{ListKind}
 use Rattle.bitpack.specs.declared.list_kind.ListKind.TheVariants as lists
 use Rattle.bitpack.specs.declared.list_error.ListError.{ListError}
@@ -28,23 +26,9 @@ number_of Trailing = 11
 number_of Memory = 12
 
 -- a test finds the fault that there is, if there is one
-abbrev pub Finds : {A : Type 0} → Result A ListError → Option ListError → Type 0
-Finds (Ok _) fault = fault ≡ None
-Finds (Err found) fault = fault ≡ Some found
-
--- ---- numbers
-
--- the four bytes of a number, the lowest first
-unfoldable pub four_bytes : ℕ → List ℕ
-four_bytes number = to_le_bytes w32 number
-
--- the number whose four bytes stand from this index on
-unfoldable pub number_at : List ℕ → ℕ → ℕ
-number_at bytes index = from_le_bytes w32 (drop index bytes)
-
--- numbers end to end
-abbrev pub numbers : List ℕ → List ℕ
-numbers values = flat_map four_bytes values
+abbrev pub FindsFault : {A : Type 0} → Result A ListError → Option ListError → Type 0
+FindsFault (Ok _) fault = fault ≡ None
+FindsFault (Err found) fault = fault ≡ Some found
 
 -- ---- the header
 
@@ -54,8 +38,12 @@ kind_byte lists.Sorted = 1
 kind_byte lists.StrictlySorted = 2
 
 -- the seven bytes before the blocks
-abbrev pub header : ℕ → ListKind → ℕ → ℕ → List ℕ
-header version kind lanes count = version ∷ kind_byte kind ∷ lanes ∷ four_bytes count
+unfoldable pub header : ℕ → ListKind → ℕ → ℕ → List ℕ
+header version kind lanes count = version ∷ kind_byte kind ∷ lanes ∷ bytes_of_words (count ∷ [])
+
+-- the count of values in a header: the word from byte 3 on
+abbrev pub count_of : List ℕ → ℕ
+count_of bytes = word (drop 3 bytes) 0
 
 -- the first fault of a header
 unfoldable pub header_fault : ℕ → ℕ → List ℕ → Option ListError
@@ -64,7 +52,7 @@ header_fault version lanes bytes =
     else if not (slice_index bytes 0 == version) then Some (BadVersion (slice_index bytes 0))
     else if nat_lt 2 (slice_index bytes 1) then Some (BadKind (slice_index bytes 1))
     else if not (slice_index bytes 2 == lanes) then Some (WrongLanes (slice_index bytes 2))
-    else if nat_lt (2 ^ 28) (number_at bytes 3) then Some (TooLong (number_at bytes 3))
+    else if nat_lt (2 ^ 28) (count_of bytes) then Some (TooLong (count_of bytes))
     else None
 
 -- the bytes begin with the header of so many values of a kind
@@ -74,7 +62,7 @@ pub record BeginsWithHeader (version lanes : ℕ) (kind : ListKind) (count : ℕ
 
 -- ---- blocks and tail
 
--- how many whole blocks so many values have, and how many values stand behind them
+-- how many whole blocks so many values have, and how many values follow them
 abbrev pub whole_blocks : ℕ → ℕ → ℕ
 whole_blocks lanes count = count / (32 * lanes)
 
@@ -86,10 +74,6 @@ abbrev pub first_kind : ListKind → Kind
 first_kind lists.Plain = blocks.Plain
 first_kind lists.Sorted = blocks.Sorted 0
 first_kind lists.StrictlySorted = blocks.StrictlySorted None
-
--- the codes that bytes lay out: bit j of code k is the bit at its place
-unfoldable pub codes_of : ℕ → ℕ → List ℕ → List ℕ
-codes_of lanes width bytes = map (λ k. joined 1 (λ j. bit_of bytes (place lanes width k j)) width) (range_with_len 0 (32 * lanes))
 
 -- a width is loose where the codes that the bytes lay out fit a smaller one
 unfoldable pub is_loose : ℕ → ℕ → List ℕ → Bool

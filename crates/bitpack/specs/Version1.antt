@@ -2,13 +2,15 @@
 use Rattle.std.specs.Prelude.{◌≡◌, ℕ, zero, suc, ◌+◌, ◌*◌, List, [], ◌∷◌, ◌++◌, length, take, drop, nat_lt, if◌then◌else◌, Option, Some, None}
 use Rattle.std.specs.Option.{option_or}
 use Rattle.bitpacking.specs.declared.kind.Kind.{Kind}
+use Rattle.bitpacking.specs.Codes.{AreWords}
 use Rattle.bitpacking.specs.Width.{IsWidth}
 use Rattle.bitpacking.specs.Layout.{size, Holds}
+use Rattle.bitpacking.specs.Words.{bytes_of_words}
 use Rattle.bitpack.specs.declared.list_kind.ListKind.{ListKind}
 use Rattle.bitpack.specs.declared.list_error.ListError.{ListError}
 use Rattle.bitpack.specs.declared.list_error.ListError.TheVariants.{Short, BadWidth, LooseWidth, Trailing}
 use Rattle.bitpack.specs.Chains.{second_kind}
-use Rattle.bitpack.specs.Parts.{header_fault, numbers, number_at, whole_blocks, tail_values, first_kind, is_loose, BeginsWithHeader}
+use Rattle.bitpack.specs.Parts.{header_fault, count_of, whole_blocks, tail_values, first_kind, is_loose, BeginsWithHeader}
 
 -- ---- the text of a list
 
@@ -22,16 +24,17 @@ pub record IsPart1 (lanes : ℕ) (kind : Kind) (block part : List ℕ) : Type 0 
 
 -- the parts of so many whole blocks, and the tail's values
 abbrev pub Blocks1 : ℕ → ℕ → Kind → List ℕ → List ℕ → Type 0
-Blocks1 lanes zero kind values bytes = bytes ≡ numbers values
+Blocks1 lanes zero kind values bytes = bytes ≡ bytes_of_words values
 Blocks1 lanes (suc count) kind values bytes =
     (part : List ℕ) × (rest : List ℕ) × (bytes ≡ part ++ rest)
     × IsPart1 lanes kind (take (32 * lanes) values) part
     × Blocks1 lanes count (second_kind lanes kind values) (drop (32 * lanes) values) rest
 
--- the bytes are the text of the values
+-- the values are words, and the bytes are their text
 pub record List1 (lanes : ℕ) (kind : ListKind) (values bytes : List ℕ) : Type 0 where
+  pub words : AreWords values
   pub begins : BeginsWithHeader 1 lanes kind (length values) bytes
-  pub behind : Blocks1 lanes (whole_blocks lanes (length values)) (first_kind kind) values (drop 7 bytes)
+  pub blocks : Blocks1 lanes (whole_blocks lanes (length values)) (first_kind kind) values (drop 7 bytes)
 
 -- ---- the first fault of bytes
 
@@ -44,10 +47,10 @@ block_fault1 lanes block (width ∷ bytes) =
     else if is_loose lanes width (take (size lanes width) bytes) then Some (LooseWidth block width)
     else None
 
--- the bytes behind that block
-abbrev pub behind_block1 : ℕ → List ℕ → List ℕ
-behind_block1 lanes [] = []
-behind_block1 lanes (width ∷ bytes) = drop (size lanes width) bytes
+-- the bytes after that block
+abbrev pub after_block1 : ℕ → List ℕ → List ℕ
+after_block1 lanes [] = []
+after_block1 lanes (width ∷ bytes) = drop (size lanes width) bytes
 
 -- of so many blocks, the first of them with this number, and of the tail that has so many bytes
 unfoldable pub blocks_fault1 : ℕ → ℕ → ℕ → ℕ → List ℕ → Option ListError
@@ -56,9 +59,9 @@ blocks_fault1 lanes tail block zero bytes =
     else if nat_lt tail (length bytes) then Some Trailing
     else None
 blocks_fault1 lanes tail block (suc count) bytes =
-    option_or (block_fault1 lanes block bytes) (blocks_fault1 lanes tail (block + 1) count (behind_block1 lanes bytes))
+    option_or (block_fault1 lanes block bytes) (blocks_fault1 lanes tail (block + 1) count (after_block1 lanes bytes))
 
--- of what stands behind the header of so many values: a byte for each block and the tail are there, and each block is right
+-- of what comes after the header of so many values: a byte for each block and the tail are there, and each block is right
 unfoldable pub body_fault1 : ℕ → ℕ → List ℕ → Option ListError
 body_fault1 lanes count bytes =
     let blocks = whole_blocks lanes count in
@@ -67,4 +70,4 @@ body_fault1 lanes count bytes =
 
 -- of a text of version 1
 unfoldable pub fault1 : ℕ → List ℕ → Option ListError
-fault1 lanes bytes = option_or (header_fault 1 lanes bytes) (body_fault1 lanes (number_at bytes 3) (drop 7 bytes))
+fault1 lanes bytes = option_or (header_fault 1 lanes bytes) (body_fault1 lanes (count_of bytes) (drop 7 bytes))

@@ -1,12 +1,18 @@
 //! Chains: many blocks of one kind, each of which goes on from the last value of the one before.
 
 ghost use Rattle.std.specs.Prelude.{◌≡◌, ◌*◌, ◌≤◌, All, length, take, drop, sum};
-ghost use Rattle.bitpacking.specs.Codes.{codes};
-ghost use Rattle.bitpacking.specs.Width.{Fits, IsWidth};
-ghost use Rattle.bitpacking.specs.Layout.{Holds, size};
+ghost use Rattle.bitpacking.specs.Width.{IsWidth};
+ghost use Rattle.bitpacking.specs.Layout.{size};
+ghost use Rattle.bitpacking.specs.Calls.{CanPack, CanUnpack, IsPacked, IsUnpacked};
 ghost use Rattle.bitpack.specs.Chains.{Chained, Loose};
 
 use bitpacking::{BitPacker, Kind};
+
+/// The most values of a block: 32 in each of 8 lanes.
+pub(crate) const LONGEST_BLOCK: usize = 256;
+
+/// The most bytes of a block: its values at 32 bits each.
+pub(crate) const LONGEST_BODY: usize = 1024;
 
 /// Packs blocks of one kind, each at its least width, and returns the number of bytes written.
 ///
@@ -22,6 +28,8 @@ pub fn pack_all<P: BitPacker>(
     requires blocks { length values.now ≡ P.BLOCK_LEN * length widths.old }
     requires room { 4 * length values.now ≤ length out.old }
     ensures size { result ≡ 4 * P.lanes * sum widths.new }
+    ensures few { result ≤ 4 * length values.now }
+    ensures narrow { All (λ width. width ≤ 32) widths.new }
     ensures chain { Chained P.lanes kind values.now widths.new (take result out.new) }
     ensures rest { drop result out.new ≡ drop result out.old }
 {
@@ -77,13 +85,9 @@ pub(crate) fn compress_kind<P: BitPacker>(
     out: &mut [u8],
     width: u8,
 ) -> usize
-    requires block { length block.now ≡ P.BLOCK_LEN }
-    requires width { width ≤ 32 }
-    requires room { size P.lanes width ≤ length out.old }
-    requires fits { Fits (codes kind block.now) width }
+    requires { CanPack P.lanes width kind block.now out.old }
     ensures size { result ≡ size P.lanes width }
-    ensures bytes { Holds P.lanes width kind block.now (take (size P.lanes width) out.new) }
-    ensures rest { drop (size P.lanes width) out.new ≡ drop (size P.lanes width) out.old }
+    ensures packed { IsPacked P.lanes width kind block.now out.old out.new }
 {
     match kind {
         Kind::Plain => packer.compress(block, out, width),
@@ -102,12 +106,9 @@ pub(crate) fn decompress_kind<P: BitPacker>(
     block: &mut [u32],
     width: u8,
 ) -> usize
-    requires width { width ≤ 32 }
-    requires bytes { size P.lanes width ≤ length bytes.now }
-    requires room { P.BLOCK_LEN ≤ length block.old }
+    requires { CanUnpack P.lanes width bytes.now block.old }
     ensures size { result ≡ size P.lanes width }
-    ensures block { Holds P.lanes width kind (take P.BLOCK_LEN block.new) (take (size P.lanes width) bytes.now) }
-    ensures rest { drop P.BLOCK_LEN block.new ≡ drop P.BLOCK_LEN block.old }
+    ensures unpacked { IsUnpacked P.lanes width kind bytes.now block.old block.new }
 {
     match kind {
         Kind::Plain => packer.decompress(bytes, block, width),

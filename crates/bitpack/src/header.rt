@@ -1,15 +1,18 @@
 //! The seven bytes before the blocks of a packed list, in both versions: version, kind, lanes, and the count of values.
 
 ghost use Rattle.std.specs.Prelude.{◌≡◌, ◌+◌, ◌^◌, ◌≤◌, ◌<◌, ◌++◌, OnOk, IfOk, length, vec_len, vec_capacity};
-ghost use Rattle.bitpack.specs.Parts.{BeginsWithHeader, Finds, header, header_fault};
+ghost use Rattle.bitpack.specs.Parts.{BeginsWithHeader, FindsFault, header, header_fault};
 
 use super::list_error::ListError;
 use super::list_kind::ListKind;
 use super::little_endian::read_one;
-use super::room::append;
+use super::reserved::append;
 
-/// How many values a list may have.
-pub(crate) const MOST_VALUES: usize = 1 << 28;
+/// The bytes of a header.
+pub(crate) const HEADER_LEN: usize = 7;
+
+/// The most values of a list.
+pub(crate) const LONGEST_LIST: usize = 1 << 28;
 
 /// What a header says of its list.
 #[derive(Clone, Copy)]
@@ -22,11 +25,11 @@ impl Header {
     /// Reads the header of a text of this version, for a packer of so many lanes.
     #[tactic(auto, unfolding(crate::specs::Parts::header_fault))]
     pub(crate) fn read(version: u8, lanes: usize, bytes: &[u8]) -> Result<Header, ListError>
-        ensures fault { Finds result (header_fault version lanes bytes.now) }
+        ensures fault { FindsFault result (header_fault version lanes bytes.now) }
         ensures header { IfOk result (λ found. BeginsWithHeader version lanes found.kind found.count bytes.now) }
-        ensures long { OnOk result (7 ≤ length bytes.now) }
+        ensures long { OnOk result (HEADER_LEN ≤ length bytes.now) }
     {
-        if bytes.len() < 7 {
+        if bytes.len() < HEADER_LEN {
             return Err(ListError::Short);
         }
         if bytes[0] != version {
@@ -42,7 +45,7 @@ impl Header {
             return Err(ListError::WrongLanes(bytes[2]));
         }
         let count = read_one(bytes, 3) as usize;
-        if count > MOST_VALUES {
+        if count > LONGEST_LIST {
             return Err(ListError::TooLong(count));
         }
         Ok(Header { kind, count })
@@ -51,8 +54,8 @@ impl Header {
     /// Appends the header.
     pub(crate) fn write(self, version: u8, lanes: usize, out: &mut Vec<u8>)
         requires lanes { lanes < 2 ^ 8 }
-        requires count { self.count ≤ 2 ^ 28 }
-        requires room { vec_len out.old + 7 ≤ vec_capacity out.old }
+        requires count { self.count ≤ LONGEST_LIST }
+        requires room { vec_len out.old + HEADER_LEN ≤ vec_capacity out.old }
         ensures items { out.new.items ≡ out.old.items ++ header version self.kind lanes self.count }
         ensures capacity { vec_capacity out.old ≤ vec_capacity out.new }
     {

@@ -1,19 +1,15 @@
 //! Laws of the definitions, each the contract of a function that does nothing at run time, for generic code to call.
 //!
-//! The definitions stand in `specs/`: `Loose` and `Chained` in Chains; `header`, `is_loose` and the other parts of packed lists
+//! The definitions are in `specs/`: `Loose` and `Chained` in Chains; `header`, `is_loose` and the other parts of packed lists
 //! in Parts; `List1` and `fault1` in Version1; `Spells` and the texts of fields in Grammar; `IsAnswer` and the replies in
 //! Answers; the lines of an input and `AreAnswers` in Lines.
 
 ghost use Rattle.bitpack.specs.Laws.{ChainsReadBack, LooseFitsSmaller, NoFault1, OneAnswer, OneCommand, OneList1, OneText1};
 
-use bitpacking::laws::round_trips;
-
 /// `unpack_all` gives back the values that `pack_all` was given.
 pub fn chains_read_back()
     ensures { ChainsReadBack }
-{
-    round_trips();
-}
+{}
 
 /// A line spells at most one command.
 pub fn one_command()

@@ -1,7 +1,7 @@
 //! Chains of packed blocks, packed lists, and the line program.
 //!
-//! [`chain`] packs many blocks of one kind end to end. [`list`] writes a list of any length as one text, and reads a text that
-//! may be anyone's. [`run`] reads lines to the end of a reader and writes the answer to each; [`ending`] says how a program
+//! [`chain`] packs many blocks of one kind end to end. [`list`] writes a list of any length as one text, and reads untrusted
+//! texts. [`run`] reads lines to the end of a reader and writes the answer to each; [`ending`] says how a program
 //! then ends.
 //!
 //! ```text
@@ -21,7 +21,7 @@ pub mod list;
 mod list_error;
 mod list_kind;
 mod little_endian;
-mod room;
+mod reserved;
 mod run_error;
 #[cfg(test)]
 mod tests;

@@ -1,4 +1,4 @@
-//! Packed lists of version 1: a header, the whole blocks, each behind its least width, and the values that are left.
+//! Packed lists of version 1: a header, the whole blocks, each after its least width, and the values that are left.
 //!
 //! ```text
 //! 01 02 01 21 00 00 00    version 1, strictly sorted, 1 lane, 33 values

@@ -64,7 +64,7 @@ impl fmt::Display for ListError {
             ListError::BadVersion(version) => write!(f, "version {version} is not read here"),
             ListError::BadKind(kind) => write!(f, "kind {kind} does not serve here"),
             ListError::WrongLanes(lanes) => {
-                write!(f, "the text has {lanes} lanes, and the packer has not")
+                write!(f, "the text has {lanes} lanes, unlike the packer")
             }
             ListError::TooLong(count) => write!(f, "{count} values are more than 268435456"),
             ListError::BadWidth(block, width) => {
@@ -91,7 +91,7 @@ impl fmt::Display for ListError {
             ListError::NotSorted(position) => {
                 write!(f, "the value at position {position} is out of order")
             }
-            ListError::Trailing => write!(f, "bytes are left over behind the last value"),
+            ListError::Trailing => write!(f, "bytes are left over after the last value"),
             ListError::Memory => write!(f, "out of memory"),
         }
     }

@@ -10,15 +10,15 @@ use bitpacking::Kind;
 pub enum ListKind {
     /// The values.
     Plain,
-    /// The difference of each value and the one before it, modulo 2 ^ 32. Before the first stands 0.
+    /// The difference of each value and the one before it, modulo 2 ^ 32. Before the first comes 0.
     Sorted,
-    /// One less than that, modulo 2 ^ 32. Before the first stands the last number, 4294967295, so that a list may begin
+    /// One less than that, modulo 2 ^ 32. Before the first comes `u32::MAX`, so that a list may begin
     /// with 0.
     StrictlySorted,
 }
 
 impl ListKind {
-    /// The byte that stands for the kind.
+    /// The byte of the kind.
     pub(crate) fn byte(self) -> u8
         ensures { result ≡ kind_byte self }
     {

@@ -1,16 +1,16 @@
-//! Numbers of four bytes, the lowest first: one of them, and the tail of a list, which is such numbers end to end.
+//! Words of four bytes, the lowest first: one of them, and the tail of a list, which is its values as such words.
 
-ghost use Rattle.std.specs.Prelude.{◌≡◌, ◌+◌, ◌*◌, ◌/◌, ◌≤◌, ◌++◌, ℕ, List, length, vec_len, vec_capacity};
+ghost use Rattle.std.specs.Prelude.{◌≡◌, ◌+◌, ◌*◌, ◌/◌, ◌≤◌, ◌++◌, ℕ, List, drop, length, vec_len, vec_capacity};
 ghost use Rattle.bitpacking.specs.Codes.{AreWords};
-ghost use Rattle.bitpack.specs.Parts.{number_at, numbers};
+ghost use Rattle.bitpacking.specs.Words.{bytes_of_words, word};
 
-use super::room::append;
+use super::reserved::append;
 
-/// The number whose bytes stand from this index on.
-#[tactic(auto, using(crate::proofs::PartLemmas::is_number_at))]
+/// The word whose bytes are those from this index on.
+#[tactic(auto, using(crate::proofs::PartLemmas::is_word))]
 pub(crate) fn read_one(bytes: &[u8], index: usize) -> u32
     requires { index + 4 ≤ length bytes.now }
-    ensures { result ≡ number_at bytes.now index }
+    ensures { result ≡ word (drop index bytes.now) 0 }
 {
     u32::from_le_bytes([
         bytes[index],
@@ -23,7 +23,7 @@ pub(crate) fn read_one(bytes: &[u8], index: usize) -> u32
 /// Appends the values whose bytes these are, where there is room for them.
 pub(crate) fn read_all(bytes: &[u8], out: &mut Vec<u32>)
     requires room { vec_len out.old + length bytes.now / 4 ≤ vec_capacity out.old }
-    ensures items { (values : List ℕ) → AreWords values → bytes.now ≡ numbers values → out.new.items ≡ out.old.items ++ values }
+    ensures items { (values : List ℕ) → AreWords values → bytes.now ≡ bytes_of_words values → out.new.items ≡ out.old.items ++ values }
 {
     for index in 0..bytes.len() / 4 {
         out.push_reserved(read_one(bytes, 4 * index));
@@ -33,7 +33,7 @@ pub(crate) fn read_all(bytes: &[u8], out: &mut Vec<u32>)
 /// Appends the bytes of the values, where there is room for them.
 pub(crate) fn write_all(values: &[u32], out: &mut Vec<u8>)
     requires room { vec_len out.old + 4 * length values.now ≤ vec_capacity out.old }
-    ensures items { out.new.items ≡ out.old.items ++ numbers values.now }
+    ensures items { out.new.items ≡ out.old.items ++ bytes_of_words values.now }
 {
     for value in values {
         append(out, &value.to_le_bytes());

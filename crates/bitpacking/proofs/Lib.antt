@@ -1,20 +1,20 @@
-pub mod Facts
-pub mod Digits
-pub mod LaneNumbers
-pub mod Places
-pub mod OneToOne
-pub mod Blocks
-pub mod Widths
-pub mod Lanes
-pub mod PackSteps
-pub mod UnpackSteps
-pub mod Storing
-pub mod Parts
-pub mod RegisterLemmas
-pub mod RowSteps
-pub mod OrderLemmas
-pub mod RoundTrips
-pub mod PackedRows
-pub mod UnpackedRows
-pub mod LawProofs
-pub mod WorkedProofs
+mod Facts
+mod Digits
+mod LaneNumbers
+mod Places
+mod OneToOne
+mod Blocks
+mod Widths
+mod Lanes
+mod PackSteps
+mod UnpackSteps
+mod Storing
+mod Parts
+mod RegisterLemmas
+mod RowSteps
+mod OrderLemmas
+mod RoundTrips
+mod PackedRows
+mod UnpackedRows
+pub mod ForCallers
+mod WorkedProofs

@@ -10,6 +10,7 @@ use Rattle.std.proofs.lemmas.List.{get_or_past, ext_get_or}
 use Rattle.std.proofs.lemmas.List.FromFn.{length-map-range_with_len, get_or-map-range_with_len}
 use Rattle.bitpacking.specs.Width.{Fits}
 use Rattle.bitpacking.specs.Layout.{place, Layout, size}
+unfoldable pub use Rattle.bitpacking.specs.Layout.{codes_of}
 use Rattle.bitpacking.proofs.Digits.{joined-lt, bit_at-joined}
 use Rattle.bitpacking.proofs.Places.{code_of, offset_of, of_place, place_lt, place_of}
 
@@ -105,9 +106,6 @@ same_bytes-from_layout lanes width values xs ys some small small' layout layout'
     rw back.2 at e)
 
 -- ---- the codes of bytes
-unfoldable pub codes_of : ℕ → ℕ → List ℕ → List ℕ
-codes_of lanes width bytes = made (λ k. joined 1 (λ j. bit_of bytes (place lanes width k j)) width) (32 * lanes)
-
 pub bit_of-lt : (bytes : List ℕ) (t : ℕ) → bit_of bytes t < 2
 bit_of-lt bytes t = bit_at-lt (get_or bytes (t / 8) 0) (t % 8)
 

@@ -1,5 +1,6 @@
 -- Laws of the format, of the codes and of the width. Each is proved of the definitions alone.
 use Rattle.std.specs.Prelude.{◌≡◌, ◌≢◌, ℕ, ◌+◌, ◌-◌, ◌*◌, ◌/◌, ◌%◌, ◌^◌, ◌<◌, ◌≤◌, ◌⊎◌, List, [], ◌∷◌, length, map, take, drop, slice_index, None, Some}
+use Rattle.std.specs.Int.{from_le_bytes, w32}
 use Rattle.std.specs.List.{range_with_len}
 use Rattle.std.specs.List.Sorted.{IsNonDecreasing, IsStrictlyIncreasing}
 use Rattle.bitpacking.specs.declared.kind.Kind.{Kind}
@@ -7,7 +8,8 @@ use Rattle.bitpacking.specs.declared.kind.Kind.TheVariants.{Sorted, StrictlySort
 use Rattle.bitpacking.specs.Bits.{AreBytes}
 use Rattle.bitpacking.specs.Codes.{AreWords, codes, start}
 use Rattle.bitpacking.specs.Width.{Fits, IsWidth, Least}
-use Rattle.bitpacking.specs.Layout.{place, size, Holds, Layout}
+use Rattle.bitpacking.specs.Layout.{codes_of, place, size, Holds, Layout}
+use Rattle.bitpacking.specs.Words.{bytes_of_words, word}
 use Rattle.bitpacking.specs.Calls.{IsPacked, IsUnpacked}
 
 -- every bit of the bytes of a block is the place of one bit of one code, and of no other
@@ -22,11 +24,19 @@ OneLayoutBytes = (lanes width : ℕ) (codes : List ℕ) → 0 < lanes → length
     → (bytes : List ℕ) × AreBytes bytes × Layout lanes width codes bytes
     × ((others : List ℕ) → AreBytes others → Layout lanes width codes others → others ≡ bytes)
 
--- as many bytes as a block has are the layout of some codes, and any two such lists of codes are equal
+-- as many bytes as a block has are the layout of the codes whose bits are at their places, and of no other codes
 abbrev pub OneLayoutCodes : Type 0
 OneLayoutCodes = (lanes width : ℕ) (bytes : List ℕ) → length bytes ≡ size lanes width
-    → (codes : List ℕ) × Layout lanes width codes bytes
-    × ((others : List ℕ) → Layout lanes width others bytes → others ≡ codes)
+    → Layout lanes width (codes_of lanes width bytes) bytes
+    × ((others : List ℕ) → Layout lanes width others bytes → others ≡ codes_of lanes width bytes)
+
+-- a block has as many codes as values
+abbrev pub AsManyCodes : Type 0
+AsManyCodes = (kind : Kind) (block : List ℕ) → length (codes kind block) ≡ length block
+
+-- the codes of a block are words
+abbrev pub CodesAreWords : Type 0
+CodesAreWords = (kind : Kind) (block : List ℕ) → AreWords block → AreWords (codes kind block)
 
 -- words are the codes of a block, and any two such blocks are equal
 abbrev pub OneBlock : Type 0
@@ -38,6 +48,10 @@ OneBlock = (kind : Kind) (words : List ℕ) → start kind < 2 ^ 32 → AreWords
 abbrev pub OneLeastWidth : Type 0
 OneLeastWidth = (words : List ℕ) → AreWords words
     → (width : ℕ) × (width ≤ 32) × Least words width × ((other : ℕ) → Least words other → other ≡ width)
+
+-- any two least widths are equal
+abbrev pub SameLeastWidth : Type 0
+SameLeastWidth = (codes : List ℕ) (width other : ℕ) → Least codes width → Least codes other → other ≡ width
 
 -- codes that fit a width fit every greater one
 abbrev pub FitsGreater : Type 0
@@ -104,3 +118,11 @@ EqualPackedBuffers = (lanes width : ℕ) (kind : Kind) (block old new other : Li
 abbrev pub EqualUnpackedValues : Type 0
 EqualUnpackedValues = (lanes width : ℕ) (kind : Kind) (bytes old new other : List ℕ) → AreWords new → AreWords other
     → IsUnpacked lanes width kind bytes old new → IsUnpacked lanes width kind bytes old other → other ≡ new
+
+-- word q is the number that the library reads from the four bytes from byte 4 * q on
+abbrev pub WordsAreLittleEndian : Type 0
+WordsAreLittleEndian = (bytes : List ℕ) (q : ℕ) → word bytes q ≡ from_le_bytes w32 (drop (4 * q) bytes)
+
+-- words are read back from their bytes
+abbrev pub WordsReadBack : Type 0
+WordsReadBack = (words : List ℕ) (q : ℕ) → AreWords words → q < length words → word (bytes_of_words words) q ≡ slice_index words q

@@ -1,5 +1,6 @@
--- The little-endian words of a list of bytes, as the loads and stores of registers name them.
+-- Numbers from their digits, and the little-endian words of a list of bytes.
 use Rattle.std.specs.Prelude.{ℕ, zero, suc, ◌+◌, ◌*◌, ◌^◌, List, slice_index}
+pub use Rattle.bitpacking_register.specs.Words.{bytes_of_words}
 
 -- the number whose digits of w bits are f 0 .. f (n - 1), the lowest first
 unfoldable pub joined : ℕ → (ℕ → ℕ) → ℕ → ℕ

@@ -6,18 +6,12 @@ ghost use Rattle.bitpack.specs.Answers.{IsReply};
 
 use super::texts::{bytes_text, refused, values_text};
 use super::{NOT_A_BLOCK, NOT_ITS_BYTES, TOO_GREAT, TOO_WIDE};
-use crate::chain::{compress_kind, decompress_kind, width_kind};
+use crate::chain::{LONGEST_BLOCK, LONGEST_BODY, compress_kind, decompress_kind, width_kind};
 use bitpacking::{BitPacker, Kind};
 use std::alloc::{AllocError, Global};
 
 /// The widest width.
 const WIDEST: u8 = 32;
-
-/// The most bytes of a block: 8 lanes at 32 bits a code.
-const MOST_BYTES: usize = 1024;
-
-/// The most values of a block.
-const LONGEST_BLOCK: usize = 256;
 
 pub(crate) fn size_text<P: BitPacker>(alloc: Global, width: u8) -> Result<String, AllocError>
     ensures { IfOk result (λ text. IsReply P.lanes (Size width) (string_bytes text)) }
@@ -59,7 +53,7 @@ pub(crate) fn pack_text<P: BitPacker>(
     if width < width_kind(packer, kind, values) {
         return refused(alloc, TOO_GREAT);
     }
-    let mut bytes = [0; MOST_BYTES];
+    let mut bytes = [0; LONGEST_BODY];
     let byte_len = compress_kind(packer, kind, values, &mut bytes, width);
     bytes_text(alloc, &bytes[..byte_len])
 }

@@ -1,18 +1,18 @@
-//! Texts into their lists. The bytes may be anyone's.
+//! Texts into their lists. The bytes are untrusted.
 
 ghost use Rattle.std.specs.Prelude.{◌≡◌, ◌+◌, ◌*◌, ◌<◌, ◌≤◌, ◌++◌, ℕ, List, length, take, drop, slice_index, OnOk, OnErr, IfOk, IfErr, MatchOption, false, None, vec_len, vec_capacity};
 ghost use Rattle.bitpacking.specs.Layout.{size};
 ghost use Rattle.bitpacking.specs.Codes.{AreWords};
 ghost use Rattle.bitpack.specs.Chains.{second_kind};
-ghost use Rattle.bitpack.specs.Parts.{BeginsWithHeader, Finds, first_kind, is_loose, number_at, tail_values, whole_blocks};
-ghost use Rattle.bitpack.specs.Version1.{Blocks1, IsPart1, List1, behind_block1, block_fault1, blocks_fault1, fault1};
+ghost use Rattle.bitpack.specs.Parts.{BeginsWithHeader, FindsFault, count_of, first_kind, is_loose, tail_values, whole_blocks};
+ghost use Rattle.bitpack.specs.Version1.{Blocks1, IsPart1, List1, after_block1, block_fault1, blocks_fault1, fault1};
 
-use crate::chain::{decompress_kind, next_kind};
-use crate::header::Header;
+use crate::chain::{LONGEST_BLOCK, decompress_kind, next_kind};
+use crate::header::{HEADER_LEN, Header};
 use crate::list_error::ListError;
 use crate::list_kind::ListKind;
 use crate::little_endian::read_all;
-use crate::room::append;
+use crate::reserved::append;
 use bitpacking::{BitPacker, Kind};
 
 /// Appends the values of a text and returns its kind.
@@ -24,33 +24,33 @@ pub fn decode<P: BitPacker>(
     bytes: &[u8],
     out: &mut Vec<u32>,
 ) -> Result<ListKind, ListError>
-    // What is read is the text of these values, and they stand behind what the vector held.
+    // The bytes are the text of these values, which are appended to what the vector held.
     ensures ok { IfOk result (λ kind. (values : List ℕ) × List1 P.lanes kind values bytes.now × (out.new.items ≡ out.old.items ++ values)) }
-    // A text with a fault is refused for the first, and one without only for want of memory.
+    // Bytes with a fault are refused for the first, and bytes without one only where memory runs out.
     ensures err { MatchOption (fault1 P.lanes bytes.now) (IfErr result (λ e. e ≡ ListError.Memory)) (λ fault. result ≡ Err fault) }
-    // Memory is wanting only where the vector has no room for the values.
-    ensures room { fault1 P.lanes bytes.now ≡ None → OnErr result (vec_capacity out.old < vec_len out.old + number_at bytes.now 3) }
+    // Memory runs out only where the vector has no room for the values.
+    ensures room { fault1 P.lanes bytes.now ≡ None → OnErr result (vec_capacity out.old < vec_len out.old + count_of bytes.now) }
     ensures unchanged { OnErr result (out.new.items ≡ out.old.items) }
 {
     let header = test(packer, bytes)?;
     if out.reserve(header.count).is_err() {
         return Err(ListError::Memory);
     }
-    read_blocks(packer, header, &bytes[7..], out);
+    read_blocks(packer, header, &bytes[HEADER_LEN..], out);
     Ok(header.kind)
 }
 
 /// Tests the whole text.
 fn test<P: BitPacker>(packer: &P, bytes: &[u8]) -> Result<Header, ListError>
-    ensures fault { Finds result (fault1 P.lanes bytes.now) }
+    ensures fault { FindsFault result (fault1 P.lanes bytes.now) }
     ensures header { IfOk result (λ header. BeginsWithHeader 1 P.lanes header.kind header.count bytes.now) }
-    ensures long { OnOk result (7 ≤ length bytes.now) }
+    ensures long { OnOk result (HEADER_LEN ≤ length bytes.now) }
 {
     let len = P::BLOCK_LEN;
     let header = Header::read(1, len / 32, bytes)?;
     let blocks = header.count / len;
     let tail = 4 * (header.count % len);
-    let rest = &bytes[7..];
+    let rest = &bytes[HEADER_LEN..];
     if rest.len() < blocks + tail {
         return Err(ListError::Short);
     }
@@ -58,14 +58,14 @@ fn test<P: BitPacker>(packer: &P, bytes: &[u8]) -> Result<Header, ListError>
     Ok(header)
 }
 
-/// Tests the blocks and how many bytes stand behind them.
+/// Tests the blocks and how many bytes follow them.
 fn test_blocks<P: BitPacker>(
     packer: &P,
     blocks: usize,
     tail: usize,
     bytes: &[u8],
 ) -> Result<(), ListError>
-    ensures { Finds result (blocks_fault1 P.lanes tail 0 blocks bytes.now) }
+    ensures { FindsFault result (blocks_fault1 P.lanes tail 0 blocks bytes.now) }
 {
     let mut rest = bytes;
     for block in 0..blocks {
@@ -80,14 +80,14 @@ fn test_blocks<P: BitPacker>(
     Ok(())
 }
 
-/// Tests the block at the front of the bytes, and returns the bytes behind it.
+/// Tests the block at the front of the bytes, and returns the bytes after it.
 fn test_block<'a, P: BitPacker>(
     packer: &P,
     block: usize,
     bytes: &'a [u8],
 ) -> Result<&'a [u8], ListError>
-    ensures fault { Finds result (block_fault1 P.lanes block bytes.now) }
-    ensures behind { IfOk result (λ rest. rest.now ≡ behind_block1 P.lanes bytes.now) }
+    ensures fault { FindsFault result (block_fault1 P.lanes block bytes.now) }
+    ensures rest { IfOk result (λ rest. rest.now ≡ after_block1 P.lanes bytes.now) }
 {
     let [width, rest @ ..] = bytes else {
         return Err(ListError::Short);
@@ -113,7 +113,7 @@ fn fits_smaller<P: BitPacker>(packer: &P, width: u8, body: &[u8]) -> bool
     requires body { length body.now ≡ size P.lanes width }
     ensures { result ≡ is_loose P.lanes width body.now }
 {
-    let mut block = [0; 256];
+    let mut block = [0; LONGEST_BLOCK];
     packer.decompress(body, &mut block, width);
     packer.num_bits(&block[..P::BLOCK_LEN]) < width
 }
@@ -149,7 +149,7 @@ fn read_block<'a, P: BitPacker>(
     ensures capacity { vec_capacity out.old ≤ vec_capacity out.new }
 {
     let width = bytes[0];
-    let mut block = [0; 256];
+    let mut block = [0; LONGEST_BLOCK];
     let size = decompress_kind(packer, kind, &bytes[1..], &mut block, width);
     let values = &block[..P::BLOCK_LEN];
     let next = next_kind(kind, values[values.len() - 1]);

@@ -5,15 +5,15 @@ ghost use Rattle.bitpacking.specs.Bits.{AreBytes};
 ghost use Rattle.bitpack.specs.Parts.{whole_blocks};
 ghost use Rattle.bitpack.specs.Version1.{Blocks1, IsPart1, List1};
 
-use crate::chain::{compress_kind, next_kind, width_kind};
-use crate::header::{Header, MOST_VALUES};
+use crate::chain::{LONGEST_BODY, compress_kind, next_kind, width_kind};
+use crate::header::{HEADER_LEN, Header, LONGEST_LIST};
 use crate::list_error::ListError;
 use crate::list_kind::ListKind;
 use crate::little_endian::write_all;
-use crate::room::append;
+use crate::reserved::append;
 use bitpacking::{BitPacker, Kind};
 
-/// Appends the text of the values. In every kind they may stand in any order.
+/// Appends the text of the values. They may be in any order, whatever the kind.
 ///
 /// A list has at most 268,435,456 values. The vector grows once at most.
 pub fn encode<P: BitPacker>(
@@ -23,16 +23,16 @@ pub fn encode<P: BitPacker>(
     out: &mut Vec<u8>,
 ) -> Result<(), ListError>
     // What is appended is the text of the values.
-    ensures ok { OnOk result ((text : List ℕ) × List1 P.lanes kind values.now text × (out.new.items ≡ out.old.items ++ text)) }
-    // Too many values are refused as such, and others only for want of memory.
+    ensures ok { OnOk result ((text : List ℕ) × AreBytes text × List1 P.lanes kind values.now text × (out.new.items ≡ out.old.items ++ text)) }
+    // Too many values are refused as such, and others only where memory runs out.
     ensures long { 2 ^ 28 < length values.now → result ≡ Err (ListError.TooLong (length values.now)) }
     ensures memory { length values.now ≤ 2 ^ 28 → IfErr result (λ e. e ≡ ListError.Memory) }
-    // Memory is wanting only where the vector has no room for the text.
+    // Memory runs out only where the vector has no room for the text.
     ensures room { length values.now ≤ 2 ^ 28 → OnErr result ((text : List ℕ) → List1 P.lanes kind values.now text
         → vec_capacity out.old < vec_len out.old + length text) }
     ensures unchanged { OnErr result (out.new.items ≡ out.old.items) }
 {
-    if values.len() > MOST_VALUES {
+    if values.len() > LONGEST_LIST {
         return Err(ListError::TooLong(values.len()));
     }
     if out.reserve(text_len(packer, kind, values)).is_err() {
@@ -53,7 +53,7 @@ fn text_len<P: BitPacker>(packer: &P, kind: ListKind, values: &[u32]) -> usize
     let blocks = values.len() / len;
     let mut kind = kind.first();
     let mut rest = values;
-    let mut size = 7;
+    let mut size = HEADER_LEN;
     for _ in 0..blocks {
         let (block, after) = rest.split_at(len);
         let width = width_kind(packer, kind, block);
@@ -92,7 +92,7 @@ fn write_block<P: BitPacker>(packer: &P, kind: Kind, block: &[u32], out: &mut Ve
     ensures capacity { vec_capacity out.old ≤ vec_capacity out.new }
 {
     let width = width_kind(packer, kind, block);
-    let mut body = [0; 1024];
+    let mut body = [0; LONGEST_BODY];
     let size = compress_kind(packer, kind, block, &mut body, width);
     append(out, &[width]);
     append(out, &body[..size]);

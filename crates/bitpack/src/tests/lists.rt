@@ -271,7 +271,7 @@ fn each_refusal_says_what_is_wrong(rt: HostRuntime) -> Result<(), Fail> {
         (
             ListError::WrongLanes(4),
             4,
-            "the text has 4 lanes, and the packer has not",
+            "the text has 4 lanes, unlike the packer",
         ),
         (
             ListError::TooLong(268_435_457),
@@ -306,7 +306,7 @@ fn each_refusal_says_what_is_wrong(rt: HostRuntime) -> Result<(), Fail> {
         (
             ListError::Trailing,
             11,
-            "bytes are left over behind the last value",
+            "bytes are left over after the last value",
         ),
         (ListError::Memory, 12, "out of memory"),
     ];

@@ -1,14 +1,15 @@
 use Rattle.std.proofs.Common.{◌≡◌, ℕ, ◌+◌, ◌-◌, ◌*◌, ◌≤◌, List, ◌∷◌, [], ◌++◌, length, take, drop, get_or, set, add-one, refl, sym, ◌∙◌, ap, arith}
 use Rattle.std.proofs.Math.Seq.{take-suc-set}
 use Rattle.std.proofs.lemmas.List.{take_all, length-take, length-drop}
+use Rattle.std.proofs.lemmas.List.Elements.{All-append, All-cons, All-nil}
 use Rattle.std.proofs.lemmas.Nat.{mul-le}
 use Rattle.bitpacking.specs.Layout.{size}
 use Rattle.bitpack.specs.Chains.{next_kind}
 use Rattle.bitpack.proofs.ChainLemmas.{Loose_step, LeastWidths_step, Loose_done, LeastWidths_done, take-block, length-block, take-put_end, drop-put_end, drop-further, sum-more, bound-more}
 use Rattle.bitpack.proofs.chain.pack_all.Goals as goal
 
-pub compress_kind-written-requires-clause-room : goal.compress_kind-written-requires-clause-room
-compress_kind-written-requires-clause-room g c =
+pub compress_kind-written-requires : goal.compress_kind-written-requires
+compress_kind-written-requires g c =
     let lanes : ℕ = g.P.BitPacker.lanes in
     let width : ℕ = c.width_kind-width.result in
     let i : ℕ = c.loop-index.index in
@@ -18,7 +19,14 @@ compress_kind-written-requires-clause-room g c =
     let reach : 32 * lanes * (i + 1) ≤ 32 * lanes * blocks = mul-le (32 * lanes) (i + 1) (32 * lanes) blocks (omega arith) (omega arith) in
     let more = bound-more lanes c.loop-index.written (size lanes width) width i c.loop-index.invariant.bound refl
     c.width_kind-width.ensures.narrow in
-    simp (length-take, length-drop) (omega arith)
+    record {
+      whole =
+          length-block (32 * lanes) c.BLOCK_LEN-len.result i blocks c.args.values.now (c.BLOCK_LEN-len.ensures ∙ g.met.P.BitPacker.block_len)
+          (omega arith) (omega arith);
+      narrow = c.width_kind-width.ensures.narrow;
+      room = simp (length-take, length-drop) (omega arith);
+      fits = c.width_kind-width.ensures.width.fits;
+    }
 
 pub loop-index-preserved : goal.loop-index-preserved
 loop-index-preserved g c =
@@ -34,6 +42,7 @@ loop-index-preserved g c =
     let part : List ℕ = c.compress_kind-written.new.out in
     let block : List ℕ = take (i * len + len - i * len) (drop (i * len) values) in
     let before = c.loop-index.invariant in
+    let Narrow : ℕ → Type 0 = λ width. width ≤ 32 in
     let some = g.met.P.BitPacker.some_lanes in
     let whole : len ≡ 32 * lanes = c.BLOCK_LEN-len.ensures ∙ g.met.P.BitPacker.block_len in
     let all : length values ≡ 32 * lanes * length c.args.widths.now =
@@ -50,12 +59,14 @@ loop-index-preserved g c =
     let more : take (i + 1) (set widths i width) ≡ take i widths ++ width ∷ [] =
     rw add-one (take-suc-set widths i width (omega arith)) in
     let bytes = take-put_end written added out part within room in
-    let holds = rw (sym c.compress_kind-written.ensures.size) at c.compress_kind-written.ensures.bytes in
+    let holds = rw (sym c.compress_kind-written.ensures.size) at c.compress_kind-written.ensures.packed.bytes in
     let rest = drop-put_end written added out part within room
-    (rw c.compress_kind-written.ensures.size c.compress_kind-written.ensures.rest) in
+    (rw c.compress_kind-written.ensures.size c.compress_kind-written.ensures.packed.rest) in
     record {
       written = rw more (sum-more lanes written added width (take i widths) before.written c.compress_kind-written.ensures.size);
       bound = bound-more lanes written added width i before.bound c.compress_kind-written.ensures.size c.width_kind-width.ensures.narrow;
+      narrow = rw more (All-append Narrow (take i widths) (width ∷ []) before.narrow
+          (All-cons Narrow width [] c.width_kind-width.ensures.narrow (All-nil Narrow)));
       loose =
           rw (kind, more, bytes, take-block (32 * lanes) len i values whole)
           (Loose_step lanes width c.args.kind c.loop-index.block_kind (take (32 * lanes * i) values) (take i widths) block some long
@@ -66,6 +77,20 @@ loop-index-preserved g c =
           c.width_kind-width.ensures.width before.least);
       rest = rest ∙ drop-further written added out c.args.out.now before.rest;
     }
+
+pub returns-clause-few : goal.returns-clause-few
+returns-clause-few g c =
+    let blocks : ℕ = length c.args.widths.now in
+    let end : c.loop-index.index ≡ blocks = omega arith in
+    let all : length c.args.values.now ≡ 32 * g.P.BitPacker.lanes * blocks =
+    c.requires.blocks ∙ ap (λ n. n * blocks) g.met.P.BitPacker.block_len in
+    rw (all, ← end) c.loop-index.invariant.bound
+
+pub returns-clause-narrow : goal.returns-clause-narrow
+returns-clause-narrow g c =
+    let widths : List ℕ = c.loop-index.widths in
+    let all : take c.loop-index.index widths ≡ widths = take_all c.loop-index.index widths (omega arith) in
+    rw all at c.loop-index.invariant.narrow
 
 pub returns-clause-chain : goal.returns-clause-chain
 returns-clause-chain g c =

@@ -4,7 +4,7 @@ use Rattle.std.proofs.lemmas.List.{take_all, length-take, length-drop}
 use Rattle.std.proofs.lemmas.Nat.{mul-le}
 use Rattle.bitpacking.specs.Layout.{size}
 use Rattle.bitpack.specs.Chains.{next_kind}
-use Rattle.bitpack.proofs.ChainLemmas.{Loose_step, Loose_done, drop-further, sum-more, sum-prefix, take-put_block, drop-put_block}
+use Rattle.bitpack.proofs.ChainLemmas.{Loose_step, Loose_done, length-block, drop-further, sum-more, sum-prefix, take-put_block, drop-put_block}
 use Rattle.bitpack.proofs.chain.unpack_all.Goals as goal
 
 -- The bytes up to the end of the next block.
@@ -20,11 +20,21 @@ reach lanes i widths bytes read lt e room =
     mul-le (4 * lanes) (sum (take (i + 1) widths)) (4 * lanes) (sum widths) (omega arith) (sum-prefix (i + 1) widths) in
     (omega arith, more)
 
-pub decompress_kind-read-requires-clause-bytes : goal.decompress_kind-read-requires-clause-bytes
-decompress_kind-read-requires-clause-bytes g c =
-    let found = reach g.P.BitPacker.lanes c.loop-index.index c.args.widths.now c.args.bytes.now c.loop-index.read
-    c.loop-index-test.true c.loop-index.invariant.read c.requires.bytes in
-    simp (length-take, length-drop) (omega (arith, found.0))
+pub decompress_kind-read-requires : goal.decompress_kind-read-requires
+decompress_kind-read-requires g c =
+    let lanes : ℕ = g.P.BitPacker.lanes in
+    let i : ℕ = c.loop-index.index in
+    let values : List ℕ = c.loop-index.values in
+    let widths : List ℕ = c.args.widths.now in
+    let found = reach lanes i widths c.args.bytes.now c.loop-index.read c.loop-index-test.true c.loop-index.invariant.read c.requires.bytes in
+    let all : 32 * lanes * length widths ≤ length c.args.values.now = rw g.met.P.BitPacker.block_len at c.requires.room in
+    let long = length-block (32 * lanes) c.BLOCK_LEN-len.result i (length widths) values (c.BLOCK_LEN-len.ensures ∙ g.met.P.BitPacker.block_len)
+    c.loop-index-test.true (omega arith) in
+    record {
+      narrow = c.requires.widths i 0 c.loop-index-test.true;
+      whole = simp (length-take, length-drop) (omega (arith, found.0));
+      room = omega (arith, long);
+    }
 
 pub loop-index-preserved : goal.loop-index-preserved
 loop-index-preserved g c =
@@ -51,8 +61,8 @@ loop-index-preserved g c =
     c.next_kind-block_kind.ensures ∙ ap (λ n. next_kind c.loop-index.block_kind (get_or block (n - 1) 0)) whole in
     let given : take (size lanes width) (take (length bytes - read) (drop read bytes)) ≡ take added (drop read bytes) =
     rw (c.decompress_kind-read.ensures.size, take_all (length bytes - read) (drop read bytes) (simp length-drop (omega arith))) refl in
-    let front : take g.P.BitPacker.BLOCK_LEN block ≡ block = take_all g.P.BitPacker.BLOCK_LEN block (omega (arith, g.met.P.BitPacker.block_len)) in
-    let holds = rw (front, given) at c.decompress_kind-read.ensures.block in
+    let front : take (32 * lanes) block ≡ block = take_all (32 * lanes) block (omega arith) in
+    let holds = rw (front, given) at c.decompress_kind-read.ensures.unpacked.block in
     let next : 32 * lanes * (i + 1) ≡ 32 * lanes * i + 32 * lanes = omega arith in
     record {
       read = rw (found.1) (sum-more lanes read added width (take i widths) before.read c.decompress_kind-read.ensures.size);

@@ -2,4 +2,4 @@ use Rattle.bitpack.proofs.ChainLemmas.{chains_read_back}
 use Rattle.bitpack.proofs.laws.chains_read_back.Goals as goal
 
 pub returns : goal.returns
-returns c = chains_read_back c.round_trips.ensures.block
+returns c = chains_read_back

@@ -1,8 +1,9 @@
 use Rattle.std.proofs.Common.{◌≡◌, ◌*◌, ◌<◌, ◌++◌, ◌∷◌, [], ℕ, List, length, take, get_or, ◌∙◌, ap, append_assoc, arith, add-one}
 use Rattle.std.proofs.Math.Seq.{take-suc}
 use Rattle.std.proofs.lemmas.List.{take_all}
-use Rattle.bitpack.specs.Parts.{number_at}
-use Rattle.bitpack.proofs.PartLemmas.{number_at-numbers, length-numbers}
+use Rattle.bitpacking.specs.Words.{word}
+use Rattle.bitpacking.proofs.ForCallers.{length-bytes_of_words, words_read_back}
+use Rattle.bitpack.proofs.PartLemmas.{word-drop}
 use Rattle.bitpack.proofs.little_endian.read_all.Goals as goal
 
 pub loop-index-preserved : goal.loop-index-preserved
@@ -11,10 +12,10 @@ loop-index-preserved c =
     let old : List ℕ = c.args.out.now.items in
     record {
       items = λ values words e.
-          let long : length c.args.bytes.now ≡ 4 * length values = ap length e ∙ length-numbers values in
+          let long : length c.args.bytes.now ≡ 4 * length values = ap length e ∙ length-bytes_of_words values in
           let lt : i < length values = omega arith in
           let one : c.read_one.result ≡ get_or values i 0 =
-          c.read_one.ensures ∙ ap (λ zs. number_at zs (4 * i)) e ∙ number_at-numbers values i words lt in
+          c.read_one.ensures ∙ word-drop c.args.bytes.now i ∙ ap (λ zs. word zs i) e ∙ words_read_back values i words lt in
           rw (c.push_reserved.ensures.items, one, add-one, take-suc values i 0 lt)
           (ap (λ zs. zs ++ get_or values i 0 ∷ []) (c.loop-index.invariant.items values words e)
           ∙ append_assoc old (take i values) (get_or values i 0 ∷ []));
@@ -24,7 +25,7 @@ loop-index-preserved c =
 pub returns : goal.returns
 returns c = record {
   items = λ values words e.
-      let long : length c.args.bytes.now ≡ 4 * length values = ap length e ∙ length-numbers values in
+      let long : length c.args.bytes.now ≡ 4 * length values = ap length e ∙ length-bytes_of_words values in
       let all : take c.loop-index.index values ≡ values = take_all c.loop-index.index values (omega arith) in
       rw all at (c.loop-index.invariant.items values words e);
 }

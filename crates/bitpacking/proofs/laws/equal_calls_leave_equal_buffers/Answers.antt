@@ -1,4 +1,4 @@
-use Rattle.bitpacking.proofs.RoundTrips.{equal_packed_buffers, equal_unpacked_values}
+use Rattle.bitpacking.proofs.ForCallers.{equal_packed_buffers, equal_unpacked_values}
 use Rattle.bitpacking.proofs.laws.equal_calls_leave_equal_buffers.Goals as goal
 
 pub returns-clause-packed : goal.returns-clause-packed

@@ -1,4 +1,4 @@
-use Rattle.bitpacking.proofs.LawProofs.{one_layout_places, one_layout_bytes, one_layout_codes}
+use Rattle.bitpacking.proofs.ForCallers.{one_layout_places, one_layout_bytes, one_layout_codes}
 use Rattle.bitpacking.proofs.laws.one_layout.Goals as goal
 
 pub returns-clause-places : goal.returns-clause-places

@@ -1,4 +1,4 @@
-use Rattle.bitpacking.proofs.LawProofs.{one_least_width, fits_greater}
+use Rattle.bitpacking.proofs.ForCallers.{one_least_width, fits_greater}
 use Rattle.bitpacking.proofs.laws.one_least_width.Goals as goal
 
 pub returns-clause-least : goal.returns-clause-least

@@ -1,4 +1,4 @@
-use Rattle.bitpacking.proofs.RoundTrips.{bytes_hold_one_block, block_has_one_list, blocks_share_no_bytes}
+use Rattle.bitpacking.proofs.ForCallers.{bytes_hold_one_block, block_has_one_list, blocks_share_no_bytes}
 use Rattle.bitpacking.proofs.laws.round_trips.Goals as goal
 
 pub returns-clause-block : goal.returns-clause-block

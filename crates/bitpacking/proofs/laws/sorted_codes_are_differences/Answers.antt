@@ -1,4 +1,4 @@
-use Rattle.bitpacking.proofs.OrderLemmas.{sorted_codes_are_differences}
+use Rattle.bitpacking.proofs.ForCallers.{sorted_codes_are_differences}
 use Rattle.bitpacking.proofs.laws.sorted_codes_are_differences.Goals as goal
 
 pub returns : goal.returns

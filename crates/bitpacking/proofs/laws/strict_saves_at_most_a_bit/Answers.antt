@@ -1,4 +1,4 @@
-use Rattle.bitpacking.proofs.OrderLemmas.{strict_saves_at_most_a_bit}
+use Rattle.bitpacking.proofs.ForCallers.{strict_saves_at_most_a_bit}
 use Rattle.bitpacking.proofs.laws.strict_saves_at_most_a_bit.Goals as goal
 
 pub returns : goal.returns

@@ -1,11 +1,17 @@
 use Rattle.std.proofs.Common.{arith, take}
+use Rattle.std.proofs.lemmas.Nat.{mul-le}
 use Rattle.std.proofs.lemmas.Result.{IfOk-weaker}
-use Rattle.bitpacking.proofs.LawProofs.{fits_greater}
+use Rattle.bitpacking.proofs.ForCallers.{fits_greater}
 use Rattle.bitpack.specs.Answers.{Passed}
 use Rattle.bitpack.proofs.answer.replies.pack_text.Goals as goal
 
-pub compress_kind-byte_len-requires-clause-fits : goal.compress_kind-byte_len-requires-clause-fits
-compress_kind-byte_len-requires-clause-fits g c = fits_greater _ c.width_kind.result c.args.width (omega arith) c.width_kind.ensures.width.fits
+pub compress_kind-byte_len-requires : goal.compress_kind-byte_len-requires
+compress_kind-byte_len-requires g c = record {
+  whole = omega (arith, g.met.P.BitPacker.block_len, c.BLOCK_LEN.ensures, c.if-values-BLOCK_LEN.false);
+  narrow = omega arith;
+  room = omega (arith, mul-le g.P.BitPacker.lanes c.args.width 8 32 g.met.P.BitPacker.few_lanes (omega arith));
+  fits = fits_greater _ c.width_kind.result c.args.width (omega arith) c.width_kind.ensures.width.fits;
+}
 
 pub returns : goal.returns
 returns g c =
@@ -13,6 +19,6 @@ returns g c =
     Passed (λ other. other (omega (arith, g.met.P.BitPacker.block_len, c.BLOCK_LEN.ensures, c.if-values-BLOCK_LEN.false))) (Passed (λ wide. omega arith) (Passed (λ none. none (fits_greater _ c.width_kind.result c.args.width (omega arith) c.width_kind.ensures.width.fits)) (record {
       bytes = take c.compress_kind-byte_len.result c.compress_kind-byte_len.new.out;
       are_bytes = c.bytes_text.ensures.range;
-      holds = rw c.compress_kind-byte_len.ensures.size c.compress_kind-byte_len.ensures.bytes;
+      holds = rw c.compress_kind-byte_len.ensures.size c.compress_kind-byte_len.ensures.packed.bytes;
       text_is = is;
     })))) c.bytes_text.ensures.text

@@ -14,5 +14,5 @@ returns-clause-header c =
       | in-2 w ↦ rw w.kind-is w.in-2.is
     ] in
     rw c.read_one-count.ensures
-    (header_from_bytes c.args.version c.args.lanes c.match-bytes.kind bytes (λ k. omega (arith, c.type_inv.bytes k)) c.if-bytes-lt7.false
+    (header_from_bytes c.args.version c.args.lanes c.match-bytes.kind bytes (λ k. omega (arith, c.type_inv.bytes k)) c.if-bytes-lt-HEADER_LEN.false
     c.if-bytes-version.false kind c.if-bytes-lanes.false (omega (arith, c.read_one-count.ensures)))

@@ -1,10 +1,10 @@
-use Rattle.std.proofs.Common.{◌≡◌, ◌∷◌, [], append_assoc}
-use Rattle.bitpack.specs.Parts.{four_bytes, kind_byte}
-use Rattle.bitpack.proofs.PartLemmas.{is_four_bytes}
+use Rattle.std.proofs.Common.{◌∷◌, [], append_assoc}
+use Rattle.bitpacking.specs.Words.{bytes_of_words}
+use Rattle.bitpack.specs.Parts.{header, kind_byte}
 use Rattle.bitpack.proofs.header.Header.write.Goals as goal
 
 pub returns-clause-items : goal.returns-clause-items
+unfolding header
 returns-clause-items c =
-    let count : c.to_le_bytes.result ≡ four_bytes c.args.self.count = is_four_bytes c.args.self.count c.to_le_bytes.result c.to_le_bytes.ensures in
-    rw (c.append-2.ensures.items, count, c.append.ensures.items, c.byte.ensures)
-    (append_assoc c.args.out.now.items (c.args.version ∷ kind_byte c.args.self.kind ∷ c.args.lanes ∷ []) (four_bytes c.args.self.count))
+    rw (c.append-2.ensures.items, c.append.ensures.items, c.byte.ensures, c.to_le_bytes.ensures)
+    (append_assoc c.args.out.now.items (c.args.version ∷ kind_byte c.args.self.kind ∷ c.args.lanes ∷ []) (bytes_of_words (c.args.self.count ∷ [])))

@@ -6,7 +6,7 @@ use Rattle.bitpack.specs.Parts.{whole_blocks, first_kind}
 use Rattle.bitpack.specs.Version1.{Blocks1}
 use Rattle.bitpack.proofs.ListLemmas.{on_ok, on_err}
 use Rattle.bitpack.proofs.HeaderLemmas.{header_bytes}
-use Rattle.bitpack.proofs.OneText.{behind_from_none, list_from_none}
+use Rattle.bitpack.proofs.OneText.{later_from_none, list_from_none}
 use Rattle.bitpack.proofs.list.reading.decode.Goals as goal
 
 pub returns-in_err-header-clause-err : goal.returns-in_err-header-clause-err
@@ -30,7 +30,7 @@ read_blocks-requires g c =
     let bytes : List ℕ = c.args.bytes.now in
     let header = c.in_ok-header.header in
     let rest : take (length bytes - 7) (drop 7 bytes) ≡ drop 7 bytes = take_all (length bytes - 7) (drop 7 bytes) (omega (arith, length-drop 7 bytes)) in
-    let right = behind_from_none lanes header.count header.kind bytes c.in_ok-header.ensures.header c.in_ok-header.ensures.fault in
+    let right = later_from_none lanes header.count header.kind bytes c.in_ok-header.ensures.header c.in_ok-header.ensures.fault in
     record {
       sound = rw rest right;
       room = on_ok c.reserve.result (sym c.is_err.ensures.value ∙ c.if-is_err.false) c.reserve.ensures.ok;
@@ -43,13 +43,13 @@ returns-clause-ok g c =
     let header = c.in_ok-header.header in
     let small : AreBytes bytes = λ k. omega (arith, c.type_inv.bytes k) in
     let rest : take (length bytes - 7) (drop 7 bytes) ≡ drop 7 bytes = take_all (length bytes - 7) (drop 7 bytes) (omega (arith, length-drop 7 bytes)) in
-    let (values, words, long, list) =
+    let (values, long, list) =
     list_from_none lanes header.count header.kind bytes g.met.P.BitPacker.some_lanes small c.in_ok-header.ensures.header c.in_ok-header.ensures.fault in
     let blocks : Blocks1 lanes (whole_blocks lanes header.count) (first_kind header.kind) values (drop 7 bytes) =
-    subst (λ n. Blocks1 lanes (whole_blocks lanes n) (first_kind header.kind) values (drop 7 bytes)) long list.behind in
+    subst (λ n. Blocks1 lanes (whole_blocks lanes n) (first_kind header.kind) values (drop 7 bytes)) long list.blocks in
     let given : Blocks1 lanes (whole_blocks lanes header.count) (first_kind header.kind) values (take (length bytes - 7) (drop 7 bytes)) =
     subst (λ zs. Blocks1 lanes (whole_blocks lanes header.count) (first_kind header.kind) values zs) (sym rest) blocks in
-    (values, list, c.read_blocks.ensures values words given ∙ ap (λ xs. xs ++ values) c.reserve.ensures.items)
+    (values, list, c.read_blocks.ensures values list.words given ∙ ap (λ xs. xs ++ values) c.reserve.ensures.items)
 
 pub returns-clause-err : goal.returns-clause-err
 returns-clause-err g c = rw c.in_ok-header.ensures.fault tt

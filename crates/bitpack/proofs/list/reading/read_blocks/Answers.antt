@@ -2,7 +2,7 @@ use Rattle.std.proofs.Common.{◌≡◌, ◌+◌, ◌*◌, ◌/◌, ◌<◌, ◌
 use Rattle.std.proofs.Math.Nat.{sub-zero}
 use Rattle.std.proofs.lemmas.List.{length-append, length-drop}
 use Rattle.std.proofs.lemmas.Nat.{mul-le}
-use Rattle.bitpacking.proofs.Blocks.{length-codes}
+use Rattle.bitpacking.proofs.ForCallers.{as_many_codes}
 use Rattle.bitpack.specs.Parts.{first_kind, tail_values}
 use Rattle.bitpack.specs.Version1.{Blocks1}
 use Rattle.bitpack.proofs.ReadSteps.{read_step, read_done, right_left, tail_left, after_right}
@@ -46,7 +46,7 @@ loop-preserved g c =
     let some = g.met.P.BitPacker.some_lanes in
     let (block, part, words, is, parts, items, next) = c.read_block.ensures.block in
     let right = right_left lanes (4 * tail_values lanes count) blocks i rest c.loop-test.true c.loop.invariant.right in
-    let length_of : length block ≡ 32 * lanes = sym (length-codes c.loop.kind block) ∙ is.holds.code_count in
+    let length_of : length block ≡ 32 * lanes = sym (as_many_codes c.loop.kind block) ∙ is.holds.code_count in
     record {
       right = rw (after_right lanes i c.loop.kind block part c.read_block.result.1.now rest words is parts) at right.1;
       room = omega (

@@ -10,22 +10,22 @@ use Rattle.bitpack.proofs.HeaderLemmas.{header_bytes}
 use Rattle.bitpack.proofs.ListLemmas.{lanes-is}
 use Rattle.bitpack.proofs.list.reading.test.Goals as goal
 
--- What stands behind a right header of so many values.
+-- What comes after a right header of so many values.
 module _ (lanes len count : ℕ) (kind : ListKind) (bytes rest : List ℕ) (whole : len ≡ 32 * lanes) (is : rest ≡ take (length bytes - 7) (drop 7 bytes))
     (none : header_fault 1 (len / 32) bytes ≡ None) (begins : BeginsWithHeader 1 (len / 32) kind count bytes) where
-  behind : fault1 lanes bytes ≡ body_fault1 lanes count rest
-  behind =
+  later : fault1 lanes bytes ≡ body_fault1 lanes count rest
+  later =
       let found = header_bytes 1 (len / 32) kind count bytes begins in
       let all : rest ≡ drop 7 bytes = is ∙ take_all (length bytes - 7) (drop 7 bytes) (omega (arith, length-drop 7 bytes)) in
       rw all (body_next lanes count bytes (rw (lanes-is lanes len whole) at none) found.count_is)
 
   short : length rest < count / len + 4 * (count % len) → fault1 lanes bytes ≡ Some Short
   short few =
-      behind ∙ body_short lanes count (count / len) (4 * (count % len)) rest (ap (λ n. count / n) whole) (ap (λ n. 4 * (count % n)) whole) few
+      later ∙ body_short lanes count (count / len) (4 * (count % len)) rest (ap (λ n. count / n) whole) (ap (λ n. 4 * (count % n)) whole) few
 
   blocks : count / len + 4 * (count % len) ≤ length rest → fault1 lanes bytes ≡ blocks_fault1 lanes (4 * (count % len)) 0 (count / len) rest
   blocks enough =
-      behind ∙ body_blocks lanes count (count / len) (4 * (count % len)) rest (ap (λ n. count / n) whole) (ap (λ n. 4 * (count % n)) whole) enough
+      later ∙ body_blocks lanes count (count / len) (4 * (count % len)) rest (ap (λ n. count / n) whole) (ap (λ n. 4 * (count % n)) whole) enough
 
 pub returns-in_err-header-clause-fault : goal.returns-in_err-header-clause-fault
 returns-in_err-header-clause-fault g c =

@@ -3,7 +3,7 @@ use Rattle.std.specs.Option.{option_or}
 use Rattle.std.proofs.Math.Nat.{sub-zero}
 use Rattle.std.proofs.lemmas.Result.{err_from_is_err_and}
 use Rattle.bitpack.specs.declared.list_error.ListError.{ListError}
-use Rattle.bitpack.specs.Version1.{blocks_fault1, behind_block1}
+use Rattle.bitpack.specs.Version1.{blocks_fault1, after_block1}
 use Rattle.bitpack.proofs.FaultLemmas.{blocks_left, no_blocks_left, tail_short, tail_long, tail_right}
 use Rattle.bitpack.proofs.list.reading.test_blocks.Goals as goal
 
@@ -15,21 +15,21 @@ returns-in_err-rest g c =
     let lanes : ℕ = g.P.BitPacker.lanes in
     let i : ℕ = c.loop-block.block in
     let rest : List ℕ = c.loop-block.rest.now in
-    let behind : Option ListError = blocks_fault1 lanes c.args.tail (i + 1) (c.args.blocks - (i + 1)) (behind_block1 lanes rest) in
+    let later : Option ListError = blocks_fault1 lanes c.args.tail (i + 1) (c.args.blocks - (i + 1)) (after_block1 lanes rest) in
     let p = err_from_is_err_and c.from_residual.result c.from_residual.ensures.1 in
     rw (p.1, p.2)
     (c.loop-block.invariant ∙ blocks_left lanes c.args.tail c.args.blocks i rest c.loop-block-test.true
-    ∙ ap (λ fault. option_or fault behind) c.in_err-rest.ensures.fault)
+    ∙ ap (λ fault. option_or fault later) c.in_err-rest.ensures.fault)
 
 pub loop-block-preserved : goal.loop-block-preserved
 loop-block-preserved g c =
     let lanes : ℕ = g.P.BitPacker.lanes in
     let i : ℕ = c.loop-block.block in
     let rest : List ℕ = c.loop-block.rest.now in
-    let behind : Option ListError = blocks_fault1 lanes c.args.tail (i + 1) (c.args.blocks - (i + 1)) (behind_block1 lanes rest) in
-    rw c.in_ok-rest.ensures.behind
+    let later : Option ListError = blocks_fault1 lanes c.args.tail (i + 1) (c.args.blocks - (i + 1)) (after_block1 lanes rest) in
+    rw c.in_ok-rest.ensures.rest
     (c.loop-block.invariant ∙ blocks_left lanes c.args.tail c.args.blocks i rest c.loop-block-test.true
-    ∙ ap (λ fault. option_or fault behind) c.in_ok-rest.ensures.fault)
+    ∙ ap (λ fault. option_or fault later) c.in_ok-rest.ensures.fault)
 
 pub returns-then-rest-tail : goal.returns-then-rest-tail
 returns-then-rest-tail g c =

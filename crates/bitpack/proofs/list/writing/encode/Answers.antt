@@ -1,10 +1,11 @@
-use Rattle.std.proofs.Common.{◌≡◌, ◌/◌, ◌<◌, ◌++◌, ◌^◌, ℕ, List, length, sym, ◌∙◌, ap, arith, append_assoc}
+use Rattle.std.proofs.Common.{◌≡◌, ◌≤◌, ◌/◌, ◌<◌, ◌++◌, ◌^◌, ℕ, List, length, sym, ◌∙◌, ap, arith, append_assoc}
 use Rattle.std.proofs.lemmas.List.{length-append}
 use Rattle.std.proofs.lemmas.List.Elements.{All-from_get_or}
 use Rattle.bitpacking.specs.Codes.{AreWords}
 use Rattle.bitpack.specs.Parts.{header, whole_blocks, first_kind}
 use Rattle.bitpack.specs.Version1.{Blocks1}
-use Rattle.bitpack.proofs.ListLemmas.{length-header, lanes-is, List1-from_blocks, behind_of, on_ok}
+use Rattle.bitpack.proofs.HeaderLemmas.{length-header}
+use Rattle.bitpack.proofs.ListLemmas.{lanes-is, List1-from_blocks, text_of, on_ok}
 use Rattle.bitpack.proofs.list.writing.encode.Goals as goal
 
 pub write-requires-clause-room : goal.write-requires-clause-room
@@ -12,16 +13,18 @@ write-requires-clause-room g c =
     let lanes : ℕ = g.P.BitPacker.lanes in
     let values : List ℕ = c.args.values.now in
     let words : AreWords values = All-from_get_or (λ v. v < 2 ^ 32) values 0 (λ k h. (c.type_inv.values k).fits) in
-    let found = behind_of lanes c.args.kind values g.met.P.BitPacker.some_lanes words in
+    let few : lanes < 2 ^ 8 = omega (arith, g.met.P.BitPacker.few_lanes) in
+    let (later, small, blocks, bytes, list) = text_of lanes c.args.kind values g.met.P.BitPacker.some_lanes few words c.if-values-gt-LONGEST_LIST.false in
     let front : List ℕ = header 1 c.args.kind lanes (length values) in
-    let long = c.text_len.ensures (front ++ found.0) (List1-from_blocks lanes c.args.kind values found.0 c.if-values-gt-MOST_VALUES.false found.2) in
+    let long = c.text_len.ensures (front ++ later) list in
     let room = on_ok c.reserve.result (sym c.is_err.ensures.value ∙ c.if-is_err.false) c.reserve.ensures.ok in
-    omega (arith, room, long, length-append front found.0, length-header 1 c.args.kind lanes (length values))
+    omega (arith, room, long, length-append front later, length-header 1 c.args.kind lanes (length values))
 
 pub write_blocks-requires : goal.write_blocks-requires
 write_blocks-requires g c =
     let lanes : ℕ = g.P.BitPacker.lanes in
     let values : List ℕ = c.args.values.now in
+    let words : AreWords values = All-from_get_or (λ v. v < 2 ^ 32) values 0 (λ k h. (c.type_inv.values k).fits) in
     let front : List ℕ = header 1 c.args.kind lanes (length values) in
     let room = on_ok c.reserve.result (sym c.is_err.ensures.value ∙ c.if-is_err.false) c.reserve.ensures.ok in
     let whole : c.BLOCK_LEN.result / 32 ≡ lanes = lanes-is g.P.BitPacker.lanes c.BLOCK_LEN.result (c.BLOCK_LEN.ensures ∙ g.met.P.BitPacker.block_len) in
@@ -29,7 +32,7 @@ write_blocks-requires g c =
     record {
       room = λ text blocks.
           let blocks' : Blocks1 lanes (whole_blocks lanes (length values)) (first_kind c.args.kind) values text = rw c.first.ensures at blocks in
-          let long = c.text_len.ensures (front ++ text) (List1-from_blocks lanes c.args.kind values text c.if-values-gt-MOST_VALUES.false blocks') in
+          let long = c.text_len.ensures (front ++ text) (List1-from_blocks lanes c.args.kind values text words c.if-values-gt-LONGEST_LIST.false blocks') in
           omega (
             arith,
             room,
@@ -51,11 +54,13 @@ returns-clause-ok g c =
     let values : List ℕ = c.args.values.now in
     let words : AreWords values = All-from_get_or (λ v. v < 2 ^ 32) values 0 (λ k h. (c.type_inv.values k).fits) in
     let front : List ℕ = header 1 c.args.kind lanes (length values) in
-    let found = behind_of lanes c.args.kind values g.met.P.BitPacker.some_lanes words in
+    let few : lanes < 2 ^ 8 = omega (arith, g.met.P.BitPacker.few_lanes) in
+    let (later, small, blocks, bytes, list) = text_of lanes c.args.kind values g.met.P.BitPacker.some_lanes few words c.if-values-gt-LONGEST_LIST.false in
     let whole : c.BLOCK_LEN.result / 32 ≡ lanes = lanes-is g.P.BitPacker.lanes c.BLOCK_LEN.result (c.BLOCK_LEN.ensures ∙ g.met.P.BitPacker.block_len) in
     let items : c.write.new.out.items ≡ c.args.out.now.items ++ front = rw (← whole, ← c.reserve.ensures.items) c.write.ensures.items in (
-      front ++ found.0,
-      List1-from_blocks lanes c.args.kind values found.0 c.if-values-gt-MOST_VALUES.false found.2,
-      c.write_blocks.ensures found.0 found.1 (rw c.first.ensures found.2)
-          ∙ ap (λ zs. zs ++ found.0) items ∙ append_assoc c.args.out.now.items front found.0,
+      front ++ later,
+      bytes,
+      list,
+      c.write_blocks.ensures later small (rw c.first.ensures blocks)
+          ∙ ap (λ zs. zs ++ later) items ∙ append_assoc c.args.out.now.items front later,
     )

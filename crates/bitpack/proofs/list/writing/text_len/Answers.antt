@@ -6,14 +6,14 @@ use Rattle.bitpack.specs.Chains.{second_kind}
 use Rattle.bitpack.specs.Parts.{first_kind}
 use Rattle.bitpack.specs.Version1.{Blocks1}
 use Rattle.bitpack.proofs.HeaderLemmas.{header_bytes}
-use Rattle.bitpack.proofs.WriteSteps.{block-left, left-more, last-block, behind_step, behind_done}
+use Rattle.bitpack.proofs.WriteSteps.{block-left, left-more, last-block, later_step, later_done}
 use Rattle.bitpack.proofs.list.writing.text_len.Goals as goal
 
 pub loop-init : goal.loop-init
 loop-init g c = record {
   left = omega arith;
   bound = omega arith;
-  behind = λ text blocks. (text, rw (c.first-kind.ensures, sub-zero) blocks, refl);
+  later = λ text blocks. (text, rw (c.first-kind.ensures, sub-zero) blocks, refl);
 }
 
 pub split_at-requires : goal.split_at-requires
@@ -47,10 +47,10 @@ loop-preserved g c =
     record {
       left = left-more n i (length values) (length rest) (length c.split_at.result.1.now) before.left (ap length after ∙ length-drop n rest) room;
       bound = omega (arith, c.compressed_block_size.ensures);
-      behind = λ text blocks.
+      later = λ text blocks.
           rw (next, after, c.compressed_block_size.ensures)
-          (behind_step lanes (length values / len) i c.loop.kind rest width c.loop.size (length text) c.loop-test.true
-          (rw block at c.width_kind-width.ensures.width) (before.behind text blocks));
+          (later_step lanes (length values / len) i c.loop.kind rest width c.loop.size (length text) c.loop-test.true
+          (rw block at c.width_kind-width.ensures.width) (before.later text blocks));
     }
 
 pub returns : goal.returns
@@ -60,8 +60,8 @@ returns g c =
     let values : List ℕ = c.args.values.now in
     let whole : len ≡ 32 * lanes = c.BLOCK_LEN-len.ensures ∙ g.met.P.BitPacker.block_len in
     λ text list.
-    let blocks : Blocks1 lanes (length values / len) (first_kind c.args.kind) values (drop 7 text) = rw whole list.behind in
+    let blocks : Blocks1 lanes (length values / len) (first_kind c.args.kind) values (drop 7 text) = rw whole list.blocks in
     let found = header_bytes 1 lanes c.args.kind (length values) text list.begins in
-    let total = behind_done lanes (length values / len) c.loop.counter c.loop.kind c.loop.rest.now c.loop.size (length (drop 7 text))
-    c.loop-test.false (c.loop.invariant.behind (drop 7 text) blocks) in
+    let total = later_done lanes (length values / len) c.loop.counter c.loop.kind c.loop.rest.now c.loop.size (length (drop 7 text))
+    c.loop-test.false (c.loop.invariant.later (drop 7 text) blocks) in
     omega (arith, total, length-drop 7 text, found.long)

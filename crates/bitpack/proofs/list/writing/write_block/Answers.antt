@@ -26,7 +26,7 @@ append-requires g c =
     let body : List ℕ = c.compress_kind-size.new.out in
     let written : ℕ = c.compress_kind-size.result in
     let least = c.width_kind-width.ensures.width in
-    let holds = c.compress_kind-size.ensures.bytes in
+    let holds = c.compress_kind-size.ensures.packed.bytes in
     let all = c.compress_kind-size.ensures.size in
     let room = c.requires.room (width ∷ take written body) (part lanes c.args.kind block body width written least holds all) in
     record { room = omega (arith, room, length_part lanes c.args.kind block body width written least holds all) }
@@ -39,7 +39,7 @@ append-requires-2 g c =
     let body : List ℕ = c.compress_kind-size.new.out in
     let written : ℕ = c.compress_kind-size.result in
     let least = c.width_kind-width.ensures.width in
-    let holds = c.compress_kind-size.ensures.bytes in
+    let holds = c.compress_kind-size.ensures.packed.bytes in
     let all = c.compress_kind-size.ensures.size in
     let room = c.requires.room (width ∷ take written body) (part lanes c.args.kind block body width written least holds all) in
     let len = c.append.ensures.len in
@@ -60,6 +60,6 @@ returns-clause-part g c =
     let bytes : AreBytes new = AreBytes-from_items new c.type_inv.out in (
       width ∷ take written body,
       AreBytes-right old (width ∷ take written body) (rw items at bytes),
-      part lanes c.args.kind block body width written c.width_kind-width.ensures.width c.compress_kind-size.ensures.bytes c.compress_kind-size.ensures.size,
+      part lanes c.args.kind block body width written c.width_kind-width.ensures.width c.compress_kind-size.ensures.packed.bytes c.compress_kind-size.ensures.size,
       items,
     )

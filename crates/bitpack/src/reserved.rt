@@ -1,4 +1,4 @@
-//! Vectors that were given their room before.
+//! Appending to vectors that have reserved room.
 
 ghost use Rattle.std.specs.Prelude.{◌≡◌, ◌+◌, ◌≤◌, ◌++◌, length, vec_len, vec_capacity};
 

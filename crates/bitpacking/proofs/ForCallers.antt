@@ -1,10 +1,20 @@
--- The proofs of the laws.
-use Rattle.std.proofs.Common.{sym, ◌∙◌, ap}
-use Rattle.bitpacking.specs.Laws.{OneLayoutPlaces, OneLayoutBytes, OneLayoutCodes, OneBlock, OneLeastWidth, FitsGreater, NoneIsTheLastNumber}
+-- The laws as lemmas, for the proofs of this crate and of those that use it. Their types are words of specs/Laws.antt.
+use Rattle.std.proofs.Common.{◌^◌, ◌<◌, drop, get_or, length, sym, ◌∙◌, ap, arith, inl, inr}
+use Rattle.std.proofs.lemmas.Bool.{cases_lt}
+use Rattle.std.proofs.lemmas.List.{get_or-drop, get_or_past}
+use Rattle.bitpacking.specs.Words.{joined, word}
+use Rattle.bitpacking.specs.Laws.{OneLayoutPlaces, OneLayoutBytes, OneLayoutCodes, AsManyCodes, CodesAreWords, OneBlock, OneLeastWidth, SameLeastWidth, FitsGreater, NoneIsTheLastNumber, LanesAreOneLaneLayouts, WordsAreLittleEndian, WordsReadBack}
 use Rattle.bitpacking.proofs.Places.{code_of, offset_of, of_place, place_of}
 use Rattle.bitpacking.proofs.OneToOne.{bytes_of, bytes_of-bytes, Layout-bytes_of, same_bytes-from_layout, codes_of, Layout-codes_of, same_codes-from_layout}
-use Rattle.bitpacking.proofs.Blocks.{block_of, AreWords-block_of, codes-block_of, same_block, codes-none}
+use Rattle.bitpacking.proofs.Blocks.{block_of, AreWords-block_of, AreWords-codes, codes-block_of, length-codes, same_block, codes-none}
+use Rattle.bitpacking.proofs.Lanes.{layout-lane}
+use Rattle.bitpacking.proofs.RegisterLemmas.{word-bytes_of_words}
 use Rattle.bitpacking.proofs.Widths.{least_width, Least-same, Fits-more}
+pub use Rattle.bitpacking.proofs.OrderLemmas.{strict_saves_at_most_a_bit, sorted_codes_are_differences}
+pub use Rattle.bitpacking.proofs.RoundTrips.{bytes_hold_one_block, block_has_one_list, blocks_share_no_bytes, equal_packed_buffers, equal_unpacked_values}
+pub use Rattle.bitpacking.proofs.Storing.{AreBytes-take}
+pub use Rattle.bitpacking_register.proofs.ByteLemmas.{length-bytes_of_words}
+pub use Rattle.bitpacking_register.proofs.WordLemmas.{bytes_of_words_more}
 
 pub one_layout_places : OneLayoutPlaces
 one_layout_places lanes width t some ht =
@@ -30,11 +40,19 @@ one_layout_bytes lanes width values some len fits = (
 
 pub one_layout_codes : OneLayoutCodes
 one_layout_codes lanes width bytes len = (
-  codes_of lanes width bytes,
   Layout-codes_of lanes width bytes len,
   λ others layout. same_codes-from_layout lanes width others (codes_of lanes width bytes) bytes layout
       (Layout-codes_of lanes width bytes len),
 )
+
+pub lanes_are_one_lane_layouts : LanesAreOneLaneLayouts
+lanes_are_one_lane_layouts = layout-lane
+
+pub as_many_codes : AsManyCodes
+as_many_codes = length-codes
+
+pub codes_are_words : CodesAreWords
+codes_are_words = AreWords-codes
 
 pub one_block : OneBlock
 one_block kind values small words = (
@@ -50,8 +68,22 @@ one_least_width words small =
     let found = least_width words small in
     (found.0, found.1, found.2, λ other least. Least-same words other found.0 least found.2)
 
+pub same_least_width : SameLeastWidth
+same_least_width codes width other least also = Least-same codes other width also least
+
 pub fits_greater : FitsGreater
 fits_greater words width greater le fits = Fits-more words width greater le fits
 
 pub none_is_the_last_number : NoneIsTheLastNumber
 none_is_the_last_number block = codes-none block
+
+pub words_are_little_endian : WordsAreLittleEndian
+unfolding word joined
+words_are_little_endian bytes q = simp get_or-drop (omega arith)
+
+pub words_read_back : WordsReadBack
+words_read_back words q are_words lt =
+    word-bytes_of_words words q (λ l. elim (cases_lt l (length words)) [
+      | inl within ↦ are_words l 0 within
+      | inr past ↦ rw (get_or_past words l 0 past) (omega arith)
+    ]) lt
