@@ -4,15 +4,15 @@ use Rattle.std.proofs.lemmas.Bool.{cases_lt}
 use Rattle.std.proofs.lemmas.List.{get_or-drop, get_or_past}
 use Rattle.bitpacking.specs.Words.{joined, word}
 use Rattle.bitpacking.specs.Laws.{OneLayoutPlaces, OneLayoutBytes, OneLayoutCodes, AsManyCodes, CodesAreWords, OneBlock, OneLeastWidth, SameLeastWidth, FitsGreater, NoneIsTheLastNumber, LanesAreOneLaneLayouts, WordsAreLittleEndian, WordsReadBack}
-use Rattle.bitpacking.proofs.Places.{code_of, offset_of, of_place, place_of}
+use Rattle.bitpacking.proofs.BitPlaces.{code_of, offset_of, of_place, place_of}
 use Rattle.bitpacking.proofs.OneToOne.{bytes_of, bytes_of-bytes, Layout-bytes_of, same_bytes-from_layout, codes_of, Layout-codes_of, same_codes-from_layout}
 use Rattle.bitpacking.proofs.Blocks.{block_of, AreWords-block_of, AreWords-codes, codes-block_of, length-codes, same_block, codes-none}
-use Rattle.bitpacking.proofs.Lanes.{layout-lane}
+use Rattle.bitpacking.proofs.OneLaneLayouts.{layout-lane}
 use Rattle.bitpacking.proofs.RegisterLemmas.{word-bytes_of_words}
 use Rattle.bitpacking.proofs.Widths.{least_width, Least-same, Fits-more}
 pub use Rattle.bitpacking.proofs.OrderLemmas.{strict_saves_at_most_a_bit, sorted_codes_are_differences}
 pub use Rattle.bitpacking.proofs.RoundTrips.{bytes_hold_one_block, block_has_one_list, blocks_share_no_bytes, equal_packed_buffers, equal_unpacked_values}
-pub use Rattle.bitpacking.proofs.Storing.{AreBytes-take}
+pub use Rattle.bitpacking.proofs.FrontWords.{AreBytes-take}
 pub use Rattle.bitpacking_register.proofs.ByteLemmas.{length-bytes_of_words}
 pub use Rattle.bitpacking_register.proofs.WordLemmas.{bytes_of_words_more}
 

@@ -12,7 +12,7 @@ use Rattle.bitpacking.specs.Width.{Fits}
 use Rattle.bitpacking.specs.Layout.{place, Layout, size}
 unfoldable pub use Rattle.bitpacking.specs.Layout.{codes_of}
 use Rattle.bitpacking.proofs.Digits.{joined-lt, bit_at-joined}
-use Rattle.bitpacking.proofs.Places.{code_of, offset_of, of_place, place_lt, place_of}
+use Rattle.bitpacking.proofs.BitPlaces.{code_of, offset_of, of_place, place_lt, place_of}
 
 -- The list whose element k, for k below n, is f k.
 abbrev pub made : (ℕ → ℕ) → ℕ → List ℕ

@@ -10,12 +10,12 @@ use Rattle.bitpacking.specs.Partway.{RowsPacked, PacksRows}
 use Rattle.bitpacking.specs.Width.{Fits}
 use Rattle.bitpacking.specs.Words.{word as word_of}
 use Rattle.bitpacking.specs.declared.memory.Steps.{Steps}
-use Rattle.bitpacking.proofs.LaneNumbers.{lane_code, lane_word, Layout-from_lanes}
+use Rattle.bitpacking.proofs.LaneEquations.{lane_code, lane_word, Layout-from_lanes}
 use Rattle.bitpacking.proofs.PackSteps.{Packed-start, Packed-keep, Packed-store, Packed-end, room_left}
-use Rattle.bitpacking.proofs.Parts.{row_after, row_at}
+use Rattle.bitpacking.proofs.WordsOfParts.{row_after, row_at}
 use Rattle.bitpacking.proofs.RegisterLemmas.{lane-splat}
 use Rattle.bitpacking.proofs.RowSteps.{codes_step}
-use Rattle.bitpacking.proofs.Storing.{joined-front, AreBytes-take}
+use Rattle.bitpacking.proofs.FrontWords.{joined-front, AreBytes-take}
 
 -- Where row n begins, in words and bits.
 pub row_place : (w n : ℕ) → 32 * (n * w / 32) + n * w % 32 ≡ w * n

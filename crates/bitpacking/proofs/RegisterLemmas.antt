@@ -6,7 +6,7 @@ use Rattle.std.proofs.lemmas.Simd.{get_or-zip2, zip2_splat}
 use Rattle.bitpacking_register.specs.Words.{words_of_bytes, bytes_of_words, shifted_left}
 use Rattle.bitpacking.specs.Words.{joined, word}
 use Rattle.bitpacking.proofs.Digits.{joined-same}
-use Rattle.bitpacking.proofs.Parts.{word-to_le_bytes}
+use Rattle.bitpacking.proofs.WordsOfParts.{word-to_le_bytes}
 
 -- the word after the first one
 word-after : (a b c d : ℕ) (bytes : List ℕ) (q : ℕ) → word (a ∷ b ∷ c ∷ d ∷ bytes) (suc q) ≡ word bytes q

@@ -7,7 +7,7 @@ use Rattle.bitpacking.specs.Codes.{codes}
 use Rattle.bitpacking.specs.Laws.{BytesHoldOneBlock, BlockHasOneList, BlocksShareNoBytes, EqualPackedBuffers, EqualUnpackedValues}
 use Rattle.bitpacking.proofs.OneToOne.{same_bytes-from_layout, same_codes-from_layout}
 use Rattle.bitpacking.proofs.Blocks.{same_block}
-use Rattle.bitpacking.proofs.Storing.{AreBytes-take}
+use Rattle.bitpacking.proofs.FrontWords.{AreBytes-take}
 
 pub bytes_hold_one_block : BytesHoldOneBlock
 bytes_hold_one_block lanes width kind block other bytes words words' holds holds' =

@@ -2,7 +2,7 @@
 use Rattle.std.proofs.Common.{◌≡◌, ℕ, ◌+◌, ◌*◌, ◌<◌, ◌≤◌, List, [], ◌++◌, length, get_or, take, drop, sym, ◌∙◌, ap, arith}
 use Rattle.std.proofs.lemmas.List.{drop_all, append-nil}
 use Rattle.std.proofs.lemmas.Nat.{mul-le}
-use Rattle.bitpacking.proofs.Parts.{drop-further, row_first, row_is}
+use Rattle.bitpacking.proofs.WordsOfParts.{drop-further, row_first, row_is}
 
 -- The codes that are left begin with those of the next register. `old` and `new` are what the transformer gives of the values
 -- that come, before and after that register.

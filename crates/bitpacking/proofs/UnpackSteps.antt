@@ -1,6 +1,6 @@
 -- One lane of a loop that unpacks: each code is a field of the lane's number.
 use Rattle.bitpacking.specs.Layout.{Layout}
-use Rattle.bitpacking.proofs.LaneNumbers.{lane_code, lane_word, lane_code-lt, lanes-from_layout}
+use Rattle.bitpacking.proofs.LaneEquations.{lane_code, lane_word, lane_code-lt, lanes-from_layout}
 use Rattle.bitpacking.specs.Words.{joined}
 pub use Rattle.bitpacking.specs.Partway.{Unpacked}
 use Rattle.bitpacking.specs.Bits.{AreBytes}

@@ -7,10 +7,10 @@ use Rattle.bitpacking.specs.Moves.{IsLoad, IsStore}
 use Rattle.bitpacking.specs.Partway.{Unpacked, RowsUnpacked, UnpacksRows, words_to, left_at}
 use Rattle.bitpacking.specs.Words.{joined}
 use Rattle.bitpacking.specs.declared.memory.Steps.{Steps}
-use Rattle.bitpacking.proofs.LaneNumbers.{word-lt, lane_word}
+use Rattle.bitpacking.proofs.LaneEquations.{word-lt, lane_word}
 use Rattle.bitpacking.proofs.RegisterLemmas.{lane-zip2, lane-splat}
 use Rattle.bitpacking.proofs.RowSteps.{values_step, values_done}
-use Rattle.bitpacking.proofs.Storing.{joined-front, AreBytes-take}
+use Rattle.bitpacking.proofs.FrontWords.{joined-front, AreBytes-take}
 use Rattle.bitpacking.proofs.UnpackSteps.{Unpacked-start, Unpacked-whole, Unpacked-load, digit, digit-joined, digit-code, masked, words_left}
 
 -- The number that the words of a lane make.

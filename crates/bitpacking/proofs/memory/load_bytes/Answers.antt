@@ -1,6 +1,6 @@
 use Rattle.std.proofs.Common.{◌≡◌, ◌+◌, ◌-◌, ◌*◌, List, ℕ, length, get_or, take, drop, ◌∙◌, ap, arith}
 use Rattle.std.proofs.lemmas.List.{length-take, length-drop}
-use Rattle.bitpacking.proofs.Parts.{word-row}
+use Rattle.bitpacking.proofs.WordsOfParts.{word-row}
 use Rattle.bitpacking.proofs.RegisterLemmas.{get_or-words_of_bytes}
 use Rattle.bitpacking.proofs.memory.load_bytes.Goals as goal
 

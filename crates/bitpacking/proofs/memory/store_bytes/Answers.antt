@@ -1,6 +1,6 @@
 use Rattle.std.proofs.Common.{◌<◌, length, ◌∙◌, ap, arith}
 use Rattle.bitpacking.specs.Words.{word}
-use Rattle.bitpacking.proofs.Parts.{word-row_stored, word-row_before, drop-row}
+use Rattle.bitpacking.proofs.WordsOfParts.{word-row_stored, word-row_before, drop-row}
 use Rattle.bitpacking.proofs.RegisterLemmas.{word-bytes_of_words}
 use Rattle.bitpacking.proofs.memory.store_bytes.Goals as goal
 

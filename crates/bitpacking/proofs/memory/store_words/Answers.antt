@@ -1,4 +1,4 @@
-use Rattle.bitpacking.proofs.Parts.{drop-slots}
+use Rattle.bitpacking.proofs.WordsOfParts.{drop-slots}
 use Rattle.bitpacking.proofs.memory.store_words.Goals as goal
 
 pub returns-clause-rest : goal.returns-clause-rest

@@ -2,12 +2,12 @@ use Rattle.std.proofs.Common.{List, ◌++◌, ◌≡◌, ℕ, ◌+◌, ◌-◌, 
 use Rattle.std.proofs.lemmas.List.{length-take}
 use Rattle.std.proofs.lemmas.Nat.{mul-add-lt, mul-le}
 use Rattle.bitpacking_register.specs.Words.{shifted_left, shifted_right}
-use Rattle.bitpacking.proofs.LaneNumbers.{lane_code, lane_word, Layout-from_lanes}
+use Rattle.bitpacking.proofs.LaneEquations.{lane_code, lane_word, Layout-from_lanes}
 use Rattle.bitpacking.proofs.PackSteps.{Packed-start, Packed-keep, Packed-store, Packed-end, room_left, row_room}
-use Rattle.bitpacking.proofs.Parts.{row_after, row_at}
+use Rattle.bitpacking.proofs.WordsOfParts.{row_after, row_at}
 use Rattle.bitpacking.proofs.RegisterLemmas.{lane-map, lane-zip2, lane-splat}
 use Rattle.bitpacking.proofs.RowSteps.{codes_step, rest_step}
-use Rattle.bitpacking.proofs.Storing.{joined-front, AreBytes-take}
+use Rattle.bitpacking.proofs.FrontWords.{joined-front, AreBytes-take}
 use Rattle.bitpacking.proofs.kernel.packing.pack.Goals as goal
 use Rattle.bitpacking.proofs.kernel.packing.pack.Goals.{then-filled-width-lt32, else-filled-width-lt32}
 

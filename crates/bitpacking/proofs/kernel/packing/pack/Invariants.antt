@@ -1,7 +1,7 @@
 -- In each lane the bits of the codes so far are those of the words stored and of the word pending.
 use Rattle.std.proofs.Common.{◌≡◌, ℕ, ◌+◌, ◌*◌, ◌<◌, ◌≤◌, max, length, drop, get_or}
 use Rattle.bitpacking.specs.Bits.{AreBytes}
-use Rattle.bitpacking.proofs.LaneNumbers.{lane_code, lane_word}
+use Rattle.bitpacking.proofs.LaneEquations.{lane_code, lane_word}
 use Rattle.bitpacking.proofs.PackSteps.{Packed}
 use Rattle.bitpacking.proofs.kernel.packing.pack.Given as goal
 

@@ -3,10 +3,10 @@ use Rattle.std.proofs.lemmas.List.{length-take}
 use Rattle.std.proofs.lemmas.Bool.{cases_lt}
 use Rattle.std.proofs.lemmas.Nat.{mul-le}
 use Rattle.bitpacking.proofs.Digits.{joined-same}
-use Rattle.bitpacking.proofs.LaneNumbers.{lane_code, lane_word, Layout-from_lanes}
-use Rattle.bitpacking.proofs.Parts.{row_after, row_at}
+use Rattle.bitpacking.proofs.LaneEquations.{lane_code, lane_word, Layout-from_lanes}
+use Rattle.bitpacking.proofs.WordsOfParts.{row_after, row_at}
 use Rattle.bitpacking.proofs.RowSteps.{codes_step, rest_step}
-use Rattle.bitpacking.proofs.Storing.{joined-front, AreBytes-take}
+use Rattle.bitpacking.proofs.FrontWords.{joined-front, AreBytes-take}
 use Rattle.bitpacking.proofs.kernel.packing.pack_32.Goals as goal
 
 pub registers-init : goal.registers-init

@@ -1,7 +1,7 @@
 -- The words stored in each lane are the lane's codes.
 use Rattle.std.proofs.Common.{◌≡◌, ℕ, ◌+◌, ◌*◌, ◌<◌, ◌≤◌, max, length, drop}
 use Rattle.bitpacking.specs.Bits.{AreBytes}
-use Rattle.bitpacking.proofs.LaneNumbers.{lane_code, lane_word}
+use Rattle.bitpacking.proofs.LaneEquations.{lane_code, lane_word}
 use Rattle.bitpacking.proofs.kernel.packing.pack_32.Given as goal
 
 abbrev pub invariant-registers : goal.invariant-registers

@@ -5,11 +5,11 @@ use Rattle.bitpacking_register.specs.Words.{shifted_left, shifted_right}
 use Rattle.bitpacking.specs.Words.{joined}
 use Rattle.bitpacking.specs.Layout.{Layout}
 use Rattle.bitpacking.proofs.OneToOne.{codes_of, Layout-codes_of}
-use Rattle.bitpacking.proofs.LaneNumbers.{word-lt, lane_word}
+use Rattle.bitpacking.proofs.LaneEquations.{word-lt, lane_word}
 use Rattle.bitpacking.proofs.PackSteps.{row_room}
 use Rattle.bitpacking.proofs.UnpackSteps.{Unpacked, Unpacked-start, Unpacked-whole, Unpacked-load, digit, digit-joined, masked, words_left, digit-code}
 use Rattle.bitpacking.proofs.RegisterLemmas.{lane-map, lane-zip2, lane-splat}
-use Rattle.bitpacking.proofs.Storing.{joined-front, AreBytes-take}
+use Rattle.bitpacking.proofs.FrontWords.{joined-front, AreBytes-take}
 use Rattle.bitpacking.proofs.RowSteps.{values_step, values_done, rest_step}
 use Rattle.bitpacking.proofs.kernel.unpacking.unpack.Goals as goal
 use Rattle.bitpacking.proofs.kernel.unpacking.unpack.Goals.{then-left-width, else-left-width}

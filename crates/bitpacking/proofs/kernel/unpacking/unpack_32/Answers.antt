@@ -3,9 +3,9 @@ use Rattle.std.proofs.lemmas.List.{length-take}
 use Rattle.std.proofs.lemmas.Nat.{mul-le}
 use Rattle.bitpacking.specs.Layout.{Layout}
 use Rattle.bitpacking.proofs.OneToOne.{codes_of, Layout-codes_of}
-use Rattle.bitpacking.proofs.LaneNumbers.{word-lt, lane_word}
+use Rattle.bitpacking.proofs.LaneEquations.{word-lt, lane_word}
 use Rattle.bitpacking.proofs.UnpackSteps.{digit, digit-joined, digit-code}
-use Rattle.bitpacking.proofs.Storing.{joined-front, AreBytes-take}
+use Rattle.bitpacking.proofs.FrontWords.{joined-front, AreBytes-take}
 use Rattle.bitpacking.proofs.RowSteps.{values_step, values_done, rest_step}
 use Rattle.bitpacking.proofs.kernel.unpacking.unpack_32.Goals as goal
 

@@ -4,7 +4,7 @@ use Rattle.std.proofs.lemmas.Nat.{mul-add-lt, le_or_l, le_or_r, or_lt, pow_pos}
 use Rattle.std.proofs.lemmas.List.Elements.{All-from_get_or}
 use Rattle.bitpacking.specs.Width.{Fits}
 use Rattle.bitpacking.proofs.Widths.{Least-leading, Least-along}
-use Rattle.bitpacking.proofs.Parts.{row_after, row_at}
+use Rattle.bitpacking.proofs.WordsOfParts.{row_after, row_at}
 use Rattle.bitpacking.proofs.RegisterLemmas.{lane-zip2, lane-splat}
 use Rattle.bitpacking.proofs.RowSteps.{codes_step}
 use Rattle.bitpacking.proofs.kernel.widths.width.Goals as goal

@@ -6,7 +6,7 @@ use Rattle.std.specs.Int.{bit_at}
 use Rattle.bitpacking.specs.Bits.{bit_of}
 use Rattle.bitpacking.specs.Layout.{place}
 use Rattle.bitpacking.specs.Laws.{lane_bytes, LanesAreOneLaneLayouts}
-use Rattle.bitpacking.proofs.LaneNumbers.{bit_place, place_at}
+use Rattle.bitpacking.proofs.LaneEquations.{bit_place, place_at}
 use Rattle.bitpacking.proofs.OneToOne.{made, length-made, get_or-made}
 
 -- Bit p of a lane's bytes, as a bit of all the bytes.

@@ -1,5 +1,5 @@
 -- The words at the front of a list of bytes.
-use Rattle.bitpacking.proofs.LaneNumbers.{lane_word}
+use Rattle.bitpacking.proofs.LaneEquations.{lane_word}
 use Rattle.std.proofs.lemmas.Nat.{mul-le}
 use Rattle.bitpacking.specs.Words.{joined, word}
 use Rattle.bitpacking.specs.Bits.{AreBytes}

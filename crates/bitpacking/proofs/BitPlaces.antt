@@ -2,7 +2,7 @@
 use Rattle.std.proofs.Common.{◌≡◌, ℕ, ◌+◌, ◌*◌, ◌/◌, ◌%◌, ◌<◌, refl, ◌∙◌, arith}
 use Rattle.std.proofs.lemmas.Nat.{mul-add-lt, div-mul-add, mod-mul-add, mod_below, div_below}
 use Rattle.bitpacking.specs.Layout.{place, size}
-use Rattle.bitpacking.proofs.LaneNumbers.{place_at, row_split, row_below, bit_place}
+use Rattle.bitpacking.proofs.LaneEquations.{place_at, row_split, row_below, bit_place}
 
 -- The bit number t, seen as a bit of its lane's row of words.
 abbrev pub row_bit : ℕ → ℕ → ℕ
