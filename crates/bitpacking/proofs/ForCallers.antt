@@ -5,7 +5,8 @@ use Rattle.std.proofs.lemmas.List.{get_or-drop, get_or_past}
 use Rattle.bitpacking.specs.Words.{joined, word}
 use Rattle.bitpacking.specs.Laws.{OneLayoutPlaces, OneLayoutBytes, OneLayoutCodes, AsManyCodes, CodesAreWords, OneBlock, OneLeastWidth, SameLeastWidth, FitsGreater, NoneIsTheLastNumber, LanesAreOneLaneLayouts, WordsAreLittleEndian, WordsReadBack}
 use Rattle.bitpacking.proofs.BitPlaces.{code_of, offset_of, of_place, place_of}
-use Rattle.bitpacking.proofs.OneToOne.{bytes_of, bytes_of-bytes, Layout-bytes_of, same_bytes-from_layout, codes_of, Layout-codes_of, same_codes-from_layout}
+use Rattle.bitpacking.specs.Layout.{codes_of}
+use Rattle.bitpacking.proofs.OneToOne.{bytes_of, bytes_of-bytes, Layout-bytes_of, same_bytes-from_layout, Layout-codes_of, same_codes-from_layout}
 use Rattle.bitpacking.proofs.Blocks.{block_of, AreWords-block_of, AreWords-codes, codes-block_of, length-codes, same_block, codes-none}
 use Rattle.bitpacking.proofs.OneLaneLayouts.{layout-lane}
 use Rattle.bitpacking.proofs.RegisterLemmas.{word-bytes_of_words}

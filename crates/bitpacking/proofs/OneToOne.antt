@@ -9,8 +9,7 @@ use Rattle.std.proofs.lemmas.Bool.{cases_lt}
 use Rattle.std.proofs.lemmas.List.{get_or_past, ext_get_or}
 use Rattle.std.proofs.lemmas.List.FromFn.{length-map-range_with_len, get_or-map-range_with_len}
 use Rattle.bitpacking.specs.Width.{Fits}
-use Rattle.bitpacking.specs.Layout.{place, Layout, size}
-unfoldable pub use Rattle.bitpacking.specs.Layout.{codes_of}
+use Rattle.bitpacking.specs.Layout.{codes_of, place, Layout, size}
 use Rattle.bitpacking.proofs.Digits.{joined-lt, bit_at-joined}
 use Rattle.bitpacking.proofs.BitPlaces.{code_of, offset_of, of_place, place_lt, place_of}
 

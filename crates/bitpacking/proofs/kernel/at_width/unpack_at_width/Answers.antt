@@ -1,7 +1,7 @@
 use Rattle.std.proofs.Common.{List, ℕ, ◌*◌, ◌∙◌, take, arith, ap}
 use Rattle.std.proofs.lemmas.List.{length-take}
-use Rattle.bitpacking.specs.Layout.{Layout}
-use Rattle.bitpacking.proofs.OneToOne.{codes_of, Layout-codes_of}
+use Rattle.bitpacking.specs.Layout.{codes_of, Layout}
+use Rattle.bitpacking.proofs.OneToOne.{Layout-codes_of}
 use Rattle.bitpacking.proofs.UnpackedRows.{RowsUnpacked-start, RowsUnpacked-done}
 use Rattle.bitpacking.proofs.kernel.at_width.unpack_at_width.Goals as goal
 

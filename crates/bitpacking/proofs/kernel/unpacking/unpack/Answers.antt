@@ -3,8 +3,8 @@ use Rattle.std.proofs.lemmas.List.{length-take}
 use Rattle.std.proofs.lemmas.Nat.{mul-le}
 use Rattle.bitpacking_register.specs.Words.{shifted_left, shifted_right}
 use Rattle.bitpacking.specs.Words.{joined}
-use Rattle.bitpacking.specs.Layout.{Layout}
-use Rattle.bitpacking.proofs.OneToOne.{codes_of, Layout-codes_of}
+use Rattle.bitpacking.specs.Layout.{codes_of, Layout}
+use Rattle.bitpacking.proofs.OneToOne.{Layout-codes_of}
 use Rattle.bitpacking.proofs.LaneEquations.{word-lt, lane_word}
 use Rattle.bitpacking.proofs.PackSteps.{row_room}
 use Rattle.bitpacking.proofs.UnpackSteps.{Unpacked, Unpacked-start, Unpacked-whole, Unpacked-load, digit, digit-joined, masked, words_left, digit-code}

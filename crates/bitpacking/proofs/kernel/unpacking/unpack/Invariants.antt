@@ -3,7 +3,7 @@
 use Rattle.std.proofs.Common.{◌≡◌, ℕ, ◌+◌, ◌*◌, ◌<◌, ◌≤◌, ◌++◌, max, length, take, drop, get_or}
 use Rattle.bitpacking.specs.Words.{joined}
 use Rattle.bitpacking.proofs.LaneEquations.{lane_word}
-use Rattle.bitpacking.proofs.OneToOne.{codes_of}
+use Rattle.bitpacking.specs.Layout.{codes_of}
 use Rattle.bitpacking.proofs.UnpackSteps.{Unpacked}
 use Rattle.bitpacking.proofs.kernel.unpacking.unpack.Given as goal
 

@@ -1,8 +1,8 @@
 use Rattle.std.proofs.Common.{List, ◌≡◌, ℕ, ◌+◌, ◌*◌, take, refl, sym, ◌∙◌, ap, arith}
 use Rattle.std.proofs.lemmas.List.{length-take}
 use Rattle.std.proofs.lemmas.Nat.{mul-le}
-use Rattle.bitpacking.specs.Layout.{Layout}
-use Rattle.bitpacking.proofs.OneToOne.{codes_of, Layout-codes_of}
+use Rattle.bitpacking.specs.Layout.{codes_of, Layout}
+use Rattle.bitpacking.proofs.OneToOne.{Layout-codes_of}
 use Rattle.bitpacking.proofs.LaneEquations.{word-lt, lane_word}
 use Rattle.bitpacking.proofs.UnpackSteps.{digit, digit-joined, digit-code}
 use Rattle.bitpacking.proofs.FrontWords.{joined-front, AreBytes-take}

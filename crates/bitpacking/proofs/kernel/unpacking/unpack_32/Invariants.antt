@@ -1,6 +1,6 @@
 -- The values written, and those of the codes that are left, are the values of all codes.
 use Rattle.std.proofs.Common.{◌≡◌, ◌+◌, ◌*◌, ◌≤◌, ◌++◌, max, length, take, drop}
-use Rattle.bitpacking.proofs.OneToOne.{codes_of}
+use Rattle.bitpacking.specs.Layout.{codes_of}
 use Rattle.bitpacking.proofs.kernel.unpacking.unpack_32.Given as goal
 
 abbrev pub invariant-loop-i : goal.invariant-loop-i
