@@ -6,6 +6,7 @@ in place of ./bitpack. The last line is 'N passed, M failed'.
 """
 
 import csv
+import itertools
 import os
 import re
 import subprocess
@@ -100,10 +101,20 @@ def program_checks(program):
             yield line, answer, right
 
 
+def programs():
+    """The program, and the one that the gate's second compiler built, unless that is the older."""
+    yield f"{ROOT}/bitpack"
+    built = f"{ROOT}/crates/bitpack_main/out/bitpack_main"
+    second = f"{built}.by-rattle"
+    if os.path.isfile(second) and os.path.isfile(built) and os.stat(second).st_mtime >= os.stat(built).st_mtime:
+        yield second
+
+
 def main():
     assembled = subprocess.run([sys.executable, f"{ROOT}/vectors/assemble.py", "--check"])
     passed, failed = int(assembled.returncode == 0), int(assembled.returncode != 0)
-    for checks in [page_checks(page()), program_checks(sys.argv[1:] or [f"{ROOT}/bitpack"])]:
+    asked = [sys.argv[1:]] if sys.argv[1:] else programs()
+    for checks in itertools.chain([page_checks(page())], map(program_checks, asked)):
         for name, found, right in checks:
             passed += found == right
             failed += found != right
