@@ -1,8 +1,8 @@
 #!/usr/bin/env python3
 """Writes lists.tsv and refused.tsv, from blocks.tsv and from bytes worked by hand.
 
-The body of a block is one of blocks.tsv, as the original crate wrote it. A body holds codes and no start, so it can stand anywhere
-in a list, and the values are the codes added up. The rest of a list is the header, the width bytes and the tail of docs/FORMAT.md.
+The body of a block is one of blocks.tsv, as the original crate wrote it. A body holds codes and no start, so it can be a block of
+any list, and the values are the codes added up. The rest of a list is the header, the width bytes and the tail of docs/FORMAT.md.
 `assemble.py --check` writes nothing, and fails where the files are not what it would write.
 """
 
