@@ -22,6 +22,12 @@ echo "crate low: modules loaded=1 checked=1"
 echo "logic=proved functions=7 sum=1"
 echo "crate low: modules loaded=1 checked=1"
 echo "logic=proved functions=7 sum=1"
+n=0
+while [ -n "$RT_WAITS" ] && [ ! -e "$RT_WAITS" ]; do
+    n=$((n + 1))
+    [ $n = 100 ] && exit 1
+    sleep 0.1
+done
 [ -n "$RT_FAILS" ] && { echo "a goal is open"; exit 1; }
 echo "crate high: modules loaded=1 checked=1" >&2
 echo "logic=proved functions=1 sum=1" >&2
@@ -29,6 +35,7 @@ mkdir -p out
 printf '#!/bin/sh\\necho "program:$*"\\ncat\\n' > out/bitpack_main
 chmod +x out/bitpack_main
 """
+LOW = "bitpack: proved low, functions: 7\n"
 
 
 class Copy:
@@ -48,13 +55,30 @@ class Copy:
         os.utime(self.old, (0, 0))
         os.utime(f"{self.top}/crates.txt", (0, 0))
 
-    def run(self, *words, rt=True, fails="", stdin="size\n", folder="/"):
-        """The status, standard output and standard error of a call."""
-        path = f"{self.path}:/usr/bin:/bin" if rt else "/usr/bin:/bin"
-        kept = {"PATH": path, "RT_CALLS": self.calls, "RT_FAILS": fails}
+    def environment(self, rt=True, **more):
+        return {"PATH": f"{self.path}:/usr/bin:/bin" if rt else "/usr/bin:/bin", "RT_CALLS": self.calls, **more}
+
+    def run(self, *words, stdin="size\n", **more):
+        """The status, standard output and standard error of a call from another folder."""
         given = {"stdin": stdin} if isinstance(stdin, int) else {"input": stdin}
-        ran = subprocess.run([f"{self.top}/bitpack", *words], cwd=folder, env=kept, capture_output=True, text=True, **given)
+        environment = self.environment(**more)
+        ran = subprocess.run([f"{self.top}/bitpack", *words], cwd="/", env=environment, capture_output=True, text=True, **given)
         return ran.returncode, ran.stdout, ran.stderr
+
+    def says_at_once(self):
+        """Whether the line of a crate comes while the build waits to go on."""
+        go = f"{self.top}/go"
+        environment = self.environment(RT_WAITS=go, RT_FAILS="1")
+        ran = subprocess.Popen([f"{self.top}/bitpack"], env=environment, stdin=subprocess.DEVNULL, stderr=subprocess.PIPE, text=True)
+        for line in ran.stderr:
+            if line == LOW:
+                open(go, "w", encoding="ascii").close()
+        ran.wait()
+        return os.path.exists(go) and "a goal is open" in self.log()
+
+    def log(self):
+        with open(f"{self.top}/out/build.log", encoding="utf-8") as file:
+            return file.read()
 
     def builds(self):
         """How often rt was called to build."""
@@ -81,15 +105,15 @@ def builds(copy):
     """When it builds, and what it prints then."""
     status, out, error = copy.run(rt=False)
     yield "without rt it says so", (status, out, error.count("\n")) == (2, "", 1) and "rt" in error
-    status, out, error = copy.run(fails="1")
+    status, out, error = copy.run(RT_FAILS="1")
     yield "a failed build shows the log's end", status == 3 and out == "" and "a goal is open" in error
+    yield "the line of a crate comes when it is proved", copy.says_at_once()
     status, out, error = copy.run("--other", "words")
     yield "the first call builds, and passes words on", (status, out) == (0, "program:--other words\nsize\n")
     said = error.split("\n")
     yield "it says that it builds, and how long", "building" in said[0] and "six minutes" in said[0]
-    yield "and has a line for each crate", said[1:] == ["bitpack: proved low, functions: 7", "bitpack: proved high, functions: 1", ""]
-    with open(f"{copy.top}/out/build.log", encoding="utf-8") as file:
-        yield "the log has the rest", "output of a check\n" in file.read()
+    yield "and has a line for each crate", said[1:] == [LOW.strip(), "bitpack: proved high, functions: 1", ""]
+    yield "the log has the rest", "output of a check\n" in copy.log()
     built = copy.builds()
     yield "the second call does not build", copy.run("--help", "x") == (0, "program:--help x\nsize\n", "") and copy.builds() == built
     yield "nor does it need rt", copy.run(rt=False) == (0, "program:\nsize\n", "")
