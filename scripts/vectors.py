@@ -2,11 +2,10 @@
 """Runs the vectors of vectors/ over the decoder that docs/FORMAT.md shows, and over the program.
 
 docs/VECTORS.md says where the vectors come from. `vectors.py PROGRAM ..` runs them over another program of the same line language,
-in place of ./bitpack. The last line is 'N passed, M failed'.
+in place of ./bitpack. The last line is 'N passed, M failed', which counts the readers of the vectors.
 """
 
 import csv
-import itertools
 import os
 import re
 import subprocess
@@ -110,16 +109,25 @@ def programs():
         yield second
 
 
+def groups(asked):
+    """The checks of each reader of the vectors, with its name."""
+    yield "the decoder of docs/FORMAT.md", page_checks(page())
+    for program in asked:
+        yield os.path.relpath(program[0] if isinstance(program, list) else program, ROOT), program_checks(program)
+
+
 def main():
     assembled = subprocess.run([sys.executable, f"{ROOT}/vectors/assemble.py", "--check"])
     passed, failed = int(assembled.returncode == 0), int(assembled.returncode != 0)
-    asked = [sys.argv[1:]] if sys.argv[1:] else programs()
-    for checks in itertools.chain([page_checks(page())], map(program_checks, asked)):
+    for reader, checks in groups([sys.argv[1:]] if sys.argv[1:] else programs()):
+        count, wrong = 0, []
         for name, found, right in checks:
-            passed += found == right
-            failed += found != right
-            if found != right and failed <= 20:
-                print(f"{name[:120]}\n    is {str(found)[:120]}\n    and not {str(right)[:120]}")
+            count += 1
+            if found != right:
+                wrong.append(f"{name[:120]}\n    is {str(found)[:120]}\n    and not {str(right)[:120]}")
+        print("\n".join(wrong[:20] + [f"{reader}: {count - len(wrong)} of {count} vectors as they should be"]))
+        passed += not wrong
+        failed += bool(wrong)
     print(f"{passed} passed, {failed} failed")
     return 1 if failed else 0
 
