@@ -1,0 +1,13 @@
+-- Sets of ids as lists in order.
+use Rattle.std.specs.Prelude.{◌↔◌, ℕ, List, Contains, filter, nat_eq}
+use Rattle.std.specs.List.{list_any}
+use Rattle.std.specs.List.Sorted.{IsStrictlyIncreasing}
+
+-- the ids in order, each once
+pub record IsSetOf (ids set : List ℕ) : Type 0 where
+  pub increasing : IsStrictlyIncreasing set
+  pub same : (id : ℕ) → Contains set id ↔ Contains ids id
+
+-- the ids of the first set that the second one has
+abbrev pub common : List ℕ → List ℕ → List ℕ
+common first second = filter (λ id. list_any (nat_eq id) second) first

@@ -1,0 +1,21 @@
+//! A posting list as one text.
+
+use bitpack::{ListError, ListKind, list};
+use bitpacking::{BitPacker, BitPacker4x};
+use std::alloc::Global;
+
+/// Packs document numbers in increasing order.
+pub fn pack(alloc: Global, documents: &[u32]) -> Result<Vec<u8>, ListError> {
+    let packer = BitPacker4x::new();
+    let mut text = Vec::new(alloc);
+    list::encode(&packer, ListKind::StrictlySorted, documents, &mut text)?;
+    Ok(text)
+}
+
+/// Unpacks them. The text may be untrusted.
+pub fn unpack(alloc: Global, text: &[u8]) -> Result<Vec<u32>, ListError> {
+    let packer = BitPacker4x::new();
+    let mut documents = Vec::new(alloc);
+    list::decode(&packer, text, &mut documents)?;
+    Ok(documents)
+}

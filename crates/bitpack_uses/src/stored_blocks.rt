@@ -1,0 +1,95 @@
+//! Blocks whose widths and lengths come from outside: each is tested before the call that asks for it.
+
+ghost use Rattle.std.specs.Prelude.{◌≡◌, ◌<◌, ◌≤◌, ◌*◌, All, length, take, sum, Ok, OnOk, OnErr};
+ghost use Rattle.bitpacking.specs.Calls.{CanUnpack, IsUnpacked};
+ghost use Rattle.bitpacking.specs.Layout.{size};
+ghost use Rattle.bitpack.specs.Chains.{Loose};
+
+use bitpack::chain::unpack_all;
+use bitpacking::{BitPacker, Kind};
+use std::error::Error;
+use std::fmt;
+
+/// Why stored blocks cannot be read.
+#[derive(Clone, Copy, PartialEq, Eq, Debug)]
+pub enum StoredError {
+    /// This width is above 32.
+    WideWidth(u8),
+    /// The blocks have more bytes than there are.
+    MissingBytes,
+    /// The blocks have more values than there are places for.
+    MissingRoom,
+}
+
+impl fmt::Display for StoredError {
+    fn fmt<W: fmt::Write>(&self, f: &mut fmt::Formatter<W>) -> fmt::Result {
+        match self {
+            StoredError::WideWidth(width) => write!(f, "width {width} is above 32"),
+            StoredError::MissingBytes => write!(f, "bytes are missing"),
+            StoredError::MissingRoom => write!(f, "the values have no room"),
+        }
+    }
+}
+
+impl Error for StoredError {}
+
+/// Reads a block and returns the number of bytes read.
+pub fn read_block<P: BitPacker>(
+    packer: &P,
+    kind: Kind,
+    width: u8,
+    bytes: &[u8],
+    values: &mut [u32],
+) -> Result<usize, StoredError>
+    ensures ok { OnOk result (IsUnpacked P.lanes width kind bytes.now values.old values.new) }
+    ensures reads { CanUnpack P.lanes width bytes.now values.old → result ≡ Ok (size P.lanes width) }
+    ensures wide { 32 < width → result ≡ Err (StoredError.WideWidth width) }
+    ensures unchanged { OnErr result (values.new ≡ values.old) }
+{
+    if width > 32 {
+        return Err(StoredError::WideWidth(width));
+    }
+    if bytes.len() < P::compressed_block_size(width) {
+        return Err(StoredError::MissingBytes);
+    }
+    if values.len() < P::BLOCK_LEN {
+        return Err(StoredError::MissingRoom);
+    }
+    Ok(match kind {
+        Kind::Plain => packer.decompress(bytes, values, width),
+        Kind::Sorted(initial) => packer.decompress_sorted(initial, bytes, values, width),
+        Kind::StrictlySorted(initial) => {
+            packer.decompress_strictly_sorted(initial, bytes, values, width)
+        }
+    })
+}
+
+/// Reads a chain of blocks and returns the number of bytes read.
+pub fn read_chain<P: BitPacker>(
+    packer: &P,
+    kind: Kind,
+    widths: &[u8],
+    bytes: &[u8],
+    values: &mut [u32],
+) -> Result<usize, StoredError>
+    ensures ok { OnOk result (Loose P.lanes kind (take (P.BLOCK_LEN * length widths.now) values.new) widths.now
+        (take (4 * P.lanes * sum widths.now) bytes.now)) }
+    ensures reads { All (λ width. width ≤ 32) widths.now → 4 * P.lanes * sum widths.now ≤ length bytes.now
+        → P.BLOCK_LEN * length widths.now ≤ length values.old → result ≡ Ok (4 * P.lanes * sum widths.now) }
+    ensures unchanged { OnErr result (values.new ≡ values.old) }
+{
+    let mut size = 0;
+    for width in widths {
+        if *width > 32 {
+            return Err(StoredError::WideWidth(*width));
+        }
+        size += P::compressed_block_size(*width);
+        if size > bytes.len() {
+            return Err(StoredError::MissingBytes);
+        }
+    }
+    if values.len() / P::BLOCK_LEN < widths.len() {
+        return Err(StoredError::MissingRoom);
+    }
+    Ok(unpack_all(packer, kind, widths, bytes, values))
+}

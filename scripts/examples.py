@@ -1,0 +1,78 @@
+#!/usr/bin/env python3
+"""Compares the examples of the pages with the proved and tested code that they come from.
+
+Each fenced block of Rust in README.md and docs/*.md comes after a comment that names a file of the crate of callers:
+    <!-- crates/bitpack_uses/src/NAME.rt -->
+The lines of the block are lines of that file, in one piece. Only the indentation of the whole block may differ.
+The last line is 'N passed, M failed', one for each block.
+"""
+import glob
+import os
+import re
+import sys
+import textwrap
+
+ROOT = os.path.dirname(os.path.dirname(os.path.realpath(__file__)))
+SOURCES = "crates/bitpack_uses/src/"
+FENCE = re.compile(r"^\s*(`{3,}|~{3,})\s*([^\s,{`]*)")
+COMMENT = re.compile(r"^\s*<!--\s*(\S+)\s*-->\s*$")
+
+
+def examples(lines):
+    """The blocks of Rust in a page: the number of the first fence, the last line of text before it, and the block's lines."""
+    fence, before, found = None, "", []
+    for number, line in enumerate(lines, 1):
+        mark = FENCE.match(line)
+        if fence is None and mark:
+            fence, block = mark.group(1), []
+            if mark.group(2).lower() in ("rust", "rs"):
+                found.append((number, before, block))
+        elif fence is None:
+            before = line if line.strip() else before
+        elif mark and mark.group(1).startswith(fence) and not line.strip(" \t`~"):
+            fence, before = None, ""
+        else:
+            block.append(line)
+    return found
+
+
+def same_lines(lines):
+    """Lines without their common indentation and without spaces at their ends."""
+    return textwrap.dedent("\n".join(lines)).rstrip().split("\n")
+
+
+def fault(before, block):
+    """Why a block is not tested code, or None."""
+    named = COMMENT.match(before)
+    if not named:
+        return "no comment before it names a file"
+    path = os.path.normpath(named.group(1))
+    if not path.startswith(SOURCES) or not path.endswith(".rt"):
+        return f"{path} is not a file of {SOURCES}"
+    if not os.path.isfile(f"{ROOT}/{path}"):
+        return f"there is no file {path}"
+    if not "".join(block).strip():
+        return "it is empty"
+    with open(f"{ROOT}/{path}", encoding="utf-8") as file:
+        lines = file.read().split("\n")
+    wanted = same_lines(block)
+    for start in range(len(lines)):
+        if same_lines(lines[start : start + len(wanted)]) == wanted:
+            return None
+    return f"its lines are not in one piece in {path}"
+
+
+def main():
+    passed, failed = 0, 0
+    for page in ["README.md"] + sorted(glob.glob("docs/*.md", root_dir=ROOT)):
+        with open(f"{ROOT}/{page}", encoding="utf-8") as file:
+            lines = file.read().split("\n")
+        for number, before, block in examples(lines):
+            why = fault(before, block)
+            print(f"{page}:{number}: {f'FAILED: {why}' if why else 'as tested'}")
+            passed, failed = passed + (not why), failed + bool(why)
+    print(f"{passed} passed, {failed} failed")
+    return 1 if failed or not passed else 0
+
+
+sys.exit(main())
