@@ -1,5 +1,5 @@
 -- A line is its fields: which they are is found by cutting it at the spaces.
-use Rattle.std.proofs.Common.{◌≡◌, Result, Ok, Err, ℕ, List, [], ◌∷◌, length, take, sym, ap, subst, ◌∙◌, arith, length-take, take_all, ◌==◌}
+use Rattle.std.proofs.Common.{◌≡◌, Bor, map, Result, Ok, Err, ℕ, List, [], ◌∷◌, length, take, sym, ap, subst, ◌∙◌, arith, length-take, take_all, ◌==◌}
 use Rattle.std.specs.List.{join_with_byte, slice_split}
 use Rattle.std.specs.Str.{IsUtf8}
 use Rattle.std.proofs.lemmas.List.Elements.{All-weaker}
@@ -14,6 +14,10 @@ use Rattle.bitpack.specs.Found.{Parses, asked_by, request_of}
 use Rattle.bitpack.proofs.Cuts.{Lacks}
 use Rattle.bitpack.proofs.Printed.{AreFields, IsAscii-fields, IsPrinted, Lacks-printed, are_fields}
 use Rattle.bitpack.proofs.ValueLists.{split-join}
+
+-- the texts of fields
+abbrev pub texts_of : List (Bor (List ℕ)) → List (List ℕ)
+texts_of fields = map (λ field. field.now) fields
 
 abbrev pub between_spaces : List ℕ → List (List ℕ)
 between_spaces line = slice_split (λ b. b == 32) line

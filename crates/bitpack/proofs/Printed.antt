@@ -1,11 +1,12 @@
 -- Texts whose bytes are seen when they are printed: ASCII, and no space.
 use Rattle.std.proofs.Common.{◌≡◌, ℕ, zero, suc, ◌^◌, ◌<◌, ◌≤◌, Bool, true, List, [], ◌∷◌, ◌++◌, length, get_or, codes, refl, sym, subst, append-nil, arith, ◌&&◌, nat_le, None, Some}
 use Rattle.std.specs.Prelude.{All}
-use Rattle.std.specs.List.{join_with_byte}
+use Rattle.std.specs.List.{AllZip, join_with_byte}
 use Rattle.std.specs.Str.{IsAscii}
 use Rattle.std.specs.Fmt.{decimal}
 use Rattle.std.proofs.lemmas.Bool.{and_parts, leb-true}
-use Rattle.std.proofs.lemmas.List.Elements.{All-from_recursion, All-head, All-tail}
+use Rattle.std.proofs.lemmas.List.Elements.{All-cons, All-head, All-nil, All-tail}
+use Rattle.std.proofs.lemmas.Slice.Zip.{AllZip-long}
 use Rattle.std.proofs.lemmas.Str.Ascii.{IsAscii-nil, IsAscii-cons}
 use Rattle.hex.specs.Hex.{is_hex_digit}
 use Rattle.hex.proofs.HexLemmas.{decode_of-ok}
@@ -17,7 +18,7 @@ use Rattle.bitpack.specs.declared.line.values.Item.{Item}
 use Rattle.bitpack.specs.declared.line.values.Item.TheVariants.{Once, Times}
 use Rattle.bitpack.specs.declared.list_kind.ListKind.{ListKind}
 use Rattle.bitpack.specs.declared.list_kind.ListKind.TheVariants as lists
-use Rattle.bitpack.specs.Grammar.{Asks, Dec, Enc, IsItem, IsKind, Pack, Request, Size, SpellsBytes, SpellsValues, Unpack, Width, item_text, items_text, kind_text, listkind_text, packer_text}
+use Rattle.bitpack.specs.Grammar.{Argument, Asks, Dec, Enc, IsItem, IsKind, Pack, Request, Size, SpellsArgument, SpellsBytes, SpellsValues, TheseBytes, TheseValues, ThisKind, ThisListKind, ThisWidth, Unpack, Width, arguments, item_text, items_text, kind_text, list_kind_text, packer_text, verb_text}
 use Rattle.bitpack.proofs.Cuts.{Lacks}
 use Rattle.bitpack.proofs.Numerals.{decimal-digit}
 
@@ -73,10 +74,10 @@ IsPrinted-kind (Sorted initial) word = IsPrinted-append (codes "sorted:") (decim
 IsPrinted-kind (StrictlySorted None) word = IsPrinted-literal (codes "strict:none") refl
 IsPrinted-kind (StrictlySorted (Some initial)) word = IsPrinted-append (codes "strict:") (decimal initial) (IsPrinted-literal (codes "strict:") refl) (IsPrinted-decimal initial (omega arith))
 
-IsPrinted-listkind : (kind : ListKind) → IsPrinted (listkind_text kind)
-IsPrinted-listkind lists.Plain = IsPrinted-literal (codes "plain") refl
-IsPrinted-listkind lists.Sorted = IsPrinted-literal (codes "sorted") refl
-IsPrinted-listkind lists.StrictlySorted = IsPrinted-literal (codes "strict") refl
+IsPrinted-list_kind : (kind : ListKind) → IsPrinted (list_kind_text kind)
+IsPrinted-list_kind lists.Plain = IsPrinted-literal (codes "plain") refl
+IsPrinted-list_kind lists.Sorted = IsPrinted-literal (codes "sorted") refl
+IsPrinted-list_kind lists.StrictlySorted = IsPrinted-literal (codes "strict") refl
 
 IsPrinted-item : (item : Item) → IsItem item → IsPrinted (item_text item)
 IsPrinted-item (Once value) word = IsPrinted-decimal value (omega arith)
@@ -108,58 +109,44 @@ IsPrinted-bytes text (byte ∷ bytes) spelled =
 
 -- ---- lines
 
--- the fields of a request: at least three, at most five, and each is printed
+IsPrinted-argument : (text : List ℕ) (argument : Argument) → SpellsArgument text argument → IsPrinted text
+IsPrinted-argument text (ThisWidth width) (is, small) = subst IsPrinted (sym is) (IsPrinted-decimal width (omega arith))
+IsPrinted-argument text (ThisKind kind) (is, is_kind) = subst IsPrinted (sym is) (IsPrinted-kind kind is_kind)
+IsPrinted-argument text (ThisListKind kind) is = subst IsPrinted (sym is) (IsPrinted-list_kind kind)
+IsPrinted-argument text (TheseValues values) spelled = IsPrinted-values text values spelled
+IsPrinted-argument text (TheseBytes bytes) spelled = IsPrinted-bytes text bytes spelled
+
+IsPrinted-arguments : (texts : List (List ℕ)) (all : List Argument) → AllZip SpellsArgument texts all → All IsPrinted texts
+IsPrinted-arguments [] [] spelled = All-nil IsPrinted
+IsPrinted-arguments (text ∷ texts) (argument ∷ all) (first, rest) =
+    All-cons IsPrinted text texts (IsPrinted-argument text argument first) (IsPrinted-arguments texts all rest)
+IsPrinted-arguments texts all spelled = absurd spelled
+
+-- a verb is printed, and one to three arguments follow
+pub form : (request : Request) → (is_printed (verb_text request) ≡ true) × ((1 ≤ length (arguments request)) × (length (arguments request) ≤ 3))
+form (Size width) = (refl, (omega arith, omega arith))
+form (Width kind values) = (refl, (omega arith, omega arith))
+form (Pack kind width values) = (refl, (omega arith, omega arith))
+form (Unpack kind width bytes) = (refl, (omega arith, omega arith))
+form (Enc kind values) = (refl, (omega arith, omega arith))
+form (Dec bytes) = (refl, (omega arith, omega arith))
+
+-- the fields of a request: at least one, at most five, and each is printed
 pub record AreFields (fields : List (List ℕ)) : Type 0 where
-  pub some : 3 ≤ length fields
+  pub some : 1 ≤ length fields
   pub few : length fields ≤ 5
   pub printed : All IsPrinted fields
 
-AreFields-same : (a b : List (List ℕ)) → a ≡ b → AreFields b → AreFields a
-AreFields-same a b e fields = subst AreFields (sym e) fields
-
 pub are_fields : (fields : List (List ℕ)) (packer : PackerName) (request : Request) → Asks fields packer request → AreFields fields
-are_fields fields packer (Size width) (is, small) =
-    AreFields-same fields _ is (record {
+are_fields (verb ∷ name ∷ texts) packer request (named, (verb_is, spelled)) =
+    let (printed, short) = form request in
+    let rest = All-cons IsPrinted name texts (subst IsPrinted (sym named) (IsPrinted-packer packer)) (IsPrinted-arguments texts (arguments request) spelled) in
+    record {
       some = omega arith;
-      few = omega arith;
-      printed = All-from_recursion IsPrinted (codes "size" ∷ packer_text packer ∷ decimal width ∷ [])
-          (IsPrinted-literal (codes "size") refl, (IsPrinted-packer packer, (IsPrinted-decimal width (omega arith), tt)));
-    })
-are_fields fields packer (Width kind values) (text, is, is_kind, spelled) =
-    AreFields-same fields _ is (record {
-      some = omega arith;
-      few = omega arith;
-      printed = All-from_recursion IsPrinted (codes "width" ∷ packer_text packer ∷ kind_text kind ∷ text ∷ [])
-          (IsPrinted-literal (codes "width") refl, (IsPrinted-packer packer, (IsPrinted-kind kind is_kind, (IsPrinted-values text values spelled, tt))));
-    })
-are_fields fields packer (Unpack kind width bytes) (text, is, is_kind, small, spelled) =
-    AreFields-same fields _ is (record {
-      some = omega arith;
-      few = omega arith;
-      printed = All-from_recursion IsPrinted (codes "unpack" ∷ packer_text packer ∷ kind_text kind ∷ decimal width ∷ text ∷ [])
-          (IsPrinted-literal (codes "unpack") refl, (IsPrinted-packer packer, (IsPrinted-kind kind is_kind, (IsPrinted-decimal width (omega arith), (IsPrinted-bytes text bytes spelled, tt)))));
-    })
-are_fields fields packer (Pack kind width values) (text, is, is_kind, small, spelled) =
-    AreFields-same fields _ is (record {
-      some = omega arith;
-      few = omega arith;
-      printed = All-from_recursion IsPrinted (codes "pack" ∷ packer_text packer ∷ kind_text kind ∷ decimal width ∷ text ∷ [])
-          (IsPrinted-literal (codes "pack") refl, (IsPrinted-packer packer, (IsPrinted-kind kind is_kind, (IsPrinted-decimal width (omega arith), (IsPrinted-values text values spelled, tt)))));
-    })
-are_fields fields packer (Enc kind values) (text, is, spelled) =
-    AreFields-same fields _ is (record {
-      some = omega arith;
-      few = omega arith;
-      printed = All-from_recursion IsPrinted (codes "enc" ∷ packer_text packer ∷ listkind_text kind ∷ text ∷ [])
-          (IsPrinted-literal (codes "enc") refl, (IsPrinted-packer packer, (IsPrinted-listkind kind, (IsPrinted-values text values spelled, tt))));
-    })
-are_fields fields packer (Dec bytes) (text, is, spelled) =
-    AreFields-same fields _ is (record {
-      some = omega arith;
-      few = omega arith;
-      printed = All-from_recursion IsPrinted (codes "dec" ∷ packer_text packer ∷ text ∷ [])
-          (IsPrinted-literal (codes "dec") refl, (IsPrinted-packer packer, (IsPrinted-bytes text bytes spelled, tt)));
-    })
+      few = omega (arith, short, AllZip-long SpellsArgument texts (arguments request) spelled);
+      printed = All-cons IsPrinted verb (name ∷ texts) (subst IsPrinted (sym verb_is) (IsPrinted-literal (verb_text request) printed)) rest;
+    }
+are_fields fields packer request asks = absurd asks
 
 pub Lacks-printed : (byte : ℕ) (text : List ℕ) → byte < 33 → IsPrinted text → Lacks byte text
 Lacks-printed byte text low printed i h e = omega (arith, printed i h)

@@ -12,7 +12,7 @@ use Rattle.bitpack.specs.declared.list_kind.ListKind.{ListKind}
 use Rattle.bitpack.specs.declared.line.PackerName.{PackerName}
 use Rattle.bitpack.specs.declared.line.PackerName.TheVariants.{EightLanes, EightScalar, FourLanes, FourScalar, OneLane}
 use Rattle.bitpack.specs.declared.line.values.Item.TheVariants.{Once}
-use Rattle.bitpack.specs.Grammar.{Dec, Enc, Pack, Request, Size, Spells, Unpack, Width, items_text, listkind_text}
+use Rattle.bitpack.specs.Grammar.{Dec, Enc, Pack, Request, Size, Spells, Unpack, Width, items_text, list_kind_text}
 use Rattle.bitpack.specs.Parts.{number_of}
 use Rattle.bitpack.specs.Version1.{List1, fault1}
 
@@ -69,7 +69,7 @@ pub record IsEncoded (lanes : ℕ) (kind : ListKind) (values text : List ℕ) : 
 
 -- a list as its kind, a space and its values
 abbrev pub list_text : ListKind → List ℕ → List ℕ
-list_text kind values = listkind_text kind ++ 32 ∷ values_text values
+list_text kind values = list_kind_text kind ++ 32 ∷ values_text values
 
 -- the text is that of the list of the bytes
 pub record IsDecoded (lanes : ℕ) (bytes text : List ℕ) : Type 0 where

@@ -10,7 +10,7 @@ use Rattle.bitpack.specs.declared.line.PackerName.{PackerName}
 use Rattle.bitpack.specs.declared.line.values.Item.{Item}
 use Rattle.bitpack.specs.declared.line.error.ParseError.{ParseError}
 use Rattle.bitpack.specs.declared.line.error.ParseError.TheVariants.{Memory, Spelling}
-use Rattle.bitpack.specs.Grammar.{Dec, Enc, IsItem, IsKind, Pack, Request, Size, Unpack, Width, item_text, item_values, kind_text}
+use Rattle.bitpack.specs.Grammar.{Dec, Enc, IsItem, Pack, Request, Size, Unpack, Width, item_text, item_values}
 
 -- what was found is spelled; where nothing was found, nothing is
 abbrev pub Finds : {Y : Type 0} → (Y → Type 0) → Option Y → Type 0
@@ -22,13 +22,6 @@ abbrev pub Parses : {X Y : Type 0} → (X → Y) → (Y → Type 0) → Result X
 Parses view Spelled (Ok found) = Spelled (view found)
 Parses view Spelled (Err Spelling) = (found : _) → ¬ Spelled found
 Parses view Spelled (Err Memory) = Unit {0}
-
--- the text spells the number, which is in range
-abbrev pub SpellsNumber : (ℕ → Type 0) → List ℕ → ℕ → Type 0
-SpellsNumber IsRange text n = (text ≡ decimal n) × IsRange n
-
-abbrev pub SpellsKind : List ℕ → Kind → Type 0
-SpellsKind text kind = (text ≡ kind_text kind) × IsKind kind
 
 abbrev pub SpellsItem : List ℕ → Item → Type 0
 SpellsItem text item = (text ≡ item_text item) × IsItem item

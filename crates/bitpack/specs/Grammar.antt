@@ -1,6 +1,6 @@
 -- The line language: what the text of a request is.
 use Rattle.std.specs.Prelude.{◌≡◌, ℕ, ◌^◌, ◌<◌, ◌≤◌, List, [], ◌∷◌, ◌++◌, All, length, map, replicate, codes, None, Some, Ok}
-use Rattle.std.specs.List.{flat_map, join_with_byte}
+use Rattle.std.specs.List.{AllZip, flat_map, join_with_byte}
 use Rattle.std.specs.Fmt.{decimal}
 use Rattle.hex.specs.Hex.{decode_of}
 use Rattle.bitpacking.specs.declared.kind.Kind.{Kind}
@@ -14,6 +14,10 @@ use Rattle.bitpack.specs.declared.line.values.Item.{Item}
 use Rattle.bitpack.specs.declared.line.values.Item.TheVariants.{Once, Times}
 
 -- ---- numbers: a number is spelled by its decimal digits, with no sign and no zero in front
+
+-- the text spells the number, which is in range
+abbrev pub SpellsNumber : (ℕ → Type 0) → List ℕ → ℕ → Type 0
+SpellsNumber IsRange text n = (text ≡ decimal n) × IsRange n
 
 -- at most 255
 abbrev pub IsSmall : ℕ → Type 0
@@ -43,14 +47,17 @@ kind_text (StrictlySorted None) = codes "strict:none"
 kind_text (StrictlySorted (Some initial)) = codes "strict:" ++ decimal initial
 
 -- the kind of a list
-abbrev pub listkind_text : ListKind → List ℕ
-listkind_text lists.Plain = codes "plain"
-listkind_text lists.Sorted = codes "sorted"
-listkind_text lists.StrictlySorted = codes "strict"
+abbrev pub list_kind_text : ListKind → List ℕ
+list_kind_text lists.Plain = codes "plain"
+list_kind_text lists.Sorted = codes "sorted"
+list_kind_text lists.StrictlySorted = codes "strict"
 
 -- the number in a kind is a word
 abbrev pub IsKind : Kind → Type 0
 IsKind kind = IsWord (start kind)
+
+abbrev pub SpellsKind : List ℕ → Kind → Type 0
+SpellsKind text kind = (text ≡ kind_text kind) × IsKind kind
 
 -- ---- values: items, each a word, or a word, `*` and how often it stands
 
@@ -96,23 +103,46 @@ pub data Request : Type 0 where
   Enc : ListKind → List ℕ → Request
   Dec : List ℕ → Request
 
--- the fields of a line ask this of this packer
+-- the first field of a line
+abbrev pub verb_text : Request → List ℕ
+verb_text (Size width) = codes "size"
+verb_text (Width kind values) = codes "width"
+verb_text (Pack kind width values) = codes "pack"
+verb_text (Unpack kind width bytes) = codes "unpack"
+verb_text (Enc kind values) = codes "enc"
+verb_text (Dec bytes) = codes "dec"
+
+-- what a field after the packer is
+pub data Argument : Type 0 where
+  ThisWidth : ℕ → Argument
+  ThisKind : Kind → Argument
+  ThisListKind : ListKind → Argument
+  TheseValues : List ℕ → Argument
+  TheseBytes : List ℕ → Argument
+
+abbrev pub arguments : Request → List Argument
+arguments (Size width) = ThisWidth width ∷ []
+arguments (Width kind values) = ThisKind kind ∷ TheseValues values ∷ []
+arguments (Pack kind width values) = ThisKind kind ∷ ThisWidth width ∷ TheseValues values ∷ []
+arguments (Unpack kind width bytes) = ThisKind kind ∷ ThisWidth width ∷ TheseBytes bytes ∷ []
+arguments (Enc kind values) = ThisListKind kind ∷ TheseValues values ∷ []
+arguments (Dec bytes) = TheseBytes bytes ∷ []
+
+abbrev pub SpellsArgument : List ℕ → Argument → Type 0
+SpellsArgument text (ThisWidth width) = SpellsNumber IsSmall text width
+SpellsArgument text (ThisKind kind) = SpellsKind text kind
+SpellsArgument text (ThisListKind kind) = text ≡ list_kind_text kind
+SpellsArgument text (TheseValues values) = SpellsValues text values
+SpellsArgument text (TheseBytes bytes) = SpellsBytes text bytes
+
+-- the verb and the fields after the packer spell the request
+abbrev pub SpellsRequest : List ℕ → List (List ℕ) → Request → Type 0
+SpellsRequest verb texts request = (verb ≡ verb_text request) × AllZip SpellsArgument texts (arguments request)
+
+-- the fields of a line ask this of this packer: the verb, the packer, and a field for each argument
 abbrev pub Asks : List (List ℕ) → PackerName → Request → Type 0
-Asks fields packer (Size width) =
-    (fields ≡ codes "size" ∷ packer_text packer ∷ decimal width ∷ []) × IsSmall width
-Asks fields packer (Width kind values) =
-    (text : List ℕ) × (fields ≡ codes "width" ∷ packer_text packer ∷ kind_text kind ∷ text ∷ [])
-    × IsKind kind × SpellsValues text values
-Asks fields packer (Pack kind width values) =
-    (text : List ℕ) × (fields ≡ codes "pack" ∷ packer_text packer ∷ kind_text kind ∷ decimal width ∷ text ∷ [])
-    × IsKind kind × IsSmall width × SpellsValues text values
-Asks fields packer (Unpack kind width bytes) =
-    (text : List ℕ) × (fields ≡ codes "unpack" ∷ packer_text packer ∷ kind_text kind ∷ decimal width ∷ text ∷ [])
-    × IsKind kind × IsSmall width × SpellsBytes text bytes
-Asks fields packer (Enc kind values) =
-    (text : List ℕ) × (fields ≡ codes "enc" ∷ packer_text packer ∷ listkind_text kind ∷ text ∷ []) × SpellsValues text values
-Asks fields packer (Dec bytes) =
-    (text : List ℕ) × (fields ≡ codes "dec" ∷ packer_text packer ∷ text ∷ []) × SpellsBytes text bytes
+Asks (verb ∷ name ∷ texts) packer request = (name ≡ packer_text packer) × SpellsRequest verb texts request
+Asks fields packer request = ⊥
 
 -- the line spells the request of the packer: one space stands between two fields
 pub record Spells (line : List ℕ) (packer : PackerName) (request : Request) : Type 0 where

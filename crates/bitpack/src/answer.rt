@@ -10,7 +10,7 @@ mod replies;
 mod texts;
 
 use crate::RunError;
-use crate::line::{Command, Line, PackerName, ParseError, parse};
+use crate::line::{Command, Line, PackerName, ParseError, parse_line};
 use crate::writing::put;
 use bitpacking::{BitPacker, BitPacker1x, BitPacker4x, BitPacker8x};
 use lists::{dec_text, enc_text};
@@ -61,7 +61,7 @@ pub(crate) fn answer(alloc: Global, line: &[u8]) -> Result<String, AllocError>
     if line.len() > LONGEST {
         return refused(alloc, TOO_LONG);
     }
-    match parse(alloc, line) {
+    match parse_line(alloc, line) {
         Ok(line) => reply(alloc, &line),
         Err(ParseError::Spelling) => refused(alloc, NOT_SPELLED),
         Err(ParseError::Memory) => Err(AllocError),

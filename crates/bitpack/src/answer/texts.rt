@@ -3,7 +3,7 @@
 ghost use Rattle.std.specs.Prelude.{◌≡◌, ◌++◌, IfOk, OnOk, string_bytes};
 ghost use Rattle.bitpacking.specs.Bits.{AreBytes};
 ghost use Rattle.bitpacking.specs.Codes.{AreWords};
-ghost use Rattle.bitpack.specs.Grammar.{listkind_text};
+ghost use Rattle.bitpack.specs.Grammar.{list_kind_text};
 ghost use Rattle.bitpack.specs.Answers.{bytes_text, list_text, refused, values_text};
 
 use crate::ListKind;
@@ -54,8 +54,8 @@ pub(crate) fn values_text(alloc: Global, values: &[u32]) -> Result<String, Alloc
 }
 
 /// The word for a kind of lists.
-fn listkind_name(kind: ListKind) -> &'static str
-    ensures { result.now ≡ listkind_text kind }
+fn list_kind_text(kind: ListKind) -> &'static str
+    ensures { result.now ≡ list_kind_text kind }
 {
     match kind {
         ListKind::Plain => "plain",
@@ -69,7 +69,7 @@ pub(crate) fn list_text(alloc: Global, kind: ListKind, values: &[u32]) -> Result
     ensures text { IfOk result (λ text. string_bytes text ≡ list_text kind values.now) }
     ensures range { AreWords values.now }
 {
-    let mut text = String::from_str(alloc, listkind_name(kind))?;
+    let mut text = String::from_str(alloc, list_kind_text(kind))?;
     text.push(' ')?;
     push_values(&mut text, values)?;
     Ok(text)

@@ -22,7 +22,7 @@ fn is_pairs(text: &str) -> bool
 }
 
 /// The bytes of a text. Its digits are tested before room is asked for.
-pub(crate) fn bytes_of(alloc: Global, text: &str) -> Result<Vec<u8>, ParseError>
+pub(crate) fn parse_bytes(alloc: Global, text: &str) -> Result<Vec<u8>, ParseError>
     ensures { Parses (λ bytes. bytes.items) (SpellsBytes text.now) result }
 {
     if text == "-" {

@@ -1,15 +1,15 @@
 //! The words for packers, kinds and kinds of lists.
 
 ghost use Rattle.std.specs.Prelude.{◌≡◌};
-ghost use Rattle.bitpack.specs.Grammar.{listkind_text, packer_text};
-ghost use Rattle.bitpack.specs.Found.{Finds, SpellsKind};
+ghost use Rattle.bitpack.specs.Grammar.{SpellsKind, list_kind_text, packer_text};
+ghost use Rattle.bitpack.specs.Found.{Finds};
 
 use super::PackerName;
-use super::numbers::word_of;
+use super::numbers::parse_word;
 use crate::ListKind;
 use bitpacking::Kind;
 
-pub(crate) fn packer_of(text: &str) -> Option<PackerName>
+pub(crate) fn parse_packer(text: &str) -> Option<PackerName>
     ensures { Finds (λ packer. text.now ≡ packer_text packer) result }
 {
     match text {
@@ -22,7 +22,7 @@ pub(crate) fn packer_of(text: &str) -> Option<PackerName>
     }
 }
 
-pub(crate) fn kind_of(text: &str) -> Option<Kind>
+pub(crate) fn parse_kind(text: &str) -> Option<Kind>
     ensures { Finds (SpellsKind text.now) result }
 {
     if text == "plain" {
@@ -30,15 +30,15 @@ pub(crate) fn kind_of(text: &str) -> Option<Kind>
     }
     let (name, start) = text.split_once(':')?;
     match name {
-        "sorted" => Some(Kind::Sorted(word_of(start)?)),
+        "sorted" => Some(Kind::Sorted(parse_word(start)?)),
         "strict" if start == "none" => Some(Kind::StrictlySorted(None)),
-        "strict" => Some(Kind::StrictlySorted(Some(word_of(start)?))),
+        "strict" => Some(Kind::StrictlySorted(Some(parse_word(start)?))),
         _ => None,
     }
 }
 
-pub(crate) fn listkind_of(text: &str) -> Option<ListKind>
-    ensures { Finds (λ kind. text.now ≡ listkind_text kind) result }
+pub(crate) fn parse_list_kind(text: &str) -> Option<ListKind>
+    ensures { Finds (λ kind. text.now ≡ list_kind_text kind) result }
 {
     match text {
         "plain" => Some(ListKind::Plain),

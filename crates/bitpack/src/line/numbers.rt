@@ -1,8 +1,8 @@
 //! Numbers: decimal digits, with no sign and no zero in front.
 
 ghost use Rattle.std.specs.Prelude.{◌↔◌, IsTrue};
-ghost use Rattle.bitpack.specs.Grammar.{IsCount, IsSmall, IsWord};
-ghost use Rattle.bitpack.specs.Found.{BeginsNumber, Finds, SpellsNumber};
+ghost use Rattle.bitpack.specs.Grammar.{IsCount, IsSmall, IsWord, SpellsNumber};
+ghost use Rattle.bitpack.specs.Found.{BeginsNumber, Finds};
 
 /// The least and the most times that an item stands.
 const LEAST_COUNT: u32 = 1;
@@ -21,7 +21,7 @@ fn begins_number(text: &str) -> bool
 }
 
 /// A number of at most 255.
-pub(crate) fn small_of(text: &str) -> Option<u8>
+pub(crate) fn parse_width(text: &str) -> Option<u8>
     ensures { Finds (SpellsNumber IsSmall text.now) result }
 {
     if begins_number(text) {
@@ -32,7 +32,7 @@ pub(crate) fn small_of(text: &str) -> Option<u8>
 }
 
 /// A number below 2 ^ 32.
-pub(crate) fn word_of(text: &str) -> Option<u32>
+pub(crate) fn parse_word(text: &str) -> Option<u32>
     ensures { Finds (SpellsNumber IsWord text.now) result }
 {
     if begins_number(text) {
@@ -43,10 +43,10 @@ pub(crate) fn word_of(text: &str) -> Option<u32>
 }
 
 /// How often an item stands.
-pub(crate) fn count_of(text: &str) -> Option<u32>
+pub(crate) fn parse_count(text: &str) -> Option<u32>
     ensures { Finds (SpellsNumber IsCount text.now) result }
 {
-    let count = word_of(text)?;
+    let count = parse_word(text)?;
     if count < LEAST_COUNT || count > MOST_COUNT {
         return None;
     }

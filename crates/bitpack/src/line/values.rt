@@ -5,7 +5,7 @@ ghost use Rattle.bitpack.specs.Grammar.{SpellsValues};
 ghost use Rattle.bitpack.specs.Found.{AddsItem, Finds, Parses, SpellsItem};
 
 use super::error::ParseError;
-use super::numbers::{count_of, word_of};
+use super::numbers::{parse_count, parse_word};
 use std::alloc::Global;
 
 /// The most values of a line.
@@ -20,21 +20,21 @@ pub(crate) enum Item {
     Times(u32, u32),
 }
 
-fn item_of(text: &str) -> Option<Item>
+fn parse_item(text: &str) -> Option<Item>
     ensures { Finds (SpellsItem text.now) result }
 {
     match text.split_once('*') {
-        None => Some(Item::Once(word_of(text)?)),
-        Some((value, count)) => Some(Item::Times(word_of(value)?, count_of(count)?)),
+        None => Some(Item::Once(parse_word(text)?)),
+        Some((value, count)) => Some(Item::Times(parse_word(value)?, parse_count(count)?)),
     }
 }
 
 /// Adds the values of an item, unless they are too many.
-fn add(values: &mut Vec<u32>, text: &str) -> Result<(), ParseError>
+fn push_item(values: &mut Vec<u32>, text: &str) -> Result<(), ParseError>
     requires { vec_len values.old ≤ MOST_VALUES }
     ensures { Parses (λ _. values.new.items) (AddsItem text.now values.old.items) result }
 {
-    let (value, count) = match item_of(text).ok_or(ParseError::Spelling)? {
+    let (value, count) = match parse_item(text).ok_or(ParseError::Spelling)? {
         Item::Once(value) => (value, 1),
         Item::Times(value, count) => (value, count as usize),
     };
@@ -46,7 +46,7 @@ fn add(values: &mut Vec<u32>, text: &str) -> Result<(), ParseError>
 }
 
 /// The values of a text, repeats written out. No room is taken for values that are too many.
-pub(crate) fn values_of(alloc: Global, text: &str) -> Result<Vec<u32>, ParseError>
+pub(crate) fn parse_values(alloc: Global, text: &str) -> Result<Vec<u32>, ParseError>
     ensures { Parses (λ values. values.items) (SpellsValues text.now) result }
 {
     let mut values = Vec::new(alloc);
@@ -54,7 +54,7 @@ pub(crate) fn values_of(alloc: Global, text: &str) -> Result<Vec<u32>, ParseErro
         return Ok(values);
     }
     for item in text.split(',') {
-        add(&mut values, item)?;
+        push_item(&mut values, item)?;
     }
     Ok(values)
 }

@@ -1,7 +1,7 @@
 use Rattle.std.proofs.Common.{◌≡◌, ◌∙◌, arith, sym}
 use Rattle.std.proofs.lemmas.Fmt.{decimal_injective}
-use Rattle.bitpack.proofs.line.numbers.count_of.Goals as goal
-use Rattle.bitpack.proofs.line.numbers.count_of.Goals.{then-count-lt-LEAST_COUNT-via-then-count-lt-LEAST_COUNT, then-count-lt-LEAST_COUNT-via-else-count-lt-LEAST_COUNT+then-count-gt-MOST_COUNT}
+use Rattle.bitpack.proofs.line.numbers.parse_count.Goals as goal
+use Rattle.bitpack.proofs.line.numbers.parse_count.Goals.{then-count-lt-LEAST_COUNT-via-then-count-lt-LEAST_COUNT, then-count-lt-LEAST_COUNT-via-else-count-lt-LEAST_COUNT+then-count-gt-MOST_COUNT}
 
 -- the number of the text is no count
 pub returns-then-count-lt-LEAST_COUNT : goal.returns-then-count-lt-LEAST_COUNT

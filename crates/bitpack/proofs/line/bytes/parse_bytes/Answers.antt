@@ -1,7 +1,7 @@
 use Rattle.std.proofs.Common.{◌≢◌, codes, rules, tests}
 use Rattle.std.specs.Prelude.{IsTrue}
 use Rattle.bitpack.proofs.ByteTexts.{no_bytes}
-use Rattle.bitpack.proofs.line.bytes.bytes_of.Goals as goal
+use Rattle.bitpack.proofs.line.bytes.parse_bytes.Goals as goal
 
 pub returns-then-not-is_pairs : goal.returns-then-not-is_pairs
 returns-then-not-is_pairs c =

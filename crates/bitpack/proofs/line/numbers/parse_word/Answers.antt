@@ -1,6 +1,6 @@
 use Rattle.std.proofs.Common.{◌^◌, arith, rules}
 use Rattle.bitpack.proofs.Numerals.{not_plain, parsed}
-use Rattle.bitpack.proofs.line.numbers.word_of.Goals as goal
+use Rattle.bitpack.proofs.line.numbers.parse_word.Goals as goal
 
 pub returns-then-begins_number : goal.returns-then-begins_number
 returns-then-begins_number c =

@@ -1,6 +1,6 @@
 use Rattle.std.proofs.Common.{length}
 use Rattle.bitpack.proofs.ValueLists.{IsRead, between_commas}
-use Rattle.bitpack.proofs.line.values.values_of.Given as goal
+use Rattle.bitpack.proofs.line.values.parse_values.Given as goal
 
 abbrev pub invariant-loop-item : goal.invariant-loop-item
 invariant-loop-item l =

@@ -5,13 +5,13 @@ use Rattle.std.proofs.lemmas.Iterator.Splits.{YieldsList-from_str_split}
 use Rattle.std.proofs.lemmas.Result.{err_from_is_err_and}
 use Rattle.bitpack.proofs.Passing.{passes_on}
 use Rattle.bitpack.proofs.ValueLists.{between_commas, gathers_spelled, read_none, reads_all, reads_on, spelled_gathers, stops_at}
-use Rattle.bitpack.proofs.line.values.values_of.Goals as goal
+use Rattle.bitpack.proofs.line.values.parse_values.Goals as goal
 
 pub loop-item-init : goal.loop-item-init
 loop-item-init c = record { can_next = search rules; is_finite = search rules; read = rw c.new-values.ensures.items (read_none (between_commas c.args.text.now)) }
 
-pub add-requires : goal.add-requires
-add-requires c = omega (arith, c.loop-item.invariant.read.few, c.loop-item.values.ok.0)
+pub push_item-requires : goal.push_item-requires
+push_item-requires c = omega (arith, c.loop-item.invariant.read.few, c.loop-item.values.ok.0)
 
 pub loop-item-preserved : goal.loop-item-preserved
 loop-item-preserved c =
@@ -20,16 +20,16 @@ loop-item-preserved c =
     record {
       can_next = search rules;
       is_finite = search rules;
-      read = reads_on (between_commas c.args.text.now) (length c.loop-item.yielded) c.loop-item.values.items c.loop-item.invariant.read c.in-Some.item.now c.add.new.values.items _ more is (length_push c.loop-item.yielded c.in-Some.item) c.in_ok-add.ensures;
+      read = reads_on (between_commas c.args.text.now) (length c.loop-item.yielded) c.loop-item.values.items c.loop-item.invariant.read c.in-Some.item.now c.push_item.new.values.items _ more is (length_push c.loop-item.yielded c.in-Some.item) c.in_ok-push_item.ensures;
     }
 
-pub returns-in_err-add : goal.returns-in_err-add
-returns-in_err-add c =
+pub returns-in_err-push_item : goal.returns-in_err-push_item
+returns-in_err-push_item c =
     let parts = YieldsList-at c.into_iter-item-iterator.ensures.into_iter_gives (YieldsList-from_str_split 44 c.args.text.now (lit< tt) c.split-item-items.ensures.text c.split-item-items.ensures.has_more c.split-item-items.ensures.pattern) in
     let (more, is) = YieldsList-turn parts c.loop-item.yielded _ c.loop-item.yielded_by _ _ c.in-Some.item c.in-Some.is c.next.ensures.steps in
     let other : c.args.text.now ≢ codes "-" = search (rules, tests) in
     let p = err_from_is_err_and c.from_residual.result c.from_residual.ensures.1 in
-    passes_on _ _ (λ (x : Unit {0}). c.add.new.values.items) _ c.from_residual.result c.in_err-add.field-0.0 (p.1 ∙ ap Err p.2) c.in_err-add.ensures (λ none all spelled.
+    passes_on _ _ (λ (x : Unit {0}). c.push_item.new.values.items) _ c.from_residual.result c.in_err-push_item.field-0.0 (p.1 ∙ ap Err p.2) c.in_err-push_item.ensures (λ none all spelled.
     stops_at (between_commas c.args.text.now) (length c.loop-item.yielded) c.loop-item.values.items c.loop-item.invariant.read c.in-Some.item.now more is none all (spelled_gathers c.args.text.now all other spelled))
 
 pub returns : goal.returns
