@@ -1,4 +1,4 @@
--- What a line asks: it is read from the fields of the line, and the fields ask nothing else.
+-- The request of a line is read from its fields, and the fields spell no other: the law `one_command`.
 use Rattle.std.proofs.Common.{◌≡◌, ◌≢◌, ℕ, ◌^◌, ◌<◌, Bool, false, List, [], ◌∷◌, bytes_eq, codes, drop, get_or, if◌then◌else◌, length, refl, sym, ap, subst, ◌∙◌, arith, ◌==◌, inl, inr, Option, Some, None, Result, Err}
 use Rattle.std.specs.List.{AllZip}
 use Rattle.std.specs.Fmt.{decimal}
@@ -16,25 +16,25 @@ use Rattle.bitpack.specs.declared.line.PackerName.{PackerName}
 use Rattle.bitpack.specs.declared.line.PackerName.TheVariants.{EightLanes, EightScalar, FourLanes, FourScalar, OneLane}
 use Rattle.bitpack.specs.declared.list_kind.ListKind.{ListKind}
 use Rattle.bitpack.specs.declared.list_kind.ListKind.TheVariants as lists
-use Rattle.bitpack.specs.Grammar.{Argument, Asks, Dec, Enc, IsKind, IsSmall, Pack, Request, Size, Spells, SpellsArgument, SpellsBytes, SpellsKind, SpellsNumber, SpellsRequest, SpellsValues, TheseBytes, TheseValues, ThisKind, ThisListKind, ThisWidth, Unpack, Width, arguments, kind_text, list_kind_text, packer_text, verb_text}
+use Rattle.bitpack.specs.Grammar.{Argument, Asks, Dec, Enc, IsKind, IsSmall, Pack, Request, Size, Spells, SpellsArgument, SpellsBytes, SpellsKind, SpellsNumber, SpellsRequest, SpellsValues, TheseBytes, TheseValues, ThisKind, ThisListKind, ThisWidth, Unpack, Width, arguments, kind_string, list_kind_string, packer_string, verb_string}
 use Rattle.bitpack.specs.Found.{Parses, request_of}
 use Rattle.bitpack.specs.Laws.{OneCommand}
-use Rattle.bitpack.proofs.Finding.{Decided, Search, below, both, find_bytes, find_values, only, same_bytes, same_text, same_values}
-use Rattle.bitpack.proofs.LineTexts.{between_spaces, fields_of}
+use Rattle.bitpack.proofs.Finding.{Decided, Search, below, both, find_bytes, find_values, only, same_bytes, same_string, same_values}
+use Rattle.bitpack.proofs.LineFields.{between_spaces, fields_of}
 use Rattle.bitpack.proofs.Numerals.{decimal-digit, numeral}
 use Rattle.bitpack.proofs.Passing.{passes_on}
-use Rattle.bitpack.proofs.Printed.{form}
+use Rattle.bitpack.proofs.VisibleFields.{form}
 
--- ---- packers and kinds, each read from its text
+-- ---- packers and kinds, read from their strings
 
 abbrev read_packer : List ℕ → PackerName
-read_packer text =
-    if get_or text 0 0 == 49 then OneLane
-    else if get_or text 1 0 == 120 then (if get_or text 0 0 == 52 then FourLanes else EightLanes)
-    else if get_or text 0 0 == 52 then FourScalar
+read_packer string =
+    if get_or string 0 0 == 49 then OneLane
+    else if get_or string 1 0 == 120 then (if get_or string 0 0 == 52 then FourLanes else EightLanes)
+    else if get_or string 0 0 == 52 then FourScalar
     else EightScalar
 
-packer_is : (packer : PackerName) → packer ≡ read_packer (packer_text packer)
+packer_is : (packer : PackerName) → packer ≡ read_packer (packer_string packer)
 packer_is OneLane = refl
 packer_is FourLanes = refl
 packer_is EightLanes = refl
@@ -42,11 +42,11 @@ packer_is FourScalar = refl
 packer_is EightScalar = refl
 
 abbrev read_kind : List ℕ → Kind
-read_kind text =
-    if get_or text 0 0 == 112 then Plain
-    else if get_or text 1 0 == 111 then Sorted (digits_value 10 (drop 7 text))
-    else if get_or text 7 0 == 110 then StrictlySorted None
-    else StrictlySorted (Some (digits_value 10 (drop 7 text)))
+read_kind string =
+    if get_or string 0 0 == 112 then Plain
+    else if get_or string 1 0 == 111 then Sorted (digits_value 10 (drop 7 string))
+    else if get_or string 7 0 == 110 then StrictlySorted None
+    else StrictlySorted (Some (digits_value 10 (drop 7 string)))
 
 -- a number does not begin as `none` does
 no_digit : (n : ℕ) → n < 2 ^ 32 → (get_or (decimal n) 0 0 == 110) ≡ false
@@ -55,7 +55,7 @@ no_digit n word = elim (eqb_tells (get_or (decimal n) 0 0) 110) [
   | inr (apart, _) ↦ apart
 ]
 
-kind_is : (kind : Kind) → IsKind kind → kind ≡ read_kind (kind_text kind)
+kind_is : (kind : Kind) → IsKind kind → kind ≡ read_kind (kind_string kind)
 kind_is Plain word = refl
 kind_is (Sorted n) word = ap Sorted (sym (digits_value-decimal numeral n (omega arith)))
 kind_is (StrictlySorted None) word = refl
@@ -64,15 +64,15 @@ kind_is (StrictlySorted (Some n)) word =
     ∙ ap (λ t. if t then StrictlySorted None else StrictlySorted (Some (digits_value 10 (decimal n)))) (sym (no_digit n word))
 
 abbrev read_list_kind : List ℕ → ListKind
-read_list_kind text =
-    if get_or text 0 0 == 112 then lists.Plain else if get_or text 1 0 == 111 then lists.Sorted else lists.StrictlySorted
+read_list_kind string =
+    if get_or string 0 0 == 112 then lists.Plain else if get_or string 1 0 == 111 then lists.Sorted else lists.StrictlySorted
 
-list_kind_is : (kind : ListKind) → kind ≡ read_list_kind (list_kind_text kind)
+list_kind_is : (kind : ListKind) → kind ≡ read_list_kind (list_kind_string kind)
 list_kind_is lists.Plain = refl
 list_kind_is lists.Sorted = refl
 list_kind_is lists.StrictlySorted = refl
 
--- ---- values and bytes, each found for its text
+-- ---- values and bytes, found for their strings
 
 abbrev list_of : Option (List ℕ) → List ℕ
 list_of (Some found) = found
@@ -84,7 +84,7 @@ module _ (P : List ℕ → Type 0) (one : (a b : List ℕ) → P a → P b → a
   is_found (None, none) list also = absurd (none list also)
 
   is_spelled : (search : Search P) (list : List ℕ) → Decided (P list)
-  is_spelled (Some found, holds) list = elim (same_text list found) [
+  is_spelled (Some found, holds) list = elim (same_string list found) [
     | inl same ↦ inl (subst P (sym same) holds)
     | inr other ↦ inr (λ also. other (one list found also holds))
   ]
@@ -92,47 +92,47 @@ module _ (P : List ℕ → Type 0) (one : (a b : List ℕ) → P a → P b → a
 
 -- ---- arguments
 
-spells_or_not : (text : List ℕ) (argument : Argument) → Decided (SpellsArgument text argument)
-spells_or_not text (ThisWidth width) = both (same_text text (decimal width)) (below (2 ^ 8) width)
-spells_or_not text (ThisKind kind) = both (same_text text (kind_text kind)) (below (2 ^ 32) (start kind))
-spells_or_not text (ThisListKind kind) = same_text text (list_kind_text kind)
-spells_or_not text (TheseValues values) = is_spelled (SpellsValues text) (same_values text) (find_values text) values
-spells_or_not text (TheseBytes bytes) = is_spelled (SpellsBytes text) (same_bytes text) (find_bytes text) bytes
+spells_or_not : (string : List ℕ) (argument : Argument) → Decided (SpellsArgument string argument)
+spells_or_not string (ThisWidth width) = both (same_string string (decimal width)) (below (2 ^ 8) width)
+spells_or_not string (ThisKind kind) = both (same_string string (kind_string kind)) (below (2 ^ 32) (start kind))
+spells_or_not string (ThisListKind kind) = same_string string (list_kind_string kind)
+spells_or_not string (TheseValues values) = is_spelled (SpellsValues string) (same_values string) (find_values string) values
+spells_or_not string (TheseBytes bytes) = is_spelled (SpellsBytes string) (same_bytes string) (find_bytes string) bytes
 
-all_spelled_or_not : (texts : List (List ℕ)) (all : List Argument) → Decided (AllZip SpellsArgument texts all)
+all_spelled_or_not : (strings : List (List ℕ)) (all : List Argument) → Decided (AllZip SpellsArgument strings all)
 all_spelled_or_not [] [] = inl tt
-all_spelled_or_not (text ∷ texts) (argument ∷ all) = both (spells_or_not text argument) (all_spelled_or_not texts all)
-all_spelled_or_not texts all = inr (λ spelled. spelled)
+all_spelled_or_not (string ∷ strings) (argument ∷ all) = both (spells_or_not string argument) (all_spelled_or_not strings all)
+all_spelled_or_not strings all = inr (λ spelled. spelled)
 
-width_is : (text : List ℕ) (width : ℕ) → SpellsNumber IsSmall text width → width ≡ digits_value 10 text
-width_is text width (is, small) = sym (digits_value-decimal numeral width (omega arith)) ∙ ap (digits_value 10) (sym is)
+width_is : (string : List ℕ) (width : ℕ) → SpellsNumber IsSmall string width → width ≡ digits_value 10 string
+width_is string width (is, small) = sym (digits_value-decimal numeral width (omega arith)) ∙ ap (digits_value 10) (sym is)
 
-is_kind : (text : List ℕ) (kind : Kind) → SpellsKind text kind → kind ≡ read_kind text
-is_kind text kind (is, word) = kind_is kind word ∙ ap read_kind (sym is)
+is_kind : (string : List ℕ) (kind : Kind) → SpellsKind string kind → kind ≡ read_kind string
+is_kind string kind (is, word) = kind_is kind word ∙ ap read_kind (sym is)
 
-is_list_kind : (text : List ℕ) (kind : ListKind) → text ≡ list_kind_text kind → kind ≡ read_list_kind text
-is_list_kind text kind is = list_kind_is kind ∙ ap read_list_kind (sym is)
+is_list_kind : (string : List ℕ) (kind : ListKind) → string ≡ list_kind_string kind → kind ≡ read_list_kind string
+is_list_kind string kind is = list_kind_is kind ∙ ap read_list_kind (sym is)
 
 abbrev pub read_values : List ℕ → List ℕ
-read_values text = list_of (find_values text).0
+read_values string = list_of (find_values string).0
 
-values_are : (text values : List ℕ) → SpellsValues text values → values ≡ read_values text
-values_are text = is_found (SpellsValues text) (same_values text) (find_values text)
+values_are : (string values : List ℕ) → SpellsValues string values → values ≡ read_values string
+values_are string = is_found (SpellsValues string) (same_values string) (find_values string)
 
 abbrev pub read_bytes : List ℕ → List ℕ
-read_bytes text = list_of (find_bytes text).0
+read_bytes string = list_of (find_bytes string).0
 
-bytes_are : (text bytes : List ℕ) → SpellsBytes text bytes → bytes ≡ read_bytes text
-bytes_are text = is_found (SpellsBytes text) (same_bytes text) (find_bytes text)
+bytes_are : (string bytes : List ℕ) → SpellsBytes string bytes → bytes ≡ read_bytes string
+bytes_are string = is_found (SpellsBytes string) (same_bytes string) (find_bytes string)
 
 -- ---- requests
 
 -- the request that the verb and the fields after the packer can spell
 abbrev pub read_request : List ℕ → List (List ℕ) → Request
-read_request verb texts =
-    let one : List ℕ = get_or texts 0 [] in
-    let two : List ℕ = get_or texts 1 [] in
-    let three : List ℕ = get_or texts 2 [] in
+read_request verb strings =
+    let one : List ℕ = get_or strings 0 [] in
+    let two : List ℕ = get_or strings 1 [] in
+    let three : List ℕ = get_or strings 2 [] in
     if bytes_eq verb (codes "size") then Size (digits_value 10 one)
     else if bytes_eq verb (codes "width") then Width (read_kind one) (read_values two)
     else if bytes_eq verb (codes "pack") then Pack (read_kind one) (digits_value 10 two) (read_values three)
@@ -140,7 +140,7 @@ read_request verb texts =
     else if bytes_eq verb (codes "enc") then Enc (read_list_kind one) (read_values two)
     else Dec (read_bytes one)
 
-pub request_is : (verb : List ℕ) (texts : List (List ℕ)) (request : Request) → SpellsRequest verb texts request → request ≡ read_request verb texts
+pub request_is : (verb : List ℕ) (strings : List (List ℕ)) (request : Request) → SpellsRequest verb strings request → request ≡ read_request verb strings
 request_is verb (w ∷ []) (Size width) (verb_is, (small, end)) = rw verb_is (ap Size (width_is w width small))
 request_is verb (k ∷ v ∷ []) (Width kind values) (verb_is, (of_kind, (spelled, end))) =
     let same : Width kind values ≡ Width (read_kind k) (read_values v) = cc (is_kind k kind of_kind, values_are v values spelled) in
@@ -155,31 +155,31 @@ request_is verb (k ∷ v ∷ []) (Enc kind values) (verb_is, (of_kind, (spelled,
     let same : Enc kind values ≡ Enc (read_list_kind k) (read_values v) = cc (is_list_kind k kind of_kind, values_are v values spelled) in
     rw verb_is same
 request_is verb (b ∷ []) (Dec bytes) (verb_is, (spelled, end)) = rw verb_is (ap Dec (bytes_are b bytes spelled))
-request_is verb texts request (verb_is, spelled) = absurd (omega (arith, AllZip-long SpellsArgument texts (arguments request) spelled, (form request).1))
+request_is verb strings request (verb_is, spelled) = absurd (omega (arith, AllZip-long SpellsArgument strings (arguments request) spelled, (form request).1))
 
 -- ---- lines
 
--- what the fields ask, with the packer
+-- the packer and the request that the fields spell
 abbrev pub Asked : List (List ℕ) → PackerName × Request → Type 0
 Asked fields asked = Asks fields asked.0 asked.1
 
 abbrev read_fields : List (List ℕ) → PackerName × Request
-read_fields (verb ∷ name ∷ texts) = (read_packer name, read_request verb texts)
+read_fields (verb ∷ name ∷ strings) = (read_packer name, read_request verb strings)
 read_fields fields = (OneLane, Size 0)
 
 asked_is : (fields : List (List ℕ)) (asked : PackerName × Request) → Asked fields asked → asked ≡ read_fields fields
-asked_is (verb ∷ name ∷ texts) (packer, request) (named, spelled) =
+asked_is (verb ∷ name ∷ strings) (packer, request) (named, spelled) =
     let packers : packer ≡ read_packer name = packer_is packer ∙ ap read_packer (sym named) in
-    let requests = request_is verb texts request spelled in
-    let same : (packer, request) ≡ (read_packer name, read_request verb texts) = cc (packers, requests) in
+    let requests = request_is verb strings request spelled in
+    let same : (packer, request) ≡ (read_packer name, read_request verb strings) = cc (packers, requests) in
     same
 asked_is fields asked asks = absurd asks
 
 find_asked : (fields : List (List ℕ)) → Search (Asked fields)
-find_asked (verb ∷ name ∷ texts) =
-    let request = read_request verb texts in
-    let spelled = both (same_text verb (verb_text request)) (all_spelled_or_not texts (arguments request)) in
-    only (Asked (verb ∷ name ∷ texts)) (read_packer name, request) (both (same_text name (packer_text (read_packer name))) spelled) (asked_is (verb ∷ name ∷ texts))
+find_asked (verb ∷ name ∷ strings) =
+    let request = read_request verb strings in
+    let spelled = both (same_string verb (verb_string request)) (all_spelled_or_not strings (arguments request)) in
+    only (Asked (verb ∷ name ∷ strings)) (read_packer name, request) (both (same_string name (packer_string (read_packer name))) spelled) (asked_is (verb ∷ name ∷ strings))
 find_asked fields = (None, λ asked asks. asks)
 
 -- what a line spells is found
@@ -196,28 +196,29 @@ one_command line p q r s first second =
     let same = asked_is first.fields (p, r) first.asks ∙ sym (asked_is first.fields (q, s) also) in
     (ap (λ asked. asked.0) same, ap (λ asked. asked.1) same)
 
--- ---- what the parser answers
+-- ---- what the parser returns
 
--- a field that spells nothing ends it: the request that the fields can spell would have to be spelled there
-pub fails_at : {Z W : Type 0} (verb : List ℕ) (texts : List (List ℕ)) (seen : Z → W) (Q : W → Type 0) (r : Result Command ParseError) (e : ParseError)
-    → r ≡ Err e → Parses seen Q (Err e) → (SpellsRequest verb texts (read_request verb texts) → (w : W) × Q w) → Parses request_of (SpellsRequest verb texts) r
-fails_at verb texts seen Q r e is none back =
-    passes_on request_of (SpellsRequest verb texts) seen Q r e is none (λ nothing request spelled.
-    let (w, holds) = back (subst (SpellsRequest verb texts) (request_is verb texts request spelled) spelled) in
+-- if one field spells nothing, the fields spell no request
+pub fails_at : {Z W : Type 0} (verb : List ℕ) (strings : List (List ℕ)) (seen : Z → W) (Q : W → Type 0) (r : Result Command ParseError) (e : ParseError)
+    → r ≡ Err e → Parses seen Q (Err e) → (SpellsRequest verb strings (read_request verb strings) → (w : W) × Q w) → Parses request_of (SpellsRequest verb strings) r
+fails_at verb strings seen Q r e is none back =
+    passes_on request_of (SpellsRequest verb strings) seen Q r e is none (λ nothing request spelled.
+    let (w, holds) = back (subst (SpellsRequest verb strings) (request_is verb strings request spelled) spelled) in
     nothing w holds)
 
 -- too many or too few fields after a verb
-pub misfit : (verb known : List ℕ) (texts : List (List ℕ)) (request : Request) → verb ≡ known
-    → (length texts ≢ length (arguments (read_request known texts))) → SpellsRequest verb texts request → ⊥
-misfit verb known texts request is apart spelled =
-    let same : request ≡ read_request known texts = rw (← is) (request_is verb texts request spelled) in
-    apart (sym (AllZip-long SpellsArgument texts (arguments request) spelled.1) ∙ ap (λ r. length (arguments r)) same)
+pub misfit : (verb known : List ℕ) (strings : List (List ℕ)) (request : Request) → verb ≡ known
+    → (length strings ≢ length (arguments (read_request known strings))) → SpellsRequest verb strings request → ⊥
+misfit verb known strings request is apart spelled =
+    let same : request ≡ read_request known strings = rw (← is) (request_is verb strings request spelled) in
+    apart (sym (AllZip-long SpellsArgument strings (arguments request) spelled.1) ∙ ap (λ r. length (arguments r)) same)
 
-pub no_verb : (verb : List ℕ) (texts : List (List ℕ)) → verb ≢ codes "size" → verb ≢ codes "width" → verb ≢ codes "pack" → verb ≢ codes "unpack" → verb ≢ codes "enc" → verb ≢ codes "dec"
-    → (request : Request) → SpellsRequest verb texts request → ⊥
-no_verb verb texts size width pack unpack enc dec (Size _) (is, spelled) = size is
-no_verb verb texts size width pack unpack enc dec (Width _ _) (is, spelled) = width is
-no_verb verb texts size width pack unpack enc dec (Pack _ _ _) (is, spelled) = pack is
-no_verb verb texts size width pack unpack enc dec (Unpack _ _ _) (is, spelled) = unpack is
-no_verb verb texts size width pack unpack enc dec (Enc _ _) (is, spelled) = enc is
-no_verb verb texts size width pack unpack enc dec (Dec _) (is, spelled) = dec is
+-- a verb that is none of the six
+pub no_verb : (verb : List ℕ) (strings : List (List ℕ)) → verb ≢ codes "size" → verb ≢ codes "width" → verb ≢ codes "pack" → verb ≢ codes "unpack" → verb ≢ codes "enc" → verb ≢ codes "dec"
+    → (request : Request) → SpellsRequest verb strings request → ⊥
+no_verb verb strings size width pack unpack enc dec (Size _) (is, spelled) = size is
+no_verb verb strings size width pack unpack enc dec (Width _ _) (is, spelled) = width is
+no_verb verb strings size width pack unpack enc dec (Pack _ _ _) (is, spelled) = pack is
+no_verb verb strings size width pack unpack enc dec (Unpack _ _ _) (is, spelled) = unpack is
+no_verb verb strings size width pack unpack enc dec (Enc _ _) (is, spelled) = enc is
+no_verb verb strings size width pack unpack enc dec (Dec _) (is, spelled) = dec is

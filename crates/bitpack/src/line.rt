@@ -1,4 +1,4 @@
-//! A line of the program: what it asks, and of which packer.
+//! Parsing a line: the packer that it names and the command that it spells.
 
 ghost use Rattle.std.specs.Prelude.{map};
 ghost use Rattle.bitpack.specs.Grammar.{Asks, Spells};
@@ -50,24 +50,27 @@ pub(crate) enum Command {
     Dec(Vec<u8>),
 }
 
-/// A line of the language.
+/// A line that was parsed.
 #[derive(Debug, Drop)]
 pub(crate) struct Line {
     pub(crate) packer: PackerName,
     pub(crate) command: Command,
 }
 
+/// The most bytes of a line, and the most values that one line can spell.
+pub(crate) const LINE_LIMIT: usize = 65_536;
+
 /// The most fields of a line.
 const MOST_FIELDS: usize = 5;
 
-/// What the line asks, all of it. The answer is an error where it is in no way a line of the language, or memory runs out.
+/// Parses a line. It is an error if the line is not in the grammar, or if memory runs out.
 pub(crate) fn parse_line(alloc: Global, line: &[u8]) -> Result<Line, ParseError>
     ensures { Parses asked_by (λ asked. Spells line.now asked.0 asked.1) result }
 {
-    let Ok(text) = std::str::from_utf8(line) else {
+    let Ok(string) = std::str::from_utf8(line) else {
         return Err(ParseError::Spelling);
     };
-    let fields: Vec<&str> = text.split(' ').take(MOST_FIELDS + 1).collect(alloc)?;
+    let fields: Vec<&str> = string.split(' ').take(MOST_FIELDS + 1).collect(alloc)?;
     parse_fields(alloc, &fields)
 }
 

@@ -12,7 +12,7 @@ use super::numbers::parse_width;
 use super::values::parse_values;
 use std::alloc::Global;
 
-/// The command of a verb and the fields after the packer.
+/// Parses the command that a verb and the fields after the packer spell.
 pub(crate) fn parse_command(
     alloc: Global,
     verb: &str,

@@ -1,3 +1,4 @@
+-- The law is proved in Requests.
 use Rattle.bitpack.proofs.Requests.{one_command}
 use Rattle.bitpack.proofs.laws.one_command.Goals as goal
 

@@ -1,8 +1,9 @@
+-- A line feed ends the line, and another byte goes on with it.
 use Rattle.std.proofs.Common.{◌≡◌, [], ◌∷◌, ◌++◌, rules, sym, subst}
-use Rattle.bitpack.specs.Lines.{AnsweredSoFar, AppendsAnswer, AppendsAnswerInPart, AppendsAnswersInPart, held, lines, open_line}
+use Rattle.bitpack.specs.Lines.{AnsweredSoFar, AppendsAnswer, AppendsAnswerInPart, AppendsAnswersInPart, kept_part, lines, unfinished}
 use Rattle.bitpack.proofs.LineLemmas.{not_feed}
 use Rattle.bitpack.proofs.RunSteps.{OnErr-by, OnOk-to, feed_step, feed_stop, other_step, stop}
-use Rattle.bitpack.proofs.line_loop.take_byte.Goals as goal
+use Rattle.bitpack.proofs.line_loop.handle_byte.Goals as goal
 
 pub returns-in_err-answer_line-clause-err : goal.returns-in_err-answer_line-clause-err
 returns-in_err-answer_line-clause-err g c = λ before input rest so_far.
@@ -28,10 +29,10 @@ pub returns-else-byte-eq10-clause-ok : goal.returns-else-byte-eq10-clause-ok
 returns-else-byte-eq10-clause-ok g c = λ before input so_far.
     let now = g.W.Write.contents c.args.writer.now in
     let byte = c.args.byte in
-    let grown = c.hold.new.line.items in
+    let grown = c.push_byte.new.line.items in
     let other = not_feed byte (search rules) in
-    OnOk-to _ (grown ≡ held (open_line input ++ byte ∷ [])) (AnsweredSoFar before now (input ++ byte ∷ []) grown)
-    (c.hold.ensures.ok (open_line input) so_far.begun) (other_step before now input c.args.line.now.items so_far byte grown other)
+    OnOk-to _ (grown ≡ kept_part (unfinished input ++ byte ∷ [])) (AnsweredSoFar before now (input ++ byte ∷ []) grown)
+    (c.push_byte.ensures.ok (unfinished input) so_far.begun) (other_step before now input c.args.line.now.items so_far byte grown other)
 
 pub returns-else-byte-eq10-clause-err : goal.returns-else-byte-eq10-clause-err
 returns-else-byte-eq10-clause-err g c = λ before input rest so_far.

@@ -1,8 +1,9 @@
+-- The bytes are handled one after the other.
 use Rattle.std.proofs.Common.{◌≡◌, ℕ, ◌+◌, List, [], ◌∷◌, ◌++◌, get_or, length, take, drop, sym, ap, subst, ◌∙◌, rules, append_assoc, append-nil, take_all, take-append-drop, ◌<◌}
 use Rattle.std.proofs.lemmas.List.{take_more, drop_more}
 use Rattle.bitpack.specs.Lines.{AnsweredSoFar, AppendsAnswersInPart, lines}
 use Rattle.bitpack.proofs.RunSteps.{OnErr-by}
-use Rattle.bitpack.proofs.line_loop.take_in.Goals as goal
+use Rattle.bitpack.proofs.line_loop.handle_bytes.Goals as goal
 
 pub loop-byte-init : goal.loop-byte-init
 loop-byte-init g c = λ before input so_far.
@@ -21,17 +22,17 @@ pub loop-byte-preserved : goal.loop-byte-preserved
 loop-byte-preserved g c = λ before input so_far.
     let i = c.loop-byte.byte-index in
     let bytes = c.args.bytes.now in
-    subst (λ l. AnsweredSoFar before (g.W.Write.contents c.take_byte.new.writer) l c.take_byte.new.line.items) (one_more input bytes i _ (search rules) (search rules))
-    (c.in_ok-take_byte.ensures.ok before (input ++ take i bytes) (c.loop-byte.invariant before input so_far))
+    subst (λ l. AnsweredSoFar before (g.W.Write.contents c.handle_byte.new.writer) l c.handle_byte.new.line.items) (one_more input bytes i _ (search rules) (search rules))
+    (c.in_ok-handle_byte.ensures.ok before (input ++ take i bytes) (c.loop-byte.invariant before input so_far))
 
-pub returns-in_err-take_byte-clause-err : goal.returns-in_err-take_byte-clause-err
-returns-in_err-take_byte-clause-err g c = λ before input so_far.
+pub returns-in_err-handle_byte-clause-err : goal.returns-in_err-handle_byte-clause-err
+returns-in_err-handle_byte-clause-err g c = λ before input so_far.
     let i = c.loop-byte.byte-index in
     let bytes = c.args.bytes.now in
-    let new = g.W.Write.contents c.take_byte.new.writer in
+    let new = g.W.Write.contents c.handle_byte.new.writer in
     OnErr-by _ (AppendsAnswersInPart before new (lines (input ++ bytes)))
     (subst (λ l. AppendsAnswersInPart before new (lines l)) (all_of input bytes i _ (search rules) (search rules))
-    (c.in_err-take_byte.ensures.err before (input ++ take i bytes) (drop (i + 1) bytes) (c.loop-byte.invariant before input so_far)))
+    (c.in_err-handle_byte.ensures.err before (input ++ take i bytes) (drop (i + 1) bytes) (c.loop-byte.invariant before input so_far)))
 
 pub returns-clause-ok : goal.returns-clause-ok
 returns-clause-ok g c = λ before input so_far.

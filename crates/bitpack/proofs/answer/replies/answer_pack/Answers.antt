@@ -1,9 +1,10 @@
+-- The width that was tested fits the codes.
 use Rattle.std.proofs.Common.{arith, take}
 use Rattle.std.proofs.lemmas.Nat.{mul-le}
 use Rattle.std.proofs.lemmas.Result.{IfOk-weaker}
 use Rattle.bitpacking.proofs.ForCallers.{fits_greater}
 use Rattle.bitpack.specs.Answers.{Passed}
-use Rattle.bitpack.proofs.answer.replies.pack_text.Goals as goal
+use Rattle.bitpack.proofs.answer.replies.answer_pack.Goals as goal
 
 pub compress_kind-byte_len-requires : goal.compress_kind-byte_len-requires
 compress_kind-byte_len-requires g c = record {
@@ -15,10 +16,10 @@ compress_kind-byte_len-requires g c = record {
 
 pub returns : goal.returns
 returns g c =
-    IfOk-weaker c.bytes_text.result _ _ (λ text is.
+    IfOk-weaker c.format_bytes.result _ _ (λ answer is.
     Passed (λ other. other (omega (arith, g.met.P.BitPacker.block_len, c.BLOCK_LEN.ensures, c.if-values-BLOCK_LEN.false))) (Passed (λ wide. omega arith) (Passed (λ none. none (fits_greater _ c.width_kind.result c.args.width (omega arith) c.width_kind.ensures.width.fits)) (record {
       bytes = take c.compress_kind-byte_len.result c.compress_kind-byte_len.new.out;
-      are_bytes = c.bytes_text.ensures.range;
+      are_bytes = c.format_bytes.ensures.range;
       holds = rw c.compress_kind-byte_len.ensures.size c.compress_kind-byte_len.ensures.packed.bytes;
-      text_is = is;
-    })))) c.bytes_text.ensures.text
+      answer_is = is;
+    })))) c.format_bytes.ensures.answer

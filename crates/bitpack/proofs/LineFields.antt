@@ -1,4 +1,4 @@
--- A line is its fields: which they are is found by cutting it at the spaces.
+-- The fields of a line: what is between its spaces.
 use Rattle.std.proofs.Common.{◌≡◌, Bor, map, Result, Ok, Err, ℕ, List, [], ◌∷◌, length, take, sym, ap, subst, ◌∙◌, arith, length-take, take_all, ◌==◌}
 use Rattle.std.specs.List.{join_with_byte, slice_split}
 use Rattle.std.specs.Str.{IsUtf8}
@@ -12,12 +12,12 @@ use Rattle.bitpack.specs.declared.line.error.ParseError.TheVariants.{Memory, Spe
 use Rattle.bitpack.specs.Grammar.{Asks, Request, Spells}
 use Rattle.bitpack.specs.Found.{Parses, asked_by, request_of}
 use Rattle.bitpack.proofs.Cuts.{Lacks}
-use Rattle.bitpack.proofs.Printed.{AreFields, IsAscii-fields, IsPrinted, Lacks-printed, are_fields}
+use Rattle.bitpack.proofs.VisibleFields.{AreFields, IsAscii-fields, IsVisible, Lacks-visible, are_fields}
 use Rattle.bitpack.proofs.ValueLists.{split-join}
 
--- the texts of fields
-abbrev pub texts_of : List (Bor (List ℕ)) → List (List ℕ)
-texts_of fields = map (λ field. field.now) fields
+-- the strings of fields
+abbrev pub strings_of : List (Bor (List ℕ)) → List (List ℕ)
+strings_of fields = map (λ field. field.now) fields
 
 abbrev pub between_spaces : List ℕ → List (List ℕ)
 between_spaces line = slice_split (λ b. b == 32) line
@@ -25,11 +25,11 @@ between_spaces line = slice_split (λ b. b == 32) line
 pub IsUtf8-line : (line : List ℕ) (packer : PackerName) (request : Request) → Spells line packer request → IsUtf8 line
 IsUtf8-line line packer request spells =
     let fields = are_fields spells.fields packer request spells.asks in
-    subst IsUtf8 (sym spells.line_is) (IsUtf8-from_ascii (join_with_byte 32 spells.fields) (IsAscii-fields spells.fields fields.printed))
+    subst IsUtf8 (sym spells.line_is) (IsUtf8-from_ascii (join_with_byte 32 spells.fields) (IsAscii-fields spells.fields fields.visible))
 
 split_fields : (fields : List (List ℕ)) → AreFields fields → between_spaces (join_with_byte 32 fields) ≡ fields
 split_fields [] are = absurd (omega (arith, are.some))
-split_fields (field ∷ fields) are = split-join 32 field fields (All-weaker IsPrinted (Lacks 32) (λ text printed. Lacks-printed 32 text (omega arith) printed) (field ∷ fields) are.printed)
+split_fields (field ∷ fields) are = split-join 32 field fields (All-weaker IsVisible (Lacks 32) (λ string visible. Lacks-visible 32 string (omega arith) visible) (field ∷ fields) are.visible)
 
 -- a line that spells a request is cut into its fields
 pub fields_of : (line : List ℕ) (packer : PackerName) (request : Request) (spells : Spells line packer request) → between_spaces line ≡ spells.fields
