@@ -1,7 +1,7 @@
--- Every line has an answer, and one only.
+-- Every line has exactly one answer: the law `one_answer`.
 use Rattle.std.proofs.Common.{◌≡◌, ◌≢◌, ℕ, ◌*◌, ◌^◌, ◌<◌, ◌≤◌, List, [], ◌∷◌, length, take, refl, sym, ap, subst, ◌∙◌, arith, inl, inr, Some, None, length-take-le, take_all}
 use Rattle.std.specs.Prelude.{All}
-use Rattle.std.specs.List.{flat_map}
+use Rattle.std.specs.List.{AllZip, flat_map}
 use Rattle.std.specs.Fmt.{decimal}
 use Rattle.std.proofs.lemmas.Bool.{cases_eq, cases_lt}
 use Rattle.std.proofs.lemmas.List.Elements.{All-append, All-cons, All-head, All-nil, All-replicate, All-tail}
@@ -15,35 +15,34 @@ use Rattle.bitpack.specs.declared.line.PackerName.{PackerName}
 use Rattle.bitpack.specs.declared.line.PackerName.TheVariants.{EightLanes, EightScalar, FourLanes, FourScalar, OneLane}
 use Rattle.bitpack.specs.declared.line.values.Item.{Item}
 use Rattle.bitpack.specs.declared.line.values.Item.TheVariants.{Once, Times}
-use Rattle.bitpack.specs.Grammar.{Asks, Enc, IsItem, IsKind, Pack, Request, Size, Spells, SpellsValues, Unpack, Width, item_values}
-use Rattle.bitpack.specs.Grammar.{Dec as DecRequest}
-use Rattle.bitpack.specs.Answers.{IsAnswer, IsPacked, IsReplied, IsReply, IsUnpacked, IsWidthText, Passed, Refused, RefusedIf, SpellsNone, bytes_text, lanes_of, refused, values_text}
+use Rattle.bitpack.specs.Grammar.{Argument, Asks, Dec, Enc, IsItem, IsKind, Pack, Request, Size, Spells, SpellsArgument, SpellsValues, TheseBytes, TheseValues, ThisKind, ThisListKind, ThisWidth, Unpack, Width, arguments, item_values}
+use Rattle.bitpack.specs.Answers.{IsAnswer, IsPackAnswer, IsReplied, IsReply, IsUnpackAnswer, IsWidthAnswer, Passed, Refused, RefusedIf, SpellsNone, printed_bytes, lanes_of, refused, printed_values}
 use Rattle.bitpack.specs.Laws.{OneAnswer}
 use Rattle.bitpack.specs.Version1.{fault1}
-use Rattle.bitpack.specs.Lines.{held}
-use Rattle.bitpack.proofs.Finding.{Dec, Search, find_line}
-use Rattle.bitpack.proofs.GrammarLemmas.{one_command}
+use Rattle.bitpack.specs.Lines.{kept_part}
+use Rattle.bitpack.proofs.Finding.{Decided, Search}
+use Rattle.bitpack.proofs.Requests.{find_line, one_command}
 use Rattle.bitpack.proofs.ListAnswers.{AreBytes-spelled, decoded_of, encoded_of, same_decoded, same_encoded}
 
 -- ---- a refusal, or a reply
 
 module _ (Fault : Type 0) (number : ℕ) (Reply : List ℕ → Type 0) where
-  -- where a fault can be told, there is a text
-  refused_or : Dec Fault → ((Fault → ⊥) → (text : List ℕ) × Reply text) → (text : List ℕ) × RefusedIf Fault number Reply text
+  -- an answer, if it is known whether the fault holds
+  refused_or : Decided Fault → ((Fault → ⊥) → (answer : List ℕ) × Reply answer) → (answer : List ℕ) × RefusedIf Fault number Reply answer
   refused_or (inl fault) reply = (refused number, Refused fault refl)
-  refused_or (inr sound) reply = let (text, replies) = reply sound in (text, Passed sound replies)
+  refused_or (inr sound) reply = let (answer, replies) = reply sound in (answer, Passed sound replies)
 
-  -- two texts are equal where two replies are
+  -- two answers are equal if two replies are
   same_refusal : ((Fault → ⊥) → (a b : List ℕ) → Reply a → Reply b → a ≡ b) → (a b : List ℕ) → RefusedIf Fault number Reply a → RefusedIf Fault number Reply b → a ≡ b
   same_refusal same a b (Refused fault is_a) (Refused other is_b) = is_a ∙ sym is_b
   same_refusal same a b (Refused fault is_a) (Passed sound reply) = absurd (sound fault)
   same_refusal same a b (Passed sound reply) (Refused fault is_b) = absurd (sound fault)
   same_refusal same a b (Passed sound first) (Passed also second) = same sound a b first second
 
-is_other : (m n : ℕ) → Dec (m ≢ n)
+is_other : (m n : ℕ) → Decided (m ≢ n)
 is_other m n = elim (cases_eq m n) [ inl same ↦ inr (λ other. other same) | inr other ↦ inl other ]
 
-is_above : (m n : ℕ) → Dec (m < n)
+is_above : (m n : ℕ) → Decided (m < n)
 is_above m n = elim (cases_lt m n) [ inl less ↦ inl less | inr more ↦ inr (λ less. omega arith) ]
 
 same_from : (m n : ℕ) → (m ≢ n → ⊥) → m ≡ n
@@ -51,14 +50,17 @@ same_from m n not_other = elim (cases_eq m n) [ inl same ↦ same | inr other �
 
 -- ---- what a request holds
 
--- the numbers of a request are words or bytes, and not too many for a list
-abbrev AreInRange : Request → Type 0
-AreInRange (Size width) = Unit {0}
-AreInRange (Width kind values) = IsKind kind × AreWords values
-AreInRange (Pack kind width values) = IsKind kind × AreWords values
-AreInRange (Unpack kind width bytes) = IsKind kind
-AreInRange (Enc kind values) = AreWords values × (length values ≤ 2 ^ 28)
-AreInRange (DecRequest bytes) = AreBytes bytes
+-- what an argument holds are words or bytes, and not too many for a list
+abbrev IsInRange : Argument → Type 0
+IsInRange (ThisWidth width) = Unit {0}
+IsInRange (ThisKind kind) = IsKind kind
+IsInRange (ThisListKind kind) = Unit {0}
+IsInRange (TheseValues values) = AreWords values × (length values ≤ 2 ^ 28)
+IsInRange (TheseBytes bytes) = AreBytes bytes
+
+abbrev AreInRange : List Argument → Type 0
+AreInRange [] = Unit {0}
+AreInRange (argument ∷ all) = IsInRange argument × AreInRange all
 
 words_of_items : (items : List Item) → All IsItem items → AreWords (flat_map item_values items)
 words_of_items [] are = All-nil (λ v. v < 2 ^ 32)
@@ -68,16 +70,24 @@ words_of_items (Times value count ∷ items) are =
     All-append (λ v. v < 2 ^ 32) (item_values (Times value count)) (flat_map item_values items)
     (All-replicate (λ v. v < 2 ^ 32) count value (All-head IsItem (Times value count) items are).0) (words_of_items items (All-tail IsItem (Times value count) items are))
 
-words_of : (text values : List ℕ) → SpellsValues text values → AreWords values
-words_of text values spelled = subst AreWords (sym spelled.values_are) (words_of_items spelled.items spelled.are_items)
+words_of : (answer values : List ℕ) → SpellsValues answer values → AreWords values
+words_of answer values spelled = subst AreWords (sym spelled.values_are) (words_of_items spelled.items spelled.are_items)
 
-in_range : (fields : List (List ℕ)) (packer : PackerName) (request : Request) → Asks fields packer request → AreInRange request
-in_range fields packer (Size width) asks = tt
-in_range fields packer (Width kind values) (text, is, is_kind, spelled) = (is_kind, words_of text values spelled)
-in_range fields packer (Pack kind width values) (text, is, is_kind, small, spelled) = (is_kind, words_of text values spelled)
-in_range fields packer (Unpack kind width bytes) (text, is, is_kind, small, spelled) = is_kind
-in_range fields packer (Enc kind values) (text, is, spelled) = (words_of text values spelled, omega (arith, spelled.few))
-in_range fields packer (DecRequest bytes) (text, is, spelled) = AreBytes-spelled text bytes spelled
+argument_in_range : (answer : List ℕ) (argument : Argument) → SpellsArgument answer argument → IsInRange argument
+argument_in_range answer (ThisWidth width) spelled = tt
+argument_in_range answer (ThisKind kind) (is, word) = word
+argument_in_range answer (ThisListKind kind) spelled = tt
+argument_in_range answer (TheseValues values) spelled = (words_of answer values spelled, omega (arith, spelled.few))
+argument_in_range answer (TheseBytes bytes) spelled = AreBytes-spelled answer bytes spelled
+
+arguments_in_range : (texts : List (List ℕ)) (all : List Argument) → AllZip SpellsArgument texts all → AreInRange all
+arguments_in_range [] [] spelled = tt
+arguments_in_range (answer ∷ texts) (argument ∷ all) (first, rest) = (argument_in_range answer argument first, arguments_in_range texts all rest)
+arguments_in_range texts all spelled = absurd spelled
+
+in_range : (fields : List (List ℕ)) (packer : PackerName) (request : Request) → Asks fields packer request → AreInRange (arguments request)
+in_range (verb ∷ name ∷ texts) packer request (named, (verb_is, spelled)) = arguments_in_range texts (arguments request) spelled
+in_range fields packer request asks = absurd asks
 
 some_lanes : (packer : PackerName) → 0 < lanes_of packer
 some_lanes OneLane = omega arith
@@ -95,8 +105,8 @@ few_lanes EightScalar = omega arith
 
 -- ---- replies
 
--- whether codes fit a width is told by their least width
-fits_or_not : (words : List ℕ) (width : ℕ) → AreWords words → Dec (Fits words width → ⊥)
+-- codes fit a width if it is not below their least width
+fits_or_not : (words : List ℕ) (width : ℕ) → AreWords words → Decided (Fits words width → ⊥)
 fits_or_not words width are_words =
     let (least_width, low, least, one) = one_least_width words are_words in
     elim (cases_lt width least_width) [
@@ -120,68 +130,68 @@ narrow_width : (width : ℕ) → (32 < width → ⊥) → width ≤ 32
 narrow_width width narrow = elim (cases_lt 32 width) [ inl wide ↦ absurd (narrow wide) | inr fine ↦ fine ]
 
 module _ (lanes : ℕ) (some : 0 < lanes) where
-  reply_of : lanes < 2 ^ 8 → (request : Request) → AreInRange request → (text : List ℕ) × IsReply lanes request text
+  reply_of : lanes < 2 ^ 8 → (request : Request) → AreInRange (arguments request) → (answer : List ℕ) × IsReply lanes request answer
   reply_of few (Size width) range = (decimal (size lanes width), refl)
-  reply_of few (Width kind values) (is_kind, words) =
+  reply_of few (Width kind values) (is_kind, ((words, short), end)) =
       refused_or _ 2 _ (is_other (length values) (32 * lanes)) (λ block.
       let (width, low, least, one) = one_least_width (codes kind values) (codes_are_words kind values words) in
-      (decimal width, record { width = width; least = least; text_is = refl }))
-  reply_of few (Pack kind width values) (is_kind, words) =
+      (decimal width, record { width = width; least = least; answer_is = refl }))
+  reply_of few (Pack kind width values) (is_kind, (small, ((words, short), end))) =
       let are_words = codes_are_words kind values words in
       refused_or _ 2 _ (is_other (length values) (32 * lanes)) (λ block.
       refused_or _ 3 _ (is_above 32 width) (λ narrow.
       refused_or _ 4 _ (fits_or_not (codes kind values) width are_words) (λ fit.
       let (bytes, are_bytes, layout, one) = one_layout_bytes lanes width (codes kind values) some
       (as_many_codes kind values ∙ same_from (length values) (32 * lanes) block) (fits_at_least (codes kind values) width are_words fit) in
-      (bytes_text bytes, record { bytes = bytes; are_bytes = are_bytes; holds = layout; text_is = refl }))))
-  reply_of few (Unpack kind width bytes) is_kind =
+      (printed_bytes bytes, record { bytes = bytes; are_bytes = are_bytes; holds = layout; answer_is = refl }))))
+  reply_of few (Unpack kind width bytes) (is_kind, rest) =
       refused_or _ 3 _ (is_above 32 width) (λ narrow.
       refused_or _ 5 _ (is_other (length bytes) (size lanes width)) (λ room.
       let words : List ℕ = codes_of lanes width bytes in
       let (layout, one) = one_layout_codes lanes width bytes (same_from (length bytes) (size lanes width) room) in
       let are_words = words_from_fits words width (narrow_width width narrow) layout.fits in
       let (block, are_values, codes_are, only_block) = one_block kind words is_kind are_words in
-      (values_text block, record { block = block; are_words = are_values; holds = subst (λ c. Layout lanes width c bytes) (sym codes_are) layout; text_is = refl })))
-  reply_of few (Enc kind values) (words, short) = encoded_of lanes kind values some few words short
-  reply_of few (DecRequest bytes) are_bytes = decoded_of lanes bytes some are_bytes
+      (printed_values block, record { block = block; are_words = are_values; holds = subst (λ c. Layout lanes width c bytes) (sym codes_are) layout; answer_is = refl })))
+  reply_of few (Enc kind values) (known, ((words, short), end)) = encoded_of lanes kind values some few words short
+  reply_of few (Dec bytes) (are_bytes, end) = decoded_of lanes bytes some are_bytes
 
-  same_packed : (width : ℕ) (kind : Kind) (values a b : List ℕ) → IsPacked lanes width kind values a → IsPacked lanes width kind values b → a ≡ b
+  same_packed : (width : ℕ) (kind : Kind) (values a b : List ℕ) → IsPackAnswer lanes width kind values a → IsPackAnswer lanes width kind values b → a ≡ b
   same_packed width kind values a b first second =
       let (bytes, are_bytes, layout, one) = one_layout_bytes lanes width (codes kind values) some first.holds.code_count first.holds.fits in
-      first.text_is ∙ ap bytes_text (one first.bytes first.are_bytes first.holds ∙ sym (one second.bytes second.are_bytes second.holds)) ∙ sym second.text_is
+      first.answer_is ∙ ap printed_bytes (one first.bytes first.are_bytes first.holds ∙ sym (one second.bytes second.are_bytes second.holds)) ∙ sym second.answer_is
 
-  same_unpacked : (width : ℕ) (kind : Kind) (bytes a b : List ℕ) → width ≤ 32 → IsKind kind → IsUnpacked lanes width kind bytes a → IsUnpacked lanes width kind bytes b → a ≡ b
+  same_unpacked : (width : ℕ) (kind : Kind) (bytes a b : List ℕ) → width ≤ 32 → IsKind kind → IsUnpackAnswer lanes width kind bytes a → IsUnpackAnswer lanes width kind bytes b → a ≡ b
   same_unpacked width kind bytes a b narrow is_kind first second =
       let words : List ℕ = codes_of lanes width bytes in
       let (layout, one) = one_layout_codes lanes width bytes first.holds.byte_count in
       let are_words = words_from_fits words width narrow layout.fits in
       let (block, are_values, codes_are, only_block) = one_block kind words is_kind are_words in
-      first.text_is ∙ ap values_text (only_block first.block first.are_words (one (codes kind first.block) first.holds) ∙ sym (only_block second.block second.are_words (one (codes kind second.block) second.holds))) ∙ sym second.text_is
+      first.answer_is ∙ ap printed_values (only_block first.block first.are_words (one (codes kind first.block) first.holds) ∙ sym (only_block second.block second.are_words (one (codes kind second.block) second.holds))) ∙ sym second.answer_is
 
-  same_width : (kind : Kind) (values a b : List ℕ) → AreWords values → IsWidthText kind values a → IsWidthText kind values b → a ≡ b
+  same_width : (kind : Kind) (values a b : List ℕ) → AreWords values → IsWidthAnswer kind values a → IsWidthAnswer kind values b → a ≡ b
   same_width kind values a b words first second =
       let (width, low, least, one) = one_least_width (codes kind values) (codes_are_words kind values words) in
-      first.text_is ∙ ap decimal (one first.width first.least ∙ sym (one second.width second.least)) ∙ sym second.text_is
+      first.answer_is ∙ ap decimal (one first.width first.least ∙ sym (one second.width second.least)) ∙ sym second.answer_is
 
-  same_reply : (request : Request) → AreInRange request → (a b : List ℕ) → IsReply lanes request a → IsReply lanes request b → a ≡ b
+  same_reply : (request : Request) → AreInRange (arguments request) → (a b : List ℕ) → IsReply lanes request a → IsReply lanes request b → a ≡ b
   same_reply (Size width) range = λ a b is_a is_b. is_a ∙ sym is_b
-  same_reply (Width kind values) (is_kind, words) = same_refusal _ 2 _ (λ block a b. same_width kind values a b words)
-  same_reply (Pack kind width values) (is_kind, words) =
+  same_reply (Width kind values) (is_kind, ((words, short), end)) = same_refusal _ 2 _ (λ block a b. same_width kind values a b words)
+  same_reply (Pack kind width values) range =
       same_refusal _ 2 _ (λ block. same_refusal _ 3 _ (λ narrow. same_refusal _ 4 _ (λ fit. same_packed width kind values)))
-  same_reply (Unpack kind width bytes) is_kind =
+  same_reply (Unpack kind width bytes) (is_kind, rest) =
       same_refusal _ 3 _ (λ narrow. same_refusal _ 5 _ (λ room a b. same_unpacked width kind bytes a b (narrow_width width narrow) is_kind))
   same_reply (Enc kind values) range = λ a b. same_encoded lanes kind values a b some
-  same_reply (DecRequest bytes) are_bytes = λ a b. same_decoded lanes bytes (fault1 lanes bytes) a b some
+  same_reply (Dec bytes) range = λ a b. same_decoded lanes bytes (fault1 lanes bytes) a b some
 
 -- ---- answers
 
-reply_to : (line : List ℕ) (found : Search (λ (asked : PackerName × Request). Spells line asked.0 asked.1)) → (text : List ℕ) × RefusedIf (SpellsNone line) 1 (IsReplied line) text
+reply_to : (line : List ℕ) (found : Search (λ (asked : PackerName × Request). Spells line asked.0 asked.1)) → (answer : List ℕ) × RefusedIf (SpellsNone line) 1 (IsReplied line) answer
 reply_to line (None, none) = (refused 1, Refused (λ packer request spells. none (packer, request) spells) refl)
 reply_to line (Some asked, spells) =
-    let (text, replies) = reply_of (lanes_of asked.0) (some_lanes asked.0) (few_lanes asked.0) asked.1 (in_range spells.fields asked.0 asked.1 spells.asks) in
-    (text, Passed (λ none. none asked.0 asked.1 spells) (record { packer = asked.0; request = asked.1; spelled = spells; replied = replies }))
+    let (answer, replies) = reply_of (lanes_of asked.0) (some_lanes asked.0) (few_lanes asked.0) asked.1 (in_range spells.fields asked.0 asked.1 spells.asks) in
+    (answer, Passed (λ none. none asked.0 asked.1 spells) (record { packer = asked.0; request = asked.1; spelled = spells; replied = replies }))
 
-pub answer_of : (line : List ℕ) → (text : List ℕ) × IsAnswer line text
+pub answer_of : (line : List ℕ) → (answer : List ℕ) × IsAnswer line answer
 unfolding IsAnswer
 answer_of line = refused_or _ 6 _ (is_above 65536 (length line)) (λ short. reply_to line (find_line line))
 
@@ -197,22 +207,22 @@ unfolding IsAnswer
 same_answer line a b = same_refusal _ 6 _ (λ short. same_refusal _ 1 _ (λ some. same_replied line)) a b
 
 pub one_answer : OneAnswer
-one_answer line = let (text, answers) = answer_of line in (text, answers, λ other also. same_answer line other text also answers)
+one_answer line = let (answer, answers) = answer_of line in (answer, answers, λ other also. same_answer line other answer also answers)
 
 -- ---- a line that is too long is answered by its first bytes
 
-same_when_long : (held line text : List ℕ) → 65536 < length held → 65536 < length line → IsAnswer held text → IsAnswer line text
+same_when_long : (kept_part line answer : List ℕ) → 65536 < length kept_part → 65536 < length line → IsAnswer kept_part answer → IsAnswer line answer
 unfolding IsAnswer
-same_when_long held line text long_held long (Refused fault is) = Refused long is
-same_when_long held line text long_held long (Passed short replies) = absurd (short long_held)
+same_when_long kept_part line answer long_held long (Refused fault is) = Refused long is
+same_when_long kept_part line answer long_held long (Passed short replies) = absurd (short long_held)
 
-first_bytes : (n : ℕ) (line text : List ℕ) → n ≡ 65537 → IsAnswer (take n line) text → IsAnswer line text
-first_bytes n line text is answers = elim (cases_lt 65536 (length line)) [
-  | inl long ↦ same_when_long (take n line) line text (omega (arith, length-take-le n line (omega arith))) long answers
-  | inr short ↦ subst (λ l. IsAnswer l text) (take_all n line (omega arith)) answers
+first_bytes : (n : ℕ) (line answer : List ℕ) → n ≡ 65537 → IsAnswer (take n line) answer → IsAnswer line answer
+first_bytes n line answer is answers = elim (cases_lt 65536 (length line)) [
+  | inl long ↦ same_when_long (take n line) line answer (omega (arith, length-take-le n line (omega arith))) long answers
+  | inr short ↦ subst (λ l. IsAnswer l answer) (take_all n line (omega arith)) answers
 ]
 
--- the bytes of a line that are kept answer for it
-pub answer-held : (line text : List ℕ) → IsAnswer (held line) text → IsAnswer line text
-unfolding held
-answer-held line text = first_bytes 65537 line text refl
+-- the answer to the kept part of a line is the answer to the line
+pub answer-kept_part : (line answer : List ℕ) → IsAnswer (kept_part line) answer → IsAnswer line answer
+unfolding kept_part
+answer-kept_part line answer = first_bytes 65537 line answer refl

@@ -1,20 +1,20 @@
--- The lines of an input, a byte at a time.
+-- The lines of an input, a byte at a time, and the part of a line that is kept.
 use Rattle.std.proofs.Common.{◌≡◌, ◌≢◌, ℕ, suc, ◌+◌, ◌<◌, ◌≤◌, List, [], ◌∷◌, ◌++◌, Bool, true, false, length, take, drop, refl, sym, ap, subst, ◌∙◌, ◌⊎◌, inl, inr, arith, append_assoc, append-nil, length-append, take_all, if◌then◌else◌}
 use Rattle.std.specs.Prelude.{count_by}
 use Rattle.std.specs.List.{concat, onto_first}
 use Rattle.std.proofs.lemmas.List.{length-take, take-append-le, take_at, drop_at}
 use Rattle.std.proofs.lemmas.Bool.Decides.{eqb_tells}
 use Rattle.std.proofs.lemmas.List.Sums.{sum_by-cons}
-use Rattle.bitpack.specs.Lines.{is_feed, lines, ended, open_line, held}
+use Rattle.bitpack.specs.Lines.{is_feed, lines, ended, unfinished, kept_part}
 
 -- ---- lines and line feeds
 
--- the last line, where one was begun
+-- the last line, if it is unfinished
 abbrev pub last_line : List ℕ → List (List ℕ)
 last_line [] = []
 last_line (byte ∷ bytes) = (byte ∷ bytes) ∷ []
 
--- the same lines from the front on: those that end in these bytes, and what is left over, where `begun` stood before
+-- the same lines from the front on, after the bytes `begun`: those that end in these bytes, and the bytes that are left
 abbrev ended_from : List ℕ → List ℕ → List (List ℕ)
 ended_from begun [] = []
 ended_from begun (byte ∷ bytes) = if is_feed byte then begun ∷ ended_from [] bytes else ended_from (begun ++ byte ∷ []) bytes
@@ -73,7 +73,7 @@ one-more n = omega arith
 feeds-one : (byte : ℕ) (bytes : List ℕ) → is_feed byte ≡ true → count_by is_feed (byte ∷ bytes) ≡ 1 + count_by is_feed bytes
 feeds-one byte bytes e = feeds-more byte bytes ∙ ap (λ t. (if t then 1 else 0) + count_by is_feed bytes) e
 
--- the lines of bytes are those that end in them, and the last where one was begun; there are as many line feeds as ended lines
+-- the lines are those that ended and the unfinished one; there are as many line feeds as lines that ended
 cut : (begun bytes : List ℕ) → NoFeed begun
     → (lines (begun ++ bytes) ≡ ended_from begun bytes ++ last_line (open_from begun bytes)) × (count_by is_feed (begun ++ bytes) ≡ length (ended_from begun bytes))
 cut begun [] h = (ap lines (append-nil begun) ∙ lines-open begun h, feeds-none begun [] h)
@@ -104,9 +104,9 @@ one_line : (bytes : List ℕ) → concat (last_line bytes) ≡ bytes
 one_line [] = refl
 one_line (byte ∷ bytes) = append-nil (byte ∷ bytes)
 
-open_line-is : (bytes : List ℕ) → open_line bytes ≡ open_from [] bytes
-unfolding open_line
-open_line-is bytes =
+unfinished-is : (bytes : List ℕ) → unfinished bytes ≡ open_from [] bytes
+unfolding unfinished
+unfinished-is bytes =
     let (all, count) = cut [] bytes tt in
     ap (λ l. concat (drop (count_by is_feed bytes) l)) all ∙ ap concat (drop_at (ended_from [] bytes) (last_line (open_from [] bytes)) (count_by is_feed bytes) (sym count))
     ∙ one_line (open_from [] bytes)
@@ -114,8 +114,8 @@ open_line-is bytes =
 pub ended-nil : ended [] ≡ []
 ended-nil = ended-is []
 
-pub open_line-nil : open_line [] ≡ []
-open_line-nil = open_line-is []
+pub unfinished-nil : unfinished [] ≡ []
+unfinished-nil = unfinished-is []
 
 -- ---- one piece more, and one byte more
 
@@ -129,31 +129,31 @@ open_from-append begun [] b = refl
 open_from-append begun (x ∷ a) b = elim (is_feed x) as (λ t. (if t then open_from [] (a ++ b) else open_from (begun ++ x ∷ []) (a ++ b)) ≡ open_from (if t then open_from [] a else open_from (begun ++ x ∷ []) a) b)
     [ true ↦ open_from-append [] a b | false ↦ open_from-append (begun ++ x ∷ []) a b ]
 
--- all lines: those that have ended, and the last
-pub lines-all : (bytes : List ℕ) → lines bytes ≡ ended bytes ++ last_line (open_line bytes)
-lines-all bytes = (cut [] bytes tt).0 ∙ sym (ap (λ l. l ++ last_line (open_line bytes)) (ended-is bytes) ∙ ap (λ l. ended_from [] bytes ++ last_line l) (open_line-is bytes))
+-- all lines: those that ended, and the last
+pub lines-all : (bytes : List ℕ) → lines bytes ≡ ended bytes ++ last_line (unfinished bytes)
+lines-all bytes = (cut [] bytes tt).0 ∙ sym (ap (λ l. l ++ last_line (unfinished bytes)) (ended-is bytes) ∙ ap (λ l. ended_from [] bytes ++ last_line l) (unfinished-is bytes))
 
--- a line feed ends the open line
-pub ended-feed : (bytes : List ℕ) → ended (bytes ++ 10 ∷ []) ≡ ended bytes ++ open_line bytes ∷ []
+-- a line feed ends the unfinished line
+pub ended-feed : (bytes : List ℕ) → ended (bytes ++ 10 ∷ []) ≡ ended bytes ++ unfinished bytes ∷ []
 ended-feed bytes =
-    ended-is (bytes ++ 10 ∷ []) ∙ ended_from-append [] bytes (10 ∷ []) ∙ sym (ap (λ l. l ++ open_line bytes ∷ []) (ended-is bytes) ∙ ap (λ l. ended_from [] bytes ++ l ∷ []) (open_line-is bytes))
+    ended-is (bytes ++ 10 ∷ []) ∙ ended_from-append [] bytes (10 ∷ []) ∙ sym (ap (λ l. l ++ unfinished bytes ∷ []) (ended-is bytes) ∙ ap (λ l. ended_from [] bytes ++ l ∷ []) (unfinished-is bytes))
 
-pub open_line-feed : (bytes : List ℕ) → open_line (bytes ++ 10 ∷ []) ≡ []
-open_line-feed bytes = open_line-is (bytes ++ 10 ∷ []) ∙ open_from-append [] bytes (10 ∷ [])
+pub unfinished-feed : (bytes : List ℕ) → unfinished (bytes ++ 10 ∷ []) ≡ []
+unfinished-feed bytes = unfinished-is (bytes ++ 10 ∷ []) ∙ open_from-append [] bytes (10 ∷ [])
 
--- another byte goes on with it
+-- another byte is appended to it
 pub ended-other : (bytes : List ℕ) (byte : ℕ) → is_feed byte ≡ false → ended (bytes ++ byte ∷ []) ≡ ended bytes
 ended-other bytes byte e =
     ended-is (bytes ++ byte ∷ []) ∙ ended_from-append [] bytes (byte ∷ [])
     ∙ ap (λ t. ended_from [] bytes ++ (if t then open_from [] bytes ∷ [] else [])) e
     ∙ append-nil (ended_from [] bytes) ∙ sym (ended-is bytes)
 
-pub open_line-other : (bytes : List ℕ) (byte : ℕ) → is_feed byte ≡ false → open_line (bytes ++ byte ∷ []) ≡ open_line bytes ++ byte ∷ []
-open_line-other bytes byte e =
-    open_line-is (bytes ++ byte ∷ []) ∙ open_from-append [] bytes (byte ∷ [])
-    ∙ ap (λ t. if t then [] else open_from [] bytes ++ byte ∷ []) e ∙ sym (ap (λ l. l ++ byte ∷ []) (open_line-is bytes))
+pub unfinished-other : (bytes : List ℕ) (byte : ℕ) → is_feed byte ≡ false → unfinished (bytes ++ byte ∷ []) ≡ unfinished bytes ++ byte ∷ []
+unfinished-other bytes byte e =
+    unfinished-is (bytes ++ byte ∷ []) ∙ open_from-append [] bytes (byte ∷ [])
+    ∙ ap (λ t. if t then [] else open_from [] bytes ++ byte ∷ []) e ∙ sym (ap (λ l. l ++ byte ∷ []) (unfinished-is bytes))
 
--- lines that have ended stay, whatever follows
+-- lines that ended stay, whatever follows
 pub lines-begin : (a b : List ℕ) → (more : List (List ℕ)) × (lines (a ++ b) ≡ ended a ++ more)
 lines-begin a b =
     let more = ended_from (open_from [] a) b in
@@ -164,9 +164,9 @@ lines-begin a b =
 
 -- ---- what is kept of a line
 
--- a line that is not full grows, and a full one stays
-take_held : (n : ℕ) (line : List ℕ) (byte : ℕ) → length (take n line) < n → take n (line ++ byte ∷ []) ≡ take n line ++ byte ∷ []
-take_held n line byte h =
+-- a part that is not full grows, and a full one stays
+take_kept : (n : ℕ) (line : List ℕ) (byte : ℕ) → length (take n line) < n → take n (line ++ byte ∷ []) ≡ take n line ++ byte ∷ []
+take_kept n line byte h =
     let short : length line < n = omega (arith, length-take n line) in
     take_all n (line ++ byte ∷ []) (omega (arith, length-append line (byte ∷ []))) ∙ ap (λ l. l ++ byte ∷ []) (sym (take_all n line (omega arith)))
 
@@ -175,27 +175,27 @@ take_full n line byte h =
     let full : n ≤ length line = omega (arith, length-take n line) in
     take-append-le n line (byte ∷ []) full
 
-pub held-grows : (kept line : List ℕ) (byte : ℕ) → kept ≡ held line → length kept ≤ 65536 → kept ++ byte ∷ [] ≡ held (line ++ byte ∷ [])
-unfolding held
-held-grows kept line byte e h =
-    ap (λ l. l ++ byte ∷ []) e ∙ sym (take_held 65537 line byte (subst (λ l. length l < 65537) e (omega arith)))
+pub kept_part-grows : (kept line : List ℕ) (byte : ℕ) → kept ≡ kept_part line → length kept ≤ 65536 → kept ++ byte ∷ [] ≡ kept_part (line ++ byte ∷ [])
+unfolding kept_part
+kept_part-grows kept line byte e h =
+    ap (λ l. l ++ byte ∷ []) e ∙ sym (take_kept 65537 line byte (subst (λ l. length l < 65537) e (omega arith)))
 
-pub held-full : (kept line : List ℕ) (byte : ℕ) → kept ≡ held line → 65536 < length kept → kept ≡ held (line ++ byte ∷ [])
-unfolding held
-held-full kept line byte e h =
+pub kept_part-full : (kept line : List ℕ) (byte : ℕ) → kept ≡ kept_part line → 65536 < length kept → kept ≡ kept_part (line ++ byte ∷ [])
+unfolding kept_part
+kept_part-full kept line byte e h =
     e ∙ sym (take_full 65537 line byte (subst (λ l. 65537 ≤ length l) e (omega arith)))
 
-pub held-nil : [] ≡ held []
-unfolding held
-held-nil = refl
+pub kept_part-nil : [] ≡ kept_part []
+unfolding kept_part
+kept_part-nil = refl
 
--- nothing is kept of no line only
-pub held-none : (line : List ℕ) → length (held line) ≡ 0 → last_line line ≡ []
-unfolding held
-held-none [] e = refl
-held-none (byte ∷ line) e = absurd (omega (arith, e))
+-- the kept part is empty only if the line is
+pub kept_part-none : (line : List ℕ) → length (kept_part line) ≡ 0 → last_line line ≡ []
+unfolding kept_part
+kept_part-none [] e = refl
+kept_part-none (byte ∷ line) e = absurd (omega (arith, e))
 
-pub held-some : (line : List ℕ) → length (held line) ≢ 0 → last_line line ≡ line ∷ []
-unfolding held
-held-some [] h = absurd (h refl)
-held-some (byte ∷ line) h = refl
+pub kept_part-some : (line : List ℕ) → length (kept_part line) ≢ 0 → last_line line ≡ line ∷ []
+unfolding kept_part
+kept_part-some [] h = absurd (h refl)
+kept_part-some (byte ∷ line) h = refl

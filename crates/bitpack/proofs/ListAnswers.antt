@@ -1,4 +1,4 @@
--- Requests for lists have one reply each.
+-- The answers to `enc` and `dec`: each request has one.
 use Rattle.std.proofs.Common.{◌≡◌, ℕ, ◌+◌, ◌^◌, ◌<◌, ◌≤◌, List, [], ◌∷◌, ◌++◌, length, take, drop, Option, Some, None, refl, sym, ◌∙◌, ap, subst, arith}
 use Rattle.std.specs.Option.{MatchOption}
 use Rattle.hex.proofs.HexLemmas.{decode_of-ok}
@@ -9,7 +9,7 @@ use Rattle.bitpack.specs.declared.list_error.ListError.{ListError}
 use Rattle.bitpack.specs.Grammar.{SpellsBytes}
 use Rattle.bitpack.specs.Parts.{count_of, header, number_of}
 use Rattle.bitpack.specs.Version1.{fault1}
-use Rattle.bitpack.specs.Answers.{IsDecoded, IsEncoded, bytes_text, list_text, refused}
+use Rattle.bitpack.specs.Answers.{IsDecAnswer, IsEncAnswer, printed_bytes, printed_list, refused}
 use Rattle.bitpack.proofs.FaultLemmas.{none_first}
 use Rattle.bitpack.proofs.HeaderLemmas.{header_from_fault}
 use Rattle.bitpack.proofs.ListLemmas.{text_of}
@@ -18,44 +18,44 @@ use Rattle.bitpack.proofs.PartLemmas.{AreBytes-nil}
 
 -- ---- bytes
 
--- what a text spells are bytes
-pub AreBytes-spelled : (text bytes : List ℕ) → SpellsBytes text bytes → AreBytes bytes
-AreBytes-spelled text [] spelled = AreBytes-nil
-AreBytes-spelled text (byte ∷ bytes) spelled =
-    let (even, digits, twice, fits) = decode_of-ok text (byte ∷ bytes) spelled in
+-- what a string spells are bytes
+pub AreBytes-spelled : (string bytes : List ℕ) → SpellsBytes string bytes → AreBytes bytes
+AreBytes-spelled string [] spelled = AreBytes-nil
+AreBytes-spelled string (byte ∷ bytes) spelled =
+    let (even, digits, twice, fits) = decode_of-ok string (byte ∷ bytes) spelled in
     fits
 
--- ---- the text of a list
+-- ---- the answer to `enc`
 
 pub encoded_of : (lanes : ℕ) (kind : ListKind) (values : List ℕ) → 1 ≤ lanes → lanes < 2 ^ 8 → AreWords values → length values ≤ 2 ^ 28
-    → (text : List ℕ) × IsEncoded lanes kind values text
+    → (answer : List ℕ) × IsEncAnswer lanes kind values answer
 encoded_of lanes kind values some few words short =
     let (later, small, blocks, are_bytes, list) = text_of lanes kind values some few words short in
     let text : List ℕ = header 1 kind lanes (length values) ++ later in
-    (bytes_text text, record { bytes = text; are_bytes = are_bytes; list = list; text_is = refl })
+    (printed_bytes text, record { bytes = text; are_bytes = are_bytes; list = list; answer_is = refl })
 
-pub same_encoded : (lanes : ℕ) (kind : ListKind) (values a b : List ℕ) → 1 ≤ lanes → IsEncoded lanes kind values a → IsEncoded lanes kind values b → a ≡ b
+pub same_encoded : (lanes : ℕ) (kind : ListKind) (values a b : List ℕ) → 1 ≤ lanes → IsEncAnswer lanes kind values a → IsEncAnswer lanes kind values b → a ≡ b
 same_encoded lanes kind values a b some first second =
     let bytes = one_text1 lanes kind values second.bytes first.bytes some second.are_bytes first.are_bytes second.list first.list in
-    first.text_is ∙ ap bytes_text bytes ∙ sym second.text_is
+    first.answer_is ∙ ap printed_bytes bytes ∙ sym second.answer_is
 
--- ---- the list of a text
+-- ---- the answer to `dec`
 
--- the text replies to a request for the list of the bytes, of which this is the first fault
+-- the answer to `dec` of these bytes, whose first fault this is
 abbrev IsReplyAt : ℕ → List ℕ → Option ListError → List ℕ → Type 0
-IsReplyAt lanes bytes fault text = MatchOption fault (IsDecoded lanes bytes text) (λ fault. text ≡ refused (20 + number_of fault))
+IsReplyAt lanes bytes fault answer = MatchOption fault (IsDecAnswer lanes bytes answer) (λ fault. answer ≡ refused (20 + number_of fault))
 
 decoded_at : (lanes : ℕ) (bytes : List ℕ) (fault : Option ListError) → 1 ≤ lanes → AreBytes bytes → fault1 lanes bytes ≡ fault
-    → (text : List ℕ) × IsReplyAt lanes bytes fault text
+    → (answer : List ℕ) × IsReplyAt lanes bytes fault answer
 unfolding fault1
 decoded_at lanes bytes (Some fault) some small is = (refused (20 + number_of fault), refl)
 decoded_at lanes bytes None some small is =
     let (header_right, body_right) = none_first _ _ is in
     let (kind, begins) = header_from_fault 1 lanes bytes small header_right in
     let (values, long, list) = list_from_none lanes (count_of bytes) kind bytes some small begins is in
-    (list_text kind values, record { kind = kind; values = values; list = list; text_is = refl })
+    (printed_list kind values, record { kind = kind; values = values; list = list; answer_is = refl })
 
-pub decoded_of : (lanes : ℕ) (bytes : List ℕ) → 1 ≤ lanes → AreBytes bytes → (text : List ℕ) × IsReplyAt lanes bytes (fault1 lanes bytes) text
+pub decoded_of : (lanes : ℕ) (bytes : List ℕ) → 1 ≤ lanes → AreBytes bytes → (answer : List ℕ) × IsReplyAt lanes bytes (fault1 lanes bytes) answer
 decoded_of lanes bytes some small = decoded_at lanes bytes (fault1 lanes bytes) some small refl
 
 pub same_decoded : (lanes : ℕ) (bytes : List ℕ) (fault : Option ListError) (a b : List ℕ) → 1 ≤ lanes
@@ -63,4 +63,4 @@ pub same_decoded : (lanes : ℕ) (bytes : List ℕ) (fault : Option ListError) (
 same_decoded lanes bytes (Some fault) a b some is_a is_b = is_a ∙ sym is_b
 same_decoded lanes bytes None a b some first second =
     let (kinds, lists) = one_list1 lanes first.kind second.kind first.values second.values bytes some first.list second.list in
-    first.text_is ∙ rw (← kinds, ← lists) (sym second.text_is)
+    first.answer_is ∙ rw (← kinds, ← lists) (sym second.answer_is)

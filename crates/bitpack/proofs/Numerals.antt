@@ -1,4 +1,4 @@
--- A number's text: its decimal digits, and no other text that the library's parser takes.
+-- How a number is spelled: its decimal digits, and no other string that `parse` accepts.
 use Rattle.std.proofs.Common.{◌≡◌, ◌≢◌, ℕ, ◌^◌, ◌<◌, ◌≤◌, List, length, get_or, Result, Ok, Err, sym, ap, subst, ◌∙◌, arith, inl, inr}
 use Rattle.std.specs.Int.{IsInRange}
 use Rattle.std.specs.Str.Parse.{ParsesUnsigned, AllDigits, digits_value}
@@ -27,17 +27,17 @@ BeginsNumber-decimal n small = record {
       ];
 }
 
--- what the library's parser takes of a text that begins as a number does
-pub parsed : {E : Type 0} (k : ℕ) (text : List ℕ) (r : Result ℕ E) → 2 ^ k ≤ 2 ^ 64 → ParsesUnsigned k 10 text r → BeginsNumber text
-    → Finds (λ n. (text ≡ decimal n) × (n < 2 ^ k)) (result_ok r)
-parsed k text r wide parses plain =
-    let no_plus : get_or text 0 0 ≢ 43 = λ e. omega (arith, plain.digit) in
-    by_cases r (parse_plain numeral k text r parses no_plus)
+-- what `parse` returns for a string that begins like a number
+pub parsed : {E : Type 0} (k : ℕ) (string : List ℕ) (r : Result ℕ E) → 2 ^ k ≤ 2 ^ 64 → ParsesUnsigned k 10 string r → BeginsNumber string
+    → Finds (λ n. (string ≡ decimal n) × (n < 2 ^ k)) (result_ok r)
+parsed k string r wide parses plain =
+    let no_plus : get_or string 0 0 ≢ 43 = λ e. omega (arith, plain.digit) in
+    by_cases r (parse_plain numeral k string r parses no_plus)
   where
-    by_cases : {E : Type 0} (r : Result ℕ E) → OkIff r (AllDigits 10 text × (0 < length text) × (digits_value 10 text < 2 ^ k)) (digits_value 10 text)
-        → Finds (λ n. (text ≡ decimal n) × (n < 2 ^ k)) (result_ok r)
+    by_cases : {E : Type 0} (r : Result ℕ E) → OkIff r (AllDigits 10 string × (0 < length string) × (digits_value 10 string < 2 ^ k)) (digits_value 10 string)
+        → Finds (λ n. (string ≡ decimal n) × (n < 2 ^ k)) (result_ok r)
     by_cases (Ok n) ((digits, some, fits), is) =
-        let spelled : decimal (digits_value 10 text) ≡ text = decimal-digits_value numeral text digits some plain.zero (omega arith) in
+        let spelled : decimal (digits_value 10 string) ≡ string = decimal-digits_value numeral string digits some plain.zero (omega arith) in
         (sym spelled ∙ ap decimal (sym is), subst (λ m. m < 2 ^ k) (sym is) fits)
     by_cases (Err e) none = λ n (spelled, fits). none (
       subst (AllDigits 10) (sym spelled) (digits_decimal numeral n (omega arith)),
@@ -45,6 +45,6 @@ parsed k text r wide parses plain =
       subst (λ t. digits_value 10 t < 2 ^ k) (sym spelled) (subst (λ m. m < 2 ^ k) (sym (digits_value-decimal numeral n (omega arith))) fits),
     )
 
--- a number is no other text
-pub not_plain : (limit : ℕ) (text : List ℕ) → limit ≤ 2 ^ 64 → (BeginsNumber text → ⊥) → (n : ℕ) → (text ≡ decimal n) × (n < limit) → ⊥
-not_plain limit text wide other n (spelled, fits) = other (subst BeginsNumber (sym spelled) (BeginsNumber-decimal n (omega arith)))
+-- a string that does not begin like a number spells none
+pub not_plain : (limit : ℕ) (string : List ℕ) → limit ≤ 2 ^ 64 → (BeginsNumber string → ⊥) → (n : ℕ) → (string ≡ decimal n) × (n < limit) → ⊥
+not_plain limit string wide other n (spelled, fits) = other (subst BeginsNumber (sym spelled) (BeginsNumber-decimal n (omega arith)))

@@ -1,4 +1,4 @@
--- What a step answers where a step before it answered an error.
+-- What a step of the parser returns if a step before it returned an error.
 use Rattle.std.proofs.Common.{◌≡◌, Result, Err, sym, subst}
 use Rattle.bitpack.specs.declared.line.error.ParseError.{ParseError}
 use Rattle.bitpack.specs.declared.line.error.ParseError.TheVariants.{Memory, Spelling}

@@ -1,13 +1,13 @@
--- What is written, a line at a time: answers, and beginnings of answers.
+-- What a run writes, a line at a time: answers, and beginnings of answers.
 use Rattle.std.proofs.Common.{◌≡◌, ◌≢◌, ℕ, Option, List, [], ◌∷◌, ◌++◌, Result, Ok, Err, OnErr, OnOk, IfErr, false, length, flat_map, refl, sym, ap, subst, ◌∙◌, append_assoc, append-nil}
 use Rattle.std.specs.List.{AllZip}
 use Rattle.std.specs.Io.KnownBytes.{Keeps}
 use Rattle.std.proofs.KnownBytes.{Appends-kept, Appends-nil, Appends-trans}
 use Rattle.std.proofs.lemmas.List.Concat.{flat_map-append}
 use Rattle.bitpack.specs.Answers.{IsAnswer}
-use Rattle.bitpack.specs.Lines.{AnsweredSoFar, AppendsAnswer, AppendsAnswerInPart, AppendsAnswers, AppendsAnswersInPart, AreAnswers, ended, held, is_feed, lines, open_line}
-use Rattle.bitpack.proofs.AnswerLemmas.{answer_of, answer-held}
-use Rattle.bitpack.proofs.LineLemmas.{ended-feed, ended-nil, ended-other, held-nil, held-none, held-some, lines-all, lines-begin, open_line-feed, open_line-nil, open_line-other}
+use Rattle.bitpack.specs.Lines.{AnsweredSoFar, AppendsAnswer, AppendsAnswerInPart, AppendsAnswers, AppendsAnswersInPart, AreAnswers, ended, kept_part, is_feed, lines, unfinished}
+use Rattle.bitpack.proofs.AnswerLemmas.{answer_of, answer-kept_part}
+use Rattle.bitpack.proofs.LineLemmas.{ended-feed, ended-nil, ended-other, kept_part-nil, kept_part-none, kept_part-some, lines-all, lines-begin, unfinished-feed, unfinished-nil, unfinished-other}
 
 -- ---- answers of lines
 
@@ -18,24 +18,24 @@ each-append (x ∷ a) b [] t p q = absurd p
 each-append (x ∷ a) b (y ∷ s) t p q = (p.0, each-append a b s t p.1 q)
 
 answers-none : AreAnswers [] []
-answers-none = record { texts = []; each = tt; written = refl }
+answers-none = record { answers = []; each = tt; written = refl }
 
-answers-one : (line text : List ℕ) → IsAnswer line text → AreAnswers (line ∷ []) (text ++ 10 ∷ [])
-answers-one line text answer = record { texts = text ∷ []; each = (answer, tt); written = sym (append-nil (text ++ 10 ∷ [])) }
+answers-one : (line answer : List ℕ) → IsAnswer line answer → AreAnswers (line ∷ []) (answer ++ 10 ∷ [])
+answers-one line answer holds = record { answers = answer ∷ []; each = (holds, tt); written = sym (append-nil (answer ++ 10 ∷ [])) }
 
 answers-append : (a b : List (List ℕ)) (s t : List ℕ) → AreAnswers a s → AreAnswers b t → AreAnswers (a ++ b) (s ++ t)
 answers-append a b s t p q = record {
-  texts = p.texts ++ q.texts;
-  each = each-append a b p.texts q.texts p.each q.each;
-  written = ap (λ l. l ++ t) p.written ∙ ap (λ l. flat_map (λ text. text ++ 10 ∷ []) p.texts ++ l) q.written ∙ sym (flat_map-append (λ text. text ++ 10 ∷ []) p.texts q.texts);
+  answers = p.answers ++ q.answers;
+  each = each-append a b p.answers q.answers p.each q.each;
+  written = ap (λ l. l ++ t) p.written ∙ ap (λ l. flat_map (λ answer. answer ++ 10 ∷ []) p.answers ++ l) q.written ∙ sym (flat_map-append (λ answer. answer ++ 10 ∷ []) p.answers q.answers);
 }
 
 answers_of : (lines : List (List ℕ)) → (bytes : List ℕ) × AreAnswers lines bytes
 answers_of [] = ([], answers-none)
 answers_of (line ∷ lines) =
-    let (text, answer) = answer_of line in
+    let (answer, holds) = answer_of line in
     let (bytes, answers) = answers_of lines in
-    ((text ++ 10 ∷ []) ++ bytes, answers-append (line ∷ []) lines (text ++ 10 ∷ []) bytes (answers-one line text answer) answers)
+    ((answer ++ 10 ∷ []) ++ bytes, answers-append (line ∷ []) lines (answer ++ 10 ∷ []) bytes (answers-one line answer holds) answers)
 
 -- ---- answers that are appended
 
@@ -43,10 +43,10 @@ pub appends-none : (a : Option (List ℕ)) → AppendsAnswers a a []
 appends-none a = ([], answers-none, Appends-nil a)
 
 appends-more : (a b c : Option (List ℕ)) (xs : List (List ℕ)) (line : List ℕ) → AppendsAnswers a b xs → AppendsAnswer b c line → AppendsAnswers a c (xs ++ line ∷ [])
-appends-more a b c xs line (bytes, answers, first) (text, answer, second) = (
-  bytes ++ (text ++ 10 ∷ []),
-  answers-append xs (line ∷ []) bytes (text ++ 10 ∷ []) answers (answers-one line text answer),
-  Appends-trans a b c bytes (text ++ 10 ∷ []) first second,
+appends-more a b c xs line (bytes, answers, first) (answer, holds, second) = (
+  bytes ++ (answer ++ 10 ∷ []),
+  answers-append xs (line ∷ []) bytes (answer ++ 10 ∷ []) answers (answers-one line answer holds),
+  Appends-trans a b c bytes (answer ++ 10 ∷ []) first second,
 )
 
 pub appends-kept : (a b c : Option (List ℕ)) (xs : List (List ℕ)) → AppendsAnswers a b xs → Keeps b c → AppendsAnswers a c xs
@@ -68,43 +68,43 @@ part-whole : (a b : Option (List ℕ)) (xs ys : List (List ℕ)) → AppendsAnsw
 part-whole a b xs ys whole = part-more a b xs ys (part-all a b xs whole)
 
 part-next : (a b c : Option (List ℕ)) (xs : List (List ℕ)) (line : List ℕ) (ys : List (List ℕ)) → AppendsAnswers a b xs → AppendsAnswerInPart b c line → AppendsAnswersInPart a c ((xs ++ line ∷ []) ++ ys)
-part-next a b c xs line ys (bytes, answers, first) (text, answer, (some, (more, split), second)) = part-more a c (xs ++ line ∷ []) ys (
-  bytes ++ (text ++ 10 ∷ []),
-  answers-append xs (line ∷ []) bytes (text ++ 10 ∷ []) answers (answers-one line text answer),
+part-next a b c xs line ys (bytes, answers, first) (answer, holds, (some, (more, split), second)) = part-more a c (xs ++ line ∷ []) ys (
+  bytes ++ (answer ++ 10 ∷ []),
+  answers-append xs (line ∷ []) bytes (answer ++ 10 ∷ []) answers (answers-one line answer holds),
   (bytes ++ some, (more, ap (λ l. bytes ++ l) split ∙ sym (append_assoc bytes some more)), Appends-trans a b c bytes some first second),
 )
 
--- what answers the kept part of a line answers the line
-for_line : (b c : Option (List ℕ)) (kept line : List ℕ) → kept ≡ held line → AppendsAnswer b c kept → AppendsAnswer b c line
-for_line b c kept line e (text, answer, appended) = (text, answer-held line text (subst (λ l. IsAnswer l text) e answer), appended)
+-- the answer to the kept part of a line is the answer to the line
+for_line : (b c : Option (List ℕ)) (kept line : List ℕ) → kept ≡ kept_part line → AppendsAnswer b c kept → AppendsAnswer b c line
+for_line b c kept line e (answer, holds, appended) = (answer, answer-kept_part line answer (subst (λ l. IsAnswer l answer) e holds), appended)
 
-for_line-part : (b c : Option (List ℕ)) (kept line : List ℕ) → kept ≡ held line → AppendsAnswerInPart b c kept → AppendsAnswerInPart b c line
-for_line-part b c kept line e (text, answer, part) = (text, answer-held line text (subst (λ l. IsAnswer l text) e answer), part)
+for_line-part : (b c : Option (List ℕ)) (kept line : List ℕ) → kept ≡ kept_part line → AppendsAnswerInPart b c kept → AppendsAnswerInPart b c line
+for_line-part b c kept line e (answer, holds, part) = (answer, answer-kept_part line answer (subst (λ l. IsAnswer l answer) e holds), part)
 
 -- ---- the loop, a byte at a time
 
 pub none_step : (now : Option (List ℕ)) → AnsweredSoFar now now [] []
-none_step now = record { answered = subst (AppendsAnswers now now) (sym ended-nil) (appends-none now); begun = held-nil ∙ ap held (sym open_line-nil) }
+none_step now = record { answered = subst (AppendsAnswers now now) (sym ended-nil) (appends-none now); begun = kept_part-nil ∙ ap kept_part (sym unfinished-nil) }
 
 module _ (before now : Option (List ℕ)) (input kept : List ℕ) (so_far : AnsweredSoFar before now input kept) where
   pub feed_step : (next : Option (List ℕ)) → AppendsAnswer now next kept → AnsweredSoFar before next (input ++ 10 ∷ []) []
-  feed_step next answer = record {
-    answered = subst (AppendsAnswers before next) (sym (ended-feed input)) (appends-more before now next (ended input) (open_line input) so_far.answered (for_line now next kept (open_line input) so_far.begun answer));
-    begun = held-nil ∙ ap held (sym (open_line-feed input));
+  feed_step next holds = record {
+    answered = subst (AppendsAnswers before next) (sym (ended-feed input)) (appends-more before now next (ended input) (unfinished input) so_far.answered (for_line now next kept (unfinished input) so_far.begun holds));
+    begun = kept_part-nil ∙ ap kept_part (sym (unfinished-feed input));
   }
 
-  pub other_step : (byte : ℕ) (grown : List ℕ) → is_feed byte ≡ false → grown ≡ held (open_line input ++ byte ∷ []) → AnsweredSoFar before now (input ++ byte ∷ []) grown
+  pub other_step : (byte : ℕ) (grown : List ℕ) → is_feed byte ≡ false → grown ≡ kept_part (unfinished input ++ byte ∷ []) → AnsweredSoFar before now (input ++ byte ∷ []) grown
   other_step byte grown other e = record {
     answered = subst (AppendsAnswers before now) (sym (ended-other input byte other)) so_far.answered;
-    begun = e ∙ ap held (sym (open_line-other input byte other));
+    begun = e ∙ ap kept_part (sym (unfinished-other input byte other));
   }
 
-  -- stopped at a line feed, in the midst of an answer
+  -- stopped at a line feed, in the middle of an answer
   pub feed_stop : (next : Option (List ℕ)) (rest : List ℕ) → AppendsAnswerInPart now next kept → AppendsAnswersInPart before next (lines (input ++ 10 ∷ rest))
   feed_stop next rest part =
       let (more, split) = lines-begin (input ++ 10 ∷ []) rest in
-      let all : lines (input ++ 10 ∷ rest) ≡ (ended input ++ open_line input ∷ []) ++ more = ap lines (sym (append_assoc input (10 ∷ []) rest)) ∙ split ∙ ap (λ l. l ++ more) (ended-feed input) in
-      subst (AppendsAnswersInPart before next) (sym all) (part-next before now next (ended input) (open_line input) more so_far.answered (for_line-part now next kept (open_line input) so_far.begun part))
+      let all : lines (input ++ 10 ∷ rest) ≡ (ended input ++ unfinished input ∷ []) ++ more = ap lines (sym (append_assoc input (10 ∷ []) rest)) ∙ split ∙ ap (λ l. l ++ more) (ended-feed input) in
+      subst (AppendsAnswersInPart before next) (sym all) (part-next before now next (ended input) (unfinished input) more so_far.answered (for_line-part now next kept (unfinished input) so_far.begun part))
 
   -- stopped between two answers, or at the end of all
   pub stop : (rest : List ℕ) → AppendsAnswersInPart before now (lines (input ++ rest))
@@ -115,21 +115,21 @@ module _ (before now : Option (List ℕ)) (input kept : List ℕ) (so_far : Answ
   -- ---- the end of input
 
   none_begun : length kept ≡ 0 → lines input ≡ ended input
-  none_begun e = lines-all input ∙ ap (λ l. ended input ++ l) (held-none (open_line input) (ap length (sym so_far.begun) ∙ e)) ∙ append-nil (ended input)
+  none_begun e = lines-all input ∙ ap (λ l. ended input ++ l) (kept_part-none (unfinished input) (ap length (sym so_far.begun) ∙ e)) ∙ append-nil (ended input)
 
-  some_begun : length kept ≢ 0 → lines input ≡ ended input ++ open_line input ∷ []
-  some_begun h = lines-all input ∙ ap (λ l. ended input ++ l) (held-some (open_line input) (λ e. h (ap length so_far.begun ∙ e)))
+  some_begun : length kept ≢ 0 → lines input ≡ ended input ++ unfinished input ∷ []
+  some_begun h = lines-all input ∙ ap (λ l. ended input ++ l) (kept_part-some (unfinished input) (λ e. h (ap length so_far.begun ∙ e)))
 
   pub end_without : length kept ≡ 0 → AppendsAnswers before now (lines input)
   end_without e = subst (AppendsAnswers before now) (sym (none_begun e)) so_far.answered
 
   pub end_with : (next : Option (List ℕ)) → length kept ≢ 0 → AppendsAnswer now next kept → AppendsAnswers before next (lines input)
-  end_with next h answer = subst (AppendsAnswers before next) (sym (some_begun h)) (appends-more before now next (ended input) (open_line input) so_far.answered (for_line now next kept (open_line input) so_far.begun answer))
+  end_with next h holds = subst (AppendsAnswers before next) (sym (some_begun h)) (appends-more before now next (ended input) (unfinished input) so_far.answered (for_line now next kept (unfinished input) so_far.begun holds))
 
   pub end_stop : (next : Option (List ℕ)) → length kept ≢ 0 → AppendsAnswerInPart now next kept → AppendsAnswersInPart before next (lines input)
   end_stop next h part =
-      let all : lines input ≡ (ended input ++ open_line input ∷ []) ++ [] = some_begun h ∙ sym (append-nil (ended input ++ open_line input ∷ [])) in
-      subst (AppendsAnswersInPart before next) (sym all) (part-next before now next (ended input) (open_line input) [] so_far.answered (for_line-part now next kept (open_line input) so_far.begun part))
+      let all : lines input ≡ (ended input ++ unfinished input ∷ []) ++ [] = some_begun h ∙ sym (append-nil (ended input ++ unfinished input ∷ [])) in
+      subst (AppendsAnswersInPart before next) (sym all) (part-next before now next (ended input) (unfinished input) [] so_far.answered (for_line-part now next kept (unfinished input) so_far.begun part))
 
 -- ---- facts of a result
 

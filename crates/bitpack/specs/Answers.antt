@@ -1,6 +1,6 @@
--- The answer to a line: the first refusal that applies, and else what the format says.
+-- The answer to a line: the first refusal that applies, and else what the format says. What is printed is called an answer.
 use Rattle.std.specs.Prelude.{◌≡◌, ◌≢◌, ℕ, ◌+◌, ◌*◌, ◌<◌, List, [], ◌∷◌, ◌++◌, length, map, MatchOption}
-use Rattle.std.specs.Prelude.{codes as text_bytes}
+use Rattle.std.specs.Prelude.{codes as ascii}
 use Rattle.std.specs.Fmt.{decimal}
 use Rattle.hex.specs.Hex.{encode_lower}
 use Rattle.bitpacking.specs.declared.kind.Kind.{Kind}
@@ -12,7 +12,7 @@ use Rattle.bitpack.specs.declared.list_kind.ListKind.{ListKind}
 use Rattle.bitpack.specs.declared.line.PackerName.{PackerName}
 use Rattle.bitpack.specs.declared.line.PackerName.TheVariants.{EightLanes, EightScalar, FourLanes, FourScalar, OneLane}
 use Rattle.bitpack.specs.declared.line.values.Item.TheVariants.{Once}
-use Rattle.bitpack.specs.Grammar.{Dec, Enc, Pack, Request, Size, Spells, Unpack, Width, items_text, listkind_text}
+use Rattle.bitpack.specs.Grammar.{Dec, Enc, Pack, Request, Size, Spells, Unpack, Width, items_string, line_limit, list_kind_string}
 use Rattle.bitpack.specs.Parts.{number_of}
 use Rattle.bitpack.specs.Version1.{List1, fault1}
 
@@ -23,90 +23,91 @@ lanes_of EightLanes = 8
 lanes_of FourScalar = 4
 lanes_of EightScalar = 8
 
--- `-` for none, and else two lower-case hexadecimal digits for each byte
-abbrev pub bytes_text : List ℕ → List ℕ
-bytes_text [] = text_bytes "-"
-bytes_text (byte ∷ bytes) = encode_lower (byte ∷ bytes)
+-- `-` if there are none, and otherwise two lower-case hexadecimal digits for each byte
+abbrev pub printed_bytes : List ℕ → List ℕ
+printed_bytes [] = ascii "-"
+printed_bytes (byte ∷ bytes) = encode_lower (byte ∷ bytes)
 
--- `-` for none, and else the values with a comma between two
-abbrev pub values_text : List ℕ → List ℕ
-values_text values = items_text (map Once values)
+-- `-` if there are none, and otherwise the values with commas between them
+abbrev pub printed_values : List ℕ → List ℕ
+printed_values values = items_string (map Once values)
 
+-- a refusal with its number
 abbrev pub refused : ℕ → List ℕ
-refused number = text_bytes "refused " ++ decimal number
+refused number = ascii "refused " ++ decimal number
 
--- where the fault holds, the text refuses it by its number, and else the text is a reply
-pub data RefusedIf (Fault : Type 0) (number : ℕ) (IsReply : List ℕ → Type 0) (text : List ℕ) : Type 0 where
-  Refused : Fault → text ≡ refused number → RefusedIf Fault number IsReply text
-  Passed : ¬ Fault → IsReply text → RefusedIf Fault number IsReply text
+-- if the fault holds, the answer is the refusal with its number, and otherwise a reply
+pub data RefusedIf (Fault : Type 0) (number : ℕ) (IsReply : List ℕ → Type 0) (answer : List ℕ) : Type 0 where
+  Refused : Fault → answer ≡ refused number → RefusedIf Fault number IsReply answer
+  Passed : ¬ Fault → IsReply answer → RefusedIf Fault number IsReply answer
 
--- the text is that of the block's least width
-pub record IsWidthText (kind : Kind) (block text : List ℕ) : Type 0 where
+-- the answer is the least width of the block
+pub record IsWidthAnswer (kind : Kind) (block answer : List ℕ) : Type 0 where
   pub width : ℕ
   pub least : IsWidth kind block width
-  pub text_is : text ≡ decimal width
+  pub answer_is : answer ≡ decimal width
 
--- the text is that of the bytes of the block
-pub record IsPacked (lanes width : ℕ) (kind : Kind) (block text : List ℕ) : Type 0 where
+-- the answer is the bytes of the block
+pub record IsPackAnswer (lanes width : ℕ) (kind : Kind) (block answer : List ℕ) : Type 0 where
   pub bytes : List ℕ
   pub are_bytes : AreBytes bytes
   pub holds : Holds lanes width kind block bytes
-  pub text_is : text ≡ bytes_text bytes
+  pub answer_is : answer ≡ printed_bytes bytes
 
--- the text is that of the block of the bytes
-pub record IsUnpacked (lanes width : ℕ) (kind : Kind) (bytes text : List ℕ) : Type 0 where
+-- the answer is the block of the bytes
+pub record IsUnpackAnswer (lanes width : ℕ) (kind : Kind) (bytes answer : List ℕ) : Type 0 where
   pub block : List ℕ
   pub are_words : AreWords block
   pub holds : Holds lanes width kind block bytes
-  pub text_is : text ≡ values_text block
+  pub answer_is : answer ≡ printed_values block
 
--- the text is that of the bytes of the list
-pub record IsEncoded (lanes : ℕ) (kind : ListKind) (values text : List ℕ) : Type 0 where
+-- the answer is the bytes of the list
+pub record IsEncAnswer (lanes : ℕ) (kind : ListKind) (values answer : List ℕ) : Type 0 where
   pub bytes : List ℕ
   pub are_bytes : AreBytes bytes
   pub list : List1 lanes kind values bytes
-  pub text_is : text ≡ bytes_text bytes
+  pub answer_is : answer ≡ printed_bytes bytes
 
 -- a list as its kind, a space and its values
-abbrev pub list_text : ListKind → List ℕ → List ℕ
-list_text kind values = listkind_text kind ++ 32 ∷ values_text values
+abbrev pub printed_list : ListKind → List ℕ → List ℕ
+printed_list kind values = list_kind_string kind ++ 32 ∷ printed_values values
 
--- the text is that of the list of the bytes
-pub record IsDecoded (lanes : ℕ) (bytes text : List ℕ) : Type 0 where
+-- the answer is the list of the bytes
+pub record IsDecAnswer (lanes : ℕ) (bytes answer : List ℕ) : Type 0 where
   pub kind : ListKind
   pub values : List ℕ
   pub list : List1 lanes kind values bytes
-  pub text_is : text ≡ list_text kind values
+  pub answer_is : answer ≡ printed_list kind values
 
--- the text replies to the request, put to a packer of so many lanes
+-- the answer is a reply to the request by a packer of so many lanes
 abbrev pub IsReply : ℕ → Request → List ℕ → Type 0
-IsReply lanes (Size width) = λ text. text ≡ decimal (size lanes width)
+IsReply lanes (Size width) = λ answer. answer ≡ decimal (size lanes width)
 IsReply lanes (Width kind values) =
     RefusedIf (length values ≢ 32 * lanes) 2
-    (IsWidthText kind values)
+    (IsWidthAnswer kind values)
 IsReply lanes (Pack kind width values) =
     RefusedIf (length values ≢ 32 * lanes) 2
     (RefusedIf (32 < width) 3
     (RefusedIf (¬ Fits (codes kind values) width) 4
-    (IsPacked lanes width kind values)))
+    (IsPackAnswer lanes width kind values)))
 IsReply lanes (Unpack kind width bytes) =
     RefusedIf (32 < width) 3
     (RefusedIf (length bytes ≢ size lanes width) 5
-    (IsUnpacked lanes width kind bytes))
-IsReply lanes (Enc kind values) = IsEncoded lanes kind values
-IsReply lanes (Dec bytes) = λ text. MatchOption (fault1 lanes bytes) (IsDecoded lanes bytes text) (λ fault. text ≡ refused (20 + number_of fault))
+    (IsUnpackAnswer lanes width kind bytes))
+IsReply lanes (Enc kind values) = IsEncAnswer lanes kind values
+IsReply lanes (Dec bytes) = λ answer. MatchOption (fault1 lanes bytes) (IsDecAnswer lanes bytes answer) (λ fault. answer ≡ refused (20 + number_of fault))
 
 -- the line spells no request
 abbrev pub SpellsNone : List ℕ → Type 0
 SpellsNone line = (packer : PackerName) (request : Request) → ¬ Spells line packer request
 
--- the text replies to what the line spells
-pub record IsReplied (line text : List ℕ) : Type 0 where
+-- the answer is a reply to the request that the line spells
+pub record IsReplied (line answer : List ℕ) : Type 0 where
   pub packer : PackerName
   pub request : Request
   pub spelled : Spells line packer request
-  pub replied : IsReply (lanes_of packer) request text
+  pub replied : IsReply (lanes_of packer) request answer
 
--- the text answers the line
+-- the answer to the line
 unfoldable pub IsAnswer : List ℕ → List ℕ → Type 0
-IsAnswer line = RefusedIf (65536 < length line) 6 (RefusedIf (SpellsNone line) 1 (IsReplied line))
+IsAnswer line = RefusedIf (line_limit < length line) 6 (RefusedIf (SpellsNone line) 1 (IsReplied line))

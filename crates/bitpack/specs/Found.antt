@@ -1,4 +1,4 @@
--- What the steps of the parser answer for a text.
+-- What the steps of the parser return for a string.
 use Rattle.std.specs.Prelude.{◌≡◌, ℕ, ◌≤◌, List, ◌++◌, length, slice_index, Option, None, Some, Result, Ok, Err}
 use Rattle.std.specs.Int.{IsInRange}
 use Rattle.std.specs.Fmt.{decimal}
@@ -10,42 +10,35 @@ use Rattle.bitpack.specs.declared.line.PackerName.{PackerName}
 use Rattle.bitpack.specs.declared.line.values.Item.{Item}
 use Rattle.bitpack.specs.declared.line.error.ParseError.{ParseError}
 use Rattle.bitpack.specs.declared.line.error.ParseError.TheVariants.{Memory, Spelling}
-use Rattle.bitpack.specs.Grammar.{Dec, Enc, IsItem, IsKind, Pack, Request, Size, Unpack, Width, item_text, item_values, kind_text}
+use Rattle.bitpack.specs.Grammar.{Dec, Enc, IsItem, Pack, Request, Size, Unpack, Width, line_limit, item_string, item_values}
 
--- what was found is spelled; where nothing was found, nothing is
+-- what was found is what the string spells; if nothing was found, it spells nothing
 abbrev pub Finds : {Y : Type 0} → (Y → Type 0) → Option Y → Type 0
 Finds Spelled (Some found) = Spelled found
 Finds Spelled None = (found : _) → ¬ Spelled found
 
--- the same of a step that can run out of memory
+-- the same for a step that can run out of memory
 abbrev pub Parses : {X Y : Type 0} → (X → Y) → (Y → Type 0) → Result X ParseError → Type 0
 Parses view Spelled (Ok found) = Spelled (view found)
 Parses view Spelled (Err Spelling) = (found : _) → ¬ Spelled found
 Parses view Spelled (Err Memory) = Unit {0}
 
--- the text spells the number, which is in range
-abbrev pub SpellsNumber : (ℕ → Type 0) → List ℕ → ℕ → Type 0
-SpellsNumber IsRange text n = (text ≡ decimal n) × IsRange n
-
-abbrev pub SpellsKind : List ℕ → Kind → Type 0
-SpellsKind text kind = (text ≡ kind_text kind) × IsKind kind
-
 abbrev pub SpellsItem : List ℕ → Item → Type 0
-SpellsItem text item = (text ≡ item_text item) × IsItem item
+SpellsItem string item = (string ≡ item_string item) × IsItem item
 
--- the text begins with a digit, and with `0` only where that is all
-pub record BeginsNumber (text : List ℕ) : Type 0 where
-  pub digit : IsInRange 48 57 (slice_index text 0)
-  pub zero : slice_index text 0 ≡ 48 → length text ≡ 1
+-- the string begins with a digit, and with `0` only where that is all
+pub record BeginsNumber (string : List ℕ) : Type 0 where
+  pub digit : IsInRange 48 57 (slice_index string 0)
+  pub zero : slice_index string 0 ≡ 48 → length string ≡ 1
 
--- the new values are the old and those of the item that the text spells, and not too many
-pub record AddsItem (text old new : List ℕ) : Type 0 where
+-- the new values are the old and those of the item that the string spells, and not too many
+pub record AddsItem (string old new : List ℕ) : Type 0 where
   pub item : Item
-  pub spelled : SpellsItem text item
+  pub spelled : SpellsItem string item
   pub added : new ≡ old ++ item_values item
-  pub few : length new ≤ 65536
+  pub few : length new ≤ line_limit
 
--- a command without where it lies in memory
+-- the request of a command: its values and bytes as lists
 abbrev pub request_of : Command → Request
 request_of (commands.Size width) = Size width
 request_of (commands.Width kind values) = Width kind values.items

@@ -26,7 +26,7 @@ OneCommand = (line : List ℕ) (packer other_packer : PackerName) (request other
 
 -- a line has an answer, and any two of its answers are equal
 abbrev pub OneAnswer : Type 0
-OneAnswer = (line : List ℕ) → (text : List ℕ) × IsAnswer line text × ((other : List ℕ) → IsAnswer line other → other ≡ text)
+OneAnswer = (line : List ℕ) → (answer : List ℕ) × IsAnswer line answer × ((other : List ℕ) → IsAnswer line other → other ≡ answer)
 
 -- a width is loose exactly where the codes that the bytes lay out fit a smaller one
 abbrev pub LooseFitsSmaller : Type 0

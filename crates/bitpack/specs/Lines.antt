@@ -1,8 +1,9 @@
 -- The lines of an input, and what is written for them.
-use Rattle.std.specs.Prelude.{◌≡◌, ℕ, Bool, Option, List, [], ◌∷◌, ◌++◌, take, drop, flat_map, count_by, if◌then◌else◌, ◌==◌}
+use Rattle.std.specs.Prelude.{◌≡◌, ◌+◌, ℕ, Bool, Option, List, [], ◌∷◌, ◌++◌, take, drop, flat_map, count_by, if◌then◌else◌, ◌==◌}
 use Rattle.std.specs.List.{AllZip, concat, onto_first}
 use Rattle.std.specs.Io.KnownBytes.{Appends, Consumes, IsAtEnd}
 use Rattle.bitpack.specs.Answers.{IsAnswer}
+use Rattle.bitpack.specs.Grammar.{line_limit}
 
 -- ---- lines
 
@@ -10,30 +11,30 @@ use Rattle.bitpack.specs.Answers.{IsAnswer}
 abbrev pub is_feed : ℕ → Bool
 is_feed byte = byte == 10
 
--- the lines of an input: a line feed ends one, and any other byte stands at the front of the line that goes on after it
+-- the lines of an input: a line feed ends a line, and any other byte is the first of the line that goes on after it
 unfoldable pub lines : List ℕ → List (List ℕ)
 lines [] = []
 lines (byte ∷ bytes) = if is_feed byte then [] ∷ lines bytes else onto_first byte (lines bytes)
 
--- the lines that have ended, one for each line feed: only the last line can be without
+-- the lines that ended, one for each line feed
 unfoldable pub ended : List ℕ → List (List ℕ)
 ended bytes = take (count_by is_feed bytes) (lines bytes)
 
--- what has come of a line that has not ended
-unfoldable pub open_line : List ℕ → List ℕ
-open_line bytes = concat (drop (count_by is_feed bytes) (lines bytes))
+-- the line after the last line feed, which is unfinished
+unfoldable pub unfinished : List ℕ → List ℕ
+unfinished bytes = concat (drop (count_by is_feed bytes) (lines bytes))
 
--- as much of a line as is kept: one byte more than the longest line has
-unfoldable pub held : List ℕ → List ℕ
-held line = take 65537 line
+-- the part of a line that is kept: one byte more than a line may have
+unfoldable pub kept_part : List ℕ → List ℕ
+kept_part line = take (line_limit + 1) line
 
 -- ---- their answers
 
--- one text for each line, which answers it; the bytes are the texts, each with a line feed
+-- the bytes are one answer for each line, with a line feed after each
 pub record AreAnswers (lines : List (List ℕ)) (bytes : List ℕ) : Type 0 where
-  pub texts : List (List ℕ)
-  pub each : AllZip IsAnswer lines texts
-  pub written : bytes ≡ flat_map (λ text. text ++ 10 ∷ []) texts
+  pub answers : List (List ℕ)
+  pub each : AllZip IsAnswer lines answers
+  pub written : bytes ≡ flat_map (λ answer. answer ++ 10 ∷ []) answers
 
 -- `all` begins with `some`
 abbrev pub IsBeginning : List ℕ → List ℕ → Type 0
@@ -45,10 +46,10 @@ AppendsBeginning old new all = (some : List ℕ) × IsBeginning some all × Appe
 
 -- known bytes grow by the answer to one line, or by a beginning of it
 abbrev pub AppendsAnswer : Option (List ℕ) → Option (List ℕ) → List ℕ → Type 0
-AppendsAnswer old new line = (text : List ℕ) × IsAnswer line text × Appends old new (text ++ 10 ∷ [])
+AppendsAnswer old new line = (answer : List ℕ) × IsAnswer line answer × Appends old new (answer ++ 10 ∷ [])
 
 abbrev pub AppendsAnswerInPart : Option (List ℕ) → Option (List ℕ) → List ℕ → Type 0
-AppendsAnswerInPart old new line = (text : List ℕ) × IsAnswer line text × AppendsBeginning old new (text ++ 10 ∷ [])
+AppendsAnswerInPart old new line = (answer : List ℕ) × IsAnswer line answer × AppendsBeginning old new (answer ++ 10 ∷ [])
 
 -- known bytes grow by the answers to lines, or by a beginning of them
 abbrev pub AppendsAnswers : Option (List ℕ) → Option (List ℕ) → List (List ℕ) → Type 0
@@ -59,16 +60,16 @@ AppendsAnswersInPart old new lines = (bytes : List ℕ) × AreAnswers lines byte
 
 -- ---- what a run did to its reader and its writer
 
--- of the input so far, the lines that have ended were answered, and of the line that has not `kept` is kept
+-- of the input so far, the lines that ended were answered, and `kept` is the part of the unfinished line
 pub record AnsweredSoFar (before now : Option (List ℕ)) (input kept : List ℕ) : Type 0 where
   pub answered : AppendsAnswers before now (ended input)
-  pub begun : kept ≡ held (open_line input)
+  pub begun : kept ≡ kept_part (unfinished input)
 
 -- the reader gave an input to its end, and all its lines were answered
 abbrev pub AnswersAll : Option (List ℕ) → Option (List ℕ) → Option (List ℕ) → Option (List ℕ) → Type 0
 AnswersAll left rest old new = (input : List ℕ) × Consumes left rest input × IsAtEnd rest × AppendsAnswers old new (lines input)
 
--- the reader gave an input, and the lines of it that have ended were answered
+-- the reader gave an input, and its lines that ended were answered
 abbrev pub AnswersEnded : Option (List ℕ) → Option (List ℕ) → Option (List ℕ) → Option (List ℕ) → Type 0
 AnswersEnded left rest old new = (input : List ℕ) × Consumes left rest input × AppendsAnswers old new (ended input)
 

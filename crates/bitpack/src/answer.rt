@@ -5,24 +5,21 @@ ghost use Rattle.bitpack.specs.Found.{request_of};
 ghost use Rattle.bitpack.specs.Answers.{IsAnswer, IsReply, lanes_of};
 ghost use Rattle.bitpack.specs.Lines.{AppendsAnswer, AppendsAnswerInPart};
 
+mod formatting;
 mod lists;
 mod replies;
-mod texts;
 
 use crate::RunError;
-use crate::line::{Command, Line, PackerName, ParseError, parse};
+use crate::line::{Command, LINE_LIMIT, Line, PackerName, ParseError, parse_line};
 use crate::writing::put;
 use bitpacking::{BitPacker, BitPacker1x, BitPacker4x, BitPacker8x};
-use lists::{dec_text, enc_text};
-use replies::{pack_text, size_text, unpack_text, width_text};
+use formatting::refuse;
+use lists::{answer_dec, answer_enc};
+use replies::{answer_pack, answer_size, answer_unpack, answer_width};
 use std::alloc::{AllocError, Global};
 use std::io::Write;
-use texts::refused;
 
-/// The most bytes of a line.
-const LONGEST: usize = 65_536;
-
-// The numbers of the refusals.
+// The numbers of the refusals of lines.
 const NOT_SPELLED: u8 = 1;
 
 const NOT_A_BLOCK: u8 = 2;
@@ -45,31 +42,31 @@ pub(crate) fn answer_line<W: Write>(
     ensures err { OnErr result (AppendsAnswerInPart (W.contents writer.old) (W.contents writer.new) line.now) }
     ensures kind { IfErr result (λ e. e ≢ RunError.Read) }
 {
-    let Ok(mut text) = answer(alloc, line) else {
+    let Ok(mut printed) = answer(alloc, line) else {
         return Err(RunError::Memory);
     };
-    if text.push('\n').is_err() {
+    if printed.push('\n').is_err() {
         return Err(RunError::Memory);
     }
-    put(writer, text.as_bytes())
+    put(writer, printed.as_bytes())
 }
 
-/// The text that answers a line, without its line feed.
+/// The answer to a line, without its line feed.
 pub(crate) fn answer(alloc: Global, line: &[u8]) -> Result<String, AllocError>
-    ensures { IfOk result (λ text. IsAnswer line.now (string_bytes text)) }
+    ensures { IfOk result (λ answer. IsAnswer line.now (string_bytes answer)) }
 {
-    if line.len() > LONGEST {
-        return refused(alloc, TOO_LONG);
+    if line.len() > LINE_LIMIT {
+        return refuse(alloc, TOO_LONG);
     }
-    match parse(alloc, line) {
+    match parse_line(alloc, line) {
         Ok(line) => reply(alloc, &line),
-        Err(ParseError::Spelling) => refused(alloc, NOT_SPELLED),
+        Err(ParseError::Spelling) => refuse(alloc, NOT_SPELLED),
         Err(ParseError::Memory) => Err(AllocError),
     }
 }
 
 fn reply(alloc: Global, line: &Line) -> Result<String, AllocError>
-    ensures { IfOk result (λ text. IsReply (lanes_of line.now.packer) (request_of line.now.command) (string_bytes text)) }
+    ensures { IfOk result (λ answer. IsReply (lanes_of line.now.packer) (request_of line.now.command) (string_bytes answer)) }
 {
     match line.packer {
         PackerName::OneLane => reply_by(alloc, &BitPacker1x::new(), &line.command),
@@ -85,18 +82,18 @@ fn reply_by<P: BitPacker>(
     packer: &P,
     command: &Command,
 ) -> Result<String, AllocError>
-    ensures { IfOk result (λ text. IsReply P.lanes (request_of command.now) (string_bytes text)) }
+    ensures { IfOk result (λ answer. IsReply P.lanes (request_of command.now) (string_bytes answer)) }
 {
     match command {
-        Command::Size(width) => size_text::<P>(alloc, *width),
-        Command::Width(kind, values) => width_text(alloc, packer, *kind, values.as_slice()),
+        Command::Size(width) => answer_size::<P>(alloc, *width),
+        Command::Width(kind, values) => answer_width(alloc, packer, *kind, values.as_slice()),
         Command::Pack(kind, width, values) => {
-            pack_text(alloc, packer, *kind, *width, values.as_slice())
+            answer_pack(alloc, packer, *kind, *width, values.as_slice())
         }
         Command::Unpack(kind, width, bytes) => {
-            unpack_text(alloc, packer, *kind, *width, bytes.as_slice())
+            answer_unpack(alloc, packer, *kind, *width, bytes.as_slice())
         }
-        Command::Enc(kind, values) => enc_text(alloc, packer, *kind, values.as_slice()),
-        Command::Dec(bytes) => dec_text(alloc, packer, bytes.as_slice()),
+        Command::Enc(kind, values) => answer_enc(alloc, packer, *kind, values.as_slice()),
+        Command::Dec(bytes) => answer_dec(alloc, packer, bytes.as_slice()),
     }
 }

@@ -1,4 +1,4 @@
-//! A line of the program: what it asks, and of which packer.
+//! Parsing a line: the packer that it names and the command that it spells.
 
 ghost use Rattle.std.specs.Prelude.{map};
 ghost use Rattle.bitpack.specs.Grammar.{Asks, Spells};
@@ -14,7 +14,8 @@ mod values;
 use crate::ListKind;
 use bitpacking::Kind;
 pub(crate) use error::ParseError;
-use forms::{dec_of, enc_of, pack_of, size_of, unpack_of, width_of};
+use forms::parse_command;
+use names::parse_packer;
 use std::alloc::Global;
 
 /// The packers that a line can name.
@@ -49,37 +50,37 @@ pub(crate) enum Command {
     Dec(Vec<u8>),
 }
 
-/// A line of the language.
+/// A line that was parsed.
 #[derive(Debug, Drop)]
 pub(crate) struct Line {
     pub(crate) packer: PackerName,
     pub(crate) command: Command,
 }
 
+/// The most bytes of a line, and the most values that one line can spell.
+pub(crate) const LINE_LIMIT: usize = 65_536;
+
 /// The most fields of a line.
 const MOST_FIELDS: usize = 5;
 
-/// What the line asks, all of it. The answer is an error where it is in no way a line of the language, or memory runs out.
-pub(crate) fn parse(alloc: Global, line: &[u8]) -> Result<Line, ParseError>
+/// Parses a line. It is an error if the line is not in the grammar, or if memory runs out.
+pub(crate) fn parse_line(alloc: Global, line: &[u8]) -> Result<Line, ParseError>
     ensures { Parses asked_by (λ asked. Spells line.now asked.0 asked.1) result }
 {
-    let Ok(text) = std::str::from_utf8(line) else {
+    let Ok(string) = std::str::from_utf8(line) else {
         return Err(ParseError::Spelling);
     };
-    let fields: Vec<&str> = text.split(' ').take(MOST_FIELDS + 1).collect(alloc)?;
-    line_of(alloc, &fields)
+    let fields: Vec<&str> = string.split(' ').take(MOST_FIELDS + 1).collect(alloc)?;
+    parse_fields(alloc, &fields)
 }
 
-fn line_of(alloc: Global, fields: &[&str]) -> Result<Line, ParseError>
+fn parse_fields(alloc: Global, fields: &[&str]) -> Result<Line, ParseError>
     ensures { Parses asked_by (λ asked. Asks (map (λ field. field.now) fields.now) asked.0 asked.1) result }
 {
-    match *fields {
-        ["size", packer, width] => size_of(packer, width),
-        ["width", packer, kind, values] => width_of(alloc, packer, kind, values),
-        ["pack", packer, kind, width, values] => pack_of(alloc, packer, kind, width, values),
-        ["unpack", packer, kind, width, bytes] => unpack_of(alloc, packer, kind, width, bytes),
-        ["enc", packer, kind, values] => enc_of(alloc, packer, kind, values),
-        ["dec", packer, bytes] => dec_of(alloc, packer, bytes),
-        _ => Err(ParseError::Spelling),
-    }
+    let [verb, packer, arguments @ ..] = fields else {
+        return Err(ParseError::Spelling);
+    };
+    let packer = parse_packer(packer).ok_or(ParseError::Spelling)?;
+    let command = parse_command(alloc, verb, arguments)?;
+    Ok(Line { packer, command })
 }

@@ -1,26 +1,24 @@
-//! The loop from a reader's bytes to lines, and from lines to what a writer is given.
+//! The loop that reads lines and writes their answers.
 
 ghost use Rattle.std.specs.Prelude.{◌≡◌, ◌≢◌, ℕ, Option, List, [], ◌∷◌, ◌++◌, OnOk, OnErr, IfErr, IfSome, IsErrOf};
-ghost use Rattle.bitpack.specs.Lines.{AnsweredSoFar, AnswersAll, AnswersEnded, AnswersInPart, AppendsAnswers, AppendsAnswersInPart, held, lines};
+ghost use Rattle.bitpack.specs.Lines.{AnsweredSoFar, AnswersAll, AnswersEnded, AnswersInPart, AppendsAnswers, AppendsAnswersInPart, kept_part, lines};
 
 use super::answer::answer_line;
+use super::line::LINE_LIMIT;
 use super::run_error::RunError;
 use super::writing::flush;
 use std::alloc::Global;
 use std::io::{Read, Write};
 
-/// The most bytes of a line, without its line feed.
-const LONGEST: usize = 65_536;
-
-/// The bytes of one read.
+/// The most bytes of one read.
 const PIECE: usize = 4096;
 
-/// Adds a byte to the line. Of an over-long line one byte too many is kept, which tells it, and the rest passed over.
-fn hold(line: &mut Vec<u8>, byte: u8) -> Result<(), RunError>
-    ensures ok { (begun : List ℕ) → line.old.items ≡ held begun → OnOk result (line.new.items ≡ held (begun ++ byte ∷ [])) }
+/// Appends a byte to the line. A line that is too long is kept up to one byte more than the limit; its further bytes are dropped.
+fn push_byte(line: &mut Vec<u8>, byte: u8) -> Result<(), RunError>
+    ensures ok { (begun : List ℕ) → line.old.items ≡ kept_part begun → OnOk result (line.new.items ≡ kept_part (begun ++ byte ∷ [])) }
     ensures kind { IfErr result (λ e. e ≡ RunError.Memory) }
 {
-    if line.len() <= LONGEST {
+    if line.len() <= LINE_LIMIT {
         match line.push(byte) {
             Ok(()) => Ok(()),
             Err(_) => Err(RunError::Memory),
@@ -30,8 +28,8 @@ fn hold(line: &mut Vec<u8>, byte: u8) -> Result<(), RunError>
     }
 }
 
-/// Takes the next byte of the input: a line feed ends the line and has it answered.
-fn take_byte<W: Write>(
+/// Handles the next byte of the input: a line feed ends the line, and its answer is written.
+fn handle_byte<W: Write>(
     alloc: Global,
     line: &mut Vec<u8>,
     byte: u8,
@@ -48,12 +46,12 @@ fn take_byte<W: Write>(
         line.clear();
         Ok(())
     } else {
-        hold(line, byte)
+        push_byte(line, byte)
     }
 }
 
-/// Takes the next bytes of the input, in turn.
-fn take_in<W: Write>(
+/// Handles the next bytes of the input, in order.
+fn handle_bytes<W: Write>(
     alloc: Global,
     line: &mut Vec<u8>,
     bytes: &[u8],
@@ -66,12 +64,12 @@ fn take_in<W: Write>(
     ensures kind { IfErr result (λ e. e ≢ RunError.Read) }
 {
     for byte in bytes {
-        take_byte(alloc, line, *byte, writer)?;
+        handle_byte(alloc, line, *byte, writer)?;
     }
     Ok(())
 }
 
-/// Answers a last line that has no line feed, where one was begun.
+/// Answers the last line if it has no line feed.
 fn answer_last<W: Write>(alloc: Global, line: &[u8], writer: &mut W) -> Result<(), RunError>
     ensures ok { (before : Option (List ℕ)) (input : List ℕ) → AnsweredSoFar before (W.contents writer.old) input line.now
         → OnOk result (AppendsAnswers before (W.contents writer.new) (lines input)) }
@@ -88,15 +86,15 @@ fn answer_last<W: Write>(alloc: Global, line: &[u8], writer: &mut W) -> Result<(
 
 /// Reads lines to the end of input and writes one answer for each; then flushes, once.
 ///
-/// Nothing is tried again: the first read, write or growth that fails ends the run, and after a fault nothing is flushed.
-/// A reader whose end has not come after 2^64 - 1 reads is taken to have failed. Of a line at most 65,537 bytes are kept,
-/// whatever comes.
+/// Nothing is retried: the first read, write or allocation that fails ends the run, and after a failure nothing is flushed.
+/// A reader that has not ended after `u64::MAX` reads counts as failed. At most 65,537 bytes of a line are kept in memory,
+/// whatever the input.
 pub fn run<R: Read, W: Write>(alloc: Global, reader: &mut R, writer: &mut W) -> Result<(), RunError>
-    // All that the reader gave, to its end, has been answered.
+    // The reader gave an input to its end, and all its lines were answered.
     ensures ok { OnOk result (AnswersAll (R.remaining reader.old) (R.remaining reader.new) (W.contents writer.old) (W.contents writer.new)) }
-    // The same, of a reader that tells its bytes.
+    // The same for a reader whose bytes are known.
     ensures whole { OnOk result (IfSome (R.remaining reader.old) (λ input. AppendsAnswers (W.contents writer.old) (W.contents writer.new) (lines input))) }
-    // Of what was read, the lines that had ended have been answered, and nothing else.
+    // The lines that ended in what was read were answered, and nothing else was written.
     ensures read { IsErrOf result RunError.Read → AnswersEnded (R.remaining reader.old) (R.remaining reader.new) (W.contents writer.old) (W.contents writer.new) }
     // What was written is a beginning of the answers to what was read.
     ensures stopped { IfErr result (λ e. e ≢ RunError.Read → AnswersInPart (R.remaining reader.old) (R.remaining reader.new) (W.contents writer.old) (W.contents writer.new)) }
@@ -111,7 +109,7 @@ pub fn run<R: Read, W: Write>(alloc: Global, reader: &mut R, writer: &mut W) -> 
             answer_last(alloc, line.as_slice(), writer)?;
             return flush(writer);
         }
-        take_in(alloc, &mut line, &piece[..count], writer)?;
+        handle_bytes(alloc, &mut line, &piece[..count], writer)?;
     }
     Err(RunError::Read)
 }

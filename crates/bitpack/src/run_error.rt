@@ -1,23 +1,23 @@
-//! What ends a run before its input does, and what the program says of it.
+//! Why a run stops early, and how the program ends.
 
 ghost use Rattle.std.specs.Prelude.{◌≡◌};
-ghost use Rattle.bitpack.specs.Ending.{ending_status, ending_text};
+ghost use Rattle.bitpack.specs.Ending.{ending_status, ending_message};
 
-/// Why a run ended before its input did.
+/// Why a run stopped before the end of its input.
 #[derive(Clone, Copy, PartialEq, Eq, Debug)]
 pub enum RunError {
-    /// A read failed, or the reader came to no end.
+    /// A read failed, or the reader did not end.
     Read,
     /// A write failed or took nothing, or the last flush failed.
     Write,
-    /// The machine had no memory left for a line or its answer.
+    /// The allocator refused memory for a line or its answer.
     Memory,
 }
 
-/// The status that the program ends with, and what it says on standard error: nothing after a run to the end.
+/// The exit status of the program and its message on standard error, which is empty after a run to the end.
 pub fn ending(outcome: &Result<(), RunError>) -> (u8, &'static str)
     ensures status { result.0 ≡ ending_status outcome.now }
-    ensures text { result.1.now ≡ ending_text outcome.now }
+    ensures message { result.1.now ≡ ending_message outcome.now }
 {
     match outcome {
         Ok(()) => (0, ""),

@@ -1,4 +1,4 @@
-//! What goes out, piece by piece, so that what was written is known when a write fails.
+//! Writing bytes so that what was written is known if a write fails.
 
 ghost use Rattle.std.specs.Prelude.{◌≡◌, OnOk, OnErr, IfErr};
 ghost use Rattle.std.specs.Io.KnownBytes.{Appends, Keeps};
@@ -7,13 +7,13 @@ ghost use Rattle.bitpack.specs.Lines.{AppendsBeginning};
 use super::run_error::RunError;
 use std::io::Write;
 
-/// Writes all of `text`, by as many calls as that takes. The first that fails or takes nothing is the last.
-pub(crate) fn put<W: Write>(writer: &mut W, text: &[u8]) -> Result<(), RunError>
-    ensures ok { OnOk result (Appends (W.contents writer.old) (W.contents writer.new) text.now) }
-    ensures err { OnErr result (AppendsBeginning (W.contents writer.old) (W.contents writer.new) text.now) }
+/// Writes all the bytes, by as many calls as that takes. The first call that fails or writes nothing is the last.
+pub(crate) fn put<W: Write>(writer: &mut W, bytes: &[u8]) -> Result<(), RunError>
+    ensures ok { OnOk result (Appends (W.contents writer.old) (W.contents writer.new) bytes.now) }
+    ensures err { OnErr result (AppendsBeginning (W.contents writer.old) (W.contents writer.new) bytes.now) }
     ensures kind { IfErr result (λ e. e ≡ RunError.Write) }
 {
-    let mut left = text;
+    let mut left = bytes;
     while !left.is_empty() {
         match writer.write(left) {
             Ok(0) | Err(_) => return Err(RunError::Write),
@@ -23,9 +23,9 @@ pub(crate) fn put<W: Write>(writer: &mut W, text: &[u8]) -> Result<(), RunError>
     Ok(())
 }
 
-/// Sends on what the writer may hold back.
+/// Flushes the writer.
 pub(crate) fn flush<W: Write>(writer: &mut W) -> Result<(), RunError>
-    ensures bytes { Keeps (W.contents writer.old) (W.contents writer.new) }
+    ensures unchanged { Keeps (W.contents writer.old) (W.contents writer.new) }
     ensures kind { IfErr result (λ e. e ≡ RunError.Write) }
 {
     match writer.flush() {

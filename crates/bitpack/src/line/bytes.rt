@@ -1,4 +1,4 @@
-//! Bytes: pairs of hexadecimal digits.
+//! Parsing bytes: pairs of hexadecimal digits.
 
 ghost use Rattle.std.specs.Prelude.{◌≡◌, ◌%◌, ◌<◌, ◌↔◌, IsTrue, length};
 ghost use Rattle.std.specs.List.{AllPass};
@@ -9,30 +9,30 @@ ghost use Rattle.bitpack.specs.Found.{Parses};
 use super::error::ParseError;
 use std::alloc::Global;
 
-/// Whether the text is pairs of digits, and not empty.
-fn is_pairs(text: &str) -> bool
-    ensures { IsTrue result ↔ ((0 < length text.now) × (length text.now % 2 ≡ 0) × AllPass is_hex_digit text.now) }
+/// Whether the string is one or more pairs of digits.
+fn is_pairs(string: &str) -> bool
+    ensures { IsTrue result ↔ ((0 < length string.now) × (length string.now % 2 ≡ 0) × AllPass is_hex_digit string.now) }
 {
-    !text.is_empty()
-        && text.len() % 2 == 0
-        && text
+    !string.is_empty()
+        && string.len() % 2 == 0
+        && string
             .as_bytes()
             .iter()
             .all(|digit| digit.is_ascii_hexdigit())
 }
 
-/// The bytes of a text. Its digits are tested before room is asked for.
-pub(crate) fn bytes_of(alloc: Global, text: &str) -> Result<Vec<u8>, ParseError>
-    ensures { Parses (λ bytes. bytes.items) (SpellsBytes text.now) result }
+/// The bytes that a string spells. Its digits are tested before memory is reserved.
+pub(crate) fn parse_bytes(alloc: Global, string: &str) -> Result<Vec<u8>, ParseError>
+    ensures { Parses (λ bytes. bytes.items) (SpellsBytes string.now) result }
 {
-    if text == "-" {
+    if string == "-" {
         return Ok(Vec::new(alloc));
     }
-    if !is_pairs(text) {
+    if !is_pairs(string) {
         return Err(ParseError::Spelling);
     }
-    let mut bytes = vec![in alloc; 0u8; text.len() / 2]?;
-    match hex::decode_to_slice(text, bytes.as_mut_slice()) {
+    let mut bytes = vec![in alloc; 0u8; string.len() / 2]?;
+    match hex::decode_to_slice(string, bytes.as_mut_slice()) {
         Ok(()) => Ok(bytes),
         Err(_) => Err(ParseError::Spelling),
     }

@@ -1,16 +1,16 @@
-//! Why a line gave no command.
+//! Why a line was not parsed.
 
 ghost use Rattle.std.specs.Prelude.{◌≡◌};
 ghost use Rattle.bitpack.specs.declared.line.error.ParseError.TheVariants.{Memory};
 
 use std::alloc::{AllocError, AllocFailed};
 
-/// Why a text gave no value.
+/// Why parsing failed.
 #[derive(Clone, Copy, PartialEq, Eq, Debug)]
 pub(crate) enum ParseError {
-    /// The text is not in the grammar.
+    /// The string is not in the grammar.
     Spelling,
-    /// A growth was refused.
+    /// The allocator refused memory.
     Memory,
 }
 

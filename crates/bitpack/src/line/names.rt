@@ -1,18 +1,18 @@
-//! The words for packers, kinds and kinds of lists.
+//! Parsing the names of packers, kinds and kinds of lists.
 
 ghost use Rattle.std.specs.Prelude.{◌≡◌};
-ghost use Rattle.bitpack.specs.Grammar.{listkind_text, packer_text};
-ghost use Rattle.bitpack.specs.Found.{Finds, SpellsKind};
+ghost use Rattle.bitpack.specs.Grammar.{SpellsKind, list_kind_string, packer_string};
+ghost use Rattle.bitpack.specs.Found.{Finds};
 
 use super::PackerName;
-use super::numbers::word_of;
+use super::numbers::parse_word;
 use crate::ListKind;
 use bitpacking::Kind;
 
-pub(crate) fn packer_of(text: &str) -> Option<PackerName>
-    ensures { Finds (λ packer. text.now ≡ packer_text packer) result }
+pub(crate) fn parse_packer(string: &str) -> Option<PackerName>
+    ensures { Finds (λ packer. string.now ≡ packer_string packer) result }
 {
-    match text {
+    match string {
         "1x" => Some(PackerName::OneLane),
         "4x" => Some(PackerName::FourLanes),
         "8x" => Some(PackerName::EightLanes),
@@ -22,25 +22,25 @@ pub(crate) fn packer_of(text: &str) -> Option<PackerName>
     }
 }
 
-pub(crate) fn kind_of(text: &str) -> Option<Kind>
-    ensures { Finds (SpellsKind text.now) result }
+pub(crate) fn parse_kind(string: &str) -> Option<Kind>
+    ensures { Finds (SpellsKind string.now) result }
 {
-    if text == "plain" {
+    if string == "plain" {
         return Some(Kind::Plain);
     }
-    let (name, start) = text.split_once(':')?;
+    let (name, initial) = string.split_once(':')?;
     match name {
-        "sorted" => Some(Kind::Sorted(word_of(start)?)),
-        "strict" if start == "none" => Some(Kind::StrictlySorted(None)),
-        "strict" => Some(Kind::StrictlySorted(Some(word_of(start)?))),
+        "sorted" => Some(Kind::Sorted(parse_word(initial)?)),
+        "strict" if initial == "none" => Some(Kind::StrictlySorted(None)),
+        "strict" => Some(Kind::StrictlySorted(Some(parse_word(initial)?))),
         _ => None,
     }
 }
 
-pub(crate) fn listkind_of(text: &str) -> Option<ListKind>
-    ensures { Finds (λ kind. text.now ≡ listkind_text kind) result }
+pub(crate) fn parse_list_kind(string: &str) -> Option<ListKind>
+    ensures { Finds (λ kind. string.now ≡ list_kind_string kind) result }
 {
-    match text {
+    match string {
         "plain" => Some(ListKind::Plain),
         "sorted" => Some(ListKind::Sorted),
         "strict" => Some(ListKind::StrictlySorted),

@@ -1,19 +1,21 @@
-//! Numbers: decimal digits, with no sign and no zero in front.
+//! Parsing numbers: decimal digits, with no sign and no leading zero.
 
 ghost use Rattle.std.specs.Prelude.{◌↔◌, IsTrue};
-ghost use Rattle.bitpack.specs.Grammar.{IsCount, IsSmall, IsWord};
-ghost use Rattle.bitpack.specs.Found.{BeginsNumber, Finds, SpellsNumber};
+ghost use Rattle.bitpack.specs.Grammar.{IsCount, IsSmall, IsWord, SpellsNumber};
+ghost use Rattle.bitpack.specs.Found.{BeginsNumber, Finds};
 
-/// The least and the most times that an item stands.
+use super::LINE_LIMIT;
+
+/// The least and the most repeats of a value.
 const LEAST_COUNT: u32 = 1;
 
-const MOST_COUNT: u32 = 65_536;
+const MOST_COUNT: u32 = LINE_LIMIT as u32;
 
-/// Whether the text begins as a number does. The library's parser takes `+1` and `01` too.
-fn begins_number(text: &str) -> bool
-    ensures { IsTrue result ↔ BeginsNumber text.now }
+/// Whether the string begins like a number. `parse` accepts `+1` and `01` too.
+fn begins_number(string: &str) -> bool
+    ensures { IsTrue result ↔ BeginsNumber string.now }
 {
-    match text.as_bytes() {
+    match string.as_bytes() {
         [b'0'] => true,
         [b'1'..=b'9', ..] => true,
         _ => false,
@@ -21,32 +23,32 @@ fn begins_number(text: &str) -> bool
 }
 
 /// A number of at most 255.
-pub(crate) fn small_of(text: &str) -> Option<u8>
-    ensures { Finds (SpellsNumber IsSmall text.now) result }
+pub(crate) fn parse_width(string: &str) -> Option<u8>
+    ensures { Finds (SpellsNumber IsSmall string.now) result }
 {
-    if begins_number(text) {
-        text.parse().ok()
+    if begins_number(string) {
+        string.parse().ok()
     } else {
         None
     }
 }
 
-/// A number below 2 ^ 32.
-pub(crate) fn word_of(text: &str) -> Option<u32>
-    ensures { Finds (SpellsNumber IsWord text.now) result }
+/// A number of at most `u32::MAX`.
+pub(crate) fn parse_word(string: &str) -> Option<u32>
+    ensures { Finds (SpellsNumber IsWord string.now) result }
 {
-    if begins_number(text) {
-        text.parse().ok()
+    if begins_number(string) {
+        string.parse().ok()
     } else {
         None
     }
 }
 
-/// How often an item stands.
-pub(crate) fn count_of(text: &str) -> Option<u32>
-    ensures { Finds (SpellsNumber IsCount text.now) result }
+/// How often a value is repeated.
+pub(crate) fn parse_count(string: &str) -> Option<u32>
+    ensures { Finds (SpellsNumber IsCount string.now) result }
 {
-    let count = word_of(text)?;
+    let count = parse_word(string)?;
     if count < LEAST_COUNT || count > MOST_COUNT {
         return None;
     }

@@ -1,17 +1,15 @@
-//! Values: items with commas between them.
+//! Parsing values: items with commas between them.
 
 ghost use Rattle.std.specs.Prelude.{◌≤◌, vec_len};
 ghost use Rattle.bitpack.specs.Grammar.{SpellsValues};
 ghost use Rattle.bitpack.specs.Found.{AddsItem, Finds, Parses, SpellsItem};
 
+use super::LINE_LIMIT;
 use super::error::ParseError;
-use super::numbers::{count_of, word_of};
+use super::numbers::{parse_count, parse_word};
 use std::alloc::Global;
 
-/// The most values of a line.
-const MOST_VALUES: usize = 65_536;
-
-/// A part of a list of values.
+/// One value or a repeated one.
 #[derive(Clone, Copy, PartialEq, Eq, Debug)]
 pub(crate) enum Item {
     /// `5`
@@ -20,41 +18,41 @@ pub(crate) enum Item {
     Times(u32, u32),
 }
 
-fn item_of(text: &str) -> Option<Item>
-    ensures { Finds (SpellsItem text.now) result }
+fn parse_item(string: &str) -> Option<Item>
+    ensures { Finds (SpellsItem string.now) result }
 {
-    match text.split_once('*') {
-        None => Some(Item::Once(word_of(text)?)),
-        Some((value, count)) => Some(Item::Times(word_of(value)?, count_of(count)?)),
+    match string.split_once('*') {
+        None => Some(Item::Once(parse_word(string)?)),
+        Some((value, count)) => Some(Item::Times(parse_word(value)?, parse_count(count)?)),
     }
 }
 
-/// Adds the values of an item, unless they are too many.
-fn add(values: &mut Vec<u32>, text: &str) -> Result<(), ParseError>
-    requires { vec_len values.old ≤ MOST_VALUES }
-    ensures { Parses (λ _. values.new.items) (AddsItem text.now values.old.items) result }
+/// Appends the values of an item, unless that gives too many.
+fn push_item(values: &mut Vec<u32>, string: &str) -> Result<(), ParseError>
+    requires { vec_len values.old ≤ LINE_LIMIT }
+    ensures { Parses (λ _. values.new.items) (AddsItem string.now values.old.items) result }
 {
-    let (value, count) = match item_of(text).ok_or(ParseError::Spelling)? {
+    let (value, count) = match parse_item(string).ok_or(ParseError::Spelling)? {
         Item::Once(value) => (value, 1),
         Item::Times(value, count) => (value, count as usize),
     };
-    if count > MOST_VALUES - values.len() {
+    if count > LINE_LIMIT - values.len() {
         return Err(ParseError::Spelling);
     }
     values.resize(values.len() + count, value)?;
     Ok(())
 }
 
-/// The values of a text, repeats written out. No room is taken for values that are too many.
-pub(crate) fn values_of(alloc: Global, text: &str) -> Result<Vec<u32>, ParseError>
-    ensures { Parses (λ values. values.items) (SpellsValues text.now) result }
+/// The values that a string spells, with their repeats. Nothing is reserved for values that are too many.
+pub(crate) fn parse_values(alloc: Global, string: &str) -> Result<Vec<u32>, ParseError>
+    ensures { Parses (λ values. values.items) (SpellsValues string.now) result }
 {
     let mut values = Vec::new(alloc);
-    if text == "-" {
+    if string == "-" {
         return Ok(values);
     }
-    for item in text.split(',') {
-        add(&mut values, item)?;
+    for item in string.split(',') {
+        push_item(&mut values, item)?;
     }
     Ok(values)
 }

@@ -1,17 +1,18 @@
+-- Each return is the refusal or the reply that the definition of an answer asks for.
 use Rattle.std.proofs.Common.{arith}
 use Rattle.std.proofs.lemmas.Result.{IfOk-weaker}
 use Rattle.bitpack.specs.Answers.{IsAnswer, Passed, Refused}
 use Rattle.bitpack.specs.Found.{request_of}
 use Rattle.bitpack.proofs.answer.answer.Goals as goal
 
-pub returns-then-line-gt-LONGEST : goal.returns-then-line-gt-LONGEST
+pub returns-then-line-gt-LINE_LIMIT : goal.returns-then-line-gt-LINE_LIMIT
 unfolding IsAnswer
-returns-then-line-gt-LONGEST c = IfOk-weaker c.refused.result _ _ (λ text is. Refused (omega arith) is) c.refused.ensures
+returns-then-line-gt-LINE_LIMIT c = IfOk-weaker c.refuse.result _ _ (λ answer is. Refused (omega arith) is) c.refuse.ensures
 
 pub returns-in-Ok : goal.returns-in-Ok
 unfolding IsAnswer
 returns-in-Ok c =
-    IfOk-weaker c.reply.result _ _ (λ text replied.
+    IfOk-weaker c.reply.result _ _ (λ answer replied.
     Passed (λ long. omega arith) (Passed (λ none. none c.in-Ok.line.packer (request_of c.in-Ok.line.command) c.in-Ok.ensures) (record {
       packer = c.in-Ok.line.packer;
       request = request_of c.in-Ok.line.command;
@@ -23,5 +24,5 @@ pub returns-in-Err-Spelling : goal.returns-in-Err-Spelling
 unfolding IsAnswer
 returns-in-Err-Spelling c =
     let none = rw c.in-Err-Spelling.field-0-is at c.in-Err-Spelling.ensures in
-    IfOk-weaker c.refused-in-Err-Spelling.result _ _ (λ text is.
-    Passed (λ long. omega arith) (Refused (λ packer request spelled. none (packer, request) spelled) is)) c.refused-in-Err-Spelling.ensures
+    IfOk-weaker c.refuse-in-Err-Spelling.result _ _ (λ answer is.
+    Passed (λ long. omega arith) (Refused (λ packer request spelled. none (packer, request) spelled) is)) c.refuse-in-Err-Spelling.ensures

@@ -1,3 +1,4 @@
+-- The law is proved in AnswerLemmas.
 use Rattle.bitpack.proofs.AnswerLemmas.{one_answer}
 use Rattle.bitpack.proofs.laws.one_answer.Goals as goal
 

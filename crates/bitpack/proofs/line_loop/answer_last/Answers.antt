@@ -1,3 +1,4 @@
+-- At the end of the input the unfinished line is the last one.
 use Rattle.std.proofs.Common.{◌≢◌, length, rules}
 use Rattle.bitpack.specs.Lines.{AppendsAnswer, AppendsAnswerInPart, AppendsAnswers, AppendsAnswersInPart, lines}
 use Rattle.bitpack.proofs.RunSteps.{OnErr-to, OnOk-to, end_stop, end_with, end_without}

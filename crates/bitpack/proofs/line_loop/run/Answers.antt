@@ -1,3 +1,4 @@
+-- Each read handles more of the input, up to its end.
 use Rattle.std.proofs.Common.{append-nil, ◌≡◌, ℕ, List, [], ◌++◌, Option, take, sym, ap, subst, ◌∙◌, rules}
 use Rattle.std.specs.Io.KnownBytes.{Consumes}
 use Rattle.std.proofs.KnownBytes.{Consumes-nil, Consumes-trans, Consumes-whole}
@@ -14,14 +15,14 @@ pub loop-preserved : goal.loop-preserved
 loop-preserved g c =
     let (input, consumed, so_far) = c.loop.invariant in
     let more = take c.in-Ok.count c.read.new.buf in
-    (input ++ more, Consumes-trans _ _ _ input more consumed c.in-Ok.ensures.bytes.0, c.in_ok-take_in.ensures.ok _ input so_far)
+    (input ++ more, Consumes-trans _ _ _ input more consumed c.in-Ok.ensures.bytes.0, c.in_ok-handle_bytes.ensures.ok _ input so_far)
 
-pub returns-in_err-take_in-clause-stopped : goal.returns-in_err-take_in-clause-stopped
-returns-in_err-take_in-clause-stopped g c =
+pub returns-in_err-handle_bytes-clause-stopped : goal.returns-in_err-handle_bytes-clause-stopped
+returns-in_err-handle_bytes-clause-stopped g c =
     let (input, consumed, so_far) = c.loop.invariant in
     let more = take c.in-Ok.count c.read.new.buf in
-    let stopped : AnswersInPart (g.R.Read.remaining c.args.reader.now) (g.R.Read.remaining c.read.new.self) (g.W.Write.contents c.args.writer.now) (g.W.Write.contents c.take_in.new.writer) =
-    (input ++ more, Consumes-trans _ _ _ input more consumed c.in-Ok.ensures.bytes.0, c.in_err-take_in.ensures.err _ input so_far) in
+    let stopped : AnswersInPart (g.R.Read.remaining c.args.reader.now) (g.R.Read.remaining c.read.new.self) (g.W.Write.contents c.args.writer.now) (g.W.Write.contents c.handle_bytes.new.writer) =
+    (input ++ more, Consumes-trans _ _ _ input more consumed c.in-Ok.ensures.bytes.0, c.in_err-handle_bytes.ensures.err _ input so_far) in
     IfErr-by _ _ _ stopped
 
 -- a read of nothing leaves the input as it was
@@ -48,7 +49,7 @@ returns-then-count-eq0-clause-ok g c =
       input,
       nothing_more _ _ _ input _ _ consumed c.in-Ok.ensures.bytes.0 (search rules),
       c.in-Ok.ensures.bytes.1 (search rules) (search rules),
-      appends-kept _ _ _ _ last c.flush.ensures.bytes,
+      appends-kept _ _ _ _ last c.flush.ensures.unchanged,
     ) in
     OnOk-by _ _ answered
 
@@ -58,7 +59,7 @@ returns-then-count-eq0-clause-whole g c =
     let before = g.W.Write.contents c.args.writer.now in
     let new = g.W.Write.contents c.flush.new.writer in
     let kept = subst (AnsweredSoFar before (g.W.Write.contents c.loop.writer) input) (sym c.as_slice.ensures.value) so_far in
-    let last : AppendsAnswers before new (lines input) = appends-kept _ _ _ _ (c.in_ok-answer_last.ensures.ok before input kept) c.flush.ensures.bytes in
+    let last : AppendsAnswers before new (lines input) = appends-kept _ _ _ _ (c.in_ok-answer_last.ensures.ok before input kept) c.flush.ensures.unchanged in
     let read = nothing_more _ _ _ input _ _ consumed c.in-Ok.ensures.bytes.0 (search rules) in
     OnOk-by _ _ (Consumes-whole _ _ input (λ input. AppendsAnswers before new (lines input)) read (c.in-Ok.ensures.bytes.1 (search rules) (search rules)) last)
 
@@ -67,7 +68,7 @@ returns-then-count-eq0-clause-stopped g c =
     let (input, consumed, so_far) = c.loop.invariant in
     let before = g.W.Write.contents c.args.writer.now in
     let kept = subst (AnsweredSoFar before (g.W.Write.contents c.loop.writer) input) (sym c.as_slice.ensures.value) so_far in
-    let last = appends-kept _ _ _ _ (c.in_ok-answer_last.ensures.ok before input kept) c.flush.ensures.bytes in
+    let last = appends-kept _ _ _ _ (c.in_ok-answer_last.ensures.ok before input kept) c.flush.ensures.unchanged in
     let stopped : AnswersInPart (g.R.Read.remaining c.args.reader.now) (g.R.Read.remaining c.read.new.self) before (g.W.Write.contents c.flush.new.writer) =
     (input, nothing_more _ _ _ input _ _ consumed c.in-Ok.ensures.bytes.0 (search rules), part-all _ _ _ last) in
     IfErr-by _ _ _ stopped

@@ -1,9 +1,0 @@
-use Rattle.std.proofs.Common.{Some, arith}
-use Rattle.std.proofs.lemmas.Str.Pattern.{split_parts}
-use Rattle.bitpack.proofs.line.names.kind_of.Goals as goal
-
-pub returns-in_ok-word_of-in-sorted : goal.returns-in_ok-word_of-in-sorted
-returns-in_ok-word_of-in-sorted c =
-    let (split, before) = split_parts 58 c.args.text.now (Some (c.in_ok-name.name, c.in_ok-name.start)) c.in_ok-name.ensures.cases (omega arith) in
-    let (start, word) = c.in_ok-word_of-in-sorted.ensures in
-    (rw (c.in-sorted.is, start) at split, word)

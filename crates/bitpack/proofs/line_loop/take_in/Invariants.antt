@@ -1,8 +1,0 @@
-use Rattle.std.proofs.Common.{ℕ, Option, List, ◌++◌, take}
-use Rattle.bitpack.specs.Lines.{AnsweredSoFar}
-use Rattle.bitpack.proofs.line_loop.take_in.Given as goal
-
--- the bytes so far have been taken
-abbrev pub invariant-loop-byte : goal.invariant-loop-byte
-invariant-loop-byte g l = (before : Option (List ℕ)) (input : List ℕ) → AnsweredSoFar before (g.W.Write.contents l.fn.writer) input l.fn.line.items
-    → AnsweredSoFar before (g.W.Write.contents l.writer) (input ++ take l.byte-index l.bytes) l.line.items
