@@ -1,4 +1,4 @@
-//! The program: answers each line of its standard input on its standard output, which holds nothing back.
+//! The program: answers each line of its standard input on its standard output, which is not buffered.
 #![tactic(auto)]
 
 use bitpack::{ending, run};
@@ -6,10 +6,10 @@ use std::process::ExitCode;
 
 fn main(rt: HostRuntime) -> ExitCode {
     let outcome = run(rt.alloc(), &mut rt.stdin(), &mut rt.stdout());
-    let (status, text) = ending(&outcome);
-    if !text.is_empty() {
-        // Where standard error is closed too, the status is all that is left to tell.
-        let _ = eprintln!(rt; "{text}");
+    let (status, message) = ending(&outcome);
+    if !message.is_empty() {
+        // If standard error is closed too, only the status tells of the failure.
+        let _ = eprintln!(rt; "{message}");
     }
     ExitCode::from(status)
 }

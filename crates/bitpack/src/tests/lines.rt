@@ -47,7 +47,7 @@ fn answered() -> [(&'static str, &'static str); 30] {
             "pack 8s plain 1 1*8,0*248",
             "0100000001000000010000000100000001000000010000000100000001000000",
         ),
-        // The kinds: differences wrap, and the start stands before the first value.
+        // The kinds: differences wrap, and the start is the value before the first one.
         ("width 1x sorted:5 5*32", "0"),
         ("width 1x sorted:0 5,4*31", "32"),
         ("width 1x sorted:4294967295 4294967295*32", "0"),

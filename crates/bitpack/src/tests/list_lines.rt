@@ -1,5 +1,5 @@
 //! Lines for packed lists, and their answers. Each text was written down by hand from the format: the seven bytes of the
-//! header, a byte of width and the bytes of each whole block, and four bytes for each value behind them.
+//! header, a byte of width and the bytes of each whole block, and four bytes for each value after them.
 
 use super::fakes::{Giver, Taker};
 use super::lines::{counted, repeated};
@@ -73,7 +73,7 @@ fn lines() -> [(&'static str, &'static str); 63] {
         ("dec 1x 0100010100000005", "refused 21"),
         // Room for a byte of each block and for the tail is asked for before a width is looked at.
         ("dec 1x 0100012100000021", "refused 21"),
-        // A loose block comes before the block that is missing behind it.
+        // A block with a loose width is refused before the block that is missing after it.
         ("dec 1x 010001400000000100000000", "refused 27"),
         // The header: version before kind, kind before lanes, lanes before the count.
         ("dec 1x 02030400000000", "refused 22"),
@@ -209,7 +209,7 @@ fn the_packers_of_a_pair_share_texts(rt: HostRuntime) -> Result<(), Fail> {
     Ok(())
 }
 
-/// The most values that a line can give, and many more than that: a byte of width 0 stands for a whole block.
+/// The most values that a line can give, and many more than that: a byte of width 0 is a whole block.
 #[test]
 fn long_lists(rt: HostRuntime) -> Result<(), Fail> {
     let alloc = rt.alloc();

@@ -5,6 +5,6 @@ use Rattle.bitpack.proofs.line.names.parse_kind.Goals as goal
 
 pub returns-in_ok-parse_word-in-sorted : goal.returns-in_ok-parse_word-in-sorted
 returns-in_ok-parse_word-in-sorted c =
-    let (split, before) = split_parts 58 c.args.string.now (Some (c.in_ok-name.name, c.in_ok-name.start)) c.in_ok-name.ensures.cases (omega arith) in
-    let (start, word) = c.in_ok-parse_word-in-sorted.ensures in
-    (rw (c.in-sorted.is, start) at split, word)
+    let (split, before) = split_parts 58 c.args.string.now (Some (c.in_ok-name.name, c.in_ok-name.initial)) c.in_ok-name.ensures.cases (omega arith) in
+    let (initial, word) = c.in_ok-parse_word-in-sorted.ensures in
+    (rw (c.in-sorted.is, initial) at split, word)
