@@ -3,7 +3,7 @@
 ghost use Rattle.std.specs.Prelude.{◌≡◌, ◌↔◌, ℕ, List, Contains, IsTrue, IfOk, IfErr};
 ghost use Rattle.std.specs.List.Sorted.{IsStrictlyIncreasing};
 ghost use Rattle.bitpack.specs.Version1.{List1};
-ghost use Rattle.bitpack_uses.specs.Sets.{IsSetOf, common};
+ghost use Rattle.bitpack_uses.specs.Sets.{IsSetOf, common, has};
 
 use bitpack::laws::one_text;
 use bitpack::{ListError, ListKind, list};
@@ -78,7 +78,8 @@ impl IdSet {
 
     /// Whether the set has the id.
     pub fn contains(&self, id: u32) -> bool
-        ensures { IsTrue result ↔ Contains self.now id }
+        ensures found { IsTrue result ↔ Contains self.now id }
+        ensures test { result ≡ has self.now id }
     {
         self.ids.binary_search(&id).is_ok()
     }
@@ -108,12 +109,12 @@ impl IdSet {
     pub fn and(&self, alloc: Global, other: &IdSet) -> Result<IdSet, IdSetError>
         ensures { IfOk result (λ both. both ≡ common self.now other.now) }
     {
-        let mut ids = Vec::new(alloc);
-        for id in &self.ids {
-            if other.contains(*id) {
-                ids.push(*id)?;
-            }
-        }
+        let ids = self
+            .ids
+            .iter()
+            .copied()
+            .filter(|id| other.contains(*id))
+            .collect(alloc)?;
         Ok(IdSet { ids })
     }
 

@@ -12,7 +12,7 @@ returns c =
     let is = dedup_is _ _ _ c.dedup.ensures.filtered in
     let moved = rw c.in_ok-ids.ensures.items at c.sort_unstable.ensures.permutation in
     record {
-      increasing = rw is (IsStrictlyIncreasing-dedup _ c.sort_unstable.ensures.sorted);
+      increasing = invariant_of-result c;
       same = λ id. (
         λ h. Contains-permutation _ _ id (IsPermutation-sym _ _ moved) (Contains-from_dedup _ _ id (rw is at h)),
         λ h. rw is (Contains-dedup_nat _ id (Contains-permutation _ _ id moved h)),
