@@ -22,17 +22,13 @@ List1-from_blocks lanes kind values later words few blocks =
       blocks = rw (drop_at front later 7 seven) blocks;
     }
 
--- What is after the header of values.
-later_of : (lanes : ℕ) (kind : ListKind) (values : List ℕ) → 1 ≤ lanes → AreWords values
-    → (later : List ℕ) × AreBytes later × Blocks1 lanes (whole_blocks lanes (length values)) (first_kind kind) values later
-later_of lanes kind values some words = blocks_of lanes (whole_blocks lanes (length values)) (first_kind kind) values some words (omega arith)
-
--- The text of values.
+-- What is after the header of values, and with the header is their text.
 pub text_of : (lanes : ℕ) (kind : ListKind) (values : List ℕ) → 1 ≤ lanes → lanes < 2 ^ 8 → AreWords values → length values ≤ 2 ^ 28
     → (later : List ℕ) × AreBytes later × Blocks1 lanes (whole_blocks lanes (length values)) (first_kind kind) values later
     × AreBytes (header 1 kind lanes (length values) ++ later) × List1 lanes kind values (header 1 kind lanes (length values) ++ later)
 text_of lanes kind values some few words short =
-    let (later, small, blocks) = later_of lanes kind values some words in
+    let count : ℕ = whole_blocks lanes (length values) in
+    let (later, small, blocks) = blocks_of lanes count (first_kind kind) values some words (omega arith) in
     let front : List ℕ = header 1 kind lanes (length values) in (
       later,
       small,

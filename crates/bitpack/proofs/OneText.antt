@@ -2,7 +2,7 @@
 use Rattle.std.proofs.Common.{◌≡◌, ℕ, ◌+◌, ◌*◌, ◌^◌, ◌<◌, ◌≤◌, List, length, take, drop, None, refl, sym, subst, ◌∙◌, ap, arith}
 use Rattle.std.proofs.lemmas.List.{take-append-drop}
 use Rattle.bitpacking.specs.Bits.{AreBytes}
-use Rattle.bitpacking.specs.Codes.{AreWords, start}
+use Rattle.bitpacking.specs.Codes.{start}
 use Rattle.bitpack.specs.declared.list_kind.ListKind.{ListKind}
 use Rattle.bitpack.specs.declared.list_kind.ListKind.TheVariants as lists
 use Rattle.bitpack.specs.Parts.{header_fault, count_of, whole_blocks, tail_values, first_kind, BeginsWithHeader}

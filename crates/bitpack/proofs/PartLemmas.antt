@@ -50,7 +50,7 @@ pub is_word : (bytes : List ℕ) (index number : ℕ)
     → number ≡ word (drop index bytes) 0
 is_word bytes index number e =
     let same : from_le_bytes w32 (get_or bytes index 0 ∷ get_or bytes (index + 1) 0 ∷ get_or bytes (index + 2) 0 ∷ get_or bytes (index + 3) 0 ∷ [])
-        ≡ from_le_bytes w32 (drop index bytes) = simp (get_or-drop, add-zero) in
+    ≡ from_le_bytes w32 (drop index bytes) = simp (get_or-drop, add-zero) in
     e ∙ same ∙ sym (words_are_little_endian (drop index bytes) 0)
 
 pub word-drop : (bytes : List ℕ) (q : ℕ) → word (drop (4 * q) bytes) 0 ≡ word bytes q

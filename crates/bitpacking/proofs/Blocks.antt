@@ -7,7 +7,7 @@ use Rattle.std.proofs.lemmas.List.Elements.{All-nil, All-cons, All-head, All-tai
 use Rattle.bitpacking.specs.declared.kind.Kind.{Kind}
 use Rattle.bitpacking.specs.declared.kind.Kind.TheVariants.{Plain, Sorted, StrictlySorted}
 use Rattle.bitpacking_register.specs.Deltas.{differences, running_sums}
-use Rattle.bitpacking_register.proofs.SumLemmas.{differences-running_sums, running_sums-mod, running_sums-append, last-running_sums}
+use Rattle.bitpacking_register.proofs.ForCallers.{differences-running_sums, running_sums-mod, running_sums-append, last-running_sums}
 use Rattle.std.proofs.Math.Pow.{pow_mono}
 use Rattle.bitpacking.specs.Layout.{Layout, Holds}
 use Rattle.bitpacking.specs.CodeLaws.{length-differences, length-strict}

@@ -1,7 +1,11 @@
--- The laws as lemmas, for the proofs of this crate and of those that use it. Their types are words of specs/Laws.antt.
-use Rattle.std.proofs.Common.{◌^◌, ◌<◌, drop, get_or, length, sym, ◌∙◌, ap, arith, inl, inr}
+-- What the proofs of other crates may cite: the laws as lemmas, whose types are words of specs/Laws.antt, and after them a few facts on
+-- lists of words and of bytes.
+use Rattle.std.proofs.Common.{ℕ, ◌^◌, ◌<◌, List, Fits, get_or, length, sym, ◌∙◌, ap, arith, inl, inr, w8, w32}
 use Rattle.std.proofs.lemmas.Bool.{cases_lt}
 use Rattle.std.proofs.lemmas.List.{get_or-drop, get_or_past}
+use Rattle.std.proofs.lemmas.List.Elements.{All-from_get_or}
+use Rattle.bitpacking.specs.Bits.{AreBytes}
+use Rattle.bitpacking.specs.Codes.{AreWords}
 use Rattle.bitpacking.specs.Words.{joined, word}
 use Rattle.bitpacking.specs.Laws.{OneLayoutPlaces, OneLayoutBytes, OneLayoutCodes, AsManyCodes, CodesAreWords, OneBlock, OneLeastWidth, SameLeastWidth, FitsGreater, NoneIsTheLastNumber, LanesAreOneLaneLayouts, WordsAreLittleEndian, WordsReadBack}
 use Rattle.bitpacking.proofs.BitPlaces.{code_of, offset_of, of_place, place_of}
@@ -14,8 +18,7 @@ use Rattle.bitpacking.proofs.Widths.{least_width, Least-same, Fits-more}
 pub use Rattle.bitpacking.proofs.OrderLemmas.{strict_saves_at_most_a_bit, sorted_codes_are_differences}
 pub use Rattle.bitpacking.proofs.RoundTrips.{bytes_hold_one_block, block_has_one_list, blocks_share_no_bytes, equal_packed_buffers, equal_unpacked_values}
 pub use Rattle.bitpacking.proofs.FrontWords.{AreBytes-take}
-pub use Rattle.bitpacking_register.proofs.ByteLemmas.{length-bytes_of_words}
-pub use Rattle.bitpacking_register.proofs.WordLemmas.{bytes_of_words_more}
+pub use Rattle.bitpacking_register.proofs.ForCallers.{bytes_of_words_more, length-bytes_of_words}
 
 pub one_layout_places : OneLayoutPlaces
 one_layout_places lanes width t some ht =
@@ -88,3 +91,11 @@ words_read_back words q are_words lt =
       | inl within ↦ are_words l 0 within
       | inr past ↦ rw (get_or_past words l 0 past) (omega arith)
     ]) lt
+
+-- ---- what is known of a slice
+
+pub AreWords-from_slice : (values : List ℕ) → ((k : ℕ) → Fits w32 (get_or values k 0)) → AreWords values
+AreWords-from_slice values fit = All-from_get_or (λ v. v < 2 ^ 32) values 0 (λ k lt. (fit k).fits)
+
+pub AreBytes-from_slice : (bytes : List ℕ) → ((k : ℕ) → Fits w8 (get_or bytes k 0)) → AreBytes bytes
+AreBytes-from_slice bytes fit k = (fit k).fits

@@ -1,5 +1,5 @@
 -- Laws of the format, of the codes and of the width. Each is proved of the definitions alone.
-use Rattle.std.specs.Prelude.{◌≡◌, ◌≢◌, ℕ, ◌+◌, ◌-◌, ◌*◌, ◌/◌, ◌%◌, ◌^◌, ◌<◌, ◌≤◌, ◌⊎◌, List, [], ◌∷◌, length, map, take, drop, slice_index, None, Some}
+use Rattle.std.specs.Prelude.{◌≡◌, ◌≢◌, ℕ, ◌+◌, ◌-◌, ◌*◌, ◌/◌, ◌%◌, ◌^◌, ◌<◌, ◌≤◌, ◌⊎◌, List, [], ◌∷◌, length, map, drop, slice_index, None, Some}
 use Rattle.std.specs.Int.{from_le_bytes, w32}
 use Rattle.std.specs.List.{range_with_len}
 use Rattle.std.specs.List.Sorted.{IsNonDecreasing, IsStrictlyIncreasing}
@@ -24,7 +24,7 @@ OneLayoutBytes = (lanes width : ℕ) (codes : List ℕ) → 0 < lanes → length
     → (bytes : List ℕ) × AreBytes bytes × Layout lanes width codes bytes
     × ((others : List ℕ) → AreBytes others → Layout lanes width codes others → others ≡ bytes)
 
--- as many bytes as a block has are the layout of the codes whose bits are at their places, and of no other codes
+-- as many bytes as a block has are the layout of `codes_of` them, and of no other codes
 abbrev pub OneLayoutCodes : Type 0
 OneLayoutCodes = (lanes width : ℕ) (bytes : List ℕ) → length bytes ≡ size lanes width
     → Layout lanes width (codes_of lanes width bytes) bytes
@@ -49,7 +49,7 @@ abbrev pub OneLeastWidth : Type 0
 OneLeastWidth = (words : List ℕ) → AreWords words
     → (width : ℕ) × (width ≤ 32) × Least words width × ((other : ℕ) → Least words other → other ≡ width)
 
--- any two least widths are equal
+-- any two least widths of the same codes are equal
 abbrev pub SameLeastWidth : Type 0
 SameLeastWidth = (codes : List ℕ) (width other : ℕ) → Least codes width → Least codes other → other ≡ width
 

@@ -1,5 +1,6 @@
-pub mod WordLemmas
-pub mod ByteLemmas
-pub mod SumLemmas
-pub mod ArrayLemmas
-pub mod VectorLemmas
+mod WordLemmas
+mod ByteLemmas
+mod SumLemmas
+mod ArrayLemmas
+mod VectorLemmas
+pub mod ForCallers

@@ -1,4 +1,5 @@
 use Rattle.std.proofs.Common.{◌≡◌, arith, get_or}
+use Rattle.bitpacking.proofs.ForCallers.{AreBytes-from_slice}
 use Rattle.bitpack.specs.Parts.{kind_byte}
 use Rattle.bitpack.proofs.HeaderLemmas.{header_from_bytes}
 use Rattle.bitpack.proofs.header.Header.read.Goals.{in-0, in-1, in-2}
@@ -14,5 +15,5 @@ returns-clause-header c =
       | in-2 w ↦ rw w.kind-is w.in-2.is
     ] in
     rw c.read_one-count.ensures
-    (header_from_bytes c.args.version c.args.lanes c.match-bytes.kind bytes (λ k. omega (arith, c.type_inv.bytes k)) c.if-bytes-lt-HEADER_LEN.false
+    (header_from_bytes c.args.version c.args.lanes c.match-bytes.kind bytes (AreBytes-from_slice bytes c.type_inv.bytes) c.if-bytes-lt-HEADER_LEN.false
     c.if-bytes-version.false kind c.if-bytes-lanes.false (omega (arith, c.read_one-count.ensures)))

@@ -2,6 +2,7 @@ use Rattle.std.proofs.Common.{◌≡◌, ◌-◌, ◌++◌, ℕ, List, length, t
 use Rattle.std.proofs.lemmas.List.{take_all, length-drop}
 use Rattle.std.proofs.lemmas.Result.{err_from_is_err_and}
 use Rattle.bitpacking.specs.Bits.{AreBytes}
+use Rattle.bitpacking.proofs.ForCallers.{AreBytes-from_slice}
 use Rattle.bitpack.specs.Parts.{whole_blocks, first_kind}
 use Rattle.bitpack.specs.Version1.{Blocks1}
 use Rattle.bitpack.proofs.ListLemmas.{on_ok, on_err}
@@ -41,7 +42,7 @@ returns-clause-ok g c =
     let lanes : ℕ = g.P.BitPacker.lanes in
     let bytes : List ℕ = c.args.bytes.now in
     let header = c.in_ok-header.header in
-    let small : AreBytes bytes = λ k. omega (arith, c.type_inv.bytes k) in
+    let small : AreBytes bytes = AreBytes-from_slice bytes c.type_inv.bytes in
     let rest : take (length bytes - 7) (drop 7 bytes) ≡ drop 7 bytes = take_all (length bytes - 7) (drop 7 bytes) (omega (arith, length-drop 7 bytes)) in
     let (values, long, list) =
     list_from_none lanes header.count header.kind bytes g.met.P.BitPacker.some_lanes small c.in_ok-header.ensures.header c.in_ok-header.ensures.fault in

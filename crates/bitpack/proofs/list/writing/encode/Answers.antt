@@ -1,7 +1,7 @@
-use Rattle.std.proofs.Common.{◌≡◌, ◌≤◌, ◌/◌, ◌<◌, ◌++◌, ◌^◌, ℕ, List, length, sym, ◌∙◌, ap, arith, append_assoc}
+use Rattle.std.proofs.Common.{◌≡◌, ◌/◌, ◌<◌, ◌++◌, ◌^◌, ℕ, List, length, sym, ◌∙◌, ap, arith, append_assoc}
 use Rattle.std.proofs.lemmas.List.{length-append}
-use Rattle.std.proofs.lemmas.List.Elements.{All-from_get_or}
 use Rattle.bitpacking.specs.Codes.{AreWords}
+use Rattle.bitpacking.proofs.ForCallers.{AreWords-from_slice}
 use Rattle.bitpack.specs.Parts.{header, whole_blocks, first_kind}
 use Rattle.bitpack.specs.Version1.{Blocks1}
 use Rattle.bitpack.proofs.HeaderLemmas.{length-header}
@@ -12,7 +12,7 @@ pub write-requires-clause-room : goal.write-requires-clause-room
 write-requires-clause-room g c =
     let lanes : ℕ = g.P.BitPacker.lanes in
     let values : List ℕ = c.args.values.now in
-    let words : AreWords values = All-from_get_or (λ v. v < 2 ^ 32) values 0 (λ k h. (c.type_inv.values k).fits) in
+    let words : AreWords values = AreWords-from_slice values c.type_inv.values in
     let few : lanes < 2 ^ 8 = omega (arith, g.met.P.BitPacker.few_lanes) in
     let (later, small, blocks, bytes, list) = text_of lanes c.args.kind values g.met.P.BitPacker.some_lanes few words c.if-values-gt-LONGEST_LIST.false in
     let front : List ℕ = header 1 c.args.kind lanes (length values) in
@@ -24,7 +24,7 @@ pub write_blocks-requires : goal.write_blocks-requires
 write_blocks-requires g c =
     let lanes : ℕ = g.P.BitPacker.lanes in
     let values : List ℕ = c.args.values.now in
-    let words : AreWords values = All-from_get_or (λ v. v < 2 ^ 32) values 0 (λ k h. (c.type_inv.values k).fits) in
+    let words : AreWords values = AreWords-from_slice values c.type_inv.values in
     let front : List ℕ = header 1 c.args.kind lanes (length values) in
     let room = on_ok c.reserve.result (sym c.is_err.ensures.value ∙ c.if-is_err.false) c.reserve.ensures.ok in
     let whole : c.BLOCK_LEN.result / 32 ≡ lanes = lanes-is g.P.BitPacker.lanes c.BLOCK_LEN.result (c.BLOCK_LEN.ensures ∙ g.met.P.BitPacker.block_len) in
@@ -52,7 +52,7 @@ pub returns-clause-ok : goal.returns-clause-ok
 returns-clause-ok g c =
     let lanes : ℕ = g.P.BitPacker.lanes in
     let values : List ℕ = c.args.values.now in
-    let words : AreWords values = All-from_get_or (λ v. v < 2 ^ 32) values 0 (λ k h. (c.type_inv.values k).fits) in
+    let words : AreWords values = AreWords-from_slice values c.type_inv.values in
     let front : List ℕ = header 1 c.args.kind lanes (length values) in
     let few : lanes < 2 ^ 8 = omega (arith, g.met.P.BitPacker.few_lanes) in
     let (later, small, blocks, bytes, list) = text_of lanes c.args.kind values g.met.P.BitPacker.some_lanes few words c.if-values-gt-LONGEST_LIST.false in

@@ -1,11 +1,11 @@
-use Rattle.std.proofs.Common.{◌≡◌, ◌+◌, ◌*◌, ◌/◌, ◌<◌, ◌≤◌, ◌++◌, ◌^◌, ℕ, List, length, take, drop, refl, sym, subst, ◌∙◌, ap, arith, vec_len, vec_capacity}
+use Rattle.std.proofs.Common.{◌≡◌, ◌+◌, ◌*◌, ◌/◌, ◌≤◌, ◌++◌, ℕ, List, length, take, drop, refl, sym, subst, ◌∙◌, ap, arith, vec_len, vec_capacity}
 use Rattle.std.proofs.lemmas.List.{length-drop, length-append}
 use Rattle.std.proofs.Math.Nat.{sub-zero}
-use Rattle.std.proofs.lemmas.List.Elements.{All-from_get_or}
 use Rattle.bitpacking.specs.declared.kind.Kind.{Kind}
 use Rattle.bitpacking.specs.Bits.{AreBytes}
 use Rattle.bitpacking.specs.Codes.{AreWords}
 use Rattle.bitpack.specs.Chains.{second_kind}
+use Rattle.bitpacking.proofs.ForCallers.{AreWords-from_slice}
 use Rattle.bitpack.specs.Parts.{whole_blocks}
 use Rattle.bitpack.specs.Version1.{Blocks1}
 use Rattle.bitpack.proofs.TextLemmas.{blocks_of}
@@ -48,7 +48,7 @@ write_block-requires g c =
     let rest : List ℕ = c.loop.rest.now in
     let whole : len ≡ n = c.BLOCK_LEN-len.ensures ∙ g.met.P.BitPacker.block_len in
     let block : c.split_at.result.0.now ≡ take n rest = c.split_at.ensures.front ∙ ap (λ m. take m rest) whole in
-    let words : AreWords values = All-from_get_or (λ v. v < 2 ^ 32) values 0 (λ k h. (c.type_inv.values k).fits) in
+    let words : AreWords values = AreWords-from_slice values c.type_inv.values in
     let text = text_with_room lanes c.args.kind values len (vec_len c.args.out.now) (vec_capacity c.args.out.now) g.met.P.BitPacker.some_lanes whole words c.requires.room in
     let before = c.loop.invariant.written text.0 text.1 text.2 in
     record {
@@ -92,7 +92,7 @@ write_all-requires g c =
     let len : ℕ = c.BLOCK_LEN-len.result in
     let values : List ℕ = c.args.values.now in
     let whole : len ≡ 32 * lanes = c.BLOCK_LEN-len.ensures ∙ g.met.P.BitPacker.block_len in
-    let words : AreWords values = All-from_get_or (λ v. v < 2 ^ 32) values 0 (λ k h. (c.type_inv.values k).fits) in
+    let words : AreWords values = AreWords-from_slice values c.type_inv.values in
     let text = text_with_room lanes c.args.kind values len (vec_len c.args.out.now) (vec_capacity c.args.out.now) g.met.P.BitPacker.some_lanes whole words c.requires.room in
     let before = c.loop.invariant.written text.0 text.1 text.2 in
     let fits = written_tail_room lanes (length values / len) c.loop.counter c.loop.kind c.loop.rest.now c.loop.out.items (c.args.out.now.items ++ text.0)
