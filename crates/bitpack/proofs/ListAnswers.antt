@@ -1,5 +1,5 @@
 -- The answers to `enc` and `dec`: each request has one.
-use Rattle.std.proofs.Common.{◌≡◌, ℕ, ◌+◌, ◌^◌, ◌<◌, ◌≤◌, List, [], ◌∷◌, ◌++◌, length, take, drop, Option, Some, None, refl, sym, ◌∙◌, ap, subst, arith}
+use Rattle.std.proofs.Common.{◌≡◌, ℕ, ◌+◌, ◌^◌, ◌<◌, ◌≤◌, List, [], ◌∷◌, ◌++◌, length, Option, Some, None, refl, sym, ◌∙◌, ap}
 use Rattle.std.specs.Option.{MatchOption}
 use Rattle.hex.proofs.HexLemmas.{decode_of-ok}
 use Rattle.bitpacking.specs.Bits.{AreBytes}
