@@ -2,13 +2,13 @@
 """Tries the edits of scripts/edits/: each must leave the functions that it names unproved, or the crate not compiling.
 
 A must-fail file changes single lines of one crate and names no function. An edit here takes out clauses of another crate, or a
-whole `impl`, and says which functions stood on it. It is a file NAME.edit. Lines before the first change:
+whole `impl`, and says which functions rest on it. It is a file NAME.edit. Lines before the first change:
     crate: NAME           the crate whose check has to fail
     unproved: FN FN ..    functions of that crate that must not be proved, as `rt check` names them without the crate
     refused: TEXT         or: a text that the check must print, where the crate is not to compile
 and then changes, each of whole lines:
     <<<< PATH             a file of the repository
-    old lines             which stand in it exactly once; a line `....` stands for any lines up to the one after it
+    old lines             which are in it exactly once; a line `....` stands for any lines up to the one after it
     ====
     new lines             none: the old ones are taken out
     >>>>
@@ -66,7 +66,7 @@ def apply(room, changes):
         kept.setdefault(full, text)
         found = pattern_of(old).findall(text)
         if len(found) != 1:
-            return kept, f"its lines stand in {path} {len(found)} times, and not once"
+            return kept, f"its lines are in {path} {len(found)} times, and not once"
         block = "".join(f"{line}\n" for line in new)
         with open(full, "w", encoding="utf-8") as file:
             file.write(pattern_of(old).sub(lambda _: block, text, count=1))

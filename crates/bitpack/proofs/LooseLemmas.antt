@@ -1,4 +1,4 @@
--- A width is loose exactly where the codes that the bytes lay out fit a smaller one.
+-- A width is loose exactly where the codes of the bytes fit a smaller one.
 use Rattle.std.proofs.Common.{◌≡◌, ℕ, ◌-◌, ◌^◌, ◌<◌, ltb, List, refl, arith, Decides, inl, inr}
 use Rattle.std.specs.List.{list_all}
 use Rattle.std.proofs.lemmas.Bool.{cases_lt}

@@ -28,7 +28,7 @@ OneCommand = (line : List ℕ) (packer other_packer : PackerName) (request other
 abbrev pub OneAnswer : Type 0
 OneAnswer = (line : List ℕ) → (answer : List ℕ) × IsAnswer line answer × ((other : List ℕ) → IsAnswer line other → other ≡ answer)
 
--- a width is loose exactly where the codes that the bytes lay out fit a smaller one
+-- a width is loose exactly where the codes of the bytes fit a smaller one
 abbrev pub LooseFitsSmaller : Type 0
 LooseFitsSmaller = (lanes width : ℕ) (codes bytes : List ℕ) → Layout lanes width codes bytes
     → IsTrue (is_loose lanes width bytes) ↔ ((smaller : ℕ) × (smaller < width) × Fits codes smaller)

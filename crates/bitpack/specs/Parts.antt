@@ -75,6 +75,6 @@ first_kind lists.Plain = blocks.Plain
 first_kind lists.Sorted = blocks.Sorted 0
 first_kind lists.StrictlySorted = blocks.StrictlySorted None
 
--- a width is loose where the codes that the bytes lay out fit a smaller one
+-- a width is loose where the codes of the bytes fit a smaller one
 unfoldable pub is_loose : ℕ → ℕ → List ℕ → Bool
 is_loose lanes width bytes = nat_lt 0 width && list_all (λ code. nat_lt code (2 ^ (width - 1))) (codes_of lanes width bytes)

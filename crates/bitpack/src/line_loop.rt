@@ -87,7 +87,7 @@ fn answer_last<W: Write>(alloc: Global, line: &[u8], writer: &mut W) -> Result<(
 /// Reads lines to the end of input and writes one answer for each; then flushes, once.
 ///
 /// Nothing is retried: the first read, write or allocation that fails ends the run, and after a failure nothing is flushed.
-/// A reader that has not ended after `u64::MAX` reads counts as failed. At most 65,537 bytes of a line are kept in memory,
+/// A reader that gives more after `u64::MAX` reads counts as failed. At most 65,537 bytes of a line are kept in memory,
 /// whatever the input.
 pub fn run<R: Read, W: Write>(alloc: Global, reader: &mut R, writer: &mut W) -> Result<(), RunError>
     // The reader gave an input to its end, and all its lines were answered.

@@ -135,7 +135,7 @@ RowsPacked-start lanes width codes values next bytes pending count fits are_byte
       packed = λ l lt. rw (stored, filled, lane-splat 0 lanes pending zeros l lt) (Packed-start width (lane_word lanes bytes l) (lane_code lanes codes l));
     }
 
--- After the last row the codes are laid out.
+-- After the last row the bytes are the layout of the codes.
 pub RowsPacked-done : (lanes width : ℕ) (codes values : List ℕ) (next : List ℕ → List ℕ) (bytes pending : List ℕ)
     → 0 < lanes → 4 * lanes * width ≤ length bytes → RowsPacked lanes width 32 codes values next bytes pending
     → Layout lanes width codes (take (4 * lanes * width) bytes)

@@ -19,7 +19,7 @@ place lanes width k j =
     let p = k / lanes * width + j in
     32 * (lanes * (p / 32) + k % lanes) + p % 32
 
--- the bytes lay out the codes: each bit of a code has its place
+-- the bytes are the layout of the codes: each bit of a code is at its place
 pub record Layout (lanes width : ℕ) (codes bytes : List ℕ) : Type 0 where
   pub code_count : length codes ≡ 32 * lanes
   pub byte_count : length bytes ≡ size lanes width
@@ -31,6 +31,6 @@ pub record Layout (lanes width : ℕ) (codes bytes : List ℕ) : Type 0 where
 unfoldable pub codes_of : ℕ → ℕ → List ℕ → List ℕ
 codes_of lanes width bytes = map (λ k. joined 1 (λ j. bit_of bytes (place lanes width k j)) width) (range_with_len 0 (32 * lanes))
 
--- the bytes lay out the codes of the block
+-- the bytes are the layout of the codes of the block
 abbrev pub Holds : ℕ → ℕ → Kind → List ℕ → List ℕ → Type 0
 Holds lanes width kind block bytes = Layout lanes width (codes kind block) bytes

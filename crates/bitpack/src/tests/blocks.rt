@@ -56,7 +56,7 @@ pub(super) fn unpacks_to<P: BitPacker>(
     assert!(rt; back[len..].iter().all(|value| *value == 9));
 }
 
-/// The bytes of the codes, bit by bit: bit j of code k is bit `p` of its lane's words, which stand `lanes` words apart.
+/// The bytes of the codes, bit by bit: bit j of code k is bit `p` of its lane's words, which are `lanes` words apart.
 fn laid(codes: &[u32], lanes: usize, width: usize) -> [u8; 1024] {
     let mut bytes = [0; 1024];
     for (k, code) in codes.iter().enumerate() {

@@ -53,7 +53,7 @@ fn no_blocks<P: BitPacker>(rt: &impl Abort, packer: &P) {
     }
 }
 
-/// 0, 1, 2, .. after the last number.
+/// 0, 1, 2, .. after `u32::MAX`.
 fn two_blocks_of_width_0<P: BitPacker>(rt: &impl Abort, packer: &P) {
     let len = P::BLOCK_LEN;
     let kind = Kind::StrictlySorted(None);

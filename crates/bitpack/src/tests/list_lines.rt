@@ -17,7 +17,7 @@ fn lines() -> [(&'static str, &'static str); 63] {
         ("dec 1x 01020100000000", "strict -"),
         ("enc 1x plain 5", "0100010100000005000000"),
         ("dec 1x 0100010100000005000000", "plain 5"),
-        // A tail may stand in any order in every kind, and keeps its values.
+        // A tail may be in any order in every kind, and keeps its values.
         (
             "enc 4x sorted 5,3,4294967295",
             "010104030000000500000003000000ffffffff",

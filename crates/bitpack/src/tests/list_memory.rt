@@ -9,7 +9,7 @@ use std::alloc::{AllocError, Global};
 use std::process::Abort;
 use std::test::Fail;
 
-/// Encodes behind one item where so many bytes are all the memory that there is.
+/// Encodes after one item where so many bytes are all the memory that there is.
 fn encode_within<P: BitPacker>(
     alloc: Global,
     packer: &P,
@@ -25,7 +25,7 @@ fn encode_within<P: BitPacker>(
     Ok((outcome, out))
 }
 
-/// Decodes behind one item where so many values are all the memory that there is.
+/// Decodes after one item where so many values are all the memory that there is.
 fn decode_within<P: BitPacker>(
     alloc: Global,
     packer: &P,

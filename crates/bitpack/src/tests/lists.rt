@@ -23,7 +23,7 @@ fn push_steps(
     Ok(())
 }
 
-/// The values have this text, and the text these values. What the vectors held before stands before it. Each proper beginning
+/// The values have this text, and the text these values. What the vectors held before comes before it. Each proper beginning
 /// of the text is refused, and so is the text with a byte more.
 fn is_text<P: BitPacker>(
     rt: &impl Abort,
@@ -160,11 +160,11 @@ fn texts_from_anyone(rt: HostRuntime) -> Result<(), Fail> {
     texts_of_8x(&rt, rt.alloc(), &BitPacker8x::new())?;
     texts_of_8x(&rt, rt.alloc(), &BitPacker8x::scalar())?;
     // The first code is 5, and the others are -1 modulo 2 ^ 32.
-    let mut stands = [0xff; 136];
-    stands[..12].copy_from_slice(&[1, 2, 1, 0x20, 0, 0, 0, 0x20, 5, 0, 0, 0]);
+    let mut repeated = [0xff; 136];
+    repeated[..12].copy_from_slice(&[1, 2, 1, 0x20, 0, 0, 0, 0x20, 5, 0, 0, 0]);
     let kind = ListKind::StrictlySorted;
     let mut read = Vec::new(rt.alloc());
-    assert_eq!(rt; decode(&BitPacker1x::new(), &stands, &mut read), Ok(kind));
+    assert_eq!(rt; decode(&BitPacker1x::new(), &repeated, &mut read), Ok(kind));
     assert!(rt; read.as_slice() == [5; 32].as_slice());
     Ok(())
 }
