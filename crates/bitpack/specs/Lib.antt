@@ -1,3 +1,4 @@
+-- The definitions of this crate.
 pub mod Answers
 pub mod Chains
 pub mod Ending

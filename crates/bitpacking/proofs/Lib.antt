@@ -1,3 +1,4 @@
+-- Lemmas of this crate. Other crates cite those of ForCallers alone.
 mod Facts
 mod Digits
 mod LaneEquations

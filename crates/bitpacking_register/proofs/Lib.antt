@@ -1,3 +1,4 @@
+-- Lemmas of this crate. Other crates cite those of ForCallers alone.
 mod WordLemmas
 mod ByteLemmas
 mod SumLemmas

@@ -1,3 +1,4 @@
+-- The definitions of registers.
 pub mod Words
 pub mod Deltas
 pub mod Laws

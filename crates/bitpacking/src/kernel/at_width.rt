@@ -113,12 +113,12 @@ fn unpack_rows<R: Register, S: Sink<R>, const WIDTH: u32, const FROM: u32>(
 ) -> R
     requires narrow { WIDTH < 32 }
     requires from { FROM ≤ 24 }
-    requires start { S.position sink.old ≡ FROM }
+    requires start { S.rows_stored sink.old ≡ FROM }
     requires bits { target.old.bits ≡ WIDTH }
     requires whole { size R.LANES WIDTH ≤ length source.now.bytes.now }
     requires room { 32 * R.LANES ≤ length target.old.words.now }
     requires loaded { left_at WIDTH FROM ≤ steps.old.inside }
-    ensures position { S.position sink.new ≡ FROM + 8 }
+    ensures rows_stored { S.rows_stored sink.new ≡ FROM + 8 }
     ensures same_reference { target.new.words.ghost_name ≡ target.old.words.ghost_name }
     ensures same_room { length target.new.words.now ≡ length target.old.words.now }
     ensures same_bits { target.new.bits ≡ target.old.bits }

@@ -27,7 +27,7 @@ use bitpacking_register::Register;
 /// Stores the values of the codes that it is given, one register after another.
 pub(crate) trait Sink<R: Register>: Drop {
     // How many registers were stored.
-    ghost position: { Self → ℕ };
+    ghost rows_stored: { Self → ℕ };
 
     // The values of the codes that come next.
     ghost values: { Self → List ℕ → List ℕ };
@@ -37,20 +37,20 @@ pub(crate) trait Sink<R: Register>: Drop {
 
     // At the start of a block, after the value `start`.
     fn after(start: u32) -> Self
-        ensures position { position result ≡ 0 }
+        ensures rows_stored { rows_stored result ≡ 0 }
         ensures values { values result ≡ block_values start };
 
     fn put(&mut self, codes: R, target: &mut ValueTarget<'_>, steps: &mut Steps)
-        requires within { R.LANES * position self.old + R.LANES ≤ length target.old.words.now }
+        requires within { R.LANES * rows_stored self.old + R.LANES ≤ length target.old.words.now }
         requires loaded { target.old.bits ≤ steps.old.inside }
-        ensures position { position self.new ≡ position self.old + 1 }
+        ensures rows_stored { rows_stored self.new ≡ rows_stored self.old + 1 }
         ensures same_reference { target.new.words.ghost_name ≡ target.old.words.ghost_name }
         ensures room { length target.new.words.now ≡ length target.old.words.now }
         ensures stored { (rest : List ℕ)
-            → take (R.LANES * position self.old + R.LANES) target.new.words.now ++ values self.new rest
-            ≡ take (R.LANES * position self.old) target.old.words.now ++ values self.old (R.words codes ++ rest) }
-        ensures rest { drop (R.LANES * position self.old + R.LANES) target.new.words.now
-            ≡ drop (R.LANES * position self.old + R.LANES) target.old.words.now }
+            → take (R.LANES * rows_stored self.old + R.LANES) target.new.words.now ++ values self.new rest
+            ≡ take (R.LANES * rows_stored self.old) target.old.words.now ++ values self.old (R.words codes ++ rest) }
+        ensures rest { drop (R.LANES * rows_stored self.old + R.LANES) target.new.words.now
+            ≡ drop (R.LANES * rows_stored self.old + R.LANES) target.old.words.now }
         ensures bits { target.new.bits ≡ target.old.bits }
         ensures counts { IsStore steps.old steps.new target.old.bits };
 
@@ -60,11 +60,11 @@ pub(crate) trait Sink<R: Register>: Drop {
 /// The codes are the values.
 #[derive(Drop)]
 pub(crate) struct Store {
-    position: usize,
+    rows_stored: usize,
 }
 
 impl<R: Register> Sink<R> for Store {
-    ghost position = { λ s. s.position };
+    ghost rows_stored = { λ s. s.rows_stored };
 
     ghost values = { λ _ codes. codes };
 
@@ -72,13 +72,13 @@ impl<R: Register> Sink<R> for Store {
 
     #[inline(always)]
     fn after(_start: u32) -> Self {
-        Store { position: 0 }
+        Store { rows_stored: 0 }
     }
 
     #[inline(always)]
     fn put(&mut self, codes: R, target: &mut ValueTarget<'_>, steps: &mut Steps) {
-        target.store(self.position, codes, steps);
-        self.position += 1;
+        target.store(self.rows_stored, codes, steps);
+        self.rows_stored += 1;
     }
 
     ghost values_of_none = { λ _. refl };
@@ -87,12 +87,12 @@ impl<R: Register> Sink<R> for Store {
 /// The codes are the differences. The last lane of `previous` is the value before the next register.
 #[derive(Drop)]
 pub(crate) struct DeltaIntegrate<R: Register> {
-    position: usize,
+    rows_stored: usize,
     previous: R,
 }
 
 impl<R: Register> Sink<R> for DeltaIntegrate<R> {
-    ghost position = { λ s. s.position };
+    ghost rows_stored = { λ s. s.rows_stored };
 
     ghost values = { λ s. running_sums (slice_index (R.words s.previous) (R.LANES - 1)) };
 
@@ -101,7 +101,7 @@ impl<R: Register> Sink<R> for DeltaIntegrate<R> {
     #[inline(always)]
     fn after(start: u32) -> Self {
         DeltaIntegrate {
-            position: 0,
+            rows_stored: 0,
             previous: R::splat(start),
         }
     }
@@ -109,8 +109,8 @@ impl<R: Register> Sink<R> for DeltaIntegrate<R> {
     #[inline(always)]
     fn put(&mut self, codes: R, target: &mut ValueTarget<'_>, steps: &mut Steps) {
         self.previous = R::integrate(self.previous, codes);
-        target.store(self.position, self.previous, steps);
-        self.position += 1;
+        target.store(self.rows_stored, self.previous, steps);
+        self.rows_stored += 1;
     }
 
     ghost values_of_none = { λ _. refl };
@@ -119,12 +119,12 @@ impl<R: Register> Sink<R> for DeltaIntegrate<R> {
 /// The codes are the differences, each one less.
 #[derive(Drop)]
 pub(crate) struct StrictDeltaIntegrate<R: Register> {
-    position: usize,
+    rows_stored: usize,
     previous: R,
 }
 
 impl<R: Register> Sink<R> for StrictDeltaIntegrate<R> {
-    ghost position = { λ s. s.position };
+    ghost rows_stored = { λ s. s.rows_stored };
 
     ghost values = { λ s codes. running_sums (slice_index (R.words s.previous) (R.LANES - 1)) (map one_more codes) };
 
@@ -133,7 +133,7 @@ impl<R: Register> Sink<R> for StrictDeltaIntegrate<R> {
     #[inline(always)]
     fn after(start: u32) -> Self {
         StrictDeltaIntegrate {
-            position: 0,
+            rows_stored: 0,
             previous: R::splat(start),
         }
     }
@@ -141,8 +141,8 @@ impl<R: Register> Sink<R> for StrictDeltaIntegrate<R> {
     #[inline(always)]
     fn put(&mut self, codes: R, target: &mut ValueTarget<'_>, steps: &mut Steps) {
         self.previous = R::integrate(self.previous, codes.add(R::splat(1)));
-        target.store(self.position, self.previous, steps);
-        self.position += 1;
+        target.store(self.rows_stored, self.previous, steps);
+        self.rows_stored += 1;
     }
 
     ghost values_of_none = { λ _. refl };

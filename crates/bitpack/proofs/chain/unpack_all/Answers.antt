@@ -1,3 +1,4 @@
+-- One block more is unpacked from the bytes after those read.
 use Rattle.std.proofs.Common.{◌≡◌, ℕ, ◌+◌, ◌-◌, ◌*◌, ◌<◌, ◌≤◌, List, ◌∷◌, [], ◌++◌, length, take, drop, get_or, sum, add-one, refl, ◌∙◌, ap, arith}
 use Rattle.std.proofs.Math.Seq.{take-add, take-suc}
 use Rattle.std.proofs.lemmas.List.{take_all, length-take, length-drop}

@@ -1,3 +1,4 @@
+-- The clauses of the law are lemmas on texts and on loose widths.
 use Rattle.bitpack.proofs.OneText.{one_text1, one_list1, no_fault1, loose_fits_smaller}
 use Rattle.bitpack.proofs.laws.one_text.Goals as goal
 

@@ -1,3 +1,4 @@
+-- The four bytes of one word more are appended.
 use Rattle.std.proofs.Common.{◌≡◌, ℕ, List, length, take, ap, append_assoc, arith}
 use Rattle.std.proofs.lemmas.List.{take_all}
 use Rattle.bitpacking.specs.Words.{bytes_of_words}

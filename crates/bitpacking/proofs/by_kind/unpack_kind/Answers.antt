@@ -1,3 +1,4 @@
+-- The values of the codes found are the block, for each kind.
 use Rattle.std.proofs.Common.{◌*◌, ◌^◌, ◌<◌, ℕ, take, arith}
 use Rattle.bitpacking.specs.declared.kind.Kind.TheVariants.{Sorted, StrictlySorted}
 use Rattle.bitpacking.specs.Codes.{start}

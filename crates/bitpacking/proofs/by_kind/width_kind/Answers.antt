@@ -1,3 +1,4 @@
+-- The codes of each kind are words.
 use Rattle.bitpacking_register.specs.Deltas.{differences}
 use Rattle.bitpacking.proofs.Blocks.{AreWords-differences, AreWords-less}
 use Rattle.bitpacking.proofs.by_kind.width_kind.Goals as goal

@@ -1,3 +1,4 @@
+-- The clauses of the law are lemmas.
 use Rattle.bitpacking.proofs.ForCallers.{equal_packed_buffers, equal_unpacked_values}
 use Rattle.bitpacking.proofs.laws.equal_calls_leave_equal_buffers.Goals as goal
 

@@ -1,3 +1,4 @@
+-- The clauses of the law are lemmas.
 use Rattle.bitpacking.proofs.ForCallers.{one_layout_places, one_layout_bytes, one_layout_codes}
 use Rattle.bitpacking.proofs.laws.one_layout.Goals as goal
 

@@ -1,3 +1,4 @@
+-- The clauses of the law are lemmas.
 use Rattle.bitpacking.proofs.ForCallers.{one_least_width, fits_greater}
 use Rattle.bitpacking.proofs.laws.one_least_width.Goals as goal
 

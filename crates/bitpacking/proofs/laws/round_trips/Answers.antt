@@ -1,3 +1,4 @@
+-- The clauses of the law are lemmas.
 use Rattle.bitpacking.proofs.ForCallers.{bytes_hold_one_block, block_has_one_list, blocks_share_no_bytes}
 use Rattle.bitpacking.proofs.laws.round_trips.Goals as goal
 

@@ -1,3 +1,4 @@
+-- The words of the bytes loaded are those of the slice.
 use Rattle.std.proofs.Common.{◌≡◌, ◌+◌, ◌-◌, ◌*◌, List, ℕ, length, get_or, take, drop, ◌∙◌, ap, arith}
 use Rattle.std.proofs.lemmas.List.{length-take, length-drop}
 use Rattle.bitpacking.proofs.WordsOfParts.{word-row}

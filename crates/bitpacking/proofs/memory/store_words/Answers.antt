@@ -1,3 +1,4 @@
+-- What is after the register is as it was.
 use Rattle.bitpacking.proofs.WordsOfParts.{drop-slots}
 use Rattle.bitpacking.proofs.memory.store_words.Goals as goal
 

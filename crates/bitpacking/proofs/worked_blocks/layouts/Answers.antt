@@ -1,3 +1,4 @@
+-- The worked layouts, by computing.
 use Rattle.bitpacking.proofs.WorkedProofs.{three_bits, three_bits_sorted, four_bits, wrapped_fives, four_lanes, across_words, eight_lanes}
 use Rattle.bitpacking.proofs.worked_blocks.layouts.Goals as goal
 

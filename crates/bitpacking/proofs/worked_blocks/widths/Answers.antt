@@ -1,3 +1,4 @@
+-- The worked widths, by computing.
 use Rattle.bitpacking.proofs.WorkedProofs.{fall_width, still_width, steps_width, no_steps_width, no_steps_from_last_width}
 use Rattle.bitpacking.proofs.worked_blocks.widths.Goals as goal
 

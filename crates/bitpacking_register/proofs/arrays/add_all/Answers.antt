@@ -1,3 +1,4 @@
+-- One lane more is added.
 use Rattle.std.proofs.Common.{rules, arith}
 use Rattle.bitpacking_register.specs.Words.{wrapping_sum}
 use Rattle.bitpacking_register.proofs.WordLemmas.{AreWords-array, wrapping_sum-fits}

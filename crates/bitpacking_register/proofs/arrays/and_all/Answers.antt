@@ -1,3 +1,4 @@
+-- One lane more is joined by and.
 use Rattle.std.proofs.Common.{rules, arith, bit_and}
 use Rattle.bitpacking_register.proofs.WordLemmas.{AreWords-array, and-fits}
 use Rattle.bitpacking_register.proofs.ArrayLemmas.{zip2_step, zip2_done}

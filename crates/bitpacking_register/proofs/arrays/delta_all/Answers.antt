@@ -1,3 +1,4 @@
+-- One lane more has its difference.
 use Rattle.std.proofs.Common.{rules, arith}
 use Rattle.bitpacking_register.specs.Deltas.{differences}
 use Rattle.bitpacking_register.proofs.WordLemmas.{AreWords-array}

@@ -1,3 +1,4 @@
+-- The lanes so far have their differences, and `before` is the word before the next.
 use Rattle.std.proofs.Common.{◌≡◌, ◌∷◌, get_or}
 use Rattle.bitpacking_register.specs.Deltas.{differences}
 use Rattle.bitpacking_register.proofs.ArrayLemmas.{written_to}

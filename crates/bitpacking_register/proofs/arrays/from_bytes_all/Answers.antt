@@ -1,3 +1,4 @@
+-- One word more is read.
 use Rattle.std.proofs.Common.{rules}
 use Rattle.bitpacking_register.proofs.WordLemmas.{AreWords-loaded}
 use Rattle.bitpacking_register.proofs.ArrayLemmas.{load_step, load_done}

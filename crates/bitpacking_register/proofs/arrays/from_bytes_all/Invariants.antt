@@ -1,3 +1,4 @@
+-- The words so far are read.
 use Rattle.std.proofs.Common.{◌≡◌}
 use Rattle.bitpacking_register.specs.Words.{words_of_bytes}
 use Rattle.bitpacking_register.proofs.ArrayLemmas.{written_to}

@@ -1,3 +1,4 @@
+-- The array is the words.
 use Rattle.std.proofs.Common.{ap, ◌∙◌}
 use Rattle.bitpacking_register.specs.Words.{first_words}
 use Rattle.bitpacking_register.proofs.WordLemmas.{AreWords-array, first_words-whole}

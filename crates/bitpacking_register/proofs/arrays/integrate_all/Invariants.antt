@@ -1,3 +1,4 @@
+-- The lanes so far have their sums, and `sum` is the last of them.
 use Rattle.std.proofs.Common.{◌≡◌, ◌∷◌, get_or}
 use Rattle.bitpacking_register.specs.Deltas.{running_sums}
 use Rattle.bitpacking_register.proofs.ArrayLemmas.{written_to}

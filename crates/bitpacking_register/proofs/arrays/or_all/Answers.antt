@@ -1,3 +1,4 @@
+-- One lane more is joined by or.
 use Rattle.std.proofs.Common.{rules, arith, bit_or}
 use Rattle.bitpacking_register.proofs.WordLemmas.{AreWords-array, or-fits}
 use Rattle.bitpacking_register.proofs.ArrayLemmas.{zip2_step, zip2_done}

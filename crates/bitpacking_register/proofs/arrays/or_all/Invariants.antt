@@ -1,3 +1,4 @@
+-- The lanes so far are joined by or; the others are as they were.
 use Rattle.std.proofs.Common.{◌≡◌, bit_or}
 use lib.Lanes.{zip2}
 use Rattle.bitpacking_register.proofs.ArrayLemmas.{written_to}

@@ -1,3 +1,4 @@
+-- One lane more is joined.
 use Rattle.std.proofs.Common.{rules, bit_or, arith}
 use Rattle.bitpacking_register.proofs.WordLemmas.{AreWords-array}
 use Rattle.bitpacking_register.proofs.ArrayLemmas.{fold_done}

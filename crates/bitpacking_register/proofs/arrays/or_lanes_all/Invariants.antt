@@ -1,3 +1,4 @@
+-- The lanes so far are joined.
 use Rattle.std.proofs.Common.{◌≡◌, bit_or, take}
 use Rattle.std.specs.List.{fold}
 use Rattle.bitpacking_register.proofs.arrays.or_lanes_all.Given as goal

@@ -1,3 +1,4 @@
+-- One lane more is shifted.
 use Rattle.std.proofs.Common.{rules, arith}
 use Rattle.bitpacking_register.specs.Words.{shifted_left}
 use Rattle.bitpacking_register.proofs.WordLemmas.{AreWords-array, shifted_left-fits}

@@ -1,3 +1,4 @@
+-- One lane more is shifted.
 use Rattle.std.proofs.Common.{rules, arith}
 use Rattle.bitpacking_register.specs.Words.{shifted_right}
 use Rattle.bitpacking_register.proofs.WordLemmas.{AreWords-array, shifted_right-fits}

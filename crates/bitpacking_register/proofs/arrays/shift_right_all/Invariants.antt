@@ -1,3 +1,4 @@
+-- The lanes so far are shifted; the others are as they were.
 use Rattle.std.proofs.Common.{◌≡◌, map}
 use Rattle.bitpacking_register.specs.Words.{shifted_right}
 use Rattle.bitpacking_register.proofs.ArrayLemmas.{written_to}

@@ -1,3 +1,4 @@
+-- Each lane has the word.
 use Rattle.std.proofs.Common.{replicate}
 use Rattle.bitpacking_register.proofs.WordLemmas.{AreWords-replicate, first_words-whole}
 use Rattle.bitpacking_register.proofs.arrays.splat_all.Goals as goal

@@ -1,3 +1,4 @@
+-- One lane more is subtracted.
 use Rattle.std.proofs.Common.{rules, arith}
 use Rattle.bitpacking_register.specs.Words.{wrapping_difference}
 use Rattle.bitpacking_register.proofs.WordLemmas.{AreWords-array, wrapping_difference-fits}

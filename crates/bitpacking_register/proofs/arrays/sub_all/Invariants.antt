@@ -1,3 +1,4 @@
+-- The lanes so far are subtracted; the others are as they were.
 use Rattle.std.proofs.Common.{◌≡◌}
 use Rattle.bitpacking_register.specs.Words.{wrapping_difference}
 use lib.Lanes.{zip2}

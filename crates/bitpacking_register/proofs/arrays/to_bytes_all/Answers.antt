@@ -1,3 +1,4 @@
+-- The bytes of one word more are written.
 use Rattle.std.proofs.Common.{rules, arith}
 use Rattle.bitpacking_register.proofs.WordLemmas.{AreWords-array}
 use Rattle.bitpacking_register.proofs.ArrayLemmas.{store_step, store_done}

@@ -1,3 +1,4 @@
+-- The bytes of the words so far are written; the others are as they were.
 use Rattle.std.proofs.Common.{◌≡◌, ◌*◌, take}
 use Rattle.bitpacking_register.specs.Words.{bytes_of_words}
 use Rattle.bitpacking_register.proofs.arrays.to_bytes_all.Given as goal

@@ -1,3 +1,4 @@
+-- The words are the array.
 use Rattle.std.proofs.Common.{rules, sym, ◌∙◌}
 use Rattle.bitpacking_register.proofs.WordLemmas.{AreWords-array, first_words-whole}
 use Rattle.bitpacking_register.proofs.arrays.to_words_all.Goals as goal

@@ -1,3 +1,4 @@
+-- The law is a lemma on differences and running sums.
 use Rattle.std.proofs.Common.{ℕ, ◌<◌, ◌^◌, List}
 use Rattle.std.specs.List.{All}
 use lib.Lanes.{Each1}

@@ -1,3 +1,4 @@
+-- The tests of the seven bytes find the first fault of a header.
 use Rattle.std.proofs.Common.{◌≡◌, arith, get_or}
 use Rattle.bitpacking.proofs.ForCallers.{AreBytes-from_slice}
 use Rattle.bitpack.specs.Parts.{kind_byte}

@@ -1,3 +1,4 @@
+-- The bytes appended are the header.
 use Rattle.std.proofs.Common.{◌∷◌, [], append_assoc}
 use Rattle.bitpacking.specs.Words.{bytes_of_words}
 use Rattle.bitpack.specs.Parts.{header, kind_byte}

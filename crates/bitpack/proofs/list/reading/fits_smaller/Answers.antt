@@ -1,3 +1,4 @@
+-- The least width of the codes, unpacked as plain values, tells whether the width is loose.
 use Rattle.std.proofs.Common.{◌≡◌, ◌*◌, ◌∙◌, ℕ, List, ltb, take, arith}
 use Rattle.std.proofs.lemmas.Bool.Decides.{same_from_decides}
 use Rattle.std.proofs.lemmas.List.{take_all}

@@ -1,3 +1,4 @@
+-- The values unpacked are the block of which the bytes are the part.
 use Rattle.std.proofs.Common.{◌≡◌, ◌+◌, ◌-◌, ◌*◌, ◌++◌, ℕ, List, length, take, drop, get_or, refl, sym, ◌∙◌, ap, arith}
 use Rattle.std.proofs.lemmas.List.{take_all, length-drop}
 use Rattle.bitpacking.specs.Codes.{AreWords}

@@ -1,3 +1,4 @@
+-- The tests in their order find the first fault of a block.
 use Rattle.std.proofs.Common.{◌≡◌, ◌-◌, ℕ, List, length, take, drop, get_or, true, false, sym, ◌∙◌, ap}
 use Rattle.bitpacking.specs.Layout.{size}
 use Rattle.bitpack.specs.Parts.{is_loose}

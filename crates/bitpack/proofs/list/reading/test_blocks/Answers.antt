@@ -1,3 +1,4 @@
+-- The fault of the blocks left is that of all, where those before have none.
 use Rattle.std.proofs.Common.{◌-◌, ◌+◌, ℕ, List, Option, sym, ◌∙◌, ap, arith}
 use Rattle.std.specs.Option.{option_or}
 use Rattle.std.proofs.Math.Nat.{sub-zero}

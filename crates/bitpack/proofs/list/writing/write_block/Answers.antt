@@ -1,3 +1,4 @@
+-- The width and the body appended are the part of the block.
 use Rattle.std.proofs.Common.{◌≡◌, ◌+◌, ◌∷◌, ◌++◌, [], ℕ, List, length, take, refl, ◌∙◌, ap, append_assoc, arith}
 use Rattle.bitpacking.specs.declared.kind.Kind.{Kind}
 use Rattle.bitpacking.specs.Bits.{AreBytes}

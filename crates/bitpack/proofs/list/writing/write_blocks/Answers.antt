@@ -1,3 +1,4 @@
+-- One part more is appended, and then the tail.
 use Rattle.std.proofs.Common.{◌≡◌, ◌+◌, ◌*◌, ◌/◌, ◌≤◌, ◌++◌, ℕ, List, length, take, drop, refl, sym, subst, ◌∙◌, ap, arith, vec_len, vec_capacity}
 use Rattle.std.proofs.lemmas.List.{length-drop, length-append}
 use Rattle.std.proofs.Math.Nat.{sub-zero}

@@ -1,3 +1,4 @@
+-- A block of the test has codes that fit its width.
 use Rattle.std.proofs.Common.{◌≤◌, ◌∙◌, rules, arith}
 use Rattle.std.proofs.lemmas.Nat.{mul-le}
 use Rattle.bitpacking.specs.Codes.{codes}

@@ -1,3 +1,4 @@
+-- 32 bits for each lane and bit of the width are 4 bytes.
 use Rattle.std.proofs.Common.{◌≡◌, ◌*◌, ◌∙◌, arith}
 use Rattle.bitpacking.proofs.bit_packer.BitPacker.compressed_block_size.Goals as goal
 

@@ -1,3 +1,4 @@
+-- Four times eight rows packed are the layout.
 use Rattle.std.proofs.Common.{List, ◌≡◌, ℕ, length, sym, ap, ◌∙◌, ◌*◌}
 use Rattle.bitpacking.proofs.PackedRows.{RowsPacked-start, RowsPacked-done}
 use Rattle.bitpacking.proofs.kernel.at_width.pack_at_width.Goals as goal

@@ -1,3 +1,4 @@
+-- One row more is packed.
 use Rattle.std.proofs.Common.{List, ◌≡◌, ℕ, ◌+◌, ◌-◌, ◌*◌, ◌/◌, ◌%◌, ◌^◌, ◌<◌, length, get_or, bit_or, sym, ◌∙◌, arith}
 use Rattle.bitpacking_register.specs.Words.{shifted_right}
 use Rattle.bitpacking.proofs.PackSteps.{row_room}

@@ -1,3 +1,4 @@
+-- Four times eight rows unpacked are the values of all codes.
 use Rattle.std.proofs.Common.{List, ℕ, ◌*◌, ◌∙◌, take, arith, ap}
 use Rattle.std.proofs.lemmas.List.{length-take}
 use Rattle.bitpacking.specs.Layout.{codes_of, Layout}

@@ -1,3 +1,4 @@
+-- One row more is unpacked.
 use Rattle.std.proofs.Common.{List, ◌≡◌, ℕ, ◌+◌, ◌-◌, ◌<◌, length, get_or, ◌∙◌, ap, arith}
 use Rattle.bitpacking_register.specs.Words.{shifted_right}
 use Rattle.bitpacking.specs.Partway.{RowsUnpacked, words_to, left_at}
@@ -22,9 +23,9 @@ rows-preserved g c =
     let bytes : List ℕ = c.args.source.now.bytes.now in
     let pending : List ℕ = g.R.Register.words c.rows.pending in
     let last : i < 32 = omega (arith, c.rows-test.true, c.requires.from) in
-    let position : g.S.Sink.position c.rows.sink ≡ i = c.rows.invariant.position in
+    let rows_stored : g.S.Sink.rows_stored c.rows.sink ≡ i = c.rows.invariant.rows_stored in
     record {
-      position = c.put.ensures.position ∙ ap (λ n. n + 1) position;
+      rows_stored = c.put.ensures.rows_stored ∙ ap (λ n. n + 1) rows_stored;
       same_reference = c.put.ensures.same_reference ∙ c.rows.invariant.same_reference;
       same_room = c.put.ensures.room ∙ c.rows.invariant.same_room;
       same_bits = c.put.ensures.bits ∙ c.rows.invariant.same_bits;
@@ -37,7 +38,7 @@ rows-preserved g c =
           (lane-masked width lanes (g.R.Register.words c.if-left.codes) (g.R.Register.words c.splat-mask.result)
           (g.R.Register.words c.and.result) c.requires.narrow (count c.if-left.codes) (count c.splat-mask.result)
           c.splat-mask.ensures c.and.ensures)
-          (rw position at c.put.ensures.stored)
+          (rw rows_stored at c.put.ensures.stored)
           (λ l lt unpacked. elim c.if-left.branch [
             | then-left w ↦ rw (w.codes-is, w.pending-is)
                 (lane-load lanes width i bytes l (get_or pending l 0) (get_or (g.R.Register.words w.load-word.result) l 0)
@@ -58,7 +59,7 @@ rows-preserved g c =
           ])
           rows;
       rest = rest_step lanes i 32 c.put.new.target.words.now c.rows.target.words.now c.args.target.now.words.now
-          last (rw position at c.put.ensures.rest) c.rows.invariant.rest;
+          last (rw rows_stored at c.put.ensures.rest) c.rows.invariant.rest;
       counts = elim c.if-left.branch [
         | then-left w ↦
             UnpacksRows-load c.args.steps.now c.rows.steps w.load-word.new.steps c.put.new.steps width g.row.FROM i

@@ -5,7 +5,7 @@ use Rattle.bitpacking.proofs.kernel.at_width.unpack_rows.Given as goal
 
 abbrev pub invariant-rows : goal.invariant-rows
 invariant-rows g l = record {
-  position : g.S.Sink.position l.sink ≡ l.i;
+  rows_stored : g.S.Sink.rows_stored l.sink ≡ l.i;
   same_reference : l.target.words.ghost_name ≡ l.initial.target.words.ghost_name;
   same_room : length l.target.words.now ≡ length l.initial.target.words.now;
   same_bits : l.target.bits ≡ l.initial.target.bits;

@@ -1,3 +1,4 @@
+-- One register of codes more is stored; after the last one the words are the layout.
 use Rattle.std.proofs.Common.{List, ◌++◌, ◌≡◌, ℕ, ◌+◌, ◌*◌, ◌<◌, ◌≤◌, take, drop, sym, ◌∙◌, ap, ⊎_elim, refl, arith}
 use Rattle.std.proofs.lemmas.List.{length-take}
 use Rattle.std.proofs.lemmas.Bool.{cases_lt}

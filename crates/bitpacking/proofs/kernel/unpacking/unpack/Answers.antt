@@ -1,3 +1,4 @@
+-- One row more is unpacked; after the last one all values are stored.
 use Rattle.std.proofs.Common.{List, ◌≡◌, ℕ, ◌+◌, ◌-◌, ◌*◌, ◌%◌, ◌/◌, ◌^◌, ◌<◌, length, take, get_or, bit_or, bit_and, refl, sym, ◌∙◌, ap, arith}
 use Rattle.std.proofs.lemmas.List.{length-take}
 use Rattle.std.proofs.lemmas.Nat.{mul-le}
@@ -24,7 +25,7 @@ rows-init g c =
       unpacked = λ lane lt.
           rw (lane-splat 0 lanes (g.R.Register.words c.splat-pending.result) c.splat-pending.ensures lane lt)
           (Unpacked-start c.args.width (joined 32 (lane_word lanes c.args.source.now.bytes.now lane) c.args.width));
-      position = c.after-sink.ensures.position;
+      rows_stored = c.after-sink.ensures.rows_stored;
       done = rw none (ap (λ f. f (codes_of lanes c.args.width (take (4 * lanes * c.args.width) c.args.source.now.bytes.now))) c.after-sink.ensures.values);
       rest = refl;
       same_reference = refl;
@@ -45,7 +46,7 @@ load-word-requires g c =
 pub put-requires-clause-within : goal.put-requires-clause-within
 put-requires-clause-within g c =
     let lanes : ℕ = g.R.Register.LANES in
-    rw c.rows.invariant.position
+    rw c.rows.invariant.rows_stored
     (omega (arith, c.rows.invariant.same_room, c.requires.can.can.room, mul-le lanes (c.rows.i + 1) lanes 32 (omega arith) (omega (arith, c.rows-test.true))))
 
 -- of the bits that were left and those that were loaded, the code has `width`
@@ -109,7 +110,7 @@ rows-preserved g c =
     let front : List ℕ = take (4 * lanes * width) source in
     let codes : List ℕ = codes_of lanes width front in
     let layout : Layout lanes width codes front = Layout-codes_of lanes width front (simp length-take (omega (arith, c.requires.can.can.whole))) in
-    let position : g.S.Sink.position c.rows.sink ≡ i = c.rows.invariant.position in
+    let rows_stored : g.S.Sink.rows_stored c.rows.sink ≡ i = c.rows.invariant.rows_stored in
     record {
       place = elim c.if-left-width.branch [
         | then-left-width w ↦ rw (w.left-is, w.loaded-is) (omega arith)
@@ -120,7 +121,7 @@ rows-preserved g c =
         | else-left-width w ↦ rw w.left-is (omega arith)
       ];
       unpacked = λ lane lt. (step lane lt).1;
-      position = c.put.ensures.position ∙ ap (λ n. n + 1) position;
+      rows_stored = c.put.ensures.rows_stored ∙ ap (λ n. n + 1) rows_stored;
       done = values_step lanes i codes (g.R.Register.words c.and.result) c.rows.target.words.now c.put.new.target.words.now
           (g.S.Sink.block_values c.args.start codes) (g.S.Sink.values c.rows.sink) (g.S.Sink.values c.put.new.self)
           layout.code_count c.rows-test.true (count c.and.result)
@@ -131,10 +132,10 @@ rows-preserved g c =
           ∙ (step l lt).0
           ∙ ap (λ x. digit width x i) (sym (joined-front lanes width source l lt))
           ∙ digit-code lanes width codes front (AreBytes-take source (4 * lanes * width) c.requires.can.are_bytes) layout l lt i c.rows-test.true)
-          (rw position at c.put.ensures.stored)
+          (rw rows_stored at c.put.ensures.stored)
           c.rows.invariant.done;
       rest = rest_step lanes i 32 c.put.new.target.words.now c.rows.target.words.now c.args.target.now.words.now
-          c.rows-test.true (rw position at c.put.ensures.rest) c.rows.invariant.rest;
+          c.rows-test.true (rw rows_stored at c.put.ensures.rest) c.rows.invariant.rest;
       same_reference = c.put.ensures.same_reference ∙ c.rows.invariant.same_reference;
       same_room = c.put.ensures.room ∙ c.rows.invariant.same_room;
       same_bits = c.put.ensures.bits ∙ c.rows.invariant.same_bits;

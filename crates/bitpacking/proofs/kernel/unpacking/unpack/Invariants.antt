@@ -14,7 +14,7 @@ invariant-rows g l = record {
   unpacked : (lane : ℕ) → lane < g.R.Register.LANES
       → Unpacked l.width (joined 32 (lane_word g.R.Register.LANES l.source.bytes.now lane) l.width)
       l.i l.loaded l.left (get_or (g.R.Register.words l.pending) lane 0);
-  position : g.S.Sink.position l.sink ≡ l.i;
+  rows_stored : g.S.Sink.rows_stored l.sink ≡ l.i;
   done : take (g.R.Register.LANES * l.i) l.target.words.now
       ++ g.S.Sink.values l.sink
       (drop (g.R.Register.LANES * l.i) (codes_of g.R.Register.LANES l.width (take (4 * g.R.Register.LANES * l.width) l.source.bytes.now)))

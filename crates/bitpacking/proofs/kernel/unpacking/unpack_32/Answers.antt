@@ -1,3 +1,4 @@
+-- One register of codes more is loaded and stored as values.
 use Rattle.std.proofs.Common.{List, ◌≡◌, ℕ, ◌+◌, ◌*◌, take, refl, sym, ◌∙◌, ap, arith}
 use Rattle.std.proofs.lemmas.List.{length-take}
 use Rattle.std.proofs.lemmas.Nat.{mul-le}
@@ -14,7 +15,7 @@ loop-i-init g c =
     let lanes : ℕ = g.R.Register.LANES in
     let none : lanes * 0 ≡ 0 = omega arith in
     record {
-      position = c.after-sink.ensures.position;
+      rows_stored = c.after-sink.ensures.rows_stored;
       done = rw none (ap (λ f. f (codes_of lanes 32 (take (4 * lanes * 32) c.args.source.now.bytes.now))) c.after-sink.ensures.values);
       rest = refl;
       same_reference = refl;
@@ -29,7 +30,7 @@ loop-i-init g c =
 pub put-requires-clause-within : goal.put-requires-clause-within
 put-requires-clause-within g c =
     let lanes : ℕ = g.R.Register.LANES in
-    rw c.loop-i.invariant.position
+    rw c.loop-i.invariant.rows_stored
     (omega (arith, c.loop-i.invariant.same_room, c.requires.can.can.room, mul-le lanes (c.loop-i.i + 1) lanes 32 (omega arith) (omega (arith, c.loop-i-test.true))))
 
 pub put-requires-clause-loaded : goal.put-requires-clause-loaded
@@ -44,9 +45,9 @@ loop-i-preserved g c =
     let front : List ℕ = take (4 * lanes * 32) source in
     let codes : List ℕ = codes_of lanes 32 front in
     let layout : Layout lanes 32 codes front = Layout-codes_of lanes 32 front (simp length-take (omega (arith, c.requires.can.can.whole))) in
-    let position : g.S.Sink.position c.loop-i.sink ≡ i = c.loop-i.invariant.position in
+    let rows_stored : g.S.Sink.rows_stored c.loop-i.sink ≡ i = c.loop-i.invariant.rows_stored in
     record {
-      position = c.put.ensures.position ∙ ap (λ n. n + 1) position;
+      rows_stored = c.put.ensures.rows_stored ∙ ap (λ n. n + 1) rows_stored;
       done = values_step lanes i codes (g.R.Register.words c.load-codes.result) c.loop-i.target.words.now c.put.new.target.words.now
           (g.S.Sink.block_values c.args.start codes) (g.S.Sink.values c.loop-i.sink) (g.S.Sink.values c.put.new.self)
           layout.code_count c.loop-i-test.true (g.met.R.Register.words_count c.load-codes.result)
@@ -55,10 +56,10 @@ loop-i-preserved g c =
           (λ q h. word-lt source c.requires.can.are_bytes (lanes * q + l)) c.loop-i-test.true)
           ∙ ap (λ x. digit 32 x i) (sym (joined-front lanes 32 source l lt))
           ∙ digit-code lanes 32 codes front (AreBytes-take source (4 * lanes * 32) c.requires.can.are_bytes) layout l lt i c.loop-i-test.true)
-          (rw position at c.put.ensures.stored)
+          (rw rows_stored at c.put.ensures.stored)
           c.loop-i.invariant.done;
       rest = rest_step lanes i 32 c.put.new.target.words.now c.loop-i.target.words.now c.args.target.now.words.now
-          c.loop-i-test.true (rw position at c.put.ensures.rest) c.loop-i.invariant.rest;
+          c.loop-i-test.true (rw rows_stored at c.put.ensures.rest) c.loop-i.invariant.rest;
       same_reference = c.put.ensures.same_reference ∙ c.loop-i.invariant.same_reference;
       same_room = c.put.ensures.room ∙ c.loop-i.invariant.same_room;
       same_bits = c.put.ensures.bits ∙ c.loop-i.invariant.same_bits;

@@ -5,7 +5,7 @@ use Rattle.bitpacking.proofs.kernel.unpacking.unpack_32.Given as goal
 
 abbrev pub invariant-loop-i : goal.invariant-loop-i
 invariant-loop-i g l = record {
-  position : g.S.Sink.position l.sink ≡ l.i;
+  rows_stored : g.S.Sink.rows_stored l.sink ≡ l.i;
   done : take (g.R.Register.LANES * l.i) l.target.words.now
       ++ g.S.Sink.values l.sink
       (drop (g.R.Register.LANES * l.i) (codes_of g.R.Register.LANES 32 (take (4 * g.R.Register.LANES * 32) l.source.bytes.now)))

@@ -1,3 +1,4 @@
+-- One register of codes more is joined; the digits of all joined are the least width.
 use Rattle.std.proofs.Common.{List, ◌++◌, ◌≡◌, ◌∙◌, sym, ap, ℕ, ◌+◌, ◌-◌, ◌*◌, ◌^◌, ◌<◌, ◌≤◌, drop, get_or, bit_or, refl, ⊎_elim, arith}
 use Rattle.std.proofs.lemmas.Bool.{cases_lt}
 use Rattle.std.proofs.lemmas.Nat.{mul-add-lt, le_or_l, le_or_r, or_lt, pow_pos}

@@ -1,3 +1,4 @@
+-- The words of the slice.
 use Rattle.bitpacking_register.proofs.VectorLemmas.{first_words-chunk}
 use Rattle.bitpacking_register.proofs.vectors.U32x4Register.from_words.Goals as goal
 

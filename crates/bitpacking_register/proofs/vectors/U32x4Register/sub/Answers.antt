@@ -1,3 +1,4 @@
+-- The differences of two vectors, lane by lane.
 use Rattle.bitpacking_register.proofs.VectorLemmas.{first_words-sub}
 use Rattle.bitpacking_register.proofs.vectors.U32x4Register.sub.Goals as goal
 

@@ -1,3 +1,4 @@
+-- The sums of two vectors, lane by lane.
 use Rattle.bitpacking_register.proofs.VectorLemmas.{first_words-add}
 use Rattle.bitpacking_register.proofs.vectors.U32x8Register.add.Goals as goal
 

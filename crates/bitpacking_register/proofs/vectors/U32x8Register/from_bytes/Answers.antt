@@ -1,3 +1,4 @@
+-- The words of the bytes.
 use Rattle.bitpacking_register.proofs.VectorLemmas.{first_words-loaded}
 use Rattle.bitpacking_register.proofs.vectors.U32x8Register.from_bytes.Goals as goal
 

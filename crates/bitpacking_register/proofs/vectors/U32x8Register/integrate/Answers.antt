@@ -1,3 +1,4 @@
+-- The running sums of a vector, after the last lane of the one before.
 use Rattle.std.proofs.Common.{lit≤}
 use Rattle.bitpacking_register.proofs.VectorLemmas.{first_words-integral, sums_of_eight-is}
 use Rattle.bitpacking_register.proofs.vectors.U32x8Register.integrate.Goals as goal

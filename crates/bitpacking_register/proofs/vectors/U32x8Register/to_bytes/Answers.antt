@@ -1,3 +1,4 @@
+-- The bytes of the words.
 use Rattle.bitpacking_register.proofs.VectorLemmas.{put_chunk-bytes}
 use Rattle.bitpacking_register.proofs.vectors.U32x8Register.to_bytes.Goals as goal
 

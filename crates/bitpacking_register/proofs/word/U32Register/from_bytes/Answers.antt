@@ -1,3 +1,4 @@
+-- A vector of one word is the word.
 use Rattle.std.proofs.Common.{◌≡◌, ◌%◌, ◌^◌, [], ◌∷◌, take, ap, ◌∙◌, Fits, w8}
 use lib.Lanes.{number_l}
 use Rattle.std.proofs.Math.Nat.{mod-mod}

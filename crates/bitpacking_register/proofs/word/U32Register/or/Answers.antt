@@ -1,3 +1,4 @@
+-- The list of one word, joined with another.
 use Rattle.bitpacking_register.proofs.WordLemmas.{word-mod, or-fits}
 use Rattle.bitpacking_register.proofs.word.U32Register.or.Goals as goal
 

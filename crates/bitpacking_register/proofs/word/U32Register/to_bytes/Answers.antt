@@ -1,3 +1,4 @@
+-- A vector of one word is the word.
 use Rattle.std.proofs.Common.{ℕ, ◌≡◌, ◌+◌, ◌/◌, ◌%◌, [], ◌∷◌, refl, ◌∙◌, arith}
 use Rattle.std.proofs.Math.Nat.{mod-eq_of_lt}
 use Rattle.std.proofs.lemmas.Simd.{put_chunk_whole}

@@ -1,3 +1,4 @@
+-- The running sums of a register go on from the value before.
 use Rattle.std.proofs.Common.{◌-◌, ◌*◌, ◌++◌, get_or, take, ap, sym, ◌∙◌, append_assoc}
 use Rattle.bitpacking_register.specs.Deltas.{running_sums}
 use Rattle.bitpacking.proofs.Blocks.{running_sums-register}
@@ -9,7 +10,7 @@ returns-clause-stored g c rest =
     let before = get_or (g.R.Register.words c.args.self.now.previous) (lanes - 1) 0 in
     let values = g.R.Register.words c.integrate-self.result in
     let left = running_sums (get_or values (lanes - 1) 0) rest in
-    let front = take (lanes * c.args.self.now.position) c.args.target.now.words.now in
+    let front = take (lanes * c.args.self.now.rows_stored) c.args.target.now.words.now in
     ap (λ xs. xs ++ left) c.store.ensures.stored
     ∙ append_assoc front values left
     ∙ ap (λ xs. front ++ xs) (sym (running_sums-register before lanes (g.R.Register.words c.args.codes) rest values

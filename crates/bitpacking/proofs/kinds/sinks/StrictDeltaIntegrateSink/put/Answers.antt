@@ -1,3 +1,4 @@
+-- The running sums of a register, each code one more, go on from the value before.
 use Rattle.std.proofs.Common.{◌≡◌, ◌-◌, ◌*◌, ◌++◌, map, get_or, take, ap, sym, ◌∙◌, append_assoc}
 use Rattle.std.proofs.lemmas.List.{map-append}
 use Rattle.bitpacking_register.specs.Words.{wrapping_sum}
@@ -16,7 +17,7 @@ returns-clause-stored g c rest =
     let before = get_or (g.R.Register.words c.args.self.now.previous) (lanes - 1) 0 in
     let values = g.R.Register.words c.integrate-self.result in
     let left = running_sums (get_or values (lanes - 1) 0) (map one_more rest) in
-    let front = take (lanes * c.args.self.now.position) c.args.target.now.words.now in
+    let front = take (lanes * c.args.self.now.rows_stored) c.args.target.now.words.now in
     let more : deltas ≡ map one_more codes =
     zip2-splat wrapping_sum 1 lanes codes (g.R.Register.words c.splat.result) deltas (count c.args.codes) c.splat.ensures c.add.ensures in
     ap (λ xs. xs ++ left) c.store.ensures.stored

@@ -1,3 +1,4 @@
+-- The differences of a register begin at the value before.
 use Rattle.std.proofs.Common.{◌-◌, get_or}
 use Rattle.bitpacking.proofs.Blocks.{differences-register}
 use Rattle.bitpacking.proofs.kinds.transformers.DeltaComputerTransformer.transform.Goals as goal

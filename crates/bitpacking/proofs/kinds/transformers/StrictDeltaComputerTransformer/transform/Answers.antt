@@ -1,3 +1,4 @@
+-- The differences of a register, each one less, begin at the value before.
 use Rattle.std.proofs.Common.{◌≡◌, ℕ, ◌-◌, ◌∙◌, ◌++◌, List, map, get_or, ap, sym}
 use Rattle.std.proofs.lemmas.List.{map-append}
 use Rattle.bitpacking_register.specs.Words.{wrapping_difference}
