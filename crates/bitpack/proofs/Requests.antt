@@ -1,5 +1,5 @@
 -- The request of a line is read from its fields, and the fields spell no other: the law `one_command`.
-use Rattle.std.proofs.Common.{◌≡◌, ◌≢◌, ℕ, ◌^◌, ◌<◌, Bool, false, List, [], ◌∷◌, bytes_eq, codes, drop, get_or, if◌then◌else◌, length, refl, sym, ap, subst, ◌∙◌, arith, ◌==◌, inl, inr, Option, Some, None, Result, Err}
+use Rattle.std.proofs.Common.{◌≡◌, ◌≢◌, ℕ, ◌^◌, ◌<◌, false, List, [], ◌∷◌, bytes_eq, codes, drop, get_or, if◌then◌else◌, length, refl, sym, ap, subst, ◌∙◌, arith, ◌==◌, inl, inr, Option, Some, None, Result, Err}
 use Rattle.std.specs.List.{AllZip}
 use Rattle.std.specs.Fmt.{decimal}
 use Rattle.std.specs.Str.Parse.{digits_value}

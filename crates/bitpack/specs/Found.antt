@@ -1,8 +1,6 @@
 -- What the steps of the parser return for a string.
 use Rattle.std.specs.Prelude.{◌≡◌, ℕ, ◌≤◌, List, ◌++◌, length, slice_index, Option, None, Some, Result, Ok, Err}
 use Rattle.std.specs.Int.{IsInRange}
-use Rattle.std.specs.Fmt.{decimal}
-use Rattle.bitpacking.specs.declared.kind.Kind.{Kind}
 use Rattle.bitpack.specs.declared.line.Command.{Command}
 use Rattle.bitpack.specs.declared.line.Command.TheVariants as commands
 use Rattle.bitpack.specs.declared.line.Line.{Line}

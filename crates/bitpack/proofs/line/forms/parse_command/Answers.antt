@@ -1,5 +1,5 @@
 -- A field that spells nothing, and a verb with other fields, give no request.
-use Rattle.std.proofs.Common.{◌≡◌, Bor, Err, Global, List, Vec, [], ◌∷◌, ap, arith, codes, get_or, length, map, refl, rules, tests, ℕ, ◌≤◌, ◌<◌, ◌∙◌}
+use Rattle.std.proofs.Common.{◌≡◌, Bor, Err, Global, List, Vec, [], ◌∷◌, ap, arith, codes, get_or, length, refl, rules, tests, ℕ, ◌≤◌, ◌<◌, ◌∙◌}
 use Rattle.std.proofs.lemmas.List.{length-map}
 use Rattle.std.proofs.lemmas.Result.{err_from_is_err_and}
 use Rattle.bitpack.specs.Grammar.{SpellsBytes, SpellsValues}
