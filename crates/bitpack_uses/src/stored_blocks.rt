@@ -65,6 +65,7 @@ pub fn read_block<P: BitPacker>(
 }
 
 /// Reads a chain of blocks and returns the number of bytes read.
+#[tactic(auto, using(crate::proofs::Sizes::size_below))]
 pub fn read_chain<P: BitPacker>(
     packer: &P,
     kind: Kind,
