@@ -1,11 +1,7 @@
-use Rattle.std.proofs.Common.{◌≤◌, ◌+◌, arith}
+use Rattle.std.proofs.Common.{◌≤◌, arith}
 use Rattle.std.proofs.lemmas.List.Elements.{All-more}
-use Rattle.bitpack_uses.proofs.Sizes.{sizes_more, sizes_within}
+use Rattle.bitpack_uses.proofs.Sizes.{sizes_more}
 use Rattle.bitpack_uses.proofs.stored_blocks.read_chain.Goals as goal
-
-pub returns-then-size-bytes-clause-reads : goal.returns-then-size-bytes-clause-reads
-returns-then-size-bytes-clause-reads g c narrow room places =
-    absurd (omega (arith, sizes_more g.P.BitPacker.lanes _ c.args.widths.now c.loop-width-test.true, sizes_within g.P.BitPacker.lanes (c.loop-width.width-index + 1) c.args.widths.now))
 
 pub loop-width-preserved : goal.loop-width-preserved
 loop-width-preserved g c = record {
