@@ -3,7 +3,7 @@
 
 Each fenced block of Rust in README.md and docs/*.md comes after a comment that names a file of the crate of callers:
     <!-- crates/bitpack_uses/src/NAME.rt -->
-The lines of the block are lines of that file, in one piece. Only the indentation of the whole block may differ.
+A fenced block of antt, the language of proofs, names one of its proofs/ in the same way. The lines of the block are lines of that file, in one piece. Only the indentation of the whole block may differ.
 The last line is 'N passed, M failed', one for each block.
 """
 import glob
@@ -13,20 +13,23 @@ import sys
 import textwrap
 
 ROOT = os.path.dirname(os.path.dirname(os.path.realpath(__file__)))
-SOURCES = "crates/bitpack_uses/src/"
+CRATE = "crates/bitpack_uses/"
+# The folder and the ending of the files that a block of each language may come from.
+SOURCES = {"rust": ("src/", ".rt"), "rs": ("src/", ".rt"), "antt": ("proofs/", ".antt")}
 FENCE = re.compile(r"^\s*(`{3,}|~{3,})\s*([^\s,{`]*)")
 COMMENT = re.compile(r"^\s*<!--\s*(\S+)\s*-->\s*$")
 
 
 def examples(lines):
-    """The blocks of Rust in a page: the number of the first fence, the last line of text before it, and the block's lines."""
+    """The examples in a page: the number of the first fence, the language, the last line of text before it, and the block."""
     fence, before, found = None, "", []
     for number, line in enumerate(lines, 1):
         mark = FENCE.match(line)
         if fence is None and mark:
             fence, block = mark.group(1), []
-            if mark.group(2).lower() in ("rust", "rs"):
-                found.append((number, before, block))
+            language = mark.group(2).lower()
+            if language in SOURCES:
+                found.append((number, language, before, block))
         elif fence is None:
             before = line if line.strip() else before
         elif mark and mark.group(1).startswith(fence) and not line.strip(" \t`~"):
@@ -41,14 +44,15 @@ def same_lines(lines):
     return textwrap.dedent("\n".join(lines)).rstrip().split("\n")
 
 
-def fault(before, block):
+def fault(language, before, block):
     """Why a block is not tested code, or None."""
     named = COMMENT.match(before)
     if not named:
         return "no comment before it names a file"
     path = os.path.normpath(named.group(1))
-    if not path.startswith(SOURCES) or not path.endswith(".rt"):
-        return f"{path} is not a file of {SOURCES}"
+    folder, ending = SOURCES[language]
+    if not path.startswith(CRATE + folder) or not path.endswith(ending):
+        return f"{path} is not a file of {CRATE}{folder}"
     if not os.path.isfile(f"{ROOT}/{path}"):
         return f"there is no file {path}"
     if not "".join(block).strip():
@@ -67,8 +71,8 @@ def main():
     for page in ["README.md"] + sorted(glob.glob("docs/*.md", root_dir=ROOT)):
         with open(f"{ROOT}/{page}", encoding="utf-8") as file:
             lines = file.read().split("\n")
-        for number, before, block in examples(lines):
-            why = fault(before, block)
+        for number, language, before, block in examples(lines):
+            why = fault(language, before, block)
             print(f"{page}:{number}: {f'FAILED: {why}' if why else 'as tested'}")
             passed, failed = passed + (not why), failed + bool(why)
     print(f"{passed} passed, {failed} failed")

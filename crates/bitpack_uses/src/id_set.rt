@@ -1,8 +1,10 @@
 //! A set of ids: built from ids in any order, packed as one text, and read from a text that may be untrusted.
 
-ghost use Rattle.std.specs.Prelude.{◌≡◌, ◌↔◌, ℕ, List, Contains, IsTrue, IfOk, IfErr};
+ghost use Rattle.std.specs.Prelude.{◌≡◌, ◌↔◌, ◌≤◌, ◌^◌, ℕ, List, Contains, IsTrue, IfOk, IsOkUnless, length};
 ghost use Rattle.std.specs.List.Sorted.{IsStrictlyIncreasing};
+ghost use Rattle.bitpack.specs.declared.list_error.ListError.TheVariants.{Memory};
 ghost use Rattle.bitpack.specs.Version1.{List1};
+ghost use Rattle.bitpack_uses.specs.declared.id_set.IdSetError.TheVariants.{Refused};
 ghost use Rattle.bitpack_uses.specs.Sets.{IsSetOf, common, has};
 
 use bitpack::laws::one_text;
@@ -17,7 +19,7 @@ use std::marker::Model;
 #[derive(Clone, Copy, PartialEq, Eq, Debug)]
 pub enum IdSetError {
     /// It is not a packed list, or memory ran out.
-    List(ListError),
+    Refused(ListError),
     /// It is a list of another kind, or not in order.
     NotASet,
 }
@@ -25,7 +27,7 @@ pub enum IdSetError {
 impl fmt::Display for IdSetError {
     fn fmt<W: fmt::Write>(&self, f: &mut fmt::Formatter<W>) -> fmt::Result {
         match self {
-            IdSetError::List(error) => write!(f, "{error}"),
+            IdSetError::Refused(error) => write!(f, "{error}"),
             IdSetError::NotASet => write!(f, "the list is not a set"),
         }
     }
@@ -34,20 +36,26 @@ impl fmt::Display for IdSetError {
 impl Error for IdSetError {}
 
 impl From<ListError> for IdSetError {
+    ghost from_gives = { λ error e. e ≡ Refused error };
+
     fn from(error: ListError) -> IdSetError {
-        IdSetError::List(error)
+        IdSetError::Refused(error)
     }
 }
 
 impl From<AllocError> for IdSetError {
+    ghost from_gives = { λ _ e. e ≡ Refused Memory };
+
     fn from(_error: AllocError) -> IdSetError {
-        IdSetError::List(ListError::Memory)
+        IdSetError::Refused(ListError::Memory)
     }
 }
 
 impl<T: Drop> From<AllocFailed<T>> for IdSetError {
+    ghost from_gives = { λ _ e. e ≡ Refused Memory };
+
     fn from(_error: AllocFailed<T>) -> IdSetError {
-        IdSetError::List(ListError::Memory)
+        IdSetError::Refused(ListError::Memory)
     }
 }
 
@@ -68,7 +76,8 @@ impl Model for IdSet {
 impl IdSet {
     /// The set of these ids, which may be in any order and may repeat.
     pub fn new(alloc: Global, ids: &[u32]) -> Result<IdSet, IdSetError>
-        ensures { IfOk result (λ set. IsSetOf ids.now set) }
+        ensures set { IfOk result (λ set. IsSetOf ids.now set) }
+        ensures memory { IsOkUnless result (Refused Memory) }
     {
         let mut ids = Vec::from_slice(alloc, ids)?;
         ids.sort_unstable();
@@ -86,7 +95,8 @@ impl IdSet {
 
     /// Packs the set.
     pub fn encode<P: BitPacker>(&self, alloc: Global, packer: &P) -> Result<Vec<u8>, IdSetError>
-        ensures { IfOk result (λ text. List1 P.lanes ListKind.StrictlySorted self.now text.items) }
+        ensures text { IfOk result (λ text. List1 P.lanes ListKind.StrictlySorted self.now text.items) }
+        ensures memory { length self.now ≤ 2 ^ 28 → IsOkUnless result (Refused Memory) }
     {
         let mut text = Vec::new(alloc);
         list::encode(packer, ListKind::StrictlySorted, &self.ids, &mut text)?;
@@ -107,7 +117,8 @@ impl IdSet {
 
     /// The ids that both sets have.
     pub fn and(&self, alloc: Global, other: &IdSet) -> Result<IdSet, IdSetError>
-        ensures { IfOk result (λ both. both ≡ common self.now other.now) }
+        ensures both { IfOk result (λ both. both ≡ common self.now other.now) }
+        ensures memory { IsOkUnless result (Refused Memory) }
     {
         let ids = self
             .ids

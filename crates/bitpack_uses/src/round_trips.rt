@@ -1,6 +1,10 @@
 //! What was packed is read back, for every packer.
 
-ghost use Rattle.std.specs.Prelude.{◌≡◌, ◌*◌, ◌≤◌, length, IfOk};
+ghost use Rattle.std.specs.Prelude.{◌≡◌, ◌*◌, ◌≤◌, length, take, IfOk};
+ghost use Rattle.bitpacking.specs.declared.kind.Kind.{Kind};
+ghost use Rattle.bitpacking.specs.Calls.{IsPacked};
+ghost use Rattle.bitpacking.specs.Width.{IsWidth};
+ghost use Rattle.bitpack.specs.Chains.{Chained};
 
 use bitpack::chain::{pack_all, unpack_all};
 use bitpack::laws::{chains_read_back, one_text};
@@ -9,23 +13,20 @@ use bitpacking::laws::round_trips;
 use bitpacking::{BitPacker, Kind};
 use std::alloc::Global;
 
-/// Packs a plain block into `bytes` and unpacks it into `unpacked`. Returns the number of bytes.
-pub fn block<P: BitPacker>(
-    packer: &P,
-    values: &[u32],
-    bytes: &mut [u8],
-    unpacked: &mut [u32],
-) -> usize
+/// Packs a plain block into `bytes` and unpacks it into `unpacked`. Returns the width.
+pub fn block<P: BitPacker>(packer: &P, values: &[u32], bytes: &mut [u8], unpacked: &mut [u32]) -> u8
     requires block { length values.now ≡ P.BLOCK_LEN }
     requires room { 4 * P.BLOCK_LEN ≤ length bytes.old }
     requires places { length unpacked.old ≡ P.BLOCK_LEN }
+    ensures width { IsWidth Kind.Plain values.now result }
+    ensures packed { IsPacked P.lanes result Kind.Plain values.now bytes.old bytes.new }
     ensures same { unpacked.new ≡ values.now }
 {
     round_trips();
     let width = packer.num_bits(values);
-    let size = packer.compress(values, bytes, width);
+    packer.compress(values, bytes, width);
     packer.decompress(bytes, unpacked, width);
-    size
+    width
 }
 
 /// Packs blocks as a chain and unpacks them. Returns the number of bytes.
@@ -40,6 +41,7 @@ pub fn chain<P: BitPacker>(
     requires blocks { length values.now ≡ P.BLOCK_LEN * length widths.old }
     requires room { 4 * length values.now ≤ length bytes.old }
     requires places { length unpacked.old ≡ length values.now }
+    ensures packed { Chained P.lanes kind values.now widths.new (take result bytes.new) }
     ensures same { unpacked.new ≡ values.now }
 {
     chains_read_back();

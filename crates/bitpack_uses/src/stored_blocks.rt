@@ -1,9 +1,10 @@
 //! Blocks whose widths and lengths come from outside: each is tested before the call that asks for it.
 
-ghost use Rattle.std.specs.Prelude.{◌≡◌, ◌<◌, ◌≤◌, ◌*◌, All, length, take, sum, Ok, OnOk, OnErr};
-ghost use Rattle.bitpacking.specs.Calls.{CanUnpack, IsUnpacked};
+ghost use Rattle.std.specs.Prelude.{◌≡◌, ◌*◌, [], ◌∷◌, length, take, sum, OnOk, OnErr, IfOk, IfErr};
+ghost use Rattle.bitpacking.specs.Calls.{IsUnpacked};
 ghost use Rattle.bitpacking.specs.Layout.{size};
 ghost use Rattle.bitpack.specs.Chains.{Loose};
+ghost use Rattle.bitpack_uses.specs.Stored.{IsRefused};
 
 use bitpack::chain::unpack_all;
 use bitpacking::{BitPacker, Kind};
@@ -41,9 +42,9 @@ pub fn read_block<P: BitPacker>(
     bytes: &[u8],
     values: &mut [u32],
 ) -> Result<usize, StoredError>
+    ensures size { IfOk result (λ read. read ≡ size P.lanes width) }
     ensures ok { OnOk result (IsUnpacked P.lanes width kind bytes.now values.old values.new) }
-    ensures reads { CanUnpack P.lanes width bytes.now values.old → result ≡ Ok (size P.lanes width) }
-    ensures wide { 32 < width → result ≡ Err (StoredError.WideWidth width) }
+    ensures err { IfErr result (IsRefused P.lanes (width ∷ []) bytes.now values.old) }
     ensures unchanged { OnErr result (values.new ≡ values.old) }
 {
     if width > 32 {
@@ -65,6 +66,7 @@ pub fn read_block<P: BitPacker>(
 }
 
 /// Reads a chain of blocks and returns the number of bytes read.
+#[tactic(auto, using(crate::proofs::Sizes::size_below, crate::proofs::Sizes::sizes_more, crate::proofs::Sizes::sizes_within, crate::proofs::Sizes::room_for))]
 pub fn read_chain<P: BitPacker>(
     packer: &P,
     kind: Kind,
@@ -72,10 +74,10 @@ pub fn read_chain<P: BitPacker>(
     bytes: &[u8],
     values: &mut [u32],
 ) -> Result<usize, StoredError>
+    ensures size { IfOk result (λ read. read ≡ 4 * P.lanes * sum widths.now) }
     ensures ok { OnOk result (Loose P.lanes kind (take (P.BLOCK_LEN * length widths.now) values.new) widths.now
         (take (4 * P.lanes * sum widths.now) bytes.now)) }
-    ensures reads { All (λ width. width ≤ 32) widths.now → 4 * P.lanes * sum widths.now ≤ length bytes.now
-        → P.BLOCK_LEN * length widths.now ≤ length values.old → result ≡ Ok (4 * P.lanes * sum widths.now) }
+    ensures err { IfErr result (IsRefused P.lanes widths.now bytes.now values.old) }
     ensures unchanged { OnErr result (values.new ≡ values.old) }
 {
     let mut size = 0;

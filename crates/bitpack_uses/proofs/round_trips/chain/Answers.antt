@@ -3,15 +3,13 @@ use Rattle.std.proofs.lemmas.List.{take_all}
 use Rattle.std.proofs.lemmas.List.Elements.{All-from_get_or}
 use Rattle.bitpack_uses.proofs.round_trips.chain.Goals as goal
 
-pub returns : goal.returns
-returns g c =
+pub returns-clause-same : goal.returns-clause-same
+returns-clause-same g c =
     let words = All-from_get_or (λ v. v < 2 ^ 32) c.args.values.now 0 (λ k h. (c.type_inv.values k).fits) in
     let others = All-from_get_or (λ v. v < 2 ^ 32) c.unpack_all.new.values 0 (λ k h. (c.type_inv.unpacked k).fits) in
     let blocks = ap (λ n. g.P.BitPacker.BLOCK_LEN * n) c.pack_all-size.auto.widths in
     let values = take_all (g.P.BitPacker.BLOCK_LEN * length c.pack_all-size.new.widths) c.unpack_all.new.values (omega (arith, blocks)) in
     let bytes = take_all c.unpack_all.result (take c.pack_all-size.result c.pack_all-size.new.out)
     (omega (arith, length-take-le c.pack_all-size.result c.pack_all-size.new.out)) in
-    record {
-      same = c.chains_read_back.ensures g.P.BitPacker.lanes c.args.kind _ _ _ _ g.met.P.BitPacker.some_lanes words others
-          c.pack_all-size.ensures.chain (rw (values, bytes) at c.unpack_all.ensures.chain);
-    }
+    c.chains_read_back.ensures g.P.BitPacker.lanes c.args.kind _ _ _ _ g.met.P.BitPacker.some_lanes words others
+    c.pack_all-size.ensures.chain (rw (values, bytes) at c.unpack_all.ensures.chain)

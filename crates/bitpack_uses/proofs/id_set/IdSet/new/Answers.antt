@@ -7,8 +7,8 @@ use Rattle.bitpack_uses.proofs.id_set.IdSet.new.Goals as goal
 pub invariant_of-result : goal.invariant_of-result
 invariant_of-result c = rw (dedup_is _ _ _ c.dedup.ensures.filtered) (IsStrictlyIncreasing-dedup _ c.sort_unstable.ensures.sorted)
 
-pub returns : goal.returns
-returns c =
+pub returns-clause-set : goal.returns-clause-set
+returns-clause-set c =
     let is = dedup_is _ _ _ c.dedup.ensures.filtered in
     let moved = rw c.in_ok-ids.ensures.items at c.sort_unstable.ensures.permutation in
     record {
