@@ -1,3 +1,4 @@
+-- Lemmas of the callers.
 pub mod Having
 pub mod Searching
 pub mod Sizes

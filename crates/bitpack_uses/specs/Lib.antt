@@ -1,2 +1,3 @@
+-- The definitions of the callers.
 pub mod Sets
 pub mod Stored

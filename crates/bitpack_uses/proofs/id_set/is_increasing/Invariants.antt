@@ -1,3 +1,4 @@
+-- The values so far increase.
 use Rattle.std.proofs.Common.{◌+◌, ◌<◌, ℕ, slice_index}
 use Rattle.bitpack_uses.proofs.id_set.is_increasing.Given as goal
 

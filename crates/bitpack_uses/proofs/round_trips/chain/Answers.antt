@@ -1,3 +1,4 @@
+-- The law `chains_read_back`, with what the calls ensure.
 use Rattle.std.proofs.Common.{◌*◌, ◌^◌, ◌<◌, ap, length, take, arith, length-take-le}
 use Rattle.std.proofs.lemmas.List.{take_all}
 use Rattle.std.proofs.lemmas.List.Elements.{All-from_get_or}

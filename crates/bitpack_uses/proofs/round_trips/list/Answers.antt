@@ -1,3 +1,4 @@
+-- The law `one_text`, with what the calls ensure.
 use Rattle.std.proofs.Common.{◌≡◌}
 use Rattle.bitpack_uses.proofs.round_trips.list.Goals as goal
 

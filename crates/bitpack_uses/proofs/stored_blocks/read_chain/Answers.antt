@@ -1,3 +1,4 @@
+-- The bytes of the blocks so far are added up.
 use Rattle.std.proofs.Common.{◌≤◌, arith}
 use Rattle.std.proofs.lemmas.List.Elements.{All-more}
 use Rattle.bitpack_uses.proofs.Sizes.{sizes_more}

@@ -1,3 +1,4 @@
+-- The widths so far are at most 32, and their bytes are there.
 use Rattle.std.proofs.Common.{◌≡◌, ◌*◌, ◌≤◌, All, length, sum, take}
 use Rattle.bitpack_uses.proofs.stored_blocks.read_chain.Given as goal
 

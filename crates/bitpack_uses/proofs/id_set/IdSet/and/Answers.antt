@@ -1,3 +1,4 @@
+-- The ids kept are in order.
 use Rattle.std.proofs.Common.{◌≡◌, rules}
 use Rattle.std.proofs.lemmas.List.Kept.{IsStrictlyIncreasing-filter}
 use Rattle.bitpack_uses.specs.Sets.{common}

@@ -1,3 +1,4 @@
+-- A search in the ids in order finds an id that is among them.
 use Rattle.std.proofs.Common.{sym}
 use Rattle.bitpack_uses.proofs.Having.{has_is}
 use Rattle.bitpack_uses.proofs.Searching.{is_found}
