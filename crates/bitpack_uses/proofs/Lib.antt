@@ -1,4 +1,6 @@
 -- Lemmas of the callers.
 pub mod Having
+pub mod Once
+pub mod Rising
 pub mod Searching
 pub mod Sizes
