@@ -1,5 +1,5 @@
 -- A block of the test has codes that fit its width.
-use Rattle.std.proofs.Common.{◌≤◌, ◌∙◌, rules, arith}
+use Rattle.std.proofs.Common.{◌≤◌, rules, arith}
 use Rattle.std.proofs.lemmas.Nat.{mul-le}
 use Rattle.bitpacking.specs.Codes.{codes}
 use Rattle.bitpack.proofs.tests.blocks.packs_to.Goals as goal
