@@ -23,7 +23,7 @@ ghost use Rattle.bitpacking.specs.Laws.{
 };
 
 /// Each bit of the bytes of a block is the place of exactly one bit of its codes. Codes that fit a width have exactly one
-/// list of bytes that lays them out, and as many bytes as a block has exactly one list of codes.
+/// list of bytes as their layout, and as many bytes as a block has are the layout of exactly one list of codes.
 pub fn one_layout()
     ensures places { OneLayoutPlaces }
     ensures bytes { OneLayoutBytes }
