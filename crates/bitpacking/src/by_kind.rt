@@ -1,6 +1,8 @@
 //! The three counted calls at any register, by the kind of the block: what its codes are, and the value before the first.
 
 ghost use Rattle.std.specs.Prelude.{◌≡◌, ◌+◌, ◌*◌, ◌≤◌, length};
+ghost use Rattle.bitpacking.specs.declared.kind.Kind.TheVariants.{StrictlySorted};
+ghost use Rattle.bitpacking.specs.Codes.{start};
 ghost use Rattle.bitpacking.specs.Width.{IsWidth};
 ghost use Rattle.bitpacking.specs.Layout.{size};
 ghost use Rattle.bitpacking.specs.Calls.{CanPack, CanUnpack, IsPacked, IsUnpacked, MovesToMeasure, MovesToPack};
@@ -34,7 +36,7 @@ pub(crate) fn pack_kind<K: CodeKernels, R: Register>(
             K::pack_codes::<R, DeltaComputer<R>>(initial, decompressed, compressed, num_bits, steps)
         }
         Kind::StrictlySorted(initial) => {
-            let start = initial.unwrap_or(u32::MAX);
+            let start = strict_start(initial);
             K::pack_codes::<R, StrictDeltaComputer<R>>(
                 start,
                 decompressed,
@@ -72,7 +74,7 @@ pub(crate) fn unpack_kind<K: CodeKernels, R: Register>(
             )
         }
         Kind::StrictlySorted(initial) => {
-            let start = initial.unwrap_or(u32::MAX);
+            let start = strict_start(initial);
             K::unpack_codes::<R, StrictDeltaIntegrate<R>>(
                 start,
                 compressed,
@@ -97,7 +99,15 @@ pub(crate) fn width_kind<R: Register>(kind: Kind, decompressed: &[u32], steps: &
         Kind::Plain => width::<R, NoDelta>(&source, 0, steps),
         Kind::Sorted(initial) => width::<R, DeltaComputer<R>>(&source, initial, steps),
         Kind::StrictlySorted(initial) => {
-            width::<R, StrictDeltaComputer<R>>(&source, initial.unwrap_or(u32::MAX), steps)
+            width::<R, StrictDeltaComputer<R>>(&source, strict_start(initial), steps)
         }
     }
+}
+
+/// The value before a strictly sorted block: `None` means `u32::MAX`.
+#[inline(always)]
+fn strict_start(initial: Option<u32>) -> u32
+    ensures { result ≡ start (StrictlySorted initial) }
+{
+    initial.unwrap_or(u32::MAX)
 }

@@ -27,10 +27,10 @@ returns-in-StrictlySorted-clause-unpacked g c =
     let unpacked = c.unpack_codes-in-StrictlySorted.ensures.unpacked in
     let found = unpacked.block in
     let small : start (StrictlySorted c.in-StrictlySorted.initial) < 2 ^ 32 =
-    rw c.unwrap_or-start.ensures at c.unwrap_or-start.type_inv in
+    rw c.strict_start-start.ensures at c.strict_start-start.type_inv in
     rw c.in-StrictlySorted.is (record {
       block = Holds-block_of lanes width (StrictlySorted c.in-StrictlySorted.initial) found.0
           (take (32 * lanes) c.unpack_codes-in-StrictlySorted.new.decompressed) (take (size lanes width) c.args.compressed.now)
-          c.requires.narrow small found.1 (rw c.unwrap_or-start.ensures at found.2);
+          c.requires.narrow small found.1 (rw c.strict_start-start.ensures at found.2);
       rest = unpacked.rest;
     })

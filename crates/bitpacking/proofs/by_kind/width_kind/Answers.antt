@@ -9,4 +9,4 @@ width-requires-in-Sorted-clause-words g c =
 
 pub width-requires-in-StrictlySorted-clause-words : goal.width-requires-in-StrictlySorted-clause-words
 width-requires-in-StrictlySorted-clause-words g c =
-    rw c.new-source.ensures.words (AreWords-less (differences c.unwrap_or.result c.args.decompressed.now))
+    rw c.new-source.ensures.words (AreWords-less (differences c.strict_start.result c.args.decompressed.now))
