@@ -27,7 +27,7 @@ impl Builder {
         }
     }
 
-    /// Takes the words of the next document. The first is document 0.
+    /// Adds the words of the next document. Documents are numbered from 0 in the order in which they are added.
     pub fn add(&mut self, alloc: Global, text: &str) -> Result<(), AllocError> {
         for word in text.split_whitespace() {
             let word = String::from_str(alloc, word)?;
