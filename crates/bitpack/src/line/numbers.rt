@@ -11,6 +11,9 @@ const LEAST_COUNT: u32 = 1;
 
 const MOST_COUNT: u32 = LINE_LIMIT as u32;
 
+/// The greatest number of a width field.
+const MOST_SMALL: u32 = 255;
+
 /// Whether the string begins like a number. `parse` accepts `+1` and `01` too.
 fn begins_number(string: &str) -> bool
     ensures { IsTrue result ↔ BeginsNumber string.now }
@@ -26,11 +29,11 @@ fn begins_number(string: &str) -> bool
 pub(crate) fn parse_width(string: &str) -> Option<u8>
     ensures { Finds (SpellsNumber IsSmall string.now) result }
 {
-    if begins_number(string) {
-        string.parse().ok()
-    } else {
-        None
+    let number = parse_word(string)?;
+    if number > MOST_SMALL {
+        return None;
     }
+    Some(number as u8)
 }
 
 /// A number of at most `u32::MAX`.

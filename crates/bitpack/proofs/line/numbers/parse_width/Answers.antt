@@ -1,11 +1,10 @@
--- What `parse` returns is the number that the string spells.
-use Rattle.std.proofs.Common.{◌^◌, arith, rules}
-use Rattle.bitpack.proofs.Numerals.{not_plain, parsed}
+-- A number above those of widths is no width.
+use Rattle.std.proofs.Common.{◌≡◌, ◌∙◌, arith, sym}
+use Rattle.std.proofs.lemmas.Fmt.{decimal_injective}
 use Rattle.bitpack.proofs.line.numbers.parse_width.Goals as goal
 
-pub returns-then-begins_number : goal.returns-then-begins_number
-returns-then-begins_number c =
-    rw c.ok.ensures.value (parsed 8 c.args.string.now c.parse.result (omega arith) c.parse.ensures.value.0 (c.begins_number.ensures.0 c.if-begins_number.true))
-
-pub returns-else-begins_number : goal.returns-else-begins_number
-returns-else-begins_number c = not_plain (2 ^ 8) c.args.string.now (omega arith) (λ plain. search rules)
+pub returns-then-number-gt-MOST_SMALL : goal.returns-then-number-gt-MOST_SMALL
+returns-then-number-gt-MOST_SMALL c n (spelled, small) =
+    let (string_is, word) = c.in_ok-number.ensures in
+    let same : c.in_ok-number.number ≡ n = decimal_injective _ n (omega arith) (omega arith) (sym string_is ∙ spelled) in
+    omega arith
