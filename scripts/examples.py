@@ -1,9 +1,12 @@
 #!/usr/bin/env python3
 """Compares the examples of the pages with the proved and tested code that they come from.
 
-Each fenced block of Rust in README.md and docs/*.md comes after a comment that names a file of the crate of callers:
+Each fenced block of Rust in README.md and docs/*.md comes after a comment that names a file of the crate of callers, or a program of
+the Rust crate:
     <!-- crates/bitpack_uses/src/NAME.rt -->
-A fenced block of antt, the language of proofs, names one of its proofs/ in the same way. The lines of the block are lines of that file, in one piece. Only the indentation of the whole block may differ.
+    <!-- rust/examples/NAME.rs -->
+A fenced block of antt, the language of proofs, names one of the crate's proofs/ in the same way, and one of C a program of examples/.
+The lines of the block are lines of that file, in one piece. Only the indentation of the whole block may differ.
 The last line is 'N passed, M failed', one for each block.
 """
 import glob
@@ -13,9 +16,15 @@ import sys
 import textwrap
 
 ROOT = os.path.dirname(os.path.dirname(os.path.realpath(__file__)))
-CRATE = "crates/bitpack_uses/"
-# The folder and the ending of the files that a block of each language may come from.
-SOURCES = {"rust": ("src/", ".rt"), "rs": ("src/", ".rt"), "antt": ("proofs/", ".antt")}
+RATTLE = ("crates/bitpack_uses/src/", ".rt")
+RUST = ("rust/examples/", ".rs")
+# The folders and the endings of the files that a block of each language may come from.
+SOURCES = {
+    "rust": [RATTLE, RUST],
+    "rs": [RATTLE, RUST],
+    "antt": [("crates/bitpack_uses/proofs/", ".antt")],
+    "c": [("examples/", ".c")],
+}
 FENCE = re.compile(r"^\s*(`{3,}|~{3,})\s*([^\s,{`]*)")
 COMMENT = re.compile(r"^\s*<!--\s*(\S+)\s*-->\s*$")
 
@@ -50,9 +59,9 @@ def fault(language, before, block):
     if not named:
         return "no comment before it names a file"
     path = os.path.normpath(named.group(1))
-    folder, ending = SOURCES[language]
-    if not path.startswith(CRATE + folder) or not path.endswith(ending):
-        return f"{path} is not a file of {CRATE}{folder}"
+    folders = SOURCES[language]
+    if not any(path.startswith(folder) and path.endswith(ending) for folder, ending in folders):
+        return f"{path} is not a file of {' or '.join(folder for folder, _ in folders)}"
     if not os.path.isfile(f"{ROOT}/{path}"):
         return f"there is no file {path}"
     if not "".join(block).strip():

@@ -63,12 +63,13 @@ def page_checks(shown):
         name = f"block {row['packer']} {row['kind']} {row['initial']} {row['width']}"
         yield f"{name}, codes", codes, [x >> 32 - width for x in drawn[: 32 * lanes]]
         yield f"{name}, values", shown["block_values"](kind, start, codes), numbers(row["values"])
-    for row in table("lists.tsv"):
-        right = KINDS.index(row["kind"]), numbers(row["values"])
-        yield f"list {row['bytes'][:80]}", shown["decode"](int(row["lanes"]), octets(row["bytes"])), right
-    for row in table("refused.tsv"):
-        found = fault_of(shown["decode"], int(row["lanes"]), octets(row["bytes"]))
-        yield f"refused {row['bytes'][:80]}", found, row["fault"]
+    for version, decode in [("", shown["decode"]), ("2", shown["decode2"])]:
+        for row in table(f"lists{version}.tsv"):
+            right = KINDS.index(row["kind"]), numbers(row["values"])
+            yield f"list{version} {row['bytes'][:80]}", decode(int(row["lanes"]), octets(row["bytes"])), right
+        for row in table(f"refused{version}.tsv"):
+            found = fault_of(decode, int(row["lanes"]), octets(row["bytes"]))
+            yield f"refused{version} {row['bytes'][:80]}", found, row["fault"]
 
 
 def lines():
@@ -79,13 +80,17 @@ def lines():
             yield f"width {packer} {kind} {row['values']}", row["width"]
             yield f"pack {packer} {kind} {row['width']} {row['values']}", row["bytes"]
             yield f"unpack {packer} {kind} {row['width']} {row['bytes']}", row["values"]
-    for row in table("lists.tsv"):
-        for packer in PACKERS[row["lanes"]]:
-            yield f"enc {packer} {row['kind']} {row['values']}", row["bytes"]
-            yield f"dec {packer} {row['bytes']}", f"{row['kind']} {row['values']}"
-    for row in table("refused.tsv"):
-        for packer in PACKERS[row["lanes"]]:
-            yield f"dec {packer} {row['bytes']}", f"refused {20 + int(row['number'])}"
+    for version in ["", "2"]:
+        for row in table(f"lists{version}.tsv"):
+            for packer in PACKERS[row["lanes"]]:
+                if version == "":
+                    yield f"enc {packer} {row['kind']} {row['values']}", row["bytes"]
+                yield f"dec {packer} {row['bytes']}", f"{row['kind']} {row['values']}"
+        for row in table(f"refused{version}.tsv"):
+            # dec reads bytes that begin with 2 as version 2, and all others as version 1
+            if row["bytes"].startswith("02") == (version == "2"):
+                for packer in PACKERS[row["lanes"]]:
+                    yield f"dec {packer} {row['bytes']}", f"refused {20 + int(row['number'])}"
 
 
 def program_checks(program):

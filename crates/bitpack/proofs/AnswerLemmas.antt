@@ -7,7 +7,7 @@ use Rattle.std.proofs.lemmas.Bool.{cases_eq, cases_lt}
 use Rattle.std.proofs.lemmas.List.Elements.{All-append, All-cons, All-head, All-nil, All-replicate, All-tail}
 use Rattle.bitpacking.specs.declared.kind.Kind.{Kind}
 use Rattle.bitpacking.specs.Bits.{AreBytes}
-use Rattle.bitpacking.specs.Codes.{AreWords, codes}
+use Rattle.bitpacking.specs.Codes.{AreWords, codes, values_of}
 use Rattle.bitpacking.specs.Width.{Fits}
 use Rattle.bitpacking.specs.Layout.{Layout, codes_of, size}
 use Rattle.bitpacking.proofs.ForCallers.{as_many_codes, codes_are_words, fits_greater, one_block, one_layout_bytes, one_layout_codes, one_least_width}
@@ -15,14 +15,16 @@ use Rattle.bitpack.specs.declared.line.PackerName.{PackerName}
 use Rattle.bitpack.specs.declared.line.PackerName.TheVariants.{EightLanes, EightScalar, FourLanes, FourScalar, OneLane}
 use Rattle.bitpack.specs.declared.line.values.Item.{Item}
 use Rattle.bitpack.specs.declared.line.values.Item.TheVariants.{Once, Times}
-use Rattle.bitpack.specs.Grammar.{Argument, Asks, Dec, Enc, IsItem, IsKind, Pack, Request, Size, Spells, SpellsArgument, SpellsValues, TheseBytes, TheseValues, ThisKind, ThisListKind, ThisWidth, Unpack, Width, arguments, item_values}
-use Rattle.bitpack.specs.Answers.{IsAnswer, IsPackAnswer, IsReplied, IsReply, IsUnpackAnswer, IsWidthAnswer, Passed, Refused, RefusedIf, SpellsNone, printed_bytes, lanes_of, refused, printed_values}
+use Rattle.bitpack.specs.Grammar.{Argument, Asks, Dec, Enc, IsItem, IsKind, Pack, Request, Seek, Size, Spells, SpellsArgument, SpellsValues, TheseBytes, TheseValues, ThisKind, ThisListKind, ThisWidth, ThisWord, Unpack, Upgrade, Width, arguments, item_values}
+use Rattle.bitpack.specs.Answers.{IsAnswer, IsPackAnswer, IsReplied, IsReply, IsUnpackAnswer, IsWidthAnswer, Passed, Refused, RefusedIf, SpellsNone, printed_bytes, lanes_of, refused, printed_values, list_fault}
+use Rattle.bitpack_lists.specs.Version2.{fault2}
 use Rattle.bitpack.specs.Laws.{OneAnswer}
-use Rattle.bitpack.specs.Version1.{fault1}
 use Rattle.bitpack.specs.Lines.{kept_part}
+use Rattle.bitpack_lists.specs.Version1.{fault1}
 use Rattle.bitpack.proofs.Finding.{Decided, Search}
 use Rattle.bitpack.proofs.Requests.{find_line, one_command}
-use Rattle.bitpack.proofs.ListAnswers.{AreBytes-spelled, decoded_of, encoded_of, same_decoded, same_encoded}
+use Rattle.bitpack.proofs.ListAnswers.{AreBytes-spelled, decoded_of, encoded_of, same_decoded, same_encoded, same_sought, sought_of}
+use Rattle.bitpack.proofs.UpgradeAnswers.{same_upgraded, upgraded_of}
 
 -- ---- a refusal, or a reply
 
@@ -53,6 +55,7 @@ same_from m n not_other = elim (cases_eq m n) [ inl same ↦ same | inr other �
 -- what an argument holds are words or bytes, and not too many for a list
 abbrev IsInRange : Argument → Type 0
 IsInRange (ThisWidth width) = Unit {0}
+IsInRange (ThisWord word) = Unit {0}
 IsInRange (ThisKind kind) = IsKind kind
 IsInRange (ThisListKind kind) = Unit {0}
 IsInRange (TheseValues values) = AreWords values × (length values ≤ 2 ^ 28)
@@ -75,6 +78,7 @@ words_of answer values spelled = subst AreWords (sym spelled.values_are) (words_
 
 argument_in_range : (answer : List ℕ) (argument : Argument) → SpellsArgument answer argument → IsInRange argument
 argument_in_range answer (ThisWidth width) spelled = tt
+argument_in_range answer (ThisWord word) spelled = tt
 argument_in_range answer (ThisKind kind) (is, word) = word
 argument_in_range answer (ThisListKind kind) spelled = tt
 argument_in_range answer (TheseValues values) spelled = (words_of answer values spelled, omega (arith, spelled.few))
@@ -150,10 +154,12 @@ module _ (lanes : ℕ) (some : 0 < lanes) where
       let words : List ℕ = codes_of lanes width bytes in
       let (layout, one) = one_layout_codes lanes width bytes (same_from (length bytes) (size lanes width) room) in
       let are_words = words_from_fits words width (narrow_width width narrow) layout.fits in
-      let (block, are_values, codes_are, only_block) = one_block kind words is_kind are_words in
-      (printed_values block, record { block = block; are_words = are_values; holds = subst (λ c. Layout lanes width c bytes) (sym codes_are) layout; answer_is = refl })))
+      let (are_values, codes_are, only_block) = one_block kind words is_kind are_words in
+      (printed_values (values_of kind words), record { block = values_of kind words; are_words = are_values; holds = subst (λ c. Layout lanes width c bytes) (sym codes_are) layout; answer_is = refl })))
   reply_of few (Enc kind values) (known, ((words, short), end)) = encoded_of lanes kind values some few words short
   reply_of few (Dec bytes) (are_bytes, end) = decoded_of lanes bytes some are_bytes
+  reply_of few (Seek target bytes) (word, (are_bytes, end)) = sought_of lanes target bytes some are_bytes
+  reply_of few (Upgrade bytes) (are_bytes, end) = upgraded_of lanes bytes some few are_bytes
 
   same_packed : (width : ℕ) (kind : Kind) (values a b : List ℕ) → IsPackAnswer lanes width kind values a → IsPackAnswer lanes width kind values b → a ≡ b
   same_packed width kind values a b first second =
@@ -165,7 +171,7 @@ module _ (lanes : ℕ) (some : 0 < lanes) where
       let words : List ℕ = codes_of lanes width bytes in
       let (layout, one) = one_layout_codes lanes width bytes first.holds.byte_count in
       let are_words = words_from_fits words width narrow layout.fits in
-      let (block, are_values, codes_are, only_block) = one_block kind words is_kind are_words in
+      let (are_values, codes_are, only_block) = one_block kind words is_kind are_words in
       first.answer_is ∙ ap printed_values (only_block first.block first.are_words (one (codes kind first.block) first.holds) ∙ sym (only_block second.block second.are_words (one (codes kind second.block) second.holds))) ∙ sym second.answer_is
 
   same_width : (kind : Kind) (values a b : List ℕ) → AreWords values → IsWidthAnswer kind values a → IsWidthAnswer kind values b → a ≡ b
@@ -181,7 +187,9 @@ module _ (lanes : ℕ) (some : 0 < lanes) where
   same_reply (Unpack kind width bytes) (is_kind, rest) =
       same_refusal _ 3 _ (λ narrow. same_refusal _ 5 _ (λ room a b. same_unpacked width kind bytes a b (narrow_width width narrow) is_kind))
   same_reply (Enc kind values) range = λ a b. same_encoded lanes kind values a b some
-  same_reply (Dec bytes) range = λ a b. same_decoded lanes bytes (fault1 lanes bytes) a b some
+  same_reply (Dec bytes) (small, end) = λ a b. same_decoded lanes bytes (list_fault lanes bytes) a b some small
+  same_reply (Seek target bytes) (word, (small, end)) = λ a b. same_sought lanes target bytes (fault2 lanes bytes) a b some small
+  same_reply (Upgrade bytes) range = λ a b. same_upgraded lanes bytes (fault1 lanes bytes) a b some
 
 -- ---- answers
 

@@ -1,5 +1,5 @@
 -- Printed values, one value at a time.
-use Rattle.std.proofs.Common.{◌≡◌, ℕ, List, [], ◌∷◌, ◌++◌, map, refl, sym, ap, ◌∙◌, append_assoc}
+use Rattle.std.proofs.Common.{◌≡◌, ℕ, List, [], ◌∷◌, ◌++◌, map, refl, sym, ap, ◌∙◌, append_assoc, append-nil}
 use Rattle.std.specs.List.{join_with_byte}
 use Rattle.std.specs.Fmt.{decimal}
 use Rattle.std.proofs.lemmas.List.{map-append}
@@ -23,3 +23,13 @@ texts-push values last = ap (map item_string) (map-append Once values (last ∷ 
 pub printed_values-push : (value : ℕ) (values : List ℕ) (last : ℕ) → printed_values (value ∷ (values ++ last ∷ [])) ≡ printed_values (value ∷ values) ++ 44 ∷ decimal last
 printed_values-push value values last =
     ap (λ t. join_with_byte 44 (decimal value ∷ t)) (texts-push values last) ∙ join-push 44 (decimal value) (texts_of values) (decimal last)
+
+-- the first values are printed first
+pub printed_values-begin : (value : ℕ) (values more : List ℕ) → (rest : List ℕ) × (printed_values (value ∷ (values ++ more)) ≡ printed_values (value ∷ values) ++ rest)
+printed_values-begin value values [] = ([], ap (λ l. printed_values (value ∷ l)) (append-nil values) ∙ sym (append-nil (printed_values (value ∷ values))))
+printed_values-begin value values (next ∷ more) =
+    let (rest, split) = printed_values-begin value (values ++ next ∷ []) more in (
+      (44 ∷ decimal next) ++ rest,
+      ap (λ l. printed_values (value ∷ l)) (sym (append_assoc values (next ∷ []) more)) ∙ split
+          ∙ ap (λ l. l ++ rest) (printed_values-push value values next) ∙ append_assoc (printed_values (value ∷ values)) (44 ∷ decimal next) rest,
+    )

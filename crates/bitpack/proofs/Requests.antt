@@ -14,9 +14,9 @@ use Rattle.bitpack.specs.declared.line.Command.{Command}
 use Rattle.bitpack.specs.declared.line.error.ParseError.{ParseError}
 use Rattle.bitpack.specs.declared.line.PackerName.{PackerName}
 use Rattle.bitpack.specs.declared.line.PackerName.TheVariants.{EightLanes, EightScalar, FourLanes, FourScalar, OneLane}
-use Rattle.bitpack.specs.declared.list_kind.ListKind.{ListKind}
-use Rattle.bitpack.specs.declared.list_kind.ListKind.TheVariants as lists
-use Rattle.bitpack.specs.Grammar.{Argument, Asks, Dec, Enc, IsKind, IsSmall, Pack, Request, Size, Spells, SpellsArgument, SpellsBytes, SpellsKind, SpellsNumber, SpellsRequest, SpellsValues, TheseBytes, TheseValues, ThisKind, ThisListKind, ThisWidth, Unpack, Width, arguments, kind_string, list_kind_string, packer_string, verb_string}
+use Rattle.bitpack_lists.specs.declared.list_kind.ListKind.{ListKind}
+use Rattle.bitpack_lists.specs.declared.list_kind.ListKind.TheVariants as lists
+use Rattle.bitpack.specs.Grammar.{Argument, Asks, Dec, Enc, IsKind, IsSmall, IsWord, Pack, Request, Seek, Size, Spells, SpellsArgument, SpellsBytes, SpellsKind, SpellsNumber, SpellsRequest, SpellsValues, TheseBytes, TheseValues, ThisKind, ThisListKind, ThisWidth, ThisWord, Unpack, Upgrade, Width, arguments, kind_string, list_kind_string, packer_string, verb_string}
 use Rattle.bitpack.specs.Found.{Parses, request_of}
 use Rattle.bitpack.specs.Laws.{OneCommand}
 use Rattle.bitpack.proofs.Finding.{Decided, Search, below, both, find_bytes, find_values, only, same_bytes, same_string, same_values}
@@ -94,6 +94,7 @@ module _ (P : List ℕ → Type 0) (one : (a b : List ℕ) → P a → P b → a
 
 spells_or_not : (string : List ℕ) (argument : Argument) → Decided (SpellsArgument string argument)
 spells_or_not string (ThisWidth width) = both (same_string string (decimal width)) (below (2 ^ 8) width)
+spells_or_not string (ThisWord word) = both (same_string string (decimal word)) (below (2 ^ 32) word)
 spells_or_not string (ThisKind kind) = both (same_string string (kind_string kind)) (below (2 ^ 32) (start kind))
 spells_or_not string (ThisListKind kind) = same_string string (list_kind_string kind)
 spells_or_not string (TheseValues values) = is_spelled (SpellsValues string) (same_values string) (find_values string) values
@@ -106,6 +107,9 @@ all_spelled_or_not strings all = inr (λ spelled. spelled)
 
 width_is : (string : List ℕ) (width : ℕ) → SpellsNumber IsSmall string width → width ≡ digits_value 10 string
 width_is string width (is, small) = sym (digits_value-decimal numeral width (omega arith)) ∙ ap (digits_value 10) (sym is)
+
+word_is : (string : List ℕ) (word : ℕ) → SpellsNumber IsWord string word → word ≡ digits_value 10 string
+word_is string word (is, small) = sym (digits_value-decimal numeral word (omega arith)) ∙ ap (digits_value 10) (sym is)
 
 is_kind : (string : List ℕ) (kind : Kind) → SpellsKind string kind → kind ≡ read_kind string
 is_kind string kind (is, word) = kind_is kind word ∙ ap read_kind (sym is)
@@ -138,7 +142,9 @@ read_request verb strings =
     else if bytes_eq verb (codes "pack") then Pack (read_kind one) (digits_value 10 two) (read_values three)
     else if bytes_eq verb (codes "unpack") then Unpack (read_kind one) (digits_value 10 two) (read_bytes three)
     else if bytes_eq verb (codes "enc") then Enc (read_list_kind one) (read_values two)
-    else Dec (read_bytes one)
+    else if bytes_eq verb (codes "dec") then Dec (read_bytes one)
+    else if bytes_eq verb (codes "seek") then Seek (digits_value 10 one) (read_bytes two)
+    else Upgrade (read_bytes one)
 
 pub request_is : (verb : List ℕ) (strings : List (List ℕ)) (request : Request) → SpellsRequest verb strings request → request ≡ read_request verb strings
 request_is verb (w ∷ []) (Size width) (verb_is, (small, end)) = rw verb_is (ap Size (width_is w width small))
@@ -155,6 +161,10 @@ request_is verb (k ∷ v ∷ []) (Enc kind values) (verb_is, (of_kind, (spelled,
     let same : Enc kind values ≡ Enc (read_list_kind k) (read_values v) = cc (is_list_kind k kind of_kind, values_are v values spelled) in
     rw verb_is same
 request_is verb (b ∷ []) (Dec bytes) (verb_is, (spelled, end)) = rw verb_is (ap Dec (bytes_are b bytes spelled))
+request_is verb (w ∷ b ∷ []) (Seek target bytes) (verb_is, (word, (spelled, end))) =
+    let same : Seek target bytes ≡ Seek (digits_value 10 w) (read_bytes b) = cc (word_is w target word, bytes_are b bytes spelled) in
+    rw verb_is same
+request_is verb (b ∷ []) (Upgrade bytes) (verb_is, (spelled, end)) = rw verb_is (ap Upgrade (bytes_are b bytes spelled))
 request_is verb strings request (verb_is, spelled) = absurd (omega (arith, AllZip-long SpellsArgument strings (arguments request) spelled, (form request).1))
 
 -- ---- lines
@@ -213,12 +223,14 @@ misfit verb known strings request is apart spelled =
     let same : request ≡ read_request known strings = rw (← is) (request_is verb strings request spelled) in
     apart (sym (AllZip-long SpellsArgument strings (arguments request) spelled.1) ∙ ap (λ r. length (arguments r)) same)
 
--- a verb that is none of the six
+-- a verb that is none of the eight
 pub no_verb : (verb : List ℕ) (strings : List (List ℕ)) → verb ≢ codes "size" → verb ≢ codes "width" → verb ≢ codes "pack" → verb ≢ codes "unpack" → verb ≢ codes "enc" → verb ≢ codes "dec"
-    → (request : Request) → SpellsRequest verb strings request → ⊥
-no_verb verb strings size width pack unpack enc dec (Size _) (is, spelled) = size is
-no_verb verb strings size width pack unpack enc dec (Width _ _) (is, spelled) = width is
-no_verb verb strings size width pack unpack enc dec (Pack _ _ _) (is, spelled) = pack is
-no_verb verb strings size width pack unpack enc dec (Unpack _ _ _) (is, spelled) = unpack is
-no_verb verb strings size width pack unpack enc dec (Enc _ _) (is, spelled) = enc is
-no_verb verb strings size width pack unpack enc dec (Dec _) (is, spelled) = dec is
+    → verb ≢ codes "seek" → verb ≢ codes "upgrade" → (request : Request) → SpellsRequest verb strings request → ⊥
+no_verb verb strings size width pack unpack enc dec seek upgrade (Size _) (is, spelled) = size is
+no_verb verb strings size width pack unpack enc dec seek upgrade (Width _ _) (is, spelled) = width is
+no_verb verb strings size width pack unpack enc dec seek upgrade (Pack _ _ _) (is, spelled) = pack is
+no_verb verb strings size width pack unpack enc dec seek upgrade (Unpack _ _ _) (is, spelled) = unpack is
+no_verb verb strings size width pack unpack enc dec seek upgrade (Enc _ _) (is, spelled) = enc is
+no_verb verb strings size width pack unpack enc dec seek upgrade (Dec _) (is, spelled) = dec is
+no_verb verb strings size width pack unpack enc dec seek upgrade (Seek _ _) (is, spelled) = seek is
+no_verb verb strings size width pack unpack enc dec seek upgrade (Upgrade _) (is, spelled) = upgrade is

@@ -1,11 +1,15 @@
 -- What a run writes, a line at a time: answers, and beginnings of answers.
-use Rattle.std.proofs.Common.{◌≡◌, ◌≢◌, ℕ, Option, List, [], ◌∷◌, ◌++◌, Result, Ok, Err, OnErr, OnOk, IfErr, false, length, flat_map, refl, sym, ap, subst, ◌∙◌, append_assoc, append-nil}
+use Rattle.std.proofs.Common.{◌≡◌, ◌≢◌, ℕ, Option, List, [], ◌∷◌, ◌++◌, Result, Err, IfErr, false, length, flat_map, refl, sym, ap, subst, ◌∙◌, append_assoc, append-nil}
 use Rattle.std.specs.List.{AllZip}
-use Rattle.std.specs.Io.KnownBytes.{Keeps}
-use Rattle.std.proofs.KnownBytes.{Appends-kept, Appends-nil, Appends-trans}
+use Rattle.std.specs.Io.KnownBytes.{Appends, Consumes, Keeps}
+use Rattle.std.specs.Prelude.{IsErrOf}
+use Rattle.std.proofs.KnownBytes.{Appends-kept}
 use Rattle.std.proofs.lemmas.List.Concat.{flat_map-append}
 use Rattle.bitpack.specs.Answers.{IsAnswer}
-use Rattle.bitpack.specs.Lines.{AnsweredSoFar, AppendsAnswer, AppendsAnswerInPart, AppendsAnswers, AppendsAnswersInPart, AreAnswers, ended, kept_part, is_feed, lines, unfinished}
+use Rattle.bitpack.specs.declared.run_error.RunError.{RunError}
+use Rattle.bitpack.specs.declared.run_error.RunError.TheVariants.{Memory, Read, Write}
+use Rattle.bitpack.specs.Lines.{AnsweredSoFar, AnswersEnded, AnswersFirst, AnswersInPart, AppendsAnswer, AppendsAnswers, AppendsAnswersFirst, AppendsAnswersInPart, AreAnswers, StopsAfter, StopsAmong, StopsAtAnswer, ended, kept_part, is_feed, lines, unfinished}
+use Rattle.bitpack.proofs.HeldBytes.{IfErr-at, IfErr-to, begin-more, but-all, but-more, but-next, but-none, but-stop, but-whole}
 use Rattle.bitpack.proofs.AnswerLemmas.{answer_of, answer-kept_part}
 use Rattle.bitpack.proofs.LineLemmas.{ended-feed, ended-nil, ended-other, kept_part-nil, kept_part-none, kept_part-some, lines-all, lines-begin, unfinished-feed, unfinished-nil, unfinished-other}
 
@@ -39,116 +43,122 @@ answers_of (line ∷ lines) =
 
 -- ---- answers that are appended
 
-pub appends-none : (a : Option (List ℕ)) → AppendsAnswers a a []
-appends-none a = ([], answers-none, Appends-nil a)
-
-appends-more : (a b c : Option (List ℕ)) (xs : List (List ℕ)) (line : List ℕ) → AppendsAnswers a b xs → AppendsAnswer b c line → AppendsAnswers a c (xs ++ line ∷ [])
-appends-more a b c xs line (bytes, answers, first) (answer, holds, second) = (
-  bytes ++ (answer ++ 10 ∷ []),
-  answers-append xs (line ∷ []) bytes (answer ++ 10 ∷ []) answers (answers-one line answer holds),
-  Appends-trans a b c bytes (answer ++ 10 ∷ []) first second,
-)
-
 pub appends-kept : (a b c : Option (List ℕ)) (xs : List (List ℕ)) → AppendsAnswers a b xs → Keeps b c → AppendsAnswers a c xs
 appends-kept a b c xs (bytes, answers, appended) kept = (bytes, answers, Appends-kept a b c bytes appended kept)
 
 -- a beginning of the answers to some lines is one of the answers to more
 part-more : (a b : Option (List ℕ)) (xs ys : List (List ℕ)) → AppendsAnswersInPart a b xs → AppendsAnswersInPart a b (xs ++ ys)
-part-more a b xs ys (bytes, answers, (some, (more, split), appended)) =
-    let (rest, others) = answers_of ys in (
-      bytes ++ rest,
-      answers-append xs ys bytes rest answers others,
-      (some, (more ++ rest, ap (λ l. l ++ rest) split ∙ append_assoc some more rest), appended),
-    )
+part-more a b xs ys (bytes, answers, part) =
+    let (rest, others) = answers_of ys in
+    (bytes ++ rest, answers-append xs ys bytes rest answers others, begin-more a b bytes rest part)
 
 pub part-all : (a b : Option (List ℕ)) (xs : List (List ℕ)) → AppendsAnswers a b xs → AppendsAnswersInPart a b xs
 part-all a b xs (bytes, answers, appended) = (bytes, answers, (bytes, ([], sym (append-nil bytes)), appended))
 
-part-whole : (a b : Option (List ℕ)) (xs ys : List (List ℕ)) → AppendsAnswers a b xs → AppendsAnswersInPart a b (xs ++ ys)
-part-whole a b xs ys whole = part-more a b xs ys (part-all a b xs whole)
+part-first : (a b : Option (List ℕ)) (xs : List (List ℕ)) → AppendsAnswersFirst a b xs → AppendsAnswersInPart a b xs
+part-first a b xs (some, more, split, whole) = subst (AppendsAnswersInPart a b) (sym split) (part-more a b some more (part-all a b some whole))
 
-part-next : (a b c : Option (List ℕ)) (xs : List (List ℕ)) (line : List ℕ) (ys : List (List ℕ)) → AppendsAnswers a b xs → AppendsAnswerInPart b c line → AppendsAnswersInPart a c ((xs ++ line ∷ []) ++ ys)
-part-next a b c xs line ys (bytes, answers, first) (answer, holds, (some, (more, split), second)) = part-more a c (xs ++ line ∷ []) ys (
-  bytes ++ (answer ++ 10 ∷ []),
-  answers-append xs (line ∷ []) bytes (answer ++ 10 ∷ []) answers (answers-one line answer holds),
-  (bytes ++ some, (more, ap (λ l. bytes ++ l) split ∙ sym (append_assoc bytes some more)), Appends-trans a b c bytes some first second),
-)
+stops-part : (fault : RunError) (a b : Option (List ℕ)) (xs : List (List ℕ)) → StopsAmong fault a b xs → AppendsAnswersInPart a b xs
+stops-part Write a b xs part = part
+stops-part Memory a b xs first = part-first a b xs first
+stops-part Read a b xs none = absurd none
 
--- the answer to the kept part of a line is the answer to the line
-for_line : (b c : Option (List ℕ)) (kept line : List ℕ) → kept ≡ kept_part line → AppendsAnswer b c kept → AppendsAnswer b c line
-for_line b c kept line e (answer, holds, appended) = (answer, answer-kept_part line answer (subst (λ l. IsAnswer l answer) e holds), appended)
+-- stopped after the answers to the first lines, and a part of the next
+stops-in : (fault : RunError) (a b : Option (List ℕ)) (xs ys zs : List (List ℕ)) (first next : List ℕ) → AreAnswers xs first → AreAnswers ys next
+    → StopsAfter fault a b first (first ++ next) → StopsAmong fault a b ((xs ++ ys) ++ zs)
+stops-in Write a b xs ys zs first next answers others part =
+    part-more a b (xs ++ ys) zs (first ++ next, answers-append xs ys first next answers others, part)
+stops-in Memory a b xs ys zs first next answers others whole = (xs, ys ++ zs, append_assoc xs ys zs, (first, answers, whole))
+stops-in Read a b xs ys zs first next answers others none = absurd none
 
-for_line-part : (b c : Option (List ℕ)) (kept line : List ℕ) → kept ≡ kept_part line → AppendsAnswerInPart b c kept → AppendsAnswerInPart b c line
-for_line-part b c kept line e (answer, holds, part) = (answer, answer-kept_part line answer (subst (λ l. IsAnswer l answer) e holds), part)
+stops-all : (fault : RunError) (a b : Option (List ℕ)) (xs ys : List (List ℕ)) (bytes : List ℕ) → AreAnswers xs bytes → StopsAfter fault a b bytes bytes → StopsAmong fault a b (xs ++ ys)
+stops-all Write a b xs ys bytes answers part = part-more a b xs ys (bytes, answers, part)
+stops-all Memory a b xs ys bytes answers whole = (xs, ys, refl, (bytes, answers, whole))
+stops-all Read a b xs ys bytes answers none = absurd none
 
 -- ---- the loop, a byte at a time
 
-pub none_step : (now : Option (List ℕ)) → AnsweredSoFar now now [] []
-none_step now = record { answered = subst (AppendsAnswers now now) (sym ended-nil) (appends-none now); begun = kept_part-nil ∙ ap kept_part (sym unfinished-nil) }
+pub none_step : (now : Option (List ℕ)) → AnsweredSoFar now now [] [] []
+none_step now = record {
+  bytes = [];
+  answered = subst (λ xs. AreAnswers xs []) (sym ended-nil) answers-none;
+  written = but-none now;
+  begun = kept_part-nil ∙ ap kept_part (sym unfinished-nil);
+}
 
-module _ (before now : Option (List ℕ)) (input kept : List ℕ) (so_far : AnsweredSoFar before now input kept) where
-  pub feed_step : (next : Option (List ℕ)) → AppendsAnswer now next kept → AnsweredSoFar before next (input ++ 10 ∷ []) []
-  feed_step next holds = record {
-    answered = subst (AppendsAnswers before next) (sym (ended-feed input)) (appends-more before now next (ended input) (unfinished input) so_far.answered (for_line now next kept (unfinished input) so_far.begun holds));
+module _ (before now : Option (List ℕ)) (held input kept : List ℕ) (so_far : AnsweredSoFar before now held input kept) where
+  -- the answer to the kept part of a line is the answer to the line
+  for_line : (answer : List ℕ) → IsAnswer kept answer → IsAnswer (unfinished input) answer
+  for_line answer holds = answer-kept_part (unfinished input) answer (subst (λ l. IsAnswer l answer) so_far.begun holds)
+
+  pub feed_step : (next : Option (List ℕ)) (left : List ℕ) → AppendsAnswer now next held left kept → AnsweredSoFar before next left (input ++ 10 ∷ []) []
+  feed_step next left (answer, holds, put) = record {
+    bytes = so_far.bytes ++ (answer ++ 10 ∷ []);
+    answered = subst (λ xs. AreAnswers xs (so_far.bytes ++ (answer ++ 10 ∷ []))) (sym (ended-feed input)) (answers-append (ended input) (unfinished input ∷ []) so_far.bytes (answer ++ 10 ∷ []) so_far.answered (answers-one (unfinished input) answer (for_line answer holds)));
+    written = but-more before now next so_far.bytes held so_far.written (answer ++ 10 ∷ []) left put;
     begun = kept_part-nil ∙ ap kept_part (sym (unfinished-feed input));
   }
 
-  pub other_step : (byte : ℕ) (grown : List ℕ) → is_feed byte ≡ false → grown ≡ kept_part (unfinished input ++ byte ∷ []) → AnsweredSoFar before now (input ++ byte ∷ []) grown
+  pub other_step : (byte : ℕ) (grown : List ℕ) → is_feed byte ≡ false → grown ≡ kept_part (unfinished input ++ byte ∷ []) → AnsweredSoFar before now held (input ++ byte ∷ []) grown
   other_step byte grown other e = record {
-    answered = subst (AppendsAnswers before now) (sym (ended-other input byte other)) so_far.answered;
+    bytes = so_far.bytes;
+    answered = subst (λ xs. AreAnswers xs so_far.bytes) (sym (ended-other input byte other)) so_far.answered;
+    written = so_far.written;
     begun = e ∙ ap kept_part (sym (unfinished-other input byte other));
   }
 
+  -- what was held is written
+  pub written_step : (next : Option (List ℕ)) → Appends now next held → AnsweredSoFar before next [] input kept
+  written_step next appended = record {
+    bytes = so_far.bytes;
+    answered = so_far.answered;
+    written = but-all before next so_far.bytes (but-whole before now next so_far.bytes held so_far.written appended);
+    begun = so_far.begun;
+  }
+
+  pub all_written : (next : Option (List ℕ)) → Appends now next held → AppendsAnswers before next (ended input)
+  all_written next appended = (so_far.bytes, so_far.answered, but-whole before now next so_far.bytes held so_far.written appended)
+
   -- stopped at a line feed, in the middle of an answer
-  pub feed_stop : (next : Option (List ℕ)) (rest : List ℕ) → AppendsAnswerInPart now next kept → AppendsAnswersInPart before next (lines (input ++ 10 ∷ rest))
-  feed_stop next rest part =
+  pub feed_stop : (fault : RunError) (next : Option (List ℕ)) (rest : List ℕ) → StopsAtAnswer fault now next held kept → StopsAmong fault before next (lines (input ++ 10 ∷ rest))
+  feed_stop fault next rest (answer, holds, stopped) =
       let (more, split) = lines-begin (input ++ 10 ∷ []) rest in
       let all : lines (input ++ 10 ∷ rest) ≡ (ended input ++ unfinished input ∷ []) ++ more = ap lines (sym (append_assoc input (10 ∷ []) rest)) ∙ split ∙ ap (λ l. l ++ more) (ended-feed input) in
-      subst (AppendsAnswersInPart before next) (sym all) (part-next before now next (ended input) (unfinished input) more so_far.answered (for_line-part now next kept (unfinished input) so_far.begun part))
+      subst (StopsAmong fault before next) (sym all) (stops-in fault before next (ended input) (unfinished input ∷ []) more so_far.bytes (answer ++ 10 ∷ []) so_far.answered (answers-one (unfinished input) answer (for_line answer holds)) (but-next before now next so_far.bytes held so_far.written fault (answer ++ 10 ∷ []) stopped))
 
   -- stopped between two answers, or at the end of all
-  pub stop : (rest : List ℕ) → AppendsAnswersInPart before now (lines (input ++ rest))
-  stop rest =
+  pub stop : (fault : RunError) (next : Option (List ℕ)) (rest : List ℕ) → StopsAfter fault now next held held → StopsAmong fault before next (lines (input ++ rest))
+  stop fault next rest stopped =
       let (more, split) = lines-begin input rest in
-      subst (AppendsAnswersInPart before now) (sym split) (part-whole before now (ended input) more so_far.answered)
+      subst (StopsAmong fault before next) (sym split) (stops-all fault before next (ended input) more so_far.bytes so_far.answered (but-stop before now next so_far.bytes held so_far.written fault stopped))
 
   -- ---- the end of input
 
-  none_begun : length kept ≡ 0 → lines input ≡ ended input
+  pub none_begun : length kept ≡ 0 → lines input ≡ ended input
   none_begun e = lines-all input ∙ ap (λ l. ended input ++ l) (kept_part-none (unfinished input) (ap length (sym so_far.begun) ∙ e)) ∙ append-nil (ended input)
 
-  some_begun : length kept ≢ 0 → lines input ≡ ended input ++ unfinished input ∷ []
-  some_begun h = lines-all input ∙ ap (λ l. ended input ++ l) (kept_part-some (unfinished input) (λ e. h (ap length so_far.begun ∙ e)))
+  -- a line that is left is answered as if a line feed ended it
+  pub some_begun : length kept ≢ 0 → lines input ≡ ended (input ++ 10 ∷ [])
+  some_begun h = lines-all input ∙ ap (λ l. ended input ++ l) (kept_part-some (unfinished input) (λ e. h (ap length so_far.begun ∙ e))) ∙ sym (ended-feed input)
 
-  pub end_without : length kept ≡ 0 → AppendsAnswers before now (lines input)
-  end_without e = subst (AppendsAnswers before now) (sym (none_begun e)) so_far.answered
+  pub same_lines : length kept ≢ 0 → lines (input ++ 10 ∷ []) ≡ lines input
+  same_lines h =
+      let none = kept_part-none (unfinished (input ++ 10 ∷ [])) (ap length (ap kept_part (unfinished-feed input) ∙ sym kept_part-nil)) in
+      lines-all (input ++ 10 ∷ []) ∙ ap (λ l. ended (input ++ 10 ∷ []) ++ l) none ∙ append-nil (ended (input ++ 10 ∷ [])) ∙ sym (some_begun h)
 
-  pub end_with : (next : Option (List ℕ)) → length kept ≢ 0 → AppendsAnswer now next kept → AppendsAnswers before next (lines input)
-  end_with next h holds = subst (AppendsAnswers before next) (sym (some_begun h)) (appends-more before now next (ended input) (unfinished input) so_far.answered (for_line now next kept (unfinished input) so_far.begun holds))
+-- ---- what a run returns when it was stopped
 
-  pub end_stop : (next : Option (List ℕ)) → length kept ≢ 0 → AppendsAnswerInPart now next kept → AppendsAnswersInPart before next (lines input)
-  end_stop next h part =
-      let all : lines input ≡ (ended input ++ unfinished input ∷ []) ++ [] = some_begun h ∙ sym (append-nil (ended input ++ unfinished input ∷ [])) in
-      subst (AppendsAnswersInPart before next) (sym all) (part-next before now next (ended input) (unfinished input) [] so_far.answered (for_line-part now next kept (unfinished input) so_far.begun part))
+pub record Stopped {T : Type 0} (r : Result T RunError) (left rest old new : Option (List ℕ)) : Type 0 where
+  pub read : IsErrOf r Read → AnswersEnded left rest old new
+  pub stopped : IfErr r (λ e. e ≢ Read → AnswersInPart left rest old new)
+  pub memory : IsErrOf r Memory → AnswersFirst left rest old new
 
--- ---- facts of a result
-
-pub OnErr-by : {T E : Type 0} (r : Result T E) (P : Type 0) → P → OnErr r P
-OnErr-by (Ok _) P p = tt
-OnErr-by (Err _) P p = p
-
-pub OnOk-by : {T E : Type 0} (r : Result T E) (P : Type 0) → P → OnOk r P
-OnOk-by (Ok _) P p = p
-OnOk-by (Err _) P p = tt
-
-pub IfErr-by : {T E : Type 0} (r : Result T E) (P : E → Type 0) (S : Type 0) → S → IfErr r (λ e. P e → S)
-IfErr-by (Ok _) P S s = tt
-IfErr-by (Err e) P S s = λ _. s
-
-pub OnOk-to : {T E : Type 0} (r : Result T E) (P Q : Type 0) → OnOk r P → (P → Q) → OnOk r Q
-OnOk-to (Ok _) P Q p f = f p
-OnOk-to (Err _) P Q p f = tt
-
-pub OnErr-to : {T E : Type 0} (r : Result T E) (P Q : Type 0) → OnErr r P → (P → Q) → OnErr r Q
-OnErr-to (Ok _) P Q p f = tt
-OnErr-to (Err _) P Q p f = f p
+pub stopped_by : {T : Type 0} (r : Result T RunError) (fault : RunError) (left rest old new : Option (List ℕ)) (input : List ℕ) → r ≡ Err fault
+    → Consumes left rest input → StopsAmong fault old new (lines input) → Stopped r left rest old new
+stopped_by r fault left rest old new input is consumed stopped =
+    let in_r : IfErr r (λ e. StopsAmong e old new (lines input)) = IfErr-at r fault (λ e. StopsAmong e old new (lines input)) is stopped in
+    record {
+      read = λ read. absurd (subst (λ q. IfErr q (λ e. StopsAmong e old new (lines input))) read in_r);
+      stopped = IfErr-to r _ _ in_r (λ e part _. (input, consumed, stops-part e old new (lines input) part));
+      memory = λ memory. (input, consumed, subst (λ q. IfErr q (λ e. StopsAmong e old new (lines input))) memory in_r);
+    }

@@ -16,9 +16,9 @@ use Rattle.bitpack.specs.declared.line.PackerName.{PackerName}
 use Rattle.bitpack.specs.declared.line.PackerName.TheVariants.{EightLanes, EightScalar, FourLanes, FourScalar, OneLane}
 use Rattle.bitpack.specs.declared.line.values.Item.{Item}
 use Rattle.bitpack.specs.declared.line.values.Item.TheVariants.{Once, Times}
-use Rattle.bitpack.specs.declared.list_kind.ListKind.{ListKind}
-use Rattle.bitpack.specs.declared.list_kind.ListKind.TheVariants as lists
-use Rattle.bitpack.specs.Grammar.{Argument, Asks, Dec, Enc, IsItem, IsKind, Pack, Request, Size, SpellsArgument, SpellsBytes, SpellsValues, TheseBytes, TheseValues, ThisKind, ThisListKind, ThisWidth, Unpack, Width, arguments, item_string, items_string, kind_string, list_kind_string, packer_string, verb_string}
+use Rattle.bitpack_lists.specs.declared.list_kind.ListKind.{ListKind}
+use Rattle.bitpack_lists.specs.declared.list_kind.ListKind.TheVariants as lists
+use Rattle.bitpack.specs.Grammar.{Argument, Asks, Dec, Enc, IsItem, IsKind, Pack, Request, Seek, Size, SpellsArgument, SpellsBytes, SpellsValues, TheseBytes, TheseValues, ThisKind, ThisListKind, ThisWidth, ThisWord, Unpack, Upgrade, Width, arguments, item_string, items_string, kind_string, list_kind_string, packer_string, verb_string}
 use Rattle.bitpack.proofs.Cuts.{Lacks}
 use Rattle.bitpack.proofs.Numerals.{decimal-digit}
 
@@ -111,6 +111,7 @@ IsVisible-bytes string (byte ∷ bytes) spelled =
 
 IsVisible-argument : (string : List ℕ) (argument : Argument) → SpellsArgument string argument → IsVisible string
 IsVisible-argument string (ThisWidth width) (is, small) = subst IsVisible (sym is) (IsVisible-decimal width (omega arith))
+IsVisible-argument string (ThisWord word) (is, small) = subst IsVisible (sym is) (IsVisible-decimal word (omega arith))
 IsVisible-argument string (ThisKind kind) (is, is_kind) = subst IsVisible (sym is) (IsVisible-kind kind is_kind)
 IsVisible-argument string (ThisListKind kind) is = subst IsVisible (sym is) (IsVisible-list_kind kind)
 IsVisible-argument string (TheseValues values) spelled = IsVisible-values string values spelled
@@ -130,6 +131,8 @@ form (Pack kind width values) = (refl, (omega arith, omega arith))
 form (Unpack kind width bytes) = (refl, (omega arith, omega arith))
 form (Enc kind values) = (refl, (omega arith, omega arith))
 form (Dec bytes) = (refl, (omega arith, omega arith))
+form (Seek target bytes) = (refl, (omega arith, omega arith))
+form (Upgrade bytes) = (refl, (omega arith, omega arith))
 
 -- the fields of a request: at least one, at most five, and each is visible
 pub record AreFields (fields : List (List ℕ)) : Type 0 where

@@ -8,7 +8,7 @@ use Rattle.bitpack.specs.declared.line.PackerName.{PackerName}
 use Rattle.bitpack.specs.declared.line.values.Item.{Item}
 use Rattle.bitpack.specs.declared.line.error.ParseError.{ParseError}
 use Rattle.bitpack.specs.declared.line.error.ParseError.TheVariants.{Memory, Spelling}
-use Rattle.bitpack.specs.Grammar.{Dec, Enc, IsItem, Pack, Request, Size, Unpack, Width, line_limit, item_string, item_values}
+use Rattle.bitpack.specs.Grammar.{Dec, Enc, IsItem, Pack, Request, Seek, Size, Unpack, Upgrade, Width, line_limit, item_string, item_values}
 
 -- what was found is what the string spells; if nothing was found, it spells nothing
 abbrev pub Finds : {Y : Type 0} → (Y → Type 0) → Option Y → Type 0
@@ -44,6 +44,8 @@ request_of (commands.Pack kind width values) = Pack kind width values.items
 request_of (commands.Unpack kind width bytes) = Unpack kind width bytes.items
 request_of (commands.Enc kind values) = Enc kind values.items
 request_of (commands.Dec bytes) = Dec bytes.items
+request_of (commands.Seek target bytes) = Seek target bytes.items
+request_of (commands.Upgrade bytes) = Upgrade bytes.items
 
 abbrev pub asked_by : Line → PackerName × Request
 asked_by line = (line.packer, request_of line.command)

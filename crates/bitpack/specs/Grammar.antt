@@ -6,8 +6,8 @@ use Rattle.hex.specs.Hex.{decode_of}
 use Rattle.bitpacking.specs.declared.kind.Kind.{Kind}
 use Rattle.bitpacking.specs.declared.kind.Kind.TheVariants.{Plain, Sorted, StrictlySorted}
 use Rattle.bitpacking.specs.Codes.{start}
-use Rattle.bitpack.specs.declared.list_kind.ListKind.{ListKind}
-use Rattle.bitpack.specs.declared.list_kind.ListKind.TheVariants as lists
+use Rattle.bitpack_lists.specs.declared.list_kind.ListKind.{ListKind}
+use Rattle.bitpack_lists.specs.declared.list_kind.ListKind.TheVariants as lists
 use Rattle.bitpack.specs.declared.line.PackerName.{PackerName}
 use Rattle.bitpack.specs.declared.line.PackerName.TheVariants.{EightLanes, EightScalar, FourLanes, FourScalar, OneLane}
 use Rattle.bitpack.specs.declared.line.values.Item.{Item}
@@ -106,6 +106,8 @@ pub data Request : Type 0 where
   Unpack : Kind → ℕ → List ℕ → Request
   Enc : ListKind → List ℕ → Request
   Dec : List ℕ → Request
+  Seek : ℕ → List ℕ → Request
+  Upgrade : List ℕ → Request
 
 -- the first field of a line
 abbrev pub verb_string : Request → List ℕ
@@ -115,10 +117,13 @@ verb_string (Pack kind width values) = codes "pack"
 verb_string (Unpack kind width bytes) = codes "unpack"
 verb_string (Enc kind values) = codes "enc"
 verb_string (Dec bytes) = codes "dec"
+verb_string (Seek target bytes) = codes "seek"
+verb_string (Upgrade bytes) = codes "upgrade"
 
 -- what a field after the packer is
 pub data Argument : Type 0 where
   ThisWidth : ℕ → Argument
+  ThisWord : ℕ → Argument
   ThisKind : Kind → Argument
   ThisListKind : ListKind → Argument
   TheseValues : List ℕ → Argument
@@ -131,9 +136,12 @@ arguments (Pack kind width values) = ThisKind kind ∷ ThisWidth width ∷ These
 arguments (Unpack kind width bytes) = ThisKind kind ∷ ThisWidth width ∷ TheseBytes bytes ∷ []
 arguments (Enc kind values) = ThisListKind kind ∷ TheseValues values ∷ []
 arguments (Dec bytes) = TheseBytes bytes ∷ []
+arguments (Seek target bytes) = ThisWord target ∷ TheseBytes bytes ∷ []
+arguments (Upgrade bytes) = TheseBytes bytes ∷ []
 
 abbrev pub SpellsArgument : List ℕ → Argument → Type 0
 SpellsArgument string (ThisWidth width) = SpellsNumber IsSmall string width
+SpellsArgument string (ThisWord word) = SpellsNumber IsWord string word
 SpellsArgument string (ThisKind kind) = SpellsKind string kind
 SpellsArgument string (ThisListKind kind) = string ≡ list_kind_string kind
 SpellsArgument string (TheseValues values) = SpellsValues string values

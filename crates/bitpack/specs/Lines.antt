@@ -4,6 +4,8 @@ use Rattle.std.specs.List.{AllZip, concat, onto_first}
 use Rattle.std.specs.Io.KnownBytes.{Appends, Consumes, IsAtEnd}
 use Rattle.bitpack.specs.Answers.{IsAnswer}
 use Rattle.bitpack.specs.Grammar.{line_limit}
+use Rattle.bitpack.specs.declared.run_error.RunError.{RunError}
+use Rattle.bitpack.specs.declared.run_error.RunError.TheVariants.{Memory, Read, Write}
 
 -- ---- lines
 
@@ -44,13 +46,6 @@ IsBeginning some all = (more : List ℕ) × (all ≡ some ++ more)
 abbrev pub AppendsBeginning : Option (List ℕ) → Option (List ℕ) → List ℕ → Type 0
 AppendsBeginning old new all = (some : List ℕ) × IsBeginning some all × Appends old new some
 
--- known bytes grow by the answer to one line, or by a beginning of it
-abbrev pub AppendsAnswer : Option (List ℕ) → Option (List ℕ) → List ℕ → Type 0
-AppendsAnswer old new line = (answer : List ℕ) × IsAnswer line answer × Appends old new (answer ++ 10 ∷ [])
-
-abbrev pub AppendsAnswerInPart : Option (List ℕ) → Option (List ℕ) → List ℕ → Type 0
-AppendsAnswerInPart old new line = (answer : List ℕ) × IsAnswer line answer × AppendsBeginning old new (answer ++ 10 ∷ [])
-
 -- known bytes grow by the answers to lines, or by a beginning of them
 abbrev pub AppendsAnswers : Option (List ℕ) → Option (List ℕ) → List (List ℕ) → Type 0
 AppendsAnswers old new lines = (bytes : List ℕ) × AreAnswers lines bytes × Appends old new bytes
@@ -58,12 +53,11 @@ AppendsAnswers old new lines = (bytes : List ℕ) × AreAnswers lines bytes × A
 abbrev pub AppendsAnswersInPart : Option (List ℕ) → Option (List ℕ) → List (List ℕ) → Type 0
 AppendsAnswersInPart old new lines = (bytes : List ℕ) × AreAnswers lines bytes × AppendsBeginning old new bytes
 
--- ---- what a run did to its reader and its writer
+-- known bytes grow by the answers to the first of the lines
+abbrev pub AppendsAnswersFirst : Option (List ℕ) → Option (List ℕ) → List (List ℕ) → Type 0
+AppendsAnswersFirst old new lines = (some more : List (List ℕ)) × (lines ≡ some ++ more) × AppendsAnswers old new some
 
--- of the input so far, the lines that ended were answered, and `kept` is the part of the unfinished line
-pub record AnsweredSoFar (before now : Option (List ℕ)) (input kept : List ℕ) : Type 0 where
-  pub answered : AppendsAnswers before now (ended input)
-  pub begun : kept ≡ kept_part (unfinished input)
+-- ---- what a run did to its reader and its writer
 
 -- the reader gave an input to its end, and all its lines were answered
 abbrev pub AnswersAll : Option (List ℕ) → Option (List ℕ) → Option (List ℕ) → Option (List ℕ) → Type 0
@@ -76,3 +70,41 @@ AnswersEnded left rest old new = (input : List ℕ) × Consumes left rest input 
 -- the reader gave an input, and a beginning of the answers to its lines was written
 abbrev pub AnswersInPart : Option (List ℕ) → Option (List ℕ) → Option (List ℕ) → Option (List ℕ) → Type 0
 AnswersInPart left rest old new = (input : List ℕ) × Consumes left rest input × AppendsAnswersInPart old new (lines input)
+
+-- the reader gave an input, and the first of its lines were answered
+abbrev pub AnswersFirst : Option (List ℕ) → Option (List ℕ) → Option (List ℕ) → Option (List ℕ) → Type 0
+AnswersFirst left rest old new = (input : List ℕ) × Consumes left rest input × AppendsAnswersFirst old new (lines input)
+
+-- ---- partway: some bytes are held, and written later
+
+-- known bytes grow by `all` but for its end, which is held
+abbrev pub AppendsBut : Option (List ℕ) → Option (List ℕ) → List ℕ → List ℕ → Type 0
+AppendsBut old new all held = (some : List ℕ) × (all ≡ some ++ held) × Appends old new some
+
+-- a failed write leaves a beginning of `all`; where memory ran out, the known bytes grow by `whole`; and no read failed
+abbrev pub StopsAfter : RunError → Option (List ℕ) → Option (List ℕ) → List ℕ → List ℕ → Type 0
+StopsAfter Write old new whole all = AppendsBeginning old new all
+StopsAfter Memory old new whole all = Appends old new whole
+StopsAfter Read old new whole all = ⊥
+
+-- the answer to a line is put after the bytes that were held
+abbrev pub AppendsAnswer : Option (List ℕ) → Option (List ℕ) → List ℕ → List ℕ → List ℕ → Type 0
+AppendsAnswer old new before after line = (answer : List ℕ) × IsAnswer line answer × AppendsBut old new (before ++ (answer ++ 10 ∷ [])) after
+
+-- the same, stopped by a fault: where memory ran out, no part of the answer is put
+abbrev pub StopsAtAnswer : RunError → Option (List ℕ) → Option (List ℕ) → List ℕ → List ℕ → Type 0
+StopsAtAnswer fault old new before line = (answer : List ℕ) × IsAnswer line answer × StopsAfter fault old new before (before ++ (answer ++ 10 ∷ []))
+
+-- of the input so far, the lines that ended were answered, and the end of their answers is held; `kept` is the part of the
+-- unfinished line
+pub record AnsweredSoFar (before now : Option (List ℕ)) (held input kept : List ℕ) : Type 0 where
+  pub bytes : List ℕ
+  pub answered : AreAnswers (ended input) bytes
+  pub written : AppendsBut before now bytes held
+  pub begun : kept ≡ kept_part (unfinished input)
+
+-- the answers to the lines were stopped by a fault
+abbrev pub StopsAmong : RunError → Option (List ℕ) → Option (List ℕ) → List (List ℕ) → Type 0
+StopsAmong Write before new lines = AppendsAnswersInPart before new lines
+StopsAmong Memory before new lines = AppendsAnswersFirst before new lines
+StopsAmong Read before new lines = ⊥

@@ -1,23 +1,28 @@
 //! The answer to a line.
 
-ghost use Rattle.std.specs.Prelude.{◌≢◌, IfErr, IfOk, OnErr, OnOk, string_bytes};
+ghost use Rattle.std.specs.Prelude.{IfErr, IfOk, OnOk};
 ghost use Rattle.bitpack.specs.Found.{request_of};
-ghost use Rattle.bitpack.specs.Answers.{IsAnswer, IsReply, lanes_of};
-ghost use Rattle.bitpack.specs.Lines.{AppendsAnswer, AppendsAnswerInPart};
+ghost use Rattle.bitpack.specs.Answers.{IsAnswer, IsReply, lanes_of, printed};
+ghost use Rattle.bitpack.specs.Lines.{AppendsAnswer, StopsAtAnswer};
 
+mod digits;
 mod formatting;
 mod lists;
+mod printing;
 mod replies;
+mod upgrades;
 
-use crate::RunError;
 use crate::line::{Command, LINE_LIMIT, Line, PackerName, ParseError, parse_line};
-use crate::writing::put;
-use bitpacking::{BitPacker, BitPacker1x, BitPacker4x, BitPacker8x};
+use crate::output::Output;
+use crate::{ListKind, RunError};
+use bitpacking::{BitPacker, BitPacker1x, BitPacker4x, BitPacker8x, Counted};
 use formatting::refuse;
-use lists::{answer_dec, answer_enc};
+use lists::{answer_dec, answer_enc, answer_seek};
+use printing::put_answer;
 use replies::{answer_pack, answer_size, answer_unpack, answer_width};
 use std::alloc::{AllocError, Global};
 use std::io::Write;
+use upgrades::answer_upgrade;
 
 // The numbers of the refusals of lines.
 const NOT_SPELLED: u8 = 1;
@@ -32,28 +37,37 @@ const NOT_ITS_BYTES: u8 = 5;
 
 const TOO_LONG: u8 = 6;
 
-/// Writes the answer to a line, with its line feed.
+/// An answer, before it is printed.
+#[derive(Drop)]
+pub(crate) enum Answer {
+    /// What is printed as it is.
+    Printed(String),
+    /// The values of a block.
+    Values(Vec<u32>),
+    /// The kind and the values of a packed list.
+    List(ListKind, Vec<u32>),
+}
+
+/// Puts the answer to a line into the output, with its line feed. Where memory lacks for it, no part of it is put.
 pub(crate) fn answer_line<W: Write>(
     alloc: Global,
     line: &[u8],
+    output: &mut Output,
     writer: &mut W,
 ) -> Result<(), RunError>
-    ensures ok { OnOk result (AppendsAnswer (W.contents writer.old) (W.contents writer.new) line.now) }
-    ensures err { OnErr result (AppendsAnswerInPart (W.contents writer.old) (W.contents writer.new) line.now) }
-    ensures kind { IfErr result (λ e. e ≢ RunError.Read) }
+    ensures ok { OnOk result (AppendsAnswer (W.contents writer.old) (W.contents writer.new) output.old output.new line.now) }
+    ensures err { IfErr result (λ e. StopsAtAnswer e (W.contents writer.old) (W.contents writer.new) output.old line.now) }
 {
-    let Ok(mut printed) = answer(alloc, line) else {
-        return Err(RunError::Memory);
+    let Ok(answer) = answer_to(alloc, line) else {
+        return Err(output.end_without_memory(writer));
     };
-    if printed.push('\n').is_err() {
-        return Err(RunError::Memory);
-    }
-    put(writer, printed.as_bytes())
+    put_answer(output, writer, &answer)?;
+    output.put(writer, b"\n")
 }
 
 /// The answer to a line, without its line feed.
-pub(crate) fn answer(alloc: Global, line: &[u8]) -> Result<String, AllocError>
-    ensures { IfOk result (λ answer. IsAnswer line.now (string_bytes answer)) }
+pub(crate) fn answer_to(alloc: Global, line: &[u8]) -> Result<Answer, AllocError>
+    ensures { IfOk result (λ answer. IsAnswer line.now (printed answer)) }
 {
     if line.len() > LINE_LIMIT {
         return refuse(alloc, TOO_LONG);
@@ -65,8 +79,8 @@ pub(crate) fn answer(alloc: Global, line: &[u8]) -> Result<String, AllocError>
     }
 }
 
-fn reply(alloc: Global, line: &Line) -> Result<String, AllocError>
-    ensures { IfOk result (λ answer. IsReply (lanes_of line.now.packer) (request_of line.now.command) (string_bytes answer)) }
+fn reply(alloc: Global, line: &Line) -> Result<Answer, AllocError>
+    ensures { IfOk result (λ answer. IsReply (lanes_of line.now.packer) (request_of line.now.command) (printed answer)) }
 {
     match line.packer {
         PackerName::OneLane => reply_by(alloc, &BitPacker1x::new(), &line.command),
@@ -77,12 +91,8 @@ fn reply(alloc: Global, line: &Line) -> Result<String, AllocError>
     }
 }
 
-fn reply_by<P: BitPacker>(
-    alloc: Global,
-    packer: &P,
-    command: &Command,
-) -> Result<String, AllocError>
-    ensures { IfOk result (λ answer. IsReply P.lanes (request_of command.now) (string_bytes answer)) }
+fn reply_by<P: Counted>(alloc: Global, packer: &P, command: &Command) -> Result<Answer, AllocError>
+    ensures { IfOk result (λ answer. IsReply P.lanes (request_of command.now) (printed answer)) }
 {
     match command {
         Command::Size(width) => answer_size::<P>(alloc, *width),
@@ -95,5 +105,7 @@ fn reply_by<P: BitPacker>(
         }
         Command::Enc(kind, values) => answer_enc(alloc, packer, *kind, values.as_slice()),
         Command::Dec(bytes) => answer_dec(alloc, packer, bytes.as_slice()),
+        Command::Seek(target, bytes) => answer_seek(alloc, packer, *target, bytes.as_slice()),
+        Command::Upgrade(bytes) => answer_upgrade(alloc, packer, bytes.as_slice()),
     }
 }

@@ -1,8 +1,8 @@
 //! Chains of packed blocks, packed lists, and the line program.
 //!
 //! [`chain`] packs many blocks of one kind end to end. [`list`] writes a list of any length as one text, and reads untrusted
-//! texts. [`run`] reads lines to the end of a reader and writes the answer to each; [`ending`] says how a program
-//! then ends.
+//! texts. [`list2`] does so for lists in order, whose texts are read in place. [`run`] reads lines to the end of a reader and
+//! writes the answer to each; [`ending`] says how a program then ends.
 //!
 //! ```text
 //! pack 1x plain 1 1*32    ffffffff
@@ -12,22 +12,15 @@
 #![tactic(auto)]
 
 mod answer;
-pub mod chain;
-mod header;
 pub mod laws;
 mod line;
 mod line_loop;
-pub mod list;
-mod list_error;
-mod list_kind;
-mod little_endian;
-mod reserved;
+mod output;
 mod run_error;
 #[cfg(test)]
 mod tests;
 mod writing;
 
+pub use bitpack_lists::{ListError, ListKind, chain, list, list2};
 pub use line_loop::run;
-pub use list_error::ListError;
-pub use list_kind::ListKind;
 pub use run_error::{RunError, ending};

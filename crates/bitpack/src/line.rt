@@ -48,6 +48,10 @@ pub(crate) enum Command {
     Enc(ListKind, Vec<u32>),
     /// `dec`: the list of the bytes.
     Dec(Vec<u8>),
+    /// `seek`: the first value of the list of the bytes that is at least a target.
+    Seek(u32, Vec<u8>),
+    /// `upgrade`: the text of version 2 of the list of the bytes.
+    Upgrade(Vec<u8>),
 }
 
 /// A line that was parsed.

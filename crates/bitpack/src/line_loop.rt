@@ -1,94 +1,97 @@
 //! The loop that reads lines and writes their answers.
 
-ghost use Rattle.std.specs.Prelude.{◌≡◌, ◌≢◌, ℕ, Option, List, [], ◌∷◌, ◌++◌, OnOk, OnErr, IfErr, IfSome, IsErrOf};
-ghost use Rattle.bitpack.specs.Lines.{AnsweredSoFar, AnswersAll, AnswersEnded, AnswersInPart, AppendsAnswers, AppendsAnswersInPart, kept_part, lines};
+ghost use Rattle.std.specs.Prelude.{◌≡◌, ◌≢◌, ℕ, Option, List, [], ◌∷◌, ◌++◌, OnOk, IfErr, IfSome, IsErrOf};
+ghost use Rattle.bitpack.specs.Lines.{AnsweredSoFar, AnswersAll, AnswersEnded, AnswersFirst, AnswersInPart, AppendsAnswers, StopsAmong, kept_part, lines};
 
 use super::answer::answer_line;
 use super::line::LINE_LIMIT;
+use super::output::Output;
 use super::run_error::RunError;
 use super::writing::flush;
-use std::alloc::Global;
+use std::alloc::{AllocError, Global};
 use std::io::{Read, Write};
 
 /// The most bytes of one read.
-const PIECE: usize = 4096;
+const PIECE: usize = 65_536;
 
 /// Appends a byte to the line. A line that is too long is kept up to one byte more than the limit; its further bytes are dropped.
-fn push_byte(line: &mut Vec<u8>, byte: u8) -> Result<(), RunError>
-    ensures ok { (begun : List ℕ) → line.old.items ≡ kept_part begun → OnOk result (line.new.items ≡ kept_part (begun ++ byte ∷ [])) }
-    ensures kind { IfErr result (λ e. e ≡ RunError.Memory) }
+fn push_byte(line: &mut Vec<u8>, byte: u8) -> Result<(), AllocError>
+    ensures { (begun : List ℕ) → line.old.items ≡ kept_part begun → OnOk result (line.new.items ≡ kept_part (begun ++ byte ∷ [])) }
 {
     if line.len() <= LINE_LIMIT {
-        match line.push(byte) {
-            Ok(()) => Ok(()),
-            Err(_) => Err(RunError::Memory),
-        }
-    } else {
-        Ok(())
-    }
-}
-
-/// Handles the next byte of the input: a line feed ends the line, and its answer is written.
-fn handle_byte<W: Write>(
-    alloc: Global,
-    line: &mut Vec<u8>,
-    byte: u8,
-    writer: &mut W,
-) -> Result<(), RunError>
-    ensures ok { (before : Option (List ℕ)) (input : List ℕ) → AnsweredSoFar before (W.contents writer.old) input line.old.items
-        → OnOk result (AnsweredSoFar before (W.contents writer.new) (input ++ byte ∷ []) line.new.items) }
-    ensures err { (before : Option (List ℕ)) (input rest : List ℕ) → AnsweredSoFar before (W.contents writer.old) input line.old.items
-        → OnErr result (AppendsAnswersInPart before (W.contents writer.new) (lines (input ++ byte ∷ rest))) }
-    ensures kind { IfErr result (λ e. e ≢ RunError.Read) }
-{
-    if byte == b'\n' {
-        answer_line(alloc, line.as_slice(), writer)?;
-        line.clear();
-        Ok(())
-    } else {
-        push_byte(line, byte)
-    }
-}
-
-/// Handles the next bytes of the input, in order.
-fn handle_bytes<W: Write>(
-    alloc: Global,
-    line: &mut Vec<u8>,
-    bytes: &[u8],
-    writer: &mut W,
-) -> Result<(), RunError>
-    ensures ok { (before : Option (List ℕ)) (input : List ℕ) → AnsweredSoFar before (W.contents writer.old) input line.old.items
-        → OnOk result (AnsweredSoFar before (W.contents writer.new) (input ++ bytes.now) line.new.items) }
-    ensures err { (before : Option (List ℕ)) (input : List ℕ) → AnsweredSoFar before (W.contents writer.old) input line.old.items
-        → OnErr result (AppendsAnswersInPart before (W.contents writer.new) (lines (input ++ bytes.now))) }
-    ensures kind { IfErr result (λ e. e ≢ RunError.Read) }
-{
-    for byte in bytes {
-        handle_byte(alloc, line, *byte, writer)?;
+        line.push(byte)?;
     }
     Ok(())
 }
 
-/// Answers the last line if it has no line feed.
-fn answer_last<W: Write>(alloc: Global, line: &[u8], writer: &mut W) -> Result<(), RunError>
-    ensures ok { (before : Option (List ℕ)) (input : List ℕ) → AnsweredSoFar before (W.contents writer.old) input line.now
+/// Handles the next byte of the input: a line feed ends the line, and its answer is put.
+fn handle_byte<W: Write>(
+    alloc: Global,
+    line: &mut Vec<u8>,
+    byte: u8,
+    output: &mut Output,
+    writer: &mut W,
+) -> Result<(), RunError>
+    ensures ok { (before : Option (List ℕ)) (input : List ℕ) → AnsweredSoFar before (W.contents writer.old) output.old input line.old.items
+        → OnOk result (AnsweredSoFar before (W.contents writer.new) output.new (input ++ byte ∷ []) line.new.items) }
+    ensures err { (before : Option (List ℕ)) (input rest : List ℕ) → AnsweredSoFar before (W.contents writer.old) output.old input line.old.items
+        → IfErr result (λ e. StopsAmong e before (W.contents writer.new) (lines (input ++ byte ∷ rest))) }
+{
+    if byte == b'\n' {
+        answer_line(alloc, line.as_slice(), output, writer)?;
+        line.clear();
+        return Ok(());
+    }
+    match push_byte(line, byte) {
+        Ok(()) => Ok(()),
+        Err(_) => Err(output.end_without_memory(writer)),
+    }
+}
+
+/// Handles the next bytes of the input, in order, and writes the answers to the lines that they end.
+fn handle_bytes<W: Write>(
+    alloc: Global,
+    line: &mut Vec<u8>,
+    bytes: &[u8],
+    output: &mut Output,
+    writer: &mut W,
+) -> Result<(), RunError>
+    ensures ok { (before : Option (List ℕ)) (input : List ℕ) → AnsweredSoFar before (W.contents writer.old) output.old input line.old.items
+        → OnOk result (AnsweredSoFar before (W.contents writer.new) output.new (input ++ bytes.now) line.new.items) }
+    ensures err { (before : Option (List ℕ)) (input : List ℕ) → AnsweredSoFar before (W.contents writer.old) output.old input line.old.items
+        → IfErr result (λ e. StopsAmong e before (W.contents writer.new) (lines (input ++ bytes.now))) }
+    ensures empty { OnOk result (output.new ≡ []) }
+{
+    for byte in bytes {
+        handle_byte(alloc, line, *byte, output, writer)?;
+    }
+    output.write_out(writer)
+}
+
+/// Answers the last line if it has no line feed, and writes the answer.
+fn answer_last<W: Write>(
+    alloc: Global,
+    line: &[u8],
+    output: &mut Output,
+    writer: &mut W,
+) -> Result<(), RunError>
+    ensures ok { (before : Option (List ℕ)) (input : List ℕ) → AnsweredSoFar before (W.contents writer.old) output.old input line.now
         → OnOk result (AppendsAnswers before (W.contents writer.new) (lines input)) }
-    ensures err { (before : Option (List ℕ)) (input : List ℕ) → AnsweredSoFar before (W.contents writer.old) input line.now
-        → OnErr result (AppendsAnswersInPart before (W.contents writer.new) (lines input)) }
-    ensures kind { IfErr result (λ e. e ≢ RunError.Read) }
+    ensures err { (before : Option (List ℕ)) (input : List ℕ) → AnsweredSoFar before (W.contents writer.old) output.old input line.now
+        → IfErr result (λ e. StopsAmong e before (W.contents writer.new) (lines input)) }
 {
     if line.is_empty() {
-        Ok(())
-    } else {
-        answer_line(alloc, line, writer)
+        return output.write_out(writer);
     }
+    answer_line(alloc, line, output, writer)?;
+    output.write_out(writer)
 }
 
 /// Reads lines to the end of input and writes one answer for each; then flushes, once.
 ///
-/// Nothing is retried: the first read, write or allocation that fails ends the run, and after a failure nothing is flushed.
-/// A reader that gives more after `u64::MAX` reads counts as failed. At most 65,537 bytes of a line are kept in memory,
-/// whatever the input.
+/// Before it reads again, the answer to each line that has ended is written. Nothing is retried: the first read, write or
+/// allocation that fails ends the run, and after a failure nothing is flushed. A reader that gives more after `u64::MAX`
+/// reads counts as failed. At most 65,537 bytes of a line are kept in memory, whatever the input.
 pub fn run<R: Read, W: Write>(alloc: Global, reader: &mut R, writer: &mut W) -> Result<(), RunError>
     // The reader gave an input to its end, and all its lines were answered.
     ensures ok { OnOk result (AnswersAll (R.remaining reader.old) (R.remaining reader.new) (W.contents writer.old) (W.contents writer.new)) }
@@ -98,18 +101,21 @@ pub fn run<R: Read, W: Write>(alloc: Global, reader: &mut R, writer: &mut W) -> 
     ensures read { IsErrOf result RunError.Read → AnswersEnded (R.remaining reader.old) (R.remaining reader.new) (W.contents writer.old) (W.contents writer.new) }
     // What was written is a beginning of the answers to what was read.
     ensures stopped { IfErr result (λ e. e ≢ RunError.Read → AnswersInPart (R.remaining reader.old) (R.remaining reader.new) (W.contents writer.old) (W.contents writer.new)) }
+    // Where memory ran out it is whole answers.
+    ensures memory { IsErrOf result RunError.Memory → AnswersFirst (R.remaining reader.old) (R.remaining reader.new) (W.contents writer.old) (W.contents writer.new) }
 {
     let mut line = Vec::new(alloc);
+    let mut output = Output::new();
     let mut piece = [0; PIECE];
     for _ in 0..u64::MAX {
         let Ok(count) = reader.read(&mut piece) else {
             return Err(RunError::Read);
         };
         if count == 0 {
-            answer_last(alloc, line.as_slice(), writer)?;
+            answer_last(alloc, line.as_slice(), &mut output, writer)?;
             return flush(writer);
         }
-        handle_bytes(alloc, &mut line, &piece[..count], writer)?;
+        handle_bytes(alloc, &mut line, &piece[..count], &mut output, writer)?;
     }
     Err(RunError::Read)
 }

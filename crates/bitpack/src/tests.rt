@@ -5,14 +5,27 @@
 //! answered `refused 1`, and one of more than 65,536 bytes `refused 6`.
 
 mod blocks;
+mod by_kind;
+mod calls;
 mod chains;
+mod changed_lists;
 mod fakes;
 mod faults;
+mod intersect;
 mod lines;
+mod list2;
+mod list2_memory;
+mod list2_refused;
+mod list_growths;
 mod list_lines;
 mod list_memory;
 mod lists;
 mod no_memory;
+mod oracle;
+mod seek;
+mod upgrade;
+mod upgrade_memory;
+mod walk;
 mod worked;
 
 use super::run;

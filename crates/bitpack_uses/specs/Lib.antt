@@ -1,3 +1,4 @@
 -- The definitions of the callers.
 pub mod Sets
 pub mod Stored
+pub mod Texts

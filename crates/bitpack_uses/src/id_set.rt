@@ -2,8 +2,8 @@
 
 ghost use Rattle.std.specs.Prelude.{◌≡◌, ◌↔◌, ◌≤◌, ◌^◌, ℕ, List, Contains, IsTrue, IfOk, IsOkUnless, length};
 ghost use Rattle.std.specs.List.Sorted.{IsStrictlyIncreasing};
-ghost use Rattle.bitpack.specs.declared.list_error.ListError.TheVariants.{Memory};
-ghost use Rattle.bitpack.specs.Version1.{List1};
+ghost use Rattle.bitpack_lists.specs.declared.list_error.ListError.TheVariants.{Memory};
+ghost use Rattle.bitpack_lists.specs.Version1.{List1};
 ghost use Rattle.bitpack_uses.specs.declared.id_set.IdSetError.TheVariants.{Refused};
 ghost use Rattle.bitpack_uses.specs.Sets.{IsSetOf, common, has};
 

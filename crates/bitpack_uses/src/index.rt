@@ -1,8 +1,8 @@
 //! A small inverted index: words, and for each the packed set of the documents that have it.
 
 ghost use Rattle.std.specs.Prelude.{◌≡◌, ℕ, List, IfOk};
-ghost use Rattle.bitpack.specs.declared.list_kind.ListKind.{ListKind};
-ghost use Rattle.bitpack.specs.Version1.{List1};
+ghost use Rattle.bitpack_lists.specs.declared.list_kind.ListKind.{ListKind};
+ghost use Rattle.bitpack_lists.specs.Version1.{List1};
 ghost use Rattle.bitpack_uses.specs.Sets.{common};
 
 use crate::id_set::{IdSet, IdSetError};

@@ -1,14 +1,16 @@
 //! What was packed is read back, for every packer.
 
-ghost use Rattle.std.specs.Prelude.{◌≡◌, ◌*◌, ◌≤◌, length, take, IfOk};
+ghost use Rattle.std.specs.Prelude.{◌≡◌, ◌*◌, ◌≤◌, length, take, drop, slice_get, IfOk};
 ghost use Rattle.bitpacking.specs.declared.kind.Kind.{Kind};
 ghost use Rattle.bitpacking.specs.Calls.{IsPacked};
 ghost use Rattle.bitpacking.specs.Width.{IsWidth};
-ghost use Rattle.bitpack.specs.Chains.{Chained};
+ghost use Rattle.bitpack_lists.specs.Chains.{Chained};
+ghost use Rattle.bitpack_lists.specs.Search.{first_at_least};
 
 use bitpack::chain::{pack_all, unpack_all};
 use bitpack::laws::{chains_read_back, one_text};
-use bitpack::{ListError, ListKind, list};
+use bitpack::list2::{PackedList, Reads};
+use bitpack::{ListError, ListKind, list, list2};
 use bitpacking::laws::round_trips;
 use bitpacking::{BitPacker, Kind};
 use std::alloc::Global;
@@ -29,7 +31,7 @@ pub fn block<P: BitPacker>(packer: &P, values: &[u32], bytes: &mut [u8], unpacke
     width
 }
 
-/// Packs blocks as a chain and unpacks them. Returns the number of bytes.
+/// Packs blocks as a chain and unpacks them. Returns the number of bytes. Later bytes stay as they were.
 pub fn chain<P: BitPacker>(
     packer: &P,
     kind: Kind,
@@ -42,6 +44,7 @@ pub fn chain<P: BitPacker>(
     requires room { 4 * length values.now ≤ length bytes.old }
     requires places { length unpacked.old ≡ length values.now }
     ensures packed { Chained P.lanes kind values.now widths.new (take result bytes.new) }
+    ensures rest { drop result bytes.new ≡ drop result bytes.old }
     ensures same { unpacked.new ≡ values.now }
 {
     chains_read_back();
@@ -65,4 +68,36 @@ pub fn list<P: BitPacker>(
     let mut unpacked = Vec::new(alloc);
     list::decode(packer, &text, &mut unpacked)?;
     Ok(unpacked)
+}
+
+/// Packs a list in order as one text and reads the value at a position from it.
+pub fn value<P: BitPacker>(
+    alloc: Global,
+    packer: &P,
+    kind: ListKind,
+    values: &[u32],
+    position: usize,
+) -> Result<Option<u32>, ListError>
+    ensures same { IfOk result (λ found. found ≡ slice_get values.now position) }
+{
+    let mut text = Vec::new(alloc);
+    list2::encode(packer, kind, values, &mut text)?;
+    let list = PackedList::open(*packer, &text)?;
+    Ok(list.get(position))
+}
+
+/// Packs a sorted list as one text and finds in it the first value that is at least a target.
+pub fn search<P: BitPacker>(
+    alloc: Global,
+    packer: &P,
+    values: &[u32],
+    target: u32,
+) -> Result<Option<(usize, u32)>, ListError>
+    ensures first { IfOk result (λ found. found ≡ first_at_least values.now target) }
+{
+    one_text();
+    let mut text = Vec::new(alloc);
+    list2::encode(packer, ListKind::Sorted, values, &mut text)?;
+    let list = PackedList::open(*packer, &text)?;
+    Ok(list.seek(target, &mut Reads::new()))
 }

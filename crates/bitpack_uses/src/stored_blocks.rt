@@ -1,9 +1,9 @@
 //! Blocks whose widths and lengths come from outside: each is tested before the call that asks for it.
 
-ghost use Rattle.std.specs.Prelude.{◌≡◌, ◌*◌, [], ◌∷◌, length, take, sum, OnOk, OnErr, IfOk, IfErr};
+ghost use Rattle.std.specs.Prelude.{◌≡◌, ◌*◌, [], ◌∷◌, length, take, drop, sum, OnOk, OnErr, IfOk, IfErr};
 ghost use Rattle.bitpacking.specs.Calls.{IsUnpacked};
 ghost use Rattle.bitpacking.specs.Layout.{size};
-ghost use Rattle.bitpack.specs.Chains.{Loose};
+ghost use Rattle.bitpack_lists.specs.Chains.{Loose};
 ghost use Rattle.bitpack_uses.specs.Stored.{IsRefused};
 
 use bitpack::chain::unpack_all;
@@ -77,6 +77,7 @@ pub fn read_chain<P: BitPacker>(
     ensures size { IfOk result (λ read. read ≡ 4 * P.lanes * sum widths.now) }
     ensures ok { OnOk result (Loose P.lanes kind (take (P.BLOCK_LEN * length widths.now) values.new) widths.now
         (take (4 * P.lanes * sum widths.now) bytes.now)) }
+    ensures rest { OnOk result (drop (P.BLOCK_LEN * length widths.now) values.new ≡ drop (P.BLOCK_LEN * length widths.now) values.old) }
     ensures err { IfErr result (IsRefused P.lanes widths.now bytes.now values.old) }
     ensures unchanged { OnErr result (values.new ≡ values.old) }
 {

@@ -11,7 +11,7 @@ use Rattle.bitpacking_register.proofs.ForCallers.{differences-running_sums, runn
 use Rattle.std.proofs.Math.Pow.{pow_mono}
 use Rattle.bitpacking.specs.Layout.{Layout, Holds}
 use Rattle.bitpacking.specs.CodeLaws.{length-differences, length-strict}
-use Rattle.bitpacking.specs.Codes.{AreWords, codes, one_less, one_more, start}
+use Rattle.bitpacking.specs.Codes.{AreWords, codes, one_less, one_more, start, values_of}
 
 pub differences-of_running_sums : (before : ℕ) (values : List ℕ) → before < 2 ^ 32 → AreWords values
     → differences before (running_sums before values) ≡ values
@@ -66,24 +66,18 @@ AreWords-codes Plain block words = words
 AreWords-codes (Sorted initial) block words = AreWords-differences initial block
 AreWords-codes (StrictlySorted initial) block words = AreWords-less (differences (unwrap_or initial 4294967295) block)
 
--- The one block that has these codes.
-abbrev pub block_of : Kind → List ℕ → List ℕ
-block_of Plain values = values
-block_of (Sorted initial) values = running_sums initial values
-block_of (StrictlySorted initial) values = running_sums (unwrap_or initial 4294967295) (map one_more values)
-
-pub codes-block_of : (kind : Kind) (values : List ℕ) → start kind < 2 ^ 32 → AreWords values
-    → codes kind (block_of kind values) ≡ values
-codes-block_of Plain values h words = refl
-codes-block_of (Sorted initial) values h words = differences-of_running_sums initial values h words
-codes-block_of (StrictlySorted initial) values h words =
+pub codes-values_of : (kind : Kind) (values : List ℕ) → start kind < 2 ^ 32 → AreWords values
+    → codes kind (values_of kind values) ≡ values
+codes-values_of Plain values h words = refl
+codes-values_of (Sorted initial) values h words = differences-of_running_sums initial values h words
+codes-values_of (StrictlySorted initial) values h words =
     ap (map one_less) (differences-of_running_sums (unwrap_or initial 4294967295) (map one_more values) h (AreWords-more values))
     ∙ less-more values words
 
-pub AreWords-block_of : (kind : Kind) (values : List ℕ) → AreWords values → AreWords (block_of kind values)
-AreWords-block_of Plain values words = words
-AreWords-block_of (Sorted initial) values words = AreWords-running_sums initial values
-AreWords-block_of (StrictlySorted initial) values words = AreWords-running_sums (unwrap_or initial 4294967295) (map one_more values)
+pub AreWords-values_of : (kind : Kind) (values : List ℕ) → AreWords values → AreWords (values_of kind values)
+AreWords-values_of Plain values words = words
+AreWords-values_of (Sorted initial) values words = AreWords-running_sums initial values
+AreWords-values_of (StrictlySorted initial) values words = AreWords-running_sums (unwrap_or initial 4294967295) (map one_more values)
 
 -- no initial value means the greatest one
 pub codes-none : (block : List ℕ) → codes (StrictlySorted None) block ≡ codes (StrictlySorted (Some 4294967295)) block
@@ -161,11 +155,11 @@ same_block (StrictlySorted initial) xs ys hx hy e =
     ∙ more-less (differences (unwrap_or initial 4294967295) ys) (AreWords-differences (unwrap_or initial 4294967295) ys))
 
 -- The values that are given for the codes of a layout are the block that the bytes hold.
-pub Holds-block_of : (lanes width : ℕ) (kind : Kind) (values block bytes : List ℕ) → width ≤ 32 → start kind < 2 ^ 32
-    → Layout lanes width values bytes → block ≡ block_of kind values → Holds lanes width kind block bytes
-Holds-block_of lanes width kind values block bytes narrow small layout e =
+pub Holds-values_of : (lanes width : ℕ) (kind : Kind) (values block bytes : List ℕ) → width ≤ 32 → start kind < 2 ^ 32
+    → Layout lanes width values bytes → block ≡ values_of kind values → Holds lanes width kind block bytes
+Holds-values_of lanes width kind values block bytes narrow small layout e =
     let words : AreWords values = λ k d lt.
     let fits : get_or values k d < 2 ^ width = layout.fits k d lt in
     let le : 2 ^ width ≤ 2 ^ 32 = pow_mono narrow in
     omega arith in
-    rw (e, codes-block_of kind values small words) layout
+    rw (e, codes-values_of kind values small words) layout

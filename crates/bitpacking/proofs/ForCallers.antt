@@ -1,20 +1,21 @@
 -- What the proofs of other crates may cite: the laws as lemmas, whose types are words of specs/Laws.antt, and after them a few facts on
--- lists of words and of bytes.
+-- lists of words and of bytes; and two steps of proofs by hand.
 use Rattle.std.proofs.Common.{ℕ, ◌^◌, ◌<◌, List, Fits, get_or, length, sym, ◌∙◌, ap, arith, inl, inr, w8, w32}
 use Rattle.std.proofs.lemmas.Bool.{cases_lt}
 use Rattle.std.proofs.lemmas.List.{get_or-drop, get_or_past}
 use Rattle.std.proofs.lemmas.List.Elements.{All-from_get_or}
 use Rattle.bitpacking.specs.Bits.{AreBytes}
-use Rattle.bitpacking.specs.Codes.{AreWords}
+use Rattle.bitpacking.specs.Codes.{AreWords, values_of}
 use Rattle.bitpacking.specs.Words.{joined, word}
 use Rattle.bitpacking.specs.Laws.{OneLayoutPlaces, OneLayoutBytes, OneLayoutCodes, AsManyCodes, CodesAreWords, OneBlock, OneLeastWidth, SameLeastWidth, FitsGreater, NoneIsTheLastNumber, LanesAreOneLaneLayouts, WordsAreLittleEndian, WordsReadBack}
 use Rattle.bitpacking.proofs.BitPlaces.{code_of, offset_of, of_place, place_of}
 use Rattle.bitpacking.specs.Layout.{codes_of}
 use Rattle.bitpacking.proofs.OneToOne.{bytes_of, bytes_of-bytes, Layout-bytes_of, same_bytes-from_layout, Layout-codes_of, same_codes-from_layout}
-use Rattle.bitpacking.proofs.Blocks.{block_of, AreWords-block_of, AreWords-codes, codes-block_of, length-codes, same_block, codes-none}
+use Rattle.bitpacking.proofs.Blocks.{AreWords-values_of, AreWords-codes, codes-values_of, length-codes, same_block, codes-none}
 use Rattle.bitpacking.proofs.OneLaneLayouts.{layout-lane}
 use Rattle.bitpacking.proofs.RegisterLemmas.{word-bytes_of_words}
 use Rattle.bitpacking.proofs.Widths.{least_width, Least-same, Fits-more}
+pub use Rattle.bitpacking.proofs.Facts.{tells, tells_last}
 pub use Rattle.bitpacking.proofs.OrderLemmas.{strict_saves_at_most_a_bit, sorted_codes_are_differences}
 pub use Rattle.bitpacking.proofs.RoundTrips.{bytes_hold_one_block, block_has_one_list, blocks_share_no_bytes, equal_packed_buffers, equal_unpacked_values}
 pub use Rattle.bitpacking.proofs.FrontWords.{AreBytes-take}
@@ -59,12 +60,11 @@ pub codes_are_words : CodesAreWords
 codes_are_words = AreWords-codes
 
 pub one_block : OneBlock
-one_block kind values small words = (
-  block_of kind values,
-  AreWords-block_of kind values words,
-  codes-block_of kind values small words,
-  λ others words' e. same_block kind others (block_of kind values) words' (AreWords-block_of kind values words)
-      (e ∙ sym (codes-block_of kind values small words)),
+one_block kind words small are = (
+  AreWords-values_of kind words are,
+  codes-values_of kind words small are,
+  λ others are' e. same_block kind others (values_of kind words) are' (AreWords-values_of kind words are)
+      (e ∙ sym (codes-values_of kind words small are)),
 )
 
 pub one_least_width : OneLeastWidth

@@ -1,7 +1,7 @@
 -- The codes of a block: what is packed in place of its values.
 use Rattle.std.specs.Prelude.{ℕ, ◌^◌, ◌<◌, List, map, All, unwrap_or}
 use Rattle.bitpacking_register.specs.Words.{wrapping_sum, wrapping_difference}
-use Rattle.bitpacking_register.specs.Deltas.{differences}
+use Rattle.bitpacking_register.specs.Deltas.{differences, running_sums}
 use Rattle.bitpacking.specs.declared.kind.Kind.{Kind}
 use Rattle.bitpacking.specs.declared.kind.Kind.TheVariants.{Plain, Sorted, StrictlySorted}
 
@@ -27,3 +27,9 @@ abbrev pub codes : Kind → List ℕ → List ℕ
 codes Plain block = block
 codes (Sorted initial) block = differences (start (Sorted initial)) block
 codes (StrictlySorted initial) block = map one_less (differences (start (StrictlySorted initial)) block)
+
+-- the block that has these codes
+abbrev pub values_of : Kind → List ℕ → List ℕ
+values_of Plain codes = codes
+values_of (Sorted initial) codes = running_sums (start (Sorted initial)) codes
+values_of (StrictlySorted initial) codes = running_sums (start (StrictlySorted initial)) (map one_more codes)

@@ -6,7 +6,7 @@ use Rattle.std.specs.List.Sorted.{IsNonDecreasing, IsStrictlyIncreasing}
 use Rattle.bitpacking.specs.declared.kind.Kind.{Kind}
 use Rattle.bitpacking.specs.declared.kind.Kind.TheVariants.{Sorted, StrictlySorted}
 use Rattle.bitpacking.specs.Bits.{AreBytes}
-use Rattle.bitpacking.specs.Codes.{AreWords, codes, start}
+use Rattle.bitpacking.specs.Codes.{AreWords, codes, start, values_of}
 use Rattle.bitpacking.specs.Width.{Fits, IsWidth, Least}
 use Rattle.bitpacking.specs.Layout.{codes_of, place, size, Holds, Layout}
 use Rattle.bitpacking.specs.Words.{bytes_of_words, word}
@@ -38,11 +38,11 @@ AsManyCodes = (kind : Kind) (block : List ℕ) → length (codes kind block) ≡
 abbrev pub CodesAreWords : Type 0
 CodesAreWords = (kind : Kind) (block : List ℕ) → AreWords block → AreWords (codes kind block)
 
--- words are the codes of a block, and any two such blocks are equal
+-- words are the codes of `values_of` them, and of no other block
 abbrev pub OneBlock : Type 0
 OneBlock = (kind : Kind) (words : List ℕ) → start kind < 2 ^ 32 → AreWords words
-    → (block : List ℕ) × AreWords block × (codes kind block ≡ words)
-    × ((others : List ℕ) → AreWords others → codes kind others ≡ words → others ≡ block)
+    → AreWords (values_of kind words) × (codes kind (values_of kind words) ≡ words)
+    × ((others : List ℕ) → AreWords others → codes kind others ≡ words → others ≡ values_of kind words)
 
 -- words have one least width, and it is at most 32
 abbrev pub OneLeastWidth : Type 0

@@ -119,4 +119,7 @@ pub trait BitPacker: Sized + Clone + Copy {
     ghost some_lanes: { 1 ≤ lanes };
 
     ghost few_lanes: { lanes ≤ 8 };
+
+    // A clone is its original.
+    ghost clone_same: { (x y : Self) → Self.is_clone x y → y ≡ x };
 }

@@ -1,6 +1,6 @@
 //! Blocks of 32 values in one lane.
 
-ghost use Rattle.std.proofs.Common.{lit≤, refl};
+ghost use Rattle.std.proofs.Common.{lit≤, refl, rules};
 
 use crate::by_kind::{pack_kind, unpack_kind, width_kind};
 use crate::code_kernels::SimpleLoops;
@@ -136,6 +136,8 @@ impl BitPacker for BitPacker1x {
     ghost some_lanes = { lit≤ tt };
 
     ghost few_lanes = { lit≤ tt };
+
+    ghost clone_same = { Prim.search rules };
 }
 
 impl Counted for BitPacker1x {
@@ -165,6 +167,6 @@ impl Counted for BitPacker1x {
 
     #[inline(always)]
     fn width_counted(&self, kind: Kind, decompressed: &[u32], steps: &mut Steps) -> u8 {
-        width_kind::<u32>(kind, decompressed, steps)
+        width_kind::<SimpleLoops, u32>(kind, decompressed, steps)
     }
 }

@@ -1,6 +1,6 @@
 //! Blocks of 128 values in four lanes.
 
-ghost use Rattle.std.proofs.Common.{lit≤, refl};
+ghost use Rattle.std.proofs.Common.{lit≤, refl, rules};
 
 use crate::by_kind::{pack_kind, unpack_kind, width_kind};
 use crate::code_kernels::{ByWidth, SimpleLoops};
@@ -145,6 +145,8 @@ impl BitPacker for BitPacker4x {
     ghost some_lanes = { lit≤ tt };
 
     ghost few_lanes = { lit≤ tt };
+
+    ghost clone_same = { Prim.search rules };
 }
 
 impl Counted for BitPacker4x {
@@ -195,8 +197,12 @@ impl Counted for BitPacker4x {
     #[inline(always)]
     fn width_counted(&self, kind: Kind, decompressed: &[u32], steps: &mut Steps) -> u8 {
         match self.0 {
-            InstructionSet::Lanes => width_kind::<u32x4>(kind, decompressed, steps),
-            InstructionSet::Scalar => width_kind::<[u32; 4]>(kind, decompressed, steps),
+            InstructionSet::Lanes => width_kind::<ByWidth, u32x4>(kind, decompressed, steps),
+            InstructionSet::Scalar => width_kind::<SimpleLoops, [u32; 4]>(
+                kind,
+                decompressed,
+                steps,
+            ),
         }
     }
 }

@@ -1,6 +1,6 @@
 //! Blocks of 256 values in eight lanes.
 
-ghost use Rattle.std.proofs.Common.{lit≤, refl};
+ghost use Rattle.std.proofs.Common.{lit≤, refl, rules};
 
 use crate::by_kind::{pack_kind, unpack_kind, width_kind};
 use crate::code_kernels::{ByWidth, SimpleLoops};
@@ -145,6 +145,8 @@ impl BitPacker for BitPacker8x {
     ghost some_lanes = { lit≤ tt };
 
     ghost few_lanes = { lit≤ tt };
+
+    ghost clone_same = { Prim.search rules };
 }
 
 impl Counted for BitPacker8x {
@@ -195,8 +197,12 @@ impl Counted for BitPacker8x {
     #[inline(always)]
     fn width_counted(&self, kind: Kind, decompressed: &[u32], steps: &mut Steps) -> u8 {
         match self.0 {
-            InstructionSet::Lanes => width_kind::<u32x8>(kind, decompressed, steps),
-            InstructionSet::Scalar => width_kind::<[u32; 8]>(kind, decompressed, steps),
+            InstructionSet::Lanes => width_kind::<ByWidth, u32x8>(kind, decompressed, steps),
+            InstructionSet::Scalar => width_kind::<SimpleLoops, [u32; 8]>(
+                kind,
+                decompressed,
+                steps,
+            ),
         }
     }
 }

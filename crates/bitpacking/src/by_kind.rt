@@ -10,6 +10,7 @@ ghost use Rattle.bitpacking.specs.Moves.{Moves};
 
 use crate::Kind;
 use crate::code_kernels::CodeKernels;
+use crate::instruction_set::RunsOn;
 use crate::kernel::widths::width;
 use crate::kinds::sinks::{DeltaIntegrate, Store, StrictDeltaIntegrate};
 use crate::kinds::transformers::{DeltaComputer, NoDelta, StrictDeltaComputer};
@@ -18,7 +19,7 @@ use bitpacking_register::Register;
 
 /// Packs a block of a kind.
 #[inline(always)]
-pub(crate) fn pack_kind<K: CodeKernels, R: Register>(
+pub(crate) fn pack_kind<K: CodeKernels + RunsOn<R>, R: Register>(
     kind: Kind,
     decompressed: &[u32],
     compressed: &mut [u8],
@@ -50,7 +51,7 @@ pub(crate) fn pack_kind<K: CodeKernels, R: Register>(
 
 /// Unpacks a block of a kind.
 #[inline(always)]
-pub(crate) fn unpack_kind<K: CodeKernels, R: Register>(
+pub(crate) fn unpack_kind<K: CodeKernels + RunsOn<R>, R: Register>(
     kind: Kind,
     compressed: &[u8],
     decompressed: &mut [u32],
@@ -88,7 +89,11 @@ pub(crate) fn unpack_kind<K: CodeKernels, R: Register>(
 
 /// The least width of a block of a kind.
 #[inline(always)]
-pub(crate) fn width_kind<R: Register>(kind: Kind, decompressed: &[u32], steps: &mut Steps) -> u8
+pub(crate) fn width_kind<K: RunsOn<R>, R: Register>(
+    kind: Kind,
+    decompressed: &[u32],
+    steps: &mut Steps,
+) -> u8
     requires { length decompressed.now ≡ 32 * R.LANES }
     ensures width { IsWidth kind decompressed.now result }
     ensures narrow { result ≤ 32 }

@@ -1,80 +1,55 @@
-//! What answers are made of: refusals, bytes, values and lists.
+//! What answers are made of: refusals, numbers, bytes and values.
 
-ghost use Rattle.std.specs.Prelude.{◌≡◌, ◌++◌, IfOk, OnOk, string_bytes};
+ghost use Rattle.std.specs.Prelude.{◌≡◌, IfOk};
+ghost use Rattle.std.specs.Fmt.{decimal};
 ghost use Rattle.bitpacking.specs.Bits.{AreBytes};
 ghost use Rattle.bitpacking.specs.Codes.{AreWords};
-ghost use Rattle.bitpack.specs.Grammar.{list_kind_string};
-ghost use Rattle.bitpack.specs.Answers.{printed_bytes, printed_list, printed_values, refused};
+ghost use Rattle.bitpack.specs.Answers.{printed, printed_bytes, printed_found, printed_values, refused};
 
-use crate::ListKind;
+use super::Answer;
 use std::alloc::{AllocError, Global};
-use std::fmt::Write;
 
 /// A refusal, by its number.
-pub(crate) fn refuse(alloc: Global, number: u8) -> Result<String, AllocError>
-    ensures { IfOk result (λ answer. string_bytes answer ≡ refused number) }
+pub(crate) fn refuse(alloc: Global, number: u8) -> Result<Answer, AllocError>
+    ensures { IfOk result (λ answer. printed answer ≡ refused number) }
 {
-    format!(in alloc; "refused {number}")
+    Ok(Answer::Printed(format!(in alloc; "refused {number}")?))
+}
+
+/// A number.
+pub(crate) fn format_number(alloc: Global, number: usize) -> Result<Answer, AllocError>
+    ensures { IfOk result (λ answer. printed answer ≡ decimal number) }
+{
+    Ok(Answer::Printed(format!(in alloc; "{number}")?))
+}
+
+/// A position and the value there, or `none`.
+pub(crate) fn format_found(alloc: Global, found: Option<(usize, u32)>) -> Result<Answer, AllocError>
+    ensures { IfOk result (λ answer. printed answer ≡ printed_found found) }
+{
+    match found {
+        Some((position, value)) => { Ok(Answer::Printed(format!(in alloc; "{position} {value}")?)) }
+        None => Ok(Answer::Printed(String::from_str(alloc, "none")?)),
+    }
 }
 
 /// Bytes as pairs of lower-case digits.
-pub(crate) fn format_bytes(alloc: Global, bytes: &[u8]) -> Result<String, AllocError>
-    ensures answer { IfOk result (λ answer. string_bytes answer ≡ printed_bytes bytes.now) }
+pub(crate) fn format_bytes(alloc: Global, bytes: &[u8]) -> Result<Answer, AllocError>
+    ensures answer { IfOk result (λ answer. printed answer ≡ printed_bytes bytes.now) }
     ensures range { AreBytes bytes.now }
 {
-    if bytes.is_empty() {
-        String::from_str(alloc, "-")
+    let printed = if bytes.is_empty() {
+        String::from_str(alloc, "-")?
     } else {
-        hex::encode(alloc, bytes)
-    }
-}
-
-/// Appends values as decimals, with commas between them.
-fn push_values(answer: &mut String, values: &[u32]) -> Result<(), AllocError>
-    ensures answer { OnOk result (string_bytes answer.new ≡ string_bytes answer.old ++ printed_values values.now) }
-{
-    let Some((first, rest)) = values.split_first() else {
-        return answer.push('-');
+        hex::encode(alloc, bytes)?
     };
-    write!(answer, "{first}")?;
-    for value in rest {
-        write!(answer, ",{value}")?;
-    }
-    Ok(())
+    Ok(Answer::Printed(printed))
 }
 
-/// Values as decimals, with commas between them.
-pub(crate) fn format_values(alloc: Global, values: &[u32]) -> Result<String, AllocError>
-    ensures answer { IfOk result (λ answer. string_bytes answer ≡ printed_values values.now) }
+/// Values, which are printed later.
+pub(crate) fn copy_values(alloc: Global, values: &[u32]) -> Result<Answer, AllocError>
+    ensures answer { IfOk result (λ answer. printed answer ≡ printed_values values.now) }
     ensures range { AreWords values.now }
 {
-    let mut answer = String::new(alloc);
-    push_values(&mut answer, values)?;
-    Ok(answer)
-}
-
-/// The name of a kind of lists.
-fn list_kind_name(kind: ListKind) -> &'static str
-    ensures { result.now ≡ list_kind_string kind }
-{
-    match kind {
-        ListKind::Plain => "plain",
-        ListKind::Sorted => "sorted",
-        ListKind::StrictlySorted => "strict",
-    }
-}
-
-/// A list as its kind, a space and its values.
-pub(crate) fn format_list(
-    alloc: Global,
-    kind: ListKind,
-    values: &[u32],
-) -> Result<String, AllocError>
-    ensures answer { IfOk result (λ answer. string_bytes answer ≡ printed_list kind values.now) }
-    ensures range { AreWords values.now }
-{
-    let mut answer = String::from_str(alloc, list_kind_name(kind))?;
-    answer.push(' ')?;
-    push_values(&mut answer, values)?;
-    Ok(answer)
+    Ok(Answer::Values(values.to_vec(alloc)?))
 }

@@ -1,25 +1,30 @@
-//! The replies to `enc` and `dec`, by any packer.
+//! The replies to `enc`, `dec` and `seek`, by any packer.
 
-ghost use Rattle.std.specs.Prelude.{IfOk, string_bytes};
-ghost use Rattle.bitpack.specs.Grammar.{Dec, Enc};
-ghost use Rattle.bitpack.specs.Answers.{IsReply};
+ghost use Rattle.std.specs.Prelude.{◌≡◌, ◌==◌, ℕ, List, IfOk, slice_index};
+ghost use Rattle.bitpack_lists.specs.declared.list_kind.ListKind.{ListKind};
+ghost use Rattle.bitpack.specs.Grammar.{Dec, Enc, Seek};
+ghost use Rattle.bitpack.specs.Answers.{IsReply, printed, sought};
+ghost use Rattle.bitpack_lists.specs.Opened.{text};
+ghost use Rattle.bitpack_lists.specs.Version2.{List2};
 
-use super::formatting::{format_bytes, format_list, refuse};
+use super::Answer;
+use super::formatting::{format_bytes, format_found, refuse};
 use crate::list::{decode, encode};
+use crate::list2::{PackedList, Reads};
 use crate::{ListError, ListKind};
 use bitpacking::BitPacker;
 use std::alloc::{AllocError, Global};
 
 /// A list's fault is refused by its number and this.
-const LIST_REFUSALS: u8 = 20;
+pub(super) const LIST_REFUSALS: u8 = 20;
 
 pub(crate) fn answer_enc<P: BitPacker>(
     alloc: Global,
     packer: &P,
     kind: ListKind,
     values: &[u32],
-) -> Result<String, AllocError>
-    ensures { IfOk result (λ answer. IsReply P.lanes (Enc kind values.now) (string_bytes answer)) }
+) -> Result<Answer, AllocError>
+    ensures { IfOk result (λ answer. IsReply P.lanes (Enc kind values.now) (printed answer)) }
 {
     let mut bytes = Vec::new(alloc);
     // A line has fewer values than a list may have, so the only error is memory.
@@ -29,17 +34,70 @@ pub(crate) fn answer_enc<P: BitPacker>(
     }
 }
 
+/// Whether byte 0 names version 2. All other bytes are read as a text of version 1.
+fn is_version_2(bytes: &[u8]) -> bool
+    ensures { result ≡ (slice_index bytes.now 0 == 2) }
+{
+    !bytes.is_empty() && bytes[0] == 2
+}
+
 pub(crate) fn answer_dec<P: BitPacker>(
     alloc: Global,
     packer: &P,
     bytes: &[u8],
-) -> Result<String, AllocError>
-    ensures { IfOk result (λ answer. IsReply P.lanes (Dec bytes.now) (string_bytes answer)) }
+) -> Result<Answer, AllocError>
+    ensures { IfOk result (λ answer. IsReply P.lanes (Dec bytes.now) (printed answer)) }
 {
+    if is_version_2(bytes) {
+        return match PackedList::open(*packer, bytes) {
+            Ok(list) => Ok(Answer::List(list.kind(), values_of(alloc, &list)?)),
+            Err(fault) => refuse(alloc, LIST_REFUSALS + fault.number()),
+        };
+    }
     let mut values = Vec::new(alloc);
     match decode(packer, bytes, &mut values) {
-        Ok(kind) => format_list(alloc, kind, values.as_slice()),
+        Ok(kind) => Ok(Answer::List(kind, values)),
         Err(ListError::Memory) => Err(AllocError),
         Err(fault) => refuse(alloc, LIST_REFUSALS + fault.number()),
     }
+}
+
+/// The values of an opened list.
+fn values_of<P: BitPacker>(alloc: Global, list: &PackedList<'_, P>) -> Result<Vec<u32>, AllocError>
+    ensures { IfOk result (λ values. (kind : ListKind) (all : List ℕ) → List2 P.lanes kind all (text list.now) → values.items ≡ all) }
+{
+    let mut values = Vec::with_capacity(alloc, list.len())?;
+    for position in 0..list.len() {
+        // There is one: the position is below the length.
+        values.push(list.get(position).unwrap_or(0))?;
+    }
+    Ok(values)
+}
+
+pub(crate) fn answer_seek<P: BitPacker>(
+    alloc: Global,
+    packer: &P,
+    target: u32,
+    bytes: &[u8],
+) -> Result<Answer, AllocError>
+    ensures { IfOk result (λ answer. IsReply P.lanes (Seek target bytes.now) (printed answer)) }
+{
+    match PackedList::open(*packer, bytes) {
+        Ok(list) => seek_in(alloc, &list, target),
+        Err(fault) => refuse(alloc, LIST_REFUSALS + fault.number()),
+    }
+}
+
+/// The answer of an opened list. A plain list cannot be searched, and is refused for its kind.
+fn seek_in<P: BitPacker>(
+    alloc: Global,
+    list: &PackedList<'_, P>,
+    target: u32,
+) -> Result<Answer, AllocError>
+    ensures { IfOk result (λ answer. (kind : ListKind) (values : List ℕ) → List2 P.lanes kind values (text list.now) → printed answer ≡ sought kind values target) }
+{
+    if list.kind() == ListKind::Plain {
+        return refuse(alloc, LIST_REFUSALS + ListError::BadKind(0).number());
+    }
+    format_found(alloc, list.seek(target, &mut Reads::new()))
 }

@@ -1,48 +1,54 @@
 //! The replies to `size`, `width`, `pack` and `unpack`, by any packer.
 
-ghost use Rattle.std.specs.Prelude.{IfOk, string_bytes};
+ghost use Rattle.std.specs.Prelude.{IfOk};
 ghost use Rattle.bitpack.specs.Grammar.{Pack, Size, Unpack, Width};
-ghost use Rattle.bitpack.specs.Answers.{IsReply};
+ghost use Rattle.bitpack.specs.Answers.{IsReply, printed};
 
-use super::formatting::{format_bytes, format_values, refuse};
-use super::{NOT_A_BLOCK, NOT_ITS_BYTES, TOO_GREAT, TOO_WIDE};
-use crate::chain::{LONGEST_BLOCK, LONGEST_BODY, compress_kind, decompress_kind, width_kind};
-use bitpacking::{BitPacker, Kind};
+use super::formatting::{copy_values, format_bytes, format_number, refuse};
+use super::{Answer, NOT_A_BLOCK, NOT_ITS_BYTES, TOO_GREAT, TOO_WIDE};
+use bitpacking::{BitPacker, Counted, Kind, Steps};
 use std::alloc::{AllocError, Global};
 
 /// The widest width.
 const WIDEST: u8 = 32;
 
-pub(crate) fn answer_size<P: BitPacker>(alloc: Global, width: u8) -> Result<String, AllocError>
-    ensures { IfOk result (λ answer. IsReply P.lanes (Size width) (string_bytes answer)) }
+/// The most values of a block: 32 in each of 8 lanes.
+const LONGEST_BLOCK: usize = 256;
+
+/// The most bytes of a block: its values at 32 bits each.
+const LONGEST_BODY: usize = 1024;
+
+pub(crate) fn answer_size<P: BitPacker>(alloc: Global, width: u8) -> Result<Answer, AllocError>
+    ensures { IfOk result (λ answer. IsReply P.lanes (Size width) (printed answer)) }
 {
-    let size = P::compressed_block_size(width);
-    format!(in alloc; "{size}")
+    format_number(alloc, P::compressed_block_size(width))
 }
 
-pub(crate) fn answer_width<P: BitPacker>(
+pub(crate) fn answer_width<P: Counted>(
     alloc: Global,
     packer: &P,
     kind: Kind,
     values: &[u32],
-) -> Result<String, AllocError>
-    ensures { IfOk result (λ answer. IsReply P.lanes (Width kind values.now) (string_bytes answer)) }
+) -> Result<Answer, AllocError>
+    ensures { IfOk result (λ answer. IsReply P.lanes (Width kind values.now) (printed answer)) }
 {
     if values.len() != P::BLOCK_LEN {
         return refuse(alloc, NOT_A_BLOCK);
     }
-    let width = width_kind(packer, kind, values);
-    format!(in alloc; "{width}")
+    format_number(
+        alloc,
+        packer.width_counted(kind, values, &mut Steps::new()) as usize,
+    )
 }
 
-pub(crate) fn answer_pack<P: BitPacker>(
+pub(crate) fn answer_pack<P: Counted>(
     alloc: Global,
     packer: &P,
     kind: Kind,
     width: u8,
     values: &[u32],
-) -> Result<String, AllocError>
-    ensures { IfOk result (λ answer. IsReply P.lanes (Pack kind width values.now) (string_bytes answer)) }
+) -> Result<Answer, AllocError>
+    ensures { IfOk result (λ answer. IsReply P.lanes (Pack kind width values.now) (printed answer)) }
 {
     if values.len() != P::BLOCK_LEN {
         return refuse(alloc, NOT_A_BLOCK);
@@ -50,22 +56,22 @@ pub(crate) fn answer_pack<P: BitPacker>(
     if width > WIDEST {
         return refuse(alloc, TOO_WIDE);
     }
-    if width < width_kind(packer, kind, values) {
+    if width < packer.width_counted(kind, values, &mut Steps::new()) {
         return refuse(alloc, TOO_GREAT);
     }
     let mut bytes = [0; LONGEST_BODY];
-    let byte_len = compress_kind(packer, kind, values, &mut bytes, width);
+    let byte_len = packer.pack_counted(kind, values, &mut bytes, width, &mut Steps::new());
     format_bytes(alloc, &bytes[..byte_len])
 }
 
-pub(crate) fn answer_unpack<P: BitPacker>(
+pub(crate) fn answer_unpack<P: Counted>(
     alloc: Global,
     packer: &P,
     kind: Kind,
     width: u8,
     bytes: &[u8],
-) -> Result<String, AllocError>
-    ensures { IfOk result (λ answer. IsReply P.lanes (Unpack kind width bytes.now) (string_bytes answer)) }
+) -> Result<Answer, AllocError>
+    ensures { IfOk result (λ answer. IsReply P.lanes (Unpack kind width bytes.now) (printed answer)) }
 {
     if width > WIDEST {
         return refuse(alloc, TOO_WIDE);
@@ -74,6 +80,6 @@ pub(crate) fn answer_unpack<P: BitPacker>(
         return refuse(alloc, NOT_ITS_BYTES);
     }
     let mut block = [0; LONGEST_BLOCK];
-    decompress_kind(packer, kind, bytes, &mut block, width);
-    format_values(alloc, &block[..P::BLOCK_LEN])
+    packer.unpack_counted(kind, bytes, &mut block, width, &mut Steps::new());
+    copy_values(alloc, &block[..P::BLOCK_LEN])
 }

@@ -8,7 +8,7 @@ use super::Command;
 use super::bytes::parse_bytes;
 use super::error::ParseError::{self, Spelling};
 use super::names::{parse_kind, parse_list_kind};
-use super::numbers::parse_width;
+use super::numbers::{parse_width, parse_word};
 use super::values::parse_values;
 use std::alloc::Global;
 
@@ -41,6 +41,11 @@ pub(crate) fn parse_command(
             parse_values(alloc, values)?,
         )),
         ("dec", [bytes]) => Ok(Command::Dec(parse_bytes(alloc, bytes)?)),
+        ("seek", [target, bytes]) => Ok(Command::Seek(
+            parse_word(target).ok_or(Spelling)?,
+            parse_bytes(alloc, bytes)?,
+        )),
+        ("upgrade", [bytes]) => Ok(Command::Upgrade(parse_bytes(alloc, bytes)?)),
         _ => Err(Spelling),
     }
 }

@@ -1,14 +1,41 @@
-//! Blocks of every packer and kind: what no clause says is that the definitions are those of the format.
+//! Blocks of every width, of every packer and kind: what no clause says is that the definitions are those of the format.
 //!
-//! Expected bytes were worked by hand from the layout; those of the two blocks of 128 numbers are in the documentation of the
-//! Rust crate `bitpacking` 0.9.3. `laid` is a second, plain program, which lays single bits where the format says.
+//! The expected bytes are those of `oracle`, or were worked by hand.
 
-use crate::chain::{compress_kind, decompress_kind, width_kind};
+use super::by_kind::{compress_kind, decompress_kind, width_kind};
+use super::oracle::{KINDS, LONGEST, block_of, bytes, codes_of, laid, least_width, numbers};
 use bitpacking::laws::one_least_width;
-use bitpacking::{BitPacker, BitPacker1x, BitPacker4x, BitPacker8x, Kind};
+use bitpacking::{BitPacker, BitPacker1x, BitPacker4x, BitPacker8x, Counted, Kind, Steps};
 use std::process::Abort;
 
-/// Packs the block at the width, compares, and reads it back over places that hold another number.
+/// Past the bytes of a block 64 more are looked at, and past its values three more places.
+const BYTES_AFTER: usize = 64;
+
+const PLACES_AFTER: usize = 3;
+
+const ALL_BYTES: usize = LONGEST + BYTES_AFTER;
+
+const ALL_PLACES: usize = 256 + PLACES_AFTER;
+
+/// Packs a block at a width that its codes fit, and returns the number of bytes.
+fn packed<P: BitPacker>(
+    rt: &impl Abort,
+    packer: &P,
+    kind: Kind,
+    block: &[u32],
+    out: &mut [u8],
+    num_bits: u8,
+) -> usize {
+    assert!(rt; block.len() == P::BLOCK_LEN);
+    let least = width_kind(packer, kind, block);
+    assert!(rt; least <= num_bits && num_bits <= 32);
+    assert!(rt; P::compressed_block_size(num_bits) <= out.len());
+    one_least_width();
+    compress_kind(packer, kind, block, out, num_bits)
+}
+
+/// Packs the block at the width, compares, and reads it back over places that hold another number. No later byte or place has
+/// changed.
 pub(super) fn packs_to<P: BitPacker>(
     rt: &impl Abort,
     packer: &P,
@@ -17,24 +44,17 @@ pub(super) fn packs_to<P: BitPacker>(
     num_bits: u8,
     expected: &[u8],
 ) {
-    let len = block.len();
-    assert!(rt; len == P::BLOCK_LEN);
-    let least = width_kind(packer, kind, block);
-    assert!(rt; least <= num_bits && num_bits <= 32);
-    one_least_width();
-    let mut out = [0xaa; 1100];
-    let size = compress_kind(packer, kind, block, &mut out, num_bits);
+    let mut out = [0xaa; ALL_BYTES];
+    let end = expected.len().min(LONGEST);
+    let room = &mut out[..end + BYTES_AFTER];
+    let size = packed(rt, packer, kind, block, room, num_bits);
     assert_eq!(rt; size, expected.len());
-    assert!(rt; out[..size] == expected[..]);
-    assert!(rt; out[size..].iter().all(|byte| *byte == 0xaa));
-    let mut back = [9; 259];
-    let read = decompress_kind(packer, kind, &out, &mut back, num_bits);
-    assert_eq!(rt; read, size);
-    assert!(rt; back[..len] == block[..]);
-    assert!(rt; back[len..].iter().all(|value| *value == 9));
+    assert!(rt; out[..end] == expected[..]);
+    assert!(rt; out[end..].iter().all(|byte| *byte == 0xaa));
+    unpacks_to(rt, packer, kind, &out[..end], num_bits, block);
 }
 
-/// Unpacks bytes, which no call of ours need have written, over places that hold another number.
+/// Unpacks bytes, which no call of ours need have written, over places that hold another number. No later place has changed.
 pub(super) fn unpacks_to<P: BitPacker>(
     rt: &impl Abort,
     packer: &P,
@@ -46,112 +66,124 @@ pub(super) fn unpacks_to<P: BitPacker>(
     assert!(rt; num_bits <= 32);
     let size = P::compressed_block_size(num_bits);
     assert!(rt; bytes.len() == size);
-    let mut back = [9; 259];
-    assert_eq!(rt;
-        decompress_kind(packer, kind, bytes, &mut back, num_bits),
-        size
-    );
     let len = P::BLOCK_LEN;
+    let mut back = [9; ALL_PLACES];
+    let places = &mut back[..len + PLACES_AFTER];
+    let read = decompress_kind(packer, kind, bytes, places, num_bits);
+    assert_eq!(rt; read, size);
     assert!(rt; back[..len] == expected[..]);
     assert!(rt; back[len..].iter().all(|value| *value == 9));
 }
 
-/// The bytes of the codes, bit by bit: bit j of code k is bit `p` of its lane's words, which are `lanes` words apart.
-fn laid(codes: &[u32], lanes: usize, width: usize) -> [u8; 1024] {
-    let mut bytes = [0; 1024];
-    for (k, code) in codes.iter().enumerate() {
-        for j in 0..width {
-            let p = (k / lanes.max(1)).wrapping_mul(width).wrapping_add(j);
-            let word = lanes.wrapping_mul(p / 32).wrapping_add(k % lanes.max(1));
-            let bit = word.wrapping_mul(32).wrapping_add(p % 32);
-            if (*code as u64) >> j.min(63) & 1 == 1
-                && let Some(byte) = bytes.get_mut(bit / 8)
-            {
-                *byte |= 1u8 << (bit % 8);
+/// The numbers of each width as codes: the width call gives their least width, and they are packed at that and at 32.
+fn numbers_as_codes<P: BitPacker>(rt: &impl Abort, packer: &P) {
+    let len = P::BLOCK_LEN;
+    for width in 0..33u8 {
+        let codes = numbers::<256>(width);
+        let codes = &codes[..len];
+        let least = least_width(codes);
+        for kind in KINDS {
+            let block = block_of(kind, codes);
+            let found = width_kind(packer, kind, &block[..len]);
+            assert_eq!(rt; found, least);
+            for num_bits in [least, 32] {
+                let bytes = laid(codes, len / 32, num_bits);
+                let size = P::compressed_block_size(num_bits);
+                let bytes = bytes.get(..size).unwrap_or(&[]);
+                packs_to(rt, packer, kind, &block[..len], num_bits, bytes);
             }
         }
     }
-    bytes
 }
 
-/// The number after this one.
-fn next(x: u32) -> u32 {
-    x.wrapping_mul(1_664_525).wrapping_add(1_013_904_223)
-}
-
-/// Numbers of so many bits, in all lanes.
-fn numbers(places: &mut [u32], width: u32) {
-    let mut x = 1;
-    for place in places {
-        x = next(x);
-        *place = if width == 0 {
-            0
-        } else {
-            x >> (32 - width.min(32))
-        };
-    }
-}
-
-/// The block whose codes of this kind are the numbers.
-fn block_of(kind: Kind, codes: &[u32], places: &mut [u32]) {
-    let (mut value, step) = match kind {
-        Kind::Plain => (0, 0),
-        Kind::Sorted(initial) => (initial, 0),
-        Kind::StrictlySorted(initial) => (initial.unwrap_or(u32::MAX), 1),
-    };
-    for (place, code) in places.iter_mut().zip(codes) {
-        value = match kind {
-            Kind::Plain => *code,
-            _ => value.wrapping_add(*code).wrapping_add(step),
-        };
-        *place = value;
-    }
-}
-
-const KINDS: [Kind; 9] = [
-    Kind::Plain,
-    Kind::Sorted(0),
-    Kind::Sorted(1),
-    Kind::Sorted(u32::MAX),
-    Kind::StrictlySorted(None),
-    Kind::StrictlySorted(Some(0)),
-    Kind::StrictlySorted(Some(1)),
-    Kind::StrictlySorted(Some(u32::MAX)),
-    Kind::StrictlySorted(Some(7)),
-];
-
-/// Numbers of every width, at that width and at 32, of each kind.
-fn numbers_of_every_width<P: BitPacker>(rt: &impl Abort, packer: &P) {
+/// The numbers of 8 bits as bytes of each width: they are unpacked, and packed again.
+fn numbers_as_bytes<P: BitPacker>(rt: &impl Abort, packer: &P) {
     let len = P::BLOCK_LEN;
-    let lanes = len / 32;
+    let bytes = bytes::<LONGEST>();
     for width in 0..33u8 {
-        let mut codes = [0; 256];
-        numbers(&mut codes[..len], width as u32);
+        let size = P::compressed_block_size(width);
+        let bytes = bytes.get(..size).unwrap_or(&[]);
+        let codes = codes_of(bytes, len / 32, width);
         for kind in KINDS {
-            let mut block = [0; 256];
-            block_of(kind, &codes[..len], &mut block[..len]);
-            let size = 4 * lanes * width as usize;
-            let bytes = laid(&codes[..len], lanes, width as usize);
-            packs_to(rt, packer, kind, &block[..len], width, &bytes[..size]);
-            let bytes = laid(&codes[..len], lanes, 32);
-            packs_to(rt, packer, kind, &block[..len], 32, &bytes[..128 * lanes]);
+            let block = block_of(kind, &codes[..len]);
+            unpacks_to(rt, packer, kind, bytes, width, &block[..len]);
+            packs_to(rt, packer, kind, &block[..len], width, bytes);
+        }
+    }
+}
+
+/// What every packer is tested with, at every width.
+pub(super) fn every_width<P: BitPacker>(rt: &impl Abort, packer: &P) {
+    numbers_as_codes(rt, packer);
+    numbers_as_bytes(rt, packer);
+}
+
+#[test]
+fn every_width_1x(rt: HostRuntime) {
+    every_width(&rt, &BitPacker1x::new());
+}
+
+#[test]
+fn every_width_4x(rt: HostRuntime) {
+    every_width(&rt, &BitPacker4x::new());
+    every_width(&rt, &BitPacker4x::scalar());
+}
+
+#[test]
+fn every_width_8x(rt: HostRuntime) {
+    every_width(&rt, &BitPacker8x::new());
+    every_width(&rt, &BitPacker8x::scalar());
+}
+
+/// The counted calls answer as the others do.
+pub(super) fn counted_calls<P: Counted>(rt: &impl Abort, packer: &P) {
+    let len = P::BLOCK_LEN;
+    for width in 0..33u8 {
+        let codes = numbers::<256>(width);
+        for kind in KINDS {
+            let block = block_of(kind, &codes[..len]);
+            let found = packer.width_counted(kind, &block[..len], &mut Steps::new());
+            assert!(rt; found == width);
+            one_least_width();
+            let mut out = [0xaa; ALL_BYTES];
+            let steps = &mut Steps::new();
+            let size = packer.pack_counted(kind, &block[..len], &mut out, found, steps);
+            assert_eq!(rt; size, P::compressed_block_size(width));
+            let bytes = laid(&codes[..len], len / 32, width);
+            assert!(rt; out.get(..size) == bytes.get(..size));
+            let mut back = [9; 256];
+            let read = packer.unpack_counted(kind, &out, &mut back, found, &mut Steps::new());
+            assert_eq!(rt; read, size);
+            assert!(rt; back[..len] == block[..len]);
+        }
+    }
+}
+
+/// On equal buffers two packers leave equal buffers, whole: blocks of every width, and any bytes.
+fn equal_buffers<P: BitPacker>(rt: &impl Abort, packer: &P, other: &P) {
+    let len = P::BLOCK_LEN;
+    let bytes = bytes::<ALL_BYTES>();
+    let values = numbers::<ALL_PLACES>(32);
+    for width in 0..33u8 {
+        let codes = numbers::<256>(width);
+        for kind in KINDS {
+            let block = block_of(kind, &codes[..len]);
+            let (mut out, mut other_out) = (bytes, bytes);
+            let size = packed(rt, packer, kind, &block[..len], &mut out, width);
+            let other_size = packed(rt, other, kind, &block[..len], &mut other_out, width);
+            assert_eq!(rt; size, other_size);
+            assert!(rt; out == other_out);
+            let (mut back, mut other_back) = (values, values);
+            let read = decompress_kind(packer, kind, &bytes, &mut back, width);
+            let other_read = decompress_kind(other, kind, &bytes, &mut other_back, width);
+            assert_eq!(rt; read, other_read);
+            assert!(rt; back == other_back);
         }
     }
 }
 
 #[test]
-fn numbers_of_every_width_1x(rt: HostRuntime) {
-    numbers_of_every_width(&rt, &BitPacker1x::new());
-}
-
-#[test]
-fn numbers_of_every_width_4x(rt: HostRuntime) {
-    numbers_of_every_width(&rt, &BitPacker4x::new());
-    numbers_of_every_width(&rt, &BitPacker4x::scalar());
-}
-
-#[test]
-fn numbers_of_every_width_8x(rt: HostRuntime) {
-    numbers_of_every_width(&rt, &BitPacker8x::new());
-    numbers_of_every_width(&rt, &BitPacker8x::scalar());
+fn two_kernels_leave_equal_buffers(rt: HostRuntime) {
+    equal_buffers(&rt, &BitPacker4x::new(), &BitPacker4x::scalar());
+    equal_buffers(&rt, &BitPacker8x::new(), &BitPacker8x::scalar());
 }

@@ -1,5 +1,7 @@
-//! Chains. The expected widths, bytes and values were worked by hand from the layout of the bits.
+//! Chains. The expected widths, bytes and values were worked by hand from the layout of the bits, and those of a block of each width
+//! are from `oracle`.
 
+use super::oracle::{KINDS, block_of, laid, numbers};
 use crate::chain::{pack_all, unpack_all};
 use bitpacking::{BitPacker, BitPacker1x, BitPacker4x, BitPacker8x, Kind};
 use std::process::Abort;
@@ -124,6 +126,53 @@ fn three_blocks<P: BitPacker>(rt: &impl Abort, packer: &P, kind: Kind, start: u3
     assert!(rt; back == values);
 }
 
+/// Writes the items from this index on.
+fn put<T: Copy>(places: &mut [T], index: usize, items: &[T]) {
+    for (place, item) in places.iter_mut().skip(index).zip(items) {
+        *place = *item;
+    }
+}
+
+/// The kind that goes on from a value.
+fn going_on(kind: Kind, last: u32) -> Kind {
+    match kind {
+        Kind::Plain => Kind::Plain,
+        Kind::Sorted(_) => Kind::Sorted(last),
+        Kind::StrictlySorted(_) => Kind::StrictlySorted(Some(last)),
+    }
+}
+
+/// A block of each width from 0 to 32, with numbers of so many bits as its codes.
+fn a_block_of_each_width<P: BitPacker>(rt: &impl Abort, packer: &P, kind: Kind) {
+    let len = P::BLOCK_LEN;
+    let mut values = [9; 8451];
+    let mut bytes = [9; 33_856];
+    let mut block_kind = kind;
+    let mut end = 0usize;
+    for width in 0..33u8 {
+        let codes = numbers::<256>(width);
+        let block = block_of(block_kind, &codes[..len]);
+        put(&mut values, width as usize * len, &block[..len]);
+        let body = laid(&codes[..len], len / 32, width);
+        let size = P::compressed_block_size(width);
+        put(&mut bytes, end, body.get(..size).unwrap_or(&[]));
+        end = end.wrapping_add(size);
+        block_kind = going_on(block_kind, block[len - 1]);
+    }
+    let mut widths = [99; 33];
+    let mut out = [9; 33_856];
+    let size = pack_all(packer, kind, &values[..33 * len], &mut widths, &mut out);
+    assert_eq!(rt; size, end);
+    for (index, width) in widths.iter().enumerate() {
+        assert_eq!(rt; *width as usize, index);
+    }
+    assert!(rt; out == bytes);
+    let mut back = [9; 8451];
+    let read = unpack_all(packer, kind, &widths, &out[..size], &mut back);
+    assert_eq!(rt; read, size);
+    assert!(rt; back == values);
+}
+
 pub(super) fn chains<P: BitPacker>(rt: &impl Abort, packer: &P) {
     no_blocks(rt, packer);
     two_blocks_of_width_0(rt, packer);
@@ -136,6 +185,9 @@ pub(super) fn chains<P: BitPacker>(rt: &impl Abort, packer: &P) {
         (Kind::StrictlySorted(None), u32::MAX),
     ] {
         three_blocks(rt, packer, kind, start);
+    }
+    for kind in KINDS {
+        a_block_of_each_width(rt, packer, kind);
     }
 }
 

@@ -1,6 +1,7 @@
 //! Readers and writers over memory that give and take little a call, and that fail at a call of the test's choice.
 
 use std::alloc::Global;
+use std::cell::Cell;
 use std::io;
 use std::io::{Error, ErrorKind, Read, Write};
 
@@ -100,5 +101,118 @@ impl Write for Taker {
         } else {
             Ok(())
         }
+    }
+}
+
+/// Gives what another reader gives, at most `step` bytes a call.
+#[derive(Drop)]
+pub struct Small<R> {
+    pub inner: R,
+    pub step: usize,
+}
+
+impl<R: Read> Read for Small<R> {
+    fn read(&mut self, buffer: &mut [u8]) -> io::Result<usize> {
+        let count = self.step.min(buffer.len());
+        self.inner.read(&mut buffer[..count])
+    }
+}
+
+/// Gives at most `step` bytes a call, and counts the calls that come before each line that it gave is answered.
+#[derive(Drop)]
+pub struct Asker<'a> {
+    left: &'a [u8],
+    step: usize,
+    asked: usize,
+    answered: &'a Cell<usize>,
+    pub early: usize,
+}
+
+impl<'a> Asker<'a> {
+    pub fn new(left: &'a [u8], step: usize, answered: &'a Cell<usize>) -> Asker<'a> {
+        Asker {
+            left,
+            step,
+            asked: 0,
+            answered,
+            early: 0,
+        }
+    }
+}
+
+impl<'a> Read for Asker<'a> {
+    fn read(&mut self, buffer: &mut [u8]) -> io::Result<usize> {
+        if self.answered.get() < self.asked {
+            self.early = self.early.saturating_add(1);
+        }
+        let count = self.step.min(self.left.len()).min(buffer.len());
+        let (now, later) = self.left.split_at(count);
+        buffer[..count].copy_from_slice(now);
+        self.left = later;
+        self.asked = self.asked.saturating_add(feeds(now));
+        Ok(count)
+    }
+}
+
+/// Takes at most `step` bytes a call, keeps none, and counts the answers, which end with a line feed.
+#[derive(Drop)]
+pub struct Hearer<'a> {
+    step: usize,
+    answered: &'a Cell<usize>,
+}
+
+impl<'a> Hearer<'a> {
+    pub fn new(step: usize, answered: &'a Cell<usize>) -> Hearer<'a> {
+        Hearer { step, answered }
+    }
+}
+
+impl<'a> Write for Hearer<'a> {
+    fn write(&mut self, buffer: &[u8]) -> io::Result<usize> {
+        let count = self.step.min(buffer.len());
+        let answered = self.answered.get();
+        self.answered
+            .set(answered.saturating_add(feeds(&buffer[..count])));
+        Ok(count)
+    }
+
+    fn flush(&mut self) -> io::Result<()> {
+        Ok(())
+    }
+}
+
+/// How many line feeds the bytes have.
+pub fn feeds(bytes: &[u8]) -> usize {
+    occurrences(bytes, b'\n')
+}
+
+fn occurrences(bytes: &[u8], wanted: u8) -> usize {
+    let mut count = 0usize;
+    for byte in bytes {
+        if *byte == wanted {
+            count = count.saturating_add(1);
+        }
+    }
+    count
+}
+
+/// Takes all that it is given and keeps none of it: it counts bytes, commas and calls.
+#[derive(Drop)]
+pub struct Counter {
+    pub bytes: usize,
+    pub commas: usize,
+    pub calls: usize,
+}
+
+impl Write for Counter {
+    fn write(&mut self, buffer: &[u8]) -> io::Result<usize> {
+        self.calls = self.calls.saturating_add(1);
+        self.bytes = self.bytes.saturating_add(buffer.len());
+        self.commas = self.commas.saturating_add(occurrences(buffer, b','));
+        Ok(buffer.len())
+    }
+
+    fn flush(&mut self) -> io::Result<()> {
+        Ok(())
     }
 }

@@ -1,9 +1,9 @@
 //! Lines and their answers, as the format and the blocks worked by hand give them.
 
 use super::fakes::{Giver, Taker};
-use crate::answer::answer;
 use crate::run;
 use std::alloc::{AllocError, Global};
+use std::io::Read;
 use std::process::Abort;
 use std::test::Fail;
 
@@ -72,11 +72,12 @@ fn answered() -> [(&'static str, &'static str); 30] {
 }
 
 /// Lines that are refused.
-fn refused() -> [(&'static str, &'static str); 48] {
+fn refused() -> [(&'static str, &'static str); 49] {
     [
         // Refusals in their order.
         ("width 1x plain -", "refused 2"),
         ("width 1x plain 1*1", "refused 2"),
+        ("width 1x plain 0*65536", "refused 2"),
         ("width 4x plain 0*127", "refused 2"),
         ("width 4x plain 0*129", "refused 2"),
         ("pack 1x plain 33 0*31", "refused 2"),
@@ -127,6 +128,21 @@ fn refused() -> [(&'static str, &'static str); 48] {
     ]
 }
 
+/// What a run writes for a line, without the line feed after it.
+fn answer(alloc: Global, line: &[u8]) -> Result<String, AllocError> {
+    let mut reader = line.chain(b"\n".as_slice());
+    let mut written = Vec::new(alloc);
+    match run(alloc, &mut reader, &mut written) {
+        Ok(()) => {}
+        Err(_) => return Err(AllocError),
+    }
+    let _ = written.pop();
+    match String::from_utf8(written) {
+        Ok(answer) => Ok(answer),
+        Err(_) => Err(AllocError),
+    }
+}
+
 /// Each line has its answer.
 fn each_is_answered(
     rt: &impl Abort,
@@ -154,7 +170,7 @@ fn all_are_answered_in_small_steps(
         answers.push_str(wanted)?;
         answers.push('\n')?;
     }
-    for (read, written) in [(1, 3), (3, 1), (4096, 4096)] {
+    for (read, written) in [(1, 1), (1, 3), (3, 1), (100_000, 100_000)] {
         let mut reader = Giver::new(input.as_bytes(), read);
         let mut writer = Taker::new(alloc, written);
         assert_eq!(rt; run(alloc, &mut reader, &mut writer), Ok(()));
@@ -217,11 +233,20 @@ fn long_lines(rt: HostRuntime) -> Result<(), Fail> {
     assert_eq!(rt; answer(alloc, longer.as_bytes())?.as_str(), "refused 6");
     let spaces = repeated(alloc, " ", 65_536)?;
     assert_eq!(rt; answer(alloc, spaces.as_bytes())?.as_str(), "refused 1");
-    assert_eq!(rt;
-        answer(alloc, b"width 1x plain 0*65536")?.as_str(),
-        "refused 2"
-    );
-    assert_eq!(rt; answer(alloc, &[255])?.as_str(), "refused 1");
+    Ok(())
+}
+
+#[test]
+fn a_byte_that_is_no_character(rt: HostRuntime) -> Result<(), Fail> {
+    for (read, written) in [(1, 1), (2, 3), (100, 100)] {
+        let mut reader = Giver::new(&[255, 10, 255], read);
+        let mut writer = Taker::new(rt.alloc(), written);
+        assert_eq!(rt; run(rt.alloc(), &mut reader, &mut writer), Ok(()));
+        assert_eq!(rt;
+            writer.taken.as_slice(),
+            b"refused 1\nrefused 1\n".as_slice()
+        );
+    }
     Ok(())
 }
 

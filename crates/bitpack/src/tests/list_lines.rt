@@ -8,7 +8,7 @@ use std::alloc::{AllocError, Global};
 use std::test::Fail;
 
 /// Each line with its answer.
-fn lines() -> [(&'static str, &'static str); 63] {
+fn lines() -> [(&'static str, &'static str); 84] {
     [
         ("enc 1x plain -", "01000100000000"),
         ("enc 8s strict -", "01020800000000"),
@@ -75,30 +75,67 @@ fn lines() -> [(&'static str, &'static str); 63] {
         ("dec 1x 0100012100000021", "refused 21"),
         // A block with a loose width is refused before the block that is missing after it.
         ("dec 1x 010001400000000100000000", "refused 27"),
-        // The header: version before kind, kind before lanes, lanes before the count.
-        ("dec 1x 02030400000000", "refused 22"),
+        // The header: kind before lanes, lanes before the count.
+        ("dec 1x 02030400000000", "refused 23"),
         ("dec 1x 01030400000000", "refused 23"),
         ("dec 1x 01000401000010", "refused 24"),
-        // A text of another version, from seven bytes on.
+        // Version 2. Its entry has the width, the offset and the last value; 1f is 31, and 20 is 32.
         ("dec 1x 02", "refused 21"),
         ("dec 1x 020001000000", "refused 21"),
+        ("dec 1x 02000100000000", "plain -"),
+        ("dec 8s 02020800000000", "strict -"),
+        ("dec 4x 02000100000000", "refused 24"),
+        ("dec 1x 0201010200000005000000050000", "refused 21"),
+        ("dec 1x 020101020000000500000005000000", "sorted 5,5"),
+        ("dec 1x 020201020000000500000005000000", "refused 30"),
+        ("dec 1x 02010102000000050000000500000000", "refused 31"),
+        (
+            "dec 1x 0202012100000000000000001f00000020000000",
+            "strict 0,1,2,3,4,5,6,7,8,9,10,11,12,13,14,15,16,17,18,19,20,21,22,23,24,25,26,27,28,29,30,31,32",
+        ),
+        (
+            "dec 1x 02010120000000010000000020000000ffffffff",
+            "sorted 1,2,3,4,5,6,7,8,9,10,11,12,13,14,15,16,17,18,19,20,21,22,23,24,25,26,27,28,29,30,31,32",
+        ),
+        // Bytes are missing before a width is loose.
         (
             "dec 1x 0200014000000001000000000000000001010000000000000000000000",
-            "refused 22",
+            "refused 21",
         ),
+        // The offset of entry 0 before the width of entry 1; of one entry the width before the offset.
         (
             "dec 1x 02000140000000000100000000000000210000000000000000",
-            "refused 22",
+            "refused 28",
         ),
-        ("dec 1x 02000120000000210100000000000000", "refused 22"),
+        ("dec 1x 02000120000000210100000000000000", "refused 26"),
+        // A loose width before a wrong last value, of which every byte counts.
         (
             "dec 1x 0200012000000001000000000900000000000000",
-            "refused 22",
+            "refused 27",
         ),
-        ("dec 1x 020001200000000000000000000000ff", "refused 22"),
+        ("dec 1x 020001200000000000000000000000ff", "refused 29"),
+        // From version 1 to version 2: the faults of version 1, and then the order.
+        ("upgrade 1x 01000100000000", "02000100000000"),
+        ("upgrade 8s 01020800000000", "02020800000000"),
+        (
+            "upgrade 1x 010201210000000020000000",
+            "0202012100000000000000001f00000020000000",
+        ),
+        (
+            "upgrade 1x 010001020000000500000004000000",
+            "020001020000000500000004000000",
+        ),
+        ("upgrade 1x -", "refused 21"),
+        ("upgrade 1x 02000100000000", "refused 22"),
+        ("upgrade 4x 01000100000000", "refused 24"),
+        ("upgrade 1x 010101020000000500000004000000", "refused 30"),
+        ("upgrade 1x 01010102000000050000000400000000", "refused 31"),
         // No line of the language.
-        ("seek 1x 0 0200010000000000", "refused 1"),
-        ("upgrade 1x 01000100000000", "refused 1"),
+        ("upgrade 1x", "refused 1"),
+        ("upgrade 1x 0", "refused 1"),
+        ("upgrade 1x plain 01000100000000", "refused 1"),
+        ("upgrade 1x 01000100000000 ", "refused 1"),
+        ("Upgrade 1x 01000100000000", "refused 1"),
         ("enc", "refused 1"),
         ("enc 1x plain", "refused 1"),
         ("enc 1x plain - -", "refused 1"),

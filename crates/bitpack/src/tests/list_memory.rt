@@ -1,7 +1,7 @@
 //! Packed lists short of memory: that a call grows its vector once, to the size that it ends with, and what it leaves when
 //! that is refused.
 
-use super::faults::take_all;
+use super::faults::{grow_stack, take_all};
 use crate::list::{decode, encode};
 use crate::{ListError, ListKind};
 use bitpacking::{BitPacker, BitPacker1x, BitPacker4x, BitPacker8x};
@@ -77,6 +77,7 @@ fn one_growth<P: BitPacker>(rt: &impl Abort, alloc: Global, packer: &P) -> Resul
 
 #[test]
 fn each_call_grows_once(rt: HostRuntime) -> Result<(), Fail> {
+    grow_stack(&rt);
     one_growth(&rt, rt.alloc(), &BitPacker1x::new())?;
     one_growth(&rt, rt.alloc(), &BitPacker4x::new())?;
     one_growth(&rt, rt.alloc(), &BitPacker4x::scalar())?;
@@ -86,6 +87,7 @@ fn each_call_grows_once(rt: HostRuntime) -> Result<(), Fail> {
 
 #[test]
 fn faults_come_before_memory(rt: HostRuntime) -> Result<(), Fail> {
+    grow_stack(&rt);
     let cases: [(&[u8], ListError); 6] = [
         // 2 ^ 28 values that are not there.
         (&[1, 0, 1, 0, 0, 0, 0x10], ListError::Short),

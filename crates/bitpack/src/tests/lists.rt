@@ -49,7 +49,7 @@ fn is_text<P: BitPacker>(
     is_refused(rt, alloc, packer, longer, ListError::Trailing)
 }
 
-/// The text is refused, and the vector holds what it held.
+/// The text is refused, and the vector holds what it held, in the room that it had.
 fn is_refused<P: BitPacker>(
     rt: &impl Abort,
     alloc: Global,
@@ -58,8 +58,10 @@ fn is_refused<P: BitPacker>(
     error: ListError,
 ) -> Result<(), Fail> {
     let mut read = vec![in alloc; 7u32]?;
+    let room = read.capacity();
     assert_eq!(rt; decode(packer, text, &mut read), Err(error), "{text:?}");
     assert!(rt; read.as_slice() == [7].as_slice());
+    assert_eq!(rt; read.capacity(), room);
     Ok(())
 }
 
@@ -112,7 +114,7 @@ fn refusals_of_1x(rt: HostRuntime) -> Result<(), Fail> {
             &[1, 0, 1, 0x40, 0, 0, 0, 0, 0x21],
             ListError::BadWidth(1, 33),
         ),
-        // The first fault from the left, where there are several.
+        // The first fault in the order of docs/FORMAT.md, where there are several.
         (&[], ListError::Short),
         (&[2, 3, 4, 1, 0, 0, 0x10], ListError::BadVersion(2)),
         (&[1, 3, 4, 1, 0, 0, 0x10], ListError::BadKind(3)),
@@ -179,7 +181,10 @@ fn value_of(kind: ListKind, previous: u32, code: u32) -> u32 {
 }
 
 /// The values of three blocks, of the codes 1, 2 and 5, and of a tail of five values.
-fn three_blocks<P: BitPacker>(alloc: Global, kind: ListKind) -> Result<Vec<u32>, AllocError> {
+pub(super) fn three_blocks<P: BitPacker>(
+    alloc: Global,
+    kind: ListKind,
+) -> Result<Vec<u32>, AllocError> {
     let mut values = Vec::new(alloc);
     let mut value = if kind == ListKind::StrictlySorted {
         u32::MAX
@@ -200,7 +205,10 @@ fn three_blocks<P: BitPacker>(alloc: Global, kind: ListKind) -> Result<Vec<u32>,
 
 /// Their text. Each lane has one word of width 1, two of width 2 and three of width 3; the bits of the last are `101` again
 /// and again.
-fn three_blocks_text<P: BitPacker>(alloc: Global, header: [u8; 7]) -> Result<Vec<u8>, AllocError> {
+pub(super) fn three_blocks_text<P: BitPacker>(
+    alloc: Global,
+    header: [u8; 7],
+) -> Result<Vec<u8>, AllocError> {
     let blocks: [(u8, &[[u8; 4]]); 3] = [
         (1, &[[0xff; 4]]),
         (2, &[[0xaa; 4]; 2]),

@@ -3,10 +3,13 @@
 //! The two blocks of 128 numbers, with the first bytes of each, are from the documentation of the Rust crate `bitpacking` 0.9.3.
 
 use super::blocks::{packs_to, unpacks_to};
-use crate::chain::{compress_kind, width_kind};
+use super::by_kind::{compress_kind, width_kind};
+use super::lines;
+use crate::run;
 use bitpacking::{BitPacker, BitPacker1x, BitPacker4x, BitPacker8x, Kind};
 use std::alloc::AllocError;
 use std::process::Abort;
+use std::test::Fail;
 
 /// The numbers 0, 1, .. below `below`, again and again.
 fn counting(places: &mut [u32], below: u32) {
@@ -157,6 +160,15 @@ fn four_lanes(rt: &impl Abort, packer: &BitPacker4x) {
     let mut bytes = [0; 512];
     bytes[3] = 0x80;
     packs_to(rt, packer, Kind::Sorted(0), &high, 32, &bytes);
+    let mut block = [0; 128];
+    block[127] = 31;
+    let mut bytes = [0; 80];
+    bytes[79] = 0xf8;
+    packs_to(rt, packer, Kind::Plain, &block, 5, &bytes);
+    block[127] = 0xfffff;
+    let mut bytes = [0; 320];
+    bytes[317..].copy_from_slice(&[0xf0, 0xff, 0xff]);
+    packs_to(rt, packer, Kind::Plain, &block, 20, &bytes);
 }
 
 #[test]
@@ -185,10 +197,52 @@ fn eight_lanes(rt: &impl Abort, packer: &BitPacker8x) {
     unpacks_to(rt, packer, Kind::StrictlySorted(None), &ones, 1, &block);
 }
 
+/// Blocks of eight lanes to their last bit.
+fn eight_lanes_to_the_last_bit(rt: &impl Abort, packer: &BitPacker8x) {
+    let mut bytes = [0; 160];
+    bytes[159] = 0xf8;
+    packs_to(rt, packer, Kind::Plain, &single(255, 31), 5, &bytes);
+    let mut bytes = [0; 640];
+    bytes[2] = 0xe0;
+    bytes[3] = 0xcd;
+    bytes[32] = 0xab;
+    packs_to(rt, packer, Kind::Plain, &single(8, 0xabcde), 20, &bytes);
+    let block = [2_147_483_647; 256];
+    packs_to(rt, packer, Kind::Plain, &block, 31, &[0xff; 992]);
+    let mut block = [0; 256];
+    counting(&mut block, 256);
+    for value in &mut block {
+        *value = value.wrapping_add(1);
+    }
+    let start = Kind::StrictlySorted(Some(0));
+    unpacks_to(rt, packer, start, &[0; 1024], 32, &block);
+    for (place, value) in block.iter_mut().zip([1 << 31, 0].into_iter().cycle()) {
+        *place = value;
+    }
+    let mut bytes = [0; 1024];
+    repeated(&mut bytes, &[0, 0, 0, 0x80]);
+    unpacks_to(rt, packer, Kind::Sorted(0), &bytes, 32, &block);
+}
+
 #[test]
 fn eight_lanes_pack(rt: HostRuntime) {
-    eight_lanes(&rt, &BitPacker8x::new());
-    eight_lanes(&rt, &BitPacker8x::scalar());
+    for packer in [BitPacker8x::new(), BitPacker8x::scalar()] {
+        eight_lanes(&rt, &packer);
+        eight_lanes_to_the_last_bit(&rt, &packer);
+    }
+}
+
+#[test]
+fn a_line_of_eight_lanes(rt: HostRuntime) -> Result<(), Fail> {
+    let alloc = rt.alloc();
+    let ones = lines::repeated(alloc, "f", 64)?;
+    let values = lines::counted(alloc, 0, 1, 256)?;
+    let line = format!(in alloc; "unpack 8s sorted:4294967295 1 {ones}")?;
+    let mut written = Vec::new(alloc);
+    assert_eq!(rt; run(alloc, &mut line.as_bytes(), &mut written), Ok(()));
+    let answer = format!(in alloc; "{values}\n")?;
+    assert_eq!(rt; written.as_slice(), answer.as_bytes());
+    Ok(())
 }
 
 #[test]

@@ -15,3 +15,9 @@ returns-in-Enc g c = rw (c.in-Enc.is, ← c.as_slice-in-Enc.ensures.value) c.ans
 
 pub returns-in-Dec : goal.returns-in-Dec
 returns-in-Dec g c = rw (c.in-Dec.is, ← c.as_slice-in-Dec.ensures.value) c.answer_dec.ensures
+
+pub returns-in-Seek : goal.returns-in-Seek
+returns-in-Seek g c = rw (c.in-Seek.is, ← c.as_slice-in-Seek.ensures.value) c.answer_seek.ensures
+
+pub returns-in-Upgrade : goal.returns-in-Upgrade
+returns-in-Upgrade g c = rw (c.in-Upgrade.is, ← c.as_slice-in-Upgrade.ensures.value) c.answer_upgrade.ensures

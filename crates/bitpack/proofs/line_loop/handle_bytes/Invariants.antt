@@ -5,5 +5,5 @@ use Rattle.bitpack.proofs.line_loop.handle_bytes.Given as goal
 
 -- the bytes so far were handled
 abbrev pub invariant-loop-byte : goal.invariant-loop-byte
-invariant-loop-byte g l = (before : Option (List ℕ)) (input : List ℕ) → AnsweredSoFar before (g.W.Write.contents l.fn.writer) input l.fn.line.items
-    → AnsweredSoFar before (g.W.Write.contents l.writer) (input ++ take l.byte-index l.bytes) l.line.items
+invariant-loop-byte g l = (before : Option (List ℕ)) (input : List ℕ) → AnsweredSoFar before (g.W.Write.contents l.fn.writer) l.fn.output input l.fn.line.items
+    → AnsweredSoFar before (g.W.Write.contents l.writer) l.output (input ++ take l.byte-index l.bytes) l.line.items

@@ -1,5 +1,5 @@
 -- The set unpacked is the set packed.
-use Rattle.bitpack.specs.declared.list_kind.ListKind.TheVariants.{StrictlySorted}
+use Rattle.bitpack_lists.specs.declared.list_kind.ListKind.TheVariants.{StrictlySorted}
 use Rattle.bitpack_uses.proofs.id_set.packed_set_contains.Goals as goal
 
 pub returns : goal.returns

@@ -1,6 +1,0 @@
--- The law is a lemma on chains.
-use Rattle.bitpack.proofs.ChainLemmas.{chains_read_back}
-use Rattle.bitpack.proofs.laws.chains_read_back.Goals as goal
-
-pub returns : goal.returns
-returns c = chains_read_back

@@ -1,0 +1,22 @@
+-- Facts for callers: how the bytes of blocks add up to those of their chain; the laws of packed lists as lemmas; what a header says; and
+-- that values have a text of version 1, and those in order one of version 2.
+use Rattle.std.proofs.Common.{◌≡◌, ◌+◌, ◌*◌, ◌<◌, ◌≤◌, ℕ, List, length, take, get_or, sum, arith}
+use Rattle.std.proofs.lemmas.List.Sums.{sum_by_more, sum_by_more_le}
+use Rattle.std.proofs.lemmas.Nat.{mul-le}
+pub use Rattle.bitpack_lists.proofs.HeaderLemmas.{header_bytes}
+pub use Rattle.bitpack_lists.proofs.ListLemmas.{text_of}
+pub use Rattle.bitpack_lists.proofs.OneText.{one_list1, one_text1, text_from_none}
+pub use Rattle.bitpack_lists.proofs.OneText2.{no_fault2, one_list2, one_text2}
+pub use Rattle.bitpack_lists.proofs.PartLemmas.{AreBytes-nil}
+pub use Rattle.bitpack_lists.proofs.TextsOf2.{text_of2}
+
+-- the bytes of the blocks before block i, and those of block i
+pub sizes_more : (lanes i : ℕ) (widths : List ℕ) → i < length widths
+    → 4 * lanes * sum (take (i + 1) widths) ≡ 4 * lanes * sum (take i widths) + 4 * lanes * get_or widths i 0
+sizes_more lanes i widths lt = rw (sum_by_more (λ (n : ℕ). n) widths i 0 lt) (omega arith)
+
+-- they are some of the bytes of the chain
+pub sizes_within : (lanes i : ℕ) (widths : List ℕ) → i < length widths
+    → 4 * lanes * sum (take i widths) + 4 * lanes * get_or widths i 0 ≤ 4 * lanes * sum widths
+sizes_within lanes i widths lt =
+    omega (arith, mul-le (4 * lanes) _ (4 * lanes) _ (omega arith) (sum_by_more_le (λ (n : ℕ). n) widths i 0 lt))

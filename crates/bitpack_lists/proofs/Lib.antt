@@ -1,0 +1,31 @@
+-- Lemmas of this crate. Other crates cite those of ForCallers alone.
+mod BlockLemmas
+mod BlockValues
+mod ChainLemmas
+mod EntryLemmas
+mod FaultLemmas
+pub mod ForCallers
+mod HeaderLemmas
+mod ListLemmas
+mod LooseLemmas
+mod MeasuredLengths
+mod OneText
+mod OneText2
+mod OpenedLists
+mod OpenedWalks
+mod Orders
+mod PartLemmas
+mod ReadSteps
+mod RestFaults
+mod RestLemmas
+mod RestValues
+mod SearchLemmas
+mod Sharing
+mod Soundness
+mod TextLemmas
+mod TextsOf2
+mod UpgradeSteps
+mod Upgraded
+mod WalkSteps
+mod Walking
+mod WriteSteps

@@ -1,0 +1,25 @@
+-- The clauses of the law are lemmas on texts and on loose widths.
+use Rattle.bitpack_lists.proofs.OneText.{one_text1, one_list1, no_fault1, loose_fits_smaller}
+use Rattle.bitpack_lists.proofs.OneText2.{one_text2, one_list2, no_fault2}
+use Rattle.bitpack_lists.proofs.laws.one_text.Goals as goal
+
+pub returns-clause-text : goal.returns-clause-text
+returns-clause-text c = one_text1
+
+pub returns-clause-list : goal.returns-clause-list
+returns-clause-list c = one_list1
+
+pub returns-clause-fault : goal.returns-clause-fault
+returns-clause-fault c = no_fault1
+
+pub returns-clause-loose : goal.returns-clause-loose
+returns-clause-loose c = loose_fits_smaller
+
+pub returns-clause-text2 : goal.returns-clause-text2
+returns-clause-text2 c = one_text2
+
+pub returns-clause-list2 : goal.returns-clause-list2
+returns-clause-list2 c = one_list2
+
+pub returns-clause-fault2 : goal.returns-clause-fault2
+returns-clause-fault2 c = no_fault2

@@ -1,0 +1,66 @@
+-- A value is passed over, or searched.
+use Rattle.std.proofs.Common.{◌≡◌, length, sym, vec_capacity, vec_len, arith}
+use Rattle.bitpack_lists.specs.Walks.{values_in}
+use Rattle.bitpack_lists.proofs.OpenedLists.{opened_sound}
+use Rattle.bitpack_lists.proofs.Sharing.{InOrder}
+use Rattle.bitpack_lists.proofs.SearchLemmas.{in_order}
+use Rattle.bitpack_lists.proofs.WalkSteps.{step_passed, step_room, step_searched}
+use Rattle.bitpack_lists.proofs.list2.packed_list.walk.walk_values.Goals as goal
+use Rattle.bitpack_lists.proofs.list2.packed_list.walk.walk_values.Goals.{then-value-walk, else-value-walk}
+
+pub seek_kept-found-requires-clause-kept : goal.seek_kept-found-requires-clause-kept
+seek_kept-found-requires-clause-kept g c =
+    let (stage, next, walking) = c.requires.walking in
+    (c.loop-index.invariant.walking stage next walking).kept
+
+pub append_found-requires : goal.append_found-requires
+append_found-requires g c = record {
+  room =
+      let (stage, next, walking) = c.requires.walking in
+      let before = c.loop-index.invariant.walking stage next walking in
+      let list = c.args.other.now in
+      let sound = opened_sound g.Q.BitPacker.lanes list.count list.kind list.bytes.now g.met.Q.BitPacker.some_lanes list.begins list.sound in
+      let order : InOrder (values_in list) = in_order list.kind (values_in list).value list.count c.requires.other_ordered sound.ordered in
+      step_room g.Q.BitPacker.lanes (values_in list) stage c.args.values.now c.loop-index.index c.loop-index.walk.want c.loop-index.walk.kept.number
+      c.loop-index.out.items (vec_capacity c.loop-index.out) c.loop-index.other_reads order next c.loop-index-test.true before.walked (vec_len c.loop-index.out)
+      c.seek_kept-found.result (omega (arith, c.loop-index.out.ok)) c.if-value-walk.true (sym c.seek_kept-found.ensures.found);
+}
+
+pub loop-index-preserved : goal.loop-index-preserved
+loop-index-preserved g c = record {
+  walking = λ stage next walking.
+      let before = c.loop-index.invariant.walking stage next walking in
+      let list = c.args.other.now in
+      let sound = opened_sound g.Q.BitPacker.lanes list.count list.kind list.bytes.now g.met.Q.BitPacker.some_lanes list.begins list.sound in
+      let order : InOrder (values_in list) = in_order list.kind (values_in list).value list.count c.requires.other_ordered sound.ordered in
+      elim c.if-value-walk.branch [
+        | then-value-walk w ↦ rw (w.walk-is, w.out-is, w.other_reads-is) (record {
+          kept = w.seek_kept-found.ensures.kept;
+          walked =
+              rw w.append_found.ensures.capacity
+              (step_searched g.Q.BitPacker.lanes (values_in list) stage c.args.values.now c.loop-index.index c.loop-index.walk.want c.loop-index.walk.kept.number
+              c.loop-index.out.items (vec_capacity c.loop-index.out) c.loop-index.other_reads order next c.loop-index-test.true before.walked w.seek_kept-found.result
+              w.wanted_next-walk.result w.seek_kept-found.new.kept.number w.append_found.new.out.items w.seek_kept-found.new.reads w.if-value-walk.true (record {
+                answers = sym w.seek_kept-found.ensures.found;
+                entries = w.seek_kept-found.ensures.entries;
+                blocks = w.seek_kept-found.ensures.blocks.blocks;
+                again = w.seek_kept-found.ensures.blocks.again;
+                inside = w.seek_kept-found.ensures.blocks.inside;
+                outside = w.seek_kept-found.ensures.blocks.outside;
+              }) w.wanted_next-walk.ensures w.append_found.ensures.appends);
+        })
+        | else-value-walk w ↦ rw (w.walk-is, w.out-is, w.other_reads-is) (record {
+          kept = before.kept;
+          walked =
+              step_passed g.Q.BitPacker.lanes (values_in list) stage c.args.values.now c.loop-index.index c.loop-index.walk.want c.loop-index.walk.kept.number
+              c.loop-index.out.items (vec_capacity c.loop-index.out) c.loop-index.other_reads order next c.loop-index-test.true before.walked w.if-value-walk.false;
+        })
+      ];
+}
+
+pub returns : goal.returns
+returns g c = record {
+  walking = λ stage next walking.
+      let end : c.loop-index.index ≡ length c.args.values.now = omega arith in
+      rw end at (c.loop-index.invariant.walking stage next walking);
+}

@@ -1,0 +1,80 @@
+-- Packed lists of version 1: the header, each whole block as its least width and its bytes, and the tail's values.
+use Rattle.std.specs.Prelude.{◌≡◌, ℕ, zero, suc, ◌+◌, ◌*◌, ◌≤◌, List, [], ◌∷◌, ◌++◌, length, take, drop, slice_index, false, nat_lt, if◌then◌else◌, Option, Some, None}
+use Rattle.std.specs.Option.{option_or}
+use Rattle.bitpacking.specs.declared.kind.Kind.{Kind}
+use Rattle.bitpacking.specs.Codes.{AreWords}
+use Rattle.bitpacking.specs.Width.{IsWidth}
+use Rattle.bitpacking.specs.Layout.{size, Holds}
+use Rattle.bitpacking.specs.Words.{bytes_of_words}
+use Rattle.bitpack_lists.specs.declared.list_kind.ListKind.{ListKind}
+use Rattle.bitpack_lists.specs.declared.list_error.ListError.{ListError}
+use Rattle.bitpack_lists.specs.declared.list_error.ListError.TheVariants.{Short, BadWidth, LooseWidth, Trailing}
+use Rattle.bitpack_lists.specs.Chains.{second_kind}
+use Rattle.bitpack_lists.specs.Parts.{header_fault, count_of, whole_blocks, tail_values, first_kind, is_loose, BeginsWithHeader}
+
+-- ---- the text of a list
+
+-- a block as its least width and the bytes that hold it
+pub record IsPart1 (lanes : ℕ) (kind : Kind) (block part : List ℕ) : Type 0 where
+  pub width : ℕ
+  pub body : List ℕ
+  pub least : IsWidth kind block width
+  pub holds : Holds lanes width kind block body
+  pub parts : part ≡ width ∷ body
+
+-- the parts of so many whole blocks, and the tail's values
+abbrev pub Blocks1 : ℕ → ℕ → Kind → List ℕ → List ℕ → Type 0
+Blocks1 lanes zero kind values bytes = bytes ≡ bytes_of_words values
+Blocks1 lanes (suc count) kind values bytes =
+    (part : List ℕ) × (rest : List ℕ) × (bytes ≡ part ++ rest)
+    × IsPart1 lanes kind (take (32 * lanes) values) part
+    × Blocks1 lanes count (second_kind lanes kind values) (drop (32 * lanes) values) rest
+
+-- the values are words, and the bytes are their text
+pub record List1 (lanes : ℕ) (kind : ListKind) (values bytes : List ℕ) : Type 0 where
+  pub words : AreWords values
+  pub begins : BeginsWithHeader 1 lanes kind (length values) bytes
+  pub blocks : Blocks1 lanes (whole_blocks lanes (length values)) (first_kind kind) values (drop 7 bytes)
+
+-- ---- the first fault of bytes
+
+-- of the block whose width byte is due at the front of the bytes
+unfoldable pub block_fault1 : ℕ → ℕ → List ℕ → Option ListError
+block_fault1 lanes block [] = Some Short
+block_fault1 lanes block (width ∷ bytes) =
+    if nat_lt 32 width then Some (BadWidth block width)
+    else if nat_lt (length bytes) (size lanes width) then Some Short
+    else if is_loose lanes width (take (size lanes width) bytes) then Some (LooseWidth block width)
+    else None
+
+-- the bytes begin with a block without a fault
+pub record IsRight (lanes : ℕ) (bytes : List ℕ) : Type 0 where
+  pub some : 1 ≤ length bytes
+  pub narrow : slice_index bytes 0 ≤ 32
+  pub room : size lanes (slice_index bytes 0) ≤ length (drop 1 bytes)
+  pub least : is_loose lanes (slice_index bytes 0) (take (size lanes (slice_index bytes 0)) (drop 1 bytes)) ≡ false
+
+-- the bytes after that block
+abbrev pub after_block1 : ℕ → List ℕ → List ℕ
+after_block1 lanes [] = []
+after_block1 lanes (width ∷ bytes) = drop (size lanes width) bytes
+
+-- of so many blocks, the first of them with this number, and of the tail that has so many bytes
+unfoldable pub blocks_fault1 : ℕ → ℕ → ℕ → ℕ → List ℕ → Option ListError
+blocks_fault1 lanes tail block zero bytes =
+    if nat_lt (length bytes) tail then Some Short
+    else if nat_lt tail (length bytes) then Some Trailing
+    else None
+blocks_fault1 lanes tail block (suc count) bytes =
+    option_or (block_fault1 lanes block bytes) (blocks_fault1 lanes tail (block + 1) count (after_block1 lanes bytes))
+
+-- of what comes after the header of so many values: a byte for each block and the tail are there, and each block is right
+unfoldable pub body_fault1 : ℕ → ℕ → List ℕ → Option ListError
+body_fault1 lanes count bytes =
+    let blocks = whole_blocks lanes count in
+    let tail = 4 * tail_values lanes count in
+    if nat_lt (length bytes) (blocks + tail) then Some Short else blocks_fault1 lanes tail 0 blocks bytes
+
+-- of a text of version 1
+unfoldable pub fault1 : ℕ → List ℕ → Option ListError
+fault1 lanes bytes = option_or (header_fault 1 lanes bytes) (body_fault1 lanes (count_of bytes) (drop 7 bytes))

@@ -1,0 +1,165 @@
+-- Packed lists of version 2: the header, an entry for each whole block, the bodies of the blocks, and the tail's values. The values
+-- are in the order of their kind. What is after the header is called the rest of the text.
+use Rattle.std.specs.Prelude.{◌≡◌, ℕ, zero, suc, ◌+◌, ◌-◌, ◌*◌, ◌/◌, ◌%◌, ◌<◌, ◌≤◌, Bool, false, not, ◌&&◌, ◌==◌, nat_lt, nat_le, if◌then◌else◌, List, [], ◌∷◌, ◌++◌, map, length, take, drop, slice_index, Option, Some, None}
+use Rattle.std.specs.Option.{option_or, option_map}
+use Rattle.bitpacking.specs.declared.kind.Kind.{Kind}
+use Rattle.bitpacking.specs.Codes.{AreWords, values_of}
+use Rattle.bitpacking.specs.Width.{IsWidth}
+use Rattle.bitpacking.specs.Layout.{codes_of, size, Holds}
+use Rattle.bitpacking.specs.Words.{bytes_of_words, word}
+use Rattle.bitpack_lists.specs.declared.list_kind.ListKind.{ListKind}
+use Rattle.bitpack_lists.specs.declared.list_kind.ListKind.TheVariants as lists
+use Rattle.bitpack_lists.specs.declared.list_error.ListError.{ListError}
+use Rattle.bitpack_lists.specs.declared.list_error.ListError.TheVariants.{Short, BadWidth, LooseWidth, BadOffset, BadLast, NotSorted, Trailing}
+use Rattle.bitpack_lists.specs.Chains.{next_kind}
+use Rattle.bitpack_lists.specs.Parts.{BeginsWithHeader, count_of, first_kind, header_fault, is_loose, kind_of_byte, tail_values, whole_blocks}
+
+-- ---- the order of a list
+
+-- the value at a position is out of order: it is below the one before it, or in a strict list not above it
+abbrev pub is_out : ListKind → (ℕ → ℕ) → ℕ → Bool
+is_out lists.Plain value position = false
+is_out lists.Sorted value position = nat_lt 0 position && nat_lt (value position) (value (position - 1))
+is_out lists.StrictlySorted value position = nat_lt 0 position && nat_le (value position) (value (position - 1))
+
+-- the least number below a bound that passes a test
+unfoldable pub least_below : (ℕ → Bool) → ℕ → Option ℕ
+least_below test zero = None
+least_below test (suc bound) = option_or (least_below test bound) (if test bound then Some bound else None)
+
+-- the first position out of order
+abbrev pub first_out : ListKind → List ℕ → Option ℕ
+first_out kind values = least_below (is_out kind (slice_index values)) (length values)
+
+-- ---- where what is in the rest of a text
+
+-- the entry of a block: its width, the sum of the widths before it, and its last value
+abbrev pub width_at : List ℕ → ℕ → ℕ
+width_at rest block = slice_index rest (9 * block)
+
+abbrev pub offset_at : List ℕ → ℕ → ℕ
+offset_at rest block = word (drop (9 * block + 1) rest) 0
+
+abbrev pub last_at : List ℕ → ℕ → ℕ
+last_at rest block = word (drop (9 * block + 5) rest) 0
+
+-- the sum of the widths of so many blocks
+abbrev pub widths_before : List ℕ → ℕ → ℕ
+widths_before rest zero = 0
+widths_before rest (suc block) = widths_before rest block + width_at rest block
+
+-- the kind of a block: it goes on from the last value that the entry before gives
+abbrev pub kind_at : ListKind → List ℕ → ℕ → Kind
+kind_at kind rest zero = first_kind kind
+kind_at kind rest (suc block) = next_kind (first_kind kind) (last_at rest block)
+
+-- the body of a block, of so many
+abbrev pub body_start : ℕ → ℕ → List ℕ → ℕ → ℕ
+body_start lanes blocks rest block = 9 * blocks + 4 * lanes * offset_at rest block
+
+abbrev pub body_at : ℕ → ℕ → List ℕ → ℕ → List ℕ
+body_at lanes blocks rest block = take (size lanes (width_at rest block)) (drop (body_start lanes blocks rest block) rest)
+
+-- so many widths and bodies, each body after its width, as version 1 has them
+abbrev pub parts_before : ℕ → ℕ → List ℕ → ℕ → List ℕ
+parts_before lanes blocks rest zero = []
+parts_before lanes blocks rest (suc block) = parts_before lanes blocks rest block ++ width_at rest block ∷ body_at lanes blocks rest block
+
+-- where the tail begins
+abbrev pub tail_start : ℕ → ℕ → List ℕ → ℕ
+tail_start lanes blocks rest = 9 * blocks + 4 * lanes * widths_before rest blocks
+
+-- ---- the text of a list
+
+-- a block of the values
+abbrev pub block_of : ℕ → List ℕ → ℕ → List ℕ
+block_of lanes values block = take (32 * lanes) (drop (32 * lanes * block) values)
+
+-- the entry of a block is right
+pub record IsEntry2 (lanes : ℕ) (kind : ListKind) (values rest : List ℕ) (block : ℕ) : Type 0 where
+  pub least : IsWidth (kind_at kind rest block) (block_of lanes values block) (width_at rest block)
+  pub offset : offset_at rest block ≡ widths_before rest block
+  pub last : last_at rest block ≡ slice_index (block_of lanes values block) (32 * lanes - 1)
+
+-- the body holds the block
+abbrev pub IsBody2 : ℕ → ℕ → ListKind → List ℕ → List ℕ → ℕ → Type 0
+IsBody2 lanes blocks kind values rest block =
+    Holds lanes (width_at rest block) (kind_at kind rest block) (block_of lanes values block) (body_at lanes blocks rest block)
+
+-- the rest of the text of values that have so many whole blocks
+pub record IsRest2 (lanes blocks : ℕ) (kind : ListKind) (values rest : List ℕ) : Type 0 where
+  pub entries : (block : ℕ) → block < blocks → IsEntry2 lanes kind values rest block
+  pub bodies : (block : ℕ) → block < blocks → IsBody2 lanes blocks kind values rest block
+  pub room : tail_start lanes blocks rest ≤ length rest
+  pub tail : drop (tail_start lanes blocks rest) rest ≡ bytes_of_words (drop (32 * lanes * blocks) values)
+
+-- the values are words in order, and the bytes are their text
+pub record List2 (lanes : ℕ) (kind : ListKind) (values bytes : List ℕ) : Type 0 where
+  pub words : AreWords values
+  pub ordered : first_out kind values ≡ None
+  pub begins : BeginsWithHeader 2 lanes kind (length values) bytes
+  pub rest : IsRest2 lanes (whole_blocks lanes (length values)) kind values (drop 7 bytes)
+
+-- ---- the values that the rest of a text gives
+
+-- a block, of so many
+abbrev pub block_at : ℕ → ℕ → ListKind → List ℕ → ℕ → List ℕ
+block_at lanes blocks kind rest block = values_of (kind_at kind rest block) (codes_of lanes (width_at rest block) (body_at lanes blocks rest block))
+
+-- the value at a position, of so many blocks and the tail
+unfoldable pub value_at : ℕ → ℕ → ListKind → List ℕ → ℕ → ℕ
+value_at lanes blocks kind rest position =
+    if nat_lt (position / (32 * lanes)) blocks
+    then slice_index (block_at lanes blocks kind rest (position / (32 * lanes))) (position % (32 * lanes))
+    else word (drop (tail_start lanes blocks rest) rest) (position - 32 * lanes * blocks)
+
+-- ---- the first fault of bytes
+
+-- of the first of so many blocks that has one
+unfoldable pub first_fault : (ℕ → Option ListError) → ℕ → Option ListError
+first_fault fault zero = None
+first_fault fault (suc blocks) = option_or (first_fault fault blocks) (fault blocks)
+
+-- of an entry
+unfoldable pub entry_fault2 : List ℕ → ℕ → Option ListError
+entry_fault2 rest block =
+    if nat_lt 32 (width_at rest block) then Some (BadWidth block (width_at rest block))
+    else if not (offset_at rest block == widths_before rest block) then Some (BadOffset block)
+    else None
+
+-- of the body of a block that has this kind, width and last value
+unfoldable pub block_fault2 : ℕ → Kind → ℕ → ℕ → ℕ → List ℕ → Option ListError
+block_fault2 lanes kind block width last body =
+    if is_loose lanes width body then Some (LooseWidth block width)
+    else if not (slice_index (values_of kind (codes_of lanes width body)) (32 * lanes - 1) == last) then Some (BadLast block)
+    else None
+
+-- of the body of a block, of so many
+abbrev pub body_fault2 : ℕ → ℕ → ListKind → List ℕ → ℕ → Option ListError
+body_fault2 lanes blocks kind rest block =
+    block_fault2 lanes (kind_at kind rest block) block (width_at rest block) (last_at rest block) (body_at lanes blocks rest block)
+
+-- of bytes that end before a place, or after it
+abbrev pub short_of : ℕ → List ℕ → Option ListError
+short_of end bytes = if nat_lt (length bytes) end then Some Short else None
+
+abbrev pub trailing_after : ℕ → List ℕ → Option ListError
+trailing_after end bytes = if nat_lt end (length bytes) then Some Trailing else None
+
+-- of what is after the header of so many values
+unfoldable pub rest_fault2 : ℕ → ListKind → ℕ → List ℕ → Option ListError
+rest_fault2 lanes kind count rest =
+    let blocks = whole_blocks lanes count in
+    let tail = 4 * tail_values lanes count in
+    let end = tail_start lanes blocks rest + tail in
+    option_or (short_of (9 * blocks + tail) rest)
+    (option_or (first_fault (entry_fault2 rest) blocks)
+    (option_or (short_of end rest)
+    (option_or (first_fault (body_fault2 lanes blocks kind rest) blocks)
+    (option_or (option_map NotSorted (least_below (is_out kind (value_at lanes blocks kind rest)) count))
+    (trailing_after end rest)))))
+
+-- of a text of version 2
+unfoldable pub fault2 : ℕ → List ℕ → Option ListError
+fault2 lanes bytes =
+    option_or (header_fault 2 lanes bytes) (rest_fault2 lanes (kind_of_byte (slice_index bytes 1)) (count_of bytes) (drop 7 bytes))

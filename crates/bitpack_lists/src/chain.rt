@@ -1,0 +1,144 @@
+//! Chains: many blocks of one kind, each of which goes on from the last value of the one before.
+
+ghost use Rattle.std.specs.Prelude.{◌≡◌, ◌*◌, ◌≤◌, All, length, take, drop, sum};
+ghost use Rattle.bitpacking.specs.Width.{IsWidth};
+ghost use Rattle.bitpacking.specs.Layout.{size};
+ghost use Rattle.bitpacking.specs.Calls.{CanPack, CanUnpack, IsPacked, IsUnpacked};
+ghost use Rattle.bitpack_lists.specs.Chains.{Chained, Loose};
+
+use bitpacking::{BitPacker, Kind};
+
+/// The most values of a block: 32 in each of 8 lanes.
+pub(crate) const LONGEST_BLOCK: usize = 256;
+
+/// The most bytes of a block: its values at 32 bits each.
+pub(crate) const LONGEST_BODY: usize = 1024;
+
+/// Packs blocks of one kind, each at its least width, and returns the number of bytes written.
+///
+/// The widths go into `widths`, one for each block. The first block has `kind`; each one after it has the same kind with
+/// the last value of the block before as its initial value.
+pub fn pack_all<P: BitPacker>(
+    packer: &P,
+    kind: Kind,
+    values: &[u32],
+    widths: &mut [u8],
+    out: &mut [u8],
+) -> usize
+    requires blocks { length values.now ≡ P.BLOCK_LEN * length widths.old }
+    requires room { 4 * length values.now ≤ length out.old }
+    ensures size { result ≡ 4 * P.lanes * sum widths.new }
+    ensures few { result ≤ 4 * length values.now }
+    ensures narrow { All (λ width. width ≤ 32) widths.new }
+    ensures chain { Chained P.lanes kind values.now widths.new (take result out.new) }
+    ensures rest { drop result out.new ≡ drop result out.old }
+{
+    let len = P::BLOCK_LEN;
+    let blocks = widths.len();
+    let mut block_kind = kind;
+    let mut written = 0;
+    for index in 0..blocks {
+        let block = &values[index * len..index * len + len];
+        let width = width_kind(packer, block_kind, block);
+        widths[index] = width;
+        written += compress_kind(packer, block_kind, block, &mut out[written..], width);
+        block_kind = next_kind(block_kind, block[len - 1]);
+    }
+    written
+}
+
+/// Unpacks blocks that were packed as a chain and returns the number of bytes read.
+///
+/// Any widths up to 32 are taken, and any bytes. Later bytes are not looked at.
+pub fn unpack_all<P: BitPacker>(
+    packer: &P,
+    kind: Kind,
+    widths: &[u8],
+    bytes: &[u8],
+    values: &mut [u32],
+) -> usize
+    requires widths { All (λ width. width ≤ 32) widths.now }
+    requires bytes { 4 * P.lanes * sum widths.now ≤ length bytes.now }
+    requires room { P.BLOCK_LEN * length widths.now ≤ length values.old }
+    ensures size { result ≡ 4 * P.lanes * sum widths.now }
+    ensures chain { Loose P.lanes kind (take (P.BLOCK_LEN * length widths.now) values.new) widths.now
+        (take result bytes.now) }
+    ensures rest { drop (P.BLOCK_LEN * length widths.now) values.new
+        ≡ drop (P.BLOCK_LEN * length widths.now) values.old }
+{
+    let len = P::BLOCK_LEN;
+    let mut block_kind = kind;
+    let mut read = 0;
+    for index in 0..widths.len() {
+        let unpacked = &mut values[index * len..index * len + len];
+        read += decompress_kind(packer, block_kind, &bytes[read..], unpacked, widths[index]);
+        block_kind = next_kind(block_kind, unpacked[len - 1]);
+    }
+    read
+}
+
+/// Packs a block of a kind.
+pub(crate) fn compress_kind<P: BitPacker>(
+    packer: &P,
+    kind: Kind,
+    block: &[u32],
+    out: &mut [u8],
+    width: u8,
+) -> usize
+    requires { CanPack P.lanes width kind block.now out.old }
+    ensures size { result ≡ size P.lanes width }
+    ensures packed { IsPacked P.lanes width kind block.now out.old out.new }
+{
+    match kind {
+        Kind::Plain => packer.compress(block, out, width),
+        Kind::Sorted(initial) => packer.compress_sorted(initial, block, out, width),
+        Kind::StrictlySorted(initial) => {
+            packer.compress_strictly_sorted(initial, block, out, width)
+        }
+    }
+}
+
+/// Unpacks a block of a kind.
+pub(crate) fn decompress_kind<P: BitPacker>(
+    packer: &P,
+    kind: Kind,
+    bytes: &[u8],
+    block: &mut [u32],
+    width: u8,
+) -> usize
+    requires { CanUnpack P.lanes width bytes.now block.old }
+    ensures size { result ≡ size P.lanes width }
+    ensures unpacked { IsUnpacked P.lanes width kind bytes.now block.old block.new }
+{
+    match kind {
+        Kind::Plain => packer.decompress(bytes, block, width),
+        Kind::Sorted(initial) => packer.decompress_sorted(initial, bytes, block, width),
+        Kind::StrictlySorted(initial) => {
+            packer.decompress_strictly_sorted(initial, bytes, block, width)
+        }
+    }
+}
+
+/// The least width of a block of a kind, from 0 to 32.
+pub(crate) fn width_kind<P: BitPacker>(packer: &P, kind: Kind, block: &[u32]) -> u8
+    requires { length block.now ≡ P.BLOCK_LEN }
+    ensures width { IsWidth kind block.now result }
+    ensures narrow { result ≤ 32 }
+{
+    match kind {
+        Kind::Plain => packer.num_bits(block),
+        Kind::Sorted(initial) => packer.num_bits_sorted(initial, block),
+        Kind::StrictlySorted(initial) => packer.num_bits_strictly_sorted(initial, block),
+    }
+}
+
+/// The kind of the block after one of this kind that ends with this value.
+pub(crate) fn next_kind(kind: Kind, last: u32) -> Kind
+    ensures { result ≡ Rattle.bitpack_lists.specs.Chains.next_kind kind last }
+{
+    match kind {
+        Kind::Plain => Kind::Plain,
+        Kind::Sorted(_) => Kind::Sorted(last),
+        Kind::StrictlySorted(_) => Kind::StrictlySorted(Some(last)),
+    }
+}

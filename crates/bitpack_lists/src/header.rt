@@ -1,0 +1,65 @@
+//! The seven bytes before the blocks of a packed list, in both versions: version, kind, lanes, and the count of values.
+
+ghost use Rattle.std.specs.Prelude.{◌≡◌, ◌+◌, ◌^◌, ◌≤◌, ◌<◌, ◌++◌, OnOk, IfOk, length, vec_len, vec_capacity};
+ghost use Rattle.bitpack_lists.specs.Parts.{BeginsWithHeader, FindsFault, header, header_fault};
+
+use super::list_error::ListError;
+use super::list_kind::ListKind;
+use super::little_endian::read_one;
+use super::reserved::append;
+
+/// The bytes of a header.
+pub(crate) const HEADER_LEN: usize = 7;
+
+/// The most values of a list.
+pub(crate) const LONGEST_LIST: usize = 1 << 28;
+
+/// What a header says of its list.
+#[derive(Clone, Copy)]
+pub(crate) struct Header {
+    pub(crate) kind: ListKind,
+    pub(crate) count: usize,
+}
+
+impl Header {
+    /// Reads the header of a text of this version, for a packer of so many lanes.
+    #[tactic(auto, unfolding(crate::specs::Parts::header_fault))]
+    pub(crate) fn read(version: u8, lanes: usize, bytes: &[u8]) -> Result<Header, ListError>
+        ensures fault { FindsFault result (header_fault version lanes bytes.now) }
+        ensures header { IfOk result (λ found. BeginsWithHeader version lanes found.kind found.count bytes.now) }
+        ensures long { OnOk result (HEADER_LEN ≤ length bytes.now) }
+    {
+        if bytes.len() < HEADER_LEN {
+            return Err(ListError::Short);
+        }
+        if bytes[0] != version {
+            return Err(ListError::BadVersion(bytes[0]));
+        }
+        let kind = match bytes[1] {
+            0 => ListKind::Plain,
+            1 => ListKind::Sorted,
+            2 => ListKind::StrictlySorted,
+            byte => return Err(ListError::BadKind(byte)),
+        };
+        if bytes[2] as usize != lanes {
+            return Err(ListError::WrongLanes(bytes[2]));
+        }
+        let count = read_one(bytes, 3) as usize;
+        if count > LONGEST_LIST {
+            return Err(ListError::TooLong(count));
+        }
+        Ok(Header { kind, count })
+    }
+
+    /// Appends the header.
+    pub(crate) fn write(self, version: u8, lanes: usize, out: &mut Vec<u8>)
+        requires lanes { lanes < 2 ^ 8 }
+        requires count { self.count ≤ LONGEST_LIST }
+        requires room { vec_len out.old + HEADER_LEN ≤ vec_capacity out.old }
+        ensures items { out.new.items ≡ out.old.items ++ header version self.kind lanes self.count }
+        ensures capacity { vec_capacity out.old ≤ vec_capacity out.new }
+    {
+        append(out, &[version, self.kind.byte(), lanes as u8]);
+        append(out, &(self.count as u32).to_le_bytes());
+    }
+}

@@ -1,0 +1,22 @@
+//! Chains of packed blocks, and packed lists.
+//!
+//! [`chain`] packs many blocks of one kind end to end. [`list`] writes a list of any length as one text, and reads untrusted
+//! texts. [`list2`] does so for lists in order, whose texts are read in place.
+//!
+//! The crate `bitpack` gives these names again, and has their tests.
+#![tactic(auto)]
+
+pub mod chain;
+mod header;
+pub mod laws;
+pub mod list;
+pub mod list2;
+mod list_error;
+mod list_kind;
+mod little_endian;
+mod loose;
+mod measuring;
+mod reserved;
+
+pub use list_error::ListError;
+pub use list_kind::ListKind;

@@ -1,0 +1,138 @@
+//! Tests of texts of version 2. The bytes are untrusted.
+
+ghost use Rattle.std.specs.Prelude.{◌≡◌, ◌+◌, ◌-◌, ◌*◌, ◌^◌, ◌<◌, ◌≤◌, ℕ, length, slice_index, IfOk, None};
+ghost use Rattle.bitpacking.specs.declared.kind.Kind.{Kind};
+ghost use Rattle.bitpacking.specs.Codes.{values_of};
+ghost use Rattle.bitpacking.specs.Layout.{codes_of, size};
+ghost use Rattle.bitpack_lists.specs.Parts.{BeginsWithHeader, FindsFault, whole_blocks};
+ghost use Rattle.bitpack_lists.specs.Version2.{block_fault2, body_fault2, entry_fault2, fault2, first_fault, is_out, least_below, rest_fault2, short_of, tail_start, value_at, widths_before};
+
+use super::entry::{ENTRY_LEN, Entry};
+use super::order::{first_out, first_out_of_words};
+use crate::chain::{LONGEST_BLOCK, next_kind};
+use crate::header::{HEADER_LEN, Header};
+use crate::list_error::ListError;
+use crate::loose::fits_smaller;
+use bitpacking::BitPacker;
+
+/// Tests the whole text, and returns its header.
+pub(crate) fn test<P: BitPacker>(packer: &P, bytes: &[u8]) -> Result<Header, ListError>
+    ensures fault { FindsFault result (fault2 P.lanes bytes.now) }
+    ensures header { IfOk result (λ header. BeginsWithHeader 2 P.lanes header.kind header.count bytes.now) }
+{
+    let header = Header::read(2, P::BLOCK_LEN / 32, bytes)?;
+    test_rest(packer, header, &bytes[HEADER_LEN..])?;
+    Ok(header)
+}
+
+/// Tests what is after the header.
+fn test_rest<P: BitPacker>(packer: &P, header: Header, rest: &[u8]) -> Result<(), ListError>
+    requires { header.count ≤ 2 ^ 28 }
+    ensures { FindsFault result (rest_fault2 P.lanes header.kind header.count rest.now) }
+{
+    let len = P::BLOCK_LEN;
+    let blocks = header.count / len;
+    let tail = header.count % len;
+    test_room(rest, ENTRY_LEN * blocks + 4 * tail)?;
+    let widths = test_entries(rest, blocks)?;
+    let start = ENTRY_LEN * blocks + len / 8 * widths;
+    test_room(rest, start + 4 * tail)?;
+    let (last, out) = test_bodies(packer, header, rest)?;
+    let tail_out = first_out_of_words(header.kind, len * blocks, last, &rest[start..], tail);
+    if let Some(position) = out.or(tail_out) {
+        return Err(ListError::NotSorted(position));
+    }
+    if rest.len() > start + 4 * tail {
+        return Err(ListError::Trailing);
+    }
+    Ok(())
+}
+
+/// Tests that there are so many bytes.
+fn test_room(bytes: &[u8], end: usize) -> Result<(), ListError>
+    ensures { FindsFault result (short_of end bytes.now) }
+{
+    if bytes.len() < end {
+        return Err(ListError::Short);
+    }
+    Ok(())
+}
+
+/// Tests the entries of so many blocks, and returns the sum of their widths.
+fn test_entries(rest: &[u8], blocks: usize) -> Result<usize, ListError>
+    requires few { blocks ≤ 2 ^ 28 }
+    requires room { ENTRY_LEN * blocks ≤ length rest.now }
+    ensures fault { FindsFault result (first_fault (entry_fault2 rest.now) blocks) }
+    ensures widths { IfOk result (λ widths. widths ≡ widths_before rest.now blocks) }
+    ensures few { IfOk result (λ widths. widths ≤ 32 * blocks) }
+{
+    let mut widths = 0;
+    for block in 0..blocks {
+        let entry = Entry::read(rest, block);
+        if entry.width > 32 {
+            return Err(ListError::BadWidth(block, entry.width));
+        }
+        if entry.offset as usize != widths {
+            return Err(ListError::BadOffset(block));
+        }
+        widths += entry.width as usize;
+    }
+    Ok(widths)
+}
+
+/// Tests the bodies of the blocks, whose entries were tested. Returns the last value of the last block, and the first position out
+/// of order in the blocks.
+fn test_bodies<P: BitPacker>(
+    packer: &P,
+    header: Header,
+    rest: &[u8],
+) -> Result<(u32, Option<usize>), ListError>
+    requires few { header.count ≤ 2 ^ 28 }
+    requires entries { first_fault (entry_fault2 rest.now) (whole_blocks P.lanes header.count) ≡ None }
+    requires room { tail_start P.lanes (whole_blocks P.lanes header.count) rest.now ≤ length rest.now }
+    ensures fault { FindsFault result (first_fault (body_fault2 P.lanes (whole_blocks P.lanes header.count) header.kind rest.now) (whole_blocks P.lanes header.count)) }
+    ensures last { IfOk result (λ found. 0 < whole_blocks P.lanes header.count → value_at P.lanes (whole_blocks P.lanes header.count) header.kind rest.now (32 * P.lanes * whole_blocks P.lanes header.count - 1) ≡ found.0) }
+    ensures out { IfOk result (λ found. found.1 ≡ least_below (is_out header.kind (value_at P.lanes (whole_blocks P.lanes header.count) header.kind rest.now)) (32 * P.lanes * whole_blocks P.lanes header.count)) }
+{
+    let len = P::BLOCK_LEN;
+    let blocks = header.count / len;
+    let mut kind = header.kind.first();
+    let mut last = 0;
+    let mut out = None;
+    for block in 0..blocks {
+        let entry = Entry::read(rest, block);
+        let mut room = [0; LONGEST_BLOCK];
+        entry.unpack(packer, kind, blocks, rest, &mut room);
+        let values = &room[..len];
+        let body = entry.body(len / 32, blocks, rest);
+        test_block(len / 32, block, entry, body, values[len - 1])?;
+        out = out.or(first_out(header.kind, block * len, last, values));
+        last = entry.last;
+        kind = next_kind(kind, last);
+    }
+    Ok((last, out))
+}
+
+/// Tests that the width of a block is the least that its body allows, and that it ends with the value of its entry. `last` is the
+/// value that it ends with.
+fn test_block(
+    lanes: usize,
+    block: usize,
+    entry: Entry,
+    body: &[u8],
+    last: u32,
+) -> Result<(), ListError>
+    requires lanes { (1 ≤ lanes) × (lanes ≤ 8) }
+    requires width { entry.width ≤ 32 }
+    requires body { length body.now ≡ size lanes entry.width }
+    ensures { (kind : Kind) → last ≡ slice_index (values_of kind (codes_of lanes entry.width body.now)) (32 * lanes - 1)
+        → FindsFault result (block_fault2 lanes kind block entry.width entry.last body.now) }
+{
+    if fits_smaller(lanes, entry.width, body) {
+        return Err(ListError::LooseWidth(block, entry.width));
+    }
+    if last != entry.last {
+        return Err(ListError::BadLast(block));
+    }
+    Ok(())
+}

@@ -1,0 +1,209 @@
+//! A packed list of version 2, read in place: it borrows its text.
+
+mod intersection;
+mod search;
+mod walk;
+
+ghost use Rattle.std.specs.Prelude.{◌≡◌, None};
+ghost use Rattle.bitpacking.specs.Bits.{AreBytes};
+ghost use Rattle.bitpack_lists.specs.Parts.{BeginsWithHeader};
+ghost use Rattle.bitpack_lists.specs.Version2.{fault2};
+
+use super::entry::Entry;
+use super::opening::test;
+use super::reads::Reads;
+use crate::chain::{LONGEST_BLOCK, next_kind};
+use crate::header::{HEADER_LEN, Header};
+use crate::list_error::ListError;
+use crate::list_kind::ListKind;
+use crate::little_endian::read_one;
+use bitpacking::{BitPacker, Kind};
+pub use intersection::intersect;
+use std::alloc::AllocError;
+
+/// A packed list whose text was tested when it was opened, so that reading it tests nothing again and cannot fail.
+#[derive(Drop)]
+pub struct PackedList<'a, P: BitPacker> {
+    packer: P,
+    kind: ListKind,
+    count: usize,
+    bytes: &'a [u8],
+    // The text has no fault, so that it is the text of a list, which is of this kind and so many values.
+    pub ghost are_bytes: { AreBytes bytes.now },
+    pub ghost sound: { fault2 P.lanes bytes.now ≡ None },
+    ghost begins: { BeginsWithHeader 2 P.lanes kind count bytes.now },
+}
+
+/// A whole block of a list: which it is, its entry, and what is packed in place of its values.
+#[derive(Clone, Copy)]
+pub(crate) struct ListBlock {
+    pub(crate) number: usize,
+    pub(crate) entry: Entry,
+    pub(crate) kind: Kind,
+}
+
+/// The block of a list that was unpacked last. Before any is, it has a number that no list reaches.
+#[derive(Drop)]
+pub(crate) struct KeptBlock {
+    pub(crate) number: usize,
+    pub(crate) values: [u32; LONGEST_BLOCK],
+}
+
+impl<'a, P: BitPacker> Copy for PackedList<'a, P> {}
+
+impl<'a, P: BitPacker> Clone for PackedList<'a, P> {
+    ghost use Rattle.std.specs.Prelude.{⊤};
+    ghost use Rattle.bitpack_lists.specs.Opened.{text};
+
+    ghost is_clone = { λ list copy. text copy ≡ text list };
+
+    ghost is_infallible = { λ _. ⊤ };
+
+    fn clone(&self) -> Result<Self, AllocError> {
+        Ok(PackedList {
+            packer: self.packer,
+            kind: self.kind,
+            count: self.count,
+            bytes: self.bytes,
+        })
+    }
+}
+
+impl<'a, P: BitPacker> PackedList<'a, P> {
+    ghost use Rattle.std.specs.Prelude.{◌+◌, ◌*◌, ◌^◌, ◌<◌, ◌≤◌, ℕ, List, length, take, drop, slice_get, slice_index, IfOk};
+    ghost use Rattle.bitpack_lists.specs.Parts.{FindsFault, whole_blocks};
+    ghost use Rattle.bitpack_lists.specs.Opened.{text};
+    ghost use Rattle.bitpack_lists.specs.Searching.{IsListBlock};
+    ghost use Rattle.bitpack_lists.specs.Version2.{List2, block_at, kind_at, last_at, offset_at, value_at, width_at};
+
+    /// Opens a text, which is tested whole. Any bytes are taken, and no memory.
+    pub fn open(packer: P, bytes: &'a [u8]) -> Result<PackedList<'a, P>, ListError>
+        // Bytes with a fault are refused for the first, and bytes without one are opened.
+        ensures fault { FindsFault result (fault2 P.lanes bytes.now) }
+        ensures bytes { IfOk result (λ list. text list ≡ bytes.now) }
+    {
+        let header = test(&packer, bytes)?;
+        Ok(PackedList {
+            packer,
+            kind: header.kind,
+            count: header.count,
+            bytes,
+        })
+    }
+
+    /// The list of a text that was opened before: the blocks are not tested again. It is for a caller who keeps the text
+    /// alone, and the fact that it has no fault.
+    pub fn of_tested(packer: P, bytes: &'a [u8]) -> PackedList<'a, P>
+        requires sound { fault2 P.lanes bytes.now ≡ None }
+        ensures { text result ≡ bytes.now }
+    {
+        match Header::read(2, P::BLOCK_LEN / 32, bytes) {
+            Ok(Header { kind, count }) => PackedList {
+                packer,
+                kind,
+                count,
+                bytes,
+            },
+            Err(_) => unreachable!(),
+        }
+    }
+
+    /// How many values the list has.
+    pub fn len(&self) -> usize
+        ensures { (kind : ListKind) (values : List ℕ) → List2 P.lanes kind values (text self.now) → result ≡ length values }
+    {
+        self.count
+    }
+
+    /// The kind of the list.
+    pub fn kind(&self) -> ListKind
+        ensures { (kind : ListKind) (values : List ℕ) → List2 P.lanes kind values (text self.now) → result ≡ kind }
+    {
+        self.kind
+    }
+
+    /// The value at a position, or `None` from the length on. One block is unpacked at most, and none for a value of the tail.
+    pub fn get(&self, position: usize) -> Option<u32>
+        ensures { (kind : ListKind) (values : List ℕ) → List2 P.lanes kind values (text self.now) → result ≡ slice_get values position }
+    {
+        if position >= self.count {
+            return None;
+        }
+        let len = P::BLOCK_LEN;
+        if position / len < self.count / len {
+            Some(self.value_in_block(position / len, position % len))
+        } else {
+            Some(self.value_in_tail(position))
+        }
+    }
+
+    /// The value at an index of a whole block.
+    fn value_in_block(&self, number: usize, index: usize) -> u32
+        requires block { number < whole_blocks P.lanes self.now.count }
+        requires index { index < P.BLOCK_LEN }
+        ensures { result ≡ slice_index (block_at P.lanes (whole_blocks P.lanes self.now.count) self.now.kind (drop HEADER_LEN self.now.bytes.now) number) index }
+    {
+        let mut reads = Reads::new();
+        let entry = self.entry(number, &mut reads);
+        let kind = self.kind_of(number, &mut reads);
+        let block = ListBlock {
+            number,
+            entry,
+            kind,
+        };
+        let mut values = [0; LONGEST_BLOCK];
+        self.unpack(block, &mut values, &mut reads);
+        values[index]
+    }
+
+    /// The value at a position of the tail.
+    fn value_in_tail(&self, position: usize) -> u32
+        requires tail { 32 * P.lanes * whole_blocks P.lanes self.now.count ≤ position }
+        requires within { position < self.now.count }
+        ensures { result ≡ value_at P.lanes (whole_blocks P.lanes self.now.count) self.now.kind (drop HEADER_LEN self.now.bytes.now) position }
+    {
+        read_one(self.bytes, self.bytes.len() - 4 * (self.count - position))
+    }
+
+    /// The kind of a block, which goes on from the last value of the block before.
+    fn kind_of(&self, block: usize, reads: &mut Reads) -> Kind
+        requires { block < whole_blocks P.lanes self.now.count }
+        ensures { result ≡ kind_at self.now.kind (drop HEADER_LEN self.now.bytes.now) block }
+    {
+        let first = self.kind.first();
+        if block == 0 {
+            return first;
+        }
+        next_kind(first, self.entry(block - 1, reads).last)
+    }
+
+    /// Reads the entry of a block, which is in the text.
+    pub(crate) fn entry(&self, block: usize, reads: &mut Reads) -> Entry
+        requires { block < whole_blocks P.lanes self.now.count }
+        ensures width { result.width ≡ width_at (drop HEADER_LEN self.now.bytes.now) block }
+        ensures offset { result.offset ≡ offset_at (drop HEADER_LEN self.now.bytes.now) block }
+        ensures last { result.last ≡ last_at (drop HEADER_LEN self.now.bytes.now) block }
+        ensures entries { reads.new.entries ≡ reads.old.entries + 1 }
+        ensures blocks { reads.new.blocks ≡ reads.old.blocks }
+    {
+        reads.entry(&self.bytes[HEADER_LEN..], block)
+    }
+
+    /// Unpacks a block, whose body is in the text.
+    fn unpack(&self, block: ListBlock, values: &mut [u32], reads: &mut Reads)
+        requires block { IsListBlock self.now block }
+        requires room { P.BLOCK_LEN ≤ length values.old }
+        ensures block { take P.BLOCK_LEN values.new ≡ block_at P.lanes (whole_blocks P.lanes self.now.count) self.now.kind (drop HEADER_LEN self.now.bytes.now) block.number }
+        ensures entries { reads.new.entries ≡ reads.old.entries }
+        ensures blocks { reads.new.blocks ≡ reads.old.blocks + 1 }
+    {
+        reads.unpack(
+            &self.packer,
+            block.kind,
+            block.entry,
+            self.count / P::BLOCK_LEN,
+            &self.bytes[HEADER_LEN..],
+            values,
+        );
+    }
+}

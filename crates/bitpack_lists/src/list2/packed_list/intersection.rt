@@ -1,0 +1,51 @@
+//! The values that two packed lists share.
+
+ghost use Rattle.std.specs.Prelude.{◌≡◌, ◌≢◌, ◌+◌, ◌<◌, ◌++◌, ℕ, min, List, length, OnOk, OnErr, IfErr, vec_len, vec_capacity};
+ghost use Rattle.bitpack_lists.specs.declared.list_kind.ListKind.{ListKind};
+ghost use Rattle.bitpack_lists.specs.Intersections.{IsCommon, ReadsSearched, ReadsWalked};
+ghost use Rattle.bitpack_lists.specs.Opened.{text};
+ghost use Rattle.bitpack_lists.specs.Version2.{List2};
+
+use super::super::reads::Reads;
+use super::PackedList;
+use super::walk::walk_list;
+use crate::list_error::ListError;
+use bitpacking::BitPacker;
+
+/// Appends the values that both lists have, in increasing order and each once. The lists may be of two packers.
+///
+/// Both lists have to be sorted or strictly sorted. The vector grows once at most, by as many values as the shorter list has; where
+/// that is refused, nothing is read. The blocks of `a` are walked in order, and those that have no value of `b` are left packed where
+/// their last values say so. The values of `a` are searched in `b`, and the block of `b` that was unpacked last is kept.
+///
+/// Fails with `Memory` alone.
+pub fn intersect<P: BitPacker, Q: BitPacker>(
+    a: &PackedList<'_, P>,
+    b: &PackedList<'_, Q>,
+    out: &mut Vec<u32>,
+    reads_a: &mut Reads,
+    reads_b: &mut Reads,
+) -> Result<(), ListError>
+    requires ordered_a { (kind : ListKind) (values : List ℕ) → List2 P.lanes kind values (text a.now) → kind ≢ ListKind.Plain }
+    requires ordered_b { (kind : ListKind) (values : List ℕ) → List2 Q.lanes kind values (text b.now) → kind ≢ ListKind.Plain }
+    // What is appended is what each list of the one text and each of the other have in common: by the law there is one list of each.
+    ensures ok { (kind kind' : ListKind) (values others : List ℕ) → List2 P.lanes kind values (text a.now) → List2 Q.lanes kind' others (text b.now)
+        → OnOk result ((shared : List ℕ) × IsCommon values others shared × (out.new.items ≡ out.old.items ++ shared)) }
+    ensures reads_a { (kind kind' : ListKind) (values others : List ℕ) → List2 P.lanes kind values (text a.now) → List2 Q.lanes kind' others (text b.now)
+        → ReadsWalked P.lanes values others reads_a.old reads_a.new }
+    ensures reads_b { (kind kind' : ListKind) (values others : List ℕ) → List2 P.lanes kind values (text a.now) → List2 Q.lanes kind' others (text b.now)
+        → ReadsSearched Q.lanes values others reads_b.old reads_b.new }
+    // Memory runs out only where the vector has no room for as many values as the shorter list has.
+    ensures memory { IfErr result (λ e. e ≡ ListError.Memory) }
+    ensures room { (kind kind' : ListKind) (values others : List ℕ) → List2 P.lanes kind values (text a.now) → List2 Q.lanes kind' others (text b.now)
+        → OnErr result (vec_capacity out.old < vec_len out.old + min (length values) (length others)) }
+    ensures unchanged { OnErr result (out.new.items ≡ out.old.items) }
+    ensures kept { OnErr result (vec_capacity out.new ≡ vec_capacity out.old) }
+    ensures unread { OnErr result ((reads_a.new ≡ reads_a.old) × (reads_b.new ≡ reads_b.old)) }
+{
+    if out.reserve(a.count.min(b.count)).is_err() {
+        return Err(ListError::Memory);
+    }
+    walk_list(a, b, out, reads_a, reads_b);
+    Ok(())
+}

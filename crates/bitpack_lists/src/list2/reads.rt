@@ -1,0 +1,82 @@
+//! What a search reads of a packed list: each entry and each block counts in `Reads`.
+
+ghost use Rattle.std.specs.Prelude.{◌≡◌, ◌+◌, ◌*◌, ◌^◌, ◌<◌, ◌≤◌, ℕ, length, take, drop};
+ghost use Rattle.std.specs.Borrow.{ftrue};
+ghost use Rattle.bitpacking.specs.Codes.{start, values_of};
+ghost use Rattle.bitpacking.specs.Layout.{codes_of, size};
+ghost use Rattle.bitpack_lists.specs.Version2.{last_at, offset_at, width_at};
+
+use super::entry::{ENTRY_LEN, Entry};
+use bitpacking::{BitPacker, Kind};
+use std::marker::{Model, PhantomData};
+use std::mem::size_of;
+
+/// How many entries were read, and how many blocks were unpacked. Values of the tail do not count.
+///
+/// It takes no room at run time, and no program can read it: the numbers are for contracts.
+#[derive(Drop)]
+pub struct Reads {
+    marker: PhantomData<()>,
+    pub ghost entries: { ℕ },
+    pub ghost blocks: { ℕ },
+}
+
+const _: () = prove!(size_of::<Reads>() == 0);
+
+impl Model for Reads {
+    ghost also_owns = { λ _. ftrue };
+}
+
+impl Reads {
+    /// No reads.
+    pub fn new() -> Reads
+        ensures entries { result.entries ≡ 0 }
+        ensures blocks { result.blocks ≡ 0 }
+    {
+        Reads {
+            marker: PhantomData,
+        }
+    }
+
+    // So many entries were read, and so many blocks unpacked.
+    fn record(&mut self, entries: u32, blocks: u32)
+        ensures entries { self.new.entries ≡ self.old.entries + entries }
+        ensures blocks { self.new.blocks ≡ self.old.blocks + blocks }
+    {}
+
+    /// Reads the entry of a block. The bytes are those after a header.
+    pub(crate) fn entry(&mut self, rest: &[u8], block: usize) -> Entry
+        requires { ENTRY_LEN * block + ENTRY_LEN ≤ length rest.now }
+        ensures width { result.width ≡ width_at rest.now block }
+        ensures offset { result.offset ≡ offset_at rest.now block }
+        ensures last { result.last ≡ last_at rest.now block }
+        ensures entries { self.new.entries ≡ self.old.entries + 1 }
+        ensures blocks { self.new.blocks ≡ self.old.blocks }
+    {
+        self.record(1, 0);
+        Entry::read(rest, block)
+    }
+
+    /// Unpacks the block of an entry, which is one of so many. The bytes are those after a header.
+    pub(crate) fn unpack<P: BitPacker>(
+        &mut self,
+        packer: &P,
+        kind: Kind,
+        entry: Entry,
+        blocks: usize,
+        rest: &[u8],
+        values: &mut [u32],
+    )
+        requires width { entry.width ≤ 32 }
+        requires body { ENTRY_LEN * blocks + 4 * P.lanes * entry.offset + size P.lanes entry.width ≤ length rest.now }
+        requires room { P.BLOCK_LEN ≤ length values.old }
+        requires start { start kind < 2 ^ 32 }
+        ensures block { take P.BLOCK_LEN values.new
+            ≡ values_of kind (codes_of P.lanes entry.width (take (size P.lanes entry.width) (drop (ENTRY_LEN * blocks + 4 * P.lanes * entry.offset) rest.now))) }
+        ensures entries { self.new.entries ≡ self.old.entries }
+        ensures blocks { self.new.blocks ≡ self.old.blocks + 1 }
+    {
+        self.record(0, 1);
+        entry.unpack(packer, kind, blocks, rest, values);
+    }
+}

@@ -1,0 +1,42 @@
+//! The kinds of packed lists.
+
+ghost use Rattle.std.specs.Prelude.{◌≡◌};
+ghost use Rattle.bitpack_lists.specs.Parts.{first_kind, kind_byte};
+
+use bitpacking::Kind;
+
+/// What is packed in place of the values of a list.
+#[derive(Clone, Copy, PartialEq, Eq, Debug)]
+pub enum ListKind {
+    /// The values.
+    Plain,
+    /// The difference of each value and the one before it, modulo 2 ^ 32. Before the first comes 0.
+    Sorted,
+    /// One less than that, modulo 2 ^ 32. Before the first comes `u32::MAX`, so that a list may begin
+    /// with 0.
+    StrictlySorted,
+}
+
+impl ListKind {
+    /// The byte of the kind.
+    pub(crate) fn byte(self) -> u8
+        ensures { result ≡ kind_byte self }
+    {
+        match self {
+            ListKind::Plain => 0,
+            ListKind::Sorted => 1,
+            ListKind::StrictlySorted => 2,
+        }
+    }
+
+    /// The kind of the first block of a list.
+    pub(crate) fn first(self) -> Kind
+        ensures { result ≡ first_kind self }
+    {
+        match self {
+            ListKind::Plain => Kind::Plain,
+            ListKind::Sorted => Kind::Sorted(0),
+            ListKind::StrictlySorted => Kind::StrictlySorted(None),
+        }
+    }
+}

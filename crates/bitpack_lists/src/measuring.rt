@@ -1,0 +1,76 @@
+//! The length of a text before it is written. The least widths of its first blocks are kept from here to the writing.
+
+ghost use Rattle.std.specs.Prelude.{◌≡◌, ◌+◌, ◌*◌, ◌^◌, ◌<◌, ◌≤◌, ◌∷◌, ◌++◌, [], ℕ, List, length, sum, take, slice_index};
+ghost use Rattle.bitpacking.specs.Width.{IsWidth};
+ghost use Rattle.bitpack_lists.specs.Chains.{LeastWidths};
+ghost use Rattle.bitpack_lists.specs.Parts.{first_kind, tail_values, whole_blocks};
+
+use crate::chain::{next_kind, width_kind};
+use crate::header::HEADER_LEN;
+use crate::list_kind::ListKind;
+use bitpacking::{BitPacker, Kind};
+
+/// How many widths are kept from the measuring of a list to its writing. Blocks after those are measured twice.
+pub(crate) const KEPT_WIDTHS: usize = 1024;
+
+/// How many bytes a text of the values has, with so many for each whole block beside its body. The least widths of its first blocks
+/// are kept.
+pub(crate) fn text_len<P: BitPacker>(
+    packer: &P,
+    kind: ListKind,
+    values: &[u32],
+    entry_len: usize,
+    widths: &mut [u8],
+) -> usize
+    requires few { length values.now ≤ 2 ^ 28 }
+    requires entry { entry_len ≤ 9 }
+    ensures room { HEADER_LEN + entry_len * whole_blocks P.lanes (length values.now) ≤ result }
+    ensures len { (all : List ℕ) → length all ≡ whole_blocks P.lanes (length values.now) → LeastWidths P.lanes (first_kind kind) values.now all
+        → result ≡ HEADER_LEN + entry_len * whole_blocks P.lanes (length values.now) + 4 * P.lanes * sum all + 4 * tail_values P.lanes (length values.now) }
+    ensures widths { LeastWidths P.lanes (first_kind kind) values.now (take (whole_blocks P.lanes (length values.now)) widths.new) }
+{
+    let len = P::BLOCK_LEN;
+    let blocks = values.len() / len;
+    let mut kind = kind.first();
+    let mut rest = values;
+    let mut size = HEADER_LEN;
+    for index in 0..blocks {
+        let (block, after) = rest.split_at(len);
+        let width = width_kind(packer, kind, block);
+        keep(widths, index, width);
+        size += entry_len + P::compressed_block_size(width);
+        kind = next_kind(kind, block[len - 1]);
+        rest = after;
+    }
+    size + 4 * rest.len()
+}
+
+/// Keeps the width of the block with this index, where there is a place for it.
+fn keep(widths: &mut [u8], index: usize, width: u8)
+    ensures kept { index < length widths.old → take (index + 1) widths.new ≡ take index widths.old ++ width ∷ [] }
+    ensures past { length widths.old ≤ index → widths.new ≡ widths.old }
+{
+    if index < widths.len() {
+        widths[index] = width;
+    }
+}
+
+/// The least width of the block with this index: the one that was kept, or else measured again.
+pub(crate) fn width_of<P: BitPacker>(
+    packer: &P,
+    kind: Kind,
+    block: &[u32],
+    widths: &[u8],
+    index: usize,
+) -> u8
+    requires block { length block.now ≡ P.BLOCK_LEN }
+    requires kept { index < length widths.now → IsWidth kind block.now (slice_index widths.now index) }
+    ensures width { IsWidth kind block.now result }
+    ensures narrow { result ≤ 32 }
+{
+    if index < widths.len() {
+        widths[index]
+    } else {
+        width_kind(packer, kind, block)
+    }
+}

@@ -1,0 +1,17 @@
+-- The same numbers: 3 blocks are a number of two binary digits, and two for each of 100 values and one are 201.
+use Rattle.std.proofs.Common.{arith}
+use Rattle.bitpack_uses.proofs.reads.long_first.Goals as goal
+
+pub returns-clause-short : goal.returns-clause-short
+returns-clause-short c = λ kind kind' values others list list' short long.
+    let reads = c.intersect.ensures.reads_b kind' kind others values list' list in
+    let entries = rw long at (reads.entries 2 (rw short (omega arith))) in
+    let blocks = rw (short, long) at reads.blocks in
+    (entries, omega (arith, blocks))
+
+pub returns-clause-long : goal.returns-clause-long
+returns-clause-long c = λ kind kind' values others list list' short long.
+    let reads = c.intersect.ensures.reads_a kind' kind others values list' list in
+    let entries = rw long at reads.entries in
+    let blocks = rw (short, long) at reads.blocks in
+    (entries, omega (arith, blocks))

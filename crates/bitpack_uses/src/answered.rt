@@ -1,0 +1,18 @@
+//! The answers to lines that are in memory.
+
+ghost use Rattle.std.specs.Prelude.{◌≡◌, ◌≢◌, ◌++◌, ℕ, List, Some, OnOk, IfErr};
+ghost use Rattle.bitpack.specs.declared.run_error.RunError.TheVariants.{Read};
+ghost use Rattle.bitpack.specs.Lines.{AppendsAnswersInPart, AreAnswers, IsBeginning, lines};
+
+use bitpack::{RunError, run};
+use std::alloc::Global;
+
+/// Appends the answers to lines that are in memory. If that fails, a beginning of the answers may have been appended.
+pub fn answer_lines(alloc: Global, input: &[u8], answers: &mut Vec<u8>) -> Result<(), RunError>
+    ensures ok { OnOk result ((more : List ℕ) × AreAnswers (lines input.now) more × (answers.new.items ≡ answers.old.items ++ more)) }
+    ensures err { IfErr result (λ e. e ≢ Read → (read : List ℕ) × IsBeginning read input.now
+        × AppendsAnswersInPart (Some answers.old.items) (Some answers.new.items) (lines read)) }
+{
+    let mut reader = input;
+    run(alloc, &mut reader, answers)
+}

@@ -1,0 +1,66 @@
+//! Calls that meet their conditions with nothing to spare. Each edit of this file in `must-fail/` breaks one of these conditions
+//! and keeps the others.
+
+use bitpack::ListKind;
+use bitpack::chain::{pack_all, unpack_all};
+use bitpack::list2::{self, PackedList, Reads};
+use bitpacking::{BitPacker, BitPacker1x, BitPacker4x, Kind};
+
+/// The width of a block of four lanes.
+pub fn width() -> u8 {
+    BitPacker4x::new().num_bits(&[5; 128])
+}
+
+/// Packs a block at width 0. No byte is written.
+pub fn pack_at_0() -> usize {
+    BitPacker1x::new().compress(&[0; 32], &mut [], 0)
+}
+
+/// Packs a block at width 1, of which 1 is the greatest value.
+pub fn pack_at_1() -> usize {
+    BitPacker1x::new().compress(&[1; 32], &mut [0; 4], 1)
+}
+
+/// Packs a block at the greatest width.
+pub fn pack_at_32() -> usize {
+    BitPacker1x::new().compress(&[u32::MAX; 32], &mut [0; 128], 32)
+}
+
+/// Unpacks a block of width 1.
+pub fn unpack() -> usize {
+    BitPacker1x::new().decompress(&[0xff; 4], &mut [0; 32], 1)
+}
+
+/// Packs two blocks.
+pub fn pack_chain() -> usize {
+    let packer = BitPacker1x::new();
+    pack_all(&packer, Kind::Plain, &[1; 64], &mut [0; 2], &mut [0; 256])
+}
+
+/// Unpacks two blocks of the widths 1 and 2.
+pub fn unpack_chain() -> usize {
+    let packer = BitPacker1x::new();
+    unpack_all(&packer, Kind::Plain, &[1, 2], &[0xff; 12], &mut [0; 64])
+}
+
+/// Searches a text whose list is not plain. The text may be untrusted.
+pub fn seek(text: &[u8], target: u32) -> Option<(usize, u32)> {
+    let list = PackedList::open(BitPacker1x::new(), text).ok()?;
+    if list.kind() == ListKind::Plain {
+        return None;
+    }
+    list.seek(target, &mut Reads::new())
+}
+
+/// Appends what the lists of two texts share, neither of which is plain. The texts may be untrusted.
+pub fn intersect(first: &[u8], second: &[u8], out: &mut Vec<u32>) -> Option<()> {
+    let a = PackedList::open(BitPacker1x::new(), first).ok()?;
+    let b = PackedList::open(BitPacker1x::new(), second).ok()?;
+    if a.kind() == ListKind::Plain {
+        return None;
+    }
+    if b.kind() == ListKind::Plain {
+        return None;
+    }
+    list2::intersect(&a, &b, out, &mut Reads::new(), &mut Reads::new()).ok()
+}

@@ -1,0 +1,30 @@
+//! Whether untrusted bytes are a packed list.
+
+ghost use Rattle.std.specs.Prelude.{◌≡◌, ◌↔◌, IfOk, IsTrue, None};
+ghost use Rattle.bitpack_lists.specs.Version1.{fault1};
+ghost use Rattle.bitpack_uses.specs.Texts.{IsText};
+
+use bitpack::laws::one_text;
+use bitpack::{ListError, list};
+use bitpacking::BitPacker;
+use std::alloc::{AllocError, Global};
+
+/// Whether the bytes are the text of a list.
+pub fn is_text<P: BitPacker>(alloc: Global, packer: &P, bytes: &[u8]) -> Result<bool, AllocError>
+    ensures { IfOk result (λ is_text. IsTrue is_text ↔ IsText P.lanes bytes.now) }
+{
+    one_text();
+    let mut values = Vec::new(alloc);
+    match list::decode(packer, bytes, &mut values) {
+        Ok(_) => Ok(true),
+        Err(ListError::Memory) => Err(AllocError),
+        Err(_) => Ok(false),
+    }
+}
+
+/// Bytes without a fault are the text of a list.
+pub fn no_fault_is_a_text<P: BitPacker>(bytes: &[u8])
+    ensures { fault1 P.lanes bytes.now ≡ None → IsText P.lanes bytes.now }
+{
+    one_text();
+}

@@ -1,0 +1,17 @@
+//! The packers for C: each function tests what it is given, and answers a count or a negative number.
+//!
+//! C's own rules are the only conditions: pointers are to as many items as the lengths say, the buffers that a call writes
+//! overlap no other, and values are aligned. `include/bitpacking.h` has the declarations, with lengths, errors and examples.
+#![tactic(auto)]
+
+mod bitpacker1x;
+mod bitpacker4x;
+mod bitpacker8x;
+mod block;
+mod call_error;
+mod chain;
+mod list_view;
+mod no_initial;
+
+pub use call_error::CallError;
+pub use list_view::ListView;

@@ -1,0 +1,173 @@
+/* bitpacking.h: blocks of 32-bit integers packed in few bits per value, and chains and lists of such blocks.
+ *
+ * The functions are those of the static library libbitpacking_c.a; docs/RUST_AND_C.md of the repository says how to build it.
+ * What each call returns and writes is proved for all arguments that meet these rules:
+ *
+ * - A pointer is to as many items as the length after it says. It may be NULL where that length is 0.
+ * - The buffers that a call writes overlap none of its other arguments.
+ * - Nothing else writes to an argument during a call, and nothing reads what the call writes.
+ *
+ * The functions take no memory and have no state: they may run on any threads at once.
+ *
+ * A block has BITPACKING_4X_BLOCK_LEN values for the functions bitpacking_4x_.., and so for 1x and 8x. Each of the three has
+ * a format of its own. At the width num_bits a block takes BITPACKING_4X_BLOCK_SIZE(num_bits) bytes, at most 4 per value.
+ * The bytes hold neither the width nor the kind nor the initial value of the block: the caller keeps them.
+ *
+ *     kind               what is packed                                        before the first value
+ *     (plain)            the values
+ *     sorted             each value less the one before it, modulo 2^32        initial
+ *     strictly_sorted    one less than that, modulo 2^32                       initial, or BITPACKING_NO_INITIAL for none
+ *
+ * A call that works returns a number of bytes, or a width, from 0 on. A call that does not returns one of the negative
+ * numbers below, and has then written nothing: the buffers are as they were.
+ *
+ *     uint32_t values[128], back[128];
+ *     uint8_t bytes[BITPACKING_4X_BLOCK_SIZE(32)], width;
+ *     ...
+ *     ptrdiff_t size = bitpacking_4x_pack(values, 128, bytes, sizeof bytes, &width);
+ *     if (size < 0) return size;
+ *     ptrdiff_t read = bitpacking_4x_decompress(bytes, (size_t)size, back, 128, width);
+ */
+#ifndef BITPACKING_H
+#define BITPACKING_H
+
+#include <stddef.h>
+#include <stdint.h>
+
+#ifdef __cplusplus
+extern "C" {
+#endif
+
+/* The values of a block. */
+#define BITPACKING_1X_BLOCK_LEN 32
+#define BITPACKING_4X_BLOCK_LEN 128
+#define BITPACKING_8X_BLOCK_LEN 256
+
+/* The bytes of a block at a width. */
+#define BITPACKING_1X_BLOCK_SIZE(num_bits) (4 * (size_t)(num_bits))
+#define BITPACKING_4X_BLOCK_SIZE(num_bits) (16 * (size_t)(num_bits))
+#define BITPACKING_8X_BLOCK_SIZE(num_bits) (32 * (size_t)(num_bits))
+
+/* The initial value of a strictly sorted block that may begin with 0. bitpacking_no_initial() returns the same number. */
+#define BITPACKING_NO_INITIAL UINT32_MAX
+
+/* Why a call on a block or a chain did not work. */
+#define BITPACKING_BAD_LENGTH (-1) /* the values are not a block, or there is no room for one; or not as many as blocks of the widths */
+#define BITPACKING_BAD_WIDTH (-2)  /* a width is above 32 */
+#define BITPACKING_SHORT (-3)      /* too few bytes, to write or to read */
+#define BITPACKING_UNFIT (-4)      /* a code of the block does not fit the width */
+
+uint32_t bitpacking_no_initial(void);
+
+/* The calls of one packer, for one kind. INITIAL is `uint32_t initial,` or nothing.
+ *
+ * pack        Packs a block at its least width, which goes into *num_bits. Returns the number of bytes written. This is the
+ *             call to take: it is as fast as num_bits and then a compress that tests nothing.
+ *             BAD_LENGTH: decompressed_len is not the length of a block. SHORT: the bytes of the block do not fit
+ *             compressed_len; 4 bytes per value always do. *num_bits too is written only where the call works.
+ *
+ * compress    Packs a block at a width from its least to 32. Returns the number of bytes written.
+ *             The first of: BAD_WIDTH; BAD_LENGTH; SHORT: compressed_len is below the bytes of a block at this width;
+ *             UNFIT: the width is below the block's least.
+ *
+ * decompress  Unpacks a block. Any bytes are taken; later ones are not looked at. Returns the number of bytes read.
+ *             The first of: BAD_LENGTH: decompressed_len is below the length of a block; BAD_WIDTH; SHORT.
+ *
+ * num_bits    Returns the least width of a block, from 0 to 32. BAD_LENGTH as for pack.
+ *
+ * pack_all    Packs a chain: as many blocks as widths_len, each at its least width, which goes into widths. The first has the
+ *             kind and the initial value of the call; each one after it has the last value of the block before as its
+ *             initial value. Returns the number of bytes written.
+ *             The first of: BAD_LENGTH: values_len is not the values of so many blocks; SHORT: compressed_len is below
+ *             4 * values_len, also where the chain would fit.
+ *
+ * unpack_all  Unpacks a chain with the kind, the initial value and the widths that it was packed with. Any bytes are taken;
+ *             later ones are not looked at. Returns the number of bytes read.
+ *             BAD_WIDTH: one of the widths. SHORT: compressed_len is below the bytes of the blocks. BAD_LENGTH: values_len is
+ *             below the values of the blocks. BAD_LENGTH comes after the others; which of the others comes where both
+ *             are true is not said. Values after those of the blocks stay as they were.
+ *
+ * Bytes after those written, and values after those of a block, stay as they were.
+ */
+#define BITPACKING_ONE_VALUE uint32_t initial,
+#define BITPACKING_NO_VALUE
+#define BITPACKING_CALLS(packer, kind, INITIAL)                                                                               \
+    ptrdiff_t bitpacking_##packer##_pack##kind(INITIAL const uint32_t *decompressed, size_t decompressed_len,                 \
+                                               uint8_t *compressed, size_t compressed_len, uint8_t *num_bits);                \
+    ptrdiff_t bitpacking_##packer##_compress##kind(INITIAL const uint32_t *decompressed, size_t decompressed_len,             \
+                                                   uint8_t *compressed, size_t compressed_len, uint8_t num_bits);             \
+    ptrdiff_t bitpacking_##packer##_decompress##kind(INITIAL const uint8_t *compressed, size_t compressed_len,                \
+                                                     uint32_t *decompressed, size_t decompressed_len, uint8_t num_bits);      \
+    ptrdiff_t bitpacking_##packer##_num_bits##kind(INITIAL const uint32_t *decompressed, size_t decompressed_len);            \
+    ptrdiff_t bitpacking_##packer##_pack_all##kind(INITIAL const uint32_t *values, size_t values_len, uint8_t *widths,        \
+                                                   size_t widths_len, uint8_t *compressed, size_t compressed_len);            \
+    ptrdiff_t bitpacking_##packer##_unpack_all##kind(INITIAL const uint8_t *widths, size_t widths_len,                        \
+                                                     const uint8_t *compressed, size_t compressed_len, uint32_t *values,      \
+                                                     size_t values_len);
+
+BITPACKING_CALLS(1x, , BITPACKING_NO_VALUE)
+BITPACKING_CALLS(1x, _sorted, BITPACKING_ONE_VALUE)
+BITPACKING_CALLS(1x, _strictly_sorted, BITPACKING_ONE_VALUE)
+BITPACKING_CALLS(4x, , BITPACKING_NO_VALUE)
+BITPACKING_CALLS(4x, _sorted, BITPACKING_ONE_VALUE)
+BITPACKING_CALLS(4x, _strictly_sorted, BITPACKING_ONE_VALUE)
+BITPACKING_CALLS(8x, , BITPACKING_NO_VALUE)
+BITPACKING_CALLS(8x, _sorted, BITPACKING_ONE_VALUE)
+BITPACKING_CALLS(8x, _strictly_sorted, BITPACKING_ONE_VALUE)
+
+#undef BITPACKING_CALLS
+#undef BITPACKING_NO_VALUE
+#undef BITPACKING_ONE_VALUE
+
+/* A packed list of version 2, read in place: a text of a header, an entry for each whole block, the blocks, and the values after
+ * them. docs/FORMAT.md of the repository has every byte.
+ *
+ * A view is set to BITPACKING_LIST_EMPTY before anything else, and then opened. It keeps a pointer to the bytes: they have to
+ * stay where they are, unchanged, for as long as the view is used. Only the open functions may write the fields.
+ *
+ *     bitpacking_list list = BITPACKING_LIST_EMPTY;
+ *     uint32_t value;
+ *     if (bitpacking_4x_list_open(bytes, bytes_len, &list) < 0) return -1;
+ *     if (bitpacking_list_get(&list, 1000, &value)) ...
+ */
+typedef struct bitpacking_list {
+    const uint8_t *bytes;
+    size_t bytes_len;
+    uint8_t lanes;
+} bitpacking_list;
+
+#define BITPACKING_LIST_EMPTY {(const uint8_t *)"\2\0\1\0\0\0\0", 7, 1}
+
+/* Opens a text of the packer of 1, 4 or 8 lanes. Any bytes are taken, and all of them are tested. Returns 0; or the first of the
+ * faults below, in the order of docs/FORMAT.md, and then the view is as it was. */
+ptrdiff_t bitpacking_1x_list_open(const uint8_t *bytes, size_t bytes_len, bitpacking_list *view);
+ptrdiff_t bitpacking_4x_list_open(const uint8_t *bytes, size_t bytes_len, bitpacking_list *view);
+ptrdiff_t bitpacking_8x_list_open(const uint8_t *bytes, size_t bytes_len, bitpacking_list *view);
+
+#define BITPACKING_LIST_SHORT (-21)       /* bytes are missing */
+#define BITPACKING_LIST_BAD_VERSION (-22) /* the text is not of version 2 */
+#define BITPACKING_LIST_BAD_KIND (-23)    /* the kind is none */
+#define BITPACKING_LIST_WRONG_LANES (-24) /* the text is of another packer */
+#define BITPACKING_LIST_TOO_LONG (-25)    /* more than 268,435,456 values */
+#define BITPACKING_LIST_BAD_WIDTH (-26)   /* a width is above 32 */
+#define BITPACKING_LIST_LOOSE_WIDTH (-27) /* a width is not the least of its block */
+#define BITPACKING_LIST_BAD_OFFSET (-28)  /* an offset is not the sum of the widths before it */
+#define BITPACKING_LIST_BAD_LAST (-29)    /* a last value is not that of its block */
+#define BITPACKING_LIST_NOT_SORTED (-30)  /* the values are not in the order of the kind */
+#define BITPACKING_LIST_TRAILING (-31)    /* bytes are left over */
+
+/* How many values an opened list has. */
+size_t bitpacking_list_len(const bitpacking_list *view);
+
+/* The kind of an opened list: 0 for plain, 1 for sorted, 2 for strictly sorted. */
+uint8_t bitpacking_list_kind(const bitpacking_list *view);
+
+/* Writes the value at a position, from 0 on, and returns 1. From the length on it returns 0 and writes nothing. It unpacks one block
+ * at most. */
+int32_t bitpacking_list_get(const bitpacking_list *view, size_t position, uint32_t *item);
+
+#ifdef __cplusplus
+}
+#endif
+
+#endif

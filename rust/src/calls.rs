@@ -1,0 +1,251 @@
+//! The functions of the archives: one table for each packer at each level of the processor, and the choice of a level.
+
+use std::sync::OnceLock;
+
+/// The functions of a packer for the kind without initial value. They test their arguments.
+pub(crate) struct Plain {
+    pack: unsafe extern "C" fn(*const u32, usize, *mut u8, usize, *mut u8) -> isize,
+    compress: unsafe extern "C" fn(*const u32, usize, *mut u8, usize, u8) -> isize,
+    decompress: unsafe extern "C" fn(*const u8, usize, *mut u32, usize, u8) -> isize,
+    num_bits: unsafe extern "C" fn(*const u32, usize) -> isize,
+}
+
+/// The functions of a packer for a kind with an initial value, which comes first.
+pub(crate) struct Initial {
+    pack: unsafe extern "C" fn(u32, *const u32, usize, *mut u8, usize, *mut u8) -> isize,
+    compress: unsafe extern "C" fn(u32, *const u32, usize, *mut u8, usize, u8) -> isize,
+    decompress: unsafe extern "C" fn(u32, *const u8, usize, *mut u32, usize, u8) -> isize,
+    num_bits: unsafe extern "C" fn(u32, *const u32, usize) -> isize,
+}
+
+/// The functions of a packer.
+pub(crate) struct Calls {
+    pub(crate) plain: Plain,
+    pub(crate) sorted: Initial,
+    pub(crate) strictly_sorted: Initial,
+}
+
+/// The packers at one level of the processor.
+pub(crate) struct Level {
+    pub(crate) one: Calls,
+    pub(crate) four: Calls,
+    pub(crate) eight: Calls,
+}
+
+/// What a function answers: a count, or why it wrote nothing.
+pub(crate) type Answer = Result<usize, Fault>;
+
+/// Why a function wrote nothing, by its number.
+#[derive(Clone, Copy, PartialEq, Eq, Debug)]
+pub(crate) enum Fault {
+    BadLength,
+    BadWidth,
+    Short,
+    Unfit,
+}
+
+fn answer(number: isize) -> Answer {
+    match number {
+        -1 => Err(Fault::BadLength),
+        -2 => Err(Fault::BadWidth),
+        -3 => Err(Fault::Short),
+        -4 => Err(Fault::Unfit),
+        count => Ok(count as usize),
+    }
+}
+
+// The functions ask for what slices are: pointers to as many items as the lengths say, no buffer that is written and shared at
+// once. All else they test. So each call below is sound for any arguments.
+
+impl Plain {
+    #[inline]
+    pub(crate) fn pack(&self, decompressed: &[u32], compressed: &mut [u8], num_bits: &mut u8) -> Answer {
+        // SAFETY: pointers and lengths of slices; what is written is borrowed by `&mut`.
+        answer(unsafe {
+            (self.pack)(decompressed.as_ptr(), decompressed.len(), compressed.as_mut_ptr(), compressed.len(), num_bits)
+        })
+    }
+
+    #[inline]
+    pub(crate) fn compress(&self, decompressed: &[u32], compressed: &mut [u8], num_bits: u8) -> Answer {
+        // SAFETY: pointers and lengths of slices; what is written is borrowed by `&mut`.
+        answer(unsafe {
+            (self.compress)(decompressed.as_ptr(), decompressed.len(), compressed.as_mut_ptr(), compressed.len(), num_bits)
+        })
+    }
+
+    #[inline]
+    pub(crate) fn decompress(&self, compressed: &[u8], decompressed: &mut [u32], num_bits: u8) -> Answer {
+        // SAFETY: pointers and lengths of slices; what is written is borrowed by `&mut`.
+        answer(unsafe {
+            (self.decompress)(compressed.as_ptr(), compressed.len(), decompressed.as_mut_ptr(), decompressed.len(), num_bits)
+        })
+    }
+
+    #[inline]
+    pub(crate) fn num_bits(&self, decompressed: &[u32]) -> Answer {
+        // SAFETY: the pointer and the length of a slice, and nothing is written.
+        answer(unsafe { (self.num_bits)(decompressed.as_ptr(), decompressed.len()) })
+    }
+}
+
+impl Initial {
+    #[inline]
+    pub(crate) fn pack(&self, initial: u32, decompressed: &[u32], compressed: &mut [u8], num_bits: &mut u8) -> Answer {
+        // SAFETY: pointers and lengths of slices; what is written is borrowed by `&mut`.
+        answer(unsafe {
+            (self.pack)(initial, decompressed.as_ptr(), decompressed.len(), compressed.as_mut_ptr(), compressed.len(), num_bits)
+        })
+    }
+
+    #[inline]
+    pub(crate) fn compress(&self, initial: u32, decompressed: &[u32], compressed: &mut [u8], num_bits: u8) -> Answer {
+        // SAFETY: pointers and lengths of slices; what is written is borrowed by `&mut`.
+        answer(unsafe {
+            (self.compress)(
+                initial,
+                decompressed.as_ptr(),
+                decompressed.len(),
+                compressed.as_mut_ptr(),
+                compressed.len(),
+                num_bits,
+            )
+        })
+    }
+
+    #[inline]
+    pub(crate) fn decompress(&self, initial: u32, compressed: &[u8], decompressed: &mut [u32], num_bits: u8) -> Answer {
+        // SAFETY: pointers and lengths of slices; what is written is borrowed by `&mut`.
+        answer(unsafe {
+            (self.decompress)(
+                initial,
+                compressed.as_ptr(),
+                compressed.len(),
+                decompressed.as_mut_ptr(),
+                decompressed.len(),
+                num_bits,
+            )
+        })
+    }
+
+    #[inline]
+    pub(crate) fn num_bits(&self, initial: u32, decompressed: &[u32]) -> Answer {
+        // SAFETY: the pointer and the length of a slice, and nothing is written.
+        answer(unsafe { (self.num_bits)(initial, decompressed.as_ptr(), decompressed.len()) })
+    }
+}
+
+macro_rules! plain {
+    ($prefix:literal) => {{
+        extern "C" {
+            #[link_name = concat!($prefix, "pack")]
+            fn pack(
+                decompressed: *const u32,
+                decompressed_len: usize,
+                compressed: *mut u8,
+                compressed_len: usize,
+                num_bits: *mut u8,
+            ) -> isize;
+            #[link_name = concat!($prefix, "compress")]
+            fn compress(
+                decompressed: *const u32,
+                decompressed_len: usize,
+                compressed: *mut u8,
+                compressed_len: usize,
+                num_bits: u8,
+            ) -> isize;
+            #[link_name = concat!($prefix, "decompress")]
+            fn decompress(
+                compressed: *const u8,
+                compressed_len: usize,
+                decompressed: *mut u32,
+                decompressed_len: usize,
+                num_bits: u8,
+            ) -> isize;
+            #[link_name = concat!($prefix, "num_bits")]
+            fn num_bits(decompressed: *const u32, decompressed_len: usize) -> isize;
+        }
+        Plain { pack, compress, decompress, num_bits }
+    }};
+}
+
+macro_rules! initial {
+    ($prefix:literal, $kind:literal) => {{
+        extern "C" {
+            #[link_name = concat!($prefix, "pack", $kind)]
+            fn pack(
+                initial: u32,
+                decompressed: *const u32,
+                decompressed_len: usize,
+                compressed: *mut u8,
+                compressed_len: usize,
+                num_bits: *mut u8,
+            ) -> isize;
+            #[link_name = concat!($prefix, "compress", $kind)]
+            fn compress(
+                initial: u32,
+                decompressed: *const u32,
+                decompressed_len: usize,
+                compressed: *mut u8,
+                compressed_len: usize,
+                num_bits: u8,
+            ) -> isize;
+            #[link_name = concat!($prefix, "decompress", $kind)]
+            fn decompress(
+                initial: u32,
+                compressed: *const u8,
+                compressed_len: usize,
+                decompressed: *mut u32,
+                decompressed_len: usize,
+                num_bits: u8,
+            ) -> isize;
+            #[link_name = concat!($prefix, "num_bits", $kind)]
+            fn num_bits(initial: u32, decompressed: *const u32, decompressed_len: usize) -> isize;
+        }
+        Initial { pack, compress, decompress, num_bits }
+    }};
+}
+
+macro_rules! calls {
+    ($prefix:literal) => {
+        Calls {
+            plain: plain!($prefix),
+            sorted: initial!($prefix, "_sorted"),
+            strictly_sorted: initial!($prefix, "_strictly_sorted"),
+        }
+    };
+}
+
+/// The levels of x86-64, the least first: x86-64, x86-64-v2 and x86-64-v3.
+static LEVELS: [Level; 3] = [
+    Level { one: calls!("v1_bitpacking_1x_"), four: calls!("v1_bitpacking_4x_"), eight: calls!("v1_bitpacking_8x_") },
+    Level { one: calls!("v2_bitpacking_1x_"), four: calls!("v2_bitpacking_4x_"), eight: calls!("v2_bitpacking_8x_") },
+    Level { one: calls!("v3_bitpacking_1x_"), four: calls!("v3_bitpacking_4x_"), eight: calls!("v3_bitpacking_8x_") },
+];
+
+/// The levels that this processor has.
+pub(crate) fn levels() -> &'static [Level] {
+    let v2 = is_x86_feature_detected!("cmpxchg16b")
+        && is_x86_feature_detected!("popcnt")
+        && is_x86_feature_detected!("sse3")
+        && is_x86_feature_detected!("ssse3")
+        && is_x86_feature_detected!("sse4.1")
+        && is_x86_feature_detected!("sse4.2");
+    let v3 = v2
+        && is_x86_feature_detected!("avx")
+        && is_x86_feature_detected!("avx2")
+        && is_x86_feature_detected!("bmi1")
+        && is_x86_feature_detected!("bmi2")
+        && is_x86_feature_detected!("f16c")
+        && is_x86_feature_detected!("fma")
+        && is_x86_feature_detected!("lzcnt")
+        && is_x86_feature_detected!("movbe");
+    &LEVELS[..1 + usize::from(v2) + usize::from(v3)]
+}
+
+/// The best of them.
+#[inline]
+pub(crate) fn best() -> &'static Level {
+    static BEST: OnceLock<&'static Level> = OnceLock::new();
+    BEST.get_or_init(|| &levels()[levels().len() - 1])
+}

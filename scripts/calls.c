@@ -1,0 +1,189 @@
+/* Calls that scripts/c.py runs, also under the address sanitizer: bytes worked by hand, each error with nothing written, null pointers.
+   Every width and kind is tested in rust/src/tests.rs. */
+#include "bitpacking.h"
+
+#include <stdio.h>
+#include <string.h>
+
+static int failed;
+
+static void expect(const char *call, ptrdiff_t found, ptrdiff_t right)
+{
+    if (found != right) {
+        printf("%s: %ld and not %ld\n", call, (long)found, (long)right);
+        failed = 1;
+    }
+}
+
+#define EXPECT(call, right) expect(#call, call, right)
+
+/* The values 0 to 7, four times: at three bits each, the lowest bit first, 000 100 010 110 001 101 011 111 are 88 C6 FA. */
+static void worked(void)
+{
+    static const uint8_t right[3] = {0x88, 0xC6, 0xFA};
+    uint32_t values[32], back[32];
+    uint8_t bytes[12], width = 77;
+    int i;
+
+    for (i = 0; i < 32; i++)
+        values[i] = (uint32_t)i % 8;
+    EXPECT(bitpacking_1x_num_bits(values, 32), 3);
+    EXPECT(bitpacking_1x_pack(values, 32, bytes, 12, &width), 12);
+    EXPECT(width, 3);
+    for (i = 0; i < 12; i++)
+        EXPECT(bytes[i], right[i % 3]);
+    memset(bytes, 0, sizeof bytes);
+    EXPECT(bitpacking_1x_compress(values, 32, bytes, 12, 3), 12);
+    for (i = 0; i < 12; i++)
+        EXPECT(bytes[i], right[i % 3]);
+    EXPECT(bitpacking_1x_decompress(bytes, 12, back, 32, 3), 12);
+    EXPECT(memcmp(values, back, sizeof values), 0);
+}
+
+/* A strictly sorted block from 0 on has the width 0 and no bytes. */
+static void none(void)
+{
+    uint32_t values[128], back[128];
+    uint8_t width = 77;
+    int i;
+
+    for (i = 0; i < 128; i++)
+        values[i] = (uint32_t)i;
+    EXPECT(bitpacking_no_initial() == BITPACKING_NO_INITIAL, 1);
+    EXPECT(bitpacking_4x_pack_strictly_sorted(BITPACKING_NO_INITIAL, values, 128, NULL, 0, &width), 0);
+    EXPECT(width, 0);
+    EXPECT(bitpacking_4x_decompress_strictly_sorted(BITPACKING_NO_INITIAL, NULL, 0, back, 128, 0), 0);
+    EXPECT(memcmp(values, back, sizeof values), 0);
+}
+
+/* Each error of the calls on blocks, and that the buffers are as they were. */
+static void errors(void)
+{
+    uint32_t values[256], back[256];
+    uint8_t bytes[1024], width = 77;
+    int i;
+
+    for (i = 0; i < 256; i++)
+        values[i] = 4294967295u, back[i] = 9;
+    memset(bytes, 9, sizeof bytes);
+    EXPECT(bitpacking_8x_pack(values, 255, bytes, sizeof bytes, &width), BITPACKING_BAD_LENGTH);
+    EXPECT(bitpacking_8x_pack(values, 256, bytes, 1023, &width), BITPACKING_SHORT);
+    EXPECT(bitpacking_8x_compress(NULL, 0, NULL, 0, 33), BITPACKING_BAD_WIDTH);
+    EXPECT(bitpacking_8x_compress(values, 128, NULL, 0, 31), BITPACKING_BAD_LENGTH);
+    EXPECT(bitpacking_8x_compress(values, 256, bytes, 991, 31), BITPACKING_SHORT);
+    EXPECT(bitpacking_8x_compress(values, 256, bytes, 992, 31), BITPACKING_UNFIT);
+    EXPECT(bitpacking_8x_num_bits(NULL, 0), BITPACKING_BAD_LENGTH);
+    EXPECT(bitpacking_8x_decompress(bytes, 1024, back, 255, 33), BITPACKING_BAD_LENGTH);
+    EXPECT(bitpacking_8x_decompress(bytes, 1024, back, 256, 33), BITPACKING_BAD_WIDTH);
+    EXPECT(bitpacking_8x_decompress(bytes, 31, back, 256, 1), BITPACKING_SHORT);
+    EXPECT(width, 77);
+    for (i = 0; i < 256; i++)
+        EXPECT(back[i], 9);
+    for (i = 0; i < 1024; i++)
+        EXPECT(bytes[i], 9);
+    EXPECT(bitpacking_8x_compress(values, 256, bytes, 1024, 32), 1024);
+}
+
+/* A chain of one lane, worked by hand: 32 gaps of 1 at one bit each, and 32 gaps of 2 at two bits each. */
+static void chains(void)
+{
+    static const uint8_t right[13] = {0xFF, 0xFF, 0xFF, 0xFF, 0xAA, 0xAA, 0xAA, 0xAA, 0xAA, 0xAA, 0xAA, 0xAA, 9};
+    uint32_t values[64], back[64];
+    uint8_t bytes[256], widths[2] = {9, 9}, wide[2] = {1, 33};
+    int i;
+
+    for (i = 0; i < 64; i++)
+        values[i] = i < 32 ? (uint32_t)i + 1 : (uint32_t)(2 * i - 30), back[i] = 9;
+    memset(bytes, 9, sizeof bytes);
+    EXPECT(bitpacking_1x_pack_all_sorted(0, values, 63, widths, 2, bytes, 256), BITPACKING_BAD_LENGTH);
+    EXPECT(bitpacking_1x_pack_all_sorted(0, values, 64, widths, 1, bytes, 256), BITPACKING_BAD_LENGTH);
+    EXPECT(bitpacking_1x_pack_all_sorted(0, values, 64, widths, 2, bytes, 255), BITPACKING_SHORT);
+    EXPECT(widths[0] + widths[1] + bytes[0], 27);
+    EXPECT(bitpacking_1x_pack_all_sorted(0, values, 64, widths, 2, bytes, 256), 12);
+    EXPECT(widths[0], 1);
+    EXPECT(widths[1], 2);
+    EXPECT(memcmp(bytes, right, sizeof right), 0);
+    EXPECT(bitpacking_1x_unpack_all_sorted(0, wide, 2, bytes, 256, back, 64), BITPACKING_BAD_WIDTH);
+    EXPECT(bitpacking_1x_unpack_all_sorted(0, widths, 2, bytes, 11, back, 64), BITPACKING_SHORT);
+    EXPECT(bitpacking_1x_unpack_all_sorted(0, widths, 2, bytes, 12, back, 63), BITPACKING_BAD_LENGTH);
+    EXPECT(back[0] + back[31] + back[63], 27);
+    EXPECT(bitpacking_1x_unpack_all_sorted(0, widths, 2, bytes, 12, back, 64), 12);
+    EXPECT(memcmp(values, back, sizeof values), 0);
+    EXPECT(bitpacking_1x_pack_all(NULL, 0, NULL, 0, NULL, 0), 0);
+    EXPECT(bitpacking_1x_unpack_all(NULL, 0, NULL, 0, NULL, 0), 0);
+}
+
+/* A list of version 2, worked by hand: the values 0 to 32, strictly sorted, in one lane. The first 32 are a block of width 0. */
+static void lists(void)
+{
+    static const uint8_t right[20] = {2, 2, 1, 33, 0, 0, 0, /* version, kind, lanes, count */
+                                      0, 0, 0, 0, 0, 31, 0, 0, 0, /* width, offset and last value of the block */
+                                      32, 0, 0, 0}; /* the value after it */
+    static const struct {
+        int index;
+        uint8_t byte;
+        ptrdiff_t fault;
+    } faults[] = {{0, 1, BITPACKING_LIST_BAD_VERSION}, {1, 3, BITPACKING_LIST_BAD_KIND},   {2, 4, BITPACKING_LIST_WRONG_LANES},
+                  {6, 17, BITPACKING_LIST_TOO_LONG},   {7, 33, BITPACKING_LIST_BAD_WIDTH}, {7, 1, BITPACKING_LIST_SHORT},
+                  {8, 1, BITPACKING_LIST_BAD_OFFSET},  {12, 30, BITPACKING_LIST_BAD_LAST}, {16, 31, BITPACKING_LIST_NOT_SORTED}};
+    bitpacking_list list = BITPACKING_LIST_EMPTY;
+    uint8_t text[21], loose[20] = {2, 0, 1, 32, 0, 0, 0, 1}; /* a block of zeros at width 1 */
+    uint32_t value = 77;
+    size_t i;
+
+    EXPECT(bitpacking_list_len(&list), 0);
+    EXPECT(bitpacking_list_get(&list, 0, &value), 0);
+    EXPECT(value, 77);
+    memcpy(text, right, sizeof right);
+    text[20] = 0;
+    for (i = 0; i < sizeof faults / sizeof *faults; i++) {
+        text[faults[i].index] = faults[i].byte;
+        EXPECT(bitpacking_1x_list_open(text, 20, &list), faults[i].fault);
+        text[faults[i].index] = right[faults[i].index];
+    }
+    EXPECT(bitpacking_1x_list_open(text, 19, &list), BITPACKING_LIST_SHORT);
+    EXPECT(bitpacking_1x_list_open(text, 21, &list), BITPACKING_LIST_TRAILING);
+    EXPECT(bitpacking_1x_list_open(loose, 20, &list), BITPACKING_LIST_LOOSE_WIDTH);
+    EXPECT(bitpacking_1x_list_open(NULL, 0, &list), BITPACKING_LIST_SHORT);
+    EXPECT(bitpacking_4x_list_open(text, 20, &list), BITPACKING_LIST_WRONG_LANES);
+    EXPECT(bitpacking_8x_list_open(text, 20, &list), BITPACKING_LIST_WRONG_LANES);
+    EXPECT(bitpacking_list_len(&list), 0); /* as it was */
+    EXPECT(bitpacking_1x_list_open(text, 20, &list), 0);
+    EXPECT(bitpacking_list_len(&list), 33);
+    EXPECT(bitpacking_list_kind(&list), 2);
+    for (i = 0; i < 33; i++) {
+        EXPECT(bitpacking_list_get(&list, i, &value), 1);
+        EXPECT(value, (ptrdiff_t)i);
+    }
+    EXPECT(bitpacking_list_get(&list, 33, &value), 0);
+    EXPECT(bitpacking_list_get(&list, (size_t)-1, &value), 0);
+    EXPECT(value, 32);
+}
+
+/* Lists of no whole block in four and eight lanes. */
+static void short_lists(void)
+{
+    static const uint8_t four[11] = {2, 1, 4, 1, 0, 0, 0, 5, 0, 0, 0}, eight[11] = {2, 0, 8, 1, 0, 0, 0, 6, 0, 0, 0};
+    bitpacking_list list = BITPACKING_LIST_EMPTY;
+    uint32_t value = 77;
+
+    EXPECT(bitpacking_4x_list_open(four, 11, &list), 0);
+    EXPECT(bitpacking_list_kind(&list), 1);
+    EXPECT(bitpacking_list_get(&list, 0, &value), 1);
+    EXPECT(value, 5);
+    EXPECT(bitpacking_8x_list_open(eight, 11, &list), 0);
+    EXPECT(bitpacking_list_kind(&list), 0);
+    EXPECT(bitpacking_list_get(&list, 0, &value), 1);
+    EXPECT(value, 6);
+}
+
+int main(void)
+{
+    worked();
+    none();
+    errors();
+    chains();
+    lists();
+    short_lists();
+    return failed;
+}
