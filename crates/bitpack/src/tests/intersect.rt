@@ -179,7 +179,11 @@ impl Numbers {
         for _ in 0..self.below(count) {
             values.push(value)?;
             let gap = if self.below(50) == 0 { 300 } else { 0 };
-            value = value.wrapping_add(least + self.below(4) + gap);
+            let step = self.below(4);
+            value = value
+                .wrapping_add(least)
+                .wrapping_add(step)
+                .wrapping_add(gap);
         }
         Ok(values)
     }
