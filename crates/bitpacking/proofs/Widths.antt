@@ -66,18 +66,19 @@ least_width values words =
     let found = leading_length 32 (or_all values) lt in
     (found.0, omega arith, Least-or_all values found.0 found.2 found.3, found.1)
 
-pub Least-leading : (values : List ℕ) (all width : ℕ) → AreWords values → all ≡ or_all values
-    → count_leading_zeros 32 all + width ≡ 32 → Least values width
-Least-leading values all width words e h =
-    let found = least_width values words in
-    let zeros : count_leading_zeros 32 (or_all values) + width ≡ 32 = rw e at h in
-    let same : found.0 ≡ width = omega arith in
-    rw same at found.2
-
--- Lists that fit the same widths have the same least width.
-pub Least-along : (xs ys : List ℕ) (width : ℕ) → ((w : ℕ) → Fits xs w → Fits ys w) → ((w : ℕ) → Fits ys w → Fits xs w)
-    → Least xs width → Least ys width
-Least-along xs ys width up down h = record {
-  fits = up width h.fits;
-  least = λ smaller lt fits. h.least smaller lt (down smaller fits);
-}
+-- A number that fits the same widths as the list tells its least width by its leading zeros.
+pub Least-bits : (values : List ℕ) (bits width : ℕ) → bits < 2 ^ 32
+    → ((w : ℕ) → bits < 2 ^ w → Fits values w) → ((w : ℕ) → Fits values w → bits < 2 ^ w)
+    → count_leading_zeros 32 bits + width ≡ 32 → Least values width
+Least-bits values bits width small up down zeros =
+    let found = leading_length 32 bits small in
+    let same : found.0 ≡ width = omega (arith, zeros, found.1) in
+    let lt : bits < 2 ^ width = rw same at found.2 in
+    let le : 2 ^ width ≤ 2 * bits + 1 = rw same at found.3 in
+    record {
+      fits = up width lt;
+      least = λ smaller h fits.
+          let below : bits < 2 ^ smaller = down smaller fits in
+          let m : 2 ^ (suc smaller) ≤ 2 ^ width = pow_mono h in
+          omega arith;
+    }

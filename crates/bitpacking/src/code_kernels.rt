@@ -1,4 +1,4 @@
-//! From slices and a width to a kernel: one loop that takes the width, or a kernel for each width.
+//! From slices and a width to a kernel: one loop that takes the width, or loops in an arm for each width.
 
 ghost use Rattle.std.specs.Prelude.{◌+◌};
 ghost use Rattle.bitpacking.specs.Calls.{CanPackCodes, CanUnpack, MovesToPack};
@@ -6,14 +6,17 @@ ghost use Rattle.bitpacking.specs.Kernels.{PackedCodes, UnpackedCodes};
 ghost use Rattle.bitpacking.specs.Moves.{Moves};
 
 mod by_width;
+mod inlined;
 
-use crate::kernel::packing::{pack, pack_32};
-use crate::kernel::unpacking::{unpack, unpack_32};
+use crate::kernel::OneLoop;
+use crate::kernel::packing::{Pack, pack_32};
+use crate::kernel::unpacking::{Unpack, unpack_32};
 use crate::kinds::sinks::Sink;
 use crate::kinds::transformers::Transformer;
 use crate::memory::{ByteSource, ByteTarget, Steps, ValueSource, ValueTarget};
 use bitpacking_register::Register;
 pub(crate) use by_width::ByWidth;
+pub(crate) use inlined::InlinedLoops;
 
 /// Packs and unpacks the codes of a block: wraps the slices in the sources and targets that a kernel takes, and chooses the
 /// kernel by the width.
@@ -62,7 +65,7 @@ impl CodeKernels for SimpleLoops {
         match num_bits {
             0 => 0,
             32 => pack_32::<R, T>(&source, &mut target, start, steps),
-            _ => pack::<R, T>(&source, &mut target, start, num_bits as u32, steps),
+            _ => OneLoop::pack::<R, T>(&source, &mut target, start, num_bits as u32, steps),
         }
     }
 
@@ -77,7 +80,7 @@ impl CodeKernels for SimpleLoops {
         let source = ByteSource::new(compressed);
         let mut target = ValueTarget::new(decompressed, num_bits as u32);
         if num_bits < 32 {
-            unpack::<R, S>(&source, &mut target, start, num_bits as u32, steps)
+            OneLoop::unpack::<R, S>(&source, &mut target, start, num_bits as u32, steps)
         } else {
             unpack_32::<R, S>(&source, &mut target, start, steps)
         }

@@ -1,6 +1,6 @@
 //! Which registers a packer of several lanes runs on.
 
-use crate::code_kernels::{ByWidth, SimpleLoops};
+use crate::code_kernels::{ByWidth, InlinedLoops, SimpleLoops};
 use bitpacking_register::Register;
 use std::simd::prelude::*;
 
@@ -19,10 +19,8 @@ impl Vector for u32x4 {}
 
 impl Vector for u32x8 {}
 
-/// The registers of `Scalar`, and the single word of a packer of one lane.
+/// The registers of `Scalar`.
 pub(crate) trait Array: Register {}
-
-impl Array for u32 {}
 
 impl Array for [u32; 4] {}
 
@@ -34,3 +32,5 @@ pub(crate) trait RunsOn<R: Register> {}
 impl<R: Vector> RunsOn<R> for ByWidth {}
 
 impl<R: Array> RunsOn<R> for SimpleLoops {}
+
+impl RunsOn<u32> for InlinedLoops {}

@@ -1,5 +1,5 @@
-//! Packing and unpacking with the width as a const parameter, eight rows at a time: a loop as short as that is unrolled, and
-//! each shift and index is then a constant.
+//! Packing and unpacking at a width that the compiler knows, eight rows at a time. The width is handed on as a value, or is a const
+//! parameter.
 
 ghost use Rattle.std.specs.Prelude.{◌≡◌, ℕ, ◌+◌, ◌*◌, ◌%◌, ◌<◌, ◌≤◌, List, length, drop};
 ghost use Rattle.bitpacking.specs.Kernels.{KernelCanPack, KernelCanUnpack, PackedCodes, UnpackedCodes};
@@ -7,6 +7,9 @@ ghost use Rattle.bitpacking.specs.Layout.{size};
 ghost use Rattle.bitpacking.specs.Moves.{Moves};
 ghost use Rattle.bitpacking.specs.Partway.{RowsPacked, RowsUnpacked, PacksRows, UnpacksRows, left_at};
 
+use crate::kernel::FourLoops;
+use crate::kernel::packing::Pack;
+use crate::kernel::unpacking::Unpack;
 use crate::kinds::sinks::Sink;
 use crate::kinds::transformers::Transformer;
 use crate::memory::{ByteSource, ByteTarget, Steps, ValueSource, ValueTarget};
@@ -27,51 +30,72 @@ pub(crate) fn pack_at_width<R: Register, T: Transformer<R>, const WIDTH: u32>(
     ensures packed { PackedCodes R.LANES WIDTH (T.block_codes start source.now.words.now) target.old.bytes.now target.new.bytes.now result }
     ensures counts { Moves steps.old steps.new 32 WIDTH (32 + WIDTH) }
 {
-    let mut transformer = T::after(start);
-    let pending = R::splat(0);
-    let pending = pack_rows::<R, T, WIDTH, 0>(source, target, &mut transformer, pending, steps);
-    let pending = pack_rows::<R, T, WIDTH, 8>(source, target, &mut transformer, pending, steps);
-    let pending = pack_rows::<R, T, WIDTH, 16>(source, target, &mut transformer, pending, steps);
-    pack_rows::<R, T, WIDTH, 24>(source, target, &mut transformer, pending, steps);
-    4 * R::LANES * WIDTH as usize
+    FourLoops::pack::<R, T>(source, target, start, WIDTH, steps)
+}
+
+impl Pack for FourLoops {
+    #[inline(always)]
+    fn pack<R: Register, T: Transformer<R>>(
+        source: &ValueSource<'_>,
+        target: &mut ByteTarget<'_>,
+        start: u32,
+        width: u32,
+        steps: &mut Steps,
+    ) -> usize {
+        let mut transformer = T::after(start);
+        let pending = R::splat(0);
+        let pending = pack_rows::<R, T, 0>(source, target, &mut transformer, pending, width, steps);
+        let pending = pack_rows::<R, T, 8>(source, target, &mut transformer, pending, width, steps);
+        let pending = pack_rows::<R, T, 16>(
+            source,
+            target,
+            &mut transformer,
+            pending,
+            width,
+            steps,
+        );
+        pack_rows::<R, T, 24>(source, target, &mut transformer, pending, width, steps);
+        4 * R::LANES * width as usize
+    }
 }
 
 // Packs eight rows. Into and out of it go the bits that fill no word yet: after a full word a plain 0, which costs nothing.
 #[inline(always)]
-fn pack_rows<R: Register, T: Transformer<R>, const WIDTH: u32, const FROM: u32>(
+fn pack_rows<R: Register, T: Transformer<R>, const FROM: u32>(
     source: &ValueSource<'_>,
     target: &mut ByteTarget<'_>,
     transformer: &mut T,
     mut pending: R,
+    width: u32,
     steps: &mut Steps,
 ) -> R
-    requires narrow { WIDTH < 32 }
+    requires narrow { width < 32 }
     requires from { FROM ≤ 24 }
-    requires bits { source.now.bits ≡ WIDTH }
+    requires bits { source.now.bits ≡ width }
     requires block { length source.now.words.now ≡ 32 * R.LANES }
-    requires room { size R.LANES WIDTH ≤ length target.old.bytes.now }
-    requires loaded { FROM * WIDTH % 32 ≤ steps.old.inside }
+    requires room { size R.LANES width ≤ length target.old.bytes.now }
+    requires loaded { FROM * width % 32 ≤ steps.old.inside }
     ensures same_reference { target.new.bytes.ghost_name ≡ target.old.bytes.ghost_name }
     ensures same_room { length target.new.bytes.now ≡ length target.old.bytes.now }
     ensures packed { (codes : List ℕ)
-        → RowsPacked R.LANES WIDTH FROM codes source.now.words.now (T.codes transformer.old) target.old.bytes.now (R.words pending)
-        → RowsPacked R.LANES WIDTH (FROM + 8) codes source.now.words.now (T.codes transformer.new) target.new.bytes.now (R.words result) }
-    ensures rest { drop (size R.LANES WIDTH) target.new.bytes.now ≡ drop (size R.LANES WIDTH) target.old.bytes.now }
-    ensures counts { PacksRows steps.old steps.new WIDTH FROM (FROM + 8) }
+        → RowsPacked R.LANES width FROM codes source.now.words.now (T.codes transformer.old) target.old.bytes.now (R.words pending)
+        → RowsPacked R.LANES width (FROM + 8) codes source.now.words.now (T.codes transformer.new) target.new.bytes.now (R.words result) }
+    ensures rest { drop (size R.LANES width) target.new.bytes.now ≡ drop (size R.LANES width) target.old.bytes.now }
+    ensures counts { PacksRows steps.old steps.new width FROM (FROM + 8) }
 {
     for i in FROM..FROM + 8 {
-        let filled = i * WIDTH % 32;
+        let filled = i * width % 32;
         let codes = transformer.transform(source.load(i as usize, steps));
         let word = pending.or(codes.shift_left(filled));
-        if filled + WIDTH < 32 {
+        if filled + width < 32 {
             pending = word;
         } else {
-            let over = if filled + WIDTH > 32 {
+            let over = if filled + width > 32 {
                 codes.shift_right(32 - filled)
             } else {
                 R::splat(0)
             };
-            target.store((i * WIDTH / 32) as usize, word, steps);
+            target.store((i * width / 32) as usize, word, steps);
             pending = over;
         }
     }
@@ -93,52 +117,67 @@ pub(crate) fn unpack_at_width<R: Register, S: Sink<R>, const WIDTH: u32>(
     ensures unpacked { UnpackedCodes R.LANES WIDTH (S.block_values start) source.now.bytes.now target.old.words.now target.new.words.now result }
     ensures counts { Moves steps.old steps.new WIDTH 32 (32 + WIDTH) }
 {
-    let mut sink = S::after(start);
-    let pending = R::splat(0);
-    let pending = unpack_rows::<R, S, WIDTH, 0>(source, target, &mut sink, pending, steps);
-    let pending = unpack_rows::<R, S, WIDTH, 8>(source, target, &mut sink, pending, steps);
-    let pending = unpack_rows::<R, S, WIDTH, 16>(source, target, &mut sink, pending, steps);
-    unpack_rows::<R, S, WIDTH, 24>(source, target, &mut sink, pending, steps);
-    4 * R::LANES * WIDTH as usize
+    FourLoops::unpack::<R, S>(source, target, start, WIDTH, steps)
 }
 
-// Unpacks eight rows. Into and out of it go the bits of the last word loaded that are of no code yet.
+impl Unpack for FourLoops {
+    #[inline(always)]
+    fn unpack<R: Register, S: Sink<R>>(
+        source: &ByteSource<'_>,
+        target: &mut ValueTarget<'_>,
+        start: u32,
+        width: u32,
+        steps: &mut Steps,
+    ) -> usize {
+        let mut sink = S::after(start);
+        let pending = R::splat(0);
+        let pending = unpack_rows::<R, S, 0>(source, target, &mut sink, pending, width, steps);
+        let pending = unpack_rows::<R, S, 8>(source, target, &mut sink, pending, width, steps);
+        let pending = unpack_rows::<R, S, 16>(source, target, &mut sink, pending, width, steps);
+        unpack_rows::<R, S, 24>(source, target, &mut sink, pending, width, steps);
+        4 * R::LANES * width as usize
+    }
+}
+
+// Unpacks eight rows. Into and out of it go the bits of the last word loaded that are of no code yet. A word is loaded only where
+// bits are wanted, so that exactly `width` registers are.
 #[inline(always)]
-fn unpack_rows<R: Register, S: Sink<R>, const WIDTH: u32, const FROM: u32>(
+fn unpack_rows<R: Register, S: Sink<R>, const FROM: u32>(
     source: &ByteSource<'_>,
     target: &mut ValueTarget<'_>,
     sink: &mut S,
     mut pending: R,
+    width: u32,
     steps: &mut Steps,
 ) -> R
-    requires narrow { WIDTH < 32 }
+    requires narrow { width < 32 }
     requires from { FROM ≤ 24 }
     requires start { S.rows_stored sink.old ≡ FROM }
-    requires bits { target.old.bits ≡ WIDTH }
-    requires whole { size R.LANES WIDTH ≤ length source.now.bytes.now }
+    requires bits { target.old.bits ≡ width }
+    requires whole { size R.LANES width ≤ length source.now.bytes.now }
     requires room { 32 * R.LANES ≤ length target.old.words.now }
-    requires loaded { left_at WIDTH FROM ≤ steps.old.inside }
+    requires loaded { left_at width FROM ≤ steps.old.inside }
     ensures rows_stored { S.rows_stored sink.new ≡ FROM + 8 }
     ensures same_reference { target.new.words.ghost_name ≡ target.old.words.ghost_name }
     ensures same_room { length target.new.words.now ≡ length target.old.words.now }
     ensures same_bits { target.new.bits ≡ target.old.bits }
     ensures unpacked { (codes values : List ℕ)
-        → RowsUnpacked R.LANES WIDTH FROM source.now.bytes.now codes (S.values sink.old) values target.old.words.now (R.words pending)
-        → RowsUnpacked R.LANES WIDTH (FROM + 8) source.now.bytes.now codes (S.values sink.new) values target.new.words.now (R.words result) }
+        → RowsUnpacked R.LANES width FROM source.now.bytes.now codes (S.values sink.old) values target.old.words.now (R.words pending)
+        → RowsUnpacked R.LANES width (FROM + 8) source.now.bytes.now codes (S.values sink.new) values target.new.words.now (R.words result) }
     ensures rest { drop (32 * R.LANES) target.new.words.now ≡ drop (32 * R.LANES) target.old.words.now }
-    ensures counts { UnpacksRows steps.old steps.new WIDTH FROM (FROM + 8) }
+    ensures counts { UnpacksRows steps.old steps.new width FROM (FROM + 8) }
 {
-    let mask = R::splat((1 << WIDTH) - 1);
+    let mask = R::splat((1 << width) - 1);
     'rows: for i in FROM..FROM + 8 {
-        let loaded = (i * WIDTH + 31) / 32;
-        let left = 32 * loaded - i * WIDTH;
+        let loaded = (i * width + 31) / 32;
+        let left = 32 * loaded - i * width;
         let mut codes = pending;
-        if left < WIDTH {
+        if left < width {
             let word: R = source.load(loaded as usize, steps);
             codes = pending.or(word.shift_left(left));
-            pending = word.shift_right(WIDTH - left);
+            pending = word.shift_right(width - left);
         } else {
-            pending = pending.shift_right(WIDTH);
+            pending = pending.shift_right(width);
         }
         sink.put(codes.and(mask), target, steps);
     }

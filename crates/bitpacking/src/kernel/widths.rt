@@ -26,10 +26,13 @@ pub(crate) fn width<R: Register, T: Transformer<R>>(
 {
     let mut transformer = T::after(start);
     let mut all = R::splat(0);
+    let mut others = R::splat(0);
     for i in 0..32 {
-        all = all.or(transformer.transform(source.load(i, steps)));
+        let next = others.or(transformer.transform(source.load(i, steps)));
+        others = all;
+        all = next;
     }
-    most_significant_bit(all.or_lanes())
+    most_significant_bit(all.or_lanes() | others.or_lanes())
 }
 
 /// The number of binary digits of a number, 0 for 0.

@@ -8,11 +8,11 @@ invariant-loop-i g l = record {
   same_reference : l.target.bytes.ghost_name ≡ l.initial.target.bytes.ghost_name;
   same_room : length l.target.bytes.now ≡ length l.initial.target.bytes.now;
   packed : (codes : List ℕ)
-      → RowsPacked g.R.Register.LANES g.row.WIDTH g.row.FROM codes l.source.words.now
+      → RowsPacked g.R.Register.LANES l.width g.row.FROM codes l.source.words.now
       (g.T.Transformer.codes l.initial.transformer) l.initial.target.bytes.now (g.R.Register.words l.initial.pending)
-      → RowsPacked g.R.Register.LANES g.row.WIDTH l.i codes l.source.words.now
+      → RowsPacked g.R.Register.LANES l.width l.i codes l.source.words.now
       (g.T.Transformer.codes l.transformer) l.target.bytes.now (g.R.Register.words l.pending);
-  rest : drop (4 * g.R.Register.LANES * g.row.WIDTH) l.target.bytes.now
-      ≡ drop (4 * g.R.Register.LANES * g.row.WIDTH) l.initial.target.bytes.now;
-  counts : PacksRows l.initial.steps l.steps g.row.WIDTH g.row.FROM l.i;
+  rest : drop (4 * g.R.Register.LANES * l.width) l.target.bytes.now
+      ≡ drop (4 * g.R.Register.LANES * l.width) l.initial.target.bytes.now;
+  counts : PacksRows l.initial.steps l.steps l.width g.row.FROM l.i;
 }

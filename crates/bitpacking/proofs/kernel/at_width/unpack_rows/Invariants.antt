@@ -10,10 +10,10 @@ invariant-rows g l = record {
   same_room : length l.target.words.now ≡ length l.initial.target.words.now;
   same_bits : l.target.bits ≡ l.initial.target.bits;
   unpacked : (codes values : List ℕ)
-      → RowsUnpacked g.R.Register.LANES g.row.WIDTH g.row.FROM l.source.bytes.now codes
+      → RowsUnpacked g.R.Register.LANES l.width g.row.FROM l.source.bytes.now codes
       (g.S.Sink.values l.initial.sink) values l.initial.target.words.now (g.R.Register.words l.initial.pending)
-      → RowsUnpacked g.R.Register.LANES g.row.WIDTH l.i l.source.bytes.now codes
+      → RowsUnpacked g.R.Register.LANES l.width l.i l.source.bytes.now codes
       (g.S.Sink.values l.sink) values l.target.words.now (g.R.Register.words l.pending);
   rest : drop (g.R.Register.LANES * 32) l.target.words.now ≡ drop (g.R.Register.LANES * 32) l.initial.target.words.now;
-  counts : UnpacksRows l.initial.steps l.steps g.row.WIDTH g.row.FROM l.i;
+  counts : UnpacksRows l.initial.steps l.steps l.width g.row.FROM l.i;
 }

@@ -4,12 +4,12 @@ use Rattle.std.proofs.lemmas.List.{length-take}
 use Rattle.bitpacking.specs.Layout.{codes_of, Layout}
 use Rattle.bitpacking.proofs.OneToOne.{Layout-codes_of}
 use Rattle.bitpacking.proofs.UnpackedRows.{RowsUnpacked-start, RowsUnpacked-done}
-use Rattle.bitpacking.proofs.kernel.at_width.unpack_at_width.Goals as goal
+use Rattle.bitpacking.proofs.kernel.at_width.FourLoopsUnpack.unpack.Goals as goal
 
 pub returns-clause-unpacked : goal.returns-clause-unpacked
 returns-clause-unpacked g c =
     let lanes : ℕ = g.R.Register.LANES in
-    let width : ℕ = g.row.WIDTH in
+    let width : ℕ = c.args.width in
     let bytes : List ℕ = c.args.source.now.bytes.now in
     let front : List ℕ = take (4 * lanes * width) bytes in
     let codes : List ℕ = codes_of lanes width front in

@@ -3,7 +3,7 @@ use Rattle.std.proofs.Common.{◌≡◌, ℕ, ◌+◌, ◌*◌, ◌<◌, ◌≤�
 use Rattle.bitpacking.specs.Bits.{AreBytes}
 use Rattle.bitpacking.proofs.LaneEquations.{lane_code, lane_word}
 use Rattle.bitpacking.proofs.PackSteps.{Packed}
-use Rattle.bitpacking.proofs.kernel.packing.pack.Given as goal
+use Rattle.bitpacking.proofs.kernel.packing.OneLoopPack.pack.Given as goal
 
 abbrev pub invariant-rows : goal.invariant-rows
 invariant-rows g l = record {

@@ -5,7 +5,7 @@ use Rattle.bitpacking.specs.Words.{joined}
 use Rattle.bitpacking.proofs.LaneEquations.{lane_word}
 use Rattle.bitpacking.specs.Layout.{codes_of}
 use Rattle.bitpacking.proofs.UnpackSteps.{Unpacked}
-use Rattle.bitpacking.proofs.kernel.unpacking.unpack.Given as goal
+use Rattle.bitpacking.proofs.kernel.unpacking.OneLoopUnpack.unpack.Given as goal
 
 abbrev pub invariant-rows : goal.invariant-rows
 invariant-rows g l = record {

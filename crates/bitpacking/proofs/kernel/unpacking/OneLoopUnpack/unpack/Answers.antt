@@ -12,8 +12,8 @@ use Rattle.bitpacking.proofs.UnpackSteps.{Unpacked, Unpacked-start, Unpacked-who
 use Rattle.bitpacking.proofs.RegisterLemmas.{lane-map, lane-zip2, lane-splat}
 use Rattle.bitpacking.proofs.FrontWords.{joined-front, AreBytes-take}
 use Rattle.bitpacking.proofs.RowSteps.{values_step, values_done, rest_step}
-use Rattle.bitpacking.proofs.kernel.unpacking.unpack.Goals as goal
-use Rattle.bitpacking.proofs.kernel.unpacking.unpack.Goals.{then-left-width, else-left-width}
+use Rattle.bitpacking.proofs.kernel.unpacking.OneLoopUnpack.unpack.Goals as goal
+use Rattle.bitpacking.proofs.kernel.unpacking.OneLoopUnpack.unpack.Goals.{then-left-width, else-left-width}
 
 pub rows-init : goal.rows-init
 rows-init g c =

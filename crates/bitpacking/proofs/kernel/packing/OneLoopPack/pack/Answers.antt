@@ -9,8 +9,8 @@ use Rattle.bitpacking.proofs.WordsOfParts.{row_after, row_at}
 use Rattle.bitpacking.proofs.RegisterLemmas.{lane-map, lane-zip2, lane-splat}
 use Rattle.bitpacking.proofs.RowSteps.{codes_step, rest_step}
 use Rattle.bitpacking.proofs.FrontWords.{joined-front, AreBytes-take}
-use Rattle.bitpacking.proofs.kernel.packing.pack.Goals as goal
-use Rattle.bitpacking.proofs.kernel.packing.pack.Goals.{then-filled-width-lt32, else-filled-width-lt32}
+use Rattle.bitpacking.proofs.kernel.packing.OneLoopPack.pack.Goals as goal
+use Rattle.bitpacking.proofs.kernel.packing.OneLoopPack.pack.Goals.{then-filled-width-lt32, else-filled-width-lt32}
 
 pub rows-init : goal.rows-init
 rows-init g c =

@@ -1,12 +1,12 @@
 -- Four times eight rows packed are the layout.
 use Rattle.std.proofs.Common.{List, ◌≡◌, ℕ, length, sym, ap, ◌∙◌, ◌*◌}
 use Rattle.bitpacking.proofs.PackedRows.{RowsPacked-start, RowsPacked-done}
-use Rattle.bitpacking.proofs.kernel.at_width.pack_at_width.Goals as goal
+use Rattle.bitpacking.proofs.kernel.at_width.FourLoopsPack.pack.Goals as goal
 
 pub returns-clause-packed : goal.returns-clause-packed
 returns-clause-packed g c =
     let lanes : ℕ = g.R.Register.LANES in
-    let width : ℕ = g.row.WIDTH in
+    let width : ℕ = c.args.width in
     let values : List ℕ = c.args.source.now.words.now in
     let codes : List ℕ = g.T.Transformer.block_codes c.args.start values in
     let same_room : length c.pack_rows.new.target.bytes.now ≡ length c.args.target.now.bytes.now =
