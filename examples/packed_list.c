@@ -58,7 +58,7 @@ int main(void)
     uint32_t documents[COUNT], value;
     bitpacking_list list = BITPACKING_LIST_EMPTY;
     uint8_t *text = malloc(room(COUNT));
-    size_t size, i;
+    size_t size, i, position;
 
     for (i = 0; i < COUNT; i++)
         documents[i] = (uint32_t)(3 * i + i % 2);
@@ -69,6 +69,8 @@ int main(void)
         if (!bitpacking_list_get(&list, i, &value) || value != documents[i])
             return EXIT_FAILURE;
     printf("%u numbers in %u bytes, the last %u\n", (unsigned)i, (unsigned)size, (unsigned)value);
+    if (bitpacking_list_seek(&list, 500, &position, &value) == 1)
+        printf("the first from 500 on is %u, at position %u\n", (unsigned)value, (unsigned)position);
     free(text);
     return EXIT_SUCCESS;
 }

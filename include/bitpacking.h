@@ -146,7 +146,7 @@ ptrdiff_t bitpacking_8x_list_open(const uint8_t *bytes, size_t bytes_len, bitpac
 
 #define BITPACKING_LIST_SHORT (-21)       /* bytes are missing */
 #define BITPACKING_LIST_BAD_VERSION (-22) /* the text is not of version 2 */
-#define BITPACKING_LIST_BAD_KIND (-23)    /* the kind is none */
+#define BITPACKING_LIST_BAD_KIND (-23)    /* the kind is none; of a search: the list is plain */
 #define BITPACKING_LIST_WRONG_LANES (-24) /* the text is of another packer */
 #define BITPACKING_LIST_TOO_LONG (-25)    /* more than 268,435,456 values */
 #define BITPACKING_LIST_BAD_WIDTH (-26)   /* a width is above 32 */
@@ -165,6 +165,11 @@ uint8_t bitpacking_list_kind(const bitpacking_list *view);
 /* Writes the value at a position, from 0 on, and returns 1. From the length on it returns 0 and writes nothing. It unpacks one block
  * at most. */
 int32_t bitpacking_list_get(const bitpacking_list *view, size_t position, uint32_t *item);
+
+/* Searches a sorted or strictly sorted list for the first value that is at least target. Writes its position, the value, and
+ * returns 1. Where every value is below the target it returns 0, and for a plain list BITPACKING_LIST_BAD_KIND; then nothing is
+ * written. It reads entries by halves, and unpacks one block at most. */
+int32_t bitpacking_list_seek(const bitpacking_list *view, uint32_t target, size_t *position, uint32_t *item);
 
 #ifdef __cplusplus
 }

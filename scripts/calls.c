@@ -129,11 +129,13 @@ static void lists(void)
     bitpacking_list list = BITPACKING_LIST_EMPTY;
     uint8_t text[21], loose[20] = {2, 0, 1, 32, 0, 0, 0, 1}; /* a block of zeros at width 1 */
     uint32_t value = 77;
-    size_t i;
+    size_t i, position = 78;
 
     EXPECT(bitpacking_list_len(&list), 0);
     EXPECT(bitpacking_list_get(&list, 0, &value), 0);
+    EXPECT(bitpacking_list_seek(&list, 0, &position, &value), BITPACKING_LIST_BAD_KIND); /* the empty list is plain */
     EXPECT(value, 77);
+    EXPECT(position, 78);
     memcpy(text, right, sizeof right);
     text[20] = 0;
     for (i = 0; i < sizeof faults / sizeof *faults; i++) {
@@ -154,10 +156,16 @@ static void lists(void)
     for (i = 0; i < 33; i++) {
         EXPECT(bitpacking_list_get(&list, i, &value), 1);
         EXPECT(value, (ptrdiff_t)i);
+        EXPECT(bitpacking_list_seek(&list, (uint32_t)i, &position, &value), 1);
+        EXPECT(value, (ptrdiff_t)i);
+        EXPECT(position, (ptrdiff_t)i);
     }
     EXPECT(bitpacking_list_get(&list, 33, &value), 0);
     EXPECT(bitpacking_list_get(&list, (size_t)-1, &value), 0);
+    EXPECT(bitpacking_list_seek(&list, 33, &position, &value), 0);
+    EXPECT(bitpacking_list_seek(&list, UINT32_MAX, &position, &value), 0);
     EXPECT(value, 32);
+    EXPECT(position, 32);
 }
 
 /* Lists of no whole block in four and eight lanes. */
@@ -166,15 +174,22 @@ static void short_lists(void)
     static const uint8_t four[11] = {2, 1, 4, 1, 0, 0, 0, 5, 0, 0, 0}, eight[11] = {2, 0, 8, 1, 0, 0, 0, 6, 0, 0, 0};
     bitpacking_list list = BITPACKING_LIST_EMPTY;
     uint32_t value = 77;
+    size_t position = 78;
 
     EXPECT(bitpacking_4x_list_open(four, 11, &list), 0);
     EXPECT(bitpacking_list_kind(&list), 1);
     EXPECT(bitpacking_list_get(&list, 0, &value), 1);
     EXPECT(value, 5);
+    EXPECT(bitpacking_list_seek(&list, 6, &position, &value), 0);
+    EXPECT(position, 78);
+    EXPECT(bitpacking_list_seek(&list, 3, &position, &value), 1);
+    EXPECT(value, 5);
+    EXPECT(position, 0);
     EXPECT(bitpacking_8x_list_open(eight, 11, &list), 0);
     EXPECT(bitpacking_list_kind(&list), 0);
     EXPECT(bitpacking_list_get(&list, 0, &value), 1);
     EXPECT(value, 6);
+    EXPECT(bitpacking_list_seek(&list, 6, &position, &value), BITPACKING_LIST_BAD_KIND);
 }
 
 int main(void)

@@ -3,11 +3,12 @@
 ghost use Rattle.std.specs.Prelude.{◌≡◌, ◌≢◌, ℕ, List, None, length, slice_get, pos};
 ghost use Rattle.bitpack_lists.specs.declared.list_kind.ListKind.{ListKind};
 ghost use Rattle.bitpack_lists.specs.Parts.{kind_byte};
+ghost use Rattle.bitpack_lists.specs.Search.{first_at_least};
 ghost use Rattle.bitpack_lists.specs.Version2.{fault2, List2};
-ghost use Rattle.bitpacking_c.specs.Views.{Gets, fault_number};
+ghost use Rattle.bitpacking_c.specs.Views.{Gets, Seeks, fault_number};
 
 use bitpack_lists::ListKind;
-use bitpack_lists::list2::PackedList;
+use bitpack_lists::list2::{PackedList, Reads};
 use bitpacking::{BitPacker, BitPacker1x, BitPacker4x, BitPacker8x};
 
 /// A packed list that was opened. It borrows its bytes, which stay as they are while the view is used.
@@ -130,4 +131,40 @@ pub extern "C" fn bitpacking_list_get(view: &ListView<'_>, position: usize, item
         }
         None => 0,
     }
+}
+
+/// The first value that is at least the target, with its position.
+fn first_at_least(view: &ListView<'_>, target: u32) -> Option<(usize, u32)>
+    requires { (kind : ListKind) (values : List ℕ) → List2 view.now.lanes kind values view.now.bytes.now → kind ≢ ListKind.Plain }
+    ensures { (kind : ListKind) (values : List ℕ) → List2 view.now.lanes kind values view.now.bytes.now → result ≡ first_at_least values target }
+{
+    let mut reads = Reads::new();
+    match view.lanes {
+        1 => PackedList::of_tested(BitPacker1x::new(), view.bytes).seek(target, &mut reads),
+        4 => PackedList::of_tested(BitPacker4x::new(), view.bytes).seek(target, &mut reads),
+        _ => PackedList::of_tested(BitPacker8x::new(), view.bytes).seek(target, &mut reads),
+    }
+}
+
+/// Writes the position and the value of the first value that is at least the target, and answers 1. Where every value is below it, it
+/// answers 0, and for a plain list, which has no order, -23; both write nothing. One block is unpacked at most.
+#[unsafe(no_mangle)]
+pub extern "C" fn bitpacking_list_seek(
+    view: &ListView<'_>,
+    target: u32,
+    position: &mut usize,
+    item: &mut u32,
+) -> i32
+    ensures { (kind : ListKind) (values : List ℕ) → List2 view.now.lanes kind values view.now.bytes.now
+        → Seeks kind values target (position.old, item.old) (position.new, item.new) result }
+{
+    if kind(view) == ListKind::Plain {
+        return -23;
+    }
+    let Some((at, found)) = first_at_least(view, target) else {
+        return 0;
+    };
+    *position = at;
+    *item = found;
+    1
 }
