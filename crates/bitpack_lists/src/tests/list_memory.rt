@@ -1,7 +1,7 @@
 //! Packed lists short of memory: that a call grows its vector once, to the size that it ends with, and what it leaves when
 //! that is refused.
 
-use super::faults::{grow_stack, take_all};
+use super::memory::{grow_stack, take_all};
 use crate::list::{decode, encode};
 use crate::{ListError, ListKind};
 use bitpacking::{BitPacker, BitPacker1x, BitPacker4x, BitPacker8x};

@@ -1,8 +1,8 @@
 //! Packed lists of version 2 short of memory: `encode` grows its vector once, to the size that it ends with, and leaves it as it was
 //! where that is refused; all else takes no memory.
 
-use super::faults::{grow_stack, take_all};
 use super::list2::{is_list, is_refused};
+use super::memory::{grow_stack, take_all};
 use crate::list2::{PackedList, encode};
 use crate::{ListError, ListKind};
 use bitpacking::{BitPacker, BitPacker1x, BitPacker4x, BitPacker8x};

@@ -1,6 +1,6 @@
 //! `upgrade` short of memory: it grows its vector once, to the size that it ends with, and leaves it as it was where that is refused.
 
-use super::faults::{grow_stack, take_all};
+use super::memory::{grow_stack, take_all};
 use crate::list2::{encode, upgrade};
 use crate::{ListError, ListKind, list};
 use bitpacking::{BitPacker, BitPacker1x, BitPacker4x, BitPacker8x};

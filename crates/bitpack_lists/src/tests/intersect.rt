@@ -1,8 +1,8 @@
 //! Intersections of packed lists. The answers for single texts were worked by hand; those for lists that are packed here are found by
 //! a walk over the values, or by the rule that made the values.
 
-use super::faults::{grow_stack, take_all};
 use super::list2::thirty_three;
+use super::memory::{grow_stack, take_all};
 use super::seek::{COUNTED, SEVENS, TWO_STEPS, rising};
 use crate::list2::{PackedList, Reads, encode, intersect};
 use crate::{ListError, ListKind};

@@ -1,9 +1,8 @@
 //! Searches in packed lists of version 2. The answers for single texts were worked by hand, as the texts were; those for lists that are
 //! packed here are found by a walk over the values.
 
-use super::faults::{grow_stack, take_all};
-use super::list_lines::written;
 use super::list2::thirty_three;
+use super::memory::{grow_stack, take_all};
 use crate::ListKind;
 use crate::list2::{PackedList, Reads, encode};
 use bitpacking::{BitPacker, BitPacker1x, BitPacker4x, BitPacker8x};
@@ -197,62 +196,5 @@ fn searches_take_no_memory(rt: HostRuntime) -> Result<(), Fail> {
     );
     drop(taken);
     assert!(rt; refused);
-    Ok(())
-}
-
-/// Lines with their answers: the position and the value, or none.
-fn lines() -> [(&'static str, &'static str); 20] {
-    [
-        (
-            "seek 1x 31 0202012100000000000000001f00000020000000",
-            "31 31",
-        ),
-        (
-            "seek 1x 32 0202012100000000000000001f00000020000000",
-            "32 32",
-        ),
-        (
-            "seek 1x 33 0202012100000000000000001f00000020000000",
-            "none",
-        ),
-        (
-            "seek 1x 33 02010140000000010000000020000000020100000060000000ffffffffaaaaaaaaaaaaaaaa",
-            "32 34",
-        ),
-        (
-            "seek 1x 4294967295 02010120000000010000000020000000ffffffff",
-            "none",
-        ),
-        ("seek 1x 0 02010100000000", "none"),
-        ("seek 8s 5 020108020000000500000005000000", "0 5"),
-        // A plain list is refused for its kind, after the faults of its text.
-        ("seek 1x 0 02000100000000", "refused 23"),
-        ("seek 1x 0 0200010000000000", "refused 31"),
-        ("seek 1x 0 01000100000000", "refused 22"),
-        ("seek 1x 0 -", "refused 21"),
-        ("seek 4x 0 02010100000000", "refused 24"),
-        ("seek 1x 5 020201020000000500000005000000", "refused 30"),
-        // No line of the language.
-        ("seek 1x 4294967296 02010100000000", "refused 1"),
-        ("seek 1x 00 02010100000000", "refused 1"),
-        ("seek 1x - 02010100000000", "refused 1"),
-        ("seek 1x 0", "refused 1"),
-        ("seek 1x 02010100000000 0", "refused 1"),
-        ("seek 1x 0 02010100000000 0", "refused 1"),
-        ("seek 0 02010100000000", "refused 1"),
-    ]
-}
-
-#[test]
-fn worked_seek_lines(rt: HostRuntime) -> Result<(), Fail> {
-    for (line, wanted) in lines() {
-        let wanted = format!(in rt.alloc(); "{wanted}\n")?;
-        let answer = written(rt.alloc(), line, 4096)?;
-        assert_eq!(rt;
-            answer.as_slice(),
-            wanted.as_bytes(),
-            "the answer to {line}"
-        );
-    }
     Ok(())
 }

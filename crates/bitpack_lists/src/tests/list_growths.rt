@@ -1,8 +1,8 @@
 //! Packed lists in vectors with too little room: what is left where a growth is refused, how much room a call takes, and that many
 //! lists in one vector grow it seldom.
 
-use super::faults::{grow_stack, take_all};
 use super::lists::{three_blocks, three_blocks_text};
+use super::memory::{grow_stack, take_all};
 use crate::list::{decode, encode};
 use crate::{ListError, ListKind};
 use bitpacking::{BitPacker, BitPacker1x, BitPacker4x, BitPacker8x};

@@ -1,0 +1,15 @@
+//! What no clause says: bytes from outside, each call for every packer and kind, and how much memory a call takes.
+
+mod changed_lists;
+mod intersect;
+mod list2;
+mod list2_memory;
+mod list2_refused;
+mod list_growths;
+mod list_memory;
+mod lists;
+mod memory;
+mod seek;
+mod upgrade;
+mod upgrade_memory;
+mod walk;

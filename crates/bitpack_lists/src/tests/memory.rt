@@ -1,0 +1,42 @@
+//! A machine with no memory left, for calls that have to answer without.
+
+use std::alloc::{AllocError, Global};
+use std::process::Abort;
+
+/// Makes the stack as large as the calls of a test need, since it cannot grow where memory was taken. Each test that takes all
+/// memory calls it first.
+#[inline(never)]
+pub(super) fn grow_stack(rt: &impl Abort) {
+    let mut places = [0u32; 65_536];
+    let mut value = 1u32;
+    for place in places.iter_mut() {
+        value = value.wrapping_mul(1_664_525).wrapping_add(1_013_904_223);
+        *place = value;
+    }
+    let mut sum: u32 = 0;
+    for place in places.iter().rev() {
+        sum = sum.wrapping_add(*place);
+    }
+    // The sum is used, so that the stack is too.
+    assert!(rt; sum != 1);
+}
+
+/// Takes all the memory that there is to take, in blocks of falling size, until even a byte is refused.
+pub(super) fn take_all(alloc: Global) -> Result<Vec<Vec<u8>>, AllocError> {
+    let mut blocks = Vec::with_capacity(alloc, 100_000)?;
+    let mut size = 1usize << 46;
+    for _ in 0..200_000u32 {
+        if size == 0 {
+            break;
+        }
+        match Vec::with_capacity(alloc, size) {
+            Ok(block) => {
+                let Ok(()) = blocks.push(block) else {
+                    break;
+                };
+            }
+            Err(_) => size /= 2,
+        }
+    }
+    Ok(blocks)
+}
