@@ -3,7 +3,7 @@
 //! [`chain`] packs many blocks of one kind end to end. [`list`] writes a list of any length as one text, and reads untrusted
 //! texts. [`list2`] does so for lists in order, whose texts are read in place.
 //!
-//! The crate `bitpack` gives these names again, and has the tests of chains.
+//! The crate `bitpack` gives these names again, and has the tests of chains; those of lists are in `bitpack_uses`.
 #![tactic(auto)]
 
 pub mod chain;
@@ -17,8 +17,6 @@ mod little_endian;
 mod loose;
 mod measuring;
 mod reserved;
-#[cfg(test)]
-mod tests;
 
 pub use list_error::ListError;
 pub use list_kind::ListKind;

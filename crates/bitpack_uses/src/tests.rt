@@ -1,6 +1,7 @@
-//! Each use once. The expected bytes and values were worked by hand.
+//! Each use once, and packed lists. The expected bytes and values were worked by hand.
 
 mod by_law;
+mod packed_lists;
 
 use crate::id_set::{IdSet, IdSetError, packed_set_contains};
 use crate::index::Builder;

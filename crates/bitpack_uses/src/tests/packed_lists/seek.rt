@@ -3,8 +3,8 @@
 
 use super::list2::thirty_three;
 use super::memory::{grow_stack, take_all};
-use crate::ListKind;
-use crate::list2::{PackedList, Reads, encode};
+use bitpack::ListKind;
+use bitpack::list2::{PackedList, Reads, encode};
 use bitpacking::{BitPacker, BitPacker1x, BitPacker4x, BitPacker8x};
 use std::alloc::{AllocError, Global};
 use std::process::Abort;

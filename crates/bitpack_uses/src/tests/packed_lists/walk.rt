@@ -1,7 +1,7 @@
 //! The first fault of a text of version 1, found by a plain walk over its bytes: the table of refusals in docs/FORMAT.md, line by
 //! line. Nothing of the library is called; only the faults have its names.
 
-use crate::ListError;
+use bitpack::ListError;
 use bitpacking::BitPacker;
 
 /// The first fault of the text for this packer, if it has one.

@@ -4,8 +4,8 @@
 use super::list2::thirty_three;
 use super::memory::{grow_stack, take_all};
 use super::seek::{COUNTED, SEVENS, TWO_STEPS, rising};
-use crate::list2::{PackedList, Reads, encode, intersect};
-use crate::{ListError, ListKind};
+use bitpack::list2::{PackedList, Reads, encode, intersect};
+use bitpack::{ListError, ListKind};
 use bitpacking::{BitPacker, BitPacker1x, BitPacker4x, BitPacker8x};
 use std::alloc::{AllocError, Global};
 use std::process::Abort;

@@ -1,4 +1,4 @@
-//! What no clause says: bytes from outside, each call for every packer and kind, and how much memory a call takes.
+//! Packed lists, by what no clause says: bytes from outside, each call for every packer and kind, and how much memory a call takes.
 
 mod changed_lists;
 mod intersect;

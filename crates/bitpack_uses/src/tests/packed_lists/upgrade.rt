@@ -2,8 +2,8 @@
 //! program's own output.
 
 use super::list2::{blocks_and_text, each_kind, is_list, thirty_three};
-use crate::list2::{encode, upgrade};
-use crate::{ListError, ListKind, list};
+use bitpack::list2::{encode, upgrade};
+use bitpack::{ListError, ListKind, list};
 use bitpacking::{BitPacker, BitPacker1x, BitPacker4x, BitPacker8x};
 use std::alloc::Global;
 use std::process::Abort;

@@ -1,8 +1,8 @@
 //! Packed lists of version 2. The expected bytes, values and refusals were worked by hand from the format: the header, the entries
 //! with least width, offset and last value, the layout of each block's bits, the tail. None is the program's own output.
 
-use crate::list2::{PackedList, encode};
-use crate::{ListError, ListKind};
+use bitpack::list2::{PackedList, encode};
+use bitpack::{ListError, ListKind};
 use bitpacking::{BitPacker, BitPacker1x, BitPacker4x, BitPacker8x};
 use std::alloc::{AllocError, Global};
 use std::process::Abort;

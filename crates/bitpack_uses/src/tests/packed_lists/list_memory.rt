@@ -2,8 +2,8 @@
 //! that is refused.
 
 use super::memory::{grow_stack, take_all};
-use crate::list::{decode, encode};
-use crate::{ListError, ListKind};
+use bitpack::list::{decode, encode};
+use bitpack::{ListError, ListKind};
 use bitpacking::{BitPacker, BitPacker1x, BitPacker4x, BitPacker8x};
 use std::alloc::{AllocError, Global};
 use std::process::Abort;

@@ -1,8 +1,8 @@
 //! `upgrade` short of memory: it grows its vector once, to the size that it ends with, and leaves it as it was where that is refused.
 
 use super::memory::{grow_stack, take_all};
-use crate::list2::{encode, upgrade};
-use crate::{ListError, ListKind, list};
+use bitpack::list2::{encode, upgrade};
+use bitpack::{ListError, ListKind, list};
 use bitpacking::{BitPacker, BitPacker1x, BitPacker4x, BitPacker8x};
 use std::alloc::{AllocError, Global};
 use std::process::Abort;

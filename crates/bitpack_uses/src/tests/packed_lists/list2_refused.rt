@@ -1,8 +1,8 @@
 //! Texts of version 2 with a fault, and values out of order: which refusal comes first. All were worked by hand from the format.
 
 use super::list2::{is_refused, thirty_three};
-use crate::list2::encode;
-use crate::{ListError, ListKind};
+use bitpack::list2::encode;
+use bitpack::{ListError, ListKind};
 use bitpacking::{BitPacker, BitPacker1x};
 use std::alloc::Global;
 use std::process::Abort;

@@ -1,8 +1,8 @@
 //! Packed lists of version 1. The expected bytes, values and refusals were worked by hand from the format: the header, each
 //! block's least width and the layout of its bits, the tail. None is the program's own output.
 
-use crate::list::{decode, encode};
-use crate::{ListError, ListKind};
+use bitpack::list::{decode, encode};
+use bitpack::{ListError, ListKind};
 use bitpacking::{BitPacker, BitPacker1x, BitPacker4x, BitPacker8x};
 use std::alloc::{AllocError, Global};
 use std::process::Abort;

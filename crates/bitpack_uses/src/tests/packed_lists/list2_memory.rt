@@ -3,8 +3,8 @@
 
 use super::list2::{is_list, is_refused};
 use super::memory::{grow_stack, take_all};
-use crate::list2::{PackedList, encode};
-use crate::{ListError, ListKind};
+use bitpack::list2::{PackedList, encode};
+use bitpack::{ListError, ListKind};
 use bitpacking::{BitPacker, BitPacker1x, BitPacker4x, BitPacker8x};
 use std::alloc::{AllocError, Global};
 use std::process::Abort;

@@ -4,7 +4,7 @@
 //! The texts were worked by hand from the format.
 
 use super::walk::first_fault;
-use crate::list::{decode, encode};
+use bitpack::list::{decode, encode};
 use bitpacking::{BitPacker, BitPacker1x, BitPacker4x, BitPacker8x};
 use std::alloc::{AllocError, Global};
 use std::process::Abort;
