@@ -5,7 +5,8 @@
 - Of `bitpacking`, only memory.rt reads or writes the elements of a slice: a slice that a function of another file is given is
   passed on whole to a function of the crate, and neither elements nor words or bytes of a register are named there.
 - Of `bitpacking`, only the nine calls of each packer make a `Steps`, each one, which it lends to its counted call.
-- A packer of several lanes runs `Lanes` on the kernels for vectors and `Scalar` on those for arrays.
+- A packer of several lanes runs `Lanes` on the kernels for vectors and `Scalar` on those for arrays; `new` has `Lanes`, and `scalar`
+  has `Scalar`.
 - The program's packers `4s` and `8s` are those that `scalar` gives.
 - Of `bitpack_lists`, a file that names `Reads`, other than reads.rt, reads no entry and unpacks no block but by the two functions of
   reads.rt. A search goes by no `get` and makes no `Reads`: only the function by which `get` reads a value of a block makes one. An
@@ -130,7 +131,10 @@ def registers():
     for lanes in [4, 8]:
         path = f"{SOURCES}/bitpacker{lanes}x.rt"
         text = code(path)
-        calls = text[text.index("impl Counted for") :].split("mod tests")[0]
+        made = re.findall(rf"\bfn (\w+)\(\) -> Self {{\s*BitPacker{lanes}x\(InstructionSet::(\w+)\)\s*}}", text)
+        if sorted(made) != [("new", "Lanes"), ("scalar", "Scalar")]:
+            yield f"{path}: new and scalar are {made}"
+        calls = text[text.index("impl Counted for") :]
         arms = [re.split(r"=>", arm)[1] for arm in re.split(r"InstructionSet::(?=Lanes|Scalar)", calls)[1:]]
         named = [tuple(re.findall(r"\b(\w+_kind)::<(\w+), (u32x\d|\[u32; \d\])>", arm)) for arm in arms]
         right = []

@@ -206,15 +206,3 @@ impl Counted for BitPacker8x {
         }
     }
 }
-
-#[cfg(test)]
-mod tests {
-    use super::*;
-
-    // No clause tells the two kernels apart.
-    #[test]
-    fn new_holds_lanes_and_scalar_arrays(rt: HostRuntime) {
-        assert!(rt; matches!(BitPacker8x::new().0, InstructionSet::Lanes));
-        assert!(rt; matches!(BitPacker8x::scalar().0, InstructionSet::Scalar));
-    }
-}
