@@ -2,22 +2,6 @@
 
 use std::sync::OnceLock;
 
-/// The functions of a packer for the kind without initial value. They test their arguments.
-pub(crate) struct Plain {
-    pack: unsafe extern "C" fn(*const u32, usize, *mut u8, usize, *mut u8) -> isize,
-    compress: unsafe extern "C" fn(*const u32, usize, *mut u8, usize, u8) -> isize,
-    decompress: unsafe extern "C" fn(*const u8, usize, *mut u32, usize, u8) -> isize,
-    num_bits: unsafe extern "C" fn(*const u32, usize) -> isize,
-}
-
-/// The functions of a packer for a kind with an initial value, which comes first.
-pub(crate) struct Initial {
-    pack: unsafe extern "C" fn(u32, *const u32, usize, *mut u8, usize, *mut u8) -> isize,
-    compress: unsafe extern "C" fn(u32, *const u32, usize, *mut u8, usize, u8) -> isize,
-    decompress: unsafe extern "C" fn(u32, *const u8, usize, *mut u32, usize, u8) -> isize,
-    num_bits: unsafe extern "C" fn(u32, *const u32, usize) -> isize,
-}
-
 /// The functions of a packer.
 pub(crate) struct Calls {
     pub(crate) plain: Plain,
@@ -57,124 +41,83 @@ fn answer(number: isize) -> Answer {
 // The functions ask for what slices are: pointers to as many items as the lengths say, no buffer that is written and shared at
 // once. All else they test. So each call below is sound for any arguments.
 
-impl Plain {
-    #[inline]
-    pub(crate) fn pack(&self, decompressed: &[u32], compressed: &mut [u8], num_bits: &mut u8) -> Answer {
-        // SAFETY: pointers and lengths of slices; what is written is borrowed by `&mut`.
-        answer(unsafe {
-            (self.pack)(decompressed.as_ptr(), decompressed.len(), compressed.as_mut_ptr(), compressed.len(), num_bits)
-        })
-    }
-
-    #[inline]
-    pub(crate) fn compress(&self, decompressed: &[u32], compressed: &mut [u8], num_bits: u8) -> Answer {
-        // SAFETY: pointers and lengths of slices; what is written is borrowed by `&mut`.
-        answer(unsafe {
-            (self.compress)(decompressed.as_ptr(), decompressed.len(), compressed.as_mut_ptr(), compressed.len(), num_bits)
-        })
-    }
-
-    #[inline]
-    pub(crate) fn decompress(&self, compressed: &[u8], decompressed: &mut [u32], num_bits: u8) -> Answer {
-        // SAFETY: pointers and lengths of slices; what is written is borrowed by `&mut`.
-        answer(unsafe {
-            (self.decompress)(compressed.as_ptr(), compressed.len(), decompressed.as_mut_ptr(), decompressed.len(), num_bits)
-        })
-    }
-
-    #[inline]
-    pub(crate) fn num_bits(&self, decompressed: &[u32]) -> Answer {
-        // SAFETY: the pointer and the length of a slice, and nothing is written.
-        answer(unsafe { (self.num_bits)(decompressed.as_ptr(), decompressed.len()) })
-    }
-}
-
-impl Initial {
-    #[inline]
-    pub(crate) fn pack(&self, initial: u32, decompressed: &[u32], compressed: &mut [u8], num_bits: &mut u8) -> Answer {
-        // SAFETY: pointers and lengths of slices; what is written is borrowed by `&mut`.
-        answer(unsafe {
-            (self.pack)(initial, decompressed.as_ptr(), decompressed.len(), compressed.as_mut_ptr(), compressed.len(), num_bits)
-        })
-    }
-
-    #[inline]
-    pub(crate) fn compress(&self, initial: u32, decompressed: &[u32], compressed: &mut [u8], num_bits: u8) -> Answer {
-        // SAFETY: pointers and lengths of slices; what is written is borrowed by `&mut`.
-        answer(unsafe {
-            (self.compress)(
-                initial,
-                decompressed.as_ptr(),
-                decompressed.len(),
-                compressed.as_mut_ptr(),
-                compressed.len(),
-                num_bits,
-            )
-        })
-    }
-
-    #[inline]
-    pub(crate) fn decompress(&self, initial: u32, compressed: &[u8], decompressed: &mut [u32], num_bits: u8) -> Answer {
-        // SAFETY: pointers and lengths of slices; what is written is borrowed by `&mut`.
-        answer(unsafe {
-            (self.decompress)(
-                initial,
-                compressed.as_ptr(),
-                compressed.len(),
-                decompressed.as_mut_ptr(),
-                decompressed.len(),
-                num_bits,
-            )
-        })
-    }
-
-    #[inline]
-    pub(crate) fn num_bits(&self, initial: u32, decompressed: &[u32]) -> Answer {
-        // SAFETY: the pointer and the length of a slice, and nothing is written.
-        answer(unsafe { (self.num_bits)(initial, decompressed.as_ptr(), decompressed.len()) })
-    }
-}
-
-macro_rules! plain {
-    ($prefix:literal) => {{
-        extern "C" {
-            #[link_name = concat!($prefix, "pack")]
-            fn pack(
-                decompressed: *const u32,
-                decompressed_len: usize,
-                compressed: *mut u8,
-                compressed_len: usize,
-                num_bits: *mut u8,
-            ) -> isize;
-            #[link_name = concat!($prefix, "compress")]
-            fn compress(
-                decompressed: *const u32,
-                decompressed_len: usize,
-                compressed: *mut u8,
-                compressed_len: usize,
-                num_bits: u8,
-            ) -> isize;
-            #[link_name = concat!($prefix, "decompress")]
-            fn decompress(
-                compressed: *const u8,
-                compressed_len: usize,
-                decompressed: *mut u32,
-                decompressed_len: usize,
-                num_bits: u8,
-            ) -> isize;
-            #[link_name = concat!($prefix, "num_bits")]
-            fn num_bits(decompressed: *const u32, decompressed_len: usize) -> isize;
+/// A struct of functions for one kind of a packer, and the calls of them. A kind with an initial value has it as the first argument.
+macro_rules! functions {
+    ($(#[$doc:meta])* $name:ident $(, $initial:ident)?) => {
+        $(#[$doc])*
+        pub(crate) struct $name {
+            pack: unsafe extern "C" fn($($initial: u32,)? *const u32, usize, *mut u8, usize, *mut u8) -> isize,
+            compress: unsafe extern "C" fn($($initial: u32,)? *const u32, usize, *mut u8, usize, u8) -> isize,
+            decompress: unsafe extern "C" fn($($initial: u32,)? *const u8, usize, *mut u32, usize, u8) -> isize,
+            num_bits: unsafe extern "C" fn($($initial: u32,)? *const u32, usize) -> isize,
         }
-        Plain { pack, compress, decompress, num_bits }
-    }};
+
+        impl $name {
+            #[inline]
+            pub(crate) fn pack(
+                &self,
+                $($initial: u32,)?
+                decompressed: &[u32],
+                compressed: &mut [u8],
+                num_bits: &mut u8,
+            ) -> Answer {
+                let (values, bytes) = (decompressed.as_ptr(), compressed.as_mut_ptr());
+                // SAFETY: pointers and lengths of slices; what is written is borrowed by `&mut`.
+                answer(unsafe { (self.pack)($($initial,)? values, decompressed.len(), bytes, compressed.len(), num_bits) })
+            }
+
+            #[inline]
+            pub(crate) fn compress(
+                &self,
+                $($initial: u32,)?
+                decompressed: &[u32],
+                compressed: &mut [u8],
+                num_bits: u8,
+            ) -> Answer {
+                let (values, bytes) = (decompressed.as_ptr(), compressed.as_mut_ptr());
+                // SAFETY: pointers and lengths of slices; what is written is borrowed by `&mut`.
+                answer(unsafe { (self.compress)($($initial,)? values, decompressed.len(), bytes, compressed.len(), num_bits) })
+            }
+
+            #[inline]
+            pub(crate) fn decompress(
+                &self,
+                $($initial: u32,)?
+                compressed: &[u8],
+                decompressed: &mut [u32],
+                num_bits: u8,
+            ) -> Answer {
+                let (bytes, values) = (compressed.as_ptr(), decompressed.as_mut_ptr());
+                // SAFETY: pointers and lengths of slices; what is written is borrowed by `&mut`.
+                answer(unsafe { (self.decompress)($($initial,)? bytes, compressed.len(), values, decompressed.len(), num_bits) })
+            }
+
+            #[inline]
+            pub(crate) fn num_bits(&self, $($initial: u32,)? decompressed: &[u32]) -> Answer {
+                // SAFETY: the pointer and the length of a slice, and nothing is written.
+                answer(unsafe { (self.num_bits)($($initial,)? decompressed.as_ptr(), decompressed.len()) })
+            }
+        }
+    };
 }
 
-macro_rules! initial {
-    ($prefix:literal, $kind:literal) => {{
+functions! {
+    /// The functions of a packer for the kind without initial value.
+    Plain
+}
+
+functions! {
+    /// The functions of a packer for a kind with an initial value.
+    Initial, initial
+}
+
+/// The functions of an archive for one kind of a packer, by their names.
+macro_rules! foreign {
+    ($name:ident, $prefix:literal, $kind:literal $(, $initial:ident)?) => {{
         extern "C" {
             #[link_name = concat!($prefix, "pack", $kind)]
             fn pack(
-                initial: u32,
+                $($initial: u32,)?
                 decompressed: *const u32,
                 decompressed_len: usize,
                 compressed: *mut u8,
@@ -183,7 +126,7 @@ macro_rules! initial {
             ) -> isize;
             #[link_name = concat!($prefix, "compress", $kind)]
             fn compress(
-                initial: u32,
+                $($initial: u32,)?
                 decompressed: *const u32,
                 decompressed_len: usize,
                 compressed: *mut u8,
@@ -192,7 +135,7 @@ macro_rules! initial {
             ) -> isize;
             #[link_name = concat!($prefix, "decompress", $kind)]
             fn decompress(
-                initial: u32,
+                $($initial: u32,)?
                 compressed: *const u8,
                 compressed_len: usize,
                 decompressed: *mut u32,
@@ -200,18 +143,18 @@ macro_rules! initial {
                 num_bits: u8,
             ) -> isize;
             #[link_name = concat!($prefix, "num_bits", $kind)]
-            fn num_bits(initial: u32, decompressed: *const u32, decompressed_len: usize) -> isize;
+            fn num_bits($($initial: u32,)? decompressed: *const u32, decompressed_len: usize) -> isize;
         }
-        Initial { pack, compress, decompress, num_bits }
+        $name { pack, compress, decompress, num_bits }
     }};
 }
 
 macro_rules! calls {
     ($prefix:literal) => {
         Calls {
-            plain: plain!($prefix),
-            sorted: initial!($prefix, "_sorted"),
-            strictly_sorted: initial!($prefix, "_strictly_sorted"),
+            plain: foreign!(Plain, $prefix, ""),
+            sorted: foreign!(Initial, $prefix, "_sorted", initial),
+            strictly_sorted: foreign!(Initial, $prefix, "_strictly_sorted", initial),
         }
     };
 }
