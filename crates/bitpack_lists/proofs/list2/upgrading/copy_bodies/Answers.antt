@@ -1,12 +1,12 @@
 -- The bytes after each width are the body of its block, and those after the last block are the tail.
-use Rattle.std.proofs.Common.{◌≡◌, ◌+◌, ◌-◌, ◌*◌, ◌/◌, ◌<◌, ◌≤◌, ◌++◌, ℕ, List, length, take, drop, get_or, None, sym, ◌∙◌, ap, arith}
+use Rattle.std.proofs.Common.{◌≡◌, ◌+◌, ◌-◌, ◌*◌, ◌/◌, ◌<◌, ◌≤◌, ◌++◌, ℕ, List, length, take, drop, get_or, None, ◌∙◌, ap, arith}
 use Rattle.std.proofs.Math.Nat.{sub-zero}
-use Rattle.std.proofs.lemmas.List.{length-append, length-take-le, length-drop}
+use Rattle.std.proofs.lemmas.List.{length-take-le, length-drop}
 use Rattle.bitpacking.specs.Layout.{size}
 use Rattle.bitpack_lists.specs.Parts.{tail_values, whole_blocks}
 use Rattle.bitpack_lists.specs.Version1.{after_block1, blocks_fault1}
 use Rattle.bitpack_lists.proofs.FaultLemmas.{IsRight}
-use Rattle.bitpack_lists.proofs.ReadSteps.{after_block-is, right_left, tail_left}
+use Rattle.bitpack_lists.proofs.ReadSteps.{after_block-is, right_left}
 use Rattle.bitpack_lists.proofs.UpgradeSteps.{copied_done, copied_first, copied_step, enough_left, right_length}
 use Rattle.bitpack_lists.proofs.list2.upgrading.copy_bodies.Goals as goal
 

@@ -1,15 +1,13 @@
 -- The values are those of the text; header, entries, bodies and tail are their text of version 2, for which there is room.
-use Rattle.std.proofs.Common.{◌≡◌, ◌+◌, ◌-◌, ◌*◌, ◌/◌, ◌<◌, ◌≤◌, ◌++◌, ℕ, List, length, take, drop, Option, Some, None, refl, sym, subst, ◌∙◌, ap, arith, append_assoc, vec_len}
+use Rattle.std.proofs.Common.{◌≡◌, ◌+◌, ◌-◌, ◌*◌, ◌/◌, ◌≤◌, ◌++◌, ℕ, List, length, take, drop, Option, Some, None, refl, sym, ◌∙◌, ap, arith, append_assoc}
 use Rattle.std.proofs.lemmas.List.{length-append, length-drop, take_all}
-use Rattle.std.proofs.lemmas.Result.{err_from_is_err_and}
 use Rattle.bitpacking.specs.Bits.{AreBytes}
 use Rattle.bitpacking.proofs.ForCallers.{AreBytes-from_slice}
 use Rattle.bitpack_lists.specs.declared.list_kind.ListKind.{ListKind}
 use Rattle.bitpack_lists.specs.declared.list_error.ListError.{ListError}
 use Rattle.bitpack_lists.specs.Parts.{BeginsWithHeader, header, tail_values, whole_blocks}
 use Rattle.bitpack_lists.specs.Version1.{List1, blocks_fault1, fault1}
-use Rattle.bitpack_lists.specs.Version2.{IsRest2, List2, first_out}
-use Rattle.bitpack_lists.specs.Opening.{HasBodies}
+use Rattle.bitpack_lists.specs.Version2.{IsRest2, first_out}
 use Rattle.bitpack_lists.specs.Upgrading.{IsRest1}
 use Rattle.bitpack_lists.proofs.HeaderLemmas.{header_bytes, length-header}
 use Rattle.bitpack_lists.proofs.ListLemmas.{lanes-is, on_err, on_ok}
