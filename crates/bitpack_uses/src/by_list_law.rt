@@ -1,6 +1,6 @@
 //! What the laws of lists and of the line language are good for. Each function calls one law, and its contract needs it.
 
-ghost use Rattle.std.specs.Prelude.{◌≡◌, ◌<◌, ◌≤◌, ◌^◌, ℕ, List, IsTrue, IfOk, IfErr, length, drop};
+ghost use Rattle.std.specs.Prelude.{◌≡◌, ◌<◌, ◌≤◌, ◌^◌, ℕ, List, IsTrue, IfOk, IfErr, length, drop, slice_index};
 ghost use Rattle.bitpacking.specs.Bits.{AreBytes};
 ghost use Rattle.bitpacking.specs.Layout.{Layout};
 ghost use Rattle.bitpacking.specs.Width.{Fits};
@@ -44,10 +44,10 @@ pub fn a_smaller_width()
     one_text();
 }
 
-/// A list without a whole block has the same bytes after the header in both versions.
-pub fn short_texts()
-    ensures { (kind : ListKind) (values text other : List ℕ) → length values < 32 → AreBytes text → AreBytes other
-        → List1 1 kind values text → List2 1 kind values other → drop 7 text ≡ drop 7 other }
+/// The texts of a list of one whole block have the same width after the header in both versions.
+pub fn same_first_width()
+    ensures { (kind : ListKind) (values text other : List ℕ) → 32 ≤ length values → length values < 64 → AreBytes text → AreBytes other
+        → List1 1 kind values text → List2 1 kind values other → slice_index (drop 7 text) 0 ≡ slice_index (drop 7 other) 0 }
 {
     same_bodies();
 }
