@@ -1,4 +1,4 @@
-//! Calls that meet their conditions with nothing to spare. Each edit of this file in `must-fail/` breaks one of these conditions
+//! Calls that meet their conditions with nothing to spare. Each edit of this file breaks one of these conditions
 //! and keeps the others.
 
 use bitpack::ListKind;
