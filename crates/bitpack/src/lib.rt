@@ -17,8 +17,6 @@ mod line;
 mod line_loop;
 mod output;
 mod run_error;
-#[cfg(test)]
-mod tests;
 mod writing;
 
 pub use bitpack_lists::{ListError, ListKind, chain, list, list2};

@@ -1,7 +1,7 @@
 //! Lines and their answers, as the format and the blocks worked by hand give them.
 
 use super::fakes::{Giver, Taker};
-use crate::run;
+use bitpack::run;
 use std::alloc::{AllocError, Global};
 use std::io::Read;
 use std::process::Abort;

@@ -17,7 +17,7 @@ mod no_memory;
 mod oracle;
 mod worked;
 
-use super::run;
+use bitpack::run;
 use fakes::{Giver, Letters, Taker};
 use std::io::Read;
 use std::test::Fail;

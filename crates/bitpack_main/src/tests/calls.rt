@@ -5,7 +5,7 @@
 
 use super::fakes::{Asker, Counter, Giver, Hearer, Taker};
 use super::lines::repeated;
-use crate::run;
+use bitpack::run;
 use std::cell::Cell;
 use std::test::Fail;
 

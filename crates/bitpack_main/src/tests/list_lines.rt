@@ -3,7 +3,7 @@
 
 use super::fakes::{Giver, Taker};
 use super::lines::{counted, repeated};
-use crate::run;
+use bitpack::run;
 use std::alloc::{AllocError, Global};
 use std::test::Fail;
 

@@ -5,7 +5,7 @@
 use super::blocks::{packs_to, unpacks_to};
 use super::by_kind::{compress_kind, width_kind};
 use super::lines;
-use crate::run;
+use bitpack::run;
 use bitpacking::{BitPacker, BitPacker1x, BitPacker4x, BitPacker8x, Kind};
 use std::alloc::AllocError;
 use std::process::Abort;

@@ -1,7 +1,7 @@
 //! Lines for packed lists of version 2: a search, and the way from version 1. The single texts were worked by hand.
 
 use super::list_lines::written;
-use crate::{ListKind, list, list2};
+use bitpack::{ListKind, list, list2};
 use bitpacking::{BitPacker, BitPacker1x, BitPacker4x, BitPacker8x};
 use std::alloc::{AllocError, Global};
 use std::process::Abort;

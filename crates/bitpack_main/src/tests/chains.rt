@@ -2,7 +2,7 @@
 //! are from `oracle`.
 
 use super::oracle::{KINDS, block_of, laid, numbers};
-use crate::chain::{pack_all, unpack_all};
+use bitpack::chain::{pack_all, unpack_all};
 use bitpacking::{BitPacker, BitPacker1x, BitPacker4x, BitPacker8x, Kind};
 use std::process::Abort;
 

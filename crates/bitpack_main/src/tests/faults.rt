@@ -6,7 +6,7 @@ use super::fakes::{Giver, Letters, Small, Taker};
 use super::lines::{counted, repeated};
 use super::oracle::numbers;
 use super::{ANSWERS, INPUT};
-use crate::{RunError, ending, run};
+use bitpack::{RunError, ending, run};
 use std::alloc::{AllocError, Global};
 use std::io::Read;
 use std::process::Abort;
