@@ -8,6 +8,7 @@ mod blocks;
 mod by_kind;
 mod calls;
 mod chains;
+mod documented;
 mod fakes;
 mod faults;
 mod lines;
@@ -15,20 +16,31 @@ mod list2_lines;
 mod list_lines;
 mod no_memory;
 mod oracle;
+mod running;
+mod short_of_memory;
+mod texts;
 mod worked;
 
-use bitpack::run;
-use fakes::{Giver, Letters, Taker};
-use std::io::Read;
-use std::test::Fail;
+use fakes::{Giver, Taker};
+use running::{run_over, run_over_bytes, writes};
+use std::alloc::Global;
+use std::process::Abort;
 
 /// Three lines, the last without a line feed, and their answers.
 const INPUT: &[u8] = b"a\n\nbc";
 
 const ANSWERS: &[u8] = b"refused 1\nrefused 1\nrefused 1\n";
 
+/// A run over these bytes writes those.
+fn is_answered(rt: &impl Abort, alloc: Global, input: &[u8], answers: &[u8]) {
+    let mut written = Vec::new(alloc);
+    let outcome = run_over_bytes(alloc, input, &mut written);
+    assert!(rt; outcome == Ok(()), "after {input:?}");
+    assert!(rt; written.as_slice() == answers, "after {input:?}");
+}
+
 #[test]
-fn lines_have_one_answer_each(rt: HostRuntime) -> Result<(), Fail> {
+fn lines_have_one_answer_each(rt: HostRuntime) {
     let cases: [(&[u8], &[u8]); 6] = [
         (b"", b""),
         (b"\n", b"refused 1\n"),
@@ -38,46 +50,41 @@ fn lines_have_one_answer_each(rt: HostRuntime) -> Result<(), Fail> {
         (INPUT, ANSWERS),
     ];
     for (input, answers) in cases {
-        let mut reader = input;
-        let mut written = Vec::new(rt.alloc());
-        assert_eq!(rt; run(rt.alloc(), &mut reader, &mut written), Ok(()));
-        assert_eq!(rt; written.as_slice(), answers, "after {input:?}");
+        is_answered(&rt, rt.alloc(), input, answers);
     }
-    Ok(())
 }
 
 #[test]
-fn small_steps_change_nothing(rt: HostRuntime) -> Result<(), Fail> {
+fn small_steps_change_nothing(rt: HostRuntime) {
     for read in [1, 3, 100] {
         for written in [1, 3, 100] {
-            let mut reader = Giver::new(INPUT, read);
-            let mut writer = Taker::new(rt.alloc(), written);
-            let outcome = run(rt.alloc(), &mut reader, &mut writer);
-            assert_eq!(rt; outcome, Ok(()), "steps {read} and {written}");
-            assert_eq!(rt;
-                writer.taken.as_slice(),
-                ANSWERS,
-                "steps {read} and {written}"
-            );
-            assert_eq!(rt; writer.flushes, 1, "steps {read} and {written}");
+            writes(&rt, rt.alloc(), INPUT, (read, written), ANSWERS);
         }
     }
-    Ok(())
+}
+
+/// A line of so many letters, and what follows it, have these answers.
+fn letters_are_answered(
+    rt: &impl Abort,
+    alloc: Global,
+    letters: usize,
+    then: &[u8],
+    answers: &[u8],
+) {
+    let mut reader = Giver::new(b"", 100_000);
+    reader.letters = letters;
+    reader.then = then;
+    let mut writer = Taker::new(alloc, 100);
+    let outcome = run_over(alloc, &mut reader, &mut writer);
+    assert!(rt; outcome == Ok(()), "{letters} letters");
+    assert!(rt; writer.taken.as_slice() == answers, "{letters} letters");
 }
 
 #[test]
-fn a_line_is_at_most_65536_bytes(rt: HostRuntime) -> Result<(), Fail> {
-    let cases: [(usize, &[u8], &[u8]); 4] = [
-        (65_536, b"\na\n", b"refused 1\nrefused 1\n"),
-        (65_537, b"\na\n", b"refused 6\nrefused 1\n"),
-        (65_536, b"", b"refused 1\n"),
-        (65_537, b"", b"refused 6\n"),
-    ];
-    for (letters, then, answers) in cases {
-        let mut reader = Letters { left: letters }.chain(then);
-        let mut writer = Taker::new(rt.alloc(), 100);
-        assert_eq!(rt; run(rt.alloc(), &mut reader, &mut writer), Ok(()));
-        assert_eq!(rt; writer.taken.as_slice(), answers, "{letters} letters");
-    }
-    Ok(())
+fn a_line_is_at_most_65536_bytes(rt: HostRuntime) {
+    let alloc = rt.alloc();
+    letters_are_answered(&rt, alloc, 65_536, b"\na\n", b"refused 1\nrefused 1\n");
+    letters_are_answered(&rt, alloc, 65_537, b"\na\n", b"refused 6\nrefused 1\n");
+    letters_are_answered(&rt, alloc, 65_536, b"", b"refused 1\n");
+    letters_are_answered(&rt, alloc, 65_537, b"", b"refused 6\n");
 }

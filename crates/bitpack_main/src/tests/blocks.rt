@@ -18,7 +18,7 @@ const ALL_BYTES: usize = LONGEST + BYTES_AFTER;
 const ALL_PLACES: usize = 256 + PLACES_AFTER;
 
 /// Packs a block at a width that its codes fit, and returns the number of bytes.
-fn packed<P: BitPacker>(
+pub(super) fn packed<P: BitPacker>(
     rt: &impl Abort,
     packer: &P,
     kind: Kind,
@@ -32,6 +32,47 @@ fn packed<P: BitPacker>(
     assert!(rt; P::compressed_block_size(num_bits) <= out.len());
     one_least_width();
     compress_kind(packer, kind, block, out, num_bits)
+}
+
+/// Unpacks a block, and returns the number of bytes read.
+fn unpacked<P: BitPacker>(
+    rt: &impl Abort,
+    packer: &P,
+    kind: Kind,
+    bytes: &[u8],
+    places: &mut [u32],
+    num_bits: u8,
+) -> usize {
+    assert!(rt; num_bits <= 32);
+    assert!(rt; P::compressed_block_size(num_bits) <= bytes.len());
+    assert!(rt; P::BLOCK_LEN <= places.len());
+    decompress_kind(packer, kind, bytes, places, num_bits)
+}
+
+/// The least width of a block.
+pub(super) fn measured<P: BitPacker>(rt: &impl Abort, packer: &P, kind: Kind, block: &[u32]) -> u8 {
+    assert!(rt; block.len() == P::BLOCK_LEN);
+    width_kind(packer, kind, block)
+}
+
+/// Whether each byte is this one.
+pub(super) fn all_bytes_are(bytes: &[u8], wanted: u8) -> bool {
+    for byte in bytes {
+        if *byte != wanted {
+            return false;
+        }
+    }
+    true
+}
+
+/// Whether each value is this one.
+pub(super) fn all_values_are(values: &[u32], wanted: u32) -> bool {
+    for value in values {
+        if *value != wanted {
+            return false;
+        }
+    }
+    true
 }
 
 /// Packs the block at the width, compares, and reads it back over places that hold another number. No later byte or place has
@@ -48,10 +89,11 @@ pub(super) fn packs_to<P: BitPacker>(
     let end = expected.len().min(LONGEST);
     let room = &mut out[..end + BYTES_AFTER];
     let size = packed(rt, packer, kind, block, room, num_bits);
-    assert_eq!(rt; size, expected.len());
-    assert!(rt; out[..end] == expected[..]);
-    assert!(rt; out[end..].iter().all(|byte| *byte == 0xaa));
-    unpacks_to(rt, packer, kind, &out[..end], num_bits, block);
+    assert!(rt; size == expected.len());
+    let (bytes, rest) = out.split_at(end);
+    assert!(rt; bytes == expected);
+    assert!(rt; all_bytes_are(rest, 0xaa));
+    unpacks_to(rt, packer, kind, bytes, num_bits, block);
 }
 
 /// Unpacks bytes, which no call of ours need have written, over places that hold another number. No later place has changed.
@@ -63,52 +105,69 @@ pub(super) fn unpacks_to<P: BitPacker>(
     num_bits: u8,
     expected: &[u32],
 ) {
-    assert!(rt; num_bits <= 32);
-    let size = P::compressed_block_size(num_bits);
-    assert!(rt; bytes.len() == size);
-    let len = P::BLOCK_LEN;
+    assert!(rt; bytes.len() == P::compressed_block_size(num_bits));
     let mut back = [9; ALL_PLACES];
-    let places = &mut back[..len + PLACES_AFTER];
-    let read = decompress_kind(packer, kind, bytes, places, num_bits);
-    assert_eq!(rt; read, size);
-    assert!(rt; back[..len] == expected[..]);
-    assert!(rt; back[len..].iter().all(|value| *value == 9));
+    let places = &mut back[..P::BLOCK_LEN + PLACES_AFTER];
+    let read = unpacked(rt, packer, kind, bytes, places, num_bits);
+    assert!(rt; read == bytes.len());
+    let (values, rest) = back.split_at(P::BLOCK_LEN);
+    assert!(rt; values == expected);
+    assert!(rt; all_values_are(rest, 9));
 }
 
-/// The numbers of each width as codes: the width call gives their least width, and they are packed at that and at 32.
-fn numbers_as_codes<P: BitPacker>(rt: &impl Abort, packer: &P) {
-    let len = P::BLOCK_LEN;
-    for width in 0..33u8 {
-        let codes = numbers::<256>(width);
-        let codes = &codes[..len];
-        let least = least_width(codes);
-        for kind in KINDS {
-            let block = block_of(kind, codes);
-            let found = width_kind(packer, kind, &block[..len]);
-            assert_eq!(rt; found, least);
-            for num_bits in [least, 32] {
-                let bytes = laid(codes, len / 32, num_bits);
-                let size = P::compressed_block_size(num_bits);
-                let bytes = bytes.get(..size).unwrap_or(&[]);
-                packs_to(rt, packer, kind, &block[..len], num_bits, bytes);
-            }
-        }
+/// Packs the block of these codes.
+fn packs_codes<P: BitPacker>(
+    rt: &impl Abort,
+    packer: &P,
+    kind: Kind,
+    block: &[u32],
+    codes: &[u32],
+    num_bits: u8,
+) {
+    let bytes = laid(codes, P::BLOCK_LEN / 32, num_bits);
+    let size = P::compressed_block_size(num_bits);
+    let bytes = bytes.get(..size).unwrap_or(&[]);
+    packs_to(rt, packer, kind, block, num_bits, bytes);
+}
+
+/// The width call gives the least width of these codes, and they are packed at that and at 32.
+fn each_kind_of_codes<P: BitPacker>(rt: &impl Abort, packer: &P, codes: &[u32]) {
+    let least = least_width(codes);
+    for kind in KINDS {
+        let block = block_of(kind, codes);
+        let block = &block[..P::BLOCK_LEN];
+        assert!(rt; measured(rt, packer, kind, block) == least);
+        packs_codes(rt, packer, kind, block, codes, least);
+        packs_codes(rt, packer, kind, block, codes, 32);
     }
 }
 
-/// The numbers of 8 bits as bytes of each width: they are unpacked, and packed again.
+/// The numbers of each width as codes.
+fn numbers_as_codes<P: BitPacker>(rt: &impl Abort, packer: &P) {
+    for width in 0..33u8 {
+        let codes = numbers::<256>(width);
+        each_kind_of_codes(rt, packer, &codes[..P::BLOCK_LEN]);
+    }
+}
+
+/// These bytes are unpacked, and packed again.
+fn each_kind_of_bytes<P: BitPacker>(rt: &impl Abort, packer: &P, bytes: &[u8], width: u8) {
+    let codes = codes_of(bytes, P::BLOCK_LEN / 32, width);
+    for kind in KINDS {
+        let block = block_of(kind, &codes[..P::BLOCK_LEN]);
+        let block = &block[..P::BLOCK_LEN];
+        unpacks_to(rt, packer, kind, bytes, width, block);
+        packs_to(rt, packer, kind, block, width, bytes);
+    }
+}
+
+/// The numbers of 8 bits as bytes of each width.
 fn numbers_as_bytes<P: BitPacker>(rt: &impl Abort, packer: &P) {
-    let len = P::BLOCK_LEN;
     let bytes = bytes::<LONGEST>();
     for width in 0..33u8 {
         let size = P::compressed_block_size(width);
         let bytes = bytes.get(..size).unwrap_or(&[]);
-        let codes = codes_of(bytes, len / 32, width);
-        for kind in KINDS {
-            let block = block_of(kind, &codes[..len]);
-            unpacks_to(rt, packer, kind, bytes, width, &block[..len]);
-            packs_to(rt, packer, kind, &block[..len], width, bytes);
-        }
+        each_kind_of_bytes(rt, packer, bytes, width);
     }
 }
 
@@ -135,50 +194,117 @@ fn every_width_8x(rt: HostRuntime) {
     every_width(&rt, &BitPacker8x::scalar());
 }
 
-/// The counted calls answer as the others do.
-pub(super) fn counted_calls<P: Counted>(rt: &impl Abort, packer: &P) {
-    let len = P::BLOCK_LEN;
-    for width in 0..33u8 {
-        let codes = numbers::<256>(width);
-        for kind in KINDS {
-            let block = block_of(kind, &codes[..len]);
-            let found = packer.width_counted(kind, &block[..len], &mut Steps::new());
-            assert!(rt; found == width);
-            one_least_width();
-            let mut out = [0xaa; ALL_BYTES];
-            let steps = &mut Steps::new();
-            let size = packer.pack_counted(kind, &block[..len], &mut out, found, steps);
-            assert_eq!(rt; size, P::compressed_block_size(width));
-            let bytes = laid(&codes[..len], len / 32, width);
-            assert!(rt; out.get(..size) == bytes.get(..size));
-            let mut back = [9; 256];
-            let read = packer.unpack_counted(kind, &out, &mut back, found, &mut Steps::new());
-            assert_eq!(rt; read, size);
-            assert!(rt; back[..len] == block[..len]);
-        }
+/// Measures a block and packs it, both counted, and returns the number of bytes.
+fn packed_counted<P: Counted>(
+    rt: &impl Abort,
+    packer: &P,
+    kind: Kind,
+    block: &[u32],
+    out: &mut [u8],
+    width: u8,
+) -> usize {
+    assert!(rt; block.len() == P::BLOCK_LEN);
+    let found = packer.width_counted(kind, block, &mut Steps::new());
+    assert!(rt; found == width);
+    assert!(rt; P::compressed_block_size(found) <= out.len());
+    packer.pack_counted(kind, block, out, found, &mut Steps::new())
+}
+
+/// Unpacks a block, counted, and returns the number of bytes read.
+fn unpacked_counted<P: Counted>(
+    rt: &impl Abort,
+    packer: &P,
+    kind: Kind,
+    bytes: &[u8],
+    places: &mut [u32],
+    num_bits: u8,
+) -> usize {
+    assert!(rt; num_bits <= 32);
+    assert!(rt; P::compressed_block_size(num_bits) <= bytes.len());
+    assert!(rt; P::BLOCK_LEN <= places.len());
+    packer.unpack_counted(kind, bytes, places, num_bits, &mut Steps::new())
+}
+
+/// The block at the width has these bytes, and they have this block.
+fn counted_calls_answer<P: Counted>(
+    rt: &impl Abort,
+    packer: &P,
+    kind: Kind,
+    block: &[u32],
+    width: u8,
+    bytes: &[u8],
+) {
+    let mut out = [0xaa; ALL_BYTES];
+    let size = packed_counted(rt, packer, kind, block, &mut out, width);
+    assert!(rt; size == P::compressed_block_size(width));
+    assert!(rt; out.get(..size) == bytes.get(..size));
+    let mut back = [9; 256];
+    let read = unpacked_counted(rt, packer, kind, &out, &mut back, width);
+    assert!(rt; read == size);
+    assert!(rt; back.starts_with(block));
+}
+
+/// The counted calls at one width.
+fn counted_calls_at<P: Counted>(rt: &impl Abort, packer: &P, width: u8) {
+    let codes = numbers::<256>(width);
+    let codes = &codes[..P::BLOCK_LEN];
+    let bytes = laid(codes, P::BLOCK_LEN / 32, width);
+    for kind in KINDS {
+        let block = block_of(kind, codes);
+        let block = &block[..P::BLOCK_LEN];
+        counted_calls_answer(rt, packer, kind, block, width, &bytes);
     }
 }
 
-/// On equal buffers two packers leave equal buffers, whole: blocks of every width, and any bytes.
-fn equal_buffers<P: BitPacker>(rt: &impl Abort, packer: &P, other: &P) {
-    let len = P::BLOCK_LEN;
-    let bytes = bytes::<ALL_BYTES>();
-    let values = numbers::<ALL_PLACES>(32);
+/// The counted calls answer as the others do.
+pub(super) fn counted_calls<P: Counted>(rt: &impl Abort, packer: &P) {
     for width in 0..33u8 {
-        let codes = numbers::<256>(width);
-        for kind in KINDS {
-            let block = block_of(kind, &codes[..len]);
-            let (mut out, mut other_out) = (bytes, bytes);
-            let size = packed(rt, packer, kind, &block[..len], &mut out, width);
-            let other_size = packed(rt, other, kind, &block[..len], &mut other_out, width);
-            assert_eq!(rt; size, other_size);
-            assert!(rt; out == other_out);
-            let (mut back, mut other_back) = (values, values);
-            let read = decompress_kind(packer, kind, &bytes, &mut back, width);
-            let other_read = decompress_kind(other, kind, &bytes, &mut other_back, width);
-            assert_eq!(rt; read, other_read);
-            assert!(rt; back == other_back);
-        }
+        counted_calls_at(rt, packer, width);
+    }
+}
+
+/// Two packers write the same over equal buffers.
+fn pack_equally<P: BitPacker>(
+    rt: &impl Abort,
+    packer: &P,
+    other: &P,
+    kind: Kind,
+    block: &[u32],
+    width: u8,
+) {
+    let mut out = bytes::<ALL_BYTES>();
+    let size = packed(rt, packer, kind, block, &mut out, width);
+    let mut other_out = bytes::<ALL_BYTES>();
+    let other_size = packed(rt, other, kind, block, &mut other_out, width);
+    assert!(rt; size == other_size);
+    assert!(rt; out == other_out);
+}
+
+/// Two packers read the same over equal places.
+fn unpack_equally<P: BitPacker>(rt: &impl Abort, packer: &P, other: &P, kind: Kind, width: u8) {
+    let bytes = bytes::<ALL_BYTES>();
+    let mut back = numbers::<ALL_PLACES>(32);
+    let read = unpacked(rt, packer, kind, &bytes, &mut back, width);
+    let mut other_back = numbers::<ALL_PLACES>(32);
+    let other_read = unpacked(rt, other, kind, &bytes, &mut other_back, width);
+    assert!(rt; read == other_read);
+    assert!(rt; back == other_back);
+}
+
+/// Blocks of one width, and any bytes.
+fn equal_buffers_at<P: BitPacker>(rt: &impl Abort, packer: &P, other: &P, width: u8) {
+    let codes = numbers::<256>(width);
+    for kind in KINDS {
+        let block = block_of(kind, &codes[..P::BLOCK_LEN]);
+        pack_equally(rt, packer, other, kind, &block[..P::BLOCK_LEN], width);
+        unpack_equally(rt, packer, other, kind, width);
+    }
+}
+
+/// On equal buffers two packers leave equal buffers, whole.
+fn equal_buffers<P: BitPacker>(rt: &impl Abort, packer: &P, other: &P) {
+    for width in 0..33u8 {
+        equal_buffers_at(rt, packer, other, width);
     }
 }
 

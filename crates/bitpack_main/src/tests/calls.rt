@@ -4,35 +4,62 @@
 //! as many bytes are held, and before each read.
 
 use super::fakes::{Asker, Counter, Giver, Hearer, Taker};
-use super::lines::repeated;
-use bitpack::run;
+use super::running::{run_asking, run_counting, run_over};
+use super::texts::{Part, text_of};
+use std::alloc::Global;
 use std::cell::Cell;
+use std::process::Abort;
 use std::test::Fail;
 
 /// 32 zeros, whose answer has 64 bytes with its line feed.
 const ZEROS: &str = "unpack 1x plain 0 -\n";
 
+/// No call for more comes before the answers to 2,000 lines.
+fn asks_in_time(rt: &impl Abort, alloc: Global, input: &str, read: usize, written: usize) {
+    let answered = Cell::new(0);
+    let mut reader = Asker::new(input.as_bytes(), read, &answered);
+    let mut writer = Hearer::new(written, &answered);
+    let outcome = run_asking(alloc, &mut reader, &mut writer);
+    assert!(rt; outcome == Ok(()), "steps {read} and {written}");
+    assert!(rt; reader.early == 0, "steps {read} and {written}");
+    assert!(rt; answered.get() == 2000, "steps {read} and {written}");
+}
+
 #[test]
 fn each_line_is_answered_before_the_next_read(rt: HostRuntime) -> Result<(), Fail> {
     // 40,000 bytes, with answers of 128,000 bytes: more than are held.
-    let input = repeated(rt.alloc(), ZEROS, 2000)?;
+    let input = text_of(rt.alloc(), &[Part::Repeated(ZEROS, 2000)])?;
     for read in [1, 19, 20, 21, 100_000] {
         for written in [1, 3, 100_000] {
-            let answered = Cell::new(0);
-            let mut reader = Asker::new(input.as_bytes(), read, &answered);
-            let mut writer = Hearer::new(written, &answered);
-            let outcome = run(rt.alloc(), &mut reader, &mut writer);
-            assert_eq!(rt; outcome, Ok(()), "steps {read} and {written}");
-            assert_eq!(rt; reader.early, 0, "steps {read} and {written}");
-            assert_eq!(rt; answered.get(), 2000, "steps {read} and {written}");
+            asks_in_time(&rt, rt.alloc(), input.as_str(), read, written);
         }
     }
     Ok(())
 }
 
+/// So many bytes are written. What is known of the calls: how many reads, and how many writes at least and at most.
+fn calls_are(
+    rt: &impl Abort,
+    alloc: Global,
+    input: &str,
+    steps: (usize, usize),
+    answers: usize,
+    reads: usize,
+    writes: (usize, usize),
+) {
+    let mut reader = Giver::new(input.as_bytes(), steps.0);
+    let mut writer = Taker::new(alloc, steps.1);
+    let outcome = run_over(alloc, &mut reader, &mut writer);
+    assert!(rt; outcome == Ok(()), "steps {steps:?}");
+    assert!(rt; writer.taken.len() == answers, "steps {steps:?}");
+    assert!(rt; reader.calls == reads, "steps {steps:?}");
+    assert!(rt; writer.calls >= writes.0, "steps {steps:?}");
+    assert!(rt; writer.calls <= writes.1, "steps {steps:?}");
+}
+
 #[test]
 fn no_call_is_in_vain(rt: HostRuntime) -> Result<(), Fail> {
-    let input = repeated(rt.alloc(), ZEROS, 5000)?;
+    let input = text_of(rt.alloc(), &[Part::Repeated(ZEROS, 5000)])?;
     let answers = 5000 * 64;
     // Bytes of a read and of a write; how many reads; how many writes at least and at most.
     let cases = [
@@ -48,29 +75,52 @@ fn no_call_is_in_vain(rt: HostRuntime) -> Result<(), Fail> {
         (20, 3, 5001, 110_000, 110_000),
     ];
     for (read, written, reads, least, most) in cases {
-        let mut reader = Giver::new(input.as_bytes(), read);
-        let mut writer = Taker::new(rt.alloc(), written);
-        let outcome = run(rt.alloc(), &mut reader, &mut writer);
-        assert_eq!(rt; outcome, Ok(()), "steps {read} and {written}");
-        assert_eq!(rt; writer.taken.len(), answers, "steps {read} and {written}");
-        assert_eq!(rt; reader.calls, reads, "steps {read} and {written}");
-        assert!(rt; writer.calls >= least, "steps {read} and {written}");
-        assert!(rt; writer.calls <= most, "steps {read} and {written}");
+        let steps = (read, written);
+        calls_are(
+            &rt,
+            rt.alloc(),
+            input.as_str(),
+            steps,
+            answers,
+            reads,
+            (least, most),
+        );
     }
     Ok(())
 }
 
+/// A read for each byte, one that finds the end, and a write for each answer.
+fn calls_for_each_byte(rt: &impl Abort, alloc: Global, input: &str, answers: &str) {
+    let mut reader = Giver::new(input.as_bytes(), 1);
+    let mut writer = Taker::new(alloc, 100);
+    let outcome = run_over(alloc, &mut reader, &mut writer);
+    assert!(rt; outcome == Ok(()));
+    assert!(rt; writer.taken.as_slice() == answers.as_bytes());
+    assert!(rt; reader.calls == 310_001);
+    assert!(rt; writer.calls == 31_000);
+}
+
 #[test]
 fn no_number_of_reads_is_a_fault(rt: HostRuntime) -> Result<(), Fail> {
-    let input = repeated(rt.alloc(), "size 1x 1\n", 31_000)?;
-    let answers = repeated(rt.alloc(), "4\n", 31_000)?;
-    let mut reader = Giver::new(input.as_bytes(), 1);
-    let mut writer = Taker::new(rt.alloc(), 100);
-    assert_eq!(rt; run(rt.alloc(), &mut reader, &mut writer), Ok(()));
-    assert!(rt; writer.taken.as_slice() == answers.as_bytes());
-    assert_eq!(rt; reader.calls, 310_001);
-    assert_eq!(rt; writer.calls, 31_000);
+    let input = text_of(rt.alloc(), &[Part::Repeated("size 1x 1\n", 31_000)])?;
+    let answers = text_of(rt.alloc(), &[Part::Repeated("4\n", 31_000)])?;
+    calls_for_each_byte(&rt, rt.alloc(), input.as_str(), answers.as_str());
     Ok(())
+}
+
+/// The line has this many bytes and values in its answer.
+fn counts_are(rt: &impl Abort, alloc: Global, line: &str, bytes: usize, values: usize) {
+    let mut writer = Counter {
+        bytes: 0,
+        commas: 0,
+        calls: 0,
+    };
+    let outcome = run_counting(alloc, line.as_bytes(), &mut writer);
+    assert!(rt; outcome == Ok(()));
+    assert!(rt; writer.bytes == bytes);
+    assert!(rt; writer.commas.saturating_add(1) == values);
+    // A write has at least 65,536 bytes less one value.
+    assert!(rt; writer.calls <= 1379);
 }
 
 /// The greatest answer that a line can have.
@@ -80,22 +130,15 @@ fn no_number_of_reads_is_a_fault(rt: HostRuntime) -> Result<(), Fail> {
 /// 215 have nine and 18 ten. All 8,205,312 values after them have ten digits.
 #[test]
 fn the_longest_answer(rt: HostRuntime) -> Result<(), Fail> {
-    let alloc = rt.alloc();
-    let ones = repeated(alloc, "ff", 704)?;
-    let widths = repeated(alloc, "00", 32_052)?;
-    // 8,205,568 values.
-    let line = format!(in alloc; "dec 8x 01010800357d0016{ones}{widths}")?;
-    assert_eq!(rt; line.len(), 65_535);
-    let mut reader = line.as_bytes();
-    let mut writer = Counter {
-        bytes: 0,
-        commas: 0,
-        calls: 0,
-    };
-    assert_eq!(rt; run(alloc, &mut reader, &mut writer), Ok(()));
-    assert_eq!(rt; writer.bytes, 90_260_992);
-    assert_eq!(rt; writer.commas, 8_205_567);
-    // A write has at least 65,536 bytes less one value.
-    assert!(rt; writer.calls <= 1379);
+    let line = text_of(
+        rt.alloc(),
+        &[
+            Part::Text("dec 8x 01010800357d0016"),
+            Part::Repeated("ff", 704),
+            Part::Repeated("00", 32_052),
+        ],
+    )?;
+    assert!(rt; line.len() == 65_535);
+    counts_are(&rt, rt.alloc(), line.as_str(), 90_260_992, 8_205_568);
     Ok(())
 }

@@ -8,12 +8,16 @@ use std::io::{Error, ErrorKind, Read, Write};
 /// No call is the one that fails.
 pub const NEVER: usize = usize::MAX;
 
-/// Gives at most `step` bytes a call. The call numbered `fails_at` is interrupted; a further one would go on.
+/// Gives bytes, then so many letters `a`, which need no memory, and then further bytes: at most `step` bytes a call. The call
+/// numbered `fails_at` is interrupted, and so is each call after the last byte if `fails_at_end`; a further one would go on.
 #[derive(Drop)]
 pub struct Giver<'a> {
     left: &'a [u8],
+    pub letters: usize,
+    pub then: &'a [u8],
     step: usize,
     pub fails_at: usize,
+    pub fails_at_end: bool,
     pub calls: usize,
 }
 
@@ -21,8 +25,11 @@ impl<'a> Giver<'a> {
     pub fn new(left: &'a [u8], step: usize) -> Giver<'a> {
         Giver {
             left,
+            letters: 0,
+            then: &[],
             step,
             fails_at: NEVER,
+            fails_at_end: false,
             calls: 0,
         }
     }
@@ -32,28 +39,23 @@ impl<'a> Read for Giver<'a> {
     fn read(&mut self, buffer: &mut [u8]) -> io::Result<usize> {
         let call = self.calls;
         self.calls = call.saturating_add(1);
-        if call == self.fails_at {
+        if self.left.is_empty() && self.letters > 0 && call != self.fails_at {
+            let count = self.letters.min(self.step).min(buffer.len());
+            buffer[..count].fill(b'a');
+            self.letters -= count;
+            return Ok(count);
+        }
+        if self.left.is_empty() {
+            self.left = self.then;
+            self.then = &[];
+        }
+        if call == self.fails_at || self.fails_at_end && self.left.is_empty() {
             return Err(Error::from(ErrorKind::Interrupted));
         }
         let count = self.step.min(self.left.len()).min(buffer.len());
         let (now, later) = self.left.split_at(count);
         buffer[..count].copy_from_slice(now);
         self.left = later;
-        Ok(count)
-    }
-}
-
-/// Gives so many letters `a`, and needs no memory for them.
-#[derive(Drop)]
-pub struct Letters {
-    pub left: usize,
-}
-
-impl Read for Letters {
-    fn read(&mut self, buffer: &mut [u8]) -> io::Result<usize> {
-        let count = self.left.min(buffer.len());
-        buffer[..count].fill(b'a');
-        self.left -= count;
         Ok(count)
     }
 }
@@ -101,20 +103,6 @@ impl Write for Taker {
         } else {
             Ok(())
         }
-    }
-}
-
-/// Gives what another reader gives, at most `step` bytes a call.
-#[derive(Drop)]
-pub struct Small<R> {
-    pub inner: R,
-    pub step: usize,
-}
-
-impl<R: Read> Read for Small<R> {
-    fn read(&mut self, buffer: &mut [u8]) -> io::Result<usize> {
-        let count = self.step.min(buffer.len());
-        self.inner.read(&mut buffer[..count])
     }
 }
 

@@ -1,14 +1,14 @@
 //! Lines and their answers, as the format and the blocks worked by hand give them.
 
 use super::fakes::{Giver, Taker};
-use bitpack::run;
+use super::running::{each_is_answered, line_is_answered, none_is_a_line, run_over, writes};
+use super::texts::{Part, parts_are_answered, text_of};
 use std::alloc::{AllocError, Global};
-use std::io::Read;
 use std::process::Abort;
 use std::test::Fail;
 
-/// Lines of each form, and what they are answered.
-fn answered() -> [(&'static str, &'static str); 30] {
+/// Sizes, widths, and the block of the format's first example.
+fn sizes_and_widths() -> [(&'static str, &'static str); 11] {
     [
         (
             "pack 1x plain 3 0,1,2,3,4,5,6,7,0,1,2,3,4,5,6,7,0,1,2,3,4,5,6,7,0,1,2,3,4,5,6,7",
@@ -24,6 +24,12 @@ fn answered() -> [(&'static str, &'static str); 30] {
         ("width 1x plain 0*31,5", "3"),
         ("width 1x plain 0*32", "0"),
         ("width 1x plain 4294967295*32", "32"),
+    ]
+}
+
+/// Blocks.
+fn blocks() -> [(&'static str, &'static str); 8] {
+    [
         ("pack 1x plain 1 1*32", "ffffffff"),
         ("pack 1x plain 2 1*32", "5555555555555555"),
         ("pack 1x plain 0 0*32", "-"),
@@ -47,7 +53,12 @@ fn answered() -> [(&'static str, &'static str); 30] {
             "pack 8s plain 1 1*8,0*248",
             "0100000001000000010000000100000001000000010000000100000001000000",
         ),
-        // The kinds: differences wrap, and the start is the value before the first one.
+    ]
+}
+
+/// The kinds: differences wrap, and the start is the value before the first one.
+fn kinds() -> [(&'static str, &'static str); 11] {
+    [
         ("width 1x sorted:5 5*32", "0"),
         ("width 1x sorted:0 5,4*31", "32"),
         ("width 1x sorted:4294967295 4294967295*32", "0"),
@@ -71,10 +82,9 @@ fn answered() -> [(&'static str, &'static str); 30] {
     ]
 }
 
-/// Lines that are refused.
-fn refused() -> [(&'static str, &'static str); 49] {
+/// Refusals in their order: the number of values before the width, and the width before a code that does not fit.
+fn wrong_lengths_and_widths() -> [(&'static str, &'static str); 10] {
     [
-        // Refusals in their order.
         ("width 1x plain -", "refused 2"),
         ("width 1x plain 1*1", "refused 2"),
         ("width 1x plain 0*65536", "refused 2"),
@@ -85,6 +95,12 @@ fn refused() -> [(&'static str, &'static str); 49] {
         ("pack 1x plain 33 0*32", "refused 3"),
         ("pack 1x plain 33 2*32", "refused 3"),
         ("pack 1x plain 255 0*32", "refused 3"),
+    ]
+}
+
+/// Codes that do not fit, and a width before the number of bytes.
+fn wrong_codes_and_bytes() -> [(&'static str, &'static str); 8] {
+    [
         ("pack 1x plain 1 2*32", "refused 4"),
         ("pack 4x strict:none 0 0*128", "refused 4"),
         ("unpack 1x plain 33 00", "refused 3"),
@@ -93,237 +109,261 @@ fn refused() -> [(&'static str, &'static str); 49] {
         ("unpack 1x plain 1 0000000000", "refused 5"),
         ("unpack 1x plain 0 00", "refused 5"),
         ("unpack 1x plain 1 -", "refused 5"),
-        // No line of the language.
-        ("", "refused 1"),
-        (" ", "refused 1"),
-        ("pack", "refused 1"),
-        ("size 1x", "refused 1"),
-        ("size 2x 1", "refused 1"),
-        ("size  1x 1", "refused 1"),
-        (" size 1x 1", "refused 1"),
-        ("size 1x 1 ", "refused 1"),
-        ("size 1x 1 1", "refused 1"),
-        ("size 1x 8\r", "refused 1"),
-        ("PACK 1x plain 1 1*32", "refused 1"),
-        ("pack  1x plain 1 1*32", "refused 1"),
-        ("size 1x 01", "refused 1"),
-        ("size 1x +1", "refused 1"),
-        ("size 1x 256", "refused 1"),
-        ("size 1x -", "refused 1"),
-        ("pack 1x plain 256 0*32", "refused 1"),
-        ("width 1x sorted:4294967296 0*32", "refused 1"),
-        ("width 1x sorted:none 0*32", "refused 1"),
-        ("width 1x strict 0*32", "refused 1"),
-        ("width 1x plain:0 0*32", "refused 1"),
-        ("width 1x plain 1*032", "refused 1"),
-        ("width 1x plain 1*0", "refused 1"),
-        ("width 1x plain 1,,2", "refused 1"),
-        ("width 1x plain 0*31,4294967296", "refused 1"),
-        ("width 1x plain 1*18446744073709551648", "refused 1"),
-        ("width 1x plain 0*65537", "refused 1"),
-        ("width 1x plain 0*65536,0", "refused 1"),
-        ("unpack 1x plain 1 fff", "refused 1"),
-        ("unpack 1x plain 33 0", "refused 1"),
-        ("unpack 1x plain 1 ffffffgg", "refused 1"),
     ]
 }
 
-/// What a run writes for a line, without the line feed after it.
-fn answer(alloc: Global, line: &[u8]) -> Result<String, AllocError> {
-    let mut reader = line.chain(b"\n".as_slice());
-    let mut written = Vec::new(alloc);
-    match run(alloc, &mut reader, &mut written) {
-        Ok(()) => {}
-        Err(_) => return Err(AllocError),
-    }
-    let _ = written.pop();
-    match String::from_utf8(written) {
-        Ok(answer) => Ok(answer),
-        Err(_) => Err(AllocError),
-    }
+/// No line of the language: too few words or too many, and spaces.
+fn wrong_words() -> [&'static str; 10] {
+    [
+        "",
+        " ",
+        "pack",
+        "size 1x",
+        "size 2x 1",
+        "size  1x 1",
+        " size 1x 1",
+        "size 1x 1 ",
+        "size 1x 1 1",
+        "size 1x 8\r",
+    ]
 }
 
-/// Each line has its answer.
-fn each_is_answered(
+/// No line of the language: capitals, numbers and kinds.
+fn wrong_numbers() -> [&'static str; 10] {
+    [
+        "PACK 1x plain 1 1*32",
+        "pack  1x plain 1 1*32",
+        "size 1x 01",
+        "size 1x +1",
+        "size 1x 256",
+        "size 1x -",
+        "pack 1x plain 256 0*32",
+        "width 1x sorted:4294967296 0*32",
+        "width 1x sorted:none 0*32",
+        "width 1x strict 0*32",
+    ]
+}
+
+/// No line of the language: kinds, values, counts and bytes.
+fn wrong_values() -> [&'static str; 11] {
+    [
+        "width 1x plain:0 0*32",
+        "width 1x plain 1*032",
+        "width 1x plain 1*0",
+        "width 1x plain 1,,2",
+        "width 1x plain 0*31,4294967296",
+        "width 1x plain 1*18446744073709551648",
+        "width 1x plain 0*65537",
+        "width 1x plain 0*65536,0",
+        "unpack 1x plain 1 fff",
+        "unpack 1x plain 33 0",
+        "unpack 1x plain 1 ffffffgg",
+    ]
+}
+
+/// Appends a line.
+fn push_line(lines: &mut String, line: &str) -> Result<(), AllocError> {
+    lines.push_str(line)?;
+    lines.push('\n')
+}
+
+/// Each line has its answer. The lines are appended to one text, and their answers to another.
+fn add(
     rt: &impl Abort,
     alloc: Global,
+    input: &mut String,
+    answers: &mut String,
     lines: &[(&str, &str)],
 ) -> Result<(), AllocError> {
+    each_is_answered(rt, alloc, lines, b"\n", 100_000);
     for (line, wanted) in lines {
-        let text = answer(alloc, line.as_bytes())?;
-        assert_eq!(rt; text.as_str(), *wanted, "the answer to {line}");
+        push_line(input, line)?;
+        push_line(answers, wanted)?;
     }
     Ok(())
 }
 
-/// All lines in one input, a byte a read, and three bytes a write.
-fn all_are_answered_in_small_steps(
+/// The same of what is no line of the language.
+fn add_no_lines(
     rt: &impl Abort,
     alloc: Global,
-    lines: &[(&str, &str)],
+    input: &mut String,
+    answers: &mut String,
+    lines: &[&str],
 ) -> Result<(), AllocError> {
-    let mut input = String::new(alloc);
-    let mut answers = String::new(alloc);
-    for (line, wanted) in lines {
-        input.push_str(line)?;
-        input.push('\n')?;
-        answers.push_str(wanted)?;
-        answers.push('\n')?;
-    }
-    for (read, written) in [(1, 1), (1, 3), (3, 1), (100_000, 100_000)] {
-        let mut reader = Giver::new(input.as_bytes(), read);
-        let mut writer = Taker::new(alloc, written);
-        assert_eq!(rt; run(alloc, &mut reader, &mut writer), Ok(()));
-        assert!(rt;
-            writer.taken.as_slice() == answers.as_bytes(),
-            "steps {read} and {written}"
-        );
+    none_is_a_line(rt, alloc, lines, b"\n", 100_000);
+    for line in lines {
+        push_line(input, line)?;
+        push_line(answers, "refused 1")?;
     }
     Ok(())
+}
+
+/// Lines that are answered.
+fn add_answered(
+    rt: &impl Abort,
+    alloc: Global,
+    input: &mut String,
+    answers: &mut String,
+) -> Result<(), AllocError> {
+    add(rt, alloc, input, answers, &sizes_and_widths())?;
+    add(rt, alloc, input, answers, &blocks())?;
+    add(rt, alloc, input, answers, &kinds())
+}
+
+/// Lines that are refused.
+fn add_refused(
+    rt: &impl Abort,
+    alloc: Global,
+    input: &mut String,
+    answers: &mut String,
+) -> Result<(), AllocError> {
+    add(rt, alloc, input, answers, &wrong_lengths_and_widths())?;
+    add(rt, alloc, input, answers, &wrong_codes_and_bytes())?;
+    add_no_lines(rt, alloc, input, answers, &wrong_words())?;
+    add_no_lines(rt, alloc, input, answers, &wrong_numbers())?;
+    add_no_lines(rt, alloc, input, answers, &wrong_values())
+}
+
+/// All lines in one input, a few bytes a read and a write, and all at once.
+fn in_small_steps(rt: &impl Abort, alloc: Global, input: &str, answers: &str) {
+    for steps in [(1, 1), (1, 3), (3, 1), (100_000, 100_000)] {
+        writes(rt, alloc, input.as_bytes(), steps, answers.as_bytes());
+    }
 }
 
 #[test]
 fn worked_lines(rt: HostRuntime) -> Result<(), Fail> {
-    each_is_answered(&rt, rt.alloc(), &answered())?;
-    all_are_answered_in_small_steps(&rt, rt.alloc(), &answered())?;
+    let mut input = String::new(rt.alloc());
+    let mut answers = String::new(rt.alloc());
+    add_answered(&rt, rt.alloc(), &mut input, &mut answers)?;
+    in_small_steps(&rt, rt.alloc(), input.as_str(), answers.as_str());
     Ok(())
 }
 
 #[test]
 fn refused_lines(rt: HostRuntime) -> Result<(), Fail> {
-    each_is_answered(&rt, rt.alloc(), &refused())?;
-    all_are_answered_in_small_steps(&rt, rt.alloc(), &refused())?;
+    let mut input = String::new(rt.alloc());
+    let mut answers = String::new(rt.alloc());
+    add_refused(&rt, rt.alloc(), &mut input, &mut answers)?;
+    in_small_steps(&rt, rt.alloc(), input.as_str(), answers.as_str());
     Ok(())
 }
 
-/// So many times the same text.
-pub(super) fn repeated(alloc: Global, text: &str, count: usize) -> Result<String, AllocError> {
-    let mut all = String::new(alloc);
-    for _ in 0..count {
-        all.push_str(text)?;
-    }
-    Ok(all)
-}
-
-/// So many numbers, each `step` more than the one before it, modulo 2 ^ 32.
-pub(super) fn counted(
+/// So many times a character, with a line feed after them.
+fn characters_are_answered(
+    rt: &impl Abort,
     alloc: Global,
-    first: u32,
-    step: u32,
+    character: &str,
     count: usize,
-) -> Result<String, AllocError> {
-    let mut all = String::new(alloc);
-    let mut number = first;
-    for place in 0..count {
-        if place > 0 {
-            all.push(',')?;
-        }
-        all.push_str(format!(in alloc; "{number}")?.as_str())?;
-        number = number.wrapping_add(step);
-    }
-    Ok(all)
+    wanted: &str,
+) -> Result<(), AllocError> {
+    let line = text_of(alloc, &[Part::Repeated(character, count)])?;
+    line_is_answered(rt, alloc, line.as_str(), b"\n", 100_000, wanted);
+    Ok(())
 }
 
 #[test]
 fn long_lines(rt: HostRuntime) -> Result<(), Fail> {
-    let alloc = rt.alloc();
-    let longest = repeated(alloc, "a", 65_536)?;
-    assert_eq!(rt; answer(alloc, longest.as_bytes())?.as_str(), "refused 1");
-    let longer = repeated(alloc, "a", 65_537)?;
-    assert_eq!(rt; answer(alloc, longer.as_bytes())?.as_str(), "refused 6");
-    let spaces = repeated(alloc, " ", 65_536)?;
-    assert_eq!(rt; answer(alloc, spaces.as_bytes())?.as_str(), "refused 1");
+    characters_are_answered(&rt, rt.alloc(), "a", 65_536, "refused 1")?;
+    characters_are_answered(&rt, rt.alloc(), "a", 65_537, "refused 6")?;
+    characters_are_answered(&rt, rt.alloc(), " ", 65_536, "refused 1")?;
     Ok(())
 }
 
 #[test]
-fn a_byte_that_is_no_character(rt: HostRuntime) -> Result<(), Fail> {
-    for (read, written) in [(1, 1), (2, 3), (100, 100)] {
-        let mut reader = Giver::new(&[255, 10, 255], read);
-        let mut writer = Taker::new(rt.alloc(), written);
-        assert_eq!(rt; run(rt.alloc(), &mut reader, &mut writer), Ok(()));
-        assert_eq!(rt;
-            writer.taken.as_slice(),
-            b"refused 1\nrefused 1\n".as_slice()
-        );
+fn a_byte_that_is_no_character(rt: HostRuntime) {
+    for steps in [(1, 1), (2, 3), (100, 100)] {
+        let answers = b"refused 1\nrefused 1\n";
+        writes(&rt, rt.alloc(), &[255, 10, 255], steps, answers);
     }
-    Ok(())
 }
 
+/// A line of two parts has an answer of one.
+fn has_answer(
+    rt: &impl Abort,
+    alloc: Global,
+    line: &str,
+    rest: Part,
+    wanted: Part,
+) -> Result<(), AllocError> {
+    parts_are_answered(rt, alloc, &[Part::Text(line), rest], 100_000, &[wanted])
+}
+
+/// Blocks of one lane.
 #[test]
 fn whole_blocks(rt: HostRuntime) -> Result<(), Fail> {
-    let alloc = rt.alloc();
-    let zeros = repeated(alloc, "00", 128)?;
-    let ones = repeated(alloc, "f", 256)?;
-    let few_ones = repeated(alloc, "f", 64)?;
-    let rising = counted(alloc, 0, 1, 128)?;
-    let rows = [
-        (format!(in alloc; "pack 1x plain 32 0*32")?, zeros.clone()?),
+    let zeros = Part::Repeated("00", 128);
+    let ones = Part::Repeated("f", 256);
+    for (line, rest, wanted) in [
+        ("pack 1x plain 32 ", Part::Text("0*32"), zeros),
+        ("unpack 1x plain 32 ", zeros, Part::Counted(0, 0, 32)),
         (
-            format!(in alloc; "unpack 1x plain 32 {zeros}")?,
-            counted(alloc, 0, 0, 32)?,
+            "unpack 1x plain 32 ",
+            ones,
+            Part::Counted(4294967295, 0, 32),
         ),
         (
-            format!(in alloc; "unpack 1x plain 32 {ones}")?,
-            counted(alloc, 4294967295, 0, 32)?,
+            "unpack 1x sorted:4294967295 32 ",
+            ones,
+            Part::Counted(4294967294, 4294967295, 32),
         ),
         (
-            format!(in alloc; "unpack 1x sorted:4294967295 32 {ones}")?,
-            counted(alloc, 4294967294, 4294967295, 32)?,
+            "unpack 1x strict:none 32 ",
+            ones,
+            Part::Counted(4294967295, 0, 32),
         ),
+    ] {
+        has_answer(&rt, rt.alloc(), line, rest, wanted)?;
+    }
+    whole_blocks_of_more_lanes(&rt, rt.alloc())?;
+    Ok(())
+}
+
+/// Blocks of four and eight lanes.
+fn whole_blocks_of_more_lanes(rt: &impl Abort, alloc: Global) -> Result<(), AllocError> {
+    let ones = Part::Repeated("f", 64);
+    let rising = Part::Counted(0, 1, 128);
+    for (line, rest, wanted) in [
+        ("unpack 8x sorted:0 1 ", ones, Part::Counted(1, 1, 256)),
         (
-            format!(in alloc; "unpack 1x strict:none 32 {ones}")?,
-            counted(alloc, 4294967295, 0, 32)?,
+            "unpack 8x sorted:4294967295 1 ",
+            ones,
+            Part::Counted(0, 1, 256),
         ),
-        (
-            format!(in alloc; "unpack 8x sorted:0 1 {few_ones}")?,
-            counted(alloc, 1, 1, 256)?,
-        ),
-        (
-            format!(in alloc; "unpack 8x sorted:4294967295 1 {few_ones}")?,
-            counted(alloc, 0, 1, 256)?,
-        ),
-        (
-            format!(in alloc; "unpack 8x strict:none 1 {few_ones}")?,
-            counted(alloc, 1, 2, 256)?,
-        ),
-        (
-            format!(in alloc; "width 4x sorted:0 {rising}")?,
-            format!(in alloc; "1")?,
-        ),
-        (
-            format!(in alloc; "width 4x strict:none {rising}")?,
-            format!(in alloc; "0")?,
-        ),
-        (
-            format!(in alloc; "width 4x strict:4294967295 {rising}")?,
-            format!(in alloc; "0")?,
-        ),
-    ];
-    for (line, wanted) in &rows {
-        let text = answer(alloc, line.as_bytes())?;
-        assert_eq!(rt; text.as_str(), wanted.as_str(), "the answer to {line}");
+        ("unpack 8x strict:none 1 ", ones, Part::Counted(1, 2, 256)),
+        ("width 4x sorted:0 ", rising, Part::Text("1")),
+        ("width 4x strict:none ", rising, Part::Text("0")),
+        ("width 4x strict:4294967295 ", rising, Part::Text("0")),
+    ] {
+        has_answer(rt, alloc, line, rest, wanted)?;
     }
     Ok(())
+}
+
+/// The answer to a line has so many bytes, and begins with these.
+fn begins(rt: &impl Abort, alloc: Global, line: &str, begin: &[u8], len: usize) {
+    let mut reader = Giver::new(line.as_bytes(), 100_000);
+    let mut writer = Taker::new(alloc, 100_000);
+    let outcome = run_over(alloc, &mut reader, &mut writer);
+    assert!(rt; outcome == Ok(()));
+    assert!(rt; writer.taken.as_slice().starts_with(begin));
+    // A line feed is after it.
+    assert!(rt; writer.taken.len() == len.saturating_add(1));
 }
 
 #[test]
 fn bytes_begin(rt: HostRuntime) -> Result<(), Fail> {
     let alloc = rt.alloc();
-    let rising = counted(alloc, 0, 1, 128)?;
-    let text = answer(
+    let rising = text_of(
         alloc,
-        format!(in alloc; "pack 4x plain 8 {rising}")?.as_bytes(),
+        &[Part::Text("pack 4x plain 8 "), Part::Counted(0, 1, 128)],
     )?;
-    assert!(rt;
-        text.as_str()
-            .starts_with("0004080c0105090d02060a0e03070b0f")
-    );
-    assert_eq!(rt; text.len(), 256);
-    let text = answer(alloc, b"pack 4x sorted:0 32 2147483648*128")?;
-    assert!(rt; text.as_str().starts_with("000000800000"));
-    assert_eq!(rt; text.len(), 1024);
-    let text = answer(alloc, b"pack 1x strict:0 32 5*32")?;
-    assert!(rt; text.as_str().starts_with("04000000ffffffff"));
+    let bytes = b"0004080c0105090d02060a0e03070b0f";
+    begins(&rt, alloc, rising.as_str(), bytes, 256);
+    let line = "pack 4x sorted:0 32 2147483648*128";
+    begins(&rt, alloc, line, b"000000800000", 1024);
+    let line = "pack 1x strict:0 32 5*32";
+    begins(&rt, alloc, line, b"04000000ffffffff", 256);
     Ok(())
 }

@@ -1,6 +1,6 @@
 //! Lines for packed lists of version 2: a search, and the way from version 1. The single texts were worked by hand.
 
-use super::list_lines::written;
+use super::running::{each_is_answered, line_is_answered, none_is_a_line, run_over_bytes};
 use bitpack::{ListKind, list, list2};
 use bitpacking::{BitPacker, BitPacker1x, BitPacker4x, BitPacker8x};
 use std::alloc::{AllocError, Global};
@@ -8,7 +8,7 @@ use std::process::Abort;
 use std::test::Fail;
 
 /// Lines with their answers: the position and the value, or none.
-fn seek_lines() -> [(&'static str, &'static str); 20] {
+fn seek_lines() -> [(&'static str, &'static str); 7] {
     [
         (
             "seek 1x 31 0202012100000000000000001f00000020000000",
@@ -32,43 +32,45 @@ fn seek_lines() -> [(&'static str, &'static str); 20] {
         ),
         ("seek 1x 0 02010100000000", "none"),
         ("seek 8s 5 020108020000000500000005000000", "0 5"),
-        // A plain list is refused for its kind, after the faults of its text.
+    ]
+}
+
+/// A plain list is refused for its kind, after the faults of its text.
+fn refused_seeks() -> [(&'static str, &'static str); 6] {
+    [
         ("seek 1x 0 02000100000000", "refused 23"),
         ("seek 1x 0 0200010000000000", "refused 31"),
         ("seek 1x 0 01000100000000", "refused 22"),
         ("seek 1x 0 -", "refused 21"),
         ("seek 4x 0 02010100000000", "refused 24"),
         ("seek 1x 5 020201020000000500000005000000", "refused 30"),
-        // No line of the language.
-        ("seek 1x 4294967296 02010100000000", "refused 1"),
-        ("seek 1x 00 02010100000000", "refused 1"),
-        ("seek 1x - 02010100000000", "refused 1"),
-        ("seek 1x 0", "refused 1"),
-        ("seek 1x 02010100000000 0", "refused 1"),
-        ("seek 1x 0 02010100000000 0", "refused 1"),
-        ("seek 0 02010100000000", "refused 1"),
+    ]
+}
+
+/// No line of the language.
+fn no_seeks() -> [&'static str; 7] {
+    [
+        "seek 1x 4294967296 02010100000000",
+        "seek 1x 00 02010100000000",
+        "seek 1x - 02010100000000",
+        "seek 1x 0",
+        "seek 1x 02010100000000 0",
+        "seek 1x 0 02010100000000 0",
+        "seek 0 02010100000000",
     ]
 }
 
 #[test]
-fn worked_seek_lines(rt: HostRuntime) -> Result<(), Fail> {
-    for (line, wanted) in seek_lines() {
-        let wanted = format!(in rt.alloc(); "{wanted}\n")?;
-        let answer = written(rt.alloc(), line, 4096)?;
-        assert_eq!(rt;
-            answer.as_slice(),
-            wanted.as_bytes(),
-            "the answer to {line}"
-        );
-    }
-    Ok(())
+fn worked_seek_lines(rt: HostRuntime) {
+    each_is_answered(&rt, rt.alloc(), &seek_lines(), b"", 4096);
+    each_is_answered(&rt, rt.alloc(), &refused_seeks(), b"", 4096);
+    none_is_a_line(&rt, rt.alloc(), &no_seeks(), b"", 4096);
 }
 
-/// The answer to a line with these bytes.
-fn answer(alloc: Global, verb: &str, name: &str, bytes: &[u8]) -> Result<Vec<u8>, Fail> {
+/// The line of a verb with these bytes.
+fn line_of(alloc: Global, verb: &str, name: &str, bytes: &[u8]) -> Result<String, Fail> {
     let digits = hex::encode(alloc, bytes)?;
-    let line = format!(in alloc; "{verb} {name} {digits}")?;
-    Ok(written(alloc, &line, 4096)?)
+    Ok(format!(in alloc; "{verb} {name} {digits}")?)
 }
 
 /// Values in order, of three blocks and a tail of five: steps of 1, and now and then one of 1,000.
@@ -80,8 +82,61 @@ fn rising<P: BitPacker>(alloc: Global) -> Result<Vec<u32>, AllocError> {
     Ok(values)
 }
 
-/// The line `upgrade` makes the text of version 2 of that of version 1, and `dec` reads both alike.
-fn is_upgraded<P: BitPacker>(
+/// The texts of a list in version 1 and in version 2.
+fn encode_both<P: BitPacker>(
+    rt: &impl Abort,
+    packer: &P,
+    kind: ListKind,
+    values: &[u32],
+    old: &mut Vec<u8>,
+    new: &mut Vec<u8>,
+) {
+    assert!(rt; list::encode(packer, kind, values, old) == Ok(()));
+    assert!(rt; list2::encode(packer, kind, values, new) == Ok(()));
+}
+
+/// The line `upgrade` makes the text of version 2 of that of version 1.
+fn is_upgraded(
+    rt: &impl Abort,
+    alloc: Global,
+    name: &str,
+    old: &[u8],
+    new: &[u8],
+) -> Result<(), Fail> {
+    let line = line_of(alloc, "upgrade", name, old)?;
+    let wanted = hex::encode(alloc, new)?;
+    line_is_answered(rt, alloc, line.as_str(), b"", 4096, wanted.as_str());
+    Ok(())
+}
+
+/// The two lines have one answer, which is no refusal.
+fn have_one_answer(rt: &impl Abort, alloc: Global, line: &str, other: &str) {
+    let mut read = Vec::new(alloc);
+    let outcome = run_over_bytes(alloc, line.as_bytes(), &mut read);
+    assert!(rt; outcome == Ok(()));
+    assert!(rt; !read.starts_with(b"refused"));
+    let mut other_read = Vec::new(alloc);
+    let outcome = run_over_bytes(alloc, other.as_bytes(), &mut other_read);
+    assert!(rt; outcome == Ok(()));
+    assert!(rt; read.as_slice() == other_read.as_slice());
+}
+
+/// The line `dec` reads both texts alike.
+fn are_read_alike(
+    rt: &impl Abort,
+    alloc: Global,
+    name: &str,
+    old: &[u8],
+    new: &[u8],
+) -> Result<(), Fail> {
+    let line = line_of(alloc, "dec", name, new)?;
+    let other = line_of(alloc, "dec", name, old)?;
+    have_one_answer(rt, alloc, line.as_str(), other.as_str());
+    Ok(())
+}
+
+/// A list of three blocks and a tail.
+fn a_list_is_upgraded<P: BitPacker>(
     rt: &impl Abort,
     alloc: Global,
     packer: &P,
@@ -90,17 +145,9 @@ fn is_upgraded<P: BitPacker>(
 ) -> Result<(), Fail> {
     let values = rising::<P>(alloc)?;
     let (mut old, mut new) = (Vec::new(alloc), Vec::new(alloc));
-    assert_eq!(rt; list::encode(packer, kind, &values, &mut old), Ok(()));
-    assert_eq!(rt; list2::encode(packer, kind, &values, &mut new), Ok(()));
-    let digits = hex::encode(alloc, &new)?;
-    let wanted = format!(in alloc; "{digits}\n")?;
-    let upgraded = answer(alloc, "upgrade", name, &old)?;
-    assert_eq!(rt; upgraded.as_slice(), wanted.as_bytes());
-    let read = answer(alloc, "dec", name, &new)?;
-    assert!(rt; !read.starts_with(b"refused"));
-    let read_before = answer(alloc, "dec", name, &old)?;
-    assert_eq!(rt; read_before.as_slice(), read.as_slice());
-    Ok(())
+    encode_both(rt, packer, kind, &values, &mut old, &mut new);
+    is_upgraded(rt, alloc, name, &old, &new)?;
+    are_read_alike(rt, alloc, name, &old, &new)
 }
 
 /// Each kind.
@@ -111,7 +158,7 @@ fn each_is_upgraded<P: BitPacker>(
     name: &str,
 ) -> Result<(), Fail> {
     for kind in [ListKind::Plain, ListKind::Sorted, ListKind::StrictlySorted] {
-        is_upgraded(rt, alloc, packer, name, kind)?;
+        a_list_is_upgraded(rt, alloc, packer, name, kind)?;
     }
     Ok(())
 }

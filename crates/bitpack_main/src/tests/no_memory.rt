@@ -2,7 +2,7 @@
 
 use super::blocks::{counted_calls, every_width};
 use super::chains::chains;
-use super::faults::{grow_stack, take_all};
+use super::short_of_memory::{grow_stack, take_all};
 use super::worked::every_packer;
 use bitpacking::{BitPacker, BitPacker1x, BitPacker4x, BitPacker8x, Counted};
 use std::process::Abort;
