@@ -47,5 +47,6 @@ fn begins_with(rt: &impl Abort, packer: &BitPacker4x, kind: Kind, block: &[u32],
     assert!(rt; size == 64);
     assert!(rt; bytes.starts_with(begin));
     assert!(rt; bytes[64..] == [0xaa; 6]);
-    unpacks_to(rt, packer, kind, &bytes[..64], num_bits, block);
+    let bytes = bytes.get(..64).unwrap_or(&[]);
+    unpacks_to(rt, packer, kind, bytes, num_bits, block);
 }
