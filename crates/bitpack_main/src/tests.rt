@@ -16,6 +16,7 @@ mod list2_lines;
 mod list_lines;
 mod no_memory;
 mod oracle;
+mod registers;
 mod running;
 mod short_of_memory;
 mod texts;

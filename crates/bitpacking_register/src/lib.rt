@@ -12,6 +12,3 @@ mod vectors;
 mod word;
 
 pub use register::Register;
-
-#[cfg(test)]
-mod tests;

@@ -1,6 +1,6 @@
-//! Each method once at each type, through the bound. The expected words and bytes were worked by hand.
+//! Registers: each method once at each type, through the bound. The expected words and bytes were worked by hand.
 
-use super::Register;
+use bitpacking_register::Register;
 use std::process::Abort;
 use std::simd::prelude::*;
 
