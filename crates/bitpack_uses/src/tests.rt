@@ -1,17 +1,21 @@
 //! Each use once, and packed lists. The expected bytes and values were worked by hand.
 
 mod by_law;
+mod calls;
+mod checks;
 mod packed_lists;
 
 use crate::id_set::{IdSet, IdSetError, packed_set_contains};
-use crate::index::Builder;
+use crate::index::{Builder, Index};
 use crate::stored_blocks::{StoredError, read_block, read_chain};
 use crate::{and_query, by_hand, counts, exact_calls, posting_list, reads, round_trips};
 use bitpack::list2::{PackedList, Reads};
 use bitpack::{ListError, ListKind};
 use bitpacking::{BitPacker, BitPacker1x, BitPacker4x, BitPacker8x, Kind};
+use calls::open;
+use checks::{holds, returns, same_bytes, same_number, same_values, same_words};
+use std::alloc::Global;
 use std::process::Abort;
-use std::test::Fail;
 
 /// Every third number from 0 on.
 fn thirds<const N: usize>() -> [u32; N] {
@@ -25,13 +29,14 @@ fn thirds<const N: usize>() -> [u32; N] {
 }
 
 #[test]
-fn a_posting_list(rt: HostRuntime) -> Result<(), Fail> {
-    let text = posting_list::pack(rt.alloc(), &[5, 7])?;
-    assert!(rt; text.as_slice() == [1, 2, 4, 2, 0, 0, 0, 5, 0, 0, 0, 7, 0, 0, 0].as_slice());
-    let documents = posting_list::unpack(rt.alloc(), &text)?;
-    assert!(rt; documents.as_slice() == [5, 7].as_slice());
-    assert!(rt; posting_list::unpack(rt.alloc(), &text[..14]).err() == Some(ListError::Short));
-    Ok(())
+fn a_posting_list(rt: HostRuntime) {
+    let text = posting_list::pack(rt.alloc(), &[5, 7]).expect(&rt, "a text");
+    same_bytes(&rt, &text, &[1, 2, 4, 2, 0, 0, 0, 5, 0, 0, 0, 7, 0, 0, 0]);
+    let documents = posting_list::unpack(rt.alloc(), &text).expect(&rt, "documents");
+    same_values(&rt, &documents, &[5, 7]);
+    let short = text.get(..14).unwrap_or(&[]);
+    let refused = posting_list::unpack(rt.alloc(), short).err();
+    holds(&rt, refused == Some(ListError::Short), "a missing byte");
 }
 
 #[test]
@@ -42,64 +47,95 @@ fn by_hand(rt: HostRuntime) {
     assert!(rt; by_hand::chain(&documents) == documents);
 }
 
+/// The search found this.
+fn found(rt: &impl Abort, found: Option<(usize, u32)>, expected: Option<(usize, u32)>) {
+    assert_eq!(rt; found, expected);
+}
+
+/// Sorted 5, and plain 5, in one lane.
+const SORTED: [u8; 11] = [2, 1, 1, 1, 0, 0, 0, 5, 0, 0, 0];
+
+const PLAIN: [u8; 11] = [2, 0, 1, 1, 0, 0, 0, 5, 0, 0, 0];
+
 #[test]
 fn exact_calls(rt: HostRuntime) {
     // 5 has 3 bits. A block of one lane has 4 bytes for each bit of its width.
-    assert_eq!(rt; exact_calls::width(), 3);
-    assert_eq!(rt; exact_calls::pack_at_0(), 0);
-    assert_eq!(rt; exact_calls::pack_at_1(), 4);
-    assert_eq!(rt; exact_calls::pack_at_32(), 128);
-    assert_eq!(rt; exact_calls::unpack(), 4);
-    assert_eq!(rt; exact_calls::pack_chain(), 8);
-    assert_eq!(rt; exact_calls::unpack_chain(), 12);
-    // Sorted 5, and plain 5.
-    let sorted = [2, 1, 1, 1, 0, 0, 0, 5, 0, 0, 0];
-    assert_eq!(rt; exact_calls::seek(&sorted, 5), Some((0, 5)));
-    assert_eq!(rt; exact_calls::seek(&sorted, 6), None);
-    let plain = [2, 0, 1, 1, 0, 0, 0, 5, 0, 0, 0];
-    assert_eq!(rt; exact_calls::seek(&plain, 5), None);
+    same_number(&rt, exact_calls::width() as usize, 3, "width");
+    same_number(&rt, exact_calls::pack_at_0(), 0, "width 0");
+    same_number(&rt, exact_calls::pack_at_1(), 4, "width 1");
+    same_number(&rt, exact_calls::pack_at_32(), 128, "width 32");
+    same_number(&rt, exact_calls::unpack(), 4, "a block");
+    same_number(&rt, exact_calls::pack_chain(), 8, "a chain packed");
+    same_number(&rt, exact_calls::unpack_chain(), 12, "a chain unpacked");
+    found(&rt, exact_calls::seek(&SORTED, 5), Some((0, 5)));
+    found(&rt, exact_calls::seek(&SORTED, 6), None);
+    found(&rt, exact_calls::seek(&PLAIN, 5), None);
 }
 
-/// Packs every third number: a block as values, and two blocks as differences lowered by one, of 2 bits each.
-fn round_trips_of<P: BitPacker>(rt: &impl Abort, packer: &P, block_width: u8, chain_bytes: usize) {
+/// Packs every third number, a block as values.
+fn round_trip_of_block<P: BitPacker>(rt: &impl Abort, packer: &P, width: usize) {
     let values: [u32; 512] = thirds();
     let mut bytes = [0; 2048];
     let mut unpacked = [0; 512];
     let block = &values[..P::BLOCK_LEN];
     let places = &mut unpacked[..P::BLOCK_LEN];
-    assert_eq!(rt;
-        round_trips::block(packer, block, &mut bytes, places),
-        block_width
-    );
-    assert!(rt; *places == *block);
+    let found = round_trips::block(packer, block, &mut bytes, places);
+    same_number(rt, found as usize, width, "width");
+    same_values(rt, places, block);
+}
+
+/// Packs every third number, two blocks as differences lowered by one, of 2 bits each.
+fn round_trip_of_chain<P: BitPacker>(rt: &impl Abort, packer: &P, chain_bytes: usize) {
+    let values: [u32; 512] = thirds();
+    let mut bytes = [0; 2048];
+    let mut unpacked = [0; 512];
     let start = Kind::StrictlySorted(None);
     let blocks = &values[..2 * P::BLOCK_LEN];
     let places = &mut unpacked[..2 * P::BLOCK_LEN];
     let size = round_trips::chain(packer, start, blocks, &mut [0; 2], &mut bytes, places);
-    assert_eq!(rt; size, chain_bytes);
-    assert!(rt; *places == *blocks);
+    same_number(rt, size, chain_bytes, "bytes");
+    same_values(rt, places, blocks);
+}
+
+fn round_trips_of<P: BitPacker>(rt: &impl Abort, packer: &P, width: usize, chain_bytes: usize) {
+    round_trip_of_block(rt, packer, width);
+    round_trip_of_chain(rt, packer, chain_bytes);
+}
+
+fn round_trip_of_list(rt: &impl Abort, alloc: Global) {
+    let values: [u32; 70] = thirds();
+    let unpacked = round_trips::list(alloc, &BitPacker1x::new(), ListKind::Sorted, &values);
+    same_values(rt, &unpacked.expect(rt, "values"), &values);
+}
+
+/// The value at a position.
+fn value_at(rt: &impl Abort, alloc: Global, position: usize, expected: Option<u32>) {
+    let values: [u32; 70] = thirds();
+    let kind = ListKind::StrictlySorted;
+    let value = round_trips::value(alloc, &BitPacker1x::new(), kind, &values, position);
+    assert_eq!(rt; value.expect(rt, "a value"), expected);
+}
+
+/// The first value that is at least the target.
+fn searched(rt: &impl Abort, alloc: Global, target: u32, expected: Option<(usize, u32)>) {
+    let values: [u32; 70] = thirds();
+    let first = round_trips::search(alloc, &BitPacker1x::new(), &values, target);
+    found(rt, first.expect(rt, "a search"), expected);
 }
 
 #[test]
-fn round_trips(rt: HostRuntime) -> Result<(), Fail> {
+fn round_trips(rt: HostRuntime) {
     // The greatest values of a block are 93, 381 and 765, of 7, 9 and 10 bits.
     round_trips_of(&rt, &BitPacker1x::new(), 7, 16);
     round_trips_of(&rt, &BitPacker4x::new(), 9, 64);
     round_trips_of(&rt, &BitPacker8x::scalar(), 10, 128);
-    let values: [u32; 70] = thirds();
-    let packer = BitPacker1x::new();
-    let unpacked = round_trips::list(rt.alloc(), &packer, ListKind::Sorted, &values)?;
-    assert!(rt; unpacked.as_slice() == values.as_slice());
-    for (position, found) in [(31, Some(93)), (69, Some(207)), (70, None)] {
-        let kind = ListKind::StrictlySorted;
-        let value = round_trips::value(rt.alloc(), &packer, kind, &values, position)?;
-        assert_eq!(rt; value, found);
-    }
-    for (target, found) in [(94, Some((32, 96))), (207, Some((69, 207))), (208, None)] {
-        let first = round_trips::search(rt.alloc(), &packer, &values, target)?;
-        assert_eq!(rt; first, found);
-    }
-    Ok(())
+    round_trip_of_list(&rt, rt.alloc());
+    value_at(&rt, rt.alloc(), 31, Some(93));
+    value_at(&rt, rt.alloc(), 69, Some(207));
+    value_at(&rt, rt.alloc(), 70, None);
+    searched(&rt, rt.alloc(), 94, Some((32, 96)));
+    searched(&rt, rt.alloc(), 207, Some((69, 207)));
+    searched(&rt, rt.alloc(), 208, None);
 }
 
 #[test]
@@ -110,127 +146,214 @@ fn counted_calls(rt: HostRuntime) {
     let mut bytes = [9; 513];
     counts::pack(&packer, Kind::Plain, &ones, &mut bytes, width);
     // One bit per value, each of them set.
-    assert!(rt; bytes[..16] == [0xff; 16]);
-    assert!(rt; bytes[16..] == [9; 497]);
+    same_bytes(&rt, &bytes[..16], &[0xff; 16]);
+    same_bytes(&rt, &bytes[16..], &[9; 497]);
     let mut values = [9; 128];
     counts::unpack(&packer, Kind::Plain, &bytes, &mut values, width);
-    assert!(rt; values == ones);
+    same_values(&rt, &values, &ones);
     counts::measure(&packer, Kind::Plain, &ones);
 }
 
-#[test]
-fn stored_blocks(rt: HostRuntime) -> Result<(), Fail> {
-    let packer = BitPacker1x::new();
+/// The blocks are read, or refused.
+fn reads(rt: &impl Abort, found: Result<usize, StoredError>, expected: Result<usize, StoredError>) {
+    assert_eq!(rt; found, expected);
+}
+
+fn reads_block(rt: &impl Abort) {
     let mut values = [9; 65];
-    assert!(rt; read_block(&packer, Kind::Plain, 1, &[0xff; 4], &mut values) == Ok(4));
-    assert!(rt; values[..32] == [1; 32]);
-    assert!(rt; values[32..] == [9; 33]);
-    let start = Kind::Sorted(2);
-    assert!(rt; read_chain(&packer, start, &[1, 0], &[0xff; 4], &mut values) == Ok(4));
-    assert!(rt; values[..4] == [3, 4, 5, 6]);
-    assert!(rt; values[31..64] == [34; 33]);
-    assert!(rt; values[64] == 9);
-    for (widths, bytes, error, text) in [
-        (
-            [33, 0],
-            400,
-            StoredError::WideWidth(33),
-            "width 33 is above 32",
-        ),
-        ([1, 1], 7, StoredError::MissingBytes, "bytes are missing"),
-    ] {
-        let read = read_chain(&packer, start, &widths, &[0; 400][..bytes], &mut values);
-        assert!(rt; read == Err(error));
-        assert_eq!(rt; format!(in rt.alloc(); "{error}")?.as_str(), text);
-    }
-    Ok(())
+    let read = read_block(&BitPacker1x::new(), Kind::Plain, 1, &[0xff; 4], &mut values);
+    reads(rt, read, Ok(4));
+    same_values(rt, &values[..32], &[1; 32]);
+    same_values(rt, &values[32..], &[9; 33]);
+}
+
+/// Reads a chain, and has no contract.
+fn chain_read(widths: &[u8], bytes: &[u8], values: &mut [u32]) -> Result<usize, StoredError> {
+    read_chain(&BitPacker1x::new(), Kind::Sorted(2), widths, bytes, values)
+}
+
+fn reads_chain(rt: &impl Abort) {
+    let mut values = [9; 65];
+    let read = chain_read(&[1, 0], &[0xff; 4], &mut values);
+    reads(rt, read, Ok(4));
+    same_values(rt, &values[..4], &[3, 4, 5, 6]);
+    same_values(rt, &values[31..64], &[34; 33]);
+    same_values(rt, &values[64..], &[9]);
+}
+
+/// The chain is refused, and the error says this.
+fn chain_is_refused(
+    rt: &impl Abort,
+    alloc: Global,
+    (widths, bytes): (&[u8], &[u8]),
+    error: StoredError,
+    text: &str,
+) {
+    reads(rt, chain_read(widths, bytes, &mut [9; 65]), Err(error));
+    let said = format!(in alloc; "{error}").expect(rt, "memory");
+    same_words(rt, said.as_str(), text);
 }
 
 #[test]
-fn an_id_set(rt: HostRuntime) -> Result<(), Fail> {
-    let alloc = rt.alloc();
+fn stored_blocks(rt: HostRuntime) {
+    reads_block(&rt);
+    reads_chain(&rt);
+    let wide: (&[u8], &[u8]) = (&[33, 0], &[0; 400]);
+    let error = StoredError::WideWidth(33);
+    chain_is_refused(&rt, rt.alloc(), wide, error, "width 33 is above 32");
+    let short: (&[u8], &[u8]) = (&[1, 1], &[0; 7]);
+    let error = StoredError::MissingBytes;
+    chain_is_refused(&rt, rt.alloc(), short, error, "bytes are missing");
+}
+
+/// A set of ids, its text, and whether an id is in a set.
+fn set_of_ids(rt: &impl Abort, alloc: Global) {
     let packer = BitPacker4x::new();
-    let set = IdSet::new(alloc, &[7, 5, 9, 5])?;
-    assert!(rt; set.as_slice() == [5, 7, 9].as_slice());
-    let text = set.encode(alloc, &packer)?;
-    assert!(rt; IdSet::decode(alloc, &packer, &text)?.contains(7));
-    assert!(rt; packed_set_contains(alloc, &packer, &[8, 6, 8], 8)?);
-    assert!(rt; !packed_set_contains(alloc, &packer, &[8, 6, 8], 7)?);
-    // The kinds 2 and 0, in no order and in order: 7, 5 and 5, 7.
-    for (text, error, said) in [
-        (
-            [1, 2, 4, 2, 0, 0, 0, 7, 0, 0, 0, 5, 0, 0, 0],
-            IdSetError::NotASet,
-            "the list is not a set",
-        ),
-        (
-            [1, 0, 4, 2, 0, 0, 0, 5, 0, 0, 0, 7, 0, 0, 0],
-            IdSetError::NotASet,
-            "the list is not a set",
-        ),
-        (
-            [2, 2, 4, 2, 0, 0, 0, 5, 0, 0, 0, 7, 0, 0, 0],
-            IdSetError::Refused(ListError::BadVersion(2)),
-            "version 2 is not read here",
-        ),
-    ] {
-        assert!(rt; IdSet::decode(alloc, &packer, &text).err() == Some(error));
-        assert_eq!(rt; format!(in alloc; "{error}")?.as_str(), said);
-    }
-    Ok(())
+    let set = IdSet::new(alloc, &[7, 5, 9, 5]).expect(rt, "a set");
+    same_values(rt, set.as_slice(), &[5, 7, 9]);
+    let text = set.encode(alloc, &packer).expect(rt, "a text");
+    let decoded = IdSet::decode(alloc, &packer, &text).expect(rt, "a set");
+    holds(rt, decoded.contains(7), "7 is in the set");
+}
+
+/// Whether the packed set of these ids contains this one.
+fn set_contains(rt: &impl Abort, alloc: Global, ids: &[u32], id: u32, expected: bool) {
+    let found = packed_set_contains(alloc, &BitPacker4x::new(), ids, id);
+    holds(rt, found.expect(rt, "a set") == expected, "an id");
+}
+
+/// The text is not read as a set, and the error says this.
+fn set_is_refused(rt: &impl Abort, alloc: Global, text: &[u8], error: IdSetError, said: &str) {
+    let refused = IdSet::decode(alloc, &BitPacker4x::new(), text).err();
+    holds(rt, refused == Some(error), said);
+    let words = format!(in alloc; "{error}").expect(rt, "memory");
+    same_words(rt, words.as_str(), said);
 }
 
 #[test]
-fn an_index(rt: HostRuntime) -> Result<(), Fail> {
+fn an_id_set(rt: HostRuntime) {
     let alloc = rt.alloc();
+    set_of_ids(&rt, alloc);
+    set_contains(&rt, alloc, &[8, 6, 8], 8, true);
+    set_contains(&rt, alloc, &[8, 6, 8], 7, false);
+    // The kinds 2 and 0, in no order and in order: 7, 5 and 5, 7.
+    let unsorted = [1, 2, 4, 2, 0, 0, 0, 7, 0, 0, 0, 5, 0, 0, 0];
+    let plain = [1, 0, 4, 2, 0, 0, 0, 5, 0, 0, 0, 7, 0, 0, 0];
+    let said = "the list is not a set";
+    set_is_refused(&rt, alloc, &unsorted, IdSetError::NotASet, said);
+    set_is_refused(&rt, alloc, &plain, IdSetError::NotASet, said);
+    let version = [2, 2, 4, 2, 0, 0, 0, 5, 0, 0, 0, 7, 0, 0, 0];
+    let error = IdSetError::Refused(ListError::BadVersion(2));
+    let said = "version 2 is not read here";
+    set_is_refused(&rt, alloc, &version, error, said);
+}
+
+fn indexed(rt: &impl Abort, alloc: Global) -> Index<BitPacker8x> {
     let mut builder = Builder::new(alloc);
     for text in ["to be or not to be", "not now", "to the point", "not to me"] {
-        builder.add(alloc, text)?;
+        holds(rt, builder.add(alloc, text).is_ok(), "memory");
     }
-    let index = builder.pack(alloc, BitPacker8x::new())?;
-    assert!(rt; index.both(alloc, "not", "to")?.as_slice() == [0, 3].as_slice());
-    assert!(rt; index.both(alloc, "be", "be")?.as_slice() == [0].as_slice());
-    assert!(rt; index.both(alloc, "not", "never")?.as_slice().is_empty());
-    Ok(())
+    builder
+        .pack(alloc, BitPacker8x::new())
+        .expect(rt, "an index")
+}
+
+/// Both words are in these documents.
+fn both_are_in(
+    rt: &impl Abort,
+    alloc: Global,
+    index: &Index<BitPacker8x>,
+    (first, second): (&str, &str),
+    documents: &[u32],
+) {
+    let both = index.both(alloc, first, second).expect(rt, "documents");
+    same_values(rt, both.as_slice(), documents);
 }
 
 #[test]
-fn intersections(rt: HostRuntime) -> Result<(), Fail> {
+fn an_index(rt: HostRuntime) {
     let alloc = rt.alloc();
-    // Sorted 5 and plain 5 in one lane; sorted 5 in four.
-    let sorted = [2, 1, 1, 1, 0, 0, 0, 5, 0, 0, 0];
-    let plain = [2, 0, 1, 1, 0, 0, 0, 5, 0, 0, 0];
-    let long = [2, 1, 4, 1, 0, 0, 0, 5, 0, 0, 0];
-    let mut out = Vec::new(alloc);
-    assert!(rt; exact_calls::intersect(&sorted, &sorted, &mut out) == Some(()));
-    assert!(rt; exact_calls::intersect(&sorted, &plain, &mut out).is_none());
-    assert!(rt; exact_calls::intersect(&plain, &sorted, &mut out).is_none());
-    assert!(rt; out.as_slice() == [5].as_slice());
-    let short = PackedList::open(BitPacker1x::new(), &sorted)?;
-    let long = PackedList::open(BitPacker4x::new(), &long)?;
+    let index = indexed(&rt, alloc);
+    both_are_in(&rt, alloc, &index, ("not", "to"), &[0, 3]);
+    both_are_in(&rt, alloc, &index, ("be", "be"), &[0]);
+    both_are_in(&rt, alloc, &index, ("not", "never"), &[]);
+}
+
+/// The short list is given first.
+fn short_first(
+    rt: &impl Abort,
+    short: &PackedList<'_, BitPacker1x>,
+    long: &PackedList<'_, BitPacker4x>,
+    out: &mut Vec<u32>,
+) {
     if short.kind() == ListKind::Plain || long.kind() == ListKind::Plain {
-        assert!(rt; false);
-        return Ok(());
+        assert!(rt; false, "the lists are in order");
+        return;
     }
     let (mut one, mut other) = (Reads::new(), Reads::new());
-    assert!(rt; reads::short_first(&short, &long, &mut out, &mut one, &mut other) == Ok(()));
-    assert!(rt; reads::long_first(&short, &long, &mut out, &mut one, &mut other) == Ok(()));
-    assert!(rt; out.as_slice() == [5, 5, 5].as_slice());
-    Ok(())
+    let outcome = reads::short_first(short, long, out, &mut one, &mut other);
+    returns(rt, outcome, Ok(()), &[]);
+}
+
+/// The long list is given first.
+fn long_first(
+    rt: &impl Abort,
+    short: &PackedList<'_, BitPacker1x>,
+    long: &PackedList<'_, BitPacker4x>,
+    out: &mut Vec<u32>,
+) {
+    if short.kind() == ListKind::Plain || long.kind() == ListKind::Plain {
+        assert!(rt; false, "the lists are in order");
+        return;
+    }
+    let (mut one, mut other) = (Reads::new(), Reads::new());
+    let outcome = reads::long_first(short, long, out, &mut one, &mut other);
+    returns(rt, outcome, Ok(()), &[]);
+}
+
+/// Sorted 5 in one lane and in four.
+fn two_lengths(rt: &impl Abort, out: &mut Vec<u32>) {
+    let long = [2, 1, 4, 1, 0, 0, 0, 5, 0, 0, 0];
+    let short = open(&BitPacker1x::new(), &SORTED).expect(rt, "a list");
+    let long = open(&BitPacker4x::new(), &long).expect(rt, "a list");
+    short_first(rt, &short, &long, out);
+    long_first(rt, &short, &long, out);
 }
 
 #[test]
-fn a_query(rt: HostRuntime) -> Result<(), Fail> {
+fn intersections(rt: HostRuntime) {
+    let mut out = Vec::new(rt.alloc());
+    let both = exact_calls::intersect(&SORTED, &SORTED, &mut out);
+    holds(&rt, both == Some(()), "two sorted lists");
+    let plain = exact_calls::intersect(&SORTED, &PLAIN, &mut out);
+    holds(&rt, plain.is_none(), "the second is plain");
+    let plain = exact_calls::intersect(&PLAIN, &SORTED, &mut out);
+    holds(&rt, plain.is_none(), "the first is plain");
+    same_values(&rt, &out, &[5]);
+    two_lengths(&rt, &mut out);
+    same_values(&rt, &out, &[5, 5, 5]);
+}
+
+/// The documents that are in all three texts.
+fn in_all_three(
+    rt: &impl Abort,
+    alloc: Global,
+    (first, second, third): (&[u8], &[u8], &[u8]),
+    expected: &[u32],
+) {
+    let documents = and_query::in_all_three(alloc, first, second, third);
+    same_values(rt, &documents.expect(rt, "documents"), expected);
+}
+
+#[test]
+fn a_query(rt: HostRuntime) {
     // Four lanes: strictly sorted 1, 5, 9; sorted 5, 5, 9; strictly sorted 9; plain 9.
     let first = [2, 2, 4, 3, 0, 0, 0, 1, 0, 0, 0, 5, 0, 0, 0, 9, 0, 0, 0];
     let second = [2, 1, 4, 3, 0, 0, 0, 5, 0, 0, 0, 5, 0, 0, 0, 9, 0, 0, 0];
     let third = [2, 2, 4, 1, 0, 0, 0, 9, 0, 0, 0];
     let plain = [2, 0, 4, 1, 0, 0, 0, 9, 0, 0, 0];
-    let documents = and_query::in_all_three(rt.alloc(), &first, &second, &third)?;
-    assert!(rt; documents.as_slice() == [9].as_slice());
-    let documents = and_query::in_all_three(rt.alloc(), &first, &second, &second)?;
-    assert!(rt; documents.as_slice() == [5, 9].as_slice());
-    let refused = and_query::in_all_three(rt.alloc(), &first, &plain, &third);
-    assert!(rt; refused.err() == Some(ListError::BadKind(0)));
-    Ok(())
+    in_all_three(&rt, rt.alloc(), (&first, &second, &third), &[9]);
+    in_all_three(&rt, rt.alloc(), (&first, &second, &second), &[5, 9]);
+    let refused = and_query::in_all_three(rt.alloc(), &first, &plain, &third).err();
+    holds(&rt, refused == Some(ListError::BadKind(0)), "a plain list");
 }

@@ -1,59 +1,88 @@
 //! The uses of laws, once each. The expected widths and bytes were worked by hand from the layout of the bits.
 
+use super::checks::{holds, push_bytes, same_bytes, same_number, same_values};
 use crate::{answered, by_law, by_list_law, untrusted};
 use bitpack::ListKind;
 use bitpacking::{BitPacker, BitPacker1x, BitPacker4x};
-use std::test::Fail;
+use std::alloc::Global;
+use std::process::Abort;
+
+fn at_one_width(rt: &impl Abort) {
+    let (mut bytes, mut others) = ([9; 128], [9; 128]);
+    let packer = BitPacker1x::new();
+    let width = by_law::at_one_width(&packer, &[1; 32], &[2; 32], &mut bytes, &mut others);
+    same_number(rt, width as usize, 2, "width");
+    same_bytes(rt, &bytes[..8], &[0x55; 8]);
+    same_bytes(rt, &others[..8], &[0xaa; 8]);
+}
+
+fn codes_in(rt: &impl Abort) {
+    let mut values = [9; 32];
+    by_law::codes_in(&BitPacker1x::new(), &[0x55; 8], 2, &mut values);
+    same_values(rt, &values, &[1; 32]);
+}
+
+fn packed_again(rt: &impl Abort) {
+    let (mut values, mut again) = ([9; 32], [9; 8]);
+    by_law::packed_again(&BitPacker1x::new(), &[0xaa; 8], 2, &mut values, &mut again);
+    same_bytes(rt, &again, &[0xaa; 8]);
+}
 
 #[test]
 fn blocks(rt: HostRuntime) {
-    let packer = BitPacker1x::new();
-    let (mut bytes, mut others) = ([9; 128], [9; 128]);
-    let ones = [1; 32];
-    let twos = [2; 32];
-    assert_eq!(rt;
-        by_law::at_one_width(&packer, &ones, &twos, &mut bytes, &mut others),
-        2
-    );
-    assert!(rt; bytes[..8] == [0x55; 8]);
-    assert!(rt; others[..8] == [0xaa; 8]);
-    let mut values = [9; 32];
-    by_law::codes_in(&packer, &[0x55; 8], 2, &mut values);
-    assert!(rt; values == ones);
-    let mut again = [9; 8];
-    by_law::packed_again(&packer, &[0xaa; 8], 2, &mut values, &mut again);
-    assert!(rt; again == [0xaa; 8]);
+    at_one_width(&rt);
+    codes_in(&rt);
+    packed_again(&rt);
     // `None` is before 0, and every further code is 2 ^ 32 - 1.
-    assert_eq!(rt; by_law::first_width(&packer, &[0; 32]), 32);
+    let width = by_law::first_width(&BitPacker1x::new(), &[0; 32]);
+    same_number(&rt, width as usize, 32, "width");
 }
 
-#[test]
-fn two_packers(rt: HostRuntime) -> Result<(), Fail> {
+fn values_by_two(rt: &impl Abort) {
     let (packer, other) = (BitPacker4x::new(), BitPacker4x::scalar());
     let (mut values, mut others) = ([9; 128], [9; 128]);
     by_law::unpacked_by_two(&packer, &other, &[0xff; 16], 1, &mut values, &mut others);
-    assert!(rt; values == others);
-    assert!(rt; values == [1; 128]);
-    assert!(rt; by_law::width_by_two(&packer, &other, &values) == (1, 1));
-    let (text, same) = by_list_law::text_by_two(
-        rt.alloc(),
-        &packer,
-        &other,
-        ListKind::Plain,
-        &[5],
-    )?;
-    assert!(rt; text.as_slice() == [1, 0, 4, 1, 0, 0, 0, 5, 0, 0, 0].as_slice());
-    assert!(rt; text.as_slice() == same.as_slice());
-    Ok(())
+    same_values(rt, &values, &others);
+    same_values(rt, &values, &[1; 128]);
+}
+
+fn width_by_two(rt: &impl Abort) {
+    let (packer, other) = (BitPacker4x::new(), BitPacker4x::scalar());
+    let widths = by_law::width_by_two(&packer, &other, &[1; 128]);
+    holds(rt, widths == (1, 1), "width 1");
+}
+
+fn text_by_two(rt: &impl Abort, alloc: Global) {
+    let (packer, other) = (BitPacker4x::new(), BitPacker4x::scalar());
+    let texts = by_list_law::text_by_two(alloc, &packer, &other, ListKind::Plain, &[5]);
+    let (text, same) = texts.expect(rt, "two texts");
+    same_bytes(rt, &text, &[1, 0, 4, 1, 0, 0, 0, 5, 0, 0, 0]);
+    same_bytes(rt, &text, &same);
 }
 
 #[test]
-fn texts_and_lines(rt: HostRuntime) -> Result<(), Fail> {
-    let packer = BitPacker1x::new();
-    assert!(rt; untrusted::is_text(rt.alloc(), &packer, &[1, 0, 1, 0, 0, 0, 0])?);
-    assert!(rt; !untrusted::is_text(rt.alloc(), &packer, &[1, 0, 1, 0, 0, 0])?);
-    let mut answers = Vec::from_slice(rt.alloc(), b"# ")?;
-    assert!(rt; answered::answer_lines(rt.alloc(), b"size 1x 3\n?", &mut answers).is_ok());
-    assert!(rt; answers.as_slice() == b"# 12\nrefused 1\n".as_slice());
-    Ok(())
+fn two_packers(rt: HostRuntime) {
+    values_by_two(&rt);
+    width_by_two(&rt);
+    text_by_two(&rt, rt.alloc());
+}
+
+fn is_text(rt: &impl Abort, alloc: Global, bytes: &[u8], expected: bool) {
+    let found = untrusted::is_text(alloc, &BitPacker1x::new(), bytes);
+    holds(rt, found.expect(rt, "memory") == expected, "a text");
+}
+
+fn answers(rt: &impl Abort, alloc: Global) {
+    let mut answers = Vec::new(alloc);
+    push_bytes(rt, &mut answers, b"# ");
+    let outcome = answered::answer_lines(alloc, b"size 1x 3\n?", &mut answers);
+    holds(rt, outcome.is_ok(), "the lines are answered");
+    same_bytes(rt, &answers, b"# 12\nrefused 1\n");
+}
+
+#[test]
+fn texts_and_lines(rt: HostRuntime) {
+    is_text(&rt, rt.alloc(), &[1, 0, 1, 0, 0, 0, 0], true);
+    is_text(&rt, rt.alloc(), &[1, 0, 1, 0, 0, 0], false);
+    answers(&rt, rt.alloc());
 }

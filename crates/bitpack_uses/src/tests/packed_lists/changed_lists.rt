@@ -3,89 +3,100 @@
 //!
 //! The texts were worked by hand from the format.
 
+use super::lists::{decodes, is_written};
 use super::walk::first_fault;
-use bitpack::list::{decode, encode};
+use crate::tests::calls::decode1;
+use crate::tests::checks::{holds, kept_values, one_value, push_bytes, returns};
+use bitpack::ListError;
 use bitpacking::{BitPacker, BitPacker1x, BitPacker4x, BitPacker8x};
-use std::alloc::{AllocError, Global};
+use std::alloc::Global;
 use std::process::Abort;
-use std::test::Fail;
 
-fn opens_or_is_refused<P: BitPacker>(
+/// The walk over the text finds this fault first, or none.
+fn has_fault<P: BitPacker>(rt: &impl Abort, text: &[u8], fault: Option<ListError>) {
+    assert_eq!(rt; first_fault::<P>(text), fault, "{text:?}");
+}
+
+/// The text opens, and is that of the values that come out; or it is refused with its first fault, and the vector is as it was.
+fn opens_or_is_refused<P: BitPacker>(rt: &impl Abort, alloc: Global, packer: &P, text: &[u8]) {
+    let mut values = one_value(rt, alloc, 7);
+    let room = values.capacity();
+    match decode1(packer, text, &mut values) {
+        Ok(kind) => {
+            has_fault::<P>(rt, text, None);
+            holds(rt, values.first() == Some(&7), "the first value stays");
+            let values = values.get(1..).unwrap_or(&[]);
+            is_written(rt, alloc, packer, kind, values, text);
+        }
+        Err(error) => {
+            has_fault::<P>(rt, text, Some(error));
+            kept_values(rt, &values, 7, room);
+        }
+    }
+}
+
+/// Each bit of a byte of the text is changed in turn.
+fn bits_of_byte<P: BitPacker>(
     rt: &impl Abort,
     alloc: Global,
     packer: &P,
-    text: &[u8],
-) -> Result<(), Fail> {
-    let mut values = vec![in alloc; 7u32]?;
-    let room = values.capacity();
-    match decode(packer, text, &mut values) {
-        Ok(kind) => {
-            assert_eq!(rt; first_fault::<P>(text), None, "{text:?}");
-            assert!(rt; values.first() == Some(&7));
-            let mut again = vec![in alloc; 9u8]?;
-            let values = values.get(1..).unwrap_or(&[]);
-            assert_eq!(rt; encode(packer, kind, values, &mut again), Ok(()));
-            assert!(rt; again.get(1..) == Some(text), "{text:?}");
-        }
-        Err(error) => {
-            assert_eq!(rt; first_fault::<P>(text), Some(error), "{text:?}");
-            assert!(rt; values.as_slice() == [7].as_slice());
-            assert_eq!(rt; values.capacity(), room);
-        }
+    text: &mut Vec<u8>,
+    index: usize,
+) {
+    for bit in 0..8u32 {
+        change(text, index, 1 << bit);
+        opens_or_is_refused(rt, alloc, packer, text);
+        change(text, index, 1 << bit);
     }
-    Ok(())
+}
+
+/// Changes these bits of a byte.
+fn change(text: &mut Vec<u8>, index: usize, bits: u8) {
+    if let Some(byte) = text.get_mut(index) {
+        *byte ^= bits;
+    }
 }
 
 /// The text opens. Each of its bits is changed in turn, and each proper beginning is Short to the walk too.
-fn every_bit<P: BitPacker>(
-    rt: &impl Abort,
-    alloc: Global,
-    packer: &P,
-    text: &[u8],
-) -> Result<(), Fail> {
-    assert_eq!(rt; first_fault::<P>(text), None, "{text:?}");
-    opens_or_is_refused(rt, alloc, packer, text)?;
+fn every_bit<P: BitPacker>(rt: &impl Abort, alloc: Global, packer: &P, text: &[u8]) {
+    has_fault::<P>(rt, text, None);
+    opens_or_is_refused(rt, alloc, packer, text);
+    let mut changed = Vec::new(alloc);
+    push_bytes(rt, &mut changed, text);
     for index in 0..text.len() {
-        opens_or_is_refused(rt, alloc, packer, &text[..index])?;
-        for bit in 0..8u32 {
-            let mut changed = Vec::from_slice(alloc, text)?;
-            if let Some(byte) = changed.get_mut(index) {
-                *byte ^= 1 << bit;
-            }
-            opens_or_is_refused(rt, alloc, packer, &changed)?;
-        }
+        opens_or_is_refused(rt, alloc, packer, &text[..index]);
+        bits_of_byte(rt, alloc, packer, &mut changed, index);
     }
-    Ok(())
+}
+
+/// Appends a byte so many times.
+fn push_byte(rt: &impl Abort, text: &mut Vec<u8>, byte: u8, count: usize) {
+    for _ in 0..count {
+        push_bytes(rt, text, &[byte]);
+    }
 }
 
 /// Two blocks and a tail of two values. The codes of the first block are ones. Those of the second are zeros but for the last
 /// one, which is 4: its bit is the last of the body, and with it changed the width 3 is loose.
-fn two_blocks<P: BitPacker>(alloc: Global, header: [u8; 7]) -> Result<Vec<u8>, AllocError> {
-    let mut text = Vec::from_slice(alloc, &header)?;
-    text.push(1)?;
-    for _ in 0..P::BLOCK_LEN / 8 {
-        text.push(0xff)?;
-    }
-    text.push(3)?;
-    for _ in 0..P::BLOCK_LEN / 8 * 3 - 1 {
-        text.push(0)?;
-    }
-    text.extend_from_slice(&[0x80, 0, 0, 1, 0, 0xff, 0xff, 0xff, 0xff])?;
-    Ok(text)
+fn two_blocks<P: BitPacker>(rt: &impl Abort, alloc: Global, header: [u8; 7]) -> Vec<u8> {
+    let mut text = Vec::new(alloc);
+    push_bytes(rt, &mut text, &header);
+    push_bytes(rt, &mut text, &[1]);
+    push_byte(rt, &mut text, 0xff, P::BLOCK_LEN / 8);
+    push_bytes(rt, &mut text, &[3]);
+    push_byte(rt, &mut text, 0, P::BLOCK_LEN / 8 * 3 - 1);
+    let tail = [0x80, 0, 0, 1, 0, 0xff, 0xff, 0xff, 0xff];
+    push_bytes(rt, &mut text, &tail);
+    text
 }
 
-fn bits_of_two_blocks<P: BitPacker>(
-    rt: &impl Abort,
-    alloc: Global,
-    packer: &P,
-    header: [u8; 7],
-) -> Result<(), Fail> {
-    let text = two_blocks::<P>(alloc, header)?;
-    every_bit(rt, alloc, packer, &text)
+fn bits_of_two_blocks<P: BitPacker>(rt: &impl Abort, alloc: Global, packer: &P, header: [u8; 7]) {
+    let text = two_blocks::<P>(rt, alloc, header);
+    every_bit(rt, alloc, packer, &text);
 }
 
 #[test]
-fn bits_of_short_texts(rt: HostRuntime) -> Result<(), Fail> {
+fn bits_of_short_texts(rt: HostRuntime) {
     let texts: [&[u8]; 4] = [
         &[1, 0, 1, 0, 0, 0, 0],
         &[1, 0, 1, 1, 0, 0, 0, 5, 0, 0, 0],
@@ -96,27 +107,26 @@ fn bits_of_short_texts(rt: HostRuntime) -> Result<(), Fail> {
         ],
     ];
     for text in texts {
-        every_bit(&rt, rt.alloc(), &BitPacker1x::new(), text)?;
+        every_bit(&rt, rt.alloc(), &BitPacker1x::new(), text);
     }
-    Ok(())
 }
 
 #[test]
-fn bits_of_one_lane(rt: HostRuntime) -> Result<(), Fail> {
+fn bits_of_one_lane(rt: HostRuntime) {
     let header = [1, 1, 1, 66, 0, 0, 0];
-    bits_of_two_blocks(&rt, rt.alloc(), &BitPacker1x::new(), header)
+    bits_of_two_blocks(&rt, rt.alloc(), &BitPacker1x::new(), header);
 }
 
 #[test]
-fn bits_of_four_lanes(rt: HostRuntime) -> Result<(), Fail> {
+fn bits_of_four_lanes(rt: HostRuntime) {
     let header = [1, 2, 4, 2, 1, 0, 0];
-    bits_of_two_blocks(&rt, rt.alloc(), &BitPacker4x::new(), header)?;
-    bits_of_two_blocks(&rt, rt.alloc(), &BitPacker4x::scalar(), header)
+    bits_of_two_blocks(&rt, rt.alloc(), &BitPacker4x::new(), header);
+    bits_of_two_blocks(&rt, rt.alloc(), &BitPacker4x::scalar(), header);
 }
 
 #[test]
-fn bits_of_eight_lanes(rt: HostRuntime) -> Result<(), Fail> {
+fn bits_of_eight_lanes(rt: HostRuntime) {
     let header = [1, 0, 8, 2, 2, 0, 0];
-    bits_of_two_blocks(&rt, rt.alloc(), &BitPacker8x::new(), header)?;
-    bits_of_two_blocks(&rt, rt.alloc(), &BitPacker8x::scalar(), header)
+    bits_of_two_blocks(&rt, rt.alloc(), &BitPacker8x::new(), header);
+    bits_of_two_blocks(&rt, rt.alloc(), &BitPacker8x::scalar(), header);
 }

@@ -1,19 +1,46 @@
 //! Packed lists of version 2. The expected bytes, values and refusals were worked by hand from the format: the header, the entries
 //! with least width, offset and last value, the layout of each block's bits, the tail. None is the program's own output.
 
-use bitpack::list2::{PackedList, encode};
+use super::lists::{before_first, push_block, push_words};
+use crate::tests::calls::{encode2, open, value_at};
+use crate::tests::checks::{
+    appended_bytes, holds, nine, push, push_bytes, push_steps, returns, same_number, steps,
+    succeeds, with_zero,
+};
+use bitpack::list2::PackedList;
 use bitpack::{ListError, ListKind};
 use bitpacking::{BitPacker, BitPacker1x, BitPacker4x, BitPacker8x};
-use std::alloc::{AllocError, Global};
+use std::alloc::Global;
 use std::process::Abort;
-use std::test::Fail;
+
+/// What opening the text gives, without the list.
+pub(super) fn opened<P: BitPacker>(packer: &P, text: &[u8]) -> Result<(), ListError> {
+    match open(packer, text) {
+        Ok(_) => Ok(()),
+        Err(error) => Err(error),
+    }
+}
 
 /// The text is refused.
 pub(super) fn is_refused<P: BitPacker>(rt: &impl Abort, packer: &P, text: &[u8], error: ListError) {
-    match PackedList::open(*packer, text) {
-        Ok(_) => assert!(rt; false, "{text:?} was opened"),
-        Err(found) => assert_eq!(rt; found, error, "{text:?}"),
+    returns(rt, opened(packer, text), Err(error), text);
+}
+
+/// Each text is refused.
+pub(super) fn are_refused<P: BitPacker>(rt: &impl Abort, packer: &P, cases: &[(&[u8], ListError)]) {
+    for (text, error) in cases {
+        is_refused(rt, packer, text, *error);
     }
+}
+
+/// The list has this value at this position, or none.
+fn has_value<P: BitPacker>(
+    rt: &impl Abort,
+    list: &PackedList<'_, P>,
+    position: usize,
+    value: Option<u32>,
+) {
+    assert_eq!(rt; value_at(list, position), value, "at {position}");
 }
 
 /// The list has this kind and these values.
@@ -23,13 +50,13 @@ fn has_values<P: BitPacker>(
     kind: ListKind,
     values: &[u32],
 ) {
-    assert_eq!(rt; list.kind(), kind);
-    assert_eq!(rt; list.len(), values.len());
+    holds(rt, list.kind() == kind, "the kind");
+    same_number(rt, list.len(), values.len(), "values");
     for position in 0..values.len() {
-        assert_eq!(rt; list.get(position), Some(values[position]), "at {position}");
+        has_value(rt, list, position, Some(values[position]));
     }
-    assert_eq!(rt; list.get(values.len()), None);
-    assert_eq!(rt; list.get(usize::MAX), None);
+    has_value(rt, list, values.len(), None);
+    has_value(rt, list, usize::MAX, None);
 }
 
 /// The text is opened, and has this kind and these values, and so has a clone.
@@ -39,15 +66,29 @@ pub(super) fn is_list<P: BitPacker>(
     kind: ListKind,
     values: &[u32],
     text: &[u8],
-) -> Result<(), Fail> {
-    match PackedList::open(*packer, text) {
+) {
+    match open(packer, text) {
         Ok(list) => {
             has_values(rt, &list, kind, values);
-            has_values(rt, &list.clone()?, kind, values);
+            let cloned = list.clone().expect(rt, "a clone");
+            has_values(rt, &cloned, kind, values);
         }
-        Err(error) => assert!(rt; false, "{text:?} is refused: {error}"),
+        Err(error) => returns(rt, Err(error), Ok(()), text),
     }
-    Ok(())
+}
+
+/// The values have this text, which is appended.
+pub(super) fn is_written<P: BitPacker>(
+    rt: &impl Abort,
+    alloc: Global,
+    packer: &P,
+    kind: ListKind,
+    values: &[u32],
+    text: &[u8],
+) {
+    let mut written = nine(rt, alloc);
+    succeeds(rt, encode2(packer, kind, values, &mut written), text);
+    appended_bytes(rt, &written, text);
 }
 
 /// The values have this text, which is appended, and the text has these values. Each proper beginning is refused, and so is the text
@@ -59,19 +100,14 @@ fn is_text<P: BitPacker>(
     kind: ListKind,
     values: &[u32],
     text: &[u8],
-) -> Result<(), Fail> {
-    let mut written = vec![in alloc; 9u8]?;
-    assert_eq!(rt; encode(packer, kind, values, &mut written), Ok(()));
-    assert!(rt; written.first() == Some(&9));
-    assert_eq!(rt; written.get(1..).unwrap_or(&[]), text);
-    is_list(rt, packer, kind, values, text)?;
+) {
+    is_written(rt, alloc, packer, kind, values, text);
+    is_list(rt, packer, kind, values, text);
     for end in 0..text.len() {
         is_refused(rt, packer, &text[..end], ListError::Short);
     }
-    written.push(0)?;
-    let longer = written.get(1..).unwrap_or(&[]);
-    is_refused(rt, packer, longer, ListError::Trailing);
-    Ok(())
+    let longer = with_zero(rt, alloc, text);
+    is_refused(rt, packer, &longer, ListError::Trailing);
 }
 
 /// Strictly sorted, 0 to 32, with other bytes at four places: the width, and the lowest bytes of the offset, the last value and the
@@ -82,105 +118,99 @@ pub(super) fn thirty_three(width: u8, offset: u8, last: u8, tail: u8) -> [u8; 20
     ]
 }
 
-#[test]
-fn worked_texts(rt: HostRuntime) -> Result<(), Fail> {
+fn text_of_none_and_two(rt: &impl Abort, alloc: Global) {
     let packer = BitPacker1x::new();
-    let alloc = rt.alloc();
     let empty = [2, 0, 1, 0, 0, 0, 0];
-    is_text(&rt, alloc, &packer, ListKind::Plain, &[], &empty)?;
+    is_text(rt, alloc, &packer, ListKind::Plain, &[], &empty);
     let two = [2, 0, 1, 2, 0, 0, 0, 3, 0, 0, 0, 1, 0, 0, 0];
-    is_text(&rt, alloc, &packer, ListKind::Plain, &[3, 1], &two)?;
-    let mut values = [0; 33];
-    for index in 0..33u32 {
-        values[index as usize] = index;
-    }
+    is_text(rt, alloc, &packer, ListKind::Plain, &[3, 1], &two);
+}
+
+/// 0 to 32.
+fn strict_text(rt: &impl Abort, alloc: Global) {
+    let values = steps(rt, alloc, 0, 1, 33);
+    let text = thirty_three(0, 0, 31, 32);
     let kind = ListKind::StrictlySorted;
-    is_text(
-        &rt,
-        alloc,
-        &packer,
-        kind,
-        &values,
-        &thirty_three(0, 0, 31, 32),
-    )?;
-    let mut values = [0; 32];
-    for index in 0..32u32 {
-        values[index as usize] = index % 8;
+    is_text(rt, alloc, &BitPacker1x::new(), kind, &values, &text);
+}
+
+/// 0 to 7, four times.
+fn plain_text(rt: &impl Abort, alloc: Global) {
+    let mut values = Vec::new(alloc);
+    for _ in 0..4 {
+        push_steps(rt, &mut values, 0, 1, 8);
     }
-    let block = [
+    let text = [
         2, 0, 1, 0x20, 0, 0, 0, 3, 0, 0, 0, 0, 7, 0, 0, 0, 0x88, 0xc6, 0xfa, 0x88, 0xc6, 0xfa,
         0x88, 0xc6, 0xfa, 0x88, 0xc6, 0xfa,
     ];
-    is_text(&rt, alloc, &packer, ListKind::Plain, &values, &block)?;
-    // 1 to 32, and then 34 to 96 in steps of 2.
-    let mut values = [0; 64];
-    for index in 0..32u32 {
-        values[index as usize] = index + 1;
-        values[32 + index as usize] = 34 + 2 * index;
-    }
-    let blocks = [
+    let kind = ListKind::Plain;
+    is_text(rt, alloc, &BitPacker1x::new(), kind, &values, &text);
+}
+
+/// 1 to 32, and then 34 to 96 in steps of 2.
+fn sorted_text(rt: &impl Abort, alloc: Global) {
+    let mut values = steps(rt, alloc, 1, 1, 32);
+    push_steps(rt, &mut values, 34, 2, 32);
+    let text = [
         2, 1, 1, 0x40, 0, 0, 0, 1, 0, 0, 0, 0, 0x20, 0, 0, 0, 2, 1, 0, 0, 0, 0x60, 0, 0, 0, 0xff,
         0xff, 0xff, 0xff, 0xaa, 0xaa, 0xaa, 0xaa, 0xaa, 0xaa, 0xaa, 0xaa,
     ];
-    is_text(&rt, alloc, &packer, ListKind::Sorted, &values, &blocks)
+    let kind = ListKind::Sorted;
+    is_text(rt, alloc, &BitPacker1x::new(), kind, &values, &text);
 }
 
-/// The first values, each of these steps in turn added to the one before, and then the tail.
-fn steps(
-    alloc: Global,
-    first: u32,
-    steps: &[u32],
-    count: usize,
-    tail: &[u32],
-) -> Result<Vec<u32>, AllocError> {
+#[test]
+fn worked_texts(rt: HostRuntime) {
+    text_of_none_and_two(&rt, rt.alloc());
+    strict_text(&rt, rt.alloc());
+    plain_text(&rt, rt.alloc());
+    sorted_text(&rt, rt.alloc());
+}
+
+/// So many values from 0 on, each of these steps in turn added to the one before.
+fn in_turn(rt: &impl Abort, alloc: Global, steps: &[u32], count: usize) -> Vec<u32> {
     let mut values = Vec::new(alloc);
-    let mut value = first;
+    let mut value: u32 = 0;
     for index in 0..count {
-        values.push(value)?;
+        push(rt, &mut values, value);
         value = value.wrapping_add(steps.get(index % steps.len().max(1)).copied().unwrap_or(0));
     }
-    values.extend_from_slice(tail)?;
-    Ok(values)
+    values
 }
 
 /// Sorted, four lanes: 0, 1, 3, 6, 6, 7, 9, 12 and so on to 192, whose codes are 0, 1, 2, 3 in turn; then 200 and 1000.
-fn text_of_4x<P: BitPacker>(rt: &impl Abort, alloc: Global, packer: &P) -> Result<(), Fail> {
-    let values = steps(alloc, 0, &[1, 2, 3, 0], 128, &[200, 1000])?;
+fn text_of_4x<P: BitPacker>(rt: &impl Abort, alloc: Global, packer: &P) {
+    let mut values = in_turn(rt, alloc, &[1, 2, 3, 0], 128);
+    push(rt, &mut values, 200);
+    push(rt, &mut values, 1000);
     let text = [
         2, 1, 4, 0x82, 0, 0, 0, 2, 0, 0, 0, 0, 0xc0, 0, 0, 0, 0, 0, 0, 0, 0x55, 0x55, 0x55, 0x55,
         0xaa, 0xaa, 0xaa, 0xaa, 0xff, 0xff, 0xff, 0xff, 0, 0, 0, 0, 0x55, 0x55, 0x55, 0x55, 0xaa,
         0xaa, 0xaa, 0xaa, 0xff, 0xff, 0xff, 0xff, 0xc8, 0, 0, 0, 0xe8, 3, 0, 0,
     ];
-    is_text(rt, alloc, packer, ListKind::Sorted, &values, &text)
+    is_text(rt, alloc, packer, ListKind::Sorted, &values, &text);
 }
 
 /// Strictly sorted, eight lanes: 0, 2, 3, 5, 6, 8 and so on to 383, whose codes are 0, 1 in turn; then 400.
-fn text_of_8x<P: BitPacker>(rt: &impl Abort, alloc: Global, packer: &P) -> Result<(), Fail> {
-    let values = steps(alloc, 0, &[2, 1], 256, &[400])?;
+fn text_of_8x<P: BitPacker>(rt: &impl Abort, alloc: Global, packer: &P) {
+    let mut values = in_turn(rt, alloc, &[2, 1], 256);
+    push(rt, &mut values, 400);
     let mut text = [0; 52];
     text[..16].copy_from_slice(&[2, 2, 8, 1, 1, 0, 0, 1, 0, 0, 0, 0, 0x7f, 1, 0, 0]);
     for lane in 0..4 {
         text[20 + 8 * lane..24 + 8 * lane].copy_from_slice(&[0xff; 4]);
     }
     text[48..].copy_from_slice(&[0x90, 1, 0, 0]);
-    is_text(rt, alloc, packer, ListKind::StrictlySorted, &values, &text)
+    is_text(rt, alloc, packer, ListKind::StrictlySorted, &values, &text);
 }
 
 #[test]
-fn worked_texts_of_more_lanes(rt: HostRuntime) -> Result<(), Fail> {
-    text_of_4x(&rt, rt.alloc(), &BitPacker4x::new())?;
-    text_of_4x(&rt, rt.alloc(), &BitPacker4x::scalar())?;
-    text_of_8x(&rt, rt.alloc(), &BitPacker8x::new())?;
-    text_of_8x(&rt, rt.alloc(), &BitPacker8x::scalar())
-}
-
-/// The value with this code.
-fn value_of(kind: ListKind, previous: u32, code: u32) -> u32 {
-    match kind {
-        ListKind::Plain => code,
-        ListKind::Sorted => previous.wrapping_add(code),
-        ListKind::StrictlySorted => previous.wrapping_add(code).wrapping_add(1),
-    }
+fn worked_texts_of_more_lanes(rt: HostRuntime) {
+    text_of_4x(&rt, rt.alloc(), &BitPacker4x::new());
+    text_of_4x(&rt, rt.alloc(), &BitPacker4x::scalar());
+    text_of_8x(&rt, rt.alloc(), &BitPacker8x::new());
+    text_of_8x(&rt, rt.alloc(), &BitPacker8x::scalar());
 }
 
 /// Each block in lanes: one word of width 1, two of width 2 and three of width 3, whose bits are `101` again and again.
@@ -194,47 +224,63 @@ const WORDS: [[[u8; 4]; 3]; 3] = [
     ],
 ];
 
-/// Values of so many blocks, three at most, of the codes 1, 2 and 5, and two more where there is a tail; and the text of the list, whose
-/// kind has this byte and whose blocks have these last values.
-pub(super) fn blocks_and_text<P: BitPacker>(
+/// Values of so many blocks, three at most, of the codes 1, 2 and 5, and two more where there is a tail.
+pub(super) fn blocks_of<P: BitPacker>(
+    rt: &impl Abort,
     alloc: Global,
-    kind: (u8, ListKind),
+    kind: ListKind,
+    blocks: usize,
+    tail: bool,
+) -> Vec<u32> {
+    let mut values = Vec::new(alloc);
+    let mut value = before_first(kind);
+    for block in 0..blocks.min(3) {
+        let code = [1, 2, 5][block];
+        value = push_block(rt, &mut values, kind, value, code, P::BLOCK_LEN);
+    }
+    if tail {
+        push(rt, &mut values, 0xfffe_fdfc);
+        push(rt, &mut values, u32::MAX);
+    }
+    values
+}
+
+/// Appends the entries of so many blocks, which have these last values.
+fn push_entries(rt: &impl Abort, text: &mut Vec<u8>, blocks: usize, lasts: [u32; 3]) {
+    for block in 0..blocks.min(3) {
+        push_bytes(rt, text, &[block as u8 + 1, [0, 1, 3][block], 0, 0, 0]);
+        push_bytes(rt, text, &lasts[block].to_le_bytes());
+    }
+}
+
+/// Appends the bytes of so many blocks.
+fn push_bodies(rt: &impl Abort, text: &mut Vec<u8>, blocks: usize, lanes: usize) {
+    for block in 0..blocks.min(3) {
+        push_words(rt, text, &WORDS[block][..block + 1], lanes);
+    }
+}
+
+/// The text of the values of `blocks_of`. Its kind has this byte, and its blocks these last values.
+pub(super) fn text_of<P: BitPacker>(
+    rt: &impl Abort,
+    alloc: Global,
+    kind: u8,
     blocks: usize,
     tail: bool,
     lasts: [u32; 3],
-) -> Result<(Vec<u32>, Vec<u8>), AllocError> {
+) -> Vec<u8> {
     let len = P::BLOCK_LEN;
-    let blocks = blocks.min(3);
-    let count = (blocks * len + if tail { 2 } else { 0 }) & 0xffff;
-    let mut values = Vec::new(alloc);
-    let mut text = Vec::from_slice(alloc, &[2, kind.0, (len / 32) as u8])?;
-    text.extend_from_slice(&(count as u32).to_le_bytes())?;
-    let mut value = if kind.1 == ListKind::StrictlySorted {
-        u32::MAX
-    } else {
-        0
-    };
-    for block in 0..blocks {
-        for _ in 0..len {
-            value = value_of(kind.1, value, [1, 2, 5][block]);
-            values.push(value)?;
-        }
-        text.extend_from_slice(&[block as u8 + 1, [0, 1, 3][block], 0, 0, 0])?;
-        text.extend_from_slice(&lasts[block].to_le_bytes())?;
-    }
-    for block in 0..blocks {
-        for word in 0..block + 1 {
-            for _ in 0..len / 32 {
-                text.extend_from_slice(&WORDS[block][word])?;
-            }
-        }
-    }
+    let count = (blocks.min(3) * len + if tail { 2 } else { 0 }) & 0xffff;
+    let mut text = Vec::new(alloc);
+    push_bytes(rt, &mut text, &[2, kind, (len / 32) as u8]);
+    push_bytes(rt, &mut text, &(count as u32).to_le_bytes());
+    push_entries(rt, &mut text, blocks, lasts);
+    push_bodies(rt, &mut text, blocks, len / 32);
     if tail {
-        values.push(0xfffe_fdfc)?;
-        values.push(u32::MAX)?;
-        text.extend_from_slice(&[0xfc, 0xfd, 0xfe, 0xff, 0xff, 0xff, 0xff, 0xff])?;
+        let tail = [0xfc, 0xfd, 0xfe, 0xff, 0xff, 0xff, 0xff, 0xff];
+        push_bytes(rt, &mut text, &tail);
     }
-    Ok((values, text))
+    text
 }
 
 /// The kinds, each with its byte and the last values of its three blocks.
@@ -250,46 +296,64 @@ pub(super) fn each_kind<P: BitPacker>() -> [((u8, ListKind), [u32; 3]); 3] {
     ]
 }
 
-/// None, one and three blocks with and without a tail, in each kind.
-fn each_shape<P: BitPacker>(rt: &impl Abort, alloc: Global, packer: &P) -> Result<(), Fail> {
-    for (kind, lasts) in each_kind::<P>() {
-        for blocks in [0, 1, 3] {
-            for tail in [false, true] {
-                let (values, text) = blocks_and_text::<P>(alloc, kind, blocks, tail, lasts)?;
-                is_text(rt, alloc, packer, kind.1, &values, &text)?;
-            }
-        }
+/// None, one and three blocks, with and without a tail.
+pub(super) const SHAPES: [(usize, bool); 6] = [
+    (0, false),
+    (0, true),
+    (1, false),
+    (1, true),
+    (3, false),
+    (3, true),
+];
+
+/// A list of each shape.
+fn shapes_of<P: BitPacker>(
+    rt: &impl Abort,
+    alloc: Global,
+    packer: &P,
+    (byte, kind): (u8, ListKind),
+    lasts: [u32; 3],
+) {
+    for (blocks, tail) in SHAPES {
+        let values = blocks_of::<P>(rt, alloc, kind, blocks, tail);
+        let text = text_of::<P>(rt, alloc, byte, blocks, tail, lasts);
+        is_text(rt, alloc, packer, kind, &values, &text);
     }
-    Ok(())
+}
+
+/// Each shape in each kind.
+fn each_shape<P: BitPacker>(rt: &impl Abort, alloc: Global, packer: &P) {
+    for (kind, lasts) in each_kind::<P>() {
+        shapes_of(rt, alloc, packer, kind, lasts);
+    }
 }
 
 #[test]
-fn every_shape_of_1x(rt: HostRuntime) -> Result<(), Fail> {
-    each_shape(&rt, rt.alloc(), &BitPacker1x::new())
+fn every_shape_of_1x(rt: HostRuntime) {
+    each_shape(&rt, rt.alloc(), &BitPacker1x::new());
 }
 
 #[test]
-fn every_shape_of_4x(rt: HostRuntime) -> Result<(), Fail> {
-    each_shape(&rt, rt.alloc(), &BitPacker4x::new())?;
-    each_shape(&rt, rt.alloc(), &BitPacker4x::scalar())
+fn every_shape_of_4x(rt: HostRuntime) {
+    each_shape(&rt, rt.alloc(), &BitPacker4x::new());
+    each_shape(&rt, rt.alloc(), &BitPacker4x::scalar());
 }
 
 #[test]
-fn every_shape_of_8x(rt: HostRuntime) -> Result<(), Fail> {
-    each_shape(&rt, rt.alloc(), &BitPacker8x::new())?;
-    each_shape(&rt, rt.alloc(), &BitPacker8x::scalar())
+fn every_shape_of_8x(rt: HostRuntime) {
+    each_shape(&rt, rt.alloc(), &BitPacker8x::new());
+    each_shape(&rt, rt.alloc(), &BitPacker8x::scalar());
 }
 
 #[test]
-fn a_copy_is_the_same_list(rt: HostRuntime) -> Result<(), Fail> {
+fn a_copy_is_the_same_list(rt: HostRuntime) {
     let text = thirty_three(0, 0, 31, 32);
-    match PackedList::open(BitPacker1x::new(), &text) {
+    match open(&BitPacker1x::new(), &text) {
         Ok(list) => {
             let copied = list;
-            assert_eq!(rt; copied.get(32), Some(32));
-            assert_eq!(rt; list.get(31), Some(31));
+            has_value(&rt, &copied, 32, Some(32));
+            has_value(&rt, &list, 31, Some(31));
         }
-        Err(_) => assert!(rt; false),
+        Err(error) => returns(&rt, Err(error), Ok(()), &text),
     }
-    Ok(())
 }

@@ -1,16 +1,15 @@
 //! Texts of version 2 with a fault, and values out of order: which refusal comes first. All were worked by hand from the format.
 
-use super::list2::{is_refused, thirty_three};
-use bitpack::list2::encode;
+use super::list2::{are_refused, is_refused, thirty_three};
+use crate::tests::calls::encode2;
+use crate::tests::checks::{kept_bytes, nine, returns, succeeds};
 use bitpack::{ListError, ListKind};
 use bitpacking::{BitPacker, BitPacker1x};
 use std::alloc::Global;
 use std::process::Abort;
-use std::test::Fail;
 
 /// Texts of one lane with more than one fault: the first in the order of the format is answered.
 fn bodies_refused(rt: &impl Abort) {
-    let packer = BitPacker1x::new();
     let cases: [(&[u8], ListError); 7] = [
         // The missing body of block 1 before the loose width of block 0.
         (
@@ -61,14 +60,11 @@ fn bodies_refused(rt: &impl Abort) {
             ListError::BadLast(1),
         ),
     ];
-    for (text, error) in cases {
-        is_refused(rt, &packer, text, error);
-    }
+    are_refused(rt, &BitPacker1x::new(), &cases);
 }
 
-#[test]
-fn refusals_of_1x(rt: HostRuntime) -> Result<(), Fail> {
-    let packer = BitPacker1x::new();
+/// Faults of the header, and a byte after a list of no value.
+fn headers_refused(rt: &impl Abort) {
     let headers: [(&[u8], ListError); 10] = [
         (&[], ListError::Short),
         (&[2], ListError::Short),
@@ -81,94 +77,79 @@ fn refusals_of_1x(rt: HostRuntime) -> Result<(), Fail> {
         (&[2, 0, 1, 0, 0, 0, 0x10], ListError::Short),
         (&[2, 0, 1, 0, 0, 0, 0, 0], ListError::Trailing),
     ];
-    for (text, error) in headers {
-        is_refused(&rt, &packer, text, error);
+    are_refused(rt, &BitPacker1x::new(), &headers);
+}
+
+/// Faults of one block and a tail. Right is `thirty_three(0, 0, 31, 32)`.
+fn parts_refused(rt: &impl Abort) {
+    let cases = [
+        (thirty_three(33, 0, 31, 32), ListError::BadWidth(0, 33)),
+        (thirty_three(1, 0, 31, 32), ListError::Short),
+        (thirty_three(1, 0, 31, 0), ListError::Short),
+        (thirty_three(0, 1, 31, 32), ListError::BadOffset(0)),
+        (thirty_three(0, 1, 30, 32), ListError::BadOffset(0)),
+        (thirty_three(0, 0, 30, 32), ListError::BadLast(0)),
+        (thirty_three(0, 0, 31, 31), ListError::NotSorted(32)),
+    ];
+    for (text, error) in cases {
+        is_refused(rt, &BitPacker1x::new(), &text, error);
     }
-    let right = thirty_three(0, 0, 31, 32);
-    is_refused(
-        &rt,
-        &packer,
-        &thirty_three(33, 0, 31, 32),
-        ListError::BadWidth(0, 33),
-    );
-    is_refused(&rt, &packer, &thirty_three(1, 0, 31, 32), ListError::Short);
-    is_refused(&rt, &packer, &thirty_three(1, 0, 31, 0), ListError::Short);
-    is_refused(
-        &rt,
-        &packer,
-        &thirty_three(0, 1, 31, 32),
-        ListError::BadOffset(0),
-    );
-    is_refused(
-        &rt,
-        &packer,
-        &thirty_three(0, 1, 30, 32),
-        ListError::BadOffset(0),
-    );
-    is_refused(
-        &rt,
-        &packer,
-        &thirty_three(0, 0, 30, 32),
-        ListError::BadLast(0),
-    );
-    is_refused(
-        &rt,
-        &packer,
-        &thirty_three(0, 0, 31, 31),
-        ListError::NotSorted(32),
-    );
-    is_refused(&rt, &packer, &right[..19], ListError::Short);
-    // With a byte more, a wrong value comes before the byte.
+}
+
+/// With a byte more, a wrong value comes before the byte.
+fn longer_refused(rt: &impl Abort) {
     for (wrong, error) in [
-        (right, ListError::Trailing),
+        (thirty_three(0, 0, 31, 32), ListError::Trailing),
         (thirty_three(0, 0, 30, 32), ListError::BadLast(0)),
         (thirty_three(0, 0, 31, 31), ListError::NotSorted(32)),
     ] {
         let mut longer = [0; 21];
         longer[..20].copy_from_slice(&wrong);
-        is_refused(&rt, &packer, &longer, error);
+        is_refused(rt, &BitPacker1x::new(), &longer, error);
     }
-    bodies_refused(&rt);
-    Ok(())
-}
-
-/// The values are refused, and the vector holds what it held, in the room that it had.
-fn is_unsorted(
-    rt: &impl Abort,
-    alloc: Global,
-    kind: ListKind,
-    values: &[u32],
-    position: usize,
-) -> Result<(), Fail> {
-    let mut out = vec![in alloc; 9u8]?;
-    let room = out.capacity();
-    let error = ListError::NotSorted(position);
-    assert_eq!(rt;
-        encode(&BitPacker1x::new(), kind, values, &mut out),
-        Err(error)
-    );
-    assert!(rt; out.as_slice() == [9].as_slice());
-    assert_eq!(rt; out.capacity(), room);
-    Ok(())
 }
 
 #[test]
-fn values_out_of_order(rt: HostRuntime) -> Result<(), Fail> {
-    let alloc = rt.alloc();
-    is_unsorted(&rt, alloc, ListKind::Sorted, &[5, 4], 1)?;
-    is_unsorted(&rt, alloc, ListKind::StrictlySorted, &[5, 5], 1)?;
-    is_unsorted(&rt, alloc, ListKind::Sorted, &[0, 5, 5, 4, 3], 3)?;
-    is_unsorted(&rt, alloc, ListKind::StrictlySorted, &[u32::MAX, 0], 1)?;
-    let mut values = [7; 64];
+fn refusals_of_1x(rt: HostRuntime) {
+    headers_refused(&rt);
+    parts_refused(&rt);
+    let right = thirty_three(0, 0, 31, 32);
+    is_refused(&rt, &BitPacker1x::new(), &right[..19], ListError::Short);
+    longer_refused(&rt);
+    bodies_refused(&rt);
+}
+
+/// The values are refused at this position, and the vector holds what it held, in the room that it had.
+fn is_unsorted(rt: &impl Abort, alloc: Global, kind: ListKind, values: &[u32], position: usize) {
+    let mut out = nine(rt, alloc);
+    let room = out.capacity();
+    let outcome = encode2(&BitPacker1x::new(), kind, values, &mut out);
+    returns(rt, outcome, Err(ListError::NotSorted(position)), &[]);
+    kept_bytes(rt, &out, room);
+}
+
+/// 64 times 7 are sorted.
+fn sevens_are_sorted(rt: &impl Abort, alloc: Global) {
     let mut text = Vec::new(alloc);
-    assert_eq!(rt;
-        encode(&BitPacker1x::new(), ListKind::Sorted, &values, &mut text),
-        Ok(())
-    );
-    is_unsorted(&rt, alloc, ListKind::StrictlySorted, &values, 1)?;
+    let kind = ListKind::Sorted;
+    let outcome = encode2(&BitPacker1x::new(), kind, &[7; 64], &mut text);
+    succeeds(rt, outcome, &[]);
+}
+
+#[test]
+fn values_out_of_order(rt: HostRuntime) {
+    let alloc = rt.alloc();
+    let (sorted, strict) = (ListKind::Sorted, ListKind::StrictlySorted);
+    is_unsorted(&rt, alloc, sorted, &[5, 4], 1);
+    is_unsorted(&rt, alloc, strict, &[5, 5], 1);
+    is_unsorted(&rt, alloc, sorted, &[0, 5, 5, 4, 3], 3);
+    is_unsorted(&rt, alloc, strict, &[u32::MAX, 0], 1);
+    sevens_are_sorted(&rt, alloc);
+    let mut values = [7; 64];
+    is_unsorted(&rt, alloc, strict, &values, 1);
     values[32] = 6;
-    is_unsorted(&rt, alloc, ListKind::Sorted, &values, 32)?;
+    is_unsorted(&rt, alloc, sorted, &values, 32);
     values[32] = 7;
     values[63] = 6;
-    is_unsorted(&rt, alloc, ListKind::Sorted, &values, 63)
+    is_unsorted(&rt, alloc, sorted, &values, 63);
 }

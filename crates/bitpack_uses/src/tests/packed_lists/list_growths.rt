@@ -1,75 +1,128 @@
 //! Packed lists in vectors with too little room: what is left where a growth is refused, how much room a call takes, and that many
 //! lists in one vector grow it seldom.
 
-use super::lists::{three_blocks, three_blocks_text};
+use super::lists::{decodes, three_blocks, three_blocks_text};
 use super::memory::{grow_stack, take_all};
-use bitpack::list::{decode, encode};
+use crate::tests::calls::{decode1, encode1};
+use crate::tests::checks::{
+    holds, kept_bytes, kept_values, returns, room_for, same_number, succeeds, with_zero,
+};
 use bitpack::{ListError, ListKind};
 use bitpacking::{BitPacker, BitPacker1x, BitPacker4x, BitPacker8x};
-use std::alloc::{AllocError, Global};
+use std::alloc::Global;
 use std::process::Abort;
-use std::test::Fail;
+
+/// Takes up to a hundred blocks of a size.
+fn take_blocks(alloc: Global, taken: &mut Vec<Vec<u8>>, size: usize) {
+    for _ in 0..100 {
+        let Ok(block) = Vec::with_capacity(alloc, size) else {
+            break;
+        };
+        let Ok(()) = taken.push(block) else {
+            break;
+        };
+    }
+}
 
 /// Takes all memory, and then the freed blocks of each size that the C library keeps for equal ones.
-fn take_everything(alloc: Global) -> Result<Vec<Vec<u8>>, AllocError> {
-    let mut taken = take_all(alloc)?;
+fn take_everything(rt: &impl Abort, alloc: Global) -> Vec<Vec<u8>> {
+    let mut taken = take_all(rt, alloc);
     for size in 1..1100usize {
-        for _ in 0..100 {
-            let Ok(block) = Vec::with_capacity(alloc, size) else {
-                break;
-            };
-            let Ok(()) = taken.push(block) else {
-                break;
-            };
-        }
+        take_blocks(alloc, &mut taken, size);
     }
-    Ok(taken)
+    taken
 }
 
 /// A vector that holds one item, with room for so many.
-fn one_item<T: Copy>(alloc: Global, item: T, room: usize) -> Result<Vec<T>, AllocError> {
-    let mut items = Vec::with_capacity(alloc, room)?;
-    items.push(item)?;
-    Ok(items)
+fn one_item<T: Copy>(rt: &impl Abort, alloc: Global, item: T, room: usize) -> Vec<T> {
+    let mut items = room_for(rt, alloc, room);
+    holds(rt, items.push(item).is_ok(), "memory");
+    items
 }
 
-/// With no memory, and room for one item or for half of them, both calls answer `Memory` and leave the vectors as they were. Each
-/// proper beginning of the text is Short all the same, and the text with a byte more Trailing.
+/// With no memory left both calls answer `Memory`. Each proper beginning of the text is Short all the same, and the text with a byte
+/// more Trailing.
+fn calls_refused<P: BitPacker>(
+    rt: &impl Abort,
+    packer: &P,
+    (kind, values, text, longer): (ListKind, &[u32], &[u8], &[u8]),
+    written: &mut Vec<u8>,
+    read: &mut Vec<u32>,
+) {
+    let encoded = encode1(packer, kind, values, written);
+    returns(rt, encoded, Err(ListError::Memory), text);
+    let decoded = decode1(packer, text, read);
+    decodes(rt, decoded, Err(ListError::Memory), text);
+    for end in 0..text.len() {
+        let decoded = decode1(packer, &text[..end], read);
+        decodes(rt, decoded, Err(ListError::Short), &text[..end]);
+    }
+    let decoded = decode1(packer, longer, read);
+    decodes(rt, decoded, Err(ListError::Trailing), longer);
+}
+
+/// With room for so many bytes and values, and no more memory, the calls leave the vectors as they were.
+fn growth_refused<P: BitPacker>(
+    rt: &impl Abort,
+    alloc: Global,
+    packer: &P,
+    (kind, values, text, longer): (ListKind, &[u32], &[u8], &[u8]),
+    (bytes, words): (usize, usize),
+) {
+    let mut written = one_item(rt, alloc, 9u8, bytes);
+    let mut read = one_item(rt, alloc, 7u32, words);
+    let list = (kind, values, text, longer);
+    let taken = take_everything(rt, alloc);
+    calls_refused(rt, packer, list, &mut written, &mut read);
+    drop(taken);
+    kept_bytes(rt, &written, bytes);
+    kept_values(rt, &read, 7, words);
+}
+
+/// With no memory, and room for one item or for half of them.
 fn growths_refused<P: BitPacker>(
     rt: &impl Abort,
     alloc: Global,
     packer: &P,
     kind: ListKind,
     header: [u8; 7],
-) -> Result<(), Fail> {
-    let values = three_blocks::<P>(alloc, kind)?;
-    let text = three_blocks_text::<P>(alloc, header)?;
-    let mut longer = Vec::from_slice(alloc, &text)?;
-    longer.push(0)?;
-    for (bytes, words) in [(1, 1), (text.len() / 2, values.len() / 2)] {
-        let mut written = one_item(alloc, 9u8, bytes)?;
-        let mut read = one_item(alloc, 7u32, words)?;
-        let taken = take_everything(alloc)?;
-        let encoded = encode(packer, kind, &values, &mut written);
-        let decoded = decode(packer, &text, &mut read);
-        let mut short = 0usize;
-        for end in 0..text.len() {
-            if decode(packer, &text[..end], &mut read) == Err(ListError::Short) {
-                short = short.wrapping_add(1);
-            }
-        }
-        let trailing = decode(packer, &longer, &mut read);
-        drop(taken);
-        assert_eq!(rt; encoded, Err(ListError::Memory));
-        assert_eq!(rt; decoded, Err(ListError::Memory));
-        assert_eq!(rt; short, text.len());
-        assert_eq!(rt; trailing, Err(ListError::Trailing));
-        assert!(rt; written.as_slice() == [9].as_slice());
-        assert!(rt; read.as_slice() == [7].as_slice());
-        assert_eq!(rt; written.capacity(), bytes);
-        assert_eq!(rt; read.capacity(), words);
-    }
-    Ok(())
+) {
+    let values = three_blocks::<P>(rt, alloc, kind);
+    let text = three_blocks_text::<P>(rt, alloc, header);
+    let longer = with_zero(rt, alloc, &text);
+    let list = (kind, values.as_slice(), text.as_slice(), longer.as_slice());
+    let halves = (text.len() / 2, values.len() / 2);
+    growth_refused(rt, alloc, packer, list, (1, 1));
+    growth_refused(rt, alloc, packer, list, halves);
+}
+
+/// From room for so many bytes `encode` grows to what the text takes, and no further.
+fn room_of_text<P: BitPacker>(
+    rt: &impl Abort,
+    alloc: Global,
+    packer: &P,
+    (kind, values, bytes): (ListKind, &[u32], usize),
+    room: usize,
+) {
+    let mut written = one_item(rt, alloc, 9u8, room);
+    let encoded = encode1(packer, kind, values, &mut written);
+    succeeds(rt, encoded, &[]);
+    same_number(rt, written.len(), bytes, "bytes");
+    same_number(rt, written.capacity(), bytes, "room for bytes");
+}
+
+/// From room for so many values `decode` grows to what the values take, and no further.
+fn room_of_values<P: BitPacker>(
+    rt: &impl Abort,
+    alloc: Global,
+    packer: &P,
+    (kind, text, words): (ListKind, &[u8], usize),
+    room: usize,
+) {
+    let mut read = one_item(rt, alloc, 7u32, room);
+    decodes(rt, decode1(packer, text, &mut read), Ok(kind), text);
+    same_number(rt, read.len(), words, "values");
+    same_number(rt, read.capacity(), words, "room for values");
 }
 
 /// From room for one item a call grows to what the text or its values take, and no further. From room for half of it, it grows
@@ -78,55 +131,71 @@ fn room_taken<P: BitPacker>(
     rt: &impl Abort,
     alloc: Global,
     packer: &P,
-    kind: ListKind,
-    header: [u8; 7],
-) -> Result<(), Fail> {
-    let values = three_blocks::<P>(alloc, kind)?;
-    let text = three_blocks_text::<P>(alloc, header)?;
+    (kind, values, text): (ListKind, &[u32], &[u8]),
+) {
     let (bytes, words) = (text.len() + 1, values.len() + 1);
-    for (some_bytes, some_words) in [(1, 1), (bytes / 2, words / 2), (bytes, words)] {
-        let mut written = one_item(alloc, 9u8, some_bytes)?;
-        assert_eq!(rt; encode(packer, kind, &values, &mut written), Ok(()));
-        assert_eq!(rt; written.len(), bytes);
-        assert_eq!(rt; written.capacity(), bytes);
-        let mut read = one_item(alloc, 7u32, some_words)?;
-        assert_eq!(rt; decode(packer, &text, &mut read), Ok(kind));
-        assert_eq!(rt; read.len(), words);
-        assert_eq!(rt; read.capacity(), words);
+    for room in [1, bytes / 2, bytes] {
+        room_of_text(rt, alloc, packer, (kind, values, bytes), room);
     }
-    Ok(())
+    for room in [1, words / 2, words] {
+        room_of_values(rt, alloc, packer, (kind, text, words), room);
+    }
 }
 
-/// A thousand lists one after the other change the capacity of their vector fewer than twenty times.
-fn a_thousand_lists<P: BitPacker>(
+/// A thousand texts one after the other change the capacity of their vector fewer than twenty times.
+fn a_thousand_texts<P: BitPacker>(
+    rt: &impl Abort,
+    alloc: Global,
+    packer: &P,
+    (kind, values, text): (ListKind, &[u32], &[u8]),
+) {
+    let mut written: Vec<u8> = Vec::new(alloc);
+    let mut changes = 0usize;
+    for _ in 0..1000u32 {
+        let room = written.capacity();
+        succeeds(rt, encode1(packer, kind, values, &mut written), text);
+        if written.capacity() != room {
+            changes = changes.wrapping_add(1);
+        }
+    }
+    same_number(rt, written.len() / 1000, text.len(), "bytes");
+    holds(rt, changes < 20, "changes of the room for bytes");
+}
+
+/// The values of a thousand lists one after the other change the capacity of their vector fewer than twenty times.
+fn values_of_a_thousand<P: BitPacker>(
+    rt: &impl Abort,
+    alloc: Global,
+    packer: &P,
+    (kind, values, text): (ListKind, &[u32], &[u8]),
+) {
+    let mut read: Vec<u32> = Vec::new(alloc);
+    let mut changes = 0usize;
+    for _ in 0..1000u32 {
+        let room = read.capacity();
+        decodes(rt, decode1(packer, text, &mut read), Ok(kind), text);
+        if read.capacity() != room {
+            changes = changes.wrapping_add(1);
+        }
+    }
+    same_number(rt, read.len() / 1000, values.len(), "values");
+    holds(rt, changes < 20, "changes of the room for values");
+}
+
+/// The room of one list, and of a thousand.
+fn room_of_list<P: BitPacker>(
     rt: &impl Abort,
     alloc: Global,
     packer: &P,
     kind: ListKind,
     header: [u8; 7],
-) -> Result<(), Fail> {
-    let values = three_blocks::<P>(alloc, kind)?;
-    let text = three_blocks_text::<P>(alloc, header)?;
-    let mut written: Vec<u8> = Vec::new(alloc);
-    let mut read: Vec<u32> = Vec::new(alloc);
-    let mut of_written = 0usize;
-    let mut of_read = 0usize;
-    for _ in 0..1000u32 {
-        let (bytes, words) = (written.capacity(), read.capacity());
-        assert_eq!(rt; encode(packer, kind, &values, &mut written), Ok(()));
-        assert_eq!(rt; decode(packer, &text, &mut read), Ok(kind));
-        if written.capacity() != bytes {
-            of_written = of_written.wrapping_add(1);
-        }
-        if read.capacity() != words {
-            of_read = of_read.wrapping_add(1);
-        }
-    }
-    assert_eq!(rt; written.len() / 1000, text.len());
-    assert_eq!(rt; read.len() / 1000, values.len());
-    assert!(rt; of_written < 20, "{of_written} changes");
-    assert!(rt; of_read < 20, "{of_read} changes");
-    Ok(())
+) {
+    let values = three_blocks::<P>(rt, alloc, kind);
+    let text = three_blocks_text::<P>(rt, alloc, header);
+    let list = (kind, values.as_slice(), text.as_slice());
+    room_taken(rt, alloc, packer, list);
+    a_thousand_texts(rt, alloc, packer, list);
+    values_of_a_thousand(rt, alloc, packer, list);
 }
 
 /// The headers of three blocks of each kind and a tail of five values, in so many lanes.
@@ -143,11 +212,10 @@ fn growths_of<P: BitPacker>(
     alloc: Global,
     packer: &P,
     headers: [(ListKind, [u8; 7]); 3],
-) -> Result<(), Fail> {
+) {
     for (kind, header) in headers {
-        growths_refused(rt, alloc, packer, kind, header)?;
+        growths_refused(rt, alloc, packer, kind, header);
     }
-    Ok(())
 }
 
 fn room_of<P: BitPacker>(
@@ -155,38 +223,46 @@ fn room_of<P: BitPacker>(
     alloc: Global,
     packer: &P,
     headers: [(ListKind, [u8; 7]); 3],
-) -> Result<(), Fail> {
+) {
     for (kind, header) in headers {
-        room_taken(rt, alloc, packer, kind, header)?;
-        a_thousand_lists(rt, alloc, packer, kind, header)?;
+        room_of_list(rt, alloc, packer, kind, header);
     }
-    Ok(())
 }
 
 // 101, 389 and 773 values.
 #[test]
-fn growths_of_three_blocks(rt: HostRuntime) -> Result<(), Fail> {
+fn growths_of_three_blocks(rt: HostRuntime) {
     grow_stack(&rt);
-    growths_of(&rt, rt.alloc(), &BitPacker1x::new(), headers(1, 0x65, 0))?;
-    growths_of(&rt, rt.alloc(), &BitPacker4x::new(), headers(4, 0x85, 1))?;
-    growths_of(&rt, rt.alloc(), &BitPacker4x::scalar(), headers(4, 0x85, 1))?;
-    growths_of(&rt, rt.alloc(), &BitPacker8x::new(), headers(8, 5, 3))?;
-    growths_of(&rt, rt.alloc(), &BitPacker8x::scalar(), headers(8, 5, 3))
+    growths_of(&rt, rt.alloc(), &BitPacker1x::new(), headers(1, 0x65, 0));
+    growths_of(&rt, rt.alloc(), &BitPacker4x::new(), headers(4, 0x85, 1));
+    growths_of(&rt, rt.alloc(), &BitPacker4x::scalar(), headers(4, 0x85, 1));
+    growths_of(&rt, rt.alloc(), &BitPacker8x::new(), headers(8, 5, 3));
+    growths_of(&rt, rt.alloc(), &BitPacker8x::scalar(), headers(8, 5, 3));
 }
 
 #[test]
-fn room_of_three_blocks(rt: HostRuntime) -> Result<(), Fail> {
+fn room_of_three_blocks(rt: HostRuntime) {
     grow_stack(&rt);
-    room_of(&rt, rt.alloc(), &BitPacker1x::new(), headers(1, 0x65, 0))?;
-    room_of(&rt, rt.alloc(), &BitPacker4x::new(), headers(4, 0x85, 1))?;
-    room_of(&rt, rt.alloc(), &BitPacker4x::scalar(), headers(4, 0x85, 1))?;
-    room_of(&rt, rt.alloc(), &BitPacker8x::new(), headers(8, 5, 3))?;
-    room_of(&rt, rt.alloc(), &BitPacker8x::scalar(), headers(8, 5, 3))
+    room_of(&rt, rt.alloc(), &BitPacker1x::new(), headers(1, 0x65, 0));
+    room_of(&rt, rt.alloc(), &BitPacker4x::new(), headers(4, 0x85, 1));
+    room_of(&rt, rt.alloc(), &BitPacker4x::scalar(), headers(4, 0x85, 1));
+    room_of(&rt, rt.alloc(), &BitPacker8x::new(), headers(8, 5, 3));
+    room_of(&rt, rt.alloc(), &BitPacker8x::scalar(), headers(8, 5, 3));
+}
+
+/// With no memory left the values of the text are not read.
+fn values_refused(rt: &impl Abort, alloc: Global, text: &[u8]) {
+    let mut read = one_item(rt, alloc, 7u32, 1);
+    let taken = take_everything(rt, alloc);
+    let decoded = decode1(&BitPacker1x::new(), text, &mut read);
+    drop(taken);
+    decodes(rt, decoded, Err(ListError::Memory), text);
+    kept_values(rt, &read, 7, 1);
 }
 
 /// Of the texts worked by hand those whose values are too many for the block of one item.
 #[test]
-fn growths_of_worked_texts(rt: HostRuntime) -> Result<(), Fail> {
+fn growths_of_worked_texts(rt: HostRuntime) {
     grow_stack(&rt);
     let texts: [&[u8]; 2] = [
         &[1, 2, 1, 0x21, 0, 0, 0, 0, 0x20, 0, 0, 0],
@@ -196,13 +272,6 @@ fn growths_of_worked_texts(rt: HostRuntime) -> Result<(), Fail> {
         ],
     ];
     for text in texts {
-        let mut read = one_item(rt.alloc(), 7u32, 1)?;
-        let taken = take_everything(rt.alloc())?;
-        let outcome = decode(&BitPacker1x::new(), text, &mut read);
-        drop(taken);
-        assert_eq!(rt; outcome, Err(ListError::Memory));
-        assert!(rt; read.as_slice() == [7].as_slice());
-        assert_eq!(rt; read.capacity(), 1);
+        values_refused(&rt, rt.alloc(), text);
     }
-    Ok(())
 }

@@ -1,92 +1,148 @@
 //! Packed lists short of memory: that a call grows its vector once, to the size that it ends with, and what it leaves when
 //! that is refused.
 
+use super::lists::decodes;
 use super::memory::{grow_stack, take_all};
-use bitpack::list::{decode, encode};
+use crate::tests::calls::{decode1, encode1};
+use crate::tests::checks::{
+    nine, one_value, push_steps, returns, room_for, same_bytes, same_number, same_values, succeeds,
+};
 use bitpack::{ListError, ListKind};
 use bitpacking::{BitPacker, BitPacker1x, BitPacker4x, BitPacker8x};
-use std::alloc::{AllocError, Global};
+use std::alloc::Global;
 use std::process::Abort;
-use std::test::Fail;
 
-/// Encodes after one item where so many bytes are all the memory that there is.
+/// Encodes where so many bytes are all the memory that there is.
 fn encode_within<P: BitPacker>(
+    rt: &impl Abort,
     alloc: Global,
     packer: &P,
     values: &[u32],
+    out: &mut Vec<u8>,
     spare: usize,
-) -> Result<(Result<(), ListError>, Vec<u8>), AllocError> {
-    let mut out = vec![in alloc; 9u8]?;
-    let kept: Vec<u8> = Vec::with_capacity(alloc, spare)?;
-    let taken = take_all(alloc)?;
+) -> Result<(), ListError> {
+    let kept: Vec<u8> = room_for(rt, alloc, spare);
+    let taken = take_all(rt, alloc);
     drop(kept);
-    let outcome = encode(packer, ListKind::Plain, values, &mut out);
+    let outcome = encode1(packer, ListKind::Plain, values, out);
     drop(taken);
-    Ok((outcome, out))
+    outcome
 }
 
-/// Decodes after one item where so many values are all the memory that there is.
+/// Decodes where so many values are all the memory that there is.
 fn decode_within<P: BitPacker>(
+    rt: &impl Abort,
     alloc: Global,
     packer: &P,
     text: &[u8],
+    out: &mut Vec<u32>,
     spare: usize,
-) -> Result<(Result<ListKind, ListError>, Vec<u32>), AllocError> {
-    let mut out = vec![in alloc; 7u32]?;
-    let kept: Vec<u32> = Vec::with_capacity(alloc, spare)?;
-    let taken = take_all(alloc)?;
+) -> Result<ListKind, ListError> {
+    let kept: Vec<u32> = room_for(rt, alloc, spare);
+    let taken = take_all(rt, alloc);
     drop(kept);
-    let outcome = decode(packer, text, &mut out);
+    let outcome = decode1(packer, text, out);
     drop(taken);
-    Ok((outcome, out))
+    outcome
+}
+
+/// With room for the one growth `encode` succeeds.
+fn encode_grows_once<P: BitPacker>(
+    rt: &impl Abort,
+    alloc: Global,
+    packer: &P,
+    values: &[u32],
+    text: &[u8],
+) {
+    let mut written = nine(rt, alloc);
+    let outcome = encode_within(rt, alloc, packer, values, &mut written, text.len());
+    succeeds(rt, outcome, &[]);
+    same_bytes(rt, &written, text);
+}
+
+/// With no memory `encode` answers `Memory`, and the vector holds its one item.
+fn encode_refused<P: BitPacker>(rt: &impl Abort, alloc: Global, packer: &P, values: &[u32]) {
+    let mut written = nine(rt, alloc);
+    let outcome = encode_within(rt, alloc, packer, values, &mut written, 0);
+    returns(rt, outcome, Err(ListError::Memory), &[]);
+    same_bytes(rt, &written, &[9]);
+}
+
+/// With room for the one growth `decode` succeeds.
+fn decode_grows_once<P: BitPacker>(
+    rt: &impl Abort,
+    alloc: Global,
+    packer: &P,
+    text: &[u8],
+    all: &[u32],
+) {
+    let mut read = one_value(rt, alloc, 7);
+    let outcome = decode_within(rt, alloc, packer, text, &mut read, all.len());
+    decodes(rt, outcome, Ok(ListKind::Plain), text);
+    same_values(rt, &read, all);
+}
+
+/// With no memory `decode` answers this, and the vector holds its one item.
+fn decode_refused<P: BitPacker>(
+    rt: &impl Abort,
+    alloc: Global,
+    packer: &P,
+    text: &[u8],
+    error: ListError,
+) {
+    let mut read = one_value(rt, alloc, 7);
+    let outcome = decode_within(rt, alloc, packer, text, &mut read, 0);
+    decodes(rt, outcome, Err(error), text);
+    same_values(rt, &read, &[7]);
+}
+
+/// The growths of `decode`, which leaves so many values.
+fn growth_of_values<P: BitPacker>(
+    rt: &impl Abort,
+    alloc: Global,
+    packer: &P,
+    text: &[u8],
+    count: usize,
+) {
+    let mut all = one_value(rt, alloc, 7);
+    let outcome = decode1(packer, text, &mut all);
+    decodes(rt, outcome, Ok(ListKind::Plain), text);
+    same_number(rt, all.len(), count, "values");
+    same_number(rt, all.capacity(), all.len(), "room for values");
+    decode_grows_once(rt, alloc, packer, text, &all);
+    decode_refused(rt, alloc, packer, text, ListError::Memory);
 }
 
 /// With room for the one growth each call succeeds; with none it answers `Memory`, and the vector holds its one item.
 ///
 /// Ten blocks of width 32 and five values: text and values take more than the thousand bytes up to which the C library keeps
 /// a freed block for an equal one.
-fn one_growth<P: BitPacker>(rt: &impl Abort, alloc: Global, packer: &P) -> Result<(), Fail> {
+fn one_growth<P: BitPacker>(rt: &impl Abort, alloc: Global, packer: &P) {
     let mut values = Vec::new(alloc);
-    for _ in 0..P::BLOCK_LEN * 10 + 5 {
-        values.push(u32::MAX)?;
-    }
-    let mut text = vec![in alloc; 9u8]?;
-    assert_eq!(rt; encode(packer, ListKind::Plain, &values, &mut text), Ok(()));
-    assert_eq!(rt; text.len(), P::BLOCK_LEN * 40 + 38);
-    assert_eq!(rt; text.capacity(), text.len());
-    let (outcome, written) = encode_within(alloc, packer, &values, text.capacity())?;
-    assert_eq!(rt; outcome, Ok(()));
-    assert_eq!(rt; written.as_slice(), text.as_slice());
-    let (outcome, written) = encode_within(alloc, packer, &values, 0)?;
-    assert_eq!(rt; outcome, Err(ListError::Memory));
-    assert!(rt; written.as_slice() == [9].as_slice());
-
+    push_steps(rt, &mut values, u32::MAX, 0, P::BLOCK_LEN * 10 + 5);
+    let mut text = nine(rt, alloc);
+    let outcome = encode1(packer, ListKind::Plain, &values, &mut text);
+    succeeds(rt, outcome, &[]);
+    same_number(rt, text.len(), P::BLOCK_LEN * 40 + 38, "bytes");
+    same_number(rt, text.capacity(), text.len(), "room for bytes");
+    encode_grows_once(rt, alloc, packer, &values, &text);
+    encode_refused(rt, alloc, packer, &values);
     let text = text.get(1..).unwrap_or(&[]);
-    let mut all = vec![in alloc; 7u32]?;
-    assert_eq!(rt; decode(packer, text, &mut all), Ok(ListKind::Plain));
-    assert_eq!(rt; all.len(), P::BLOCK_LEN * 10 + 6);
-    assert_eq!(rt; all.capacity(), all.len());
-    let (outcome, read) = decode_within(alloc, packer, text, all.capacity())?;
-    assert_eq!(rt; outcome, Ok(ListKind::Plain));
-    assert!(rt; read.as_slice() == all.as_slice());
-    let (outcome, read) = decode_within(alloc, packer, text, 0)?;
-    assert_eq!(rt; outcome, Err(ListError::Memory));
-    assert!(rt; read.as_slice() == [7].as_slice());
-    Ok(())
+    growth_of_values(rt, alloc, packer, text, P::BLOCK_LEN * 10 + 6);
 }
 
 #[test]
-fn each_call_grows_once(rt: HostRuntime) -> Result<(), Fail> {
+fn each_call_grows_once(rt: HostRuntime) {
     grow_stack(&rt);
-    one_growth(&rt, rt.alloc(), &BitPacker1x::new())?;
-    one_growth(&rt, rt.alloc(), &BitPacker4x::new())?;
-    one_growth(&rt, rt.alloc(), &BitPacker4x::scalar())?;
-    one_growth(&rt, rt.alloc(), &BitPacker8x::new())?;
-    one_growth(&rt, rt.alloc(), &BitPacker8x::scalar())
+    one_growth(&rt, rt.alloc(), &BitPacker1x::new());
+    one_growth(&rt, rt.alloc(), &BitPacker4x::new());
+    one_growth(&rt, rt.alloc(), &BitPacker4x::scalar());
+    one_growth(&rt, rt.alloc(), &BitPacker8x::new());
+    one_growth(&rt, rt.alloc(), &BitPacker8x::scalar());
 }
 
 #[test]
-fn faults_come_before_memory(rt: HostRuntime) -> Result<(), Fail> {
+fn faults_come_before_memory(rt: HostRuntime) {
     grow_stack(&rt);
     let cases: [(&[u8], ListError); 6] = [
         // 2 ^ 28 values that are not there.
@@ -107,9 +163,6 @@ fn faults_come_before_memory(rt: HostRuntime) -> Result<(), Fail> {
         (&[1, 0, 1, 0x20, 0, 0, 0, 0, 0], ListError::Trailing),
     ];
     for (text, error) in cases {
-        let (outcome, read) = decode_within(rt.alloc(), &BitPacker1x::new(), text, 0)?;
-        assert_eq!(rt; outcome, Err(error), "{text:?}");
-        assert!(rt; read.as_slice() == [7].as_slice());
+        decode_refused(&rt, rt.alloc(), &BitPacker1x::new(), text, error);
     }
-    Ok(())
 }

@@ -1,30 +1,56 @@
 //! Packed lists of version 1. The expected bytes, values and refusals were worked by hand from the format: the header, each
 //! block's least width and the layout of its bits, the tail. None is the program's own output.
 
-use bitpack::list::{decode, encode};
+use crate::tests::calls::{decode1, encode1};
+use crate::tests::checks::{
+    appended_bytes, appended_values, kept_values, nine, one_value, push, push_bytes, push_steps,
+    same_values, says, steps, succeeds, with_zero,
+};
 use bitpack::{ListError, ListKind};
 use bitpacking::{BitPacker, BitPacker1x, BitPacker4x, BitPacker8x};
-use std::alloc::{AllocError, Global};
+use std::alloc::Global;
 use std::process::Abort;
-use std::test::Fail;
 
-/// Appends so many values: the first, and each further one so much greater, modulo 2 ^ 32.
-fn push_steps(
-    values: &mut Vec<u32>,
-    first: u32,
-    step: u32,
-    count: usize,
-) -> Result<(), AllocError> {
-    let mut value = first;
-    for _ in 0..count {
-        values.push(value)?;
-        value = value.wrapping_add(step);
-    }
-    Ok(())
+/// The call on this text returned this.
+pub(super) fn decodes(
+    rt: &impl Abort,
+    found: Result<ListKind, ListError>,
+    expected: Result<ListKind, ListError>,
+    text: &[u8],
+) {
+    assert_eq!(rt; found, expected, "{text:?}");
 }
 
-/// The values have this text, and the text these values. What the vectors held before comes before it. Each proper beginning
-/// of the text is refused, and so is the text with a byte more.
+/// The values have this text. What the vector held before comes before it.
+pub(super) fn is_written<P: BitPacker>(
+    rt: &impl Abort,
+    alloc: Global,
+    packer: &P,
+    kind: ListKind,
+    values: &[u32],
+    text: &[u8],
+) {
+    let mut written = nine(rt, alloc);
+    succeeds(rt, encode1(packer, kind, values, &mut written), text);
+    appended_bytes(rt, &written, text);
+}
+
+/// The text has these values. What the vector held before comes before them.
+fn is_read<P: BitPacker>(
+    rt: &impl Abort,
+    alloc: Global,
+    packer: &P,
+    kind: ListKind,
+    values: &[u32],
+    text: &[u8],
+) {
+    let mut read = one_value(rt, alloc, 7);
+    decodes(rt, decode1(packer, text, &mut read), Ok(kind), text);
+    appended_values(rt, &read, 7, values);
+}
+
+/// The values have this text, and the text these values. Each proper beginning of the text is refused, and so is the text with a
+/// byte more.
 fn is_text<P: BitPacker>(
     rt: &impl Abort,
     alloc: Global,
@@ -32,21 +58,14 @@ fn is_text<P: BitPacker>(
     kind: ListKind,
     values: &[u32],
     text: &[u8],
-) -> Result<(), Fail> {
-    let mut written = vec![in alloc; 9u8]?;
-    assert_eq!(rt; encode(packer, kind, values, &mut written), Ok(()));
-    assert!(rt; written.first() == Some(&9));
-    assert_eq!(rt; written.get(1..).unwrap_or(&[]), text);
-    let mut read = vec![in alloc; 7u32]?;
-    assert_eq!(rt; decode(packer, text, &mut read), Ok(kind));
-    assert!(rt; read.first() == Some(&7));
-    assert!(rt; read.get(1..).unwrap_or(&[]) == values);
+) {
+    is_written(rt, alloc, packer, kind, values, text);
+    is_read(rt, alloc, packer, kind, values, text);
     for end in 0..text.len() {
-        is_refused(rt, alloc, packer, &text[..end], ListError::Short)?;
+        is_refused(rt, alloc, packer, &text[..end], ListError::Short);
     }
-    written.push(0)?;
-    let longer = written.get(1..).unwrap_or(&[]);
-    is_refused(rt, alloc, packer, longer, ListError::Trailing)
+    let longer = with_zero(rt, alloc, text);
+    is_refused(rt, alloc, packer, &longer, ListError::Trailing);
 }
 
 /// The text is refused, and the vector holds what it held, in the room that it had.
@@ -56,46 +75,59 @@ fn is_refused<P: BitPacker>(
     packer: &P,
     text: &[u8],
     error: ListError,
-) -> Result<(), Fail> {
-    let mut read = vec![in alloc; 7u32]?;
+) {
+    let mut read = one_value(rt, alloc, 7);
     let room = read.capacity();
-    assert_eq!(rt; decode(packer, text, &mut read), Err(error), "{text:?}");
-    assert!(rt; read.as_slice() == [7].as_slice());
-    assert_eq!(rt; read.capacity(), room);
-    Ok(())
+    decodes(rt, decode1(packer, text, &mut read), Err(error), text);
+    kept_values(rt, &read, 7, room);
 }
 
-#[test]
-fn worked_texts(rt: HostRuntime) -> Result<(), Fail> {
-    let packer = BitPacker1x::new();
-    let alloc = rt.alloc();
-    let empty = [1, 0, 1, 0, 0, 0, 0];
-    is_text(&rt, alloc, &packer, ListKind::Plain, &[], &empty)?;
-    let five = [1, 0, 1, 1, 0, 0, 0, 5, 0, 0, 0];
-    is_text(&rt, alloc, &packer, ListKind::Plain, &[5], &five)?;
-    let mut values = Vec::new(alloc);
-    push_steps(&mut values, 0, 1, 33)?;
-    let strict = [1, 2, 1, 0x21, 0, 0, 0, 0, 0x20, 0, 0, 0];
-    is_text(
-        &rt,
-        alloc,
-        &packer,
-        ListKind::StrictlySorted,
-        &values,
-        &strict,
-    )?;
-    let mut values = Vec::new(alloc);
-    push_steps(&mut values, 1, 1, 32)?;
-    push_steps(&mut values, 34, 2, 32)?;
-    let sorted = [
+/// Each text is refused.
+fn are_refused<P: BitPacker>(
+    rt: &impl Abort,
+    alloc: Global,
+    packer: &P,
+    cases: &[(&[u8], ListError)],
+) {
+    for (text, error) in cases {
+        is_refused(rt, alloc, packer, text, *error);
+    }
+}
+
+/// 0 to 32, in one block of width 0 and a tail.
+fn strict_text(rt: &impl Abort, alloc: Global) {
+    let values = steps(rt, alloc, 0, 1, 33);
+    let text = [1, 2, 1, 0x21, 0, 0, 0, 0, 0x20, 0, 0, 0];
+    let kind = ListKind::StrictlySorted;
+    is_text(rt, alloc, &BitPacker1x::new(), kind, &values, &text);
+}
+
+/// 1 to 32, and then 34 to 96 in steps of 2.
+fn sorted_text(rt: &impl Abort, alloc: Global) {
+    let mut values = steps(rt, alloc, 1, 1, 32);
+    push_steps(rt, &mut values, 34, 2, 32);
+    let text = [
         1, 1, 1, 0x40, 0, 0, 0, 1, 0xff, 0xff, 0xff, 0xff, 2, 0xaa, 0xaa, 0xaa, 0xaa, 0xaa, 0xaa,
         0xaa, 0xaa,
     ];
-    is_text(&rt, alloc, &packer, ListKind::Sorted, &values, &sorted)
+    let kind = ListKind::Sorted;
+    is_text(rt, alloc, &BitPacker1x::new(), kind, &values, &text);
 }
 
 #[test]
-fn refusals_of_1x(rt: HostRuntime) -> Result<(), Fail> {
+fn worked_texts(rt: HostRuntime) {
+    let packer = BitPacker1x::new();
+    let alloc = rt.alloc();
+    let empty = [1, 0, 1, 0, 0, 0, 0];
+    is_text(&rt, alloc, &packer, ListKind::Plain, &[], &empty);
+    let five = [1, 0, 1, 1, 0, 0, 0, 5, 0, 0, 0];
+    is_text(&rt, alloc, &packer, ListKind::Plain, &[5], &five);
+    strict_text(&rt, alloc);
+    sorted_text(&rt, alloc);
+}
+
+#[test]
+fn refusals_of_1x(rt: HostRuntime) {
     let cases: [(&[u8], ListError); 18] = [
         (&[1, 0, 1, 0x20, 0, 0, 0, 0x21], ListError::BadWidth(0, 33)),
         (
@@ -132,43 +164,43 @@ fn refusals_of_1x(rt: HostRuntime) -> Result<(), Fail> {
             ListError::Short,
         ),
     ];
-    for (text, error) in cases {
-        is_refused(&rt, rt.alloc(), &BitPacker1x::new(), text, error)?;
-    }
-    Ok(())
+    are_refused(&rt, rt.alloc(), &BitPacker1x::new(), &cases);
 }
 
-fn texts_of_4x<P: BitPacker>(rt: &impl Abort, alloc: Global, packer: &P) -> Result<(), Fail> {
+fn texts_of_4x<P: BitPacker>(rt: &impl Abort, alloc: Global, packer: &P) {
     let zeros = [1, 0, 4, 0x80, 0, 0, 0, 0];
-    is_text(rt, alloc, packer, ListKind::Plain, &[0; 128], &zeros)?;
+    is_text(rt, alloc, packer, ListKind::Plain, &[0; 128], &zeros);
     let mut loose = [0; 24];
     loose[..8].copy_from_slice(&[1, 0, 4, 0x80, 0, 0, 0, 1]);
-    is_refused(rt, alloc, packer, &loose, ListError::LooseWidth(0, 1))?;
+    is_refused(rt, alloc, packer, &loose, ListError::LooseWidth(0, 1));
     let lanes = [1, 0, 1, 0, 0, 0, 0];
-    is_refused(rt, alloc, packer, &lanes, ListError::WrongLanes(1))
+    is_refused(rt, alloc, packer, &lanes, ListError::WrongLanes(1));
 }
 
-fn texts_of_8x<P: BitPacker>(rt: &impl Abort, alloc: Global, packer: &P) -> Result<(), Fail> {
+fn texts_of_8x<P: BitPacker>(rt: &impl Abort, alloc: Global, packer: &P) {
     let promises = [1, 0, 8, 0, 0, 0, 0x10];
-    is_refused(rt, alloc, packer, &promises, ListError::Short)?;
+    is_refused(rt, alloc, packer, &promises, ListError::Short);
     let zeros = [1, 0, 8, 0, 4, 0, 0, 0, 0, 0, 0];
-    is_text(rt, alloc, packer, ListKind::Plain, &[0; 1024], &zeros)
+    is_text(rt, alloc, packer, ListKind::Plain, &[0; 1024], &zeros);
+}
+
+/// Strictly sorted by its header, and 32 times 5: the first code is 5, and the others are -1 modulo 2 ^ 32.
+fn repeated_value(rt: &impl Abort, alloc: Global) {
+    let mut repeated = [0xff; 136];
+    repeated[..12].copy_from_slice(&[1, 2, 1, 0x20, 0, 0, 0, 0x20, 5, 0, 0, 0]);
+    let mut read = Vec::new(alloc);
+    let found = decode1(&BitPacker1x::new(), &repeated, &mut read);
+    decodes(rt, found, Ok(ListKind::StrictlySorted), &repeated);
+    same_values(rt, &read, &[5; 32]);
 }
 
 #[test]
-fn texts_from_anyone(rt: HostRuntime) -> Result<(), Fail> {
-    texts_of_4x(&rt, rt.alloc(), &BitPacker4x::new())?;
-    texts_of_4x(&rt, rt.alloc(), &BitPacker4x::scalar())?;
-    texts_of_8x(&rt, rt.alloc(), &BitPacker8x::new())?;
-    texts_of_8x(&rt, rt.alloc(), &BitPacker8x::scalar())?;
-    // The first code is 5, and the others are -1 modulo 2 ^ 32.
-    let mut repeated = [0xff; 136];
-    repeated[..12].copy_from_slice(&[1, 2, 1, 0x20, 0, 0, 0, 0x20, 5, 0, 0, 0]);
-    let kind = ListKind::StrictlySorted;
-    let mut read = Vec::new(rt.alloc());
-    assert_eq!(rt; decode(&BitPacker1x::new(), &repeated, &mut read), Ok(kind));
-    assert!(rt; read.as_slice() == [5; 32].as_slice());
-    Ok(())
+fn texts_from_anyone(rt: HostRuntime) {
+    texts_of_4x(&rt, rt.alloc(), &BitPacker4x::new());
+    texts_of_4x(&rt, rt.alloc(), &BitPacker4x::scalar());
+    texts_of_8x(&rt, rt.alloc(), &BitPacker8x::new());
+    texts_of_8x(&rt, rt.alloc(), &BitPacker8x::scalar());
+    repeated_value(&rt, rt.alloc());
 }
 
 /// The value with this code.
@@ -180,98 +212,136 @@ fn value_of(kind: ListKind, previous: u32, code: u32) -> u32 {
     }
 }
 
-/// The values of three blocks, of the codes 1, 2 and 5, and of a tail of five values.
-pub(super) fn three_blocks<P: BitPacker>(
-    alloc: Global,
-    kind: ListKind,
-) -> Result<Vec<u32>, AllocError> {
-    let mut values = Vec::new(alloc);
-    let mut value = if kind == ListKind::StrictlySorted {
+/// The value before the first: of a strictly sorted list it is one less than 0.
+pub(super) fn before_first(kind: ListKind) -> u32 {
+    if kind == ListKind::StrictlySorted {
         u32::MAX
     } else {
         0
-    };
+    }
+}
+
+/// Appends a block of values that have one code, and returns the last of them.
+pub(super) fn push_block(
+    rt: &impl Abort,
+    values: &mut Vec<u32>,
+    kind: ListKind,
+    previous: u32,
+    code: u32,
+    count: usize,
+) -> u32 {
+    let mut value = previous;
+    for _ in 0..count {
+        value = value_of(kind, value, code);
+        push(rt, values, value);
+    }
+    value
+}
+
+/// The values of three blocks, of the codes 1, 2 and 5, and of a tail of five values.
+pub(super) fn three_blocks<P: BitPacker>(
+    rt: &impl Abort,
+    alloc: Global,
+    kind: ListKind,
+) -> Vec<u32> {
+    let mut values = Vec::new(alloc);
+    let mut value = before_first(kind);
     for code in [1, 2, 5] {
-        for _ in 0..P::BLOCK_LEN {
-            value = value_of(kind, value, code);
-            values.push(value)?;
-        }
+        value = push_block(rt, &mut values, kind, value, code, P::BLOCK_LEN);
     }
+    push_tail(rt, &mut values);
+    values
+}
+
+fn push_tail(rt: &impl Abort, values: &mut Vec<u32>) {
     for value in [5, 0xfffe_fdfc, 0, 1, u32::MAX] {
-        values.push(value)?;
+        push(rt, values, value);
     }
-    Ok(values)
+}
+
+/// Appends the words of a block, each as often as there are lanes.
+pub(super) fn push_words(rt: &impl Abort, text: &mut Vec<u8>, words: &[[u8; 4]], lanes: usize) {
+    for word in words {
+        push_repeated(rt, text, word, lanes);
+    }
+}
+
+/// Appends a word so many times.
+fn push_repeated(rt: &impl Abort, text: &mut Vec<u8>, word: &[u8], count: usize) {
+    for _ in 0..count {
+        push_bytes(rt, text, word);
+    }
 }
 
 /// Their text. Each lane has one word of width 1, two of width 2 and three of width 3; the bits of the last are `101` again
 /// and again.
 pub(super) fn three_blocks_text<P: BitPacker>(
+    rt: &impl Abort,
     alloc: Global,
     header: [u8; 7],
-) -> Result<Vec<u8>, AllocError> {
-    let blocks: [(u8, &[[u8; 4]]); 3] = [
-        (1, &[[0xff; 4]]),
-        (2, &[[0xaa; 4]; 2]),
-        (
-            3,
-            &[
-                [0x6d, 0xdb, 0xb6, 0x6d],
-                [0xdb, 0xb6, 0x6d, 0xdb],
-                [0xb6, 0x6d, 0xdb, 0xb6],
-            ],
-        ),
+) -> Vec<u8> {
+    let lanes = P::BLOCK_LEN / 32;
+    let mut text = Vec::new(alloc);
+    push_bytes(rt, &mut text, &header);
+    push_bytes(rt, &mut text, &[1]);
+    push_words(rt, &mut text, &[[0xff; 4]], lanes);
+    push_bytes(rt, &mut text, &[2]);
+    push_words(rt, &mut text, &[[0xaa; 4]; 2], lanes);
+    let threes = [
+        [0x6d, 0xdb, 0xb6, 0x6d],
+        [0xdb, 0xb6, 0x6d, 0xdb],
+        [0xb6, 0x6d, 0xdb, 0xb6],
     ];
-    let mut text = Vec::from_slice(alloc, &header)?;
-    for (width, words) in blocks {
-        text.push(width)?;
-        for word in words {
-            for _ in 0..P::BLOCK_LEN / 32 {
-                text.extend_from_slice(word)?;
-            }
-        }
-    }
-    text.extend_from_slice(&[
+    push_bytes(rt, &mut text, &[3]);
+    push_words(rt, &mut text, &threes, lanes);
+    let tail = [
         5, 0, 0, 0, 0xfc, 0xfd, 0xfe, 0xff, 0, 0, 0, 0, 1, 0, 0, 0, 0xff, 0xff, 0xff, 0xff,
-    ])?;
-    Ok(text)
+    ];
+    push_bytes(rt, &mut text, &tail);
+    text
 }
 
-/// Three blocks and a tail in each kind; the header is that of a plain list.
-fn each_kind<P: BitPacker>(
+/// Three blocks and a tail in a kind; the header is that of a plain list.
+fn of_kind<P: BitPacker>(
     rt: &impl Abort,
     alloc: Global,
     packer: &P,
     header: [u8; 7],
-) -> Result<(), Fail> {
-    for (byte, kind) in [
+    (byte, kind): (u8, ListKind),
+) {
+    let mut header = header;
+    header[1] = byte;
+    let values = three_blocks::<P>(rt, alloc, kind);
+    let text = three_blocks_text::<P>(rt, alloc, header);
+    is_text(rt, alloc, packer, kind, &values, &text);
+}
+
+/// Three blocks and a tail in each kind.
+fn each_kind<P: BitPacker>(rt: &impl Abort, alloc: Global, packer: &P, header: [u8; 7]) {
+    for kind in [
         (0, ListKind::Plain),
         (1, ListKind::Sorted),
         (2, ListKind::StrictlySorted),
     ] {
-        let mut header = header;
-        header[1] = byte;
-        let values = three_blocks::<P>(alloc, kind)?;
-        let text = three_blocks_text::<P>(alloc, header)?;
-        is_text(rt, alloc, packer, kind, &values, &text)?;
+        of_kind(rt, alloc, packer, header, kind);
     }
-    Ok(())
 }
 
 #[test]
-fn three_blocks_and_a_tail(rt: HostRuntime) -> Result<(), Fail> {
+fn three_blocks_and_a_tail(rt: HostRuntime) {
     // 101, 389 and 773 values.
     let one = [1, 0, 1, 0x65, 0, 0, 0];
-    each_kind(&rt, rt.alloc(), &BitPacker1x::new(), one)?;
+    each_kind(&rt, rt.alloc(), &BitPacker1x::new(), one);
     let four = [1, 0, 4, 0x85, 1, 0, 0];
-    each_kind(&rt, rt.alloc(), &BitPacker4x::new(), four)?;
-    each_kind(&rt, rt.alloc(), &BitPacker4x::scalar(), four)?;
+    each_kind(&rt, rt.alloc(), &BitPacker4x::new(), four);
+    each_kind(&rt, rt.alloc(), &BitPacker4x::scalar(), four);
     let eight = [1, 0, 8, 5, 3, 0, 0];
-    each_kind(&rt, rt.alloc(), &BitPacker8x::new(), eight)?;
-    each_kind(&rt, rt.alloc(), &BitPacker8x::scalar(), eight)
+    each_kind(&rt, rt.alloc(), &BitPacker8x::new(), eight);
+    each_kind(&rt, rt.alloc(), &BitPacker8x::scalar(), eight);
 }
 
 #[test]
-fn each_refusal_says_what_is_wrong(rt: HostRuntime) -> Result<(), Fail> {
+fn each_refusal_says_what_is_wrong(rt: HostRuntime) {
     let cases = [
         (ListError::Short, 1, "bytes are missing"),
         (ListError::BadVersion(3), 2, "version 3 is not read here"),
@@ -319,9 +389,6 @@ fn each_refusal_says_what_is_wrong(rt: HostRuntime) -> Result<(), Fail> {
         (ListError::Memory, 12, "out of memory"),
     ];
     for (error, number, text) in cases {
-        assert_eq!(rt; error.number(), number, "{text}");
-        let said = format!(in rt.alloc(); "{error}")?;
-        assert_eq!(rt; said.as_str(), text);
+        says(&rt, rt.alloc(), error, number, text);
     }
-    Ok(())
 }

@@ -1,6 +1,7 @@
 //! A machine with no memory left, for calls that have to answer without.
 
-use std::alloc::{AllocError, Global};
+use crate::tests::checks::room_for;
+use std::alloc::Global;
 use std::process::Abort;
 
 /// Makes the stack as large as the calls of a test need, since it cannot grow where memory was taken. Each test that takes all
@@ -22,8 +23,8 @@ pub(super) fn grow_stack(rt: &impl Abort) {
 }
 
 /// Takes all the memory that there is to take, in blocks of falling size, until even a byte is refused.
-pub(super) fn take_all(alloc: Global) -> Result<Vec<Vec<u8>>, AllocError> {
-    let mut blocks = Vec::with_capacity(alloc, 100_000)?;
+pub(super) fn take_all(rt: &impl Abort, alloc: Global) -> Vec<Vec<u8>> {
+    let mut blocks = room_for(rt, alloc, 100_000);
     let mut size = 1usize << 46;
     for _ in 0..200_000u32 {
         if size == 0 {
@@ -38,5 +39,5 @@ pub(super) fn take_all(alloc: Global) -> Result<Vec<Vec<u8>>, AllocError> {
             Err(_) => size /= 2,
         }
     }
-    Ok(blocks)
+    blocks
 }

@@ -1,27 +1,19 @@
 //! Texts of version 1 into those of version 2. The expected bytes and refusals were worked by hand from the format. None is the
 //! program's own output.
 
-use super::list2::{blocks_and_text, each_kind, is_list, thirty_three};
-use bitpack::list2::{encode, upgrade};
-use bitpack::{ListError, ListKind, list};
+use super::list2::{SHAPES, blocks_of, each_kind, is_list, is_written, text_of, thirty_three};
+use crate::tests::calls::{encode1, upgrade};
+use crate::tests::checks::{appended_bytes, kept_bytes, nine, returns, succeeds, with_zero};
+use bitpack::{ListError, ListKind};
 use bitpacking::{BitPacker, BitPacker1x, BitPacker4x, BitPacker8x};
 use std::alloc::Global;
 use std::process::Abort;
-use std::test::Fail;
 
 /// The text of version 1 gives this one of version 2, which is appended.
-fn is_upgraded<P: BitPacker>(
-    rt: &impl Abort,
-    alloc: Global,
-    packer: &P,
-    old: &[u8],
-    new: &[u8],
-) -> Result<(), Fail> {
-    let mut out = vec![in alloc; 9u8]?;
-    assert_eq!(rt; upgrade(packer, old, &mut out), Ok(()), "{old:?}");
-    assert!(rt; out.first() == Some(&9));
-    assert_eq!(rt; out.get(1..).unwrap_or(&[]), new);
-    Ok(())
+fn is_upgraded<P: BitPacker>(rt: &impl Abort, alloc: Global, packer: &P, old: &[u8], new: &[u8]) {
+    let mut out = nine(rt, alloc);
+    succeeds(rt, upgrade(packer, old, &mut out), old);
+    appended_bytes(rt, &out, new);
 }
 
 /// The text is refused, and the vector holds what it held, in the room that it had.
@@ -31,19 +23,27 @@ fn is_refused<P: BitPacker>(
     packer: &P,
     old: &[u8],
     error: ListError,
-) -> Result<(), Fail> {
-    let mut out = vec![in alloc; 9u8]?;
+) {
+    let mut out = nine(rt, alloc);
     let room = out.capacity();
-    assert_eq!(rt; upgrade(packer, old, &mut out), Err(error), "{old:?}");
-    assert!(rt; out.as_slice() == [9].as_slice());
-    assert_eq!(rt; out.capacity(), room);
-    Ok(())
+    returns(rt, upgrade(packer, old, &mut out), Err(error), old);
+    kept_bytes(rt, &out, room);
+}
+
+/// Each text is refused.
+fn are_refused<P: BitPacker>(
+    rt: &impl Abort,
+    alloc: Global,
+    packer: &P,
+    cases: &[(&[u8], ListError)],
+) {
+    for (old, error) in cases {
+        is_refused(rt, alloc, packer, old, *error);
+    }
 }
 
 #[test]
-fn worked_texts(rt: HostRuntime) -> Result<(), Fail> {
-    let packer = BitPacker1x::new();
-    let alloc = rt.alloc();
+fn worked_texts(rt: HostRuntime) {
     let cases: [(&[u8], &[u8]); 4] = [
         (&[1, 1, 1, 0, 0, 0, 0], &[2, 1, 1, 0, 0, 0, 0]),
         // A plain list may be in any order.
@@ -69,15 +69,30 @@ fn worked_texts(rt: HostRuntime) -> Result<(), Fail> {
         ),
     ];
     for (old, new) in cases {
-        is_upgraded(&rt, alloc, &packer, old, new)?;
+        is_upgraded(&rt, rt.alloc(), &BitPacker1x::new(), old, new);
     }
-    Ok(())
+}
+
+/// Strictly sorted, 32 times 5: after the first every code is that of no step, which wraps.
+fn wrapped_values_refused(rt: &impl Abort, alloc: Global) {
+    let mut wrapped = [0xff; 136];
+    wrapped[..12].copy_from_slice(&[1, 2, 1, 32, 0, 0, 0, 32, 5, 0, 0, 0]);
+    let error = ListError::NotSorted(1);
+    is_refused(rt, alloc, &BitPacker1x::new(), &wrapped, error);
+}
+
+/// Sorted, 1 to 32, and then 32 times 31: the first code of block 1 wraps, and the others are 0.
+fn wrapped_block_refused(rt: &impl Abort, alloc: Global) {
+    let mut blocks = [0; 141];
+    blocks[..17].copy_from_slice(&[
+        1, 1, 1, 64, 0, 0, 0, 1, 0xff, 0xff, 0xff, 0xff, 32, 0xff, 0xff, 0xff, 0xff,
+    ]);
+    let error = ListError::NotSorted(32);
+    is_refused(rt, alloc, &BitPacker1x::new(), &blocks, error);
 }
 
 #[test]
-fn refusals_of_1x(rt: HostRuntime) -> Result<(), Fail> {
-    let packer = BitPacker1x::new();
-    let alloc = rt.alloc();
+fn refusals_of_1x(rt: HostRuntime) {
     let cases: [(&[u8], ListError); 11] = [
         (&[], ListError::Short),
         (&[2, 0, 1, 0, 0, 0, 0], ListError::BadVersion(2)),
@@ -115,71 +130,78 @@ fn refusals_of_1x(rt: HostRuntime) -> Result<(), Fail> {
         ),
         (&[1, 2, 1, 33, 0, 0, 0, 0, 32, 0, 0], ListError::Short),
     ];
-    for (old, error) in cases {
-        is_refused(&rt, alloc, &packer, old, error)?;
-    }
-    // Strictly sorted, 32 times 5: after the first every code is that of no step, which wraps.
-    let mut wrapped = [0xff; 136];
-    wrapped[..12].copy_from_slice(&[1, 2, 1, 32, 0, 0, 0, 32, 5, 0, 0, 0]);
-    is_refused(&rt, alloc, &packer, &wrapped, ListError::NotSorted(1))?;
-    // Sorted, 1 to 32, and then 32 times 31: the first code of block 1 wraps, and the others are 0.
-    let mut blocks = [0; 141];
-    blocks[..17].copy_from_slice(&[
-        1, 1, 1, 64, 0, 0, 0, 1, 0xff, 0xff, 0xff, 0xff, 32, 0xff, 0xff, 0xff, 0xff,
-    ]);
-    is_refused(&rt, alloc, &packer, &blocks, ListError::NotSorted(32))
+    are_refused(&rt, rt.alloc(), &BitPacker1x::new(), &cases);
+    wrapped_values_refused(&rt, rt.alloc());
+    wrapped_block_refused(&rt, rt.alloc());
 }
 
-/// The list has this text of version 2, which comes of its text of version 1 too, and opens. Each proper beginning of the text of
-/// version 1 is refused, and so is the text with a byte more.
+/// The text of version 1 gives this one of version 2. Each proper beginning of the text of version 1 is refused, and so is the text
+/// with a byte more.
+fn alone_is_upgraded<P: BitPacker>(
+    rt: &impl Abort,
+    alloc: Global,
+    packer: &P,
+    old: &[u8],
+    new: &[u8],
+) {
+    is_upgraded(rt, alloc, packer, old, new);
+    for end in 0..old.len() {
+        is_refused(rt, alloc, packer, &old[..end], ListError::Short);
+    }
+    let longer = with_zero(rt, alloc, old);
+    is_refused(rt, alloc, packer, &longer, ListError::Trailing);
+}
+
+/// The list has this text of version 2, which comes of its text of version 1 too, and opens.
 fn is_same<P: BitPacker>(
     rt: &impl Abort,
     alloc: Global,
     packer: &P,
-    kind: ListKind,
-    values: &[u32],
+    (kind, values): (ListKind, &[u32]),
     new: &[u8],
-) -> Result<(), Fail> {
+) {
     let mut old = Vec::new(alloc);
-    assert_eq!(rt; list::encode(packer, kind, values, &mut old), Ok(()));
-    is_upgraded(rt, alloc, packer, &old, new)?;
-    let mut encoded = Vec::new(alloc);
-    assert_eq!(rt; encode(packer, kind, values, &mut encoded), Ok(()));
-    assert_eq!(rt; encoded.as_slice(), new);
-    is_list(rt, packer, kind, values, new)?;
-    for end in 0..old.len() {
-        is_refused(rt, alloc, packer, &old[..end], ListError::Short)?;
-    }
-    old.push(0)?;
-    is_refused(rt, alloc, packer, &old, ListError::Trailing)
+    succeeds(rt, encode1(packer, kind, values, &mut old), new);
+    alone_is_upgraded(rt, alloc, packer, &old, new);
+    is_written(rt, alloc, packer, kind, values, new);
+    is_list(rt, packer, kind, values, new);
 }
 
-/// None, one and three blocks with and without a tail, in each kind.
-fn each_list<P: BitPacker>(rt: &impl Abort, alloc: Global, packer: &P) -> Result<(), Fail> {
+/// None, one and three blocks with and without a tail.
+fn shapes_of<P: BitPacker>(
+    rt: &impl Abort,
+    alloc: Global,
+    packer: &P,
+    (byte, kind): (u8, ListKind),
+    lasts: [u32; 3],
+) {
+    for (blocks, tail) in SHAPES {
+        let values = blocks_of::<P>(rt, alloc, kind, blocks, tail);
+        let text = text_of::<P>(rt, alloc, byte, blocks, tail, lasts);
+        is_same(rt, alloc, packer, (kind, values.as_slice()), &text);
+    }
+}
+
+/// Each shape in each kind.
+fn each_list<P: BitPacker>(rt: &impl Abort, alloc: Global, packer: &P) {
     for (kind, lasts) in each_kind::<P>() {
-        for blocks in [0, 1, 3] {
-            for tail in [false, true] {
-                let (values, text) = blocks_and_text::<P>(alloc, kind, blocks, tail, lasts)?;
-                is_same(rt, alloc, packer, kind.1, &values, &text)?;
-            }
-        }
+        shapes_of(rt, alloc, packer, kind, lasts);
     }
-    Ok(())
 }
 
 #[test]
-fn lists_of_1x(rt: HostRuntime) -> Result<(), Fail> {
-    each_list(&rt, rt.alloc(), &BitPacker1x::new())
+fn lists_of_1x(rt: HostRuntime) {
+    each_list(&rt, rt.alloc(), &BitPacker1x::new());
 }
 
 #[test]
-fn lists_of_4x(rt: HostRuntime) -> Result<(), Fail> {
-    each_list(&rt, rt.alloc(), &BitPacker4x::new())?;
+fn lists_of_4x(rt: HostRuntime) {
+    each_list(&rt, rt.alloc(), &BitPacker4x::new());
     each_list(&rt, rt.alloc(), &BitPacker4x::scalar())
 }
 
 #[test]
-fn lists_of_8x(rt: HostRuntime) -> Result<(), Fail> {
-    each_list(&rt, rt.alloc(), &BitPacker8x::new())?;
-    each_list(&rt, rt.alloc(), &BitPacker8x::scalar())
+fn lists_of_8x(rt: HostRuntime) {
+    each_list(&rt, rt.alloc(), &BitPacker8x::new());
+    each_list(&rt, rt.alloc(), &BitPacker8x::scalar());
 }

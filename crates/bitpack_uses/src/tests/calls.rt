@@ -1,0 +1,89 @@
+//! The calls on packed lists, each once and with no contract. The proof of a test does not read what a call promises, so it is short
+//! where the test calls these.
+
+use bitpack::list2::{PackedList, Reads, intersect};
+use bitpack::{ListError, ListKind, list, list2};
+use bitpacking::BitPacker;
+use std::process::Abort;
+
+/// Encodes in version 1.
+pub(super) fn encode1<P: BitPacker>(
+    packer: &P,
+    kind: ListKind,
+    values: &[u32],
+    out: &mut Vec<u8>,
+) -> Result<(), ListError> {
+    list::encode(packer, kind, values, out)
+}
+
+/// Decodes a text of version 1.
+pub(super) fn decode1<P: BitPacker>(
+    packer: &P,
+    text: &[u8],
+    out: &mut Vec<u32>,
+) -> Result<ListKind, ListError> {
+    list::decode(packer, text, out)
+}
+
+/// Encodes in version 2.
+pub(super) fn encode2<P: BitPacker>(
+    packer: &P,
+    kind: ListKind,
+    values: &[u32],
+    out: &mut Vec<u8>,
+) -> Result<(), ListError> {
+    list2::encode(packer, kind, values, out)
+}
+
+/// Makes a text of version 2 of one of version 1.
+pub(super) fn upgrade<P: BitPacker>(
+    packer: &P,
+    text: &[u8],
+    out: &mut Vec<u8>,
+) -> Result<(), ListError> {
+    list2::upgrade(packer, text, out)
+}
+
+/// Opens a text of version 2.
+pub(super) fn open<'a, P: BitPacker>(
+    packer: &P,
+    text: &'a [u8],
+) -> Result<PackedList<'a, P>, ListError> {
+    PackedList::open(*packer, text)
+}
+
+/// The value at a position.
+pub(super) fn value_at<P: BitPacker>(list: &PackedList<'_, P>, position: usize) -> Option<u32> {
+    list.get(position)
+}
+
+/// Seeks in a list, which has to be in order.
+pub(super) fn seek<P: BitPacker>(
+    rt: &impl Abort,
+    list: &PackedList<'_, P>,
+    target: u32,
+) -> Option<(usize, u32)> {
+    if list.kind() == ListKind::Plain {
+        assert!(rt; false, "a plain list is not searched");
+        return None;
+    }
+    list.seek(target, &mut Reads::new())
+}
+
+/// What `intersect` returns for the lists of two texts, or `None` where one of them is no text of a list in order.
+pub(super) fn intersect_texts<P: BitPacker, Q: BitPacker>(
+    (packer, text): (&P, &[u8]),
+    (other_packer, other_text): (&Q, &[u8]),
+    out: &mut Vec<u32>,
+) -> Option<Result<(), ListError>> {
+    let Ok(a) = open(packer, text) else {
+        return None;
+    };
+    let Ok(b) = open(other_packer, other_text) else {
+        return None;
+    };
+    if a.kind() == ListKind::Plain || b.kind() == ListKind::Plain {
+        return None;
+    }
+    Some(intersect(&a, &b, out, &mut Reads::new(), &mut Reads::new()))
+}
