@@ -139,7 +139,7 @@ def registers():
         named = [tuple(re.findall(r"\b(\w+_kind)::<(\w+), (u32x\d|\[u32; \d\])>", arm)) for arm in arms]
         right = []
         for call in ["pack_kind", "unpack_kind", "width_kind"]:
-            right += [((call, "ByWidth", f"u32x{lanes}"),), ((call, "SimpleLoops", f"[u32; {lanes}]"),)]
+            right += [((call, "InlinedLoops", f"u32x{lanes}"),), ((call, "SimpleLoops", f"[u32; {lanes}]"),)]
         if named != right:
             yield f"{path}: the arms of Lanes and Scalar are not {right}"
 

@@ -3,7 +3,7 @@
 ghost use Rattle.std.proofs.Common.{lit≤, refl, rules};
 
 use crate::by_kind::{pack_kind, unpack_kind, width_kind};
-use crate::code_kernels::{ByWidth, SimpleLoops};
+use crate::code_kernels::{InlinedLoops, SimpleLoops};
 use crate::instruction_set::InstructionSet;
 use crate::{BitPacker, Counted, Kind, Steps};
 use std::simd::prelude::*;
@@ -161,7 +161,7 @@ impl Counted for BitPacker8x {
     ) -> usize {
         match self.0 {
             InstructionSet::Lanes => {
-                pack_kind::<ByWidth, u32x8>(kind, decompressed, compressed, num_bits, steps)
+                pack_kind::<InlinedLoops, u32x8>(kind, decompressed, compressed, num_bits, steps)
             }
             InstructionSet::Scalar => {
                 pack_kind::<SimpleLoops, [u32; 8]>(kind, decompressed, compressed, num_bits, steps)
@@ -180,7 +180,7 @@ impl Counted for BitPacker8x {
     ) -> usize {
         match self.0 {
             InstructionSet::Lanes => {
-                unpack_kind::<ByWidth, u32x8>(kind, compressed, decompressed, num_bits, steps)
+                unpack_kind::<InlinedLoops, u32x8>(kind, compressed, decompressed, num_bits, steps)
             }
             InstructionSet::Scalar => {
                 unpack_kind::<SimpleLoops, [u32; 8]>(
@@ -197,7 +197,7 @@ impl Counted for BitPacker8x {
     #[inline(always)]
     fn width_counted(&self, kind: Kind, decompressed: &[u32], steps: &mut Steps) -> u8 {
         match self.0 {
-            InstructionSet::Lanes => width_kind::<ByWidth, u32x8>(kind, decompressed, steps),
+            InstructionSet::Lanes => width_kind::<InlinedLoops, u32x8>(kind, decompressed, steps),
             InstructionSet::Scalar => width_kind::<SimpleLoops, [u32; 8]>(
                 kind,
                 decompressed,

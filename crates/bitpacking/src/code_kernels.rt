@@ -5,7 +5,6 @@ ghost use Rattle.bitpacking.specs.Calls.{CanPackCodes, CanUnpack, MovesToPack};
 ghost use Rattle.bitpacking.specs.Kernels.{PackedCodes, UnpackedCodes};
 ghost use Rattle.bitpacking.specs.Moves.{Moves};
 
-mod by_width;
 mod inlined;
 
 use crate::kernel::OneLoop;
@@ -15,7 +14,6 @@ use crate::kinds::sinks::Sink;
 use crate::kinds::transformers::Transformer;
 use crate::memory::{ByteSource, ByteTarget, Steps, ValueSource, ValueTarget};
 use bitpacking_register::Register;
-pub(crate) use by_width::ByWidth;
 pub(crate) use inlined::InlinedLoops;
 
 /// Packs and unpacks the codes of a block: wraps the slices in the sources and targets that a kernel takes, and chooses the

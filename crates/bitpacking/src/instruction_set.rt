@@ -1,12 +1,12 @@
 //! Which registers a packer of several lanes runs on.
 
-use crate::code_kernels::{ByWidth, InlinedLoops, SimpleLoops};
+use crate::code_kernels::{InlinedLoops, SimpleLoops};
 use bitpacking_register::Register;
 use std::simd::prelude::*;
 
 #[derive(Clone, Copy)]
 pub(crate) enum InstructionSet {
-    /// Vectors, with a kernel for each width.
+    /// Vectors, with loops for each width.
     Lanes,
     /// Arrays, a word at a time, with one loop for all widths.
     Scalar,
@@ -29,7 +29,7 @@ impl Array for [u32; 8] {}
 /// Kernels with the registers that they run on: a call with other ones does not compile.
 pub(crate) trait RunsOn<R: Register> {}
 
-impl<R: Vector> RunsOn<R> for ByWidth {}
+impl<R: Vector> RunsOn<R> for InlinedLoops {}
 
 impl<R: Array> RunsOn<R> for SimpleLoops {}
 

@@ -1,8 +1,7 @@
-//! Packing and unpacking at a width that the compiler knows, eight rows at a time. The width is handed on as a value, or is a const
-//! parameter.
+//! Packing and unpacking eight rows at a time, at a width that is handed on as a value. Where this is inlined in an arm for one width,
+//! the compiler knows it.
 
 ghost use Rattle.std.specs.Prelude.{◌≡◌, ℕ, ◌+◌, ◌*◌, ◌%◌, ◌<◌, ◌≤◌, List, length, drop};
-ghost use Rattle.bitpacking.specs.Kernels.{KernelCanPack, KernelCanUnpack, PackedCodes, UnpackedCodes};
 ghost use Rattle.bitpacking.specs.Layout.{size};
 ghost use Rattle.bitpacking.specs.Moves.{Moves};
 ghost use Rattle.bitpacking.specs.Partway.{RowsPacked, RowsUnpacked, PacksRows, UnpacksRows, left_at};
@@ -14,24 +13,6 @@ use crate::kinds::sinks::Sink;
 use crate::kinds::transformers::Transformer;
 use crate::memory::{ByteSource, ByteTarget, Steps, ValueSource, ValueTarget};
 use bitpacking_register::Register;
-
-/// Packs a block of codes of fewer than 32 bits, the first of them after the value `start`, and returns the number of bytes
-/// written.
-#[inline(always)]
-pub(crate) fn pack_at_width<R: Register, T: Transformer<R>, const WIDTH: u32>(
-    source: &ValueSource<'_>,
-    target: &mut ByteTarget<'_>,
-    start: u32,
-    steps: &mut Steps,
-) -> usize
-    requires narrow { WIDTH < 32 }
-    requires can { KernelCanPack R.LANES WIDTH source.now.bits source.now.words.now (T.block_codes start source.now.words.now) target.old.bytes.now }
-    ensures same_reference { target.new.bytes.ghost_name ≡ target.old.bytes.ghost_name }
-    ensures packed { PackedCodes R.LANES WIDTH (T.block_codes start source.now.words.now) target.old.bytes.now target.new.bytes.now result }
-    ensures counts { Moves steps.old steps.new 32 WIDTH (32 + WIDTH) }
-{
-    FourLoops::pack::<R, T>(source, target, start, WIDTH, steps)
-}
 
 impl Pack for FourLoops {
     #[inline(always)]
@@ -100,24 +81,6 @@ fn pack_rows<R: Register, T: Transformer<R>, const FROM: u32>(
         }
     }
     pending
-}
-
-/// Unpacks a block of codes of fewer than 32 bits, the first of them after the value `start`, and returns the number of bytes
-/// read.
-#[inline(always)]
-pub(crate) fn unpack_at_width<R: Register, S: Sink<R>, const WIDTH: u32>(
-    source: &ByteSource<'_>,
-    target: &mut ValueTarget<'_>,
-    start: u32,
-    steps: &mut Steps,
-) -> usize
-    requires narrow { WIDTH < 32 }
-    requires can { KernelCanUnpack R.LANES WIDTH target.old.bits source.now.bytes.now target.old.words.now }
-    ensures same_reference { target.new.words.ghost_name ≡ target.old.words.ghost_name }
-    ensures unpacked { UnpackedCodes R.LANES WIDTH (S.block_values start) source.now.bytes.now target.old.words.now target.new.words.now result }
-    ensures counts { Moves steps.old steps.new WIDTH 32 (32 + WIDTH) }
-{
-    FourLoops::unpack::<R, S>(source, target, start, WIDTH, steps)
 }
 
 impl Unpack for FourLoops {
