@@ -32,6 +32,7 @@ import time
 
 ROOT = os.path.dirname(os.path.dirname(os.path.realpath(__file__)))
 FOLDER = f"{ROOT}/scripts/edits"
+# A copy for each processor.
 COPIES = min(4, len(os.sched_getaffinity(0)))
 
 
@@ -199,7 +200,7 @@ def tried(room, crate, edits):
 
 
 def copied(room):
-    """Makes a copy of the tracked files, with what earlier checks left in out/."""
+    """Makes a copy of the tracked files, with what earlier checks left in out/, where git tracks them too."""
     listed = subprocess.run(["git", "ls-files", "-z"], cwd=ROOT, check=True, stdout=subprocess.PIPE).stdout
     for name in listed.decode().split("\0"):
         if name and os.path.isfile(f"{ROOT}/{name}"):
@@ -209,6 +210,7 @@ def copied(room):
         if os.path.isdir(f"{ROOT}/crates/{crate}/out"):
             shutil.copytree(f"{ROOT}/crates/{crate}/out", f"{room}/crates/{crate}/out", symlinks=True)
     subprocess.run(["git", "init", "-q", room], check=True)
+    subprocess.run(["git", "add", "--all"], cwd=room, check=True)
 
 
 def edits_by_crate(wanted):
