@@ -1,5 +1,5 @@
 -- The request of a line is read from its fields, and the fields spell no other: the law `one_command`.
-use Rattle.std.proofs.Common.{◌≡◌, ◌≢◌, ℕ, ◌^◌, ◌<◌, false, List, [], ◌∷◌, bytes_eq, codes, drop, get_or, if◌then◌else◌, length, refl, sym, ap, subst, ◌∙◌, arith, ◌==◌, inl, inr, Option, Some, None, Result, Err}
+use Rattle.std.proofs.Common.{◌≡◌, ℕ, ◌^◌, ◌<◌, ◌≤◌, false, List, [], ◌∷◌, bytes_eq, codes, drop, get_or, if◌then◌else◌, length, refl, sym, ap, subst, ◌∙◌, arith, ◌==◌, inl, inr, Option, Some, None, Result, Err}
 use Rattle.std.specs.List.{AllZip}
 use Rattle.std.specs.Fmt.{decimal}
 use Rattle.std.specs.Str.Parse.{digits_value}
@@ -216,21 +216,9 @@ fails_at verb strings seen Q r e is none back =
     let (w, holds) = back (subst (SpellsRequest verb strings) (request_is verb strings request spelled) spelled) in
     nothing w holds)
 
--- too many or too few fields after a verb
-pub misfit : (verb known : List ℕ) (strings : List (List ℕ)) (request : Request) → verb ≡ known
-    → (length strings ≢ length (arguments (read_request known strings))) → SpellsRequest verb strings request → ⊥
-misfit verb known strings request is apart spelled =
-    let same : request ≡ read_request known strings = rw (← is) (request_is verb strings request spelled) in
-    apart (sym (AllZip-long SpellsArgument strings (arguments request) spelled.1) ∙ ap (λ r. length (arguments r)) same)
-
--- a verb that is none of the eight
-pub no_verb : (verb : List ℕ) (strings : List (List ℕ)) → verb ≢ codes "size" → verb ≢ codes "width" → verb ≢ codes "pack" → verb ≢ codes "unpack" → verb ≢ codes "enc" → verb ≢ codes "dec"
-    → verb ≢ codes "seek" → verb ≢ codes "upgrade" → (request : Request) → SpellsRequest verb strings request → ⊥
-no_verb verb strings size width pack unpack enc dec seek upgrade (Size _) (is, spelled) = size is
-no_verb verb strings size width pack unpack enc dec seek upgrade (Width _ _) (is, spelled) = width is
-no_verb verb strings size width pack unpack enc dec seek upgrade (Pack _ _ _) (is, spelled) = pack is
-no_verb verb strings size width pack unpack enc dec seek upgrade (Unpack _ _ _) (is, spelled) = unpack is
-no_verb verb strings size width pack unpack enc dec seek upgrade (Enc _ _) (is, spelled) = enc is
-no_verb verb strings size width pack unpack enc dec seek upgrade (Dec _) (is, spelled) = dec is
-no_verb verb strings size width pack unpack enc dec seek upgrade (Seek _ _) (is, spelled) = seek is
-no_verb verb strings size width pack unpack enc dec seek upgrade (Upgrade _) (is, spelled) = upgrade is
+-- a request has one to three arguments
+pub some_arguments : (verb : List ℕ) (strings : List (List ℕ)) (request : Request) → SpellsRequest verb strings request → (1 ≤ length strings) × (length strings ≤ 3)
+some_arguments verb strings request spelled =
+    let long = AllZip-long SpellsArgument strings (arguments request) spelled.1 in
+    let (visible, short) = form request in
+    (omega (arith, long, short.0), omega (arith, long, short.1))

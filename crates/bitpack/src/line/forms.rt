@@ -1,6 +1,6 @@
 //! The forms of a line: which fields follow each verb.
 
-ghost use Rattle.std.specs.Prelude.{map};
+ghost use Rattle.std.specs.Prelude.{[], ◌∷◌, map};
 ghost use Rattle.bitpack.specs.Grammar.{SpellsRequest};
 ghost use Rattle.bitpack.specs.Found.{Parses, request_of};
 
@@ -20,32 +20,71 @@ pub(crate) fn parse_command(
 ) -> Result<Command, ParseError>
     ensures { Parses request_of (SpellsRequest verb.now (map (λ field. field.now) arguments.now)) result }
 {
-    match (verb, arguments) {
-        ("size", [width]) => Ok(Command::Size(parse_width(width).ok_or(Spelling)?)),
-        ("width", [kind, values]) => Ok(Command::Width(
-            parse_kind(kind).ok_or(Spelling)?,
-            parse_values(alloc, values)?,
+    match arguments {
+        [first] => parse_with_one(alloc, verb, first),
+        [first, second] => parse_with_two(alloc, verb, first, second),
+        [first, second, third] => parse_with_three(alloc, verb, first, second, third),
+        _ => Err(Spelling),
+    }
+}
+
+// Parses a command with one argument.
+fn parse_with_one(alloc: Global, verb: &str, first: &str) -> Result<Command, ParseError>
+    ensures { Parses request_of (SpellsRequest verb.now (first.now ∷ [])) result }
+{
+    match verb {
+        "size" => Ok(Command::Size(parse_width(first).ok_or(Spelling)?)),
+        "dec" => Ok(Command::Dec(parse_bytes(alloc, first)?)),
+        "upgrade" => Ok(Command::Upgrade(parse_bytes(alloc, first)?)),
+        _ => Err(Spelling),
+    }
+}
+
+fn parse_with_two(
+    alloc: Global,
+    verb: &str,
+    first: &str,
+    second: &str,
+) -> Result<Command, ParseError>
+    ensures { Parses request_of (SpellsRequest verb.now (first.now ∷ second.now ∷ [])) result }
+{
+    match verb {
+        "width" => Ok(Command::Width(
+            parse_kind(first).ok_or(Spelling)?,
+            parse_values(alloc, second)?,
         )),
-        ("pack", [kind, width, values]) => Ok(Command::Pack(
-            parse_kind(kind).ok_or(Spelling)?,
-            parse_width(width).ok_or(Spelling)?,
-            parse_values(alloc, values)?,
+        "enc" => Ok(Command::Enc(
+            parse_list_kind(first).ok_or(Spelling)?,
+            parse_values(alloc, second)?,
         )),
-        ("unpack", [kind, width, bytes]) => Ok(Command::Unpack(
-            parse_kind(kind).ok_or(Spelling)?,
-            parse_width(width).ok_or(Spelling)?,
-            parse_bytes(alloc, bytes)?,
+        "seek" => Ok(Command::Seek(
+            parse_word(first).ok_or(Spelling)?,
+            parse_bytes(alloc, second)?,
         )),
-        ("enc", [kind, values]) => Ok(Command::Enc(
-            parse_list_kind(kind).ok_or(Spelling)?,
-            parse_values(alloc, values)?,
+        _ => Err(Spelling),
+    }
+}
+
+fn parse_with_three(
+    alloc: Global,
+    verb: &str,
+    first: &str,
+    second: &str,
+    third: &str,
+) -> Result<Command, ParseError>
+    ensures { Parses request_of (SpellsRequest verb.now (first.now ∷ second.now ∷ third.now ∷ [])) result }
+{
+    match verb {
+        "pack" => Ok(Command::Pack(
+            parse_kind(first).ok_or(Spelling)?,
+            parse_width(second).ok_or(Spelling)?,
+            parse_values(alloc, third)?,
         )),
-        ("dec", [bytes]) => Ok(Command::Dec(parse_bytes(alloc, bytes)?)),
-        ("seek", [target, bytes]) => Ok(Command::Seek(
-            parse_word(target).ok_or(Spelling)?,
-            parse_bytes(alloc, bytes)?,
+        "unpack" => Ok(Command::Unpack(
+            parse_kind(first).ok_or(Spelling)?,
+            parse_width(second).ok_or(Spelling)?,
+            parse_bytes(alloc, third)?,
         )),
-        ("upgrade", [bytes]) => Ok(Command::Upgrade(parse_bytes(alloc, bytes)?)),
         _ => Err(Spelling),
     }
 }

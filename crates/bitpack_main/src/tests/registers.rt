@@ -4,29 +4,51 @@ use bitpacking_register::Register;
 use std::process::Abort;
 use std::simd::prelude::*;
 
-fn check<R: Register>(rt: &impl Abort, words: &[u32; 8], bytes: &[u8; 32], sums: &[u32; 8]) {
-    let lanes = R::LANES;
-    let register = R::from_words(&words[..lanes]);
+fn has_words<R: Register>(rt: &impl Abort, register: R, words: &[u32; 8]) {
     let mut out = [9; 8];
-    let mut out_bytes = [9; 32];
-    register.to_words(&mut out[..lanes]);
-    assert!(rt; out[..lanes] == words[..lanes]);
-    register.to_bytes(&mut out_bytes[..4 * lanes]);
-    assert!(rt; out_bytes[..4 * lanes] == bytes[..4 * lanes]);
-    R::from_bytes(&bytes[..4 * lanes]).to_words(&mut out[..lanes]);
-    assert!(rt; out[..lanes] == words[..lanes]);
-    R::integrate(R::splat(3), register).to_words(&mut out[..lanes]);
-    assert!(rt; out[..lanes] == sums[..lanes]);
-    R::delta(R::integrate(R::splat(3), register), R::splat(3)).to_words(&mut out[..lanes]);
-    assert!(rt; out[..lanes] == words[..lanes]);
-    register
-        .shift_left(4)
-        .shift_right(4)
-        .to_words(&mut out[..lanes]);
-    assert_eq!(rt; out[0], 0x0403_0201);
-    assert_eq!(rt; register.or(R::splat(1)).and(R::splat(1)).or_lanes(), 1);
+    register.to_words(&mut out[..R::LANES]);
+    assert!(rt; out[..R::LANES] == words[..R::LANES]);
+}
+
+fn has_bytes<R: Register>(rt: &impl Abort, register: R, bytes: &[u8; 32]) {
+    let mut out = [9; 32];
+    register.to_bytes(&mut out[..4 * R::LANES]);
+    assert!(rt; out[..4 * R::LANES] == bytes[..4 * R::LANES]);
+}
+
+fn moves<R: Register>(rt: &impl Abort, register: R, words: &[u32; 8], bytes: &[u8; 32]) {
+    has_words(rt, register, words);
+    has_bytes(rt, register, bytes);
+    has_words(rt, R::from_bytes(&bytes[..4 * R::LANES]), words);
+}
+
+fn sums_up<R: Register>(rt: &impl Abort, register: R, words: &[u32; 8], sums: &[u32; 8]) {
+    let three = R::splat(3);
+    let summed = R::integrate(three, register);
+    has_words(rt, summed, sums);
+    has_words(rt, R::delta(summed, three), words);
+}
+
+fn calculates<R: Register>(rt: &impl Abort, register: R, words: &[u32; 8]) {
+    let one = R::splat(1);
+    assert_eq!(rt; register.or(one).and(one).or_lanes(), 1);
     assert_eq!(rt; register.sub(register).or_lanes(), 0);
-    assert_eq!(rt; register.add(R::splat(0).sub(register)).or_lanes(), 0);
+    has_words(rt, register.add(register).sub(register), words);
+}
+
+fn shifts<R: Register>(rt: &impl Abort, register: R) {
+    let shifted = register.shift_left(4).shift_right(4);
+    let mut out = [9; 8];
+    shifted.to_words(&mut out[..R::LANES]);
+    assert_eq!(rt; out[0], 0x0403_0201);
+}
+
+fn check<R: Register>(rt: &impl Abort, words: &[u32; 8], bytes: &[u8; 32], sums: &[u32; 8]) {
+    let register = R::from_words(&words[..R::LANES]);
+    moves(rt, register, words, bytes);
+    sums_up(rt, register, words, sums);
+    calculates(rt, register, words);
+    shifts(rt, register);
 }
 
 #[test]
