@@ -222,14 +222,19 @@ def edits_by_crate(wanted):
     return {crate: edits for crate, edits in found.items() if edits}
 
 
+def is_below(crate, edits):
+    """Whether the edits change a crate below theirs, which is then checked too."""
+    return any(not path.startswith(f"crates/{crate}/") for edit in edits for path, _, _ in edit.changes)
+
+
 def checks_of(left):
-    """The checks that take these edits, as (crate, edits), the longest first."""
+    """The checks that take these edits, as (crate, edits), the longest first: one of a crate below takes as long as some ten edits."""
     found = []
     for crate, edits in left.items():
         while edits:
             found.append((crate, fitting(edits)))
             edits = [it for it in edits if it not in found[-1][1]]
-    return sorted(found, key=lambda it: -len(it[1]))
+    return sorted(found, key=lambda it: -len(it[1]) - 10 * is_below(*it))
 
 
 class Rooms:
@@ -250,8 +255,7 @@ class Rooms:
         """Tries the edits in one check. Returns those that wait, and how many failed."""
         room, start = self.free.get(), time.time()
         whys, waiting, more = tried(room, crate, edits)
-        below = any(not path.startswith(f"crates/{crate}/") for edit in edits for path, _, _ in edit.changes)
-        for changed in os.listdir(f"{room}/crates") if below else [crate]:
+        for changed in os.listdir(f"{room}/crates") if is_below(crate, edits) else [crate]:
             shutil.rmtree(f"{room}/crates/{changed}/out", ignore_errors=True)
             if os.path.isdir(f"{self.sound}/crates/{changed}/out"):
                 shutil.copytree(f"{self.sound}/crates/{changed}/out", f"{room}/crates/{changed}/out", symlinks=True)
