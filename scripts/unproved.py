@@ -121,8 +121,8 @@ def check(room, crate, *flags):
 
 
 def unproved_in(crate, said):
-    """By function or impl that the check did not prove, what the check says of it."""
-    found, before, at = {}, [], None
+    """By function or impl of the crate that the check did not prove, what the check says of it."""
+    found, before, at, named = {}, [], None, set()
     for line in said.split("\n"):
         error = re.match(r"\./proofs/(\S+)/\w+\.antt:\d+:\d+: ", line)
         verdict = re.match(rf"(?:fn|impl) {crate}::(\S+): (proved)?", line)
@@ -135,11 +135,13 @@ def unproved_in(crate, said):
         elif verdict:
             at = None
             if not verdict[2]:
+                named.add(verdict[1])
                 found.setdefault(verdict[1], []).extend([*before, line])
             before = []
         if at:
             found.setdefault(at, []).append(line)
-    return {function: "\n".join(lines) for function, lines in found.items()}
+    # An error may stand in a file of the same path in a crate below.
+    return {function: "\n".join(lines) for function, lines in found.items() if function in named}
 
 
 def goals_in(text):
