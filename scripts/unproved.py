@@ -32,7 +32,6 @@ import time
 
 ROOT = os.path.dirname(os.path.dirname(os.path.realpath(__file__)))
 FOLDER = f"{ROOT}/scripts/edits"
-# A copy for each processor.
 COPIES = min(4, len(os.sched_getaffinity(0)))
 
 
@@ -224,7 +223,7 @@ def edits_by_crate(wanted):
     return {crate: edits for crate, edits in found.items() if edits}
 
 
-def is_below(crate, edits):
+def changes_below(crate, edits):
     """Whether the edits change a crate below theirs, which is then checked too."""
     return any(not path.startswith(f"crates/{crate}/") for edit in edits for path, _, _ in edit.changes)
 
@@ -236,7 +235,7 @@ def checks_of(left):
         while edits:
             found.append((crate, fitting(edits)))
             edits = [it for it in edits if it not in found[-1][1]]
-    return sorted(found, key=lambda it: -len(it[1]) - 10 * is_below(*it))
+    return sorted(found, key=lambda it: -len(it[1]) - 10 * changes_below(*it))
 
 
 class Rooms:
@@ -257,7 +256,7 @@ class Rooms:
         """Tries the edits in one check. Returns those that wait, and how many failed."""
         room, start = self.free.get(), time.time()
         whys, waiting, more = tried(room, crate, edits)
-        for changed in os.listdir(f"{room}/crates") if is_below(crate, edits) else [crate]:
+        for changed in os.listdir(f"{room}/crates") if changes_below(crate, edits) else [crate]:
             shutil.rmtree(f"{room}/crates/{changed}/out", ignore_errors=True)
             if os.path.isdir(f"{self.sound}/crates/{changed}/out"):
                 shutil.copytree(f"{self.sound}/crates/{changed}/out", f"{room}/crates/{changed}/out", symlinks=True)

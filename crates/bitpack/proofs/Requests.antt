@@ -1,5 +1,5 @@
 -- The request of a line is read from its fields, and the fields spell no other: the law `one_command`.
-use Rattle.std.proofs.Common.{◌≡◌, ℕ, ◌^◌, ◌<◌, ◌≤◌, false, List, [], ◌∷◌, bytes_eq, codes, drop, get_or, if◌then◌else◌, length, refl, sym, ap, subst, ◌∙◌, arith, ◌==◌, inl, inr, Option, Some, None, Result, Err}
+use Rattle.std.proofs.Common.{◌≡◌, ℕ, ◌^◌, ◌<◌, false, List, [], ◌∷◌, bytes_eq, codes, drop, get_or, if◌then◌else◌, refl, sym, ap, subst, ◌∙◌, arith, ◌==◌, inl, inr, Option, Some, None, Result, Err}
 use Rattle.std.specs.List.{AllZip}
 use Rattle.std.specs.Fmt.{decimal}
 use Rattle.std.specs.Str.Parse.{digits_value}
@@ -215,10 +215,3 @@ fails_at verb strings seen Q r e is none back =
     passes_on request_of (SpellsRequest verb strings) seen Q r e is none (λ nothing request spelled.
     let (w, holds) = back (subst (SpellsRequest verb strings) (request_is verb strings request spelled) spelled) in
     nothing w holds)
-
--- a request has one to three arguments
-pub some_arguments : (verb : List ℕ) (strings : List (List ℕ)) (request : Request) → SpellsRequest verb strings request → (1 ≤ length strings) × (length strings ≤ 3)
-some_arguments verb strings request spelled =
-    let long = AllZip-long SpellsArgument strings (arguments request) spelled.1 in
-    let (visible, short) = form request in
-    (omega (arith, long, short.0), omega (arith, long, short.1))

@@ -134,6 +134,13 @@ form (Dec bytes) = (refl, (omega arith, omega arith))
 form (Seek target bytes) = (refl, (omega arith, omega arith))
 form (Upgrade bytes) = (refl, (omega arith, omega arith))
 
+-- a request has one to three arguments
+pub some_arguments : (strings : List (List ℕ)) (request : Request) → AllZip SpellsArgument strings (arguments request) → (1 ≤ length strings) × (length strings ≤ 3)
+some_arguments strings request spelled =
+    let long = AllZip-long SpellsArgument strings (arguments request) spelled in
+    let short = (form request).1 in
+    (omega (arith, long, short.0), omega (arith, long, short.1))
+
 -- the fields of a request: at least one, at most five, and each is visible
 pub record AreFields (fields : List (List ℕ)) : Type 0 where
   pub some : 1 ≤ length fields
@@ -142,11 +149,11 @@ pub record AreFields (fields : List (List ℕ)) : Type 0 where
 
 pub are_fields : (fields : List (List ℕ)) (packer : PackerName) (request : Request) → Asks fields packer request → AreFields fields
 are_fields (verb ∷ name ∷ strings) packer request (named, (verb_is, spelled)) =
-    let (visible, short) = form request in
+    let visible = (form request).0 in
     let rest = All-cons IsVisible name strings (subst IsVisible (sym named) (IsVisible-packer packer)) (IsVisible-arguments strings (arguments request) spelled) in
     record {
       some = omega arith;
-      few = omega (arith, short, AllZip-long SpellsArgument strings (arguments request) spelled);
+      few = omega (arith, (some_arguments strings request spelled).1);
       visible = All-cons IsVisible verb (name ∷ strings) (subst IsVisible (sym verb_is) (IsVisible-literal (verb_string request) visible)) rest;
     }
 are_fields fields packer request asks = absurd asks

@@ -28,7 +28,6 @@ pub(crate) fn parse_command(
     }
 }
 
-// Parses a command with one argument.
 fn parse_with_one(alloc: Global, verb: &str, first: &str) -> Result<Command, ParseError>
     ensures { Parses request_of (SpellsRequest verb.now (first.now ∷ [])) result }
 {

@@ -36,11 +36,13 @@ fn calculates<R: Register>(rt: &impl Abort, register: R, words: &[u32; 8]) {
     has_words(rt, register.add(register).sub(register), words);
 }
 
+// The first lane holds 0x0403_0201.
 fn shifts<R: Register>(rt: &impl Abort, register: R) {
-    let shifted = register.shift_left(4).shift_right(4);
     let mut out = [9; 8];
-    shifted.to_words(&mut out[..R::LANES]);
-    assert_eq!(rt; out[0], 0x0403_0201);
+    register.shift_left(8).to_words(&mut out[..R::LANES]);
+    assert_eq!(rt; out[0], 0x0302_0100);
+    register.shift_right(8).to_words(&mut out[..R::LANES]);
+    assert_eq!(rt; out[0], 0x0004_0302);
 }
 
 fn check<R: Register>(rt: &impl Abort, words: &[u32; 8], bytes: &[u8; 32], sums: &[u32; 8]) {
