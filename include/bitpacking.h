@@ -3,7 +3,9 @@
  * The functions are those of the static library libbitpacking_c.a; docs/RUST_AND_C.md of the repository says how to build it.
  * What each call returns and writes is proved for all arguments that meet these rules:
  *
- * - A pointer is to as many items as the length after it says. It may be NULL where that length is 0.
+ * - A pointer with a length after it is to that many items. It may be NULL if the length is 0.
+ * - The pointers num_bits, view, position and item are to one item each, and must not be NULL.
+ * - Pointers are aligned for their type.
  * - The buffers that a call writes overlap none of its other arguments.
  * - Nothing else writes to an argument during a call, and nothing reads what the call writes.
  *
@@ -11,7 +13,8 @@
  *
  * A block has BITPACKING_4X_BLOCK_LEN values for the functions bitpacking_4x_.., and so for 1x and 8x. Each of the three has
  * a format of its own. At the width num_bits a block takes BITPACKING_4X_BLOCK_SIZE(num_bits) bytes, at most 4 per value.
- * The bytes hold neither the width nor the kind nor the initial value of the block: the caller keeps them.
+ * The bytes hold neither the width nor the kind nor the initial value of the block: the caller keeps them, and for a chain the
+ * width of each block. A packed list holds all of these itself.
  *
  *     kind               what is packed                                        before the first value
  *     (plain)            the values
@@ -22,7 +25,7 @@
  * numbers below, and has then written nothing: the buffers are as they were.
  *
  *     uint32_t values[128], back[128];
- *     uint8_t bytes[BITPACKING_4X_BLOCK_SIZE(32)], width;
+ *     uint8_t bytes[BITPACKING_4X_BLOCK_SIZE(BITPACKING_MAX_WIDTH)], width;
  *     ...
  *     ptrdiff_t size = bitpacking_4x_pack(values, 128, bytes, sizeof bytes, &width);
  *     if (size < 0) return size;
@@ -48,82 +51,158 @@ extern "C" {
 #define BITPACKING_4X_BLOCK_SIZE(num_bits) (16 * (size_t)(num_bits))
 #define BITPACKING_8X_BLOCK_SIZE(num_bits) (32 * (size_t)(num_bits))
 
+/* Limits of blocks, for room that serves every packer. */
+#define BITPACKING_LANE_LEN 32         /* the values of a block in each of its 1, 4 or 8 lanes */
+#define BITPACKING_MAX_LANES 8         /* the most lanes of a packer */
+#define BITPACKING_MAX_WIDTH 32        /* the greatest width, in bits per value */
+#define BITPACKING_MAX_BLOCK_LEN 256   /* the values of the longest block */
+#define BITPACKING_MAX_BLOCK_SIZE 1024 /* its bytes at the greatest width */
+
 /* The initial value of a strictly sorted block that may begin with 0. bitpacking_no_initial() returns the same number. */
 #define BITPACKING_NO_INITIAL UINT32_MAX
 
 /* Why a call on a block or a chain did not work. */
 #define BITPACKING_BAD_LENGTH (-1) /* the values are not a block, or there is no room for one; or not as many as blocks of the widths */
-#define BITPACKING_BAD_WIDTH (-2)  /* a width is above 32 */
+#define BITPACKING_BAD_WIDTH (-2)  /* a width is above BITPACKING_MAX_WIDTH */
 #define BITPACKING_SHORT (-3)      /* too few bytes, to write or to read */
 #define BITPACKING_UNFIT (-4)      /* a code of the block does not fit the width */
 
 uint32_t bitpacking_no_initial(void);
 
-/* The calls of one packer, for one kind. INITIAL is `uint32_t initial,` or nothing.
- *
- * pack        Packs a block at its least width, which goes into *num_bits. Returns the number of bytes written. This is the
- *             call to take: it is as fast as num_bits and then a compress that tests nothing.
- *             BAD_LENGTH: decompressed_len is not the length of a block. SHORT: the bytes of the block do not fit
- *             compressed_len; 4 bytes per value always do. *num_bits too is written only where the call works.
- *
- * compress    Packs a block at a width from its least to 32. Returns the number of bytes written.
- *             The first of: BAD_WIDTH; BAD_LENGTH; SHORT: compressed_len is below the bytes of a block at this width;
- *             UNFIT: the width is below the block's least.
- *
- * decompress  Unpacks a block. Any bytes are taken; later ones are not looked at. Returns the number of bytes read.
- *             The first of: BAD_LENGTH: decompressed_len is below the length of a block; BAD_WIDTH; SHORT.
- *
- * num_bits    Returns the least width of a block, from 0 to 32. BAD_LENGTH as for pack.
- *
- * pack_all    Packs a chain: as many blocks as widths_len, each at its least width, which goes into widths. The first has the
- *             kind and the initial value of the call; each one after it has the last value of the block before as its
- *             initial value. Returns the number of bytes written.
- *             The first of: BAD_LENGTH: values_len is not the values of so many blocks; SHORT: compressed_len is below
- *             4 * values_len, also where the chain would fit.
- *
- * unpack_all  Unpacks a chain with the kind, the initial value and the widths that it was packed with. Any bytes are taken;
- *             later ones are not looked at. Returns the number of bytes read.
- *             BAD_WIDTH: one of the widths. SHORT: compressed_len is below the bytes of the blocks. BAD_LENGTH: values_len is
- *             below the values of the blocks. BAD_LENGTH comes after the others; which of the others comes where both
- *             are true is not said. Values after those of the blocks stay as they were.
- *
- * Bytes after those written, and values after those of a block, stay as they were.
- */
-#define BITPACKING_ONE_VALUE uint32_t initial,
-#define BITPACKING_NO_VALUE
-#define BITPACKING_CALLS(packer, kind, INITIAL)                                                                               \
-    ptrdiff_t bitpacking_##packer##_pack##kind(INITIAL const uint32_t *decompressed, size_t decompressed_len,                 \
-                                               uint8_t *compressed, size_t compressed_len, uint8_t *num_bits);                \
-    ptrdiff_t bitpacking_##packer##_compress##kind(INITIAL const uint32_t *decompressed, size_t decompressed_len,             \
-                                                   uint8_t *compressed, size_t compressed_len, uint8_t num_bits);             \
-    ptrdiff_t bitpacking_##packer##_decompress##kind(INITIAL const uint8_t *compressed, size_t compressed_len,                \
-                                                     uint32_t *decompressed, size_t decompressed_len, uint8_t num_bits);      \
-    ptrdiff_t bitpacking_##packer##_num_bits##kind(INITIAL const uint32_t *decompressed, size_t decompressed_len);            \
-    ptrdiff_t bitpacking_##packer##_pack_all##kind(INITIAL const uint32_t *values, size_t values_len, uint8_t *widths,        \
-                                                   size_t widths_len, uint8_t *compressed, size_t compressed_len);            \
-    ptrdiff_t bitpacking_##packer##_unpack_all##kind(INITIAL const uint8_t *widths, size_t widths_len,                        \
-                                                     const uint8_t *compressed, size_t compressed_len, uint32_t *values,      \
-                                                     size_t values_len);
+/* The calls on blocks and chains: of each, one function for each packer and kind. The kinds sorted and strictly_sorted have the
+ * initial value as their first argument. Bytes after those written, and values after those of a block, stay as they were. */
 
-BITPACKING_CALLS(1x, , BITPACKING_NO_VALUE)
-BITPACKING_CALLS(1x, _sorted, BITPACKING_ONE_VALUE)
-BITPACKING_CALLS(1x, _strictly_sorted, BITPACKING_ONE_VALUE)
-BITPACKING_CALLS(4x, , BITPACKING_NO_VALUE)
-BITPACKING_CALLS(4x, _sorted, BITPACKING_ONE_VALUE)
-BITPACKING_CALLS(4x, _strictly_sorted, BITPACKING_ONE_VALUE)
-BITPACKING_CALLS(8x, , BITPACKING_NO_VALUE)
-BITPACKING_CALLS(8x, _sorted, BITPACKING_ONE_VALUE)
-BITPACKING_CALLS(8x, _strictly_sorted, BITPACKING_ONE_VALUE)
+/* pack: packs a block at its least width, which goes into *num_bits. Returns the number of bytes written. Prefer it to num_bits and
+ * then compress: it is as fast as num_bits and then a compress that tests nothing.
+ * BAD_LENGTH: decompressed_len is not the length of a block. SHORT: the bytes of the block do not fit compressed_len; 4 bytes per
+ * value always do. *num_bits too is written only if the call works. */
+ptrdiff_t bitpacking_1x_pack(const uint32_t *decompressed, size_t decompressed_len,
+                             uint8_t *compressed, size_t compressed_len, uint8_t *num_bits);
+ptrdiff_t bitpacking_1x_pack_sorted(uint32_t initial, const uint32_t *decompressed, size_t decompressed_len,
+                                    uint8_t *compressed, size_t compressed_len, uint8_t *num_bits);
+ptrdiff_t bitpacking_1x_pack_strictly_sorted(uint32_t initial, const uint32_t *decompressed, size_t decompressed_len,
+                                             uint8_t *compressed, size_t compressed_len, uint8_t *num_bits);
+ptrdiff_t bitpacking_4x_pack(const uint32_t *decompressed, size_t decompressed_len,
+                             uint8_t *compressed, size_t compressed_len, uint8_t *num_bits);
+ptrdiff_t bitpacking_4x_pack_sorted(uint32_t initial, const uint32_t *decompressed, size_t decompressed_len,
+                                    uint8_t *compressed, size_t compressed_len, uint8_t *num_bits);
+ptrdiff_t bitpacking_4x_pack_strictly_sorted(uint32_t initial, const uint32_t *decompressed, size_t decompressed_len,
+                                             uint8_t *compressed, size_t compressed_len, uint8_t *num_bits);
+ptrdiff_t bitpacking_8x_pack(const uint32_t *decompressed, size_t decompressed_len,
+                             uint8_t *compressed, size_t compressed_len, uint8_t *num_bits);
+ptrdiff_t bitpacking_8x_pack_sorted(uint32_t initial, const uint32_t *decompressed, size_t decompressed_len,
+                                    uint8_t *compressed, size_t compressed_len, uint8_t *num_bits);
+ptrdiff_t bitpacking_8x_pack_strictly_sorted(uint32_t initial, const uint32_t *decompressed, size_t decompressed_len,
+                                             uint8_t *compressed, size_t compressed_len, uint8_t *num_bits);
 
-#undef BITPACKING_CALLS
-#undef BITPACKING_NO_VALUE
-#undef BITPACKING_ONE_VALUE
+/* compress: packs a block at a width from its least to BITPACKING_MAX_WIDTH. Returns the number of bytes written.
+ * The first of: BAD_WIDTH; BAD_LENGTH; SHORT: compressed_len is below the bytes of a block at this width; UNFIT: the width is below
+ * the block's least. */
+ptrdiff_t bitpacking_1x_compress(const uint32_t *decompressed, size_t decompressed_len,
+                                 uint8_t *compressed, size_t compressed_len, uint8_t num_bits);
+ptrdiff_t bitpacking_1x_compress_sorted(uint32_t initial, const uint32_t *decompressed, size_t decompressed_len,
+                                        uint8_t *compressed, size_t compressed_len, uint8_t num_bits);
+ptrdiff_t bitpacking_1x_compress_strictly_sorted(uint32_t initial, const uint32_t *decompressed, size_t decompressed_len,
+                                                 uint8_t *compressed, size_t compressed_len, uint8_t num_bits);
+ptrdiff_t bitpacking_4x_compress(const uint32_t *decompressed, size_t decompressed_len,
+                                 uint8_t *compressed, size_t compressed_len, uint8_t num_bits);
+ptrdiff_t bitpacking_4x_compress_sorted(uint32_t initial, const uint32_t *decompressed, size_t decompressed_len,
+                                        uint8_t *compressed, size_t compressed_len, uint8_t num_bits);
+ptrdiff_t bitpacking_4x_compress_strictly_sorted(uint32_t initial, const uint32_t *decompressed, size_t decompressed_len,
+                                                 uint8_t *compressed, size_t compressed_len, uint8_t num_bits);
+ptrdiff_t bitpacking_8x_compress(const uint32_t *decompressed, size_t decompressed_len,
+                                 uint8_t *compressed, size_t compressed_len, uint8_t num_bits);
+ptrdiff_t bitpacking_8x_compress_sorted(uint32_t initial, const uint32_t *decompressed, size_t decompressed_len,
+                                        uint8_t *compressed, size_t compressed_len, uint8_t num_bits);
+ptrdiff_t bitpacking_8x_compress_strictly_sorted(uint32_t initial, const uint32_t *decompressed, size_t decompressed_len,
+                                                 uint8_t *compressed, size_t compressed_len, uint8_t num_bits);
+
+/* decompress: unpacks a block. Any bytes are accepted; later ones are not read. Returns the number of bytes read.
+ * The first of: BAD_LENGTH: decompressed_len is below the length of a block; BAD_WIDTH; SHORT. */
+ptrdiff_t bitpacking_1x_decompress(const uint8_t *compressed, size_t compressed_len,
+                                   uint32_t *decompressed, size_t decompressed_len, uint8_t num_bits);
+ptrdiff_t bitpacking_1x_decompress_sorted(uint32_t initial, const uint8_t *compressed, size_t compressed_len,
+                                          uint32_t *decompressed, size_t decompressed_len, uint8_t num_bits);
+ptrdiff_t bitpacking_1x_decompress_strictly_sorted(uint32_t initial, const uint8_t *compressed, size_t compressed_len,
+                                                   uint32_t *decompressed, size_t decompressed_len, uint8_t num_bits);
+ptrdiff_t bitpacking_4x_decompress(const uint8_t *compressed, size_t compressed_len,
+                                   uint32_t *decompressed, size_t decompressed_len, uint8_t num_bits);
+ptrdiff_t bitpacking_4x_decompress_sorted(uint32_t initial, const uint8_t *compressed, size_t compressed_len,
+                                          uint32_t *decompressed, size_t decompressed_len, uint8_t num_bits);
+ptrdiff_t bitpacking_4x_decompress_strictly_sorted(uint32_t initial, const uint8_t *compressed, size_t compressed_len,
+                                                   uint32_t *decompressed, size_t decompressed_len, uint8_t num_bits);
+ptrdiff_t bitpacking_8x_decompress(const uint8_t *compressed, size_t compressed_len,
+                                   uint32_t *decompressed, size_t decompressed_len, uint8_t num_bits);
+ptrdiff_t bitpacking_8x_decompress_sorted(uint32_t initial, const uint8_t *compressed, size_t compressed_len,
+                                          uint32_t *decompressed, size_t decompressed_len, uint8_t num_bits);
+ptrdiff_t bitpacking_8x_decompress_strictly_sorted(uint32_t initial, const uint8_t *compressed, size_t compressed_len,
+                                                   uint32_t *decompressed, size_t decompressed_len, uint8_t num_bits);
+
+/* num_bits: returns the least width of a block, from 0 to 32. BAD_LENGTH as for pack. */
+ptrdiff_t bitpacking_1x_num_bits(const uint32_t *decompressed, size_t decompressed_len);
+ptrdiff_t bitpacking_1x_num_bits_sorted(uint32_t initial, const uint32_t *decompressed, size_t decompressed_len);
+ptrdiff_t bitpacking_1x_num_bits_strictly_sorted(uint32_t initial, const uint32_t *decompressed, size_t decompressed_len);
+ptrdiff_t bitpacking_4x_num_bits(const uint32_t *decompressed, size_t decompressed_len);
+ptrdiff_t bitpacking_4x_num_bits_sorted(uint32_t initial, const uint32_t *decompressed, size_t decompressed_len);
+ptrdiff_t bitpacking_4x_num_bits_strictly_sorted(uint32_t initial, const uint32_t *decompressed, size_t decompressed_len);
+ptrdiff_t bitpacking_8x_num_bits(const uint32_t *decompressed, size_t decompressed_len);
+ptrdiff_t bitpacking_8x_num_bits_sorted(uint32_t initial, const uint32_t *decompressed, size_t decompressed_len);
+ptrdiff_t bitpacking_8x_num_bits_strictly_sorted(uint32_t initial, const uint32_t *decompressed, size_t decompressed_len);
+
+/* pack_all: packs a chain of widths_len blocks, each at its least width, which goes into widths. The first has the kind and the
+ * initial value of the call; each one after it has the last value of the block before as its initial value. Returns the number of
+ * bytes written.
+ * The first of: BAD_LENGTH: values_len is not that number of blocks; SHORT: out_len is below 4 * values_len, even if the chain
+ * would fit. */
+ptrdiff_t bitpacking_1x_pack_all(const uint32_t *values, size_t values_len,
+                                 uint8_t *widths, size_t widths_len, uint8_t *out, size_t out_len);
+ptrdiff_t bitpacking_1x_pack_all_sorted(uint32_t initial, const uint32_t *values, size_t values_len,
+                                        uint8_t *widths, size_t widths_len, uint8_t *out, size_t out_len);
+ptrdiff_t bitpacking_1x_pack_all_strictly_sorted(uint32_t initial, const uint32_t *values, size_t values_len,
+                                                 uint8_t *widths, size_t widths_len, uint8_t *out, size_t out_len);
+ptrdiff_t bitpacking_4x_pack_all(const uint32_t *values, size_t values_len,
+                                 uint8_t *widths, size_t widths_len, uint8_t *out, size_t out_len);
+ptrdiff_t bitpacking_4x_pack_all_sorted(uint32_t initial, const uint32_t *values, size_t values_len,
+                                        uint8_t *widths, size_t widths_len, uint8_t *out, size_t out_len);
+ptrdiff_t bitpacking_4x_pack_all_strictly_sorted(uint32_t initial, const uint32_t *values, size_t values_len,
+                                                 uint8_t *widths, size_t widths_len, uint8_t *out, size_t out_len);
+ptrdiff_t bitpacking_8x_pack_all(const uint32_t *values, size_t values_len,
+                                 uint8_t *widths, size_t widths_len, uint8_t *out, size_t out_len);
+ptrdiff_t bitpacking_8x_pack_all_sorted(uint32_t initial, const uint32_t *values, size_t values_len,
+                                        uint8_t *widths, size_t widths_len, uint8_t *out, size_t out_len);
+ptrdiff_t bitpacking_8x_pack_all_strictly_sorted(uint32_t initial, const uint32_t *values, size_t values_len,
+                                                 uint8_t *widths, size_t widths_len, uint8_t *out, size_t out_len);
+
+/* unpack_all: unpacks a chain with the kind, the initial value and the widths that it was packed with. Any bytes are accepted;
+ * later ones are not read. Returns the number of bytes read.
+ * BAD_WIDTH: one of the widths. SHORT: bytes_len is below the bytes of the blocks. BAD_LENGTH: values_len is below the values of the
+ * blocks; it is tested last. If both other errors apply, either may be returned. Values after those of the blocks stay as they
+ * were. */
+ptrdiff_t bitpacking_1x_unpack_all(const uint8_t *widths, size_t widths_len,
+                                   const uint8_t *bytes, size_t bytes_len, uint32_t *values, size_t values_len);
+ptrdiff_t bitpacking_1x_unpack_all_sorted(uint32_t initial, const uint8_t *widths, size_t widths_len,
+                                          const uint8_t *bytes, size_t bytes_len, uint32_t *values, size_t values_len);
+ptrdiff_t bitpacking_1x_unpack_all_strictly_sorted(uint32_t initial, const uint8_t *widths, size_t widths_len,
+                                                   const uint8_t *bytes, size_t bytes_len, uint32_t *values, size_t values_len);
+ptrdiff_t bitpacking_4x_unpack_all(const uint8_t *widths, size_t widths_len,
+                                   const uint8_t *bytes, size_t bytes_len, uint32_t *values, size_t values_len);
+ptrdiff_t bitpacking_4x_unpack_all_sorted(uint32_t initial, const uint8_t *widths, size_t widths_len,
+                                          const uint8_t *bytes, size_t bytes_len, uint32_t *values, size_t values_len);
+ptrdiff_t bitpacking_4x_unpack_all_strictly_sorted(uint32_t initial, const uint8_t *widths, size_t widths_len,
+                                                   const uint8_t *bytes, size_t bytes_len, uint32_t *values, size_t values_len);
+ptrdiff_t bitpacking_8x_unpack_all(const uint8_t *widths, size_t widths_len,
+                                   const uint8_t *bytes, size_t bytes_len, uint32_t *values, size_t values_len);
+ptrdiff_t bitpacking_8x_unpack_all_sorted(uint32_t initial, const uint8_t *widths, size_t widths_len,
+                                          const uint8_t *bytes, size_t bytes_len, uint32_t *values, size_t values_len);
+ptrdiff_t bitpacking_8x_unpack_all_strictly_sorted(uint32_t initial, const uint8_t *widths, size_t widths_len,
+                                                   const uint8_t *bytes, size_t bytes_len, uint32_t *values, size_t values_len);
 
 /* A packed list of version 2, read in place: a text of a header, an entry for each whole block, the blocks, and the values after
  * them. docs/FORMAT.md of the repository has every byte.
  *
- * A view is set to BITPACKING_LIST_EMPTY before anything else, and then opened. It keeps a pointer to the bytes: they have to
- * stay where they are, unchanged, for as long as the view is used. Only the open functions may write the fields.
+ * A view is set to BITPACKING_LIST_EMPTY before anything else, and then opened, as often as one likes. It has a pointer to the bytes,
+ * and no memory of its own. The caller keeps the bytes where they are, unchanged, for as long as the view is used. A view may be
+ * copied, and the same is true of the copy. Only the open functions may write the fields.
  *
  *     bitpacking_list list = BITPACKING_LIST_EMPTY;
  *     uint32_t value;
@@ -149,7 +228,7 @@ ptrdiff_t bitpacking_8x_list_open(const uint8_t *bytes, size_t bytes_len, bitpac
 #define BITPACKING_LIST_BAD_KIND (-23)    /* the kind is none; of a search: the list is plain */
 #define BITPACKING_LIST_WRONG_LANES (-24) /* the text is of another packer */
 #define BITPACKING_LIST_TOO_LONG (-25)    /* more than 268,435,456 values */
-#define BITPACKING_LIST_BAD_WIDTH (-26)   /* a width is above 32 */
+#define BITPACKING_LIST_BAD_WIDTH (-26)   /* a width is above BITPACKING_MAX_WIDTH */
 #define BITPACKING_LIST_LOOSE_WIDTH (-27) /* a width is not the least of its block */
 #define BITPACKING_LIST_BAD_OFFSET (-28)  /* an offset is not the sum of the widths before it */
 #define BITPACKING_LIST_BAD_LAST (-29)    /* a last value is not that of its block */
@@ -162,13 +241,13 @@ size_t bitpacking_list_len(const bitpacking_list *view);
 /* The kind of an opened list: 0 for plain, 1 for sorted, 2 for strictly sorted. */
 uint8_t bitpacking_list_kind(const bitpacking_list *view);
 
-/* Writes the value at a position, from 0 on, and returns 1. From the length on it returns 0 and writes nothing. It unpacks one block
- * at most. */
+/* Writes the value at a position, from 0 on, and returns 1. If there is no such position it returns 0 and writes nothing. It unpacks
+ * one block at most. */
 int32_t bitpacking_list_get(const bitpacking_list *view, size_t position, uint32_t *item);
 
 /* Searches a sorted or strictly sorted list for the first value that is at least target. Writes its position, the value, and
- * returns 1. Where every value is below the target it returns 0, and for a plain list BITPACKING_LIST_BAD_KIND; then nothing is
- * written. It reads entries by halves, and unpacks one block at most. */
+ * returns 1. If every value is below the target it returns 0, and for a plain list BITPACKING_LIST_BAD_KIND; then nothing is
+ * written. It reads at most as many entries as the count of whole blocks has binary digits, and unpacks one block at most. */
 int32_t bitpacking_list_seek(const bitpacking_list *view, uint32_t target, size_t *position, uint32_t *item);
 
 #ifdef __cplusplus

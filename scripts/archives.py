@@ -14,22 +14,14 @@ import hashlib
 import os
 import re
 import shutil
-import subprocess
 import sys
 
-ROOT = os.path.dirname(os.path.dirname(os.path.realpath(__file__)))
+from common import ROOT, ended, left_out_without, run, words
+
 OUT = f"{ROOT}/rust/out"
 CRATES = ["bitpacking_register", "bitpacking", "bitpack_lists", "bitpacking_c"]
+TOOLS = ["rt", "nm", "objcopy", "objdump"]
 LEVELS = {"v1": "x86-64", "v2": "x86-64-v2", "v3": "x86-64-v3"}
-
-
-def tools_missing():
-    """The commands that building needs and that are not here."""
-    return [name for name in ["rt", "nm", "objcopy", "objdump"] if not shutil.which(name)]
-
-
-def run(*command, folder=ROOT):
-    return subprocess.run(command, cwd=folder, stdout=subprocess.PIPE, stderr=subprocess.STDOUT, text=True)
 
 
 def sources():
@@ -45,8 +37,7 @@ def sources():
 
 def declared():
     """The names that the header declares, as the C preprocessor reads it."""
-    text = subprocess.run(["cc", "-E", "-P", f"{ROOT}/include/bitpacking.h"], stdout=subprocess.PIPE, text=True).stdout
-    return set(re.findall(r"\b(bitpacking_\w+)\s*\(", text))
+    return set(re.findall(r"\b(bitpacking_\w+)\s*\(", run("cc", "-E", "-P", f"{ROOT}/include/bitpacking.h").stdout))
 
 
 def built(prefix, level):
@@ -106,29 +97,17 @@ def build(kept):
     return passed, failed
 
 
-def status_without(part, tools):
+def status_without(part, *tools):
     """The exit status of a script over the archives that cannot run, once it has said why: a tool is missing, or an archive is not
-    right. None where it can run."""
-    missing = tools_missing() + [name for name in tools if not shutil.which(name)]
-    if missing:
-        print(f"LEFT OUT: {part}, since there is no {' and no '.join(missing)}")
-        print("0 passed, 0 failed")
+    right. None if it can run."""
+    if left_out_without(part, *TOOLS, *tools):
         return 0
-    if build(kept=True)[1] > 0:
-        print("0 passed, 1 failed")
-        return 1
-    return None
+    return ended(0, 1) if build(kept=True)[1] > 0 else None
 
 
 def main():
-    missing = tools_missing()
-    if missing:
-        print(f"LEFT OUT: the archives for C and Rust, since there is no {' and no '.join(missing)}")
-        print("0 passed, 0 failed")
-        return 0
-    passed, failed = build("--kept" in sys.argv[1:])
-    print(f"{passed} passed, {failed} failed")
-    return failed > 0
+    kept = "--kept" in words("--kept")
+    return 0 if left_out_without("the archives for C and Rust", *TOOLS) else ended(*build(kept))
 
 
 if __name__ == "__main__":

@@ -1,5 +1,5 @@
-/* Calls that scripts/c.py runs, also under the address sanitizer: bytes worked by hand, each error with nothing written, null pointers.
-   Every width and kind is tested in rust/src/tests.rs. */
+/* Calls that scripts/c.py runs as C99 and as C++, also under the address sanitizer: bytes worked by hand, each error with nothing written,
+   null pointers. It names every macro of the header. Every width and kind is tested in rust/src/tests.rs. */
 #include "bitpacking.h"
 
 #include <stdio.h>
@@ -59,8 +59,8 @@ static void none(void)
 /* Each error of the calls on blocks, and that the buffers are as they were. */
 static void errors(void)
 {
-    uint32_t values[256], back[256];
-    uint8_t bytes[1024], width = 77;
+    uint32_t values[BITPACKING_MAX_BLOCK_LEN], back[BITPACKING_MAX_BLOCK_LEN];
+    uint8_t bytes[BITPACKING_MAX_BLOCK_SIZE], width = 77;
     int i;
 
     for (i = 0; i < 256; i++)
@@ -68,7 +68,7 @@ static void errors(void)
     memset(bytes, 9, sizeof bytes);
     EXPECT(bitpacking_8x_pack(values, 255, bytes, sizeof bytes, &width), BITPACKING_BAD_LENGTH);
     EXPECT(bitpacking_8x_pack(values, 256, bytes, 1023, &width), BITPACKING_SHORT);
-    EXPECT(bitpacking_8x_compress(NULL, 0, NULL, 0, 33), BITPACKING_BAD_WIDTH);
+    EXPECT(bitpacking_8x_compress(NULL, 0, NULL, 0, BITPACKING_MAX_WIDTH + 1), BITPACKING_BAD_WIDTH);
     EXPECT(bitpacking_8x_compress(values, 128, NULL, 0, 31), BITPACKING_BAD_LENGTH);
     EXPECT(bitpacking_8x_compress(values, 256, bytes, 991, 31), BITPACKING_SHORT);
     EXPECT(bitpacking_8x_compress(values, 256, bytes, 992, 31), BITPACKING_UNFIT);
@@ -81,7 +81,9 @@ static void errors(void)
         EXPECT(back[i], 9);
     for (i = 0; i < 1024; i++)
         EXPECT(bytes[i], 9);
-    EXPECT(bitpacking_8x_compress(values, 256, bytes, 1024, 32), 1024);
+    EXPECT(bitpacking_8x_compress(values, 256, bytes, 1024, BITPACKING_MAX_WIDTH), 1024);
+    EXPECT(sizeof values / sizeof *values, BITPACKING_8X_BLOCK_LEN);
+    EXPECT(BITPACKING_MAX_LANES * BITPACKING_LANE_LEN, BITPACKING_8X_BLOCK_LEN);
 }
 
 /* A chain of one lane, worked by hand: 32 gaps of 1 at one bit each, and 32 gaps of 2 at two bits each. */
@@ -168,6 +170,54 @@ static void lists(void)
     EXPECT(position, 32);
 }
 
+/* A list worked by hand for each packer: two whole blocks and one value after them, strictly sorted.
+   The gaps of the first block are 1 and 2 in turn, the codes 0 and 1: in one lane the bits 01010101, in more all bits of every other lane.
+   The gaps of the second are 4, the codes 3: each bit is set. */
+static void whole_blocks(uint8_t lanes, size_t len, size_t one_bit, size_t two_bits,
+                         ptrdiff_t (*open)(const uint8_t *, size_t, bitpacking_list *))
+{
+    enum { LONGEST = BITPACKING_8X_BLOCK_LEN };
+    uint8_t text[7 + 2 * 9 + BITPACKING_8X_BLOCK_SIZE(1 + 2) + 4] = {2, 2, 0, 0, 0, 0, 0, /* version, kind, lanes, count */
+                                                                     1, 0, 0, 0, 0}; /* width and offset of the first block */
+    uint32_t values[2 * LONGEST + 1], value, target;
+    bitpacking_list list = BITPACKING_LIST_EMPTY, copy;
+    size_t i, count = 2 * len + 1, size = 25, position, right;
+
+    for (i = 0; i < count; i++)
+        values[i] = i == 0 ? 0 : values[i - 1] + (i >= len ? 4 : i % 2 == 1 ? 2 : 1);
+    text[2] = lanes;
+    text[3] = (uint8_t)(count % 256);
+    text[4] = (uint8_t)(count / 256);
+    text[12] = (uint8_t)(values[len - 1] % 256);
+    text[13] = (uint8_t)(values[len - 1] / 256);
+    text[16] = 2; /* the width of the second block, and the sum of those before it */
+    text[17] = 1;
+    text[21] = (uint8_t)(values[2 * len - 1] % 256);
+    text[22] = (uint8_t)(values[2 * len - 1] / 256);
+    for (i = 0; i < one_bit; i++)
+        text[size++] = lanes == 1 ? 0xAA : i / 4 % 2 == 1 ? 0xFF : 0;
+    for (i = 0; i < two_bits; i++)
+        text[size++] = 0xFF;
+    text[size++] = (uint8_t)(values[count - 1] % 256);
+    text[size++] = (uint8_t)(values[count - 1] / 256);
+    size += 2;
+    EXPECT(open(text, size, &list), 0);
+    EXPECT(bitpacking_list_len(&list), (ptrdiff_t)count);
+    EXPECT(bitpacking_list_kind(&list), 2);
+    for (i = 0; i < count; i++) {
+        EXPECT(bitpacking_list_get(&list, i, &value), 1);
+        EXPECT(value, (ptrdiff_t)values[i]);
+    }
+    copy = list;
+    for (target = 0, right = 0; right < count; target++) {
+        EXPECT(bitpacking_list_seek(&copy, target, &position, &value), 1);
+        EXPECT(value, (ptrdiff_t)values[right]);
+        EXPECT(position, (ptrdiff_t)right);
+        right += target == values[right];
+    }
+    EXPECT(bitpacking_list_seek(&copy, target, &position, &value), 0);
+}
+
 /* Lists of no whole block in four and eight lanes. */
 static void short_lists(void)
 {
@@ -194,6 +244,9 @@ static void short_lists(void)
 
 int main(void)
 {
+    whole_blocks(1, BITPACKING_1X_BLOCK_LEN, BITPACKING_1X_BLOCK_SIZE(1), BITPACKING_1X_BLOCK_SIZE(1 + 1), bitpacking_1x_list_open);
+    whole_blocks(4, BITPACKING_4X_BLOCK_LEN, BITPACKING_4X_BLOCK_SIZE(1), BITPACKING_4X_BLOCK_SIZE(1 + 1), bitpacking_4x_list_open);
+    whole_blocks(8, BITPACKING_8X_BLOCK_LEN, BITPACKING_8X_BLOCK_SIZE(1), BITPACKING_8X_BLOCK_SIZE(1 + 1), bitpacking_8x_list_open);
     worked();
     none();
     errors();

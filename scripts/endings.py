@@ -1,9 +1,9 @@
 #!/usr/bin/env python3
 """Runs of the program that end early: what `main` makes of the outcome of `run`, which no contract says.
 
-Each of them has to end with status 1 and its one line on standard error, and with nothing of that line on standard output: where the
-input is a directory, where the output is full, and where a long `dec` has too little address space. A run to the end has status 0
-and says nothing. The last line is 'N passed, M failed'.
+Each of them has to end with status 1 and its one line on standard error, and with nothing of that line on standard output: the
+input is a directory, the output is full, the output is a pipe that nobody reads, or a long `dec` has too little address space. A run to
+the end has status 0 and says nothing. The last line is 'N passed, M failed'.
 """
 import os
 import resource
@@ -11,7 +11,8 @@ import subprocess
 import sys
 import tempfile
 
-ROOT = os.path.dirname(os.path.dirname(os.path.realpath(__file__)))
+from common import ROOT, report
+
 LINE = b"size 4x 13\n"
 ANSWER = b"208\n"
 # Blocks of width 0 to the end of the longest line: 8,385,792 values, which take 33 MB as words and 17 MB as an answer.
@@ -37,18 +38,20 @@ def runs():
         os.close(directory)
     with open("/dev/full", "wb") as full:
         yield "a full device as output", ran(LINE, stdout=full), (1, None, b"bitpack: write failed\n")
+    unread, pipe = os.pipe()
+    os.close(unread)
+    yield "a closed pipe as output", ran(LINE, stdout=pipe), (1, None, b"bitpack: write failed\n")
+    os.close(pipe)
     yield "a line before too little memory", ran(LINE + LONG, limit=LIMIT), (1, ANSWER, b"bitpack: out of memory\n")
 
 
-def main():
+def checks():
+    """Each run as its name and how it ended, if not as it has to."""
     built = subprocess.run([f"{ROOT}/bitpack"], input=LINE, stdout=subprocess.PIPE)
-    passed, failed = int(built.stdout == ANSWER), int(built.stdout != ANSWER)
+    yield "the script bitpack", None if built.stdout == ANSWER else f"it printed {built.stdout}"
     for name, found, right in runs():
-        if found != right:
-            print(f"FAILED: {name} ended with {str(found)[:200]}, and not {right}")
-        passed, failed = passed + (found == right), failed + (found != right)
-    print(f"{passed} passed, {failed} failed")
-    return 1 if failed else 0
+        yield name, None if found == right else f"it ended with {str(found)[:200]}, and not {right}"
 
 
-sys.exit(main())
+if __name__ == "__main__":
+    sys.exit(report(checks()))

@@ -1,8 +1,8 @@
 #!/usr/bin/env python3
-"""Compares the examples of the pages with the proved and tested code that they come from.
+"""Compares the examples of the pages and of doc comments with the proved and tested code that they come from.
 
-Each fenced block of Rust in README.md and docs/*.md comes after a comment that names a file of the crate of callers, or a program of
-the Rust crate:
+Each fenced block of Rust in README.md, in docs/*.md and in the doc comments of the crates comes after a comment that names a file of the
+crate of callers, or a program of the Rust crate:
     <!-- crates/bitpack_uses/src/NAME.rt -->
     <!-- rust/examples/NAME.rs -->
 A fenced block of antt, the language of proofs, names one of the crate's proofs/ in the same way, and one of C a program of examples/.
@@ -15,7 +15,8 @@ import re
 import sys
 import textwrap
 
-ROOT = os.path.dirname(os.path.dirname(os.path.realpath(__file__)))
+from common import ROOT, report, source
+
 RATTLE = ("crates/bitpack_uses/src/", ".rt")
 RUST = ("rust/examples/", ".rs")
 # The folders and the endings of the files that a block of each language may come from.
@@ -25,18 +26,22 @@ SOURCES = {
     "antt": [("crates/bitpack_uses/proofs/", ".antt")],
     "c": [("examples/", ".c")],
 }
+# The pages, and the sources with doc comments.
+PAGES = ["README.md", "docs/*.md", "crates/*/src/**/*.rt"]
+DOC = re.compile(r"^\s*//[/!] ?(.*)$")
 FENCE = re.compile(r"^\s*(`{3,}|~{3,})\s*([^\s,{`]*)")
 COMMENT = re.compile(r"^\s*<!--\s*(\S+)\s*-->\s*$")
 
 
-def examples(lines):
-    """The examples in a page: the number of the first fence, the language, the last line of text before it, and the block."""
+def examples(lines, unnamed):
+    """The examples in a page: the number of the first fence, the language, the last line of text before it, and the block. A block that
+    names no language is in `unnamed`."""
     fence, before, found = None, "", []
     for number, line in enumerate(lines, 1):
         mark = FENCE.match(line)
         if fence is None and mark:
             fence, block = mark.group(1), []
-            language = mark.group(2).lower()
+            language = mark.group(2).lower() or unnamed
             if language in SOURCES:
                 found.append((number, language, before, block))
         elif fence is None:
@@ -66,26 +71,27 @@ def fault(language, before, block):
         return f"there is no file {path}"
     if not "".join(block).strip():
         return "it is empty"
-    with open(f"{ROOT}/{path}", encoding="utf-8") as file:
-        lines = file.read().split("\n")
-    wanted = same_lines(block)
+    lines, wanted = source(path).split("\n"), same_lines(block)
     for start in range(len(lines)):
         if same_lines(lines[start : start + len(wanted)]) == wanted:
             return None
     return f"its lines are not in one piece in {path}"
 
 
-def main():
-    passed, failed = 0, 0
-    for page in ["README.md"] + sorted(glob.glob("docs/*.md", root_dir=ROOT)):
-        with open(f"{ROOT}/{page}", encoding="utf-8") as file:
-            lines = file.read().split("\n")
-        for number, language, before, block in examples(lines):
-            why = fault(language, before, block)
-            print(f"{page}:{number}: {f'FAILED: {why}' if why else 'as tested'}")
-            passed, failed = passed + (not why), failed + bool(why)
-    print(f"{passed} passed, {failed} failed")
-    return 1 if failed or not passed else 0
+def examples_in(path):
+    """The examples in a page, or in the doc comments of a source, where a block is Rust unless it names another language."""
+    lines = source(path).split("\n")
+    if path.endswith(".rt"):
+        return examples([found[1] if (found := DOC.match(line)) else "" for line in lines], "rust")
+    return examples(lines, "")
 
 
-sys.exit(main())
+def checks():
+    """Each example as its place and why it is not tested code, or None."""
+    for page in [found for pattern in PAGES for found in sorted(glob.glob(pattern, root_dir=ROOT, recursive=True))]:
+        for number, language, before, block in examples_in(page):
+            yield f"{page}:{number}", fault(language, before, block)
+
+
+if __name__ == "__main__":
+    sys.exit(report(checks()))

@@ -10,8 +10,8 @@ import subprocess
 import sys
 
 import archives
+from common import ROOT, report, run
 
-ROOT = archives.ROOT
 # Gaps of 2 and 4 in turn: one less are 1 and 3, two bits each, and so 2 * 16 bytes for each block of 128.
 EXAMPLE = "300 numbers: [2, 2] bits, 64 bytes, 44 numbers as they are\n"
 
@@ -19,7 +19,7 @@ EXAMPLE = "300 numbers: [2, 2] bits, 64 bytes, 44 numbers as they are\n"
 def cargo(*arguments, **variables):
     env = dict(os.environ, CARGO_TARGET_DIR=f"{archives.OUT}/target", RUSTFLAGS="-D warnings", **variables)
     command = ["cargo", arguments[0], "--offline", "--locked", "--manifest-path", f"{ROOT}/rust/Cargo.toml", *arguments[1:]]
-    return subprocess.run(command, stdout=subprocess.PIPE, stderr=subprocess.PIPE, text=True, env=env)
+    return run(*command, stderr=subprocess.PIPE, env=env)
 
 
 def refused():
@@ -30,28 +30,24 @@ def refused():
     yield "a build without archives", nowhere, "there is no /nowhere/libbitpacking_v1.a: scripts/archives.py of the repository writes it"
 
 
-def main():
-    status = archives.status_without("the Rust crate", ["cargo", "cc"])
-    if status is not None:
-        return status
+def checks():
     tests = cargo("test", "--no-fail-fast")
-    results = re.findall(r"^test result: \w+\. (\d+) passed; (\d+) failed; (\d+) ignored", tests.stdout, re.M)
-    passed = sum(int(found[0]) for found in results)
-    failed = sum(int(found[1]) + int(found[2]) for found in results)
-    if tests.returncode != 0 or passed == 0:
+    results = re.findall(r"^test (.+) \.\.\. (.+)$", tests.stdout, re.M)
+    if tests.returncode != 0 or not results:
         print(tests.stdout[-4000:], tests.stderr[-4000:])
-        failed = max(failed, 1)
+        yield "cargo test", f"it ended with {tests.returncode}"
+    for name, result in results:
+        yield name, None if result == "ok" else result
     example = cargo("run", "--quiet", "--release", "--example", "posting_list")
-    if example.stdout != EXAMPLE:
-        print(f"FAILED: rust/examples/posting_list.rs printed {example.stdout!r} {example.stderr[-2000:]}")
-    passed, failed = passed + (example.stdout == EXAMPLE), failed + (example.stdout != EXAMPLE)
+    yield "rust/examples/posting_list.rs", None if example.stdout == EXAMPLE else f"printed {example.stdout!r} {example.stderr[-2000:]}"
     for name, done, text in refused():
         right = done.returncode != 0 and text in done.stderr
-        if not right:
-            print(f"FAILED: {name} ended with {done.returncode} and said {done.stderr[-2000:]}")
-        passed, failed = passed + right, failed + (not right)
-    print(f"{passed} passed, {failed} failed")
-    return failed > 0
+        yield name, None if right else f"ended with {done.returncode} and said {done.stderr[-2000:]}"
+
+
+def main():
+    status = archives.status_without("the Rust crate", "cargo", "cc")
+    return report(checks()) if status is None else status
 
 
 if __name__ == "__main__":

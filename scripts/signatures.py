@@ -1,65 +1,64 @@
 #!/usr/bin/env python3
-"""Compares the types of the functions for C: those of crates/bitpacking_c with those that include/bitpacking.h declares, and with those by
-which rust/src/calls.rs calls them. A slice is a pointer and a length.
+"""Compares the types and the names of what the functions for C take: those of crates/bitpacking_c with those that include/bitpacking.h
+declares, and with those by which rust/src/calls.rs calls them. A slice `x` is a pointer `x` and a length `x_len`. The fields of
+`bitpacking_list` are compared with those of `ListView` too, and the limits of blocks with those of crates/bitpacking. The header is read
+as it is written: it has to name each function in a prototype, which no macro makes.
 
-It needs cc, as the preprocessor of the header. The last line is 'N passed, M failed', one for the header and one for the calls.
+Then the wrong changes of scripts/edits/signatures/ are tried, as scripts/changes.py says. The last line is 'N passed, M failed',
+one for the header, one for its limits, one for the calls and one for each of these.
 """
-import glob
-import os
 import re
-import shutil
-import subprocess
 import sys
 
-ROOT = os.path.dirname(os.path.dirname(os.path.realpath(__file__)))
+from texts import code, paths, results, text_of
+
 C_TYPES = {"u8": "uint8_t", "u32": "uint32_t", "i32": "int32_t", "usize": "size_t", "isize": "ptrdiff_t", "ListView": "bitpacking_list"}
+HEADER = "include/bitpacking.h"
+CALLS = "rust/src/calls.rs"
+LIMITS = "crates/bitpacking/src/limits.rt"
 
 
-def read(path):
-    with open(f"{ROOT}/{path}", encoding="utf-8") as file:
-        return file.read()
-
-
-def in_c(written):
-    """The C types of a parameter, as Rattle or Rust writes its type."""
+def in_c(written, name=""):
+    """A parameter in C, as Rattle or Rust writes its type; of no name, what a function returns."""
     written = re.sub(r"<'\w+>|'\w+ ", "", written)
     items = re.fullmatch(r"&(mut )?\[(\w+)\]", written)
     if items:
-        return [f"{'' if items[1] else 'const '}{C_TYPES[items[2]]} *", "size_t"]
+        return [f"{'' if items[1] else 'const '}{C_TYPES[items[2]]} *{name}", f"size_t {name}_len"]
     pointer = re.fullmatch(r"(&|&mut |\*const |\*mut )(\w+)", written)
     if pointer:
-        return [f"{'' if 'mut' in pointer[1] else 'const '}{C_TYPES[pointer[2]]} *"]
-    return [C_TYPES[written]]
+        return [f"{'' if 'mut' in pointer[1] else 'const '}{C_TYPES[pointer[2]]} *{name}"]
+    return [f"{C_TYPES[written]} {name}".strip()]
 
 
 def parameters(text):
-    """The C types of the parameters `name: type`."""
-    found = re.findall(r"\w+: ([^,]+)", re.sub(r"\s+", " ", text))
-    return [c_type for written in found for c_type in in_c(written.strip())]
+    """The parameters `name: type` in C."""
+    found = re.findall(r"(\w+): ([^,]+)", " ".join(text.split()))
+    return [parameter for name, written in found for parameter in in_c(written.strip(), name)]
 
 
 def exported():
-    """The C types of each function of the crate: what it returns, and its parameters."""
-    found = {}
-    for path in glob.glob(f"{ROOT}/crates/bitpacking_c/src/*.rt"):
-        functions = re.findall(r'extern "C" fn (\w+)(?:<[^>]*>)?\(([^)]*)\) -> (\w+)', read(os.path.relpath(path, ROOT)))
+    """Of each function of the crate what it returns and its parameters, in C; and the fields of a view."""
+    view = re.search(r"\bstruct ListView<'a> \{([^}]*)\}", code("crates/bitpacking_c/src/list_view.rt"))
+    found = {"bitpacking_list": parameters(view[1])}
+    for path in paths("crates/bitpacking_c/src/*.rt"):
+        functions = re.findall(r'extern "C" fn (\w+)(?:<[^>]*>)?\(([^)]*)\) -> (\w+)', text_of(path))
         found.update({name: in_c(returned) + parameters(given) for name, given, returned in functions})
     return found
 
 
 def declared():
-    """The same of the header."""
-    text = subprocess.run(["cc", "-E", "-P", f"{ROOT}/include/bitpacking.h"], stdout=subprocess.PIPE, text=True).stdout
-    found = {}
-    for returned, name, given in re.findall(r"(\w+) (bitpacking_\w+)\(([^)]*)\);", text):
-        types = [re.sub(r"\w+$", "", parameter.strip()).strip() for parameter in given.split(",") if given != "void"]
-        found[name] = [returned] + types
-    return found
+    """The same of the header, without its comments and macros."""
+    text = re.sub(r"/\*.*?\*/", "", text_of(HEADER), flags=re.S)
+    text = re.sub(r"^#(.*\\\n)*.*", "", text, flags=re.M)
+    found = {name: fields.split(";")[:-1] for fields, name in re.findall(r"typedef struct \w+ \{([^}]*)\} (bitpacking_\w+);", text)}
+    for returned, name, given in re.findall(r"^(\w+) (bitpacking_\w+)\(([^)]*)\);", text, re.M):
+        found[name] = [returned] + (given.split(",") if given != "void" else [])
+    return {name: [" ".join(it.split()) for it in types] for name, types in found.items()}
 
 
 def called():
     """The same of the calls from Rust: of each packer and kind, of which all but the first have an initial value."""
-    text = read("rust/src/calls.rs")
+    text = text_of(CALLS)
     functions = re.findall(r'concat!\(\$prefix, "(\w+)", \$kind\)\]\s*fn \w+\(([^;]*)\) -> (\w+);', text)
     kinds = re.findall(r'foreign!\(\w+, \$prefix, "(\w*)"(, initial)?\)', text)
     found = {}
@@ -71,28 +70,30 @@ def called():
     return found
 
 
-def faults(others, where, needed):
-    """Where the types of these functions are not those of the crate, and the functions that are needed and not there."""
+def differences(others, where, needed):
+    """Where these functions are not those of the crate, and the functions that are needed and not there."""
     functions = exported()
     for name in sorted(set(others) | needed):
         if others.get(name) != functions.get(name):
             yield f"{where}: {name} has {others.get(name)}, and the crate {functions.get(name)}"
 
 
-def main():
-    if not shutil.which("cc"):
-        print("LEFT OUT: the types of the functions for C, since there is no cc")
-        print("0 passed, 0 failed")
-        return 0
-    passed = failed = 0
+def header():
+    yield from differences(declared(), HEADER, set(exported()))
+
+
+def limits():
+    right = dict(re.findall(r"^pub const (\w+): \w+ = (\d+);", text_of(LIMITS), re.M))
+    found = dict(re.findall(r"^#define BITPACKING_(LANE_LEN|MAX_\w+) (\d+)\b", text_of(HEADER), re.M))
+    for name in sorted(right.keys() | found.keys()):
+        if found.get(name) != right.get(name):
+            yield f"{HEADER}: {name} is {found.get(name)}, and in {LIMITS} {right.get(name)}"
+
+
+def calls():
     packed = {name for name in exported() if re.search(r"x_(pack|compress|decompress|num_bits)(_sorted|_strictly_sorted)?$", name)}
-    for others, where, needed in [(declared(), "include/bitpacking.h", set(exported())), (called(), "rust/src/calls.rs", packed)]:
-        wrong = list(faults(others, where, needed))
-        for fault in wrong:
-            print(f"FAILED: {fault}")
-        passed, failed = passed + (not wrong), failed + bool(wrong)
-    print(f"{passed} passed, {failed} failed")
-    return 1 if failed else 0
+    yield from differences(called(), CALLS, packed)
 
 
-sys.exit(main())
+if __name__ == "__main__":
+    sys.exit(results([header, limits, calls], "signatures"))

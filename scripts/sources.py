@@ -4,73 +4,87 @@
 - The proofs by hand are those of `new` and `record` of `Steps` and of `Reads`, and no other.
 - Of `bitpacking`, only memory.rt reads or writes the elements of a slice: a slice that a function of another file is given is
   passed on whole to a function of the crate, and neither elements nor words or bytes of a register are named there.
-- Of `bitpacking`, only the nine calls of each packer make a `Steps`, each one, which it lends to its counted call.
+- Of `bitpacking`, only the three calls by kind of each packer make a `Steps`, each one, which it lends to its counted call. The nine
+  other calls have one body each, in the trait, which calls one of the three once; no packer has one of its own.
 - A packer of several lanes runs `Lanes` on the kernels for vectors and `Scalar` on those for arrays; `new` has `Lanes`, and `scalar`
   has `Scalar`.
-- The program's packers `4s` and `8s` are those that `scalar` gives.
-- Of `bitpack_lists`, a file that names `Reads`, other than reads.rt, reads no entry and unpacks no block but by the two functions of
-  reads.rt. A search goes by no `get` and makes no `Reads`: only the function by which `get` reads a value of a block makes one. An
-  intersection does neither: its files name `Reads`, and `intersect` is in one of them.
+- Each kernel of `bitpacking` is named in its own places alone, so that one packer runs no kernel of another; those with an arm for each
+  width have one for each from 0 to 31.
+- The program's packers `4s` and `8s` are those that `scalar` gives; `bitpacking_c` names no `scalar`; `bitpack_lists` makes no packer but
+  the one for groups, and else takes the one that it is given.
+- The Rust crate asks for the features of each level, has the functions of each level in its table, and takes the best level.
+- Of `bitpack_lists`, a function that makes a `Reads` has a mark, `// Reads bytes: ..`. So has a function below list2 that reads a number
+  or unpacks a block from bytes, or tests a text, and one that sees the bytes or the packer of an opened list, or makes a cursor. The
+  mark names its calls in the order of the text: those that count read once for each count, `open` tests a text once and each block
+  of it once, and `from_validated` tests none. No other function has a mark, and no code calls `get`. A walk reads no entry once nothing is
+  wanted.
 
-The last line is 'N passed, M failed', one for each of these.
+Then the wrong changes of scripts/edits/sources/ are tried, as scripts/changes.py says. The last line is 'N passed, M failed'.
 """
-import glob
-import os
 import re
 import sys
 
-ROOT = os.path.dirname(os.path.dirname(os.path.realpath(__file__)))
+from texts import at, code, end_of_braces, paths, results, text_of
+
 SOURCES = "crates/bitpacking/src"
 MEMORY = f"{SOURCES}/memory.rt"
 COUNTS = ["bitpacking/proofs/memory/Steps", "bitpack_lists/proofs/list2/reads/Reads"]
 BY_HAND = [f"crates/{count}/{name}/Proof.antt" for count in COUNTS for name in ["new", "record"]]
-# Of the files that name `Reads`: in which functions these words may be. Before the first function is the struct.
-READERS = {
-    "Reads::": ["value_in_block"],
-    "bytes": [None, "clone", "open", "of_tested", "entry", "unpack", "value_in_tail"],
-    "get(": ["get"],
-    "value_in_block(": ["get"],
-    "packer": [None, "clone", "open", "of_tested", "unpack"],
+COUNTED = ["pack_counted", "unpack_counted", "width_counted"]
+BY_CODES = ["pack_codes", "unpack_codes"]
+# The kernels of `bitpacking`: in which functions of which files each may be named, and nowhere else.
+KERNELS = {
+    "Rolled": {"bitpacker4x.rt": COUNTED, "bitpacker8x.rt": COUNTED, "dispatch/rolled.rt": BY_CODES},
+    "ByWidth": {"bitpacker4x.rt": COUNTED, "bitpacker8x.rt": COUNTED},
+    "Unrolled": {
+        "bitpacker1x.rt": COUNTED,
+        "dispatch/unrolled.rt": BY_CODES,
+        "kernel/unrolled.rt": ["pack_at_width", "unpack_at_width"],
+    },
+    "pack_at_width": {"dispatch/by_width.rt": ["pack_codes"]},
+    "unpack_at_width": {"dispatch/by_width.rt": ["unpack_codes"]},
 }
-INTERSECTION = [f"crates/bitpack_lists/src/list2/packed_list/{name}.rt" for name in ["intersection", "walk"]]
-NINE = [f"{call}{kind}" for call in ["compress", "decompress", "num_bits"] for kind in ["", "_sorted", "_strictly_sorted"]]
-
-
-def blank(text):
-    """As many line feeds as a text has, so that lines keep their numbers."""
-    return "\n" * text.count("\n")
-
-
-def end_of_braces(text, start):
-    """The index after the braces that open at `start`."""
-    depth = 0
-    for index in range(start, len(text)):
-        depth += {"{": 1, "}": -1}.get(text[index], 0)
-        if depth == 0:
-            return index + 1
-    return len(text)
-
-
-def code(path):
-    """A source without comments, clauses and ghost members: what there is when it runs."""
-    with open(f"{ROOT}/{path}", encoding="utf-8") as file:
-        text = re.sub(r"//.*", "", file.read())
-    while True:
-        found = re.search(r"\b(?:requires|ensures)\b[^{;]*(?=\{)|\bghost\b[^;{]*(?=\{)|\bghost\b[^;{]*;", text)
-        if not found:
-            return text
-        end = end_of_braces(text, found.end()) if text[found.end() : found.end() + 1] == "{" else found.end()
-        text = text[: found.start()] + blank(text[found.start() : end]) + text[end:]
+CALLS_OF_RUST = "rust/src/calls.rs"
+# What each level of x86-64 adds, by the processors' ABI, but for `lahf_lm` and `xsave`, for which Rust cannot ask.
+FEATURES = {
+    "v2": "cmpxchg16b popcnt sse3 sse4.1 sse4.2 ssse3",
+    "v3": "avx avx2 bmi1 bmi2 f16c fma lzcnt movbe",
+}
+# The choice of a level in the Rust crate: by file, what is in it once.
+CHOICE = {
+    CALLS_OF_RUST: [
+        "levels_with(added_by_v2(), added_by_v3())",
+        "let v2 = v2.iter().all(|(_, has)| *has); let v3 = v2 && v3.iter().all(|(_, has)| *has);",
+        "&LEVELS[..1 + usize::from(v2) + usize::from(v3)]",
+        "BEST.get_or_init(|| &levels()[levels().len() - 1])",
+    ],
+    "rust/src/packers.rs": ["$name(&best().$calls)"],
+}
+LISTS = "crates/bitpack_lists/src"
+GROUPS = (f"{LISTS}/list3/group.rt", "BitPacker1x")
+# The mark above a function of `bitpack_lists` that may read bytes: its loops and its calls of functions of the crate in the order of the
+# text, and `bytes` and `packer` when it first names them.
+MARK = re.compile(r"^ *// Reads bytes: (.*)\.$")
+# The words that only such a function may have, by the beginning of the paths where this is so. The fields are those of a list.
+READING = {
+    "": r"\bvalue_in_block\b|\bReads::",
+    "list2/": r"\bdecompress\w*|\bunpack_all\b|\bread_one\b|\btest(?:_rest|_entries|_bodies)?\(",
+    "list2/packed_list": r"\bbytes\b|\bpacker\b|\bcursor\(",
+}
+# What no code of `bitpack_lists` has.
+NEVER = r"(?<!fn )\bget\b|\bReads as\b|\btype\b[^;]*\bReads\b"
+# The loop of a walk begins so: once nothing is wanted, it reads no entry.
+WALK = r"for number in 0\.\.one\.count / P::BLOCK_LEN \{\s*if walk\.want > u32::MAX as u64 \{\s*return;\s*\}"
+# The trait of the packers, its three calls by kind with the counted call of each, and by name the one of the three that each of the
+# nine others calls.
+TRAIT = f"{SOURCES}/bit_packer.rt"
+BY_KIND = dict(zip(["compress_kind", "decompress_kind", "num_bits_kind"], COUNTED))
+NINE = {call.replace("_kind", kind): call for call in BY_KIND for kind in ["", "_sorted", "_strictly_sorted"]}
 
 
 def sources():
     """The files of `bitpacking` without memory.rt, with their code."""
-    paths = sorted(os.path.relpath(path, ROOT) for path in glob.glob(f"{ROOT}/{SOURCES}/**/*.rt", recursive=True))
-    return {path: code(path) for path in paths if path != MEMORY}
-
-
-def at(path, text, index):
-    return f"{path}:{text.count(chr(10), 0, index) + 1}"
+    return {path: code(path) for path in paths(f"{SOURCES}/**/*.rt") if path != MEMORY}
 
 
 def callee(text, index):
@@ -85,8 +99,8 @@ def callee(text, index):
 
 
 def proofs_by_hand():
-    found = [os.path.relpath(path, ROOT) for path in glob.glob(f"{ROOT}/crates/*/proofs/**/Proof.antt", recursive=True)]
-    yield from (f"{path}: a proof by hand" for path in sorted(found) if path not in BY_HAND)
+    found = paths("crates/*/proofs/**/Proof.antt")
+    yield from (f"{path}: a proof by hand" for path in found if path not in BY_HAND)
     yield from (f"{path}: there is none" for path in BY_HAND if path not in found)
 
 
@@ -107,7 +121,23 @@ def slices():
                     yield f"{at(path, text, found.start())}: the slice {name} is not passed on whole to a function of the crate"
 
 
+def body_of(text, name):
+    """The body of the first function of this name, with its braces, or nothing where it has none."""
+    found = re.search(rf"\bfn {name}\b[^;{{]*(?={{)", text)
+    return text[found.end() : end_of_braces(text, found.end())] if found else ""
+
+
+def calls_in(body, functions):
+    """The loops of a body, and its calls of these functions, in the order of the text."""
+    found = re.findall(r"\b(for|while|loop)\b|\b(\w+)(?:::<[^()]*>)?\(", body)
+    return " ".join(loop or call for loop, call in found if loop or call in functions)
+
+
 def steps():
+    trait = code(TRAIT)
+    for name, call in NINE.items():
+        if calls_in(body_of(trait, name), [*COUNTED, *BY_KIND, *NINE]) != call:
+            yield f"{TRAIT}: {name} does not call {call} alone"
     for path, text in sources().items():
         made = []
         for found in re.finditer(r"\bSteps\b", text):
@@ -119,9 +149,14 @@ def steps():
                 continue
             elif not (before.endswith("steps: &mut ") and re.match(r"\s*[,)]", after)):
                 yield f"{at(path, text, found.start())}: names Steps as neither a parameter nor a new one for a call"
-        if re.search(r"/bitpacker\dx\.rt$", path):
-            yield from (f"{path}: {name} makes {made.count(name)} Steps, and not one" for name in NINE if made.count(name) != 1)
-        yield from (f"{path}: {name} makes a Steps" for name in made if name not in NINE or not re.search(r"/bitpacker\dx\.rt$", path))
+        packer = re.search(r"/bitpacker\dx\.rt$", path)
+        yield from (f"{path}: {name} makes a Steps" for name in made if name not in BY_KIND or not packer)
+        if packer:
+            yield from (f"{path}: {name} makes {made.count(name)} Steps, and not one" for name in BY_KIND if made.count(name) != 1)
+            yield from (f"{path}: {name} has a body of its own" for name in NINE if re.search(rf"\bfn {name}\b", text))
+            for name, call in BY_KIND.items():
+                if calls_in(body_of(text, name), [*COUNTED, *BY_KIND, *NINE]) != call:
+                    yield f"{path}: {name} does not call {call} alone"
     text = code(MEMORY)
     for found in re.finditer(r"\b(Steps|Self)::new\b", text):
         yield f"{at(MEMORY, text, found.start())}: makes a Steps"
@@ -139,7 +174,7 @@ def registers():
         named = [tuple(re.findall(r"\b(\w+_kind)::<(\w+), (u32x\d|\[u32; \d\])>", arm)) for arm in arms]
         right = []
         for call in ["pack_kind", "unpack_kind", "width_kind"]:
-            right += [((call, "InlinedLoops", f"u32x{lanes}"),), ((call, "SimpleLoops", f"[u32; {lanes}]"),)]
+            right += [((call, "ByWidth", f"u32x{lanes}"),), ((call, "Rolled", f"[u32; {lanes}]"),)]
         if named != right:
             yield f"{path}: the arms of Lanes and Scalar are not {right}"
 
@@ -155,36 +190,120 @@ def program():
             yield f"crates/bitpack/src/answer.rt: {variant} is not what scalar gives"
 
 
-def reads():
-    for path in sorted(glob.glob(f"{ROOT}/crates/bitpack_lists/src/**/*.rt", recursive=True)):
-        path = os.path.relpath(path, ROOT)
+def kernels():
+    for path, text in sources().items():
+        # Imports that give no other name, and the heads of structs, functions and impls, are left out.
+        heads = r"\buse\b(?![^;]*\bas\b)[^;]*;|\bstruct \w+;|\bfn \w*at_width\b|\bfor \w+ \{"
+        uses = re.sub(heads, lambda it: re.sub(r"[^\n]", " ", it[0]), text)
+        for name, places in KERNELS.items():
+            for found in re.finditer(rf"\b{name}\b", uses):
+                inside = (re.findall(r"\bfn (\w+)", text[: found.start()]) or [None])[-1]
+                if inside not in places.get(path.removeprefix(f"{SOURCES}/"), []):
+                    yield f"{at(path, text, found.start())}: {inside} names {name}"
+    for path in ["dispatch/unrolled.rt", "dispatch/by_width.rt"]:
+        for name, body in zip(BY_CODES, code(f"{SOURCES}/{path}").split("fn unpack_codes")):
+            if re.findall(r"^ *(\d+) =>", body, re.M) != [str(width) for width in range(32)]:
+                yield f"{SOURCES}/{path}: {name} has no arm for each width"
+
+
+def packers():
+    for path in paths("crates/bitpacking_c/src/**/*.rt"):
         text = code(path)
-        if path.endswith("/list2/reads.rt") or not re.search(r"\bReads\b(?!;)", text):
-            continue
-        lists = set(re.findall(r"\b(\w+): &PackedList<", text))
-        for found in re.finditer(r"\bEntry::|\bdecompress\w*|\bunpack_all\b|\b(?!self\b|reads\b)(\w+)\.unpack\(|\bReads as\b", text):
-            if found.group(1) not in lists:
-                yield f"{at(path, text, found.start())}: names {found.group()}"
-        for found in re.finditer(r"\bReads::|\bbytes\b|(?<!fn )\bget\(|(?<!fn )\bvalue_in_block\(|\bpacker\b", text):
+        for found in re.finditer(r"\bscalar\b", text):
+            yield f"{at(path, text, found.start())}: names scalar"
+    texts = {path: code(path) for path in paths(f"{LISTS}/**/*.rt")}
+    own = {name for text in texts.values() for name in re.findall(r"\bstruct (\w+)", text)} | {"Vec"}
+    for path, text in texts.items():
+        for found in re.finditer(r"(\w+>?)(?:::<[^()]*>)?::new\b", text):
+            if found[1] not in own and (path, found[1]) != GROUPS:
+                yield f"{at(path, text, found.start())}: makes a new {found[1]}"
+
+
+def levels():
+    text = text_of(CALLS_OF_RUST)
+    right = [(name, f"v{level}_bitpacking_{lanes}x_") for level in [1, 2, 3] for name, lanes in [("one", 1), ("four", 4), ("eight", 8)]]
+    if re.findall(r'\b(\w+): calls!\("(\w+)"\)', text) != right:
+        yield f"{CALLS_OF_RUST}: the tables are not {right}"
+    for level, features in FEATURES.items():
+        asked = re.findall(rf"fn added_by_{level}\(\)[^{{]*{{\s*detected!\(([^)]*)\)", text)
+        if [sorted(re.findall(r'"([^"]*)"', names)) for names in asked] != [features.split()]:
+            yield f"{CALLS_OF_RUST}: {level} asks for {asked}, and not {features}"
+    for path, wanted in CHOICE.items():
+        found = " ".join(text_of(path).split())
+        yield from (f"{path}: there is no {it}" for it in wanted if found.count(it) != 1)
+
+
+def functions_in(text):
+    """The functions of a text that runs: the name, the index of `fn`, and where its body begins and ends."""
+    for found in re.finditer(r"\bfn (\w+)[^{;]*\{", text):
+        yield found[1], found.start(), found.end() - 1, end_of_braces(text, found.end() - 1)
+
+
+def reading(path, text):
+    """The words of reading in a text that runs, but for imports that give no other name, and structs: the index and the word of each."""
+    heads = r"\buse\b(?![^;]*\bas\b)[^;]*;|\bstruct \w+[^{;]*\{[^}]*\}|\bfn \w+[^{;]*\{"
+    uses = re.sub(heads, lambda it: re.sub(r"[^\n]", " ", it[0]), text)
+    pattern = "|".join(words for begins, words in READING.items() if path.startswith(begins))
+    return [(found.start(), found.group()) for found in re.finditer(pattern, uses)]
+
+
+def mark_above(lines, number):
+    """The number of the line and the text of the mark above a function, whose line has this number."""
+    while number > 0 and re.match(r" *(//|#\[)", lines[number - 1]):
+        number -= 1
+        if found := MARK.match(lines[number]):
+            return number, found[1]
+    return None, None
+
+
+def mark_of(path, body, functions):
+    """The mark that a function with this body has to have."""
+    fields = "bytes|packer" if path.startswith("list2/packed_list") else "(?!)"
+    found = re.findall(rf"\b(for|while|loop)\b|\b(\w+)(?:::<[^()]*>)?\(|\b({fields})\b", body)
+    named = [loop or field or call for loop, call, field in found if loop or field or call in functions - {"len"}]
+    kept = [it for at, it in enumerate(named) if it not in ("bytes", "packer") or it not in named[:at]]
+    return ", ".join(kept)
+
+
+def called_in(texts):
+    """The functions of the crate with these texts, and the calls of a packer."""
+    return {name for text in texts.values() for name in re.findall(r"\bfn (\w+)", text)}.union(BY_KIND, NINE)
+
+
+def marks():
+    texts = {path.removeprefix(f"{LISTS}/"): code(path) for path in paths(f"{LISTS}/**/*.rt")}
+    named = called_in(texts)
+    for path, text in texts.items():
+        for found in re.finditer(NEVER, text):
             inside = (re.findall(r"\bfn (\w+)", text[: found.start()]) or [None])[-1]
-            if inside not in READERS.get(found.group(), []):
-                yield f"{at(path, text, found.start())}: {inside} names {found.group()}"
-    for path in INTERSECTION:
-        if not re.search(r"\bReads\b(?!;)", code(path)):
-            yield f"{path}: does not name Reads"
-    if not re.search(r"\bfn intersect\b", code(INTERSECTION[0])):
-        yield f"{INTERSECTION[0]}: does not have intersect"
+            yield f"{at(f'{LISTS}/{path}', text, found.start())}: {inside} names {found.group()}"
+        lines, found, attached = text_of(f"{LISTS}/{path}").split("\n"), reading(path, text), set()
+        for name, start, begins, ends in functions_in(text):
+            inside = [(index, word) for index, word in found if begins <= index < ends]
+            found = [it for it in found if it not in inside]
+            number, mark = mark_above(lines, text.count("\n", 0, start))
+            attached.add(number)
+            right = mark_of(path, text[begins:ends], named)
+            if mark is None:
+                lacking = [f"{at(f'{LISTS}/{path}', text, index)}: {name} names {word}, and has no mark: {right}" for index, word in inside]
+                yield from dict.fromkeys(lacking)
+            elif not inside:
+                yield f"{LISTS}/{path}:{number + 1}: {name} has a mark, and reads nothing"
+            elif mark != right:
+                yield f"{LISTS}/{path}: {name} has {right}, and not {mark}"
+        yield from (f"{at(f'{LISTS}/{path}', text, index)}: no function names {word}" for index, word in found)
+        for number in set(range(len(lines))) - attached:
+            if MARK.match(lines[number]):
+                yield f"{LISTS}/{path}:{number + 1}: a mark that is not above a function"
 
 
-def main():
-    passed, failed = 0, 0
-    for part in [proofs_by_hand, slices, steps, registers, program, reads]:
-        faults = list(part())
-        for fault in faults:
-            print(f"FAILED: {fault}")
-        passed, failed = passed + (not faults), failed + bool(faults)
-    print(f"{passed} passed, {failed} failed")
-    return 1 if failed else 0
+def walks():
+    if len(re.findall(WALK, code(f"{LISTS}/list2/packed_list/walk.rt"))) != 1:
+        yield f"{LISTS}/list2/packed_list/walk.rt: the loop goes on where nothing is wanted"
 
 
-sys.exit(main())
+PARTS = [proofs_by_hand, slices, steps, registers, kernels, program, packers, levels, marks, walks]
+
+
+if __name__ == "__main__":
+    sys.exit(results(PARTS, "sources"))

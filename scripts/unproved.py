@@ -1,26 +1,20 @@
 #!/usr/bin/env python3
 """Tries the wrong bodies and other edits of scripts/edits/: each must leave the functions that it names unproved, at the goals that
-it names, or the crate not compiling.
+it names, or the crate not compiling. scripts/changes.py has their form.
 
-An edit is a file CRATE/NAME.edit, named for its mistake. CRATE is the crate whose check has to fail. Lines before the first change:
-    unproved: FN: GOAL ..   a function, or an impl, that must not be proved, as `rt check` names it without the crate, and the goals
-                            of its proof that must be refused; without goals, a function whose callee an edit of a contract leaves
-                            unproved
-    refused: TEXT           a text that the check must print, where the crate is not to compile, or where the goal alone says too little
-and then changes, each of whole lines:
-    <<<< PATH               a file of the repository
-    old lines               which are in it exactly once; a line `....` stands for any lines up to the one after it; none: a new file
-    ====
-    new lines               none: the old ones are taken out
-    >>>>
-A check takes as many edits as change different functions, and names each function that it refuses. No function may be refused but
-those that an edit names. Where a function waits for the proof of a callee that another edit changed, its edit is tried again in a
-later check, without that one.
+A check takes up to 24 edits that change different functions, and names each function that it refuses. No function may be refused but
+those that an edit names. If a function waits for the proof of a callee that another edit changed, its edit is tried again in a
+later check, without that one. If a check ends without a verdict, such as for want of memory, its edits are tried again, fewer at once.
+Edits of a crate below take the longest, and so are first.
 The crates are checked in a copy of what git tracks, over what earlier checks left in out/, and the edits in copies of that, one for
-each processor, up to four. `unproved.py NAME ..` tries those edits, or those of a crate, alone. The last line is 'N passed, M failed'.
+each processor, up to four.
+
+`unproved.py WORD ..` tries the edits alone that are named, or that are in a folder of scripts/edits/, such as a crate.
+`unproved.py --list` tries none, and prints each claim of docs/PROOFS.md with its edits, and what these break; also with words.
+The last line is 'N passed, M failed'.
 """
+import collections
 import concurrent.futures
-import dataclasses
 import os
 import queue
 import re
@@ -30,92 +24,44 @@ import sys
 import tempfile
 import time
 
-ROOT = os.path.dirname(os.path.dirname(os.path.realpath(__file__)))
-FOLDER = f"{ROOT}/scripts/edits"
+import changes
+import claims
+from common import ROOT, ended, run, words
+
 COPIES = min(4, len(os.sched_getaffinity(0)))
+# How many edits a check takes at most: the more it takes, the more memory it needs, and the longer the others wait for it at the end.
+MOST = 24
 
 
-@dataclasses.dataclass
-class Edit:
-    name: str
-    unproved: dict  # by function, the goals that must be refused
-    refused: list  # texts
-    changes: list  # (path, old lines, new lines)
-
-
-def read_edit(crate, name):
-    edit = Edit(name, {}, [], [])
-    with open(f"{FOLDER}/{crate}/{name}.edit", encoding="utf-8") as file:
-        lines = iter(file.read().split("\n"))
-    for line in lines:
-        if line.startswith("<<<< "):
-            old, new = [], []
-            into = old
-            for part in lines:
-                if part == ">>>>":
-                    break
-                if part == "====":
-                    into = new
-                else:
-                    into.append(part)
-            edit.changes.append((line[5:].strip(), old, new))
-        elif line.startswith("unproved: "):
-            function, _, goals = line[10:].partition(": ")
-            edit.unproved[function] = goals.split()
-        elif line.startswith("refused: "):
-            edit.refused.append(line[9:])
-    return edit
-
-
-def pattern_of(old):
-    """The old lines as a regular expression, of whole lines."""
-    parts = [r"(?:.*\n)*?" if line == "...." else re.escape(line) + r"\n" for line in old]
-    return re.compile("^" + "".join(parts), re.M)
-
-
-def apply(room, changes, kept):
-    """Makes the changes, and keeps the files as they were in `kept`, None for a new one. Returns why not, where one does not fit."""
-    for path, old, new in changes:
-        full = f"{room}/{path}"
-        block = "".join(f"{line}\n" for line in new)
-        if not old:
-            if os.path.exists(full):
-                return f"there is a file {path}"
-            kept[full], changed = None, block
-        else:
+def apply(room, edit, kept):
+    """Makes the changes, and keeps the files as they were in `kept`, None for a new one. Returns why not, if one does not fit."""
+    for path, old, new in edit.changes:
+        full, before = f"{room}/{path}", None
+        if os.path.exists(full):
             with open(full, encoding="utf-8") as file:
-                text = file.read()
-            kept.setdefault(full, text)
-            found = pattern_of(old).findall(text)
-            if len(found) != 1:
-                return f"its lines are in {path} {len(found)} times, and not once"
-            changed = pattern_of(old).sub(lambda _: block, text, count=1)
+                before = file.read()
+        kept.setdefault(full, before)
+        after, why = changes.changed(before, path, old, new)
+        if why:
+            return why
         os.makedirs(os.path.dirname(full), exist_ok=True)
         with open(full, "w", encoding="utf-8") as file:
-            file.write(changed)
+            file.write(after)
     return None
 
 
 def restore(kept):
     """Puts the files back as they were."""
     for path, text in kept.items():
-        if text is None:
+        if text is None and os.path.exists(path):
             os.remove(path)
-        else:
+        elif text is not None:
             with open(path, "w", encoding="utf-8") as file:
                 file.write(text)
 
 
 def check(room, crate, *flags):
-    ran = subprocess.run(
-        ["rt", "check", *flags],
-        cwd=f"{room}/crates/{crate}",
-        stdin=subprocess.DEVNULL,
-        stdout=subprocess.PIPE,
-        stderr=subprocess.STDOUT,
-        encoding="utf-8",
-        errors="replace",
-    )
+    ran = run("rt", "check", *flags, folder=f"{room}/crates/{crate}")
     return ran.returncode, ran.stdout
 
 
@@ -144,7 +90,7 @@ def unproved_in(crate, said):
 
 
 def goals_in(text):
-    """The goals of a function's own proof that the text says are refused: none where only the proof of a callee lacks."""
+    """The goals of a function's own proof that the text says are refused: none if only the proof of a callee lacks."""
     found = set(re.findall(r"^(?:\./proofs/\S+: error: |note: src/.* \()`([^`]+)`", text, re.M))
     for several in re.findall(r"(?:`search` did not prove|antt refuses) (`[^`]+`(?:, `[^`]+`)*)", text):
         found |= set(re.findall(r"`([^`]+)`", several))
@@ -160,7 +106,7 @@ def why_not(edit, crate, status, said):
         if function not in found:
             return f"{function} is still proved, or the check does not name it"
         refused = goals_in(found[function])
-        if not refused.issuperset(goals):
+        if refused != set(goals):
             return f"{function} is refused at {' '.join(sorted(refused)) or 'no goal of its own'}"
     told = "\n".join(found[it] for it in edit.unproved) or said
     for text in edit.refused:
@@ -170,30 +116,38 @@ def why_not(edit, crate, status, said):
 
 
 def are_apart(edit, other):
-    """Whether one check can take both: they leave different functions unproved, and change no file of proofs twice."""
+    """Whether one check can take both: they leave different functions unproved, and change no file of proofs twice. Two edits of which
+    the crate does not compile change different lines, and each has its own text."""
     shared = {path for path, _, _ in edit.changes} & {path for path, _, _ in other.changes}
+    if not edit.unproved or not other.unproved:
+        return not edit.unproved and not other.unproved and set(edit.refused).isdisjoint(other.refused)
     return edit.unproved.keys().isdisjoint(other.unproved) and not any(path.endswith(".antt") for path in shared)
 
 
-def fitting(edits):
-    """The edits that the next check takes: the first, and each that is apart from those before it. One that is not to compile is alone."""
+def fitting(edits, most):
+    """The edits that the next check takes: the first, and others that are apart from those before them."""
     taken = edits[:1]
     for edit in edits[1:]:
-        if taken[0].unproved and edit.unproved and all(are_apart(edit, it) for it in taken):
+        if len(taken) < most and all(are_apart(edit, it) for it in taken):
             taken.append(edit)
     return taken
 
 
 def tried(room, crate, edits):
     """Tries the edits in one check. Returns by name why each is not refused as it must be, or None; the names of those that may be later,
-    since they wait for a callee that another one changed; and what is wrong with the check as a whole."""
+    since they wait for a callee that another one changed, or for a compiler that stopped at another one; and what is wrong with the
+    check as a whole. If it ended without a verdict on any function, these are None, and all may be later."""
     kept = {}
-    whys = {edit.name: apply(room, edit.changes, kept) for edit in edits}
+    whys = {edit.name: apply(room, edit, kept) for edit in edits}
     status, said = check(room, crate, "--jobs", "1")
     restore(kept)
+    if status != 0 and edits[0].unproved and not re.search(rf"^fn {crate}::", said, re.M):
+        why = f"the check ended with status {status} and no verdict: {said.strip()[-200:]}"
+        return {edit.name: why for edit in edits}, {edit.name for edit in edits}, None
     whys = {edit.name: whys[edit.name] or why_not(edit, crate, status, said) for edit in edits}
     calls = set(re.findall(rf"^fn {crate}::(\S+): .*it calls .* not proved", said, re.M))
-    waiting = {edit.name for edit in edits if whys[edit.name] and len(edits) > 1 and not calls.isdisjoint(edit.unproved)}
+    later = [edit for edit in edits if whys[edit.name] and len(edits) > 1]
+    waiting = {edit.name for edit in later if not edit.unproved or not calls.isdisjoint(edit.unproved)}
     named = {function for edit in edits for function in edit.unproved}
     others = {it: sorted(goals_in(text)) for it, text in unproved_in(crate, said).items() if it not in named}
     more = [f"{it} is refused too, at {' '.join(goals)}" for it, goals in others.items() if goals]
@@ -201,7 +155,7 @@ def tried(room, crate, edits):
 
 
 def copied(room):
-    """Makes a copy of the tracked files, with what earlier checks left in out/, where git tracks them too."""
+    """Makes a copy of the tracked files, with what earlier checks left in out/, which git tracks there too."""
     listed = subprocess.run(["git", "ls-files", "-z"], cwd=ROOT, check=True, stdout=subprocess.PIPE).stdout
     for name in listed.decode().split("\0"):
         if name and os.path.isfile(f"{ROOT}/{name}"):
@@ -214,13 +168,20 @@ def copied(room):
     subprocess.run(["git", "add", "--all"], cwd=room, check=True)
 
 
-def edits_by_crate(wanted):
-    """The edits to try: those named, those of a crate that is named, or all."""
-    found = {}
-    for crate in sorted(os.listdir(FOLDER)):
-        names = sorted(it[:-5] for it in os.listdir(f"{FOLDER}/{crate}") if it.endswith(".edit"))
-        found[crate] = [read_edit(crate, it) for it in names if not wanted or not wanted.isdisjoint({crate, it})]
-    return {crate: edits for crate, edits in found.items() if edits}
+def files_in(top):
+    """The files below a folder, and of each how long it is and when it was written."""
+    found = [os.path.relpath(f"{folder}/{name}", top) for folder, _, names in os.walk(top) for name in names]
+    return {path: (os.lstat(f"{top}/{path}").st_size, os.lstat(f"{top}/{path}").st_mtime_ns) for path in found}
+
+
+def mend(sound, folder):
+    """Makes a copy of a folder what it was: the files that were written since are copied again, and those that are new are taken out."""
+    wanted, found = files_in(sound), files_in(folder)
+    for path in found.keys() - wanted.keys():
+        os.remove(f"{folder}/{path}")
+    for path in (path for path, state in wanted.items() if found.get(path) != state):
+        os.makedirs(os.path.dirname(f"{folder}/{path}"), exist_ok=True)
+        shutil.copy2(f"{sound}/{path}", f"{folder}/{path}", follow_symlinks=False)
 
 
 def changes_below(crate, edits):
@@ -228,14 +189,18 @@ def changes_below(crate, edits):
     return any(not path.startswith(f"crates/{crate}/") for edit in edits for path, _, _ in edit.changes)
 
 
-def checks_of(left):
-    """The checks that take these edits, as (crate, edits), the longest first: one of a crate below takes as long as some ten edits."""
-    found = []
-    for crate, edits in left.items():
-        while edits:
-            found.append((crate, fitting(edits)))
-            edits = [it for it in edits if it not in found[-1][1]]
-    return sorted(found, key=lambda it: -len(it[1]) - 10 * changes_below(*it))
+def weight(crate, edits):
+    """How long a check of these edits takes, in edits: one of a crate below takes as long as some ten."""
+    return len(edits) + 10 * changes_below(crate, edits)
+
+
+def checks_of(crate, edits, most):
+    """The checks that take these edits of a crate, each up to so many."""
+    left = sorted(edits, key=lambda it: (not changes_below(crate, [it]), it.name))
+    while left:
+        taken = fitting(left, most)
+        yield taken
+        left = [it for it in left if it not in taken]
 
 
 class Rooms:
@@ -243,7 +208,9 @@ class Rooms:
     anew what these edits changed."""
 
     def __init__(self, top):
-        self.top, self.sound, self.free = top, f"{top}/sound", queue.SimpleQueue()
+        self.top, self.sound, self.free, self.faults = top, f"{top}/sound", queue.SimpleQueue(), []
+        # How many edits a check takes at most, by crate.
+        self.most = collections.defaultdict(lambda: MOST)
         copied(self.sound)
 
     def open(self, number):
@@ -253,41 +220,60 @@ class Rooms:
             self.free.put(f"{self.top}/room{at}")
 
     def try_in_one(self, crate, edits):
-        """Tries the edits in one check. Returns those that wait, and how many failed."""
+        """Tries the edits in one check, and keeps what failed in `faults`. Returns the edits that wait."""
         room, start = self.free.get(), time.time()
         whys, waiting, more = tried(room, crate, edits)
-        for changed in os.listdir(f"{room}/crates") if changes_below(crate, edits) else [crate]:
-            shutil.rmtree(f"{room}/crates/{changed}/out", ignore_errors=True)
-            if os.path.isdir(f"{self.sound}/crates/{changed}/out"):
-                shutil.copytree(f"{self.sound}/crates/{changed}/out", f"{room}/crates/{changed}/out", symlinks=True)
+        for below in os.listdir(f"{room}/crates") if changes_below(crate, edits) else [crate]:
+            mend(f"{self.sound}/crates/{below}/out", f"{room}/crates/{below}/out")
         self.free.put(room)
-        if all(whys.values()):
-            waiting = set()
+        if more is None and len(edits) > 1:
+            self.most[crate], more = max(1, len(edits) // 4), []
+            print(f"{crate}: {next(iter(whys.values()))}", flush=True)
+        elif all(whys.values()):
+            waiting, more = set(), more or []
         told = [f"{crate}/{it}: {f'FAILED: {why}' if why else 'refused, as it must be'}" for it, why in whys.items() if it not in waiting]
         told += [f"{crate}: FAILED: {fault}, and no edit of this check names it" for fault in more]
         print("\n".join([*told, f"{crate}: {len(edits) - len(waiting)} in one check of {time.time() - start:.0f} s"]), flush=True)
-        return [it for it in edits if it.name in waiting], sum(": FAILED: " in it for it in told)
+        self.faults += [it for it in told if ": FAILED: " in it]
+        return [it for it in edits if it.name in waiting]
+
+    def try_all(self, asked):
+        """Tries the edits of each crate, each check as soon as a copy is free."""
+        tasks = [(crate, edits) for crate, found in asked.items() for edits in checks_of(crate, found, MOST)]
+        self.open(min(COPIES, len(tasks)))
+        running, left = {}, {crate: [] for crate in asked}
+        with concurrent.futures.ThreadPoolExecutor(COPIES) as pool:
+            while tasks or running:
+                for crate, edits in sorted(tasks, key=lambda it: -weight(*it)):
+                    running[pool.submit(self.try_in_one, crate, edits)] = crate
+                done = concurrent.futures.wait(running, return_when=concurrent.futures.FIRST_COMPLETED).done
+                for future in done:
+                    crate = running.pop(future)
+                    left[crate] += future.result()
+                # Those that wait are tried when no check of their crate is left that could find more of them.
+                ready = [crate for crate, found in left.items() if found and crate not in running.values()]
+                tasks = [(crate, edits) for crate in ready for edits in checks_of(crate, left.pop(crate), self.most[crate])]
+                left.update({crate: [] for crate in ready})
 
 
 def main():
-    left = edits_by_crate(set(sys.argv[1:]))
-    number, failed = sum(map(len, left.values())), 0
-    with tempfile.TemporaryDirectory(prefix="unproved-") as top, concurrent.futures.ThreadPoolExecutor(COPIES) as pool:
+    asked = words("--list")
+    wanted = [it for it in asked if it != "--list"]
+    edits = [
+        it for it in claims.edits_of_crates() if not wanted or any(it.name == word or it.path.startswith(f"{word}/") for word in wanted)
+    ]
+    if "--list" in asked:
+        return claims.print_table(edits)
+    by_crate = {crate: [it for it in edits if it.crate == crate] for crate in sorted({it.crate for it in edits})}
+    with tempfile.TemporaryDirectory(prefix="unproved-") as top:
         rooms = Rooms(top)
-        for crate in list(left):
+        for crate in list(by_crate):
             if check(rooms.sound, crate)[0] != 0:
-                print(f"{crate}: FAILED: the crate itself is not proved", flush=True)
-                failed += len(left.pop(crate))
-        rooms.open(min(COPIES, len(checks_of(left))))
-        while left:
-            tasks = checks_of(left)
-            left = {}
-            for (crate, _), (waiting, faults) in zip(tasks, pool.map(lambda it: rooms.try_in_one(*it), tasks)):
-                failed += faults
-                if waiting:
-                    left.setdefault(crate, []).extend(waiting)
-    print(f"{max(number - failed, 0)} passed, {failed} failed")
-    return 1 if failed or not number else 0
+                rooms.faults += [f"{crate}/{it.name}: FAILED: the crate itself is not proved" for it in by_crate.pop(crate)]
+        rooms.try_all(by_crate)
+    failed = len(rooms.faults)
+    print("".join(f"{it}\n" for it in rooms.faults), end="")
+    return ended(max(len(edits) - failed, 0), failed) or not edits
 
 
 if __name__ == "__main__":

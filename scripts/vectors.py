@@ -1,22 +1,25 @@
 #!/usr/bin/env python3
-"""Runs the vectors of vectors/ over the decoder that docs/FORMAT.md shows, and over the program.
+"""Runs the vectors of vectors/ over the decoders that docs/FORMAT.md shows, wrong implementations, and the program.
 
 docs/VECTORS.md says where the vectors come from. `vectors.py PROGRAM ..` runs them over another program of the same line language,
 in place of ./bitpack. The last line is 'N passed, M failed', which counts the readers of the vectors.
 """
 
 import csv
+import functools
+import multiprocessing
 import os
 import re
 import subprocess
 import sys
 
-ROOT = os.path.dirname(os.path.dirname(os.path.realpath(__file__)))
+from common import ROOT, report, run, source
+
 KINDS = ["plain", "sorted", "strict"]
-STARTS = {"-": 0, "none": 2**32 - 1}
 PACKERS = {"1": ["1x"], "4": ["4x", "4s"], "8": ["8x", "8s"]}  # by lanes
 
 
+@functools.cache
 def table(name):
     """The lines of a table, as dictionaries by the names in its head."""
     with open(f"{ROOT}/vectors/{name}", encoding="ascii", newline="") as file:
@@ -31,55 +34,163 @@ def octets(text):
     return b"" if text == "-" else bytes.fromhex(text)
 
 
-def page():
-    """The functions that the fenced `python` blocks of docs/FORMAT.md define."""
-    with open(f"{ROOT}/docs/FORMAT.md", encoding="utf-8") as file:
-        shown = re.findall(r"^```python\n(.*?)^```$", file.read(), re.M | re.S)
+def model():
+    """An implementation in Python: the fenced `python` blocks of docs/FORMAT.md, and what vectors/model.py adds to them."""
+    shown = re.findall(r"^```python\n(.*?)^```$", source("docs/FORMAT.md"), re.M | re.S)
+    return "\n".join([*shown, source("vectors/model.py")])
+
+
+def names_of(text):
     names = {}
-    exec("\n".join(shown), names)
+    exec(text, names)
     return names
 
 
-def fault_of(decode, lanes, text):
-    """The fault with which the page's decoder refuses the bytes, as refused.tsv spells it."""
+def answer_of(call, *given):
+    """What a call returns, or the fault that it raises, as refused.tsv spells it."""
     try:
-        decode(lanes, text)
+        return call(*given)
     except ValueError as refusal:
         name, *details = refusal.args
-        return f"{name}({', '.join(map(str, details))})" if details else name
-    return "none"
+        return f"{name}({', '.join(map(str, details))})" if details else str(name)
 
 
-def page_checks(shown):
-    """What the page's decoder finds beside what is right, with the name of the vector."""
+def block_checks(names):
+    """What the implementation finds beside what is right, with the name of the vector."""
+    for row in table("refused_blocks.tsv"):
+        call, read = names[row["call"]], numbers if row["call"] == "pack" else octets
+        lanes, kind, width = int(row["packer"][0]), KINDS.index(row["kind"]), int(row["width"])
+        found = answer_of(call, lanes, kind, names["start_of"](kind, row["initial"]), width, read(row["given"]))
+        yield f"refused {row['call']} {row['packer']} {width}", found, row["number"]
+    for row in [*table("loose.tsv"), *table("blocks.tsv")]:
+        lanes, kind, width = int(row["packer"][0]), KINDS.index(row["kind"]), int(row["width"])
+        start, values, body = names["start_of"](kind, row["initial"]), numbers(row["values"]), octets(row["bytes"])
+        name = f"block {row['packer']} {row['kind']} {row['initial']} {row['width']}"
+        yield f"{name}, least width", names["width_of"](names["codes_of"](kind, start, values)), int(row.get("least", width))
+        yield f"{name}, body", answer_of(names["pack"], lanes, kind, start, width, values), body
+        yield f"{name}, values", answer_of(names["unpack"], lanes, kind, start, width, body), values
+
+
+def list_checks(names):
+    for version, decode in [("", names["decode"]), ("2", names["decode2"])]:
+        for row in table(f"refused{version}.tsv"):
+            found = answer_of(decode, int(row["lanes"]), octets(row["bytes"]))
+            yield f"refused{version} {row['bytes'][:80]}", found, row["fault"]
+        for row in table(f"lists{version}.tsv"):
+            lanes, kind = int(row["lanes"]), KINDS.index(row["kind"])
+            values, text = numbers(row["values"]), octets(row["bytes"])
+            yield f"list{version} {row['bytes'][:80]}", answer_of(decode, lanes, text), (kind, values)
+            encode = names["convert" if version else "encode"]
+            yield f"text{version} {row['bytes'][:80]}", answer_of(encode, lanes, kind, values), text
+
+
+def short_list_checks(names):
+    """Lists of version 3. Each reader refuses the texts of the other versions."""
+    decoders = {"": names["decode"], "2": names["decode2"], "3": names["decode3"]}
+    for row in table("refused3.tsv"):
+        found = answer_of(decoders["3"], int(row["lanes"]), octets(row["bytes"]))
+        yield f"refused3 {row['bytes'][:80]}", found, row["fault"]
+    for row in table("lists3.tsv"):
+        lanes, kind = int(row["lanes"]), KINDS.index(row["kind"])
+        values, text = numbers(row["values"]), octets(row["bytes"])
+        yield f"list3 {row['bytes'][:80]}", answer_of(decoders["3"], lanes, text), (kind, values)
+        yield f"text3 {row['bytes'][:80]}", answer_of(names["convert3"], lanes, kind, values), text
+        for version in ["", "2"]:
+            right = f"BadVersion({text[0]})" if len(text) >= 7 else "Short"
+            yield f"list3 {row['bytes'][:80]} as version {version or 1}", answer_of(decoders[version], lanes, text), right
+    for version in ["", "2"]:
+        for row in table(f"lists{version}.tsv"):
+            found = answer_of(decoders["3"], int(row["lanes"]), octets(row["bytes"]))
+            yield f"list{version} {row['bytes'][:80]} as version 3", found, f"BadVersion({version or 1})"
+    for row in table("upgrade3.tsv"):
+        right = octets(row["upgraded"]) if row["fault"] == "-" else row["fault"]
+        yield f"upgrade3 {row['bytes'][:80]}", answer_of(names["upgrade3"], int(row["lanes"]), octets(row["bytes"])), right
+
+
+def query_checks(names):
+    for row in table("upgrade.tsv"):
+        right = octets(row["upgraded"]) if row["fault"] == "-" else row["fault"]
+        yield f"upgrade {row['bytes'][:80]}", answer_of(names["upgrade"], int(row["lanes"]), octets(row["bytes"])), right
+    for row in table("refused.tsv"):
+        yield f"upgrade {row['bytes'][:80]}", answer_of(names["upgrade"], int(row["lanes"]), octets(row["bytes"])), row["fault"]
+    for row in table("seek.tsv"):
+        values = answer_of(names["opened"], int(row["lanes"]), octets(row["bytes"]))
+        yield f"seek {row['bytes'][:80]}", isinstance(values, list), True
+        for target, right in zip(numbers(row["targets"]), row["found"].split(",")):
+            found = names["seek"](int(row["lanes"]), values, target)
+            yield f"seek {target} {row['bytes'][:80]}", ":".join(map(str, found)) if found else "none", right
+    for row in table("lists2.tsv"):
+        if row["kind"] == "plain":
+            yield f"seek {row['bytes'][:80]}", answer_of(names["opened"], int(row["lanes"]), octets(row["bytes"])), "BadKind(0)"
+    for row in table("refused2.tsv"):
+        yield f"seek {row['bytes'][:80]}", answer_of(names["opened"], int(row["lanes"]), octets(row["bytes"])), row["fault"]
+    for row in table("intersect.tsv"):
+        lanes, other_lanes = int(row["lanes"]), int(row["other_lanes"])
+        one, other = names["opened"](lanes, octets(row["bytes"])), names["opened"](other_lanes, octets(row["other_bytes"]))
+        name = f"intersect {row['bytes'][:60]} {row['other_bytes'][:60]}"
+        yield name, answer_of(names["intersect"], lanes, one, other_lanes, other), numbers(row["values"])
+        yield f"{name}, exchanged", answer_of(names["intersect"], other_lanes, other, lanes, one), numbers(row["values"])
+        yield f"{name}, as sets", sorted(set(one) & set(other)), numbers(row["values"])
+
+
+CHECKS = {"blocks": block_checks, "lists": list_checks, "short_lists": short_list_checks, "queries": query_checks}
+
+
+def rule_checks(names):
+    """The codes of the blocks are those of the rule of docs/VECTORS.md."""
     x, drawn = 1, []
     for _ in range(256):
         x = (1664525 * x + 1013904223) % 2**32
         drawn.append(x)
     for row in table("blocks.tsv"):
-        lanes, width, kind = int(row["packer"][0]), int(row["width"]), KINDS.index(row["kind"])
-        start = int(STARTS.get(row["initial"], row["initial"]))
-        codes = shown["block_codes"](lanes, width, octets(row["bytes"]))
-        name = f"block {row['packer']} {row['kind']} {row['initial']} {row['width']}"
-        yield f"{name}, codes", codes, [x >> 32 - width for x in drawn[: 32 * lanes]]
-        yield f"{name}, values", shown["block_values"](kind, start, codes), numbers(row["values"])
-    for version, decode in [("", shown["decode"]), ("2", shown["decode2"])]:
-        for row in table(f"lists{version}.tsv"):
-            right = KINDS.index(row["kind"]), numbers(row["values"])
-            yield f"list{version} {row['bytes'][:80]}", decode(int(row["lanes"]), octets(row["bytes"])), right
-        for row in table(f"refused{version}.tsv"):
-            found = fault_of(decode, int(row["lanes"]), octets(row["bytes"]))
-            yield f"refused{version} {row['bytes'][:80]}", found, row["fault"]
+        lanes, width = int(row["packer"][0]), int(row["width"])
+        found, right = names["block_codes"](lanes, width, octets(row["bytes"])), [it >> 32 - width for it in drawn[: 32 * lanes]]
+        yield f"the codes of block {row['packer']} {row['kind']} {row['width']}", found, right
 
 
-def lines():
+def caught(text, first):
+    """Whether some vector fails with this implementation, or ends it; the vectors of one kind are tried first."""
+    names = names_of(text)
+    try:
+        return any(found != right for checks in [CHECKS[first], *CHECKS.values()] for _, found, right in checks(names))
+    except (IndexError, ValueError, OverflowError):
+        return True
+
+
+def mistakes(kind):
+    """The mistakes of a file of vectors/mistakes/: the name of each, the lines that it changes, and those in their place."""
+    for part in source(f"vectors/mistakes/{kind}.txt").rstrip("\n").split("\n\n")[1:]:
+        name, *changes = part.split("\n")
+        old, new = ("".join(f"{line[1:]}\n" for line in changes if line[0] == sign) for sign in "-+")
+        yield kind, name, old, new
+
+
+def mistake_checks():
+    """Each wrong implementation is the model with one change; some vector has to fail with it."""
+    right, tried = model(), [it for kind in CHECKS for it in mistakes(kind)]
+    yield "how many mistakes have a name of their own", len({name for _, name, _, _ in tried}), len(tried)
+    with multiprocessing.get_context("fork").Pool() as pool:
+        found = pool.starmap(caught, [(right.replace(old, new), kind) for kind, _, old, new in tried])
+    for (_, name, old, _), is_caught in zip(tried, found):
+        yield f"how many places the mistake '{name}' changes", right.count(old), 1
+        yield f"whether the mistake '{name}' is caught", is_caught, True
+
+
+def block_lines():
     """Lines of the line language, with their answers."""
-    for row in table("blocks.tsv"):
+    for row in [*table("blocks.tsv"), *table("loose.tsv")]:
         kind = row["kind"] if row["initial"] == "-" else f"{row['kind']}:{row['initial']}"
         for packer in PACKERS[row["packer"][0]]:
-            yield f"width {packer} {kind} {row['values']}", row["width"]
+            yield f"width {packer} {kind} {row['values']}", row.get("least", row["width"])
             yield f"pack {packer} {kind} {row['width']} {row['values']}", row["bytes"]
             yield f"unpack {packer} {kind} {row['width']} {row['bytes']}", row["values"]
+    for row in table("refused_blocks.tsv"):
+        kind = row["kind"] if row["initial"] == "-" else f"{row['kind']}:{row['initial']}"
+        for packer in PACKERS[row["packer"][0]]:
+            yield f"{row['call']} {packer} {kind} {row['width']} {row['given']}", f"refused {row['number']}"
+
+
+def list_lines():
     for version in ["", "2"]:
         for row in table(f"lists{version}.tsv"):
             for packer in PACKERS[row["lanes"]]:
@@ -87,14 +198,31 @@ def lines():
                     yield f"enc {packer} {row['kind']} {row['values']}", row["bytes"]
                 yield f"dec {packer} {row['bytes']}", f"{row['kind']} {row['values']}"
         for row in table(f"refused{version}.tsv"):
-            # dec reads bytes that begin with 2 as version 2, and all others as version 1
-            if row["bytes"].startswith("02") == (version == "2"):
-                for packer in PACKERS[row["lanes"]]:
-                    yield f"dec {packer} {row['bytes']}", f"refused {20 + int(row['number'])}"
+            for packer in PACKERS[row["lanes"]]:
+                number = 20 + int(row["number"])
+                # dec reads bytes that begin with 2 as version 2, and all others as version 1
+                if row["bytes"].startswith("02") == (version == "2"):
+                    yield f"dec {packer} {row['bytes']}", f"refused {number}"
+                yield f"seek {packer} 0 {row['bytes']}" if version else f"upgrade {packer} {row['bytes']}", f"refused {number}"
+
+
+def query_lines():
+    for row in table("upgrade.tsv"):
+        for packer in PACKERS[row["lanes"]]:
+            right = row["upgraded"] if row["fault"] == "-" else f"refused {20 + int(row['number'])}"
+            yield f"upgrade {packer} {row['bytes']}", right
+    for row in table("seek.tsv"):
+        for packer in PACKERS[row["lanes"]]:
+            for target, right in zip(numbers(row["targets"]), row["found"].split(",")):
+                yield f"seek {packer} {target} {row['bytes']}", right.replace(":", " ")
+    for row in table("lists2.tsv"):
+        if row["kind"] == "plain":
+            for packer in PACKERS[row["lanes"]]:
+                yield f"seek {packer} 0 {row['bytes']}", "refused 23"
 
 
 def program_checks(program):
-    asked = list(lines())
+    asked = [*block_lines(), *list_lines(), *query_lines()]
     text = "".join(f"{line}\n" for line, _ in asked)
     ran = subprocess.run(program, input=text, stdout=subprocess.PIPE, encoding="ascii", errors="replace")
     answers = ran.stdout.split("\n")
@@ -116,25 +244,27 @@ def programs():
 
 def groups(asked):
     """The checks of each reader of the vectors, with its name."""
-    yield "the decoder of docs/FORMAT.md", page_checks(page())
+    names = names_of(model())
+    found = [it for checks in [*CHECKS.values(), rule_checks] for it in checks(names)]
+    yield "the decoders of docs/FORMAT.md and vectors/model.py", found
+    yield "wrong implementations", mistake_checks()
     for program in asked:
         yield os.path.relpath(program[0] if isinstance(program, list) else program, ROOT), program_checks(program)
 
 
-def main():
-    assembled = subprocess.run([sys.executable, f"{ROOT}/vectors/assemble.py", "--check"])
-    passed, failed = int(assembled.returncode == 0), int(assembled.returncode != 0)
+def readers():
+    """The readers of the vectors, each as its name and its first wrong answers, if it has any."""
+    assembled = run(sys.executable, f"{ROOT}/vectors/assemble.py", "--check")
+    yield "vectors/assemble.py", None if assembled.returncode == 0 else assembled.stdout
     for reader, checks in groups([sys.argv[1:]] if sys.argv[1:] else programs()):
         count, wrong = 0, []
         for name, found, right in checks:
             count += 1
             if found != right:
                 wrong.append(f"{name[:120]}\n    is {str(found)[:120]}\n    and not {str(right)[:120]}")
-        print("\n".join(wrong[:20] + [f"{reader}: {count - len(wrong)} of {count} vectors as they should be"]))
-        passed += not wrong
-        failed += bool(wrong)
-    print(f"{passed} passed, {failed} failed")
-    return 1 if failed else 0
+        print(f"{reader}: {count - len(wrong)} of {count} checks as they should be")
+        yield reader, "\n".join(wrong[:20]) or None
 
 
-sys.exit(main())
+if __name__ == "__main__":
+    sys.exit(report(readers()))

@@ -46,10 +46,10 @@ macro_rules! functions {
     ($(#[$doc:meta])* $name:ident $(, $initial:ident)?) => {
         $(#[$doc])*
         pub(crate) struct $name {
-            pack: unsafe extern "C" fn($($initial: u32,)? *const u32, usize, *mut u8, usize, *mut u8) -> isize,
-            compress: unsafe extern "C" fn($($initial: u32,)? *const u32, usize, *mut u8, usize, u8) -> isize,
-            decompress: unsafe extern "C" fn($($initial: u32,)? *const u8, usize, *mut u32, usize, u8) -> isize,
-            num_bits: unsafe extern "C" fn($($initial: u32,)? *const u32, usize) -> isize,
+            pub(crate) pack: unsafe extern "C" fn($($initial: u32,)? *const u32, usize, *mut u8, usize, *mut u8) -> isize,
+            pub(crate) compress: unsafe extern "C" fn($($initial: u32,)? *const u32, usize, *mut u8, usize, u8) -> isize,
+            pub(crate) decompress: unsafe extern "C" fn($($initial: u32,)? *const u8, usize, *mut u32, usize, u8) -> isize,
+            pub(crate) num_bits: unsafe extern "C" fn($($initial: u32,)? *const u32, usize) -> isize,
         }
 
         impl $name {
@@ -166,24 +166,33 @@ static LEVELS: [Level; 3] = [
     Level { one: calls!("v3_bitpacking_1x_"), four: calls!("v3_bitpacking_4x_"), eight: calls!("v3_bitpacking_8x_") },
 ];
 
+/// Features of processors by their names, and whether this one has each.
+macro_rules! detected {
+    ($($feature:tt)*) => {
+        [$(($feature, is_x86_feature_detected!($feature))),*]
+    };
+}
+
+/// What x86-64-v2 adds, but for what Rust cannot ask for.
+pub(crate) fn added_by_v2() -> [(&'static str, bool); 6] {
+    detected!("cmpxchg16b" "popcnt" "sse3" "ssse3" "sse4.1" "sse4.2")
+}
+
+/// What x86-64-v3 adds, but for what Rust cannot ask for.
+pub(crate) fn added_by_v3() -> [(&'static str, bool); 8] {
+    detected!("avx" "avx2" "bmi1" "bmi2" "f16c" "fma" "lzcnt" "movbe")
+}
+
+/// The levels of a processor: each one that has all its features and those of the levels below.
+pub(crate) fn levels_with(v2: [(&str, bool); 6], v3: [(&str, bool); 8]) -> &'static [Level] {
+    let v2 = v2.iter().all(|(_, has)| *has);
+    let v3 = v2 && v3.iter().all(|(_, has)| *has);
+    &LEVELS[..1 + usize::from(v2) + usize::from(v3)]
+}
+
 /// The levels that this processor has.
 pub(crate) fn levels() -> &'static [Level] {
-    let v2 = is_x86_feature_detected!("cmpxchg16b")
-        && is_x86_feature_detected!("popcnt")
-        && is_x86_feature_detected!("sse3")
-        && is_x86_feature_detected!("ssse3")
-        && is_x86_feature_detected!("sse4.1")
-        && is_x86_feature_detected!("sse4.2");
-    let v3 = v2
-        && is_x86_feature_detected!("avx")
-        && is_x86_feature_detected!("avx2")
-        && is_x86_feature_detected!("bmi1")
-        && is_x86_feature_detected!("bmi2")
-        && is_x86_feature_detected!("f16c")
-        && is_x86_feature_detected!("fma")
-        && is_x86_feature_detected!("lzcnt")
-        && is_x86_feature_detected!("movbe");
-    &LEVELS[..1 + usize::from(v2) + usize::from(v3)]
+    levels_with(added_by_v2(), added_by_v3())
 }
 
 /// The best of them.

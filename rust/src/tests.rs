@@ -1,4 +1,6 @@
-//! Every block of `vectors/` at each level that this processor has, with canaries around the buffers; each panic; two threads.
+//! Every block of `vectors/` at each level that this processor has, with canaries around the buffers; each panic; two threads; little stack.
+
+mod levels;
 
 use std::fs;
 use std::panic::{catch_unwind, AssertUnwindSafe};
@@ -117,10 +119,10 @@ fn agrees<P: Pack>(packer: &P, block: &Block) {
     }
 }
 
-#[test]
-fn each_block_of_the_vectors_at_each_level() {
+/// The same by the packer of the block, at each level.
+fn agrees_at_each_level(blocks: &[Block]) {
     for level in levels() {
-        for block in &blocks() {
+        for block in blocks {
             match &block.packer[..] {
                 "1x" => agrees(&BitPacker1x(&level.one), block),
                 "4x" => agrees(&BitPacker4x(&level.four), block),
@@ -131,6 +133,22 @@ fn each_block_of_the_vectors_at_each_level() {
             }
         }
     }
+}
+
+#[test]
+fn each_block_of_the_vectors_at_each_level() {
+    agrees_at_each_level(&blocks());
+}
+
+/// A call takes little stack: an array of more than 64 KiB in it ends the test.
+#[test]
+fn a_small_stack_is_enough() {
+    let blocks = blocks();
+    thread::scope(|scope| {
+        let small = thread::Builder::new().stack_size(64 * 1024);
+        let done = small.spawn_scoped(scope, || agrees_at_each_level(&blocks)).unwrap();
+        done.join().unwrap();
+    });
 }
 
 /// The text of the panic of a call.
@@ -224,6 +242,27 @@ fn a_block_out_of_order_wraps() {
     assert_eq!(packer.compress_sorted(500, &values, &mut bytes, 32), 512);
     packer.decompress_sorted(500, &bytes, &mut unpacked, 32);
     assert_eq!(unpacked[..], values[..]);
+}
+
+/// By hand: 0 is one more than `u32::MAX`, modulo 2^32. So the differences are 1 each, and every bit is set; and a block of
+/// `u32::MAX` after `u32::MAX` has no bits.
+fn sorted_after_the_greatest_value<P: Pack>(packer: &P) {
+    let kind = Kind::Sorted(u32::MAX);
+    let size = P::compressed_block_size(1);
+    let counted =
+        Block { packer: String::new(), kind, width: 1, values: (0..P::BLOCK_LEN as u32).collect(), bytes: vec![0xFF; size] };
+    let greatest = Block { packer: String::new(), kind, width: 0, values: vec![u32::MAX; P::BLOCK_LEN], bytes: Vec::new() };
+    agrees(packer, &counted);
+    agrees(packer, &greatest);
+}
+
+#[test]
+fn sorted_after_the_greatest_value_at_each_level() {
+    for level in levels() {
+        sorted_after_the_greatest_value(&BitPacker1x(&level.one));
+        sorted_after_the_greatest_value(&BitPacker4x(&level.four));
+        sorted_after_the_greatest_value(&BitPacker8x(&level.eight));
+    }
 }
 
 #[test]

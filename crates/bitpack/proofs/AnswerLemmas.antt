@@ -1,22 +1,22 @@
 -- Every line has exactly one answer: the law `one_answer`.
 use Rattle.std.proofs.Common.{◌≡◌, ◌≢◌, ℕ, ◌*◌, ◌^◌, ◌<◌, ◌≤◌, List, [], ◌∷◌, length, take, refl, sym, ap, subst, ◌∙◌, arith, inl, inr, Some, None, length-take-le, take_all}
 use Rattle.std.specs.Prelude.{All}
-use Rattle.std.specs.List.{AllZip, flat_map}
+use Rattle.std.specs.List.{flat_map}
 use Rattle.std.specs.Fmt.{decimal}
 use Rattle.std.proofs.lemmas.Bool.{cases_eq, cases_lt}
 use Rattle.std.proofs.lemmas.List.Elements.{All-append, All-cons, All-head, All-nil, All-replicate, All-tail}
 use Rattle.bitpacking.specs.declared.kind.Kind.{Kind}
 use Rattle.bitpacking.specs.Bits.{AreBytes}
-use Rattle.bitpacking.specs.Codes.{AreWords, codes, values_of}
-use Rattle.bitpacking.specs.Width.{Fits}
-use Rattle.bitpacking.specs.Layout.{Layout, codes_of, size}
+use Rattle.bitpacking.specs.Codes.{AreWords, codes, start, values_of}
+use Rattle.bitpacking.specs.Width.{Fits, IsWidth}
+use Rattle.bitpacking.specs.Layout.{Holds, Layout, codes_of, size}
 use Rattle.bitpacking.proofs.ForCallers.{as_many_codes, codes_are_words, fits_greater, one_block, one_layout_bytes, one_layout_codes, one_least_width}
 use Rattle.bitpack.specs.declared.line.PackerName.{PackerName}
 use Rattle.bitpack.specs.declared.line.PackerName.TheVariants.{EightLanes, EightScalar, FourLanes, FourScalar, OneLane}
 use Rattle.bitpack.specs.declared.line.values.Item.{Item}
 use Rattle.bitpack.specs.declared.line.values.Item.TheVariants.{Once, Times}
-use Rattle.bitpack.specs.Grammar.{Argument, Asks, Dec, Enc, IsItem, IsKind, Pack, Request, Seek, Size, Spells, SpellsArgument, SpellsValues, TheseBytes, TheseValues, ThisKind, ThisListKind, ThisWidth, ThisWord, Unpack, Upgrade, Width, arguments, item_values}
-use Rattle.bitpack.specs.Answers.{IsAnswer, IsPackAnswer, IsReplied, IsReply, IsUnpackAnswer, IsWidthAnswer, Passed, Refused, RefusedIf, SpellsNone, printed_bytes, lanes_of, refused, printed_values, list_fault}
+use Rattle.bitpack.specs.Grammar.{Dec, Enc, IsItem, IsWord, Pack, Request, Seek, Size, Spells, SpellsRequest, SpellsValues, Unpack, Upgrade, Width, item_values}
+use Rattle.bitpack.specs.Answers.{IsAnswer, IsReplied, IsReply, Passed, Prints, PrintsBytes, Refused, RefusedIf, SpellsNone, printed_bytes, lanes_of, refused, printed_values, list_fault}
 use Rattle.bitpack_lists.specs.Version2.{fault2}
 use Rattle.bitpack.specs.Laws.{OneAnswer}
 use Rattle.bitpack.specs.Lines.{kept_part}
@@ -52,18 +52,20 @@ same_from m n not_other = elim (cases_eq m n) [ inl same ↦ same | inr other �
 
 -- ---- what a request holds
 
--- what an argument holds are words or bytes, and not too many for a list
-abbrev IsInRange : Argument → Type 0
-IsInRange (ThisWidth width) = Unit {0}
-IsInRange (ThisWord word) = Unit {0}
-IsInRange (ThisKind kind) = IsKind kind
-IsInRange (ThisListKind kind) = Unit {0}
-IsInRange (TheseValues values) = AreWords values × (length values ≤ 2 ^ 28)
-IsInRange (TheseBytes bytes) = AreBytes bytes
+-- a list of words, and not too many for a packed list
+abbrev AreFewWords : List ℕ → Type 0
+AreFewWords values = AreWords values × (length values ≤ 2 ^ 28)
 
-abbrev AreInRange : List Argument → Type 0
-AreInRange [] = Unit {0}
-AreInRange (argument ∷ all) = IsInRange argument × AreInRange all
+-- what a request holds are words or bytes, and not too many
+abbrev IsInRange : Request → Type 0
+IsInRange (Size width) = Unit {0}
+IsInRange (Width kind values) = IsWord (start kind) × AreFewWords values
+IsInRange (Pack kind width values) = AreFewWords values
+IsInRange (Unpack kind width bytes) = IsWord (start kind)
+IsInRange (Enc kind values) = AreFewWords values
+IsInRange (Dec bytes) = AreBytes bytes
+IsInRange (Seek target bytes) = AreBytes bytes
+IsInRange (Upgrade bytes) = AreBytes bytes
 
 words_of_items : (items : List Item) → All IsItem items → AreWords (flat_map item_values items)
 words_of_items [] are = All-nil (λ v. v < 2 ^ 32)
@@ -76,22 +78,22 @@ words_of_items (Times value count ∷ items) are =
 words_of : (answer values : List ℕ) → SpellsValues answer values → AreWords values
 words_of answer values spelled = subst AreWords (sym spelled.values_are) (words_of_items spelled.items spelled.are_items)
 
-argument_in_range : (answer : List ℕ) (argument : Argument) → SpellsArgument answer argument → IsInRange argument
-argument_in_range answer (ThisWidth width) spelled = tt
-argument_in_range answer (ThisWord word) spelled = tt
-argument_in_range answer (ThisKind kind) (is, word) = word
-argument_in_range answer (ThisListKind kind) spelled = tt
-argument_in_range answer (TheseValues values) spelled = (words_of answer values spelled, omega (arith, spelled.few))
-argument_in_range answer (TheseBytes bytes) spelled = AreBytes-spelled answer bytes spelled
+few_words : (string values : List ℕ) → SpellsValues string values → AreFewWords values
+few_words string values spelled = (words_of string values spelled, omega (arith, spelled.few))
 
-arguments_in_range : (texts : List (List ℕ)) (all : List Argument) → AllZip SpellsArgument texts all → AreInRange all
-arguments_in_range [] [] spelled = tt
-arguments_in_range (answer ∷ texts) (argument ∷ all) (first, rest) = (argument_in_range answer argument first, arguments_in_range texts all rest)
-arguments_in_range texts all spelled = absurd spelled
+request_in_range : (verb : List ℕ) (strings : List (List ℕ)) (request : Request) → SpellsRequest verb strings request → IsInRange request
+request_in_range verb (one ∷ []) (Size width) spelled = tt
+request_in_range verb (one ∷ two ∷ []) (Width kind values) (verb_is, (is, word), spelled) = (word, few_words two values spelled)
+request_in_range verb (one ∷ two ∷ three ∷ []) (Pack kind width values) (verb_is, of_kind, small, spelled) = few_words three values spelled
+request_in_range verb (one ∷ two ∷ three ∷ []) (Unpack kind width bytes) (verb_is, (is, word), small, spelled) = word
+request_in_range verb (one ∷ two ∷ []) (Enc kind values) (verb_is, of_kind, spelled) = few_words two values spelled
+request_in_range verb (one ∷ []) (Dec bytes) (verb_is, spelled) = AreBytes-spelled one bytes spelled
+request_in_range verb (one ∷ two ∷ []) (Seek target bytes) (verb_is, word, spelled) = AreBytes-spelled two bytes spelled
+request_in_range verb (one ∷ []) (Upgrade bytes) (verb_is, spelled) = AreBytes-spelled one bytes spelled
+request_in_range verb strings request spelled = absurd spelled
 
-in_range : (fields : List (List ℕ)) (packer : PackerName) (request : Request) → Asks fields packer request → AreInRange (arguments request)
-in_range (verb ∷ name ∷ texts) packer request (named, (verb_is, spelled)) = arguments_in_range texts (arguments request) spelled
-in_range fields packer request asks = absurd asks
+in_range : (line : List ℕ) (packer : PackerName) (request : Request) → Spells line packer request → IsInRange request
+in_range line packer request spells = request_in_range spells.verb spells.strings request spells.spelled
 
 some_lanes : (packer : PackerName) → 0 < lanes_of packer
 some_lanes OneLane = omega arith
@@ -134,61 +136,65 @@ narrow_width : (width : ℕ) → (32 < width → ⊥) → width ≤ 32
 narrow_width width narrow = elim (cases_lt 32 width) [ inl wide ↦ absurd (narrow wide) | inr fine ↦ fine ]
 
 module _ (lanes : ℕ) (some : 0 < lanes) where
-  reply_of : lanes < 2 ^ 8 → (request : Request) → AreInRange (arguments request) → (answer : List ℕ) × IsReply lanes request answer
+  reply_of : lanes < 2 ^ 8 → (request : Request) → IsInRange request → (answer : List ℕ) × IsReply lanes request answer
   reply_of few (Size width) range = (decimal (size lanes width), refl)
-  reply_of few (Width kind values) (is_kind, ((words, short), end)) =
+  reply_of few (Width kind values) (is_kind, (words, short)) =
       refused_or _ 2 _ (is_other (length values) (32 * lanes)) (λ block.
       let (width, low, least, one) = one_least_width (codes kind values) (codes_are_words kind values words) in
-      (decimal width, record { width = width; least = least; answer_is = refl }))
-  reply_of few (Pack kind width values) (is_kind, (small, ((words, short), end))) =
+      (decimal width, record { thing = width; fact = least; answer_is = refl }))
+  reply_of few (Pack kind width values) (words, short) =
       let are_words = codes_are_words kind values words in
       refused_or _ 2 _ (is_other (length values) (32 * lanes)) (λ block.
       refused_or _ 3 _ (is_above 32 width) (λ narrow.
       refused_or _ 4 _ (fits_or_not (codes kind values) width are_words) (λ fit.
       let (bytes, are_bytes, layout, one) = one_layout_bytes lanes width (codes kind values) some
       (as_many_codes kind values ∙ same_from (length values) (32 * lanes) block) (fits_at_least (codes kind values) width are_words fit) in
-      (printed_bytes bytes, record { bytes = bytes; are_bytes = are_bytes; holds = layout; answer_is = refl }))))
-  reply_of few (Unpack kind width bytes) (is_kind, rest) =
+      (printed_bytes bytes, record { thing = bytes; fact = (are_bytes, layout); answer_is = refl }))))
+  reply_of few (Unpack kind width bytes) is_kind =
       refused_or _ 3 _ (is_above 32 width) (λ narrow.
       refused_or _ 5 _ (is_other (length bytes) (size lanes width)) (λ room.
       let words : List ℕ = codes_of lanes width bytes in
       let (layout, one) = one_layout_codes lanes width bytes (same_from (length bytes) (size lanes width) room) in
       let are_words = words_from_fits words width (narrow_width width narrow) layout.fits in
       let (are_values, codes_are, only_block) = one_block kind words is_kind are_words in
-      (printed_values (values_of kind words), record { block = values_of kind words; are_words = are_values; holds = subst (λ c. Layout lanes width c bytes) (sym codes_are) layout; answer_is = refl })))
-  reply_of few (Enc kind values) (known, ((words, short), end)) = encoded_of lanes kind values some few words short
-  reply_of few (Dec bytes) (are_bytes, end) = decoded_of lanes bytes some are_bytes
-  reply_of few (Seek target bytes) (word, (are_bytes, end)) = sought_of lanes target bytes some are_bytes
-  reply_of few (Upgrade bytes) (are_bytes, end) = upgraded_of lanes bytes some few are_bytes
+      (printed_values (values_of kind words), record { thing = values_of kind words; fact = (are_values, subst (λ c. Layout lanes width c bytes) (sym codes_are) layout); answer_is = refl })))
+  reply_of few (Enc kind values) (words, short) = encoded_of lanes kind values some few words short
+  reply_of few (Dec bytes) are_bytes = decoded_of lanes bytes some are_bytes
+  reply_of few (Seek target bytes) are_bytes = sought_of lanes target bytes some are_bytes
+  reply_of few (Upgrade bytes) are_bytes = upgraded_of lanes bytes some few are_bytes
 
-  same_packed : (width : ℕ) (kind : Kind) (values a b : List ℕ) → IsPackAnswer lanes width kind values a → IsPackAnswer lanes width kind values b → a ≡ b
+  same_packed : (width : ℕ) (kind : Kind) (values a b : List ℕ) → PrintsBytes (Holds lanes width kind values) a → PrintsBytes (Holds lanes width kind values) b → a ≡ b
   same_packed width kind values a b first second =
-      let (bytes, are_bytes, layout, one) = one_layout_bytes lanes width (codes kind values) some first.holds.code_count first.holds.fits in
-      first.answer_is ∙ ap printed_bytes (one first.bytes first.are_bytes first.holds ∙ sym (one second.bytes second.are_bytes second.holds)) ∙ sym second.answer_is
+      let (bytes, are_bytes, layout, one) = one_layout_bytes lanes width (codes kind values) some first.fact.1.code_count first.fact.1.fits in
+      first.answer_is ∙ ap printed_bytes (one first.thing first.fact.0 first.fact.1 ∙ sym (one second.thing second.fact.0 second.fact.1)) ∙ sym second.answer_is
 
-  same_unpacked : (width : ℕ) (kind : Kind) (bytes a b : List ℕ) → width ≤ 32 → IsKind kind → IsUnpackAnswer lanes width kind bytes a → IsUnpackAnswer lanes width kind bytes b → a ≡ b
+  -- the block that the bytes hold
+  abbrev IsBlock : ℕ → Kind → List ℕ → List ℕ → Type 0
+  IsBlock width kind bytes block = AreWords block × Holds lanes width kind block bytes
+
+  same_unpacked : (width : ℕ) (kind : Kind) (bytes a b : List ℕ) → width ≤ 32 → IsWord (start kind) → Prints printed_values (IsBlock width kind bytes) a → Prints printed_values (IsBlock width kind bytes) b → a ≡ b
   same_unpacked width kind bytes a b narrow is_kind first second =
       let words : List ℕ = codes_of lanes width bytes in
-      let (layout, one) = one_layout_codes lanes width bytes first.holds.byte_count in
+      let (layout, one) = one_layout_codes lanes width bytes first.fact.1.byte_count in
       let are_words = words_from_fits words width narrow layout.fits in
       let (are_values, codes_are, only_block) = one_block kind words is_kind are_words in
-      first.answer_is ∙ ap printed_values (only_block first.block first.are_words (one (codes kind first.block) first.holds) ∙ sym (only_block second.block second.are_words (one (codes kind second.block) second.holds))) ∙ sym second.answer_is
+      first.answer_is ∙ ap printed_values (only_block first.thing first.fact.0 (one (codes kind first.thing) first.fact.1) ∙ sym (only_block second.thing second.fact.0 (one (codes kind second.thing) second.fact.1))) ∙ sym second.answer_is
 
-  same_width : (kind : Kind) (values a b : List ℕ) → AreWords values → IsWidthAnswer kind values a → IsWidthAnswer kind values b → a ≡ b
+  same_width : (kind : Kind) (values a b : List ℕ) → AreWords values → Prints decimal (IsWidth kind values) a → Prints decimal (IsWidth kind values) b → a ≡ b
   same_width kind values a b words first second =
       let (width, low, least, one) = one_least_width (codes kind values) (codes_are_words kind values words) in
-      first.answer_is ∙ ap decimal (one first.width first.least ∙ sym (one second.width second.least)) ∙ sym second.answer_is
+      first.answer_is ∙ ap decimal (one first.thing first.fact ∙ sym (one second.thing second.fact)) ∙ sym second.answer_is
 
-  same_reply : (request : Request) → AreInRange (arguments request) → (a b : List ℕ) → IsReply lanes request a → IsReply lanes request b → a ≡ b
+  same_reply : (request : Request) → IsInRange request → (a b : List ℕ) → IsReply lanes request a → IsReply lanes request b → a ≡ b
   same_reply (Size width) range = λ a b is_a is_b. is_a ∙ sym is_b
-  same_reply (Width kind values) (is_kind, ((words, short), end)) = same_refusal _ 2 _ (λ block a b. same_width kind values a b words)
+  same_reply (Width kind values) (is_kind, (words, short)) = same_refusal _ 2 _ (λ block a b. same_width kind values a b words)
   same_reply (Pack kind width values) range =
       same_refusal _ 2 _ (λ block. same_refusal _ 3 _ (λ narrow. same_refusal _ 4 _ (λ fit. same_packed width kind values)))
-  same_reply (Unpack kind width bytes) (is_kind, rest) =
+  same_reply (Unpack kind width bytes) is_kind =
       same_refusal _ 3 _ (λ narrow. same_refusal _ 5 _ (λ room a b. same_unpacked width kind bytes a b (narrow_width width narrow) is_kind))
   same_reply (Enc kind values) range = λ a b. same_encoded lanes kind values a b some
-  same_reply (Dec bytes) (small, end) = λ a b. same_decoded lanes bytes (list_fault lanes bytes) a b some small
-  same_reply (Seek target bytes) (word, (small, end)) = λ a b. same_sought lanes target bytes (fault2 lanes bytes) a b some small
+  same_reply (Dec bytes) small = λ a b. same_decoded lanes bytes (list_fault lanes bytes) a b some small
+  same_reply (Seek target bytes) small = λ a b. same_sought lanes target bytes (fault2 lanes bytes) a b some small
   same_reply (Upgrade bytes) range = λ a b. same_upgraded lanes bytes (fault1 lanes bytes) a b some
 
 -- ---- answers
@@ -196,7 +202,7 @@ module _ (lanes : ℕ) (some : 0 < lanes) where
 reply_to : (line : List ℕ) (found : Search (λ (asked : PackerName × Request). Spells line asked.0 asked.1)) → (answer : List ℕ) × RefusedIf (SpellsNone line) 1 (IsReplied line) answer
 reply_to line (None, none) = (refused 1, Refused (λ packer request spells. none (packer, request) spells) refl)
 reply_to line (Some asked, spells) =
-    let (answer, replies) = reply_of (lanes_of asked.0) (some_lanes asked.0) (few_lanes asked.0) asked.1 (in_range spells.fields asked.0 asked.1 spells.asks) in
+    let (answer, replies) = reply_of (lanes_of asked.0) (some_lanes asked.0) (few_lanes asked.0) asked.1 (in_range line asked.0 asked.1 spells) in
     (answer, Passed (λ none. none asked.0 asked.1 spells) (record { packer = asked.0; request = asked.1; spelled = spells; replied = replies }))
 
 pub answer_of : (line : List ℕ) → (answer : List ℕ) × IsAnswer line answer
@@ -208,7 +214,7 @@ same_replied line a b first second =
     let (packers, requests) = one_command line first.packer second.packer first.request second.request first.spelled second.spelled in
     let moved : IsReply (lanes_of first.packer) first.request b =
     subst (λ p. IsReply (lanes_of p) first.request b) (sym packers) (subst (λ r. IsReply (lanes_of second.packer) r b) (sym requests) second.replied) in
-    same_reply (lanes_of first.packer) (some_lanes first.packer) first.request (in_range first.spelled.fields first.packer first.request first.spelled.asks) a b first.replied moved
+    same_reply (lanes_of first.packer) (some_lanes first.packer) first.request (in_range line first.packer first.request first.spelled) a b first.replied moved
 
 pub same_answer : (line a b : List ℕ) → IsAnswer line a → IsAnswer line b → a ≡ b
 unfolding IsAnswer

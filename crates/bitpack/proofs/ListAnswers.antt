@@ -1,6 +1,5 @@
 -- The answers to `enc`, `dec` and `seek`: each request has one, and no other.
 use Rattle.std.proofs.Common.{◌≡◌, ◌≢◌, ℕ, ◌+◌, ◌^◌, ◌<◌, ◌≤◌, ◌⊎◌, inl, inr, Bool, true, false, ◌==◌, if◌then◌else◌, List, [], ◌∷◌, ◌++◌, length, slice_index, Option, Some, None, refl, sym, ◌∙◌, ap, arith}
-use Rattle.std.specs.Option.{MatchOption}
 use Rattle.hex.proofs.HexLemmas.{decode_of-ok}
 use Rattle.bitpacking.specs.Bits.{AreBytes}
 use Rattle.bitpacking.specs.Codes.{AreWords}
@@ -12,7 +11,7 @@ use Rattle.bitpack_lists.specs.Parts.{header, number_of}
 use Rattle.bitpack_lists.specs.Search.{first_at_least}
 use Rattle.bitpack_lists.specs.Version1.{List1, fault1}
 use Rattle.bitpack_lists.specs.Version2.{List2, fault2}
-use Rattle.bitpack.specs.Answers.{IsDecAnswer, IsEncAnswer, IsSeekAnswer, list_fault, printed_bytes, printed_found, printed_list, refused, sought}
+use Rattle.bitpack.specs.Answers.{PrintsBytes, RefusedFor, RepliesToList, list_fault, printed_bytes, printed_found, printed_list, refused, sought}
 use Rattle.bitpack_lists.proofs.ForCallers.{AreBytes-nil, header_bytes, no_fault2, one_list1, one_list2, one_text1, text_from_none, text_of}
 
 -- ---- bytes
@@ -27,22 +26,22 @@ AreBytes-spelled string (byte ∷ bytes) spelled =
 -- ---- the answer to `enc`
 
 pub encoded_of : (lanes : ℕ) (kind : ListKind) (values : List ℕ) → 1 ≤ lanes → lanes < 2 ^ 8 → AreWords values → length values ≤ 2 ^ 28
-    → (answer : List ℕ) × IsEncAnswer lanes kind values answer
+    → (answer : List ℕ) × PrintsBytes (List1 lanes kind values) answer
 encoded_of lanes kind values some few words short =
     let (later, small, blocks, are_bytes, list) = text_of lanes kind values some few words short in
     let text : List ℕ = header 1 kind lanes (length values) ++ later in
-    (printed_bytes text, record { bytes = text; are_bytes = are_bytes; list = list; answer_is = refl })
+    (printed_bytes text, record { thing = text; fact = (are_bytes, list); answer_is = refl })
 
-pub same_encoded : (lanes : ℕ) (kind : ListKind) (values a b : List ℕ) → 1 ≤ lanes → IsEncAnswer lanes kind values a → IsEncAnswer lanes kind values b → a ≡ b
+pub same_encoded : (lanes : ℕ) (kind : ListKind) (values a b : List ℕ) → 1 ≤ lanes → PrintsBytes (List1 lanes kind values) a → PrintsBytes (List1 lanes kind values) b → a ≡ b
 same_encoded lanes kind values a b some first second =
-    let bytes = one_text1 lanes kind values second.bytes first.bytes some second.are_bytes first.are_bytes second.list first.list in
+    let bytes = one_text1 lanes kind values second.thing first.thing some second.fact.0 first.fact.0 second.fact.1 first.fact.1 in
     first.answer_is ∙ ap printed_bytes bytes ∙ sym second.answer_is
 
 -- ---- the answer to `dec`
 
 -- the answer to `dec` of these bytes, whose first fault this is
 abbrev IsReplyAt : ℕ → List ℕ → Option ListError → List ℕ → Type 0
-IsReplyAt lanes bytes fault answer = MatchOption fault (IsDecAnswer lanes bytes answer) (λ fault. answer ≡ refused (20 + number_of fault))
+IsReplyAt lanes bytes fault = RefusedFor fault (RepliesToList (λ kind values. List1 lanes kind values bytes ⊎ List2 lanes kind values bytes) (λ kind values answer. answer ≡ printed_list kind values))
 
 -- bytes of which either this fault is the first, or none is, as they are a text
 decoded_at : (lanes : ℕ) (bytes : List ℕ) (fault : Option ListError)
@@ -51,7 +50,7 @@ decoded_at : (lanes : ℕ) (bytes : List ℕ) (fault : Option ListError)
 decoded_at lanes bytes (Some fault) text = (refused (20 + number_of fault), refl)
 decoded_at lanes bytes None text =
     let (kind, values, list) = text refl in
-    (printed_list kind values, record { kind = kind; values = values; list = list; answer_is = refl })
+    (printed_list kind values, record { kind = kind; values = values; list = list; reply = refl })
 
 decoded_by : (lanes : ℕ) (bytes : List ℕ) (second : Bool) → 1 ≤ lanes → AreBytes bytes
     → (answer : List ℕ) × IsReplyAt lanes bytes (if second then fault2 lanes bytes else fault1 lanes bytes) answer
@@ -86,18 +85,18 @@ pub same_decoded : (lanes : ℕ) (bytes : List ℕ) (fault : Option ListError) (
 same_decoded lanes bytes (Some fault) a b some small is_a is_b = is_a ∙ sym is_b
 same_decoded lanes bytes None a b some small first second =
     let (kinds, lists) = one_list lanes first.kind second.kind first.values second.values bytes some small first.list second.list in
-    first.answer_is ∙ rw (← kinds, ← lists) (sym second.answer_is)
+    first.reply ∙ rw (← kinds, ← lists) (sym second.reply)
 
 -- the list of a text of version 2
 pub second_listed : (lanes : ℕ) (bytes : List ℕ) (kind : ListKind) (values answer : List ℕ) → (slice_index bytes 0 == 2) ≡ true
     → fault2 lanes bytes ≡ None → List2 lanes kind values bytes → answer ≡ printed_list kind values → IsReplyAt lanes bytes (list_fault lanes bytes) answer
 second_listed lanes bytes kind values answer second none list is =
-    rw (second, none) (record { kind = kind; values = values; list = inr list; answer_is = is })
+    rw (second, none) (record { kind = kind; values = values; list = inr list; reply = is })
 
 -- ---- the answer to `seek`
 
 abbrev IsFoundAt : ℕ → ℕ → List ℕ → Option ListError → List ℕ → Type 0
-IsFoundAt lanes target bytes fault answer = MatchOption fault (IsSeekAnswer lanes target bytes answer) (λ fault. answer ≡ refused (20 + number_of fault))
+IsFoundAt lanes target bytes fault = RefusedFor fault (RepliesToList (λ kind values. List2 lanes kind values bytes) (λ kind values answer. answer ≡ sought kind values target))
 
 pub sought_of : (lanes target : ℕ) (bytes : List ℕ) → 1 ≤ lanes → AreBytes bytes → (answer : List ℕ) × IsFoundAt lanes target bytes (fault2 lanes bytes) answer
 sought_of lanes target bytes some small = by_fault (fault2 lanes bytes) (no_fault2 lanes bytes some small).0
@@ -107,19 +106,19 @@ sought_of lanes target bytes some small = by_fault (fault2 lanes bytes) (no_faul
     by_fault (Some fault) text = (refused (20 + number_of fault), refl)
     by_fault None text =
         let (kind, values, list) = text refl in
-        (sought kind values target, record { kind = kind; values = values; list = list; answer_is = refl })
+        (sought kind values target, record { kind = kind; values = values; list = list; reply = refl })
 
 pub same_sought : (lanes target : ℕ) (bytes : List ℕ) (fault : Option ListError) (a b : List ℕ) → 1 ≤ lanes → AreBytes bytes
     → IsFoundAt lanes target bytes fault a → IsFoundAt lanes target bytes fault b → a ≡ b
 same_sought lanes target bytes (Some fault) a b some small is_a is_b = is_a ∙ sym is_b
 same_sought lanes target bytes None a b some small first second =
     let (kinds, lists) = one_list2 lanes first.kind second.kind first.values second.values bytes some small first.list second.list in
-    first.answer_is ∙ rw (← kinds, ← lists) (sym second.answer_is)
+    first.reply ∙ rw (← kinds, ← lists) (sym second.reply)
 
 -- the answer of the list of a text
 pub found_in : (lanes target : ℕ) (bytes : List ℕ) (kind : ListKind) (values answer : List ℕ) → fault2 lanes bytes ≡ None → List2 lanes kind values bytes
     → answer ≡ sought kind values target → IsFoundAt lanes target bytes (fault2 lanes bytes) answer
-found_in lanes target bytes kind values answer none list is = rw none (record { kind = kind; values = values; list = list; answer_is = is })
+found_in lanes target bytes kind values answer none list is = rw none (record { kind = kind; values = values; list = list; reply = is })
 
 pub sought_ordered : (kind : ListKind) (values : List ℕ) (target : ℕ) → kind ≢ lists.Plain → printed_found (first_at_least values target) ≡ sought kind values target
 sought_ordered lists.Plain values target ordered = absurd (ordered refl)

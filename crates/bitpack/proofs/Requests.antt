@@ -1,12 +1,10 @@
 -- The request of a line is read from its fields, and the fields spell no other: the law `one_command`.
 use Rattle.std.proofs.Common.{◌≡◌, ℕ, ◌^◌, ◌<◌, false, List, [], ◌∷◌, bytes_eq, codes, drop, get_or, if◌then◌else◌, refl, sym, ap, subst, ◌∙◌, arith, ◌==◌, inl, inr, Option, Some, None, Result, Err}
-use Rattle.std.specs.List.{AllZip}
 use Rattle.std.specs.Fmt.{decimal}
 use Rattle.std.specs.Str.Parse.{digits_value}
 use Rattle.std.proofs.lemmas.Bool.Decides.{eqb_tells}
 use Rattle.std.proofs.lemmas.Fmt.{decimal_nonempty, digits_value-decimal}
 use Rattle.std.proofs.lemmas.List.Splits.{join_with_byte-slice_split}
-use Rattle.std.proofs.lemmas.Slice.Zip.{AllZip-long}
 use Rattle.bitpacking.specs.declared.kind.Kind.{Kind}
 use Rattle.bitpacking.specs.declared.kind.Kind.TheVariants.{Plain, Sorted, StrictlySorted}
 use Rattle.bitpacking.specs.Codes.{start}
@@ -16,14 +14,13 @@ use Rattle.bitpack.specs.declared.line.PackerName.{PackerName}
 use Rattle.bitpack.specs.declared.line.PackerName.TheVariants.{EightLanes, EightScalar, FourLanes, FourScalar, OneLane}
 use Rattle.bitpack_lists.specs.declared.list_kind.ListKind.{ListKind}
 use Rattle.bitpack_lists.specs.declared.list_kind.ListKind.TheVariants as lists
-use Rattle.bitpack.specs.Grammar.{Argument, Asks, Dec, Enc, IsKind, IsSmall, IsWord, Pack, Request, Seek, Size, Spells, SpellsArgument, SpellsBytes, SpellsKind, SpellsNumber, SpellsRequest, SpellsValues, TheseBytes, TheseValues, ThisKind, ThisListKind, ThisWidth, ThisWord, Unpack, Upgrade, Width, arguments, kind_string, list_kind_string, packer_string, verb_string}
-use Rattle.bitpack.specs.Found.{Parses, request_of}
+use Rattle.bitpack.specs.Grammar.{Dec, Enc, IsSmall, IsWord, Pack, Request, Seek, Size, Spells, SpellsBytes, SpellsKind, SpellsNumber, SpellsRequest, SpellsValues, Unpack, Upgrade, Width, kind_string, list_kind_string, packer_string}
+use Rattle.bitpack.specs.Found.{Asks, Parses, request_of}
 use Rattle.bitpack.specs.Laws.{OneCommand}
 use Rattle.bitpack.proofs.Finding.{Decided, Search, below, both, find_bytes, find_values, only, same_bytes, same_string, same_values}
-use Rattle.bitpack.proofs.LineFields.{between_spaces, fields_of}
+use Rattle.bitpack.proofs.LineFields.{asks_in, between_spaces, fields_in, fields_of, spells_by}
 use Rattle.bitpack.proofs.Numerals.{decimal-digit, numeral}
 use Rattle.bitpack.proofs.Passing.{passes_on}
-use Rattle.bitpack.proofs.VisibleFields.{form}
 
 -- ---- packers and kinds, read from their strings
 
@@ -55,7 +52,7 @@ no_digit n word = elim (eqb_tells (get_or (decimal n) 0 0) 110) [
   | inr (apart, _) ↦ apart
 ]
 
-kind_is : (kind : Kind) → IsKind kind → kind ≡ read_kind (kind_string kind)
+kind_is : (kind : Kind) → IsWord (start kind) → kind ≡ read_kind (kind_string kind)
 kind_is Plain word = refl
 kind_is (Sorted n) word = ap Sorted (sym (digits_value-decimal numeral n (omega arith)))
 kind_is (StrictlySorted None) word = refl
@@ -92,18 +89,17 @@ module _ (P : List ℕ → Type 0) (one : (a b : List ℕ) → P a → P b → a
 
 -- ---- arguments
 
-spells_or_not : (string : List ℕ) (argument : Argument) → Decided (SpellsArgument string argument)
-spells_or_not string (ThisWidth width) = both (same_string string (decimal width)) (below (2 ^ 8) width)
-spells_or_not string (ThisWord word) = both (same_string string (decimal word)) (below (2 ^ 32) word)
-spells_or_not string (ThisKind kind) = both (same_string string (kind_string kind)) (below (2 ^ 32) (start kind))
-spells_or_not string (ThisListKind kind) = same_string string (list_kind_string kind)
-spells_or_not string (TheseValues values) = is_spelled (SpellsValues string) (same_values string) (find_values string) values
-spells_or_not string (TheseBytes bytes) = is_spelled (SpellsBytes string) (same_bytes string) (find_bytes string) bytes
+kind_or_not : (string : List ℕ) (kind : Kind) → Decided (SpellsKind string kind)
+kind_or_not string kind = both (same_string string (kind_string kind)) (below (2 ^ 32) (start kind))
 
-all_spelled_or_not : (strings : List (List ℕ)) (all : List Argument) → Decided (AllZip SpellsArgument strings all)
-all_spelled_or_not [] [] = inl tt
-all_spelled_or_not (string ∷ strings) (argument ∷ all) = both (spells_or_not string argument) (all_spelled_or_not strings all)
-all_spelled_or_not strings all = inr (λ spelled. spelled)
+number_or_not : (bits : ℕ) (string : List ℕ) (n : ℕ) → Decided (SpellsNumber (λ n. n < 2 ^ bits) string n)
+number_or_not bits string n = both (same_string string (decimal n)) (below (2 ^ bits) n)
+
+values_or_not : (string values : List ℕ) → Decided (SpellsValues string values)
+values_or_not string = is_spelled (SpellsValues string) (same_values string) (find_values string)
+
+bytes_or_not : (string bytes : List ℕ) → Decided (SpellsBytes string bytes)
+bytes_or_not string = is_spelled (SpellsBytes string) (same_bytes string) (find_bytes string)
 
 width_is : (string : List ℕ) (width : ℕ) → SpellsNumber IsSmall string width → width ≡ digits_value 10 string
 width_is string width (is, small) = sym (digits_value-decimal numeral width (omega arith)) ∙ ap (digits_value 10) (sym is)
@@ -147,25 +143,44 @@ read_request verb strings =
     else Upgrade (read_bytes one)
 
 pub request_is : (verb : List ℕ) (strings : List (List ℕ)) (request : Request) → SpellsRequest verb strings request → request ≡ read_request verb strings
-request_is verb (w ∷ []) (Size width) (verb_is, (small, end)) = rw verb_is (ap Size (width_is w width small))
-request_is verb (k ∷ v ∷ []) (Width kind values) (verb_is, (of_kind, (spelled, end))) =
+request_is verb (w ∷ []) (Size width) (verb_is, small) = rw verb_is (ap Size (width_is w width small))
+request_is verb (k ∷ v ∷ []) (Width kind values) (verb_is, of_kind, spelled) =
     let same : Width kind values ≡ Width (read_kind k) (read_values v) = cc (is_kind k kind of_kind, values_are v values spelled) in
     rw verb_is same
-request_is verb (k ∷ w ∷ v ∷ []) (Pack kind width values) (verb_is, (of_kind, (small, (spelled, end)))) =
+request_is verb (k ∷ w ∷ v ∷ []) (Pack kind width values) (verb_is, of_kind, small, spelled) =
     let same : Pack kind width values ≡ Pack (read_kind k) (digits_value 10 w) (read_values v) = cc (is_kind k kind of_kind, width_is w width small, values_are v values spelled) in
     rw verb_is same
-request_is verb (k ∷ w ∷ b ∷ []) (Unpack kind width bytes) (verb_is, (of_kind, (small, (spelled, end)))) =
+request_is verb (k ∷ w ∷ b ∷ []) (Unpack kind width bytes) (verb_is, of_kind, small, spelled) =
     let same : Unpack kind width bytes ≡ Unpack (read_kind k) (digits_value 10 w) (read_bytes b) = cc (is_kind k kind of_kind, width_is w width small, bytes_are b bytes spelled) in
     rw verb_is same
-request_is verb (k ∷ v ∷ []) (Enc kind values) (verb_is, (of_kind, (spelled, end))) =
+request_is verb (k ∷ v ∷ []) (Enc kind values) (verb_is, of_kind, spelled) =
     let same : Enc kind values ≡ Enc (read_list_kind k) (read_values v) = cc (is_list_kind k kind of_kind, values_are v values spelled) in
     rw verb_is same
-request_is verb (b ∷ []) (Dec bytes) (verb_is, (spelled, end)) = rw verb_is (ap Dec (bytes_are b bytes spelled))
-request_is verb (w ∷ b ∷ []) (Seek target bytes) (verb_is, (word, (spelled, end))) =
+request_is verb (b ∷ []) (Dec bytes) (verb_is, spelled) = rw verb_is (ap Dec (bytes_are b bytes spelled))
+request_is verb (w ∷ b ∷ []) (Seek target bytes) (verb_is, word, spelled) =
     let same : Seek target bytes ≡ Seek (digits_value 10 w) (read_bytes b) = cc (word_is w target word, bytes_are b bytes spelled) in
     rw verb_is same
-request_is verb (b ∷ []) (Upgrade bytes) (verb_is, (spelled, end)) = rw verb_is (ap Upgrade (bytes_are b bytes spelled))
-request_is verb strings request (verb_is, spelled) = absurd (omega (arith, AllZip-long SpellsArgument strings (arguments request) spelled, (form request).1))
+request_is verb (b ∷ []) (Upgrade bytes) (verb_is, spelled) = rw verb_is (ap Upgrade (bytes_are b bytes spelled))
+request_is verb strings request spelled = absurd spelled
+
+both_and : {P Q R : Type 0} → Decided P → Decided Q → Decided R → Decided (P × Q × R)
+both_and p q r = elim (both p (both q r)) [ inl (p, (q, r)) ↦ inl (p, q, r) | inr none ↦ inr (λ (p, q, r). none (p, (q, r))) ]
+
+both_and_both : {P Q R S : Type 0} → Decided P → Decided Q → Decided R → Decided S → Decided (P × Q × R × S)
+both_and_both p q r s = elim (both_and p q (both r s)) [ inl (p, q, (r, s)) ↦ inl (p, q, r, s) | inr none ↦ inr (λ (p, q, r, s). none (p, q, (r, s))) ]
+
+request_or_not : (verb : List ℕ) (strings : List (List ℕ)) (request : Request) → Decided (SpellsRequest verb strings request)
+request_or_not verb (w ∷ []) (Size width) = both (same_string verb (codes "size")) (number_or_not 8 w width)
+request_or_not verb (k ∷ v ∷ []) (Width kind values) = both_and (same_string verb (codes "width")) (kind_or_not k kind) (values_or_not v values)
+request_or_not verb (k ∷ w ∷ v ∷ []) (Pack kind width values) =
+    both_and_both (same_string verb (codes "pack")) (kind_or_not k kind) (number_or_not 8 w width) (values_or_not v values)
+request_or_not verb (k ∷ w ∷ b ∷ []) (Unpack kind width bytes) =
+    both_and_both (same_string verb (codes "unpack")) (kind_or_not k kind) (number_or_not 8 w width) (bytes_or_not b bytes)
+request_or_not verb (k ∷ v ∷ []) (Enc kind values) = both_and (same_string verb (codes "enc")) (same_string k (list_kind_string kind)) (values_or_not v values)
+request_or_not verb (b ∷ []) (Dec bytes) = both (same_string verb (codes "dec")) (bytes_or_not b bytes)
+request_or_not verb (w ∷ b ∷ []) (Seek target bytes) = both_and (same_string verb (codes "seek")) (number_or_not 32 w target) (bytes_or_not b bytes)
+request_or_not verb (b ∷ []) (Upgrade bytes) = both (same_string verb (codes "upgrade")) (bytes_or_not b bytes)
+request_or_not verb strings request = inr (λ spelled. spelled)
 
 -- ---- lines
 
@@ -188,8 +203,7 @@ asked_is fields asked asks = absurd asks
 find_asked : (fields : List (List ℕ)) → Search (Asked fields)
 find_asked (verb ∷ name ∷ strings) =
     let request = read_request verb strings in
-    let spelled = both (same_string verb (verb_string request)) (all_spelled_or_not strings (arguments request)) in
-    only (Asked (verb ∷ name ∷ strings)) (read_packer name, request) (both (same_string name (packer_string (read_packer name))) spelled) (asked_is (verb ∷ name ∷ strings))
+    only (Asked (verb ∷ name ∷ strings)) (read_packer name, request) (both (same_string name (packer_string (read_packer name))) (request_or_not verb strings request)) (asked_is (verb ∷ name ∷ strings))
 find_asked fields = (None, λ asked asks. asks)
 
 -- what a line spells is found
@@ -197,13 +211,13 @@ pub find_line : (line : List ℕ) → Search (λ (asked : PackerName × Request)
 find_line line = from (find_asked (between_spaces line))
   where
     from : Search (Asked (between_spaces line)) → Search (λ (asked : PackerName × Request). Spells line asked.0 asked.1)
-    from (Some asked, asks) = (Some asked, record { fields = between_spaces line; line_is = sym (join_with_byte-slice_split 32 line); asks = asks })
-    from (None, none) = (None, λ asked spells. none asked (subst (λ fields. Asks fields asked.0 asked.1) (sym (fields_of line asked.0 asked.1 spells)) spells.asks))
+    from (Some asked, asks) = (Some asked, spells_by line (between_spaces line) asked.0 asked.1 (sym (join_with_byte-slice_split 32 line)) asks)
+    from (None, none) = (None, λ asked spells. none asked (subst (λ fields. Asks fields asked.0 asked.1) (sym (fields_of line asked.0 asked.1 spells)) (asks_in line asked.0 asked.1 spells)))
 
 pub one_command : OneCommand
 one_command line p q r s first second =
-    let also = subst (λ fields. Asks fields q s) (sym (fields_of line q s second) ∙ fields_of line p r first) second.asks in
-    let same = asked_is first.fields (p, r) first.asks ∙ sym (asked_is first.fields (q, s) also) in
+    let also = subst (λ fields. Asks fields q s) (sym (fields_of line q s second) ∙ fields_of line p r first) (asks_in line q s second) in
+    let same = asked_is (fields_in line p r first) (p, r) (asks_in line p r first) ∙ sym (asked_is (fields_in line p r first) (q, s) also) in
     (ap (λ asked. asked.0) same, ap (λ asked. asked.1) same)
 
 -- ---- what the parser returns

@@ -1,7 +1,7 @@
 -- The answer to `upgrade`: each request has one, and no other.
 use Rattle.std.proofs.Common.{◌≡◌, ℕ, ◌+◌, ◌^◌, ◌<◌, ◌≤◌, List, Option, Some, None, Result, Err, refl, sym, ◌∙◌, ap}
 use Rattle.std.specs.Prelude.{⊤}
-use Rattle.std.specs.Option.{MatchOption}
+use Rattle.std.specs.Option.{MatchOption, option_map}
 use Rattle.bitpacking.specs.Bits.{AreBytes}
 use Rattle.bitpack_lists.specs.declared.list_kind.ListKind.{ListKind}
 use Rattle.bitpack_lists.specs.declared.list_error.ListError.{ListError}
@@ -10,15 +10,15 @@ use Rattle.bitpack_lists.specs.Parts.{number_of}
 use Rattle.bitpack_lists.specs.Version1.{List1, fault1}
 use Rattle.bitpack_lists.specs.Version2.{List2, first_out}
 use Rattle.bitpack_lists.proofs.ForCallers.{one_list1, one_text2, text_from_none, text_of2}
-use Rattle.bitpack.specs.Answers.{IsText2Answer, IsUpgradeAnswer, printed_bytes, refused}
+use Rattle.bitpack.specs.Answers.{IsUpgraded, PrintsBytes, RefusedFor, RepliesToList, printed_bytes, refused}
 
 -- the answer to `upgrade` of these bytes, whose first fault this is
 abbrev IsUpgradedAt : ℕ → List ℕ → Option ListError → List ℕ → Type 0
-IsUpgradedAt lanes bytes fault answer = MatchOption fault (IsUpgradeAnswer lanes bytes answer) (λ fault. answer ≡ refused (20 + number_of fault))
+IsUpgradedAt lanes bytes fault = RefusedFor fault (RepliesToList (λ kind values. List1 lanes kind values bytes) (IsUpgraded lanes))
 
 -- the answer for a list whose first position out of order this is
 abbrev IsOrderedAt : ℕ → ListKind → List ℕ → Option ℕ → List ℕ → Type 0
-IsOrderedAt lanes kind values out answer = MatchOption out (IsText2Answer lanes kind values answer) (λ position. answer ≡ refused (20 + number_of (NotSorted position)))
+IsOrderedAt lanes kind values out = RefusedFor (option_map NotSorted out) (PrintsBytes (List2 lanes kind values))
 
 -- ---- there is one
 
@@ -27,7 +27,7 @@ ordered_at : (lanes : ℕ) (kind : ListKind) (values : List ℕ) (out : Option �
 ordered_at lanes kind values (Some position) text = (refused (20 + number_of (NotSorted position)), refl)
 ordered_at lanes kind values None text =
     let (bytes, small, list) = text refl in
-    (printed_bytes bytes, record { bytes = bytes; are_bytes = small; list = list; answer_is = refl })
+    (printed_bytes bytes, record { thing = bytes; fact = (small, list); answer_is = refl })
 
 upgraded_at : (lanes : ℕ) (bytes : List ℕ) (fault : Option ListError) → 1 ≤ lanes → lanes < 2 ^ 8
     → (fault ≡ None → (kind : ListKind) × (values : List ℕ) × List1 lanes kind values bytes) → (answer : List ℕ) × IsUpgradedAt lanes bytes fault answer
@@ -35,7 +35,7 @@ upgraded_at lanes bytes (Some fault) some few text = (refused (20 + number_of fa
 upgraded_at lanes bytes None some few text =
     let (kind, values, list) = text refl in
     let (answer, upgraded) = ordered_at lanes kind values (first_out kind values) (λ ordered. text_of2 lanes kind values some list.words list.begins.few few ordered) in
-    (answer, record { kind = kind; values = values; list = list; upgraded = upgraded })
+    (answer, record { kind = kind; values = values; list = list; reply = upgraded })
 
 pub upgraded_of : (lanes : ℕ) (bytes : List ℕ) → 1 ≤ lanes → lanes < 2 ^ 8 → AreBytes bytes → (answer : List ℕ) × IsUpgradedAt lanes bytes (fault1 lanes bytes) answer
 upgraded_of lanes bytes some few small = upgraded_at lanes bytes (fault1 lanes bytes) some few (text_from_none lanes bytes some small)
@@ -46,7 +46,7 @@ same_ordered : (lanes : ℕ) (kind : ListKind) (values : List ℕ) (out : Option
     → IsOrderedAt lanes kind values out a → IsOrderedAt lanes kind values out b → a ≡ b
 same_ordered lanes kind values (Some position) a b some is_a is_b = is_a ∙ sym is_b
 same_ordered lanes kind values None a b some first second =
-    let bytes = one_text2 lanes kind values second.bytes first.bytes some second.are_bytes first.are_bytes second.list first.list in
+    let bytes = one_text2 lanes kind values second.thing first.thing some second.fact.0 first.fact.0 second.fact.1 first.fact.1 in
     first.answer_is ∙ ap printed_bytes bytes ∙ sym second.answer_is
 
 pub same_upgraded : (lanes : ℕ) (bytes : List ℕ) (fault : Option ListError) (a b : List ℕ) → 1 ≤ lanes
@@ -54,8 +54,8 @@ pub same_upgraded : (lanes : ℕ) (bytes : List ℕ) (fault : Option ListError) 
 same_upgraded lanes bytes (Some fault) a b some is_a is_b = is_a ∙ sym is_b
 same_upgraded lanes bytes None a b some first second =
     let (kinds, lists) = one_list1 lanes first.kind second.kind first.values second.values bytes some first.list second.list in
-    let other : IsOrderedAt lanes first.kind first.values (first_out first.kind first.values) b = rw (kinds, lists) at second.upgraded in
-    same_ordered lanes first.kind first.values (first_out first.kind first.values) a b some first.upgraded other
+    let other : IsOrderedAt lanes first.kind first.values (first_out first.kind first.values) b = rw (kinds, lists) at second.reply in
+    same_ordered lanes first.kind first.values (first_out first.kind first.values) a b some first.reply other
 
 -- ---- the answers of the code
 
@@ -81,7 +81,7 @@ module _ (lanes : ℕ) (bytes answer : List ℕ) (error : ListError) (other : ¬
   refused_at (Some fault) text same order = refused_as fault same
   refused_at None text none order =
       let (kind, values, list) = text refl in
-      record { kind = kind; values = values; list = list; upgraded = out_at kind values (first_out kind values) (order kind values list) }
+      record { kind = kind; values = values; list = list; reply = out_at kind values (first_out kind values) (order kind values list) }
 
   pub upgraded_err : 1 ≤ lanes → AreBytes bytes → MatchOption (fault1 lanes bytes) ⊤ Refuses
       → ((kind : ListKind) (values : List ℕ) → List1 lanes kind values bytes → MatchOption (first_out kind values) (error ≡ Memory) (λ position. Refuses (NotSorted position)))

@@ -1,24 +1,25 @@
 -- The fields of a line are visible ASCII, with no space in them.
 use Rattle.std.proofs.Common.{◌≡◌, ℕ, zero, suc, ◌^◌, ◌<◌, ◌≤◌, Bool, true, List, [], ◌∷◌, ◌++◌, length, get_or, codes, refl, sym, subst, append-nil, arith, ◌&&◌, nat_le, None, Some}
 use Rattle.std.specs.Prelude.{All}
-use Rattle.std.specs.List.{AllZip, join_with_byte}
+use Rattle.std.specs.List.{join_with_byte}
 use Rattle.std.specs.Str.{IsAscii}
 use Rattle.std.specs.Fmt.{decimal}
 use Rattle.std.proofs.lemmas.Bool.{and_parts, leb-true}
 use Rattle.std.proofs.lemmas.List.Elements.{All-cons, All-head, All-nil, All-tail}
-use Rattle.std.proofs.lemmas.Slice.Zip.{AllZip-long}
 use Rattle.std.proofs.lemmas.Str.Ascii.{IsAscii-nil, IsAscii-cons}
 use Rattle.hex.specs.Hex.{is_hex_digit}
 use Rattle.hex.proofs.HexLemmas.{decode_of-ok}
 use Rattle.bitpacking.specs.declared.kind.Kind.{Kind}
 use Rattle.bitpacking.specs.declared.kind.Kind.TheVariants.{Plain, Sorted, StrictlySorted}
+use Rattle.bitpacking.specs.Codes.{start}
 use Rattle.bitpack.specs.declared.line.PackerName.{PackerName}
 use Rattle.bitpack.specs.declared.line.PackerName.TheVariants.{EightLanes, EightScalar, FourLanes, FourScalar, OneLane}
 use Rattle.bitpack.specs.declared.line.values.Item.{Item}
 use Rattle.bitpack.specs.declared.line.values.Item.TheVariants.{Once, Times}
 use Rattle.bitpack_lists.specs.declared.list_kind.ListKind.{ListKind}
 use Rattle.bitpack_lists.specs.declared.list_kind.ListKind.TheVariants as lists
-use Rattle.bitpack.specs.Grammar.{Argument, Asks, Dec, Enc, IsItem, IsKind, Pack, Request, Seek, Size, SpellsArgument, SpellsBytes, SpellsValues, TheseBytes, TheseValues, ThisKind, ThisListKind, ThisWidth, ThisWord, Unpack, Upgrade, Width, arguments, item_string, items_string, kind_string, list_kind_string, packer_string, verb_string}
+use Rattle.bitpack.specs.Grammar.{Dec, Enc, IsItem, IsWord, Pack, Request, Seek, Size, SpellsBytes, SpellsKind, SpellsNumber, SpellsRequest, SpellsValues, Unpack, Upgrade, Width, item_string, items_string, kind_string, list_kind_string, packer_string}
+use Rattle.bitpack.specs.Found.{Asks}
 use Rattle.bitpack.proofs.Cuts.{Lacks}
 use Rattle.bitpack.proofs.Numerals.{decimal-digit}
 
@@ -68,7 +69,7 @@ IsVisible-packer EightLanes = IsVisible-literal (packer_string EightLanes) refl
 IsVisible-packer FourScalar = IsVisible-literal (packer_string FourScalar) refl
 IsVisible-packer EightScalar = IsVisible-literal (packer_string EightScalar) refl
 
-IsVisible-kind : (kind : Kind) → IsKind kind → IsVisible (kind_string kind)
+IsVisible-kind : (kind : Kind) → IsWord (start kind) → IsVisible (kind_string kind)
 IsVisible-kind Plain word = IsVisible-literal (codes "plain") refl
 IsVisible-kind (Sorted initial) word = IsVisible-append (codes "sorted:") (decimal initial) (IsVisible-literal (codes "sorted:") refl) (IsVisible-decimal initial (omega arith))
 IsVisible-kind (StrictlySorted None) word = IsVisible-literal (codes "strict:none") refl
@@ -109,37 +110,51 @@ IsVisible-bytes string (byte ∷ bytes) spelled =
 
 -- ---- lines
 
-IsVisible-argument : (string : List ℕ) (argument : Argument) → SpellsArgument string argument → IsVisible string
-IsVisible-argument string (ThisWidth width) (is, small) = subst IsVisible (sym is) (IsVisible-decimal width (omega arith))
-IsVisible-argument string (ThisWord word) (is, small) = subst IsVisible (sym is) (IsVisible-decimal word (omega arith))
-IsVisible-argument string (ThisKind kind) (is, is_kind) = subst IsVisible (sym is) (IsVisible-kind kind is_kind)
-IsVisible-argument string (ThisListKind kind) is = subst IsVisible (sym is) (IsVisible-list_kind kind)
-IsVisible-argument string (TheseValues values) spelled = IsVisible-values string values spelled
-IsVisible-argument string (TheseBytes bytes) spelled = IsVisible-bytes string bytes spelled
+IsVisible-verb : (verb literal : List ℕ) → verb ≡ literal → is_visible literal ≡ true → IsVisible verb
+IsVisible-verb verb literal is test = subst IsVisible (sym is) (IsVisible-literal literal test)
 
-IsVisible-arguments : (strings : List (List ℕ)) (all : List Argument) → AllZip SpellsArgument strings all → All IsVisible strings
-IsVisible-arguments [] [] spelled = All-nil IsVisible
-IsVisible-arguments (string ∷ strings) (argument ∷ all) (first, rest) =
-    All-cons IsVisible string strings (IsVisible-argument string argument first) (IsVisible-arguments strings all rest)
-IsVisible-arguments strings all spelled = absurd spelled
+IsVisible-number : (bits : ℕ) (string : List ℕ) (n : ℕ) → 2 ^ bits ≤ 2 ^ 64 → SpellsNumber (λ n. n < 2 ^ bits) string n → IsVisible string
+IsVisible-number bits string n few (is, small) = subst IsVisible (sym is) (IsVisible-decimal n (omega (arith, small, few)))
 
--- a verb is visible, and one to three arguments follow
-pub form : (request : Request) → (is_visible (verb_string request) ≡ true) × ((1 ≤ length (arguments request)) × (length (arguments request) ≤ 3))
-form (Size width) = (refl, (omega arith, omega arith))
-form (Width kind values) = (refl, (omega arith, omega arith))
-form (Pack kind width values) = (refl, (omega arith, omega arith))
-form (Unpack kind width bytes) = (refl, (omega arith, omega arith))
-form (Enc kind values) = (refl, (omega arith, omega arith))
-form (Dec bytes) = (refl, (omega arith, omega arith))
-form (Seek target bytes) = (refl, (omega arith, omega arith))
-form (Upgrade bytes) = (refl, (omega arith, omega arith))
+IsVisible-spelled : (string : List ℕ) (kind : Kind) → SpellsKind string kind → IsVisible string
+IsVisible-spelled string kind (is, word) = subst IsVisible (sym is) (IsVisible-kind kind word)
 
--- a request has one to three arguments
-pub some_arguments : (strings : List (List ℕ)) (request : Request) → AllZip SpellsArgument strings (arguments request) → (1 ≤ length strings) × (length strings ≤ 3)
-some_arguments strings request spelled =
-    let long = AllZip-long SpellsArgument strings (arguments request) spelled in
-    let short = (form request).1 in
-    (omega (arith, long, short.0), omega (arith, long, short.1))
+-- a verb, and one to three fields after the packer, all visible
+pub record AreSpelled (verb : List ℕ) (strings : List (List ℕ)) : Type 0 where
+  pub named : IsVisible verb
+  pub some : 1 ≤ length strings
+  pub few : length strings ≤ 3
+  pub visible : All IsVisible strings
+
+module _ (verb : List ℕ) (named : IsVisible verb) (a : List ℕ) (seen_a : IsVisible a) where
+  spelled_one : AreSpelled verb (a ∷ [])
+  spelled_one = record { named = named; some = omega arith; few = omega arith; visible = All-cons IsVisible a [] seen_a (All-nil IsVisible) }
+
+  spelled_more : (b : List ℕ) (strings : List (List ℕ)) → length strings ≤ 1 → AreSpelled verb (b ∷ strings) → AreSpelled verb (a ∷ b ∷ strings)
+  spelled_more b strings short are = record { named = named; some = omega arith; few = omega arith; visible = All-cons IsVisible a (b ∷ strings) seen_a are.visible }
+
+pub are_spelled : (verb : List ℕ) (strings : List (List ℕ)) (request : Request) → SpellsRequest verb strings request → AreSpelled verb strings
+are_spelled verb (w ∷ []) (Size width) (is, small) = spelled_one verb (IsVisible-verb verb (codes "size") is refl) w (IsVisible-number 8 w width (omega arith) small)
+are_spelled verb (k ∷ v ∷ []) (Width kind values) (is, of_kind, spelled) =
+    let named = IsVisible-verb verb (codes "width") is refl in
+    spelled_more verb named k (IsVisible-spelled k kind of_kind) v [] (omega arith) (spelled_one verb named v (IsVisible-values v values spelled))
+are_spelled verb (k ∷ w ∷ v ∷ []) (Pack kind width values) (is, of_kind, small, spelled) =
+    let named = IsVisible-verb verb (codes "pack") is refl in
+    spelled_more verb named k (IsVisible-spelled k kind of_kind) w (v ∷ []) (omega arith)
+    (spelled_more verb named w (IsVisible-number 8 w width (omega arith) small) v [] (omega arith) (spelled_one verb named v (IsVisible-values v values spelled)))
+are_spelled verb (k ∷ w ∷ b ∷ []) (Unpack kind width bytes) (is, of_kind, small, spelled) =
+    let named = IsVisible-verb verb (codes "unpack") is refl in
+    spelled_more verb named k (IsVisible-spelled k kind of_kind) w (b ∷ []) (omega arith)
+    (spelled_more verb named w (IsVisible-number 8 w width (omega arith) small) b [] (omega arith) (spelled_one verb named b (IsVisible-bytes b bytes spelled)))
+are_spelled verb (k ∷ v ∷ []) (Enc kind values) (is, of_kind, spelled) =
+    let named = IsVisible-verb verb (codes "enc") is refl in
+    spelled_more verb named k (subst IsVisible (sym of_kind) (IsVisible-list_kind kind)) v [] (omega arith) (spelled_one verb named v (IsVisible-values v values spelled))
+are_spelled verb (b ∷ []) (Dec bytes) (is, spelled) = spelled_one verb (IsVisible-verb verb (codes "dec") is refl) b (IsVisible-bytes b bytes spelled)
+are_spelled verb (w ∷ b ∷ []) (Seek target bytes) (is, word, spelled) =
+    let named = IsVisible-verb verb (codes "seek") is refl in
+    spelled_more verb named w (IsVisible-number 32 w target (omega arith) word) b [] (omega arith) (spelled_one verb named b (IsVisible-bytes b bytes spelled))
+are_spelled verb (b ∷ []) (Upgrade bytes) (is, spelled) = spelled_one verb (IsVisible-verb verb (codes "upgrade") is refl) b (IsVisible-bytes b bytes spelled)
+are_spelled verb strings request spelled = absurd spelled
 
 -- the fields of a request: at least one, at most five, and each is visible
 pub record AreFields (fields : List (List ℕ)) : Type 0 where
@@ -148,14 +163,10 @@ pub record AreFields (fields : List (List ℕ)) : Type 0 where
   pub visible : All IsVisible fields
 
 pub are_fields : (fields : List (List ℕ)) (packer : PackerName) (request : Request) → Asks fields packer request → AreFields fields
-are_fields (verb ∷ name ∷ strings) packer request (named, (verb_is, spelled)) =
-    let visible = (form request).0 in
-    let rest = All-cons IsVisible name strings (subst IsVisible (sym named) (IsVisible-packer packer)) (IsVisible-arguments strings (arguments request) spelled) in
-    record {
-      some = omega arith;
-      few = omega (arith, (some_arguments strings request spelled).1);
-      visible = All-cons IsVisible verb (name ∷ strings) (subst IsVisible (sym verb_is) (IsVisible-literal (verb_string request) visible)) rest;
-    }
+are_fields (verb ∷ name ∷ strings) packer request (named, spelled) =
+    let are = are_spelled verb strings request spelled in
+    let rest = All-cons IsVisible name strings (subst IsVisible (sym named) (IsVisible-packer packer)) are.visible in
+    record { some = omega arith; few = omega (arith, are.few); visible = All-cons IsVisible verb (name ∷ strings) are.named rest }
 are_fields fields packer request asks = absurd asks
 
 pub Lacks-visible : (byte : ℕ) (string : List ℕ) → byte < 33 → IsVisible string → Lacks byte string

@@ -2,8 +2,8 @@
 use Rattle.std.specs.Prelude.{◌≡◌, ◌≢◌, ℕ, ◌+◌, ◌*◌, ◌<◌, List, [], ◌∷◌, ◌++◌, ◌⊎◌, ◌==◌, if◌then◌else◌, length, map, slice_index, string_bytes, Option, MatchOption, None, Some}
 use Rattle.std.specs.Prelude.{codes as ascii}
 use Rattle.std.specs.Fmt.{decimal}
+use Rattle.std.specs.Option.{option_map}
 use Rattle.hex.specs.Hex.{encode_lower}
-use Rattle.bitpacking.specs.declared.kind.Kind.{Kind}
 use Rattle.bitpacking.specs.Bits.{AreBytes}
 use Rattle.bitpacking.specs.Codes.{AreWords, codes}
 use Rattle.bitpacking.specs.Width.{Fits, IsWidth}
@@ -48,32 +48,15 @@ pub data RefusedIf (Fault : Type 0) (number : ℕ) (IsReply : List ℕ → Type 
   Refused : Fault → answer ≡ refused number → RefusedIf Fault number IsReply answer
   Passed : ¬ Fault → IsReply answer → RefusedIf Fault number IsReply answer
 
--- the answer is the least width of the block
-pub record IsWidthAnswer (kind : Kind) (block answer : List ℕ) : Type 0 where
-  pub width : ℕ
-  pub least : IsWidth kind block width
-  pub answer_is : answer ≡ decimal width
+-- the answer is what is printed of something for which the fact holds
+pub record Prints {X : Type 0} (print : X → List ℕ) (Fact : X → Type 0) (answer : List ℕ) : Type 0 where
+  pub thing : X
+  pub fact : Fact thing
+  pub answer_is : answer ≡ print thing
 
--- the answer is the bytes of the block
-pub record IsPackAnswer (lanes width : ℕ) (kind : Kind) (block answer : List ℕ) : Type 0 where
-  pub bytes : List ℕ
-  pub are_bytes : AreBytes bytes
-  pub holds : Holds lanes width kind block bytes
-  pub answer_is : answer ≡ printed_bytes bytes
-
--- the answer is the block of the bytes
-pub record IsUnpackAnswer (lanes width : ℕ) (kind : Kind) (bytes answer : List ℕ) : Type 0 where
-  pub block : List ℕ
-  pub are_words : AreWords block
-  pub holds : Holds lanes width kind block bytes
-  pub answer_is : answer ≡ printed_values block
-
--- the answer is the bytes of the list
-pub record IsEncAnswer (lanes : ℕ) (kind : ListKind) (values answer : List ℕ) : Type 0 where
-  pub bytes : List ℕ
-  pub are_bytes : AreBytes bytes
-  pub list : List1 lanes kind values bytes
-  pub answer_is : answer ≡ printed_bytes bytes
+-- the answer is bytes for which the fact holds
+abbrev pub PrintsBytes : (List ℕ → Type 0) → List ℕ → Type 0
+PrintsBytes Fact = Prints printed_bytes (λ bytes. AreBytes bytes × Fact bytes)
 
 -- a list as its kind, a space and its values
 abbrev pub printed_list : ListKind → List ℕ → List ℕ
@@ -83,13 +66,6 @@ printed_list kind values = list_kind_string kind ++ 32 ∷ printed_values values
 abbrev pub list_fault : ℕ → List ℕ → Option ListError
 list_fault lanes bytes = if slice_index bytes 0 == 2 then fault2 lanes bytes else fault1 lanes bytes
 
--- the answer is the list of the bytes, which are a text of version 1 or 2
-pub record IsDecAnswer (lanes : ℕ) (bytes answer : List ℕ) : Type 0 where
-  pub kind : ListKind
-  pub values : List ℕ
-  pub list : List1 lanes kind values bytes ⊎ List2 lanes kind values bytes
-  pub answer_is : answer ≡ printed_list kind values
-
 -- a position and the value there with a space between them, or `none`
 abbrev pub printed_found : Option (ℕ × ℕ) → List ℕ
 printed_found None = ascii "none"
@@ -98,49 +74,49 @@ printed_found (Some found) = decimal found.0 ++ 32 ∷ decimal found.1
 -- what `seek` answers of a list: a plain one cannot be searched, and is refused for its kind
 abbrev pub sought : ListKind → List ℕ → ℕ → List ℕ
 sought lists.Plain values target = refused (20 + number_of (BadKind 0))
-sought lists.Sorted values target = printed_found (first_at_least values target)
-sought lists.StrictlySorted values target = printed_found (first_at_least values target)
+sought kind values target = printed_found (first_at_least values target)
 
--- the answer is that of the list of the bytes, which are a text of version 2
-pub record IsSeekAnswer (lanes target : ℕ) (bytes answer : List ℕ) : Type 0 where
+-- the answer is the refusal of the fault, or a reply if there is none
+abbrev pub RefusedFor : Option ListError → (List ℕ → Type 0) → List ℕ → Type 0
+RefusedFor fault IsReply answer = MatchOption fault (IsReply answer) (λ fault. answer ≡ refused (20 + number_of fault))
+
+-- the answer is a reply to the list that the bytes are
+pub record RepliesToList (IsList : ListKind → List ℕ → Type 0) (IsReply : ListKind → List ℕ → List ℕ → Type 0) (answer : List ℕ) : Type 0 where
   pub kind : ListKind
   pub values : List ℕ
-  pub list : List2 lanes kind values bytes
-  pub answer_is : answer ≡ sought kind values target
+  pub list : IsList kind values
+  pub reply : IsReply kind values answer
 
--- the answer is the text of version 2 of the list
-pub record IsText2Answer (lanes : ℕ) (kind : ListKind) (values answer : List ℕ) : Type 0 where
-  pub bytes : List ℕ
-  pub are_bytes : AreBytes bytes
-  pub list : List2 lanes kind values bytes
-  pub answer_is : answer ≡ printed_bytes bytes
+-- the text of version 2 of a list, or the refusal of values out of order
+abbrev pub IsUpgraded : ℕ → ListKind → List ℕ → List ℕ → Type 0
+IsUpgraded lanes kind values = RefusedFor (option_map NotSorted (first_out kind values)) (PrintsBytes (List2 lanes kind values))
 
--- the answer is that text of the list of the bytes, which are a text of version 1, or the refusal of values out of order
-pub record IsUpgradeAnswer (lanes : ℕ) (bytes answer : List ℕ) : Type 0 where
-  pub kind : ListKind
-  pub values : List ℕ
-  pub list : List1 lanes kind values bytes
-  pub upgraded : MatchOption (first_out kind values) (IsText2Answer lanes kind values answer) (λ position. answer ≡ refused (20 + number_of (NotSorted position)))
-
--- the answer is a reply to the request by a packer of so many lanes
+-- the answer is a reply to the request, by a packer with this number of lanes
 abbrev pub IsReply : ℕ → Request → List ℕ → Type 0
 IsReply lanes (Size width) = λ answer. answer ≡ decimal (size lanes width)
 IsReply lanes (Width kind values) =
     RefusedIf (length values ≢ 32 * lanes) 2
-    (IsWidthAnswer kind values)
+    (Prints decimal (IsWidth kind values))
 IsReply lanes (Pack kind width values) =
     RefusedIf (length values ≢ 32 * lanes) 2
     (RefusedIf (32 < width) 3
     (RefusedIf (¬ Fits (codes kind values) width) 4
-    (IsPackAnswer lanes width kind values)))
+    (PrintsBytes (Holds lanes width kind values))))
 IsReply lanes (Unpack kind width bytes) =
     RefusedIf (32 < width) 3
     (RefusedIf (length bytes ≢ size lanes width) 5
-    (IsUnpackAnswer lanes width kind bytes))
-IsReply lanes (Enc kind values) = IsEncAnswer lanes kind values
-IsReply lanes (Dec bytes) = λ answer. MatchOption (list_fault lanes bytes) (IsDecAnswer lanes bytes answer) (λ fault. answer ≡ refused (20 + number_of fault))
-IsReply lanes (Seek target bytes) = λ answer. MatchOption (fault2 lanes bytes) (IsSeekAnswer lanes target bytes answer) (λ fault. answer ≡ refused (20 + number_of fault))
-IsReply lanes (Upgrade bytes) = λ answer. MatchOption (fault1 lanes bytes) (IsUpgradeAnswer lanes bytes answer) (λ fault. answer ≡ refused (20 + number_of fault))
+    (Prints printed_values (λ block. AreWords block × Holds lanes width kind block bytes)))
+IsReply lanes (Enc kind values) = PrintsBytes (List1 lanes kind values)
+IsReply lanes (Dec bytes) =
+    RefusedFor (list_fault lanes bytes)
+    (RepliesToList (λ kind values. List1 lanes kind values bytes ⊎ List2 lanes kind values bytes)
+    (λ kind values answer. answer ≡ printed_list kind values))
+IsReply lanes (Seek target bytes) =
+    RefusedFor (fault2 lanes bytes)
+    (RepliesToList (λ kind values. List2 lanes kind values bytes) (λ kind values answer. answer ≡ sought kind values target))
+IsReply lanes (Upgrade bytes) =
+    RefusedFor (fault1 lanes bytes)
+    (RepliesToList (λ kind values. List1 lanes kind values bytes) (IsUpgraded lanes))
 
 -- the line spells no request
 abbrev pub SpellsNone : List ℕ → Type 0

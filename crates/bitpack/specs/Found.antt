@@ -1,5 +1,5 @@
 -- What the steps of the parser return for a string.
-use Rattle.std.specs.Prelude.{◌≡◌, ℕ, ◌≤◌, List, ◌++◌, length, slice_index, Option, None, Some, Result, Ok, Err}
+use Rattle.std.specs.Prelude.{◌≡◌, ℕ, ◌≤◌, List, ◌∷◌, ◌++◌, length, slice_index, Option, None, Some, Result, Ok, Err}
 use Rattle.std.specs.Int.{IsInRange}
 use Rattle.bitpack.specs.declared.line.Command.{Command}
 use Rattle.bitpack.specs.declared.line.Command.TheVariants as commands
@@ -8,7 +8,7 @@ use Rattle.bitpack.specs.declared.line.PackerName.{PackerName}
 use Rattle.bitpack.specs.declared.line.values.Item.{Item}
 use Rattle.bitpack.specs.declared.line.error.ParseError.{ParseError}
 use Rattle.bitpack.specs.declared.line.error.ParseError.TheVariants.{Memory, Spelling}
-use Rattle.bitpack.specs.Grammar.{Dec, Enc, IsItem, Pack, Request, Seek, Size, Unpack, Upgrade, Width, line_limit, item_string, item_values}
+use Rattle.bitpack.specs.Grammar.{Dec, Enc, IsItem, Pack, Request, Seek, Size, SpellsRequest, Unpack, Upgrade, Width, line_limit, item_string, item_values, packer_string}
 
 -- what was found is what the string spells; if nothing was found, it spells nothing
 abbrev pub Finds : {Y : Type 0} → (Y → Type 0) → Option Y → Type 0
@@ -35,6 +35,11 @@ pub record AddsItem (string old new : List ℕ) : Type 0 where
   pub spelled : SpellsItem string item
   pub added : new ≡ old ++ item_values item
   pub few : length new ≤ line_limit
+
+-- the fields of a line spell the request to the packer
+abbrev pub Asks : List (List ℕ) → PackerName → Request → Type 0
+Asks (verb ∷ name ∷ strings) packer request = (name ≡ packer_string packer) × SpellsRequest verb strings request
+Asks fields packer request = ⊥
 
 -- the request of a command: its values and bytes as lists
 abbrev pub request_of : Command → Request

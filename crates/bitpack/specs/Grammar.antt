@@ -1,6 +1,6 @@
 -- The line language: how requests are spelled. docs/LINES.md has it as a table.
 use Rattle.std.specs.Prelude.{◌≡◌, ℕ, ◌^◌, ◌<◌, ◌≤◌, List, [], ◌∷◌, ◌++◌, All, length, map, replicate, codes, None, Some, Ok}
-use Rattle.std.specs.List.{AllZip, flat_map, join_with_byte}
+use Rattle.std.specs.List.{flat_map, join_with_byte}
 use Rattle.std.specs.Fmt.{decimal}
 use Rattle.hex.specs.Hex.{decode_of}
 use Rattle.bitpacking.specs.declared.kind.Kind.{Kind}
@@ -57,11 +57,8 @@ list_kind_string lists.Sorted = codes "sorted"
 list_kind_string lists.StrictlySorted = codes "strict"
 
 -- the number in a kind is a word
-abbrev pub IsKind : Kind → Type 0
-IsKind kind = IsWord (start kind)
-
 abbrev pub SpellsKind : List ℕ → Kind → Type 0
-SpellsKind string kind = (string ≡ kind_string kind) × IsKind kind
+SpellsKind string kind = (string ≡ kind_string kind) × IsWord (start kind)
 
 -- ---- values: items, each a word, or a word, `*` and how often it is repeated
 
@@ -109,55 +106,23 @@ pub data Request : Type 0 where
   Seek : ℕ → List ℕ → Request
   Upgrade : List ℕ → Request
 
--- the first field of a line
-abbrev pub verb_string : Request → List ℕ
-verb_string (Size width) = codes "size"
-verb_string (Width kind values) = codes "width"
-verb_string (Pack kind width values) = codes "pack"
-verb_string (Unpack kind width bytes) = codes "unpack"
-verb_string (Enc kind values) = codes "enc"
-verb_string (Dec bytes) = codes "dec"
-verb_string (Seek target bytes) = codes "seek"
-verb_string (Upgrade bytes) = codes "upgrade"
-
--- what a field after the packer is
-pub data Argument : Type 0 where
-  ThisWidth : ℕ → Argument
-  ThisWord : ℕ → Argument
-  ThisKind : Kind → Argument
-  ThisListKind : ListKind → Argument
-  TheseValues : List ℕ → Argument
-  TheseBytes : List ℕ → Argument
-
-abbrev pub arguments : Request → List Argument
-arguments (Size width) = ThisWidth width ∷ []
-arguments (Width kind values) = ThisKind kind ∷ TheseValues values ∷ []
-arguments (Pack kind width values) = ThisKind kind ∷ ThisWidth width ∷ TheseValues values ∷ []
-arguments (Unpack kind width bytes) = ThisKind kind ∷ ThisWidth width ∷ TheseBytes bytes ∷ []
-arguments (Enc kind values) = ThisListKind kind ∷ TheseValues values ∷ []
-arguments (Dec bytes) = TheseBytes bytes ∷ []
-arguments (Seek target bytes) = ThisWord target ∷ TheseBytes bytes ∷ []
-arguments (Upgrade bytes) = TheseBytes bytes ∷ []
-
-abbrev pub SpellsArgument : List ℕ → Argument → Type 0
-SpellsArgument string (ThisWidth width) = SpellsNumber IsSmall string width
-SpellsArgument string (ThisWord word) = SpellsNumber IsWord string word
-SpellsArgument string (ThisKind kind) = SpellsKind string kind
-SpellsArgument string (ThisListKind kind) = string ≡ list_kind_string kind
-SpellsArgument string (TheseValues values) = SpellsValues string values
-SpellsArgument string (TheseBytes bytes) = SpellsBytes string bytes
-
 -- the verb and the fields after the packer spell the request
 abbrev pub SpellsRequest : List ℕ → List (List ℕ) → Request → Type 0
-SpellsRequest verb strings request = (verb ≡ verb_string request) × AllZip SpellsArgument strings (arguments request)
+SpellsRequest verb (one ∷ []) (Size width) = (verb ≡ codes "size") × SpellsNumber IsSmall one width
+SpellsRequest verb (one ∷ two ∷ []) (Width kind values) = (verb ≡ codes "width") × SpellsKind one kind × SpellsValues two values
+SpellsRequest verb (one ∷ two ∷ three ∷ []) (Pack kind width values) =
+    (verb ≡ codes "pack") × SpellsKind one kind × SpellsNumber IsSmall two width × SpellsValues three values
+SpellsRequest verb (one ∷ two ∷ three ∷ []) (Unpack kind width bytes) =
+    (verb ≡ codes "unpack") × SpellsKind one kind × SpellsNumber IsSmall two width × SpellsBytes three bytes
+SpellsRequest verb (one ∷ two ∷ []) (Enc kind values) = (verb ≡ codes "enc") × (one ≡ list_kind_string kind) × SpellsValues two values
+SpellsRequest verb (one ∷ []) (Dec bytes) = (verb ≡ codes "dec") × SpellsBytes one bytes
+SpellsRequest verb (one ∷ two ∷ []) (Seek target bytes) = (verb ≡ codes "seek") × SpellsNumber IsWord one target × SpellsBytes two bytes
+SpellsRequest verb (one ∷ []) (Upgrade bytes) = (verb ≡ codes "upgrade") × SpellsBytes one bytes
+SpellsRequest verb strings request = ⊥
 
--- the fields of a line spell the request to the packer: the verb, the packer, and a field for each argument
-abbrev pub Asks : List (List ℕ) → PackerName → Request → Type 0
-Asks (verb ∷ name ∷ strings) packer request = (name ≡ packer_string packer) × SpellsRequest verb strings request
-Asks fields packer request = ⊥
-
--- the line spells the request to the packer: its fields with one space between two
+-- the line spells the request to the packer: the verb, the packer and one to three fields more, with one space between two
 pub record Spells (line : List ℕ) (packer : PackerName) (request : Request) : Type 0 where
-  pub fields : List (List ℕ)
-  pub line_is : line ≡ join_with_byte 32 fields
-  pub asks : Asks fields packer request
+  pub verb : List ℕ
+  pub strings : List (List ℕ)
+  pub line_is : line ≡ join_with_byte 32 (verb ∷ packer_string packer ∷ strings)
+  pub spelled : SpellsRequest verb strings request

@@ -55,8 +55,10 @@ pub(crate) fn answer_line<W: Write>(
     output: &mut Output,
     writer: &mut W,
 ) -> Result<(), RunError>
-    ensures ok { OnOk result (AppendsAnswer (W.contents writer.old) (W.contents writer.new) output.old output.new line.now) }
-    ensures err { IfErr result (λ e. StopsAtAnswer e (W.contents writer.old) (W.contents writer.new) output.old line.now) }
+    ensures ok { OnOk result
+        (AppendsAnswer (W.contents writer.old) (W.contents writer.new) output.old output.new line.now) }
+    ensures err { IfErr result
+        (λ e. StopsAtAnswer e (W.contents writer.old) (W.contents writer.new) output.old line.now) }
 {
     let Ok(answer) = answer_to(alloc, line) else {
         return Err(output.end_without_memory(writer));
@@ -80,7 +82,8 @@ pub(crate) fn answer_to(alloc: Global, line: &[u8]) -> Result<Answer, AllocError
 }
 
 fn reply(alloc: Global, line: &Line) -> Result<Answer, AllocError>
-    ensures { IfOk result (λ answer. IsReply (lanes_of line.now.packer) (request_of line.now.command) (printed answer)) }
+    ensures { IfOk result
+        (λ answer. IsReply (lanes_of line.now.packer) (request_of line.now.command) (printed answer)) }
 {
     match line.packer {
         PackerName::OneLane => reply_by(alloc, &BitPacker1x::new(), &line.command),

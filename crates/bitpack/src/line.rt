@@ -1,8 +1,8 @@
 //! Parsing a line: the packer that it names and the command that it spells.
 
 ghost use Rattle.std.specs.Prelude.{map};
-ghost use Rattle.bitpack.specs.Grammar.{Asks, Spells};
-ghost use Rattle.bitpack.specs.Found.{Parses, asked_by};
+ghost use Rattle.bitpack.specs.Grammar.{Spells};
+ghost use Rattle.bitpack.specs.Found.{Asks, Parses, asked_by};
 
 mod bytes;
 mod error;

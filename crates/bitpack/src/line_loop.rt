@@ -16,7 +16,8 @@ const PIECE: usize = 65_536;
 
 /// Appends a byte to the line. A line that is too long is kept up to one byte more than the limit; its further bytes are dropped.
 fn push_byte(line: &mut Vec<u8>, byte: u8) -> Result<(), AllocError>
-    ensures { (begun : List ℕ) → line.old.items ≡ kept_part begun → OnOk result (line.new.items ≡ kept_part (begun ++ byte ∷ [])) }
+    ensures { (begun : List ℕ) → line.old.items ≡ kept_part begun
+        → OnOk result (line.new.items ≡ kept_part (begun ++ byte ∷ [])) }
 {
     if line.len() <= LINE_LIMIT {
         line.push(byte)?;
@@ -32,9 +33,11 @@ fn handle_byte<W: Write>(
     output: &mut Output,
     writer: &mut W,
 ) -> Result<(), RunError>
-    ensures ok { (before : Option (List ℕ)) (input : List ℕ) → AnsweredSoFar before (W.contents writer.old) output.old input line.old.items
+    ensures ok { (before : Option (List ℕ)) (input : List ℕ)
+        → AnsweredSoFar before (W.contents writer.old) output.old input line.old.items
         → OnOk result (AnsweredSoFar before (W.contents writer.new) output.new (input ++ byte ∷ []) line.new.items) }
-    ensures err { (before : Option (List ℕ)) (input rest : List ℕ) → AnsweredSoFar before (W.contents writer.old) output.old input line.old.items
+    ensures err { (before : Option (List ℕ)) (input rest : List ℕ)
+        → AnsweredSoFar before (W.contents writer.old) output.old input line.old.items
         → IfErr result (λ e. StopsAmong e before (W.contents writer.new) (lines (input ++ byte ∷ rest))) }
 {
     if byte == b'\n' {
@@ -56,9 +59,11 @@ fn handle_bytes<W: Write>(
     output: &mut Output,
     writer: &mut W,
 ) -> Result<(), RunError>
-    ensures ok { (before : Option (List ℕ)) (input : List ℕ) → AnsweredSoFar before (W.contents writer.old) output.old input line.old.items
+    ensures ok { (before : Option (List ℕ)) (input : List ℕ)
+        → AnsweredSoFar before (W.contents writer.old) output.old input line.old.items
         → OnOk result (AnsweredSoFar before (W.contents writer.new) output.new (input ++ bytes.now) line.new.items) }
-    ensures err { (before : Option (List ℕ)) (input : List ℕ) → AnsweredSoFar before (W.contents writer.old) output.old input line.old.items
+    ensures err { (before : Option (List ℕ)) (input : List ℕ)
+        → AnsweredSoFar before (W.contents writer.old) output.old input line.old.items
         → IfErr result (λ e. StopsAmong e before (W.contents writer.new) (lines (input ++ bytes.now))) }
     ensures empty { OnOk result (output.new ≡ []) }
 {
@@ -75,9 +80,11 @@ fn answer_last<W: Write>(
     output: &mut Output,
     writer: &mut W,
 ) -> Result<(), RunError>
-    ensures ok { (before : Option (List ℕ)) (input : List ℕ) → AnsweredSoFar before (W.contents writer.old) output.old input line.now
+    ensures ok { (before : Option (List ℕ)) (input : List ℕ)
+        → AnsweredSoFar before (W.contents writer.old) output.old input line.now
         → OnOk result (AppendsAnswers before (W.contents writer.new) (lines input)) }
-    ensures err { (before : Option (List ℕ)) (input : List ℕ) → AnsweredSoFar before (W.contents writer.old) output.old input line.now
+    ensures err { (before : Option (List ℕ)) (input : List ℕ)
+        → AnsweredSoFar before (W.contents writer.old) output.old input line.now
         → IfErr result (λ e. StopsAmong e before (W.contents writer.new) (lines input)) }
 {
     if line.is_empty() {
@@ -94,15 +101,20 @@ fn answer_last<W: Write>(
 /// reads counts as failed. At most 65,537 bytes of a line are kept in memory, whatever the input.
 pub fn run<R: Read, W: Write>(alloc: Global, reader: &mut R, writer: &mut W) -> Result<(), RunError>
     // The reader gave an input to its end, and all its lines were answered.
-    ensures ok { OnOk result (AnswersAll (R.remaining reader.old) (R.remaining reader.new) (W.contents writer.old) (W.contents writer.new)) }
+    ensures ok { OnOk result
+        (AnswersAll (R.remaining reader.old) (R.remaining reader.new) (W.contents writer.old) (W.contents writer.new)) }
     // The same for a reader whose bytes are known.
-    ensures whole { OnOk result (IfSome (R.remaining reader.old) (λ input. AppendsAnswers (W.contents writer.old) (W.contents writer.new) (lines input))) }
+    ensures whole { OnOk result (IfSome (R.remaining reader.old)
+        (λ input. AppendsAnswers (W.contents writer.old) (W.contents writer.new) (lines input))) }
     // The lines that ended in what was read were answered, and nothing else was written.
-    ensures read { IsErrOf result RunError.Read → AnswersEnded (R.remaining reader.old) (R.remaining reader.new) (W.contents writer.old) (W.contents writer.new) }
+    ensures read { IsErrOf result RunError.Read → AnswersEnded (R.remaining reader.old) (R.remaining reader.new)
+        (W.contents writer.old) (W.contents writer.new) }
     // What was written is a beginning of the answers to what was read.
-    ensures stopped { IfErr result (λ e. e ≢ RunError.Read → AnswersInPart (R.remaining reader.old) (R.remaining reader.new) (W.contents writer.old) (W.contents writer.new)) }
+    ensures stopped { IfErr result (λ e. e ≢ RunError.Read → AnswersInPart (R.remaining reader.old)
+        (R.remaining reader.new) (W.contents writer.old) (W.contents writer.new)) }
     // Where memory ran out it is whole answers.
-    ensures memory { IsErrOf result RunError.Memory → AnswersFirst (R.remaining reader.old) (R.remaining reader.new) (W.contents writer.old) (W.contents writer.new) }
+    ensures memory { IsErrOf result RunError.Memory → AnswersFirst (R.remaining reader.old) (R.remaining reader.new)
+        (W.contents writer.old) (W.contents writer.new) }
 {
     let mut line = Vec::new(alloc);
     let mut output = Output::new();

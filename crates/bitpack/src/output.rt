@@ -62,8 +62,10 @@ impl Output {
 
     /// Puts bytes after those that are held. All are written first where there is no room.
     pub(crate) fn put<W: Write>(&mut self, writer: &mut W, bytes: &[u8]) -> Result<(), RunError>
-        ensures ok { OnOk result (AppendsBut (W.contents writer.old) (W.contents writer.new) (self.old ++ bytes.now) self.new) }
-        ensures err { OnErr result (AppendsBeginning (W.contents writer.old) (W.contents writer.new) (self.old ++ bytes.now)) }
+        ensures ok { OnOk result
+            (AppendsBut (W.contents writer.old) (W.contents writer.new) (self.old ++ bytes.now) self.new) }
+        ensures err { OnErr result
+            (AppendsBeginning (W.contents writer.old) (W.contents writer.new) (self.old ++ bytes.now)) }
         ensures kind { IfErr result (λ e. e ≡ RunError.Write) }
     {
         if bytes.len() <= ROOM - self.len {

@@ -148,7 +148,7 @@ drop-put_block n len i xs part e within long =
     rw from (drop-put_mid (n * i) (n * i + len - n * i) xs part (n * (i + 1)) (omega arith) within (omega arith))
 
 -- A list whose end was written anew.
-put_end : (start : ℕ) (xs part : List ℕ) → start ≤ length xs → length part ≡ length xs - start
+pub put_end : (start : ℕ) (xs part : List ℕ) → start ≤ length xs → length part ≡ length xs - start
     → put_mid start (length xs - start) xs part ≡ take start xs ++ part
 put_end start xs part within long =
     let none : drop (length xs - start) (drop start xs) ≡ [] =

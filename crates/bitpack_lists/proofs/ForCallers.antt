@@ -3,10 +3,15 @@
 use Rattle.std.proofs.Common.{◌≡◌, ◌+◌, ◌*◌, ◌<◌, ◌≤◌, ℕ, List, length, take, get_or, sum, arith}
 use Rattle.std.proofs.lemmas.List.Sums.{sum_by_more, sum_by_more_le}
 use Rattle.std.proofs.lemmas.Nat.{mul-le}
+pub use Rattle.bitpack_lists.proofs.CursorPlaces.{position_within}
+pub use Rattle.bitpack_lists.proofs.Distinct.{common_is_short, one_common}
 pub use Rattle.bitpack_lists.proofs.HeaderLemmas.{header_bytes}
 pub use Rattle.bitpack_lists.proofs.ListLemmas.{text_of}
+pub use Rattle.bitpack_lists.proofs.MembersOfSorted.{contains-distinct, contains-shared, contains-united, contains-without, has_contains, strictly_from_increasing}
 pub use Rattle.bitpack_lists.proofs.OneText.{one_list1, one_text1, text_from_none}
 pub use Rattle.bitpack_lists.proofs.OneText2.{no_fault2, one_list2, one_text2}
+pub use Rattle.bitpack_lists.proofs.OpenedValues.{kind_is, opened_list2, values_are}
+pub use Rattle.bitpack_lists.proofs.OrderLaws.{first_is_found, neither_falls, sorted_is_order, strict_is_order}
 pub use Rattle.bitpack_lists.proofs.PartLemmas.{AreBytes-nil}
 pub use Rattle.bitpack_lists.proofs.TextsOf2.{text_of2}
 

@@ -14,7 +14,7 @@ use Rattle.bitpacking.specs.Layout.{codes_of, place, size, Layout}
 use Rattle.bitpacking.proofs.ForCallers.{fits_greater, one_layout_codes}
 use Rattle.bitpack_lists.specs.Parts.{is_loose}
 
-Decides-fits : (codes : List ℕ) (width : ℕ) → Decides (list_all (λ code. ltb code (2 ^ width)) codes) (Fits codes width)
+pub Decides-fits : (codes : List ℕ) (width : ℕ) → Decides (list_all (λ code. ltb code (2 ^ width)) codes) (Fits codes width)
 Decides-fits codes width =
     Decides-by_and (λ code. ltb code (2 ^ width)) (λ code. code < 2 ^ width) (list_all (λ code. ltb code (2 ^ width)))
     (λ code. Decides-ltb code (2 ^ width)) refl (λ _ _. refl) codes

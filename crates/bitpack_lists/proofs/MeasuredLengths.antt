@@ -25,7 +25,7 @@ use Rattle.bitpack_lists.proofs.WriteSteps.{kept_first}
 -- The least widths of all blocks: those of the blocks that are left, and the length so far.
 abbrev pub Measured : ℕ → ℕ → ℕ → Kind → List ℕ → ℕ → List ℕ → Type 0
 Measured lanes entry i kind rest size_of all =
-    LeastWidths lanes kind rest (drop i all) × (size_of + 4 * lanes * sum (drop i all) ≡ 7 + entry * i + 4 * lanes * sum all)
+    LeastWidths lanes kind rest (drop i all) × (size_of + 4 * lanes * sum (drop i all) ≡ entry * i + 4 * lanes * sum all)
 
 pub measured_step : (lanes entry i width size_of : ℕ) (kind : Kind) (rest all : List ℕ) → i < length all → IsWidth kind (take (32 * lanes) rest) width
     → Measured lanes entry i kind rest size_of all

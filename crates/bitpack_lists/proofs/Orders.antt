@@ -1,10 +1,10 @@
 -- The first position out of order, a part of a list at a time.
-use Rattle.std.proofs.Common.{◌≡◌, ℕ, zero, suc, ◌+◌, ◌-◌, ◌<◌, ◌≤◌, Bool, true, false, cond, Option, Some, None, refl, sym, ◌∙◌, ap, arith, inl, inr, add-one}
+use Rattle.std.proofs.Common.{◌≡◌, ℕ, zero, suc, ◌+◌, ◌-◌, ◌<◌, ◌≤◌, Bool, true, false, cond, List, length, get_or, Option, Some, None, refl, sym, ◌∙◌, ap, arith, inl, inr, add-one, zero-add}
 use Rattle.std.specs.Option.{option_or}
 use Rattle.std.proofs.lemmas.Bool.{cases_lt}
 use Rattle.bitpack_lists.specs.declared.list_kind.ListKind.{ListKind}
 use Rattle.bitpack_lists.specs.declared.list_kind.ListKind.TheVariants as lists
-use Rattle.bitpack_lists.specs.Version2.{is_out, least_below}
+use Rattle.bitpack_lists.specs.Version2.{first_out, is_out, least_below}
 use Rattle.bitpack_lists.specs.Opening.{IsOrdered}
 
 -- ---- the least number below a bound
@@ -73,3 +73,11 @@ is_out-same kind value other count each k lt = same kind (each k lt) (each (k - 
     same lists.Plain e f = refl
     same lists.Sorted e f = rw (e, f) refl
     same lists.StrictlySorted e f = rw (e, f) refl
+
+-- What the test of all values finds is the first position out of order.
+pub first_found : (kind : ListKind) (values : List ℕ) (found : Option ℕ)
+    → ((all : ℕ → ℕ) → IsOrdered kind all 0 0 → ((k : ℕ) → k < length values → all (0 + k) ≡ get_or values k 0) → found ≡ least_below (is_out kind all) (0 + length values))
+    → first_out kind values ≡ found
+first_found kind values found finds =
+    let value : ℕ → ℕ = λ k. get_or values k 0 in
+    sym (finds value (ordered_first kind value 0) (λ k lt. ap value (zero-add k)) ∙ ap (least_below (is_out kind value)) (zero-add (length values)))

@@ -10,7 +10,7 @@ use Rattle.bitpacking.specs.Words.{word}
 use Rattle.bitpacking.proofs.ForCallers.{as_many_codes}
 use Rattle.bitpack_lists.specs.declared.list_kind.ListKind.{ListKind}
 use Rattle.bitpack_lists.specs.declared.list_kind.ListKind.TheVariants as lists
-use Rattle.bitpack_lists.specs.Version2.{block_at, body_at, body_start, entry_fault2, first_fault, kind_at, offset_at, tail_start, value_at, width_at, widths_before}
+use Rattle.bitpack_lists.specs.Version2.{block_at, body_at, body_start, entry_fault2, first_fault, kind_at, offset_at, tail_start, value_at, value_with, width_at, widths_before}
 use Rattle.bitpack_lists.proofs.BlockValues.{AreWords-block, Holds-values_of}
 use Rattle.bitpack_lists.proofs.EntryLemmas.{body_end}
 use Rattle.bitpack_lists.proofs.PartLemmas.{AreBytes-drop, word-lt}
@@ -62,25 +62,34 @@ module _ (lanes blocks : ℕ) (rest : List ℕ) (right : first_fault (entry_faul
 
 -- ---- the values
 
-module _ (lanes blocks : ℕ) (kind : ListKind) (rest : List ℕ) (some : 1 ≤ lanes) where
-  pub value_at-block : (block k : ℕ) → block < blocks → k < 32 * lanes
-      → value_at lanes blocks kind rest (32 * lanes * block + k) ≡ get_or (block_at lanes blocks kind rest block) k 0
-  unfolding value_at
-  value_at-block block k lt within =
+module _ (lanes blocks : ℕ) (kind : ListKind) (rest : List ℕ) (tail : ℕ → ℕ) (some : 1 ≤ lanes) where
+  pub value_with-block : (block k : ℕ) → block < blocks → k < 32 * lanes
+      → value_with lanes blocks kind rest tail (32 * lanes * block + k) ≡ get_or (block_at lanes blocks kind rest block) k 0
+  unfolding value_with
+  value_with-block block k lt within =
       let n : ℕ = 32 * lanes in
       let turned : n * block + k ≡ block * n + k = omega arith in
       let row : (n * block + k) / n ≡ block = ap (λ p. p / n) turned ∙ div-mul-add block n k within in
       let column : (n * block + k) % n ≡ k = ap (λ p. p % n) turned ∙ mod-mul-add block n k within in
       rw (row, column, lt-ltb block blocks lt) refl
 
-  pub value_at-tail : (k : ℕ) → value_at lanes blocks kind rest (32 * lanes * blocks + k) ≡ word (drop (tail_start lanes blocks rest) rest) k
-  unfolding value_at
-  value_at-tail k =
+  pub value_with-tail : (k : ℕ) → value_with lanes blocks kind rest tail (32 * lanes * blocks + k) ≡ tail k
+  unfolding value_with
+  value_with-tail k =
       let n : ℕ = 32 * lanes in
       let p : ℕ = n * blocks + k in
       let row : blocks ≤ p / n = le-div blocks p n (omega arith) (omega arith) in
       let left : n * blocks + k - n * blocks ≡ k = omega arith in
       rw (le-ltb (p / n) blocks row, left) refl
+
+-- The tail of version 2 is words.
+module _ (lanes blocks : ℕ) (kind : ListKind) (rest : List ℕ) (some : 1 ≤ lanes) where
+  pub value_at-block : (block k : ℕ) → block < blocks → k < 32 * lanes
+      → value_at lanes blocks kind rest (32 * lanes * block + k) ≡ get_or (block_at lanes blocks kind rest block) k 0
+  value_at-block = value_with-block lanes blocks kind rest (word (drop (tail_start lanes blocks rest) rest)) some
+
+  pub value_at-tail : (k : ℕ) → value_at lanes blocks kind rest (32 * lanes * blocks + k) ≡ word (drop (tail_start lanes blocks rest) rest) k
+  value_at-tail = value_with-tail lanes blocks kind rest (word (drop (tail_start lanes blocks rest) rest)) some
 
 -- The last value of a block, as the block's kind goes on from it.
 pub value_at-last : (lanes blocks : ℕ) (kind : ListKind) (rest : List ℕ) (block last : ℕ) → 1 ≤ lanes → block < blocks

@@ -4,6 +4,7 @@ use Rattle.std.specs.Option.{option_or, option_map}
 use Rattle.std.proofs.lemmas.Bool.{cases_lt, le-leb, leb-false, lt-leb, lt-ltb, ltb-false}
 use Rattle.bitpack_lists.specs.declared.list_kind.ListKind.{ListKind}
 use Rattle.bitpack_lists.specs.declared.list_kind.ListKind.TheVariants as lists
+use Rattle.bitpack_lists.specs.Opening.{is_fall}
 use Rattle.bitpack_lists.specs.Search.{first_reaching}
 use Rattle.bitpack_lists.specs.Version2.{is_out, least_below}
 use Rattle.bitpack_lists.proofs.Orders.{least_below-found, least_below-further, least_below-next, least_below-same}
@@ -53,7 +54,7 @@ least_below-lt test (suc bound) found e = either (least_below test bound) (least
         let lt = less found f in
         omega arith
 
-least_below-all : (test : ℕ → Bool) (bound : ℕ) → ((k : ℕ) → k < bound → test k ≡ false) → least_below test bound ≡ None
+pub least_below-all : (test : ℕ → Bool) (bound : ℕ) → ((k : ℕ) → k < bound → test k ≡ false) → least_below test bound ≡ None
 unfolding least_below
 least_below-all test zero fail = refl
 least_below-all test (suc bound) fail = rw (least_below-all test bound (λ k lt. fail k (omega arith)), fail bound (omega arith)) refl
@@ -85,6 +86,26 @@ in_order kind value count ordered none i (suc j) le lt = elim (cases_lt i (suc j
       let same : i ≡ suc j = omega arith in
       rw same (omega arith)
 ]
+
+-- Values of which each is in order are in order, after those before them.
+pub ordered_each : (kind : ListKind) (value : ℕ → ℕ) (position count : ℕ) → least_below (is_out kind value) position ≡ None
+    → ((k : ℕ) → k < count → is_out kind value (position + k) ≡ false) → least_below (is_out kind value) (position + count) ≡ None
+ordered_each kind value position count none each = least_below-all (is_out kind value) (position + count) (λ j lt. elim (cases_lt j position) [
+  | inl below ↦ least_below-none (is_out kind value) position none j below
+  | inr from ↦
+      let here : position + (j - position) ≡ j = omega arith in
+      rw here at (each (j - position) (omega arith))
+])
+
+-- A value that does not fall after its neighbour is in order.
+pub is_out-from_fall : (strict : Bool) (value : ℕ → ℕ) (position before next : ℕ) → value position ≡ before → value (position + 1) ≡ next
+    → is_fall strict before next ≡ false → is_out (cond strict lists.StrictlySorted lists.Sorted) value (position + 1) ≡ false
+is_out-from_fall false value position before next is is' e =
+    let one : position + 1 - 1 ≡ position = omega arith in
+    rw (lt-ltb 0 (position + 1) (omega arith), one, is, is') e
+is_out-from_fall true value position before next is is' e =
+    let one : position + 1 - 1 ≡ position = omega arith in
+    rw (lt-ltb 0 (position + 1) (omega arith), one, is, is') e
 
 -- Where the last value of the block before is below the target, so are all before the block.
 pub before_block : (n block target count : ℕ) (value : ℕ → ℕ) → ((i j : ℕ) → i ≤ j → j < count → value i ≤ value j) → 1 ≤ n → n * block ≤ count

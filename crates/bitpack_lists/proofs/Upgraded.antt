@@ -65,7 +65,7 @@ length_upgraded lanes kind values text other some one two =
     let blocks : ℕ = whole_blocks lanes (length values) in
     let none : 32 * lanes * 0 ≡ 0 = omega arith in
     let given : Blocks1 lanes blocks (first_kind kind) (drop (32 * lanes * 0) values) (drop 7 text) = rw none one.blocks in
-    let left = length_left lanes blocks kind values (drop 7 other) some two.rest.entries blocks 0 (drop 7 text) (omega arith) given in
+    let left = length_left lanes blocks kind values (drop 7 other) some two.rest.whole.entries blocks 0 (drop 7 text) (omega arith) given in
     let found = header_bytes 1 lanes kind (length values) text one.begins in
     omega (arith, left, found.long, length-drop 7 text, length-tail lanes values some, length-text2 lanes kind values other some two)
 
@@ -85,14 +85,14 @@ module _ (lanes blocks : ℕ) (kind : ListKind) (values other : List ℕ) (some 
       let start : ℕ = body_start lanes blocks other i in
       let given : AreBytes (part ++ after) = rw parts at bytes in
       let part_bytes : AreBytes part = AreBytes-left part after given in
-      let width : one.width ≡ width_at other i = same_least_width (codes here block) (width_at other i) one.width (is.entries i lt).least one.least in
+      let width : one.width ≡ width_at other i = same_least_width (codes here block) (width_at other i) one.width (is.whole.entries i lt).least one.least in
       let body_bytes : AreBytes one.body = λ k. rw one.parts at part_bytes (suc k) in
       let body : one.body ≡ body_at lanes blocks other i =
       block_has_one_list lanes (width_at other i) here block (body_at lanes blocks other i) one.body some
-      (AreBytes-take (drop start other) (size lanes (width_at other i)) (AreBytes-drop start other small)) body_bytes (is.bodies i lt) (rw width at one.holds) in
+      (AreBytes-take (drop start other) (size lanes (width_at other i)) (AreBytes-drop start other small)) body_bytes (is.whole.bodies i lt) (rw width at one.holds) in
       let part_is : part ≡ width_at other i ∷ body_at lanes blocks other i = one.parts ∙ rw (width, body) refl in
       let later = parts_left left (i + 1) after (omega (arith, e)) (AreBytes-right part after given)
-      (rw (← kind_after lanes blocks kind values other some is.entries i lt, ← values_after lanes i values) more) in
+      (rw (← kind_after lanes blocks kind values other some is.whole.entries i lt, ← values_after lanes i values) more) in
       rw parts (rw part_is (sym (append_assoc (parts_before lanes blocks other i) (width_at other i ∷ body_at lanes blocks other i) after) ∙ rw add-one at later))
 
 pub same_bodies : SameBodies

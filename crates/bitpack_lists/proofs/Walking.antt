@@ -4,7 +4,7 @@ use Rattle.std.proofs.lemmas.Bool.{cases_lt, cases_eq, lt-ltb, le-ltb}
 use Rattle.std.proofs.lemmas.Nat.{mul-le}
 use Rattle.std.proofs.lemmas.List.{length-append, append-nil}
 use Rattle.bitpack_lists.specs.declared.list2.reads.Reads.{Reads}
-use Rattle.bitpack_lists.specs.Search.{first_reaching, in_whole_block}
+use Rattle.bitpack_lists.specs.Search.{HasGrown, first_reaching, in_whole_block}
 use Rattle.bitpack_lists.specs.Parts.{whole_blocks}
 use Rattle.bitpack_lists.specs.Walks.{Appends, Begun, IsLastBlock, IsPast, IsShared, IsWalked, IsWantedNext, Stage, Values}
 use Rattle.bitpack_lists.proofs.Sharing.{InOrder, IsFirst, found_past, length-more, past_equal, past_greater, past_none, searches_few, sought_none, sought_some, shared_more, shared_next, shared_passed, shared_upto}
@@ -19,9 +19,18 @@ pub record IsSought (lanes : ℕ) (other : Values) (value : ℕ) (answer : Optio
   pub entries : (digits : ℕ) → whole_blocks lanes other.count < 2 ^ digits → new.entries ≤ old.entries + digits
   pub blocks : new.blocks ≤ old.blocks + 1
   pub again : last' ≡ last → new.blocks ≡ old.blocks
+  pub grown : HasGrown old new
   pub inside : in_whole_block lanes other.count answer ≡ true
       → (last' < whole_blocks lanes other.count) × IfSome answer (λ found. (32 * lanes * last' ≤ found.0) × (found.0 < 32 * lanes * last' + 32 * lanes))
   pub outside : in_whole_block lanes other.count answer ≡ false → last' ≡ last
+
+grown_further : (first old new : Reads) → HasGrown first old → HasGrown old new → HasGrown first new
+grown_further first old new before more =
+    let entries = before.entries in
+    let blocks = before.blocks in
+    let more_entries = more.entries in
+    let more_blocks = more.blocks in
+    record { entries = omega arith; blocks = omega arith }
 
 -- ---- the block of the other list that was unpacked last
 
@@ -115,6 +124,7 @@ module _ (lanes : ℕ) (one other : Values) (begun : Begun) (done want last : �
         last_block = before.last_block;
         blocks = before.blocks;
         entries = before.entries;
+        grown = before.grown;
         paid = before.paid;
       }
 
@@ -157,6 +167,7 @@ module _ (lanes : ℕ) (one other : Values) (begun : Begun) (done want last : �
               let more = sought.entries digits fits in
               let product : (before.searches + 1) * digits ≡ before.searches * digits + digits = omega arith in
               omega arith;
+          grown = grown_further begun.other_reads old new before.grown sought.grown;
           paid = elim before.paid [
             | inl paid ↦ inl (omega arith)
             | inr owed ↦ inl (omega (arith, owed.0))
@@ -236,6 +247,7 @@ module _ (lanes : ℕ) (one other : Values) (begun : Begun) (done want last : �
         last_block = before.last_block;
         blocks = before.blocks;
         entries = before.entries;
+        grown = before.grown;
         paid = before.paid;
       }
 
@@ -254,6 +266,7 @@ module _ (lanes : ℕ) (one other : Values) (begun : Begun) (done want last : �
     last_block = before.last_block;
     blocks = before.blocks;
     entries = before.entries;
+    grown = before.grown;
     paid = paid;
   }
 
@@ -336,5 +349,6 @@ walked_none_yet lanes one other begun last capacity past room = record {
   };
   blocks = omega arith;
   entries = λ digits fits. omega arith;
+  grown = record { entries = omega arith; blocks = omega arith };
   paid = inl (omega arith);
 }

@@ -2,10 +2,11 @@
 use Rattle.std.proofs.Common.{◌≡◌, ℕ, suc, ◌+◌, ◌-◌, ◌*◌, ◌/◌, ◌<◌, ◌≤◌, List, [], ◌∷◌, ◌++◌, length, take, drop, get_or, sym, ◌∙◌, ap, arith, append_assoc, add-one, inl, inr}
 use Rattle.std.proofs.Math.Seq.{drop-cons}
 use Rattle.std.proofs.lemmas.Bool.{cases_lt}
-use Rattle.std.proofs.lemmas.List.{append-nil, length-append, get_or-take, take_all, drop_all}
+use Rattle.std.proofs.lemmas.List.{take-append-drop, append-nil, length-append, get_or-take, take_all, drop_all}
 use Rattle.std.proofs.lemmas.Nat.{mul-le}
 use Rattle.bitpacking.specs.declared.kind.Kind.{Kind}
 use Rattle.bitpacking.specs.Bits.{AreBytes}
+use Rattle.bitpacking.specs.Calls.{CanPack}
 use Rattle.bitpacking.specs.Width.{IsWidth}
 use Rattle.bitpacking.specs.Layout.{size}
 use Rattle.bitpack_lists.specs.Chains.{next_kind, second_kind, LeastWidths}
@@ -122,3 +123,21 @@ pub written_tail_room : (lanes blocks i : ℕ) (kind : Kind) (rest out all : Lis
     → Written lanes (blocks - i) kind rest out all → length out + 4 * length rest ≡ length all
 written_tail_room lanes blocks i kind rest out all le before =
     omega (arith, ap length (written_tail lanes blocks i kind rest out all le before), length-append out (bytes_of_words rest), length-bytes_of_words rest)
+
+-- A block at its least width can be packed into 1,024 bytes.
+pub packable : (lanes width : ℕ) (kind : Kind) (block buffer : List ℕ) → IsWidth kind block width → length block ≡ 32 * lanes → width ≤ 32 → lanes ≤ 8
+    → 1024 ≤ length buffer → CanPack lanes width kind block buffer
+packable lanes width kind block buffer least whole narrow few room = record {
+  whole = whole;
+  narrow = narrow;
+  room = omega (arith, mul-le (4 * lanes) width 32 32 (omega arith) narrow);
+  fits = least.fits;
+}
+
+-- ---- the parts of a text
+
+-- The vector before the tail: what it held, the header, and entries and bodies.
+pub parts_are : (start len : ℕ) (front entered done : List ℕ) → start ≡ len → take len entered ≡ front → take start done ≡ take start entered
+    → done ≡ front ++ drop start done
+parts_are start len front entered done e f g =
+    sym (take-append-drop start done) ∙ ap (λ xs. xs ++ drop start done) (g ∙ ap (λ k. take k entered) e ∙ f)

@@ -3,6 +3,7 @@ use Rattle.std.specs.Prelude.{◌↔◌, ℕ, ◌+◌, ◌*◌, ◌^◌, ◌<◌
 use Rattle.std.specs.List.Sorted.{IsStrictlyIncreasing}
 use Rattle.bitpack_lists.specs.declared.list2.reads.Reads.{Reads}
 use Rattle.bitpack_lists.specs.Parts.{whole_blocks}
+use Rattle.bitpack_lists.specs.Search.{HasGrown}
 
 -- the values of both lists, increasing, each once
 pub record IsCommon (one other shared : List ℕ) : Type 0 where
@@ -13,9 +14,11 @@ pub record IsCommon (one other shared : List ℕ) : Type 0 where
 pub record ReadsWalked (lanes : ℕ) (one other : List ℕ) (old new : Reads) : Type 0 where
   pub entries : new.entries ≤ old.entries + whole_blocks lanes (length one)
   pub blocks : new.blocks ≤ old.blocks + min (whole_blocks lanes (length one)) (2 * length other + 1)
+  pub grown : HasGrown old new
 
 -- of the list that is searched: each block once, and for each value of the other list one block, and as many entries as the count of
 -- blocks has binary digits
 pub record ReadsSearched (lanes : ℕ) (one other : List ℕ) (old new : Reads) : Type 0 where
   pub entries : (digits : ℕ) → whole_blocks lanes (length other) < 2 ^ digits → new.entries ≤ old.entries + length one * digits
   pub blocks : new.blocks ≤ old.blocks + min (whole_blocks lanes (length other)) (length one)
+  pub grown : HasGrown old new

@@ -1,8 +1,23 @@
--- What a packed list that was opened shows: its text.
-use Rattle.std.specs.Prelude.{ℕ, List}
+-- What a packed list that was opened shows: its text, its kind and its values.
+use Rattle.std.specs.Prelude.{ℕ, List, map}
+use Rattle.std.specs.List.{range_with_len}
 use Rattle.bitpacking.specs.declared.bit_packer.BitPacker.{Ghosts}
 use Rattle.bitpack_lists.specs.declared.list2.packed_list.PackedList.{PackedList}
+use Rattle.bitpack_lists.specs.declared.list_kind.ListKind.{ListKind}
+use Rattle.bitpack_lists.specs.Searching.{value_of}
 
 -- the bytes that were opened
 abbrev pub text : {P : Type 0} {members : Ghosts P} → PackedList P members → List ℕ
 text list = list.bytes.now
+
+-- its kind
+abbrev pub kind_of : {P : Type 0} {members : Ghosts P} → PackedList P members → ListKind
+kind_of list = list.kind
+
+-- the numbers that a function gives at the positions below a count
+unfoldable pub first_of : (ℕ → ℕ) → ℕ → List ℕ
+first_of value count = map value (range_with_len 0 count)
+
+-- its values
+abbrev pub values : {P : Type 0} {members : Ghosts P} → PackedList P members → List ℕ
+values list = first_of (value_of list) list.count

@@ -1,5 +1,5 @@
 -- What inner functions know of a text of version 2 that they test or write. No public contract cites it.
-use Rattle.std.specs.Prelude.{◌≡◌, ℕ, ◌+◌, ◌-◌, ◌*◌, ◌<◌, List, length, None}
+use Rattle.std.specs.Prelude.{◌≡◌, ℕ, ◌+◌, ◌-◌, ◌*◌, ◌<◌, Bool, true, false, nat_lt, nat_le, List, length, None}
 use Rattle.bitpack_lists.specs.declared.list_kind.ListKind.{ListKind}
 use Rattle.bitpack_lists.specs.Version2.{IsBody2, IsEntry2, is_out, least_below, widths_before}
 
@@ -7,6 +7,11 @@ use Rattle.bitpack_lists.specs.Version2.{IsBody2, IsEntry2, is_out, least_below,
 pub record IsOrdered (kind : ListKind) (value : ℕ → ℕ) (position before : ℕ) : Type 0 where
   pub so_far : least_below (is_out kind value) position ≡ None
   pub last : 0 < position → value (position - 1) ≡ before
+
+-- a value falls after the one before it: it is below it, or in a strict order not above it
+abbrev pub is_fall : Bool → ℕ → ℕ → Bool
+is_fall true before value = nat_le value before
+is_fall false before value = nat_lt value before
 
 -- the entries of so many blocks are right
 abbrev pub AreEntries : ℕ → ℕ → ListKind → List ℕ → List ℕ → Type 0

@@ -4,11 +4,11 @@ use Rattle.std.specs.List.{list_all}
 use Rattle.bitpacking.specs.declared.kind.Kind.{Kind}
 use Rattle.bitpacking.specs.declared.kind.Kind.TheVariants as blocks
 use Rattle.bitpacking.specs.Words.{bytes_of_words, word}
-use Rattle.bitpacking.specs.Layout.{codes_of}
+use Rattle.bitpacking.specs.Layout.{codes_of, size}
 use Rattle.bitpack_lists.specs.declared.list_kind.ListKind.{ListKind}
 use Rattle.bitpack_lists.specs.declared.list_kind.ListKind.TheVariants as lists
 use Rattle.bitpack_lists.specs.declared.list_error.ListError.{ListError}
-use Rattle.bitpack_lists.specs.declared.list_error.ListError.TheVariants.{Short, BadVersion, BadKind, WrongLanes, TooLong, BadWidth, LooseWidth, BadOffset, BadLast, NotSorted, Trailing, Memory}
+use Rattle.bitpack_lists.specs.declared.list_error.ListError.TheVariants.{Short, BadVersion, BadKind, WrongLanes, TooLong, BadWidth, LooseWidth, BadOffset, BadLast, NotSorted, Trailing, Memory, BadNumber, Padding, WrongKind}
 
 -- the number of a refusal
 abbrev pub number_of : ListError → ℕ
@@ -24,6 +24,9 @@ number_of (BadLast block) = 9
 number_of (NotSorted position) = 10
 number_of Trailing = 11
 number_of Memory = 12
+number_of BadNumber = 13
+number_of Padding = 14
+number_of (WrongKind found wanted) = 15
 
 -- a test finds the fault that there is, if there is one
 abbrev pub FindsFault : {A : Type 0} → Result A ListError → Option ListError → Type 0
@@ -80,6 +83,12 @@ abbrev pub first_kind : ListKind → Kind
 first_kind lists.Plain = blocks.Plain
 first_kind lists.Sorted = blocks.Sorted 0
 first_kind lists.StrictlySorted = blocks.StrictlySorted None
+
+-- the bytes of a body, of at most 8 lanes and 32 bits a code
+pub record IsBody (lane_count bits : ℕ) (bytes : List ℕ) : Type 0 where
+  pub lanes : (1 ≤ lane_count) × (lane_count ≤ 8)
+  pub width : bits ≤ 32
+  pub body : length bytes ≡ size lane_count bits
 
 -- a width is loose where the codes of the bytes fit a smaller one
 unfoldable pub is_loose : ℕ → ℕ → List ℕ → Bool

@@ -18,9 +18,15 @@ abbrev pub in_whole_block : ℕ → ℕ → Option (ℕ × ℕ) → Bool
 in_whole_block lanes count None = false
 in_whole_block lanes count (Some found) = nat_lt found.0 (32 * lanes * whole_blocks lanes count)
 
+-- counts never decrease
+pub record HasGrown (old new : Reads) : Type 0 where
+  pub entries : old.entries ≤ new.entries
+  pub blocks : old.blocks ≤ new.blocks
+
 -- what a search among so many values adds: as many entries at most as the count of whole blocks has binary digits; one block at
 -- most, and none where the answer is in no whole block
 pub record IsSearched (lanes count : ℕ) (answer : Option (ℕ × ℕ)) (old new : Reads) : Type 0 where
   pub entries : (digits : ℕ) → whole_blocks lanes count < 2 ^ digits → new.entries ≤ old.entries + digits
   pub blocks : new.blocks ≤ old.blocks + 1
   pub outside : in_whole_block lanes count answer ≡ false → new.blocks ≡ old.blocks
+  pub grown : HasGrown old new

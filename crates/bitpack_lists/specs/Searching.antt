@@ -1,13 +1,30 @@
 -- What the inner functions of a search know of an opened list. No public contract cites it.
-use Rattle.std.specs.Prelude.{◌≡◌, ℕ, suc, ◌+◌, ◌*◌, ◌<◌, ◌≤◌, true, false, List, take, drop, Option, IfSome}
+use Rattle.std.specs.Prelude.{◌≡◌, ℕ, suc, ◌+◌, ◌*◌, ◌^◌, ◌<◌, ◌≤◌, true, false, List, take, drop, Option, Some, None, IfSome}
 use Rattle.bitpacking.specs.declared.bit_packer.BitPacker.{Ghosts}
 use Rattle.bitpack_lists.specs.declared.list2.packed_list.ListBlock.{ListBlock}
 use Rattle.bitpack_lists.specs.declared.list2.packed_list.KeptBlock.{KeptBlock}
 use Rattle.bitpack_lists.specs.declared.list2.packed_list.PackedList.{PackedList}
 use Rattle.bitpack_lists.specs.declared.list2.reads.Reads.{Reads}
 use Rattle.bitpack_lists.specs.Parts.{whole_blocks}
-use Rattle.bitpack_lists.specs.Search.{in_whole_block}
+use Rattle.bitpack_lists.specs.Search.{HasGrown, in_whole_block}
 use Rattle.bitpack_lists.specs.Version2.{block_at, kind_at, last_at, offset_at, value_at, width_at}
+
+-- only entries were read
+pub record ReadsEntries (old new : Reads) : Type 0 where
+  pub entries : old.entries ≤ new.entries
+  pub blocks : new.blocks ≡ old.blocks
+
+-- no entry was read, and at most one block was unpacked
+pub record UnpacksOne (old new : Reads) : Type 0 where
+  pub entries : new.entries ≡ old.entries
+  pub blocks : new.blocks ≤ old.blocks + 1
+  pub grown : HasGrown old new
+
+-- a search that begins at a number and ends at another reads two entries each time that the distance doubles, and one
+pub record IsNear (from to old new : ℕ) : Type 0 where
+  pub doubled : ℕ
+  pub far : from + 2 ^ doubled ≤ to + 1
+  pub few : new ≤ old + (2 * doubled + 1)
 
 module _ {P : Type 0} {members : Ghosts P} (list : PackedList P members) where
   -- the count of whole blocks, and what is after the header
@@ -20,6 +37,10 @@ module _ {P : Type 0} {members : Ghosts P} (list : PackedList P members) where
   -- the value at each position
   abbrev pub value_of : ℕ → ℕ
   value_of = value_at members.lanes blocks_of list.kind rest_of
+
+  -- the values of each whole block
+  abbrev pub block_of_list : ℕ → List ℕ
+  block_of_list = block_at members.lanes blocks_of list.kind rest_of
 
   -- a whole block, as its entry says
   pub record IsListBlock (block : ListBlock) : Type 0 where
@@ -38,14 +59,40 @@ module _ {P : Type 0} {members : Ghosts P} (list : PackedList P members) where
     pub before : EndsBelow target block.number
     pub enough : target ≤ last_at rest_of block.number
 
+  -- the number of a block, or the count of blocks
+  abbrev pub number_or_all : Option ListBlock → ℕ
+  number_or_all None = blocks_of
+  number_or_all (Some block) = block.number
+
+  -- the first whole block from one on whose last value is at least the target, if there is one
+  pub record IsFirstFrom (target from : ℕ) (found : Option ListBlock) : Type 0 where
+    pub is : IfSome found IsListBlock
+    pub forward : from ≤ number_or_all found
+    pub before : EndsBelow target (number_or_all found)
+    pub enough : number_or_all found < blocks_of → target ≤ last_at rest_of (number_or_all found)
+
   -- what is kept is the block of its number, where the list has one
   abbrev pub IsKept : KeptBlock → Type 0
-  IsKept kept = kept.number < blocks_of → take (32 * members.lanes) kept.values ≡ block_at members.lanes blocks_of list.kind rest_of kept.number
+  IsKept kept = kept.number < blocks_of → take (32 * members.lanes) kept.values ≡ block_of_list kept.number
 
-  -- a block is unpacked only where the answer is in it, and another was kept
-  pub record KeepsOne (answer : Option (ℕ × ℕ)) (kept kept' : KeptBlock) (old new : Reads) : Type 0 where
+  -- the block of this number is kept in place of another, and was unpacked for that unless it was the other
+  pub record KeepsBlock (block : ℕ) (before after : KeptBlock) (old new : Reads) : Type 0 where
+    pub kept : IsKept after
+    pub number : after.number ≡ block
+    pub reads : UnpacksOne old new
+    pub again : before.number ≡ block → new.blocks ≡ old.blocks
+
+  -- the answer of a search is in this block
+  abbrev pub IsInBlock : ℕ → Option (ℕ × ℕ) → Type 0
+  IsInBlock block answer =
+      IfSome answer (λ found. (32 * members.lanes * block ≤ found.0) × (found.0 < 32 * members.lanes * block + 32 * members.lanes))
+
+  -- a search keeps the block of its answer if that is in one, and reads an entry each time that it halves the blocks
+  pub record KeepsOne (answer : Option (ℕ × ℕ)) (before after : KeptBlock) (old new : Reads) : Type 0 where
+    pub kept : IsKept after
+    pub entries : (digits : ℕ) → blocks_of < 2 ^ digits → new.entries ≤ old.entries + digits
     pub blocks : new.blocks ≤ old.blocks + 1
-    pub again : kept'.number ≡ kept.number → new.blocks ≡ old.blocks
-    pub inside : in_whole_block members.lanes list.count answer ≡ true → (kept'.number < blocks_of)
-        × IfSome answer (λ found. (32 * members.lanes * kept'.number ≤ found.0) × (found.0 < 32 * members.lanes * kept'.number + 32 * members.lanes))
-    pub outside : in_whole_block members.lanes list.count answer ≡ false → kept'.number ≡ kept.number
+    pub again : after.number ≡ before.number → new.blocks ≡ old.blocks
+    pub inside : in_whole_block members.lanes list.count answer ≡ true → (after.number < blocks_of) × IsInBlock after.number answer
+    pub outside : in_whole_block members.lanes list.count answer ≡ false → after.number ≡ before.number
+    pub grown : HasGrown old new

@@ -30,6 +30,11 @@ Blocks1 lanes (suc count) kind values bytes =
     × IsPart1 lanes kind (take (32 * lanes) values) part
     × Blocks1 lanes count (second_kind lanes kind values) (drop (32 * lanes) values) rest
 
+-- the bytes are the part of a block of words and then these others, and the block after it has this kind
+abbrev pub IsRead1 : ℕ → Kind → List ℕ → List ℕ → Kind → List ℕ → Type 0
+IsRead1 lanes kind block bytes next rest =
+    (part : List ℕ) × AreWords block × IsPart1 lanes kind block part × (bytes ≡ part ++ rest) × (next ≡ second_kind lanes kind block)
+
 -- the values are words, and the bytes are their text
 pub record List1 (lanes : ℕ) (kind : ListKind) (values bytes : List ℕ) : Type 0 where
   pub words : AreWords values
@@ -67,6 +72,10 @@ blocks_fault1 lanes tail block zero bytes =
     else None
 blocks_fault1 lanes tail block (suc count) bytes =
     option_or (block_fault1 lanes block bytes) (blocks_fault1 lanes tail (block + 1) count (after_block1 lanes bytes))
+
+-- the blocks of so many values and their tail have no fault
+abbrev pub IsSound1 : ℕ → ℕ → List ℕ → Type 0
+IsSound1 lanes count bytes = blocks_fault1 lanes (4 * tail_values lanes count) 0 (whole_blocks lanes count) bytes ≡ None
 
 -- of what comes after the header of so many values: a byte for each block and the tail are there, and each block is right
 unfoldable pub body_fault1 : ℕ → ℕ → List ℕ → Option ListError

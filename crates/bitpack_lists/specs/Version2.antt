@@ -86,11 +86,15 @@ abbrev pub IsBody2 : ℕ → ℕ → ListKind → List ℕ → List ℕ → ℕ 
 IsBody2 lanes blocks kind values rest block =
     Holds lanes (width_at rest block) (kind_at kind rest block) (block_of lanes values block) (body_at lanes blocks rest block)
 
--- the rest of the text of values that have so many whole blocks
-pub record IsRest2 (lanes blocks : ℕ) (kind : ListKind) (values rest : List ℕ) : Type 0 where
+-- so many whole blocks of the values are in the rest of a text, as versions 2 and 3 have them
+pub record HasBlocks (lanes blocks : ℕ) (kind : ListKind) (values rest : List ℕ) : Type 0 where
   pub entries : (block : ℕ) → block < blocks → IsEntry2 lanes kind values rest block
   pub bodies : (block : ℕ) → block < blocks → IsBody2 lanes blocks kind values rest block
   pub room : tail_start lanes blocks rest ≤ length rest
+
+-- the rest of the text of values that have so many whole blocks
+pub record IsRest2 (lanes blocks : ℕ) (kind : ListKind) (values rest : List ℕ) : Type 0 where
+  pub whole : HasBlocks lanes blocks kind values rest
   pub tail : drop (tail_start lanes blocks rest) rest ≡ bytes_of_words (drop (32 * lanes * blocks) values)
 
 -- the values are words in order, and the bytes are their text
@@ -100,18 +104,26 @@ pub record List2 (lanes : ℕ) (kind : ListKind) (values bytes : List ℕ) : Typ
   pub begins : BeginsWithHeader 2 lanes kind (length values) bytes
   pub rest : IsRest2 lanes (whole_blocks lanes (length values)) kind values (drop 7 bytes)
 
+-- bytes are the text of no list but this one
+abbrev pub OfNoOther : ℕ → ListKind → List ℕ → List ℕ → Type 0
+OfNoOther lanes kind values bytes = (kind' : ListKind) (others : List ℕ) → List2 lanes kind' others bytes → (kind ≡ kind') × (values ≡ others)
+
 -- ---- the values that the rest of a text gives
 
 -- a block, of so many
 abbrev pub block_at : ℕ → ℕ → ListKind → List ℕ → ℕ → List ℕ
 block_at lanes blocks kind rest block = values_of (kind_at kind rest block) (codes_of lanes (width_at rest block) (body_at lanes blocks rest block))
 
--- the value at a position, of so many blocks and the tail
-unfoldable pub value_at : ℕ → ℕ → ListKind → List ℕ → ℕ → ℕ
-value_at lanes blocks kind rest position =
+-- the value at a position, of so many blocks and a tail
+unfoldable pub value_with : ℕ → ℕ → ListKind → List ℕ → (ℕ → ℕ) → ℕ → ℕ
+value_with lanes blocks kind rest tail position =
     if nat_lt (position / (32 * lanes)) blocks
     then slice_index (block_at lanes blocks kind rest (position / (32 * lanes))) (position % (32 * lanes))
-    else word (drop (tail_start lanes blocks rest) rest) (position - 32 * lanes * blocks)
+    else tail (position - 32 * lanes * blocks)
+
+-- and of the tail that follows the bodies as words
+abbrev pub value_at : ℕ → ℕ → ListKind → List ℕ → ℕ → ℕ
+value_at lanes blocks kind rest = value_with lanes blocks kind rest (word (drop (tail_start lanes blocks rest) rest))
 
 -- ---- the first fault of bytes
 
@@ -146,18 +158,26 @@ short_of end bytes = if nat_lt (length bytes) end then Some Short else None
 abbrev pub trailing_after : ℕ → List ℕ → Option ListError
 trailing_after end bytes = if nat_lt end (length bytes) then Some Trailing else None
 
+-- of so many blocks, after which a tail has so many bytes at least
+abbrev pub blocks_fault : ℕ → ℕ → ℕ → ListKind → List ℕ → Option ListError
+blocks_fault lanes blocks tail kind rest =
+    option_or (short_of (9 * blocks + tail) rest)
+    (option_or (first_fault (entry_fault2 rest) blocks)
+    (option_or (short_of (tail_start lanes blocks rest + tail) rest)
+    (first_fault (body_fault2 lanes blocks kind rest) blocks)))
+
+-- of values in a list
+abbrev pub order_fault : ListKind → (ℕ → ℕ) → ℕ → Option ListError
+order_fault kind value count = option_map NotSorted (least_below (is_out kind value) count)
+
 -- of what is after the header of so many values
 unfoldable pub rest_fault2 : ℕ → ListKind → ℕ → List ℕ → Option ListError
 rest_fault2 lanes kind count rest =
     let blocks = whole_blocks lanes count in
     let tail = 4 * tail_values lanes count in
-    let end = tail_start lanes blocks rest + tail in
-    option_or (short_of (9 * blocks + tail) rest)
-    (option_or (first_fault (entry_fault2 rest) blocks)
-    (option_or (short_of end rest)
-    (option_or (first_fault (body_fault2 lanes blocks kind rest) blocks)
-    (option_or (option_map NotSorted (least_below (is_out kind (value_at lanes blocks kind rest)) count))
-    (trailing_after end rest)))))
+    option_or (blocks_fault lanes blocks tail kind rest)
+    (option_or (order_fault kind (value_at lanes blocks kind rest) count)
+    (trailing_after (tail_start lanes blocks rest + tail) rest))
 
 -- of a text of version 2
 unfoldable pub fault2 : ℕ → List ℕ → Option ListError

@@ -1,11 +1,14 @@
 -- A walk over the values of one list that searches them in another. No public contract cites it.
-use Rattle.std.specs.Prelude.{◌≡◌, ◌≢◌, ◌⊎◌, ℕ, ◌+◌, ◌*◌, ◌^◌, ◌<◌, ◌≤◌, min, List, [], ◌∷◌, ◌++◌, length, slice_index, Option, Some, None}
+use Rattle.std.specs.Prelude.{◌≡◌, ◌≢◌, ◌⊎◌, ℕ, ◌+◌, ◌*◌, ◌^◌, ◌<◌, ◌≤◌, min, List, [], ◌∷◌, ◌++◌, length, slice_index, Option, Some, None, vec_capacity}
 use Rattle.std.specs.List.Sorted.{IsStrictlyIncreasing}
+use Rattle.std.specs.declared.vec.Vec.{Vec}
 use Rattle.bitpacking.specs.declared.bit_packer.BitPacker.{Ghosts}
 use Rattle.bitpack_lists.specs.declared.list2.packed_list.PackedList.{PackedList}
 use Rattle.bitpack_lists.specs.declared.list2.packed_list.walk.Walk.{Walk}
 use Rattle.bitpack_lists.specs.declared.list2.reads.Reads.{Reads}
+use Rattle.bitpack_lists.specs.declared.list_kind.ListKind.TheVariants as lists
 use Rattle.bitpack_lists.specs.Parts.{whole_blocks}
+use Rattle.bitpack_lists.specs.Search.{HasGrown}
 use Rattle.bitpack_lists.specs.Searching.{IsKept, value_of}
 
 -- ---- one value
@@ -95,6 +98,7 @@ pub record IsWalked (lanes : ℕ) (other : Values) (stage : Stage) (want last : 
   pub last_block : IsLastBlock lanes other want last stage.begun.other_reads.blocks other_reads.blocks
   pub blocks : other_reads.blocks ≤ stage.begun.other_reads.blocks + searches
   pub entries : (digits : ℕ) → whole_blocks lanes other.count < 2 ^ digits → other_reads.entries ≤ stage.begun.other_reads.entries + searches * digits
+  pub grown : HasGrown stage.begun.other_reads other_reads
   pub paid : (stage.blocks ≤ stage.begun.reads.blocks + searches) ⊎ ((stage.blocks ≤ stage.begun.reads.blocks + searches + 1) × (want < stage.due))
 
 -- so many more values were met
@@ -119,6 +123,13 @@ module _ {P : Type 0} {members : Ghosts P} (list : PackedList P members) where
   stage_in begun done blocks = record { one = values_in; begun = begun; done = done; blocks = blocks; due = 0 }
 
   -- the list is searched by a walk that has come this far
-  pub record IsWalking (stage : Stage) (walk : Walk) (items : List ℕ) (capacity : ℕ) (reads : Reads) : Type 0 where
+  pub record IsWalking {A : Type 0} (stage : Stage) (walk : Walk) (out : Vec ℕ A) (reads : Reads) : Type 0 where
+    pub ordered : list.kind ≢ lists.Plain
     pub kept : IsKept list walk.kept
-    pub walked : IsWalked members.lanes values_in stage walk.want walk.kept.number items capacity reads
+    pub walked : IsWalked members.lanes values_in stage walk.want walk.kept.number out.items (vec_capacity out) reads
+
+module _ {P Q : Type 0} {members : Ghosts P} {others : Ghosts Q} (one : PackedList P members) (other : PackedList Q others) where
+  -- so many values of one list were met by a walk that searches them in the other
+  pub record IsWalkingOver {A : Type 0} (begun : Begun) (done blocks : ℕ) (walk : Walk) (out : Vec ℕ A) (reads : Reads) : Type 0 where
+    pub ordered : one.kind ≢ lists.Plain
+    pub walking : IsWalking other (stage_in one begun done blocks) walk out reads

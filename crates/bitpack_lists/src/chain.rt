@@ -39,9 +39,9 @@ pub fn pack_all<P: BitPacker>(
     let mut written = 0;
     for index in 0..blocks {
         let block = &values[index * len..index * len + len];
-        let width = width_kind(packer, block_kind, block);
+        let width = packer.num_bits_kind(block_kind, block);
         widths[index] = width;
-        written += compress_kind(packer, block_kind, block, &mut out[written..], width);
+        written += packer.compress_kind(block_kind, block, &mut out[written..], width);
         block_kind = next_kind(block_kind, block[len - 1]);
     }
     written
@@ -71,65 +71,10 @@ pub fn unpack_all<P: BitPacker>(
     let mut read = 0;
     for index in 0..widths.len() {
         let unpacked = &mut values[index * len..index * len + len];
-        read += decompress_kind(packer, block_kind, &bytes[read..], unpacked, widths[index]);
+        read += packer.decompress_kind(block_kind, &bytes[read..], unpacked, widths[index]);
         block_kind = next_kind(block_kind, unpacked[len - 1]);
     }
     read
-}
-
-/// Packs a block of a kind.
-pub(crate) fn compress_kind<P: BitPacker>(
-    packer: &P,
-    kind: Kind,
-    block: &[u32],
-    out: &mut [u8],
-    width: u8,
-) -> usize
-    requires { CanPack P.lanes width kind block.now out.old }
-    ensures size { result ≡ size P.lanes width }
-    ensures packed { IsPacked P.lanes width kind block.now out.old out.new }
-{
-    match kind {
-        Kind::Plain => packer.compress(block, out, width),
-        Kind::Sorted(initial) => packer.compress_sorted(initial, block, out, width),
-        Kind::StrictlySorted(initial) => {
-            packer.compress_strictly_sorted(initial, block, out, width)
-        }
-    }
-}
-
-/// Unpacks a block of a kind.
-pub(crate) fn decompress_kind<P: BitPacker>(
-    packer: &P,
-    kind: Kind,
-    bytes: &[u8],
-    block: &mut [u32],
-    width: u8,
-) -> usize
-    requires { CanUnpack P.lanes width bytes.now block.old }
-    ensures size { result ≡ size P.lanes width }
-    ensures unpacked { IsUnpacked P.lanes width kind bytes.now block.old block.new }
-{
-    match kind {
-        Kind::Plain => packer.decompress(bytes, block, width),
-        Kind::Sorted(initial) => packer.decompress_sorted(initial, bytes, block, width),
-        Kind::StrictlySorted(initial) => {
-            packer.decompress_strictly_sorted(initial, bytes, block, width)
-        }
-    }
-}
-
-/// The least width of a block of a kind, from 0 to 32.
-pub(crate) fn width_kind<P: BitPacker>(packer: &P, kind: Kind, block: &[u32]) -> u8
-    requires { length block.now ≡ P.BLOCK_LEN }
-    ensures width { IsWidth kind block.now result }
-    ensures narrow { result ≤ 32 }
-{
-    match kind {
-        Kind::Plain => packer.num_bits(block),
-        Kind::Sorted(initial) => packer.num_bits_sorted(initial, block),
-        Kind::StrictlySorted(initial) => packer.num_bits_strictly_sorted(initial, block),
-    }
 }
 
 /// The kind of the block after one of this kind that ends with this value.

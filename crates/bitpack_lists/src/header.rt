@@ -1,6 +1,7 @@
 //! The seven bytes before the blocks of a packed list, in both versions: version, kind, lanes, and the count of values.
 
-ghost use Rattle.std.specs.Prelude.{◌≡◌, ◌+◌, ◌^◌, ◌≤◌, ◌<◌, ◌++◌, OnOk, IfOk, length, vec_len, vec_capacity};
+ghost use Rattle.std.specs.Prelude.{◌+◌, ◌^◌, ◌≤◌, ◌<◌, OnOk, IfOk, length, vec_len, vec_capacity};
+ghost use Rattle.bitpack_lists.specs.Appending.{HasAppended};
 ghost use Rattle.bitpack_lists.specs.Parts.{BeginsWithHeader, FindsFault, header, header_fault};
 
 use super::list_error::ListError;
@@ -56,8 +57,7 @@ impl Header {
         requires lanes { lanes < 2 ^ 8 }
         requires count { self.count ≤ LONGEST_LIST }
         requires room { vec_len out.old + HEADER_LEN ≤ vec_capacity out.old }
-        ensures items { out.new.items ≡ out.old.items ++ header version self.kind lanes self.count }
-        ensures capacity { vec_capacity out.old ≤ vec_capacity out.new }
+        ensures { HasAppended out.old out.new (header version self.kind lanes self.count) }
     {
         append(out, &[version, self.kind.byte(), lanes as u8]);
         append(out, &(self.count as u32).to_le_bytes());

@@ -1,9 +1,16 @@
 //! Laws of the definitions, each the contract of a function that does nothing at run time, for generic code to call.
 //!
 //! The definitions are in `specs/`: `Loose` and `Chained` in Chains; `header`, `is_loose` and the other parts of packed lists
-//! in Parts; `List1` and `fault1` in Version1; `List2`, `fault2`, `first_out` and `parts_before` in Version2.
+//! in Parts; `List1` and `fault1` in Version1; `List2`, `fault2`, `first_out`, `parts_before` and `OfNoOther` in Version2; `List3` and
+//! `fault3` in Version3, with the words of Numbers and Groups; `first_at_least` in Search; `IsCommon` in Intersections.
 
-ghost use Rattle.bitpack_lists.specs.Laws.{ChainsReadBack, LooseFitsSmaller, NoFault1, NoFault2, OneList1, OneList2, OneText1, OneText2, SameBodies};
+ghost use Rattle.bitpack_lists.specs.Laws.{ChainsReadBack, CommonIsShort, FirstIsFound, LooseFitsSmaller, NeitherFalls, NoFault1, NoFault2, OneCommon, OneList1, OneList2, OneText1, OneText2, SameBodies, SortedIsOrder, StrictIsOrder};
+ghost use Rattle.bitpack_lists.specs.Laws3.{GroupReadsBack, GroupsAreRead, GroupsReadBack, NoFault3, NumberReadsBack, OneGroup, OneGroupOfCodes, OneList3, OneNumber, OneText3, OneVersion, SameBlocks3};
+ghost use Rattle.bitpack_lists.specs.Opened.{kind_of, text, values};
+ghost use Rattle.bitpack_lists.specs.Version2.{List2, OfNoOther};
+
+use crate::list2::PackedList;
+use bitpacking::BitPacker;
 
 /// `unpack_all` gives back the values that `pack_all` was given.
 pub fn chains_read_back()
@@ -20,9 +27,63 @@ pub fn one_text()
     ensures text2 { OneText2 }
     ensures list2 { OneList2 }
     ensures fault2 { NoFault2 }
+    ensures text3 { OneText3 }
+    ensures list3 { OneList3 }
+    ensures fault3 { NoFault3 }
 {}
 
-/// The widths, the bodies of the blocks and the tail of a list are the same bytes in its texts of both versions.
+/// The text of an opened list is that of its kind and its values, and of no other list.
+pub fn opened_text<P: BitPacker>(list: &PackedList<'_, P>)
+    ensures list { List2 P.lanes (kind_of list.now) (values list.now) (text list.now) }
+    ensures only { OfNoOther P.lanes (kind_of list.now) (values list.now) (text list.now) }
+{}
+
+/// The widths, the bodies of the blocks and the tail of a list are the same bytes in its texts of versions 1 and 2.
 pub fn same_bodies()
     ensures { SameBodies }
+{}
+
+/// The entries and the bodies of the blocks of a list are the same bytes in its texts of versions 2 and 3.
+pub fn same_blocks()
+    ensures { SameBlocks3 }
+{}
+
+/// A text of one version is refused by the readers of the others.
+pub fn one_version()
+    ensures { OneVersion }
+{}
+
+/// A search finds a value that reaches its target, after values that are all below it. If it finds none, all values are below.
+pub fn first_is_found()
+    ensures { FirstIsFound }
+{}
+
+/// A list has no position out of order exactly if its values do not fall, or increase if it is strictly sorted.
+pub fn in_order()
+    ensures sorted { SortedIsOrder }
+    ensures strict { StrictIsOrder }
+    ensures either { NeitherFalls }
+{}
+
+/// Two lists have one list of common values, and it is no longer than either of them.
+pub fn one_common()
+    ensures same { OneCommon }
+    ensures short { CommonIsShort }
+{}
+
+/// Bytes without a fault begin with the bytes of one number, the one that is read from them. Bytes that begin with those of a number
+/// are read as it.
+pub fn one_number()
+    ensures one { OneNumber }
+    ensures back { NumberReadsBack }
+{}
+
+/// Bytes without a fault begin with the group of the codes that are read from them, bytes that begin with a group are read as its
+/// codes, and codes have one group. So it is with all groups of a tail.
+pub fn one_group()
+    ensures one { OneGroup }
+    ensures back { GroupReadsBack }
+    ensures codes { OneGroupOfCodes }
+    ensures tail { GroupsAreRead }
+    ensures tail_back { GroupsReadBack }
 {}

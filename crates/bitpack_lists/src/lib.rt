@@ -1,9 +1,10 @@
 //! Chains of packed blocks, and packed lists.
 //!
 //! [`chain`] packs many blocks of one kind end to end. [`list`] writes a list of any length as one text, and reads untrusted
-//! texts. [`list2`] does so for lists in order, whose texts are read in place.
+//! texts. [`list2`] does so for lists in order, whose texts are read in place. [`list3`] writes shorter texts of short lists.
+//! [`sorted`] combines cursors over them.
 //!
-//! The crate `bitpack` gives these names again, and has the tests of chains; those of lists are in `bitpack_uses`.
+//! The crate `bitpack` gives these names again. The tests of chains are in `bitpack_main`, tests of lists in `bitpack_uses`.
 #![tactic(auto)]
 
 pub mod chain;
@@ -11,12 +12,15 @@ mod header;
 pub mod laws;
 pub mod list;
 pub mod list2;
+pub mod list3;
 mod list_error;
 mod list_kind;
 mod little_endian;
 mod loose;
 mod measuring;
 mod reserved;
+pub mod sorted;
+mod worked_texts;
 
 pub use list_error::ListError;
 pub use list_kind::ListKind;

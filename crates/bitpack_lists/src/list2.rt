@@ -6,15 +6,18 @@
 //! 20 00 00 00                   the value 32
 //! ```
 
-mod entry;
+pub(crate) mod entry;
+mod list_buf;
 mod opening;
-mod order;
+pub(crate) mod order;
 mod packed_list;
 mod reads;
 mod upgrading;
-mod writing;
+pub(crate) mod writing;
 
-pub use packed_list::{PackedList, intersect};
+pub use list_buf::ListBuf;
+pub(crate) use packed_list::{first_ahead, first_from};
+pub use packed_list::{Cursor, PackedList, append_common, intersect};
 pub use reads::Reads;
 pub use upgrading::upgrade;
 pub use writing::encode;

@@ -3,6 +3,7 @@
 ghost use Rattle.std.specs.Prelude.{◌≡◌};
 ghost use Rattle.bitpack_lists.specs.Parts.{number_of};
 
+use crate::list_kind::ListKind;
 use std::error::Error;
 use std::fmt;
 
@@ -33,10 +34,16 @@ pub enum ListError {
     Trailing,
     /// The vector could not grow.
     Memory,
+    /// A number of version 3 is not written in its one form, or is too small or too large for its place.
+    BadNumber,
+    /// A bit is set after the last code of a group.
+    Padding,
+    /// The list is of the first kind, and the caller asked for the second.
+    WrongKind(ListKind, ListKind),
 }
 
 impl ListError {
-    /// The number of the refusal, from 1 to 12 in the order of the variants.
+    /// The number of the refusal: from 1 to 15 in the order of the variants.
     pub fn number(&self) -> u8
         ensures { result ≡ number_of self.now }
     {
@@ -53,6 +60,9 @@ impl ListError {
             ListError::NotSorted(_) => 10,
             ListError::Trailing => 11,
             ListError::Memory => 12,
+            ListError::BadNumber => 13,
+            ListError::Padding => 14,
+            ListError::WrongKind(_, _) => 15,
         }
     }
 }
@@ -93,6 +103,11 @@ impl fmt::Display for ListError {
             }
             ListError::Trailing => write!(f, "bytes are left over after the last value"),
             ListError::Memory => write!(f, "out of memory"),
+            ListError::BadNumber => write!(f, "a number does not have its only form"),
+            ListError::Padding => write!(f, "a bit is set after the last code of a group"),
+            ListError::WrongKind(found, wanted) => {
+                write!(f, "the list is {found}, not {wanted}")
+            }
         }
     }
 }

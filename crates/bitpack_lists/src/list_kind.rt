@@ -4,6 +4,7 @@ ghost use Rattle.std.specs.Prelude.{◌≡◌};
 ghost use Rattle.bitpack_lists.specs.Parts.{first_kind, kind_byte};
 
 use bitpacking::Kind;
+use std::fmt;
 
 /// What is packed in place of the values of a list.
 #[derive(Clone, Copy, PartialEq, Eq, Debug)]
@@ -37,6 +38,16 @@ impl ListKind {
             ListKind::Plain => Kind::Plain,
             ListKind::Sorted => Kind::Sorted(0),
             ListKind::StrictlySorted => Kind::StrictlySorted(None),
+        }
+    }
+}
+
+impl fmt::Display for ListKind {
+    fn fmt<W: fmt::Write>(&self, f: &mut fmt::Formatter<W>) -> fmt::Result {
+        match self {
+            ListKind::Plain => write!(f, "plain"),
+            ListKind::Sorted => write!(f, "sorted"),
+            ListKind::StrictlySorted => write!(f, "strictly sorted"),
         }
     }
 }

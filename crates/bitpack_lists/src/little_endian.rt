@@ -23,7 +23,8 @@ pub(crate) fn read_one(bytes: &[u8], index: usize) -> u32
 /// Appends the values whose bytes these are, where there is room for them.
 pub(crate) fn read_all(bytes: &[u8], out: &mut Vec<u32>)
     requires room { vec_len out.old + length bytes.now / 4 ≤ vec_capacity out.old }
-    ensures items { (values : List ℕ) → AreWords values → bytes.now ≡ bytes_of_words values → out.new.items ≡ out.old.items ++ values }
+    ensures items { (values : List ℕ) → AreWords values → bytes.now ≡ bytes_of_words values
+        → out.new.items ≡ out.old.items ++ values }
 {
     for index in 0..bytes.len() / 4 {
         out.push_reserved(read_one(bytes, 4 * index));

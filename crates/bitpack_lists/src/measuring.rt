@@ -5,7 +5,7 @@ ghost use Rattle.bitpacking.specs.Width.{IsWidth};
 ghost use Rattle.bitpack_lists.specs.Chains.{LeastWidths};
 ghost use Rattle.bitpack_lists.specs.Parts.{first_kind, tail_values, whole_blocks};
 
-use crate::chain::{next_kind, width_kind};
+use crate::chain::next_kind;
 use crate::header::HEADER_LEN;
 use crate::list_kind::ListKind;
 use bitpacking::{BitPacker, Kind};
@@ -13,8 +13,8 @@ use bitpacking::{BitPacker, Kind};
 /// How many widths are kept from the measuring of a list to its writing. Blocks after those are measured twice.
 pub(crate) const KEPT_WIDTHS: usize = 1024;
 
-/// How many bytes a text of the values has, with so many for each whole block beside its body. The least widths of its first blocks
-/// are kept.
+/// How many bytes a text of the values has in version 1 or 2, with so many for each whole block beside its body. The least widths
+/// of its first blocks are kept.
 pub(crate) fn text_len<P: BitPacker>(
     packer: &P,
     kind: ListKind,
@@ -25,24 +25,50 @@ pub(crate) fn text_len<P: BitPacker>(
     requires few { length values.now ≤ 2 ^ 28 }
     requires entry { entry_len ≤ 9 }
     ensures room { HEADER_LEN + entry_len * whole_blocks P.lanes (length values.now) ≤ result }
-    ensures len { (all : List ℕ) → length all ≡ whole_blocks P.lanes (length values.now) → LeastWidths P.lanes (first_kind kind) values.now all
-        → result ≡ HEADER_LEN + entry_len * whole_blocks P.lanes (length values.now) + 4 * P.lanes * sum all + 4 * tail_values P.lanes (length values.now) }
-    ensures widths { LeastWidths P.lanes (first_kind kind) values.now (take (whole_blocks P.lanes (length values.now)) widths.new) }
+    ensures len { (all : List ℕ) → length all ≡ whole_blocks P.lanes (length values.now)
+        → LeastWidths P.lanes (first_kind kind) values.now all
+        → result ≡ HEADER_LEN + entry_len * whole_blocks P.lanes (length values.now) + 4 * P.lanes * sum all
+        + 4 * tail_values P.lanes (length values.now) }
+    ensures widths { LeastWidths P.lanes (first_kind kind) values.now
+        (take (whole_blocks P.lanes (length values.now)) widths.new) }
+{
+    let size = HEADER_LEN + blocks_len(packer, kind, values, entry_len, widths);
+    size + 4 * (values.len() % P::BLOCK_LEN)
+}
+
+/// How many bytes the whole blocks of the values have in a text, with so many for each beside its body. The least widths of the
+/// first blocks are kept.
+pub(crate) fn blocks_len<P: BitPacker>(
+    packer: &P,
+    kind: ListKind,
+    values: &[u32],
+    entry_len: usize,
+    widths: &mut [u8],
+) -> usize
+    requires few { length values.now ≤ 2 ^ 28 }
+    requires entry { entry_len ≤ 9 }
+    ensures room { entry_len * whole_blocks P.lanes (length values.now) ≤ result }
+    ensures few { result ≤ 2 ^ 39 }
+    ensures len { (all : List ℕ) → length all ≡ whole_blocks P.lanes (length values.now)
+        → LeastWidths P.lanes (first_kind kind) values.now all
+        → result ≡ entry_len * whole_blocks P.lanes (length values.now) + 4 * P.lanes * sum all }
+    ensures widths { LeastWidths P.lanes (first_kind kind) values.now
+        (take (whole_blocks P.lanes (length values.now)) widths.new) }
 {
     let len = P::BLOCK_LEN;
     let blocks = values.len() / len;
     let mut kind = kind.first();
     let mut rest = values;
-    let mut size = HEADER_LEN;
+    let mut size = 0;
     for index in 0..blocks {
         let (block, after) = rest.split_at(len);
-        let width = width_kind(packer, kind, block);
+        let width = packer.num_bits_kind(kind, block);
         keep(widths, index, width);
         size += entry_len + P::compressed_block_size(width);
         kind = next_kind(kind, block[len - 1]);
         rest = after;
     }
-    size + 4 * rest.len()
+    size
 }
 
 /// Keeps the width of the block with this index, where there is a place for it.
@@ -71,6 +97,6 @@ pub(crate) fn width_of<P: BitPacker>(
     if index < widths.len() {
         widths[index]
     } else {
-        width_kind(packer, kind, block)
+        packer.num_bits_kind(kind, block)
     }
 }

@@ -5,7 +5,6 @@
 //! answered `refused 1`, and one of more than 65,536 bytes `refused 6`.
 
 mod blocks;
-mod by_kind;
 mod calls;
 mod chains;
 mod documented;
@@ -14,6 +13,7 @@ mod faults;
 mod lines;
 mod list2_lines;
 mod list_lines;
+mod nine_calls;
 mod no_memory;
 mod oracle;
 mod registers;
@@ -42,8 +42,9 @@ fn is_answered(rt: &impl Abort, alloc: Global, input: &[u8], answers: &[u8]) {
 
 #[test]
 fn lines_have_one_answer_each(rt: HostRuntime) {
-    let cases: [(&[u8], &[u8]); 6] = [
+    let cases: [(&[u8], &[u8]); 7] = [
         (b"", b""),
+        (b"size 1x 1", b"4\n"),
         (b"\n", b"refused 1\n"),
         (b"a", b"refused 1\n"),
         (b"a\n", b"refused 1\n"),

@@ -1,4 +1,6 @@
 -- The definitions of the callers.
+pub mod Postings
+pub mod Selected
 pub mod Sets
 pub mod Stored
 pub mod Texts

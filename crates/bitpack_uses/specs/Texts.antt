@@ -2,6 +2,11 @@
 use Rattle.std.specs.Prelude.{ℕ, List}
 use Rattle.bitpack_lists.specs.declared.list_kind.ListKind.{ListKind}
 use Rattle.bitpack_lists.specs.Version1.{List1}
+use Rattle.bitpack_lists.specs.Version2.{List2}
 
 abbrev pub IsText : ℕ → List ℕ → Type 0
 IsText lanes bytes = (kind : ListKind) × (values : List ℕ) × List1 lanes kind values bytes
+
+-- the same of version 2
+abbrev pub IsText2 : ℕ → List ℕ → Type 0
+IsText2 lanes bytes = (kind : ListKind) × (values : List ℕ) × List2 lanes kind values bytes

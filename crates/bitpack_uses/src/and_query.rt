@@ -1,59 +1,57 @@
-//! A query over packed lists: the documents that have three words.
+//! A query over three packed lists: the documents that have three words.
 
-ghost use Rattle.std.specs.Prelude.{◌≡◌, ◌≢◌, ℕ, List, IfOk};
+ghost use Rattle.std.specs.Prelude.{◌≡◌, ℕ, List, IfErr, IfOk};
+ghost use Rattle.std.specs.List.Sorted.{IsStrictlyIncreasing};
 ghost use Rattle.bitpack_lists.specs.declared.list_kind.ListKind.{ListKind};
-ghost use Rattle.bitpack_lists.specs.Opened.{text};
+ghost use Rattle.bitpack_lists.specs.Distinct.{distinct};
+ghost use Rattle.bitpack_lists.specs.Remaining.{remaining};
 ghost use Rattle.bitpack_lists.specs.Version2.{List2};
+ghost use Rattle.bitpack_uses.specs.Selected.{AreInAll, IsListInOrder};
 
-use bitpack::list2::{PackedList, Reads, encode, intersect};
-use bitpack::{ListError, ListKind};
+use bitpack::ListError;
+use bitpack::list2::PackedList;
+use bitpack::sorted::{And, DistinctValues, SortedCursor, collect_into};
 use bitpacking::{BitPacker, BitPacker4x};
 use std::alloc::Global;
 
-/// The documents that are in all three lists. It is fastest where the first is the shortest. The texts may be untrusted.
+/// The documents that are in all three lists. The texts may be untrusted.
 pub fn in_all_three(
     alloc: Global,
     first: &[u8],
     second: &[u8],
     third: &[u8],
-) -> Result<Vec<u32>, ListError> {
-    let (first, second, third) = (open(first)?, open(second)?, open(third)?);
-    let mut shared = Vec::new(alloc);
-    intersect(
-        &first,
-        &second,
-        &mut shared,
-        &mut Reads::new(),
-        &mut Reads::new(),
-    )?;
-    // The values that two lists share increase, so they are a list again.
-    let mut text = Vec::new(alloc);
-    encode(
-        &BitPacker4x::new(),
-        ListKind::StrictlySorted,
-        &shared,
-        &mut text,
-    )?;
-    let shared = open(&text)?;
-    let mut documents = Vec::new(alloc);
-    intersect(
-        &shared,
-        &third,
-        &mut documents,
-        &mut Reads::new(),
-        &mut Reads::new(),
-    )?;
-    Ok(documents)
+) -> Result<Vec<u32>, ListError>
+    ensures documents { IfOk result (λ documents. AreInAll first.now second.now third.now documents.items) }
+{
+    let first_two = And::new(open(first)?, open(second)?);
+    collect(alloc, And::new(first_two, open(third)?))
 }
 
-/// Opens a list in order. A plain list is refused as a text of another kind.
-fn open(bytes: &[u8]) -> Result<PackedList<'_, BitPacker4x>, ListError>
-    ensures ordered { IfOk result (λ list. (kind : ListKind) (values : List ℕ) → List2 4 kind values (text list) → kind ≢ ListKind.Plain) }
-    ensures bytes { IfOk result (λ list. text list ≡ bytes.now) }
+/// The values of a list, each once.
+pub(crate) type Values<'a> = DistinctValues<'a, BitPacker4x>;
+
+/// The values of a list, which may not be plain.
+pub(crate) fn open(bytes: &[u8]) -> Result<Values<'_>, ListError>
+    ensures values { IfOk result (λ opened. (kind : ListKind) (values : List ℕ)
+        → List2 4 kind values bytes.now → remaining opened ≡ distinct values) }
+    ensures refused { IfErr result (λ e. IsListInOrder bytes.now → ⊥) }
 {
-    let list = PackedList::open(BitPacker4x::new(), bytes)?;
-    if list.kind() == ListKind::Plain {
+    let cursor = PackedList::open(BitPacker4x::new(), bytes)?.cursor();
+    if !cursor.is_sorted() {
         return Err(ListError::BadKind(0));
     }
-    Ok(list)
+    Ok(DistinctValues::new(cursor))
+}
+
+/// The values from the place of a cursor on.
+pub(crate) fn collect<C: SortedCursor>(alloc: Global, mut cursor: C) -> Result<Vec<u32>, ListError>
+    ensures all { IfOk result (λ found. found.items ≡ C.rest cursor) }
+    ensures increasing { IfOk result (λ found. IsStrictlyIncreasing found.items) }
+    ensures memory { IfErr result (λ e. e ≡ ListError.Memory) }
+{
+    let mut found = Vec::new(alloc);
+    if collect_into(&mut cursor, &mut found).is_err() {
+        return Err(ListError::Memory);
+    }
+    Ok(found)
 }

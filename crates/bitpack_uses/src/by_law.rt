@@ -8,7 +8,7 @@ ghost use Rattle.bitpacking.specs.Calls.{CanPack, CanUnpack, IsPacked, IsUnpacke
 ghost use Rattle.bitpacking.specs.Codes.{AreWords, codes};
 ghost use Rattle.bitpacking.specs.Laws.{lane_bytes, lane_codes, plain_differences};
 ghost use Rattle.bitpacking.specs.Layout.{Layout, codes_of, place, size};
-ghost use Rattle.bitpacking.specs.Width.{IsWidth, Least};
+ghost use Rattle.bitpacking.specs.Width.{Fits, IsWidth, Least};
 
 use bitpacking::laws::{
     equal_calls_leave_equal_buffers, lanes_are_one_lane_layouts, none_is_the_last_number,
@@ -52,7 +52,8 @@ pub fn first_width<P: BitPacker>(packer: &P, block: &[u32]) -> u8
 pub fn saved_bits<P: BitPacker>(packer: &P, initial: u32, block: &[u32]) -> u8
     requires block { length block.now ≡ P.BLOCK_LEN }
     requires order { IsStrictlyIncreasing (initial ∷ block.now) }
-    ensures saved { (sorted strict : ℕ) × IsWidth (Kind.Sorted initial) block.now sorted × IsWidth (Kind.StrictlySorted (Some initial)) block.now strict
+    ensures saved { (sorted strict : ℕ) × IsWidth (Kind.Sorted initial) block.now sorted
+        × IsWidth (Kind.StrictlySorted (Some initial)) block.now strict
         × (result + strict ≡ sorted) }
     ensures few { result ≤ 1 }
 {
@@ -124,7 +125,8 @@ pub fn codes_in<P: BitPacker>(packer: &P, bytes: &[u8], width: u8, block: &mut [
 /// Packs a plain block: its bytes are the only ones that hold it.
 pub fn the_only_bytes<P: BitPacker>(packer: &P, block: &[u32], width: u8, bytes: &mut [u8])
     requires pack { CanPack P.lanes width Kind.Plain block.now bytes.old }
-    ensures { (others : List ℕ) → AreBytes others → Layout P.lanes width block.now others → others ≡ take (size P.lanes width) bytes.new }
+    ensures { (others : List ℕ) → AreBytes others → Layout P.lanes width block.now others
+        → others ≡ take (size P.lanes width) bytes.new }
 {
     one_layout();
     packer.compress(block, bytes, width);
@@ -133,6 +135,23 @@ pub fn the_only_bytes<P: BitPacker>(packer: &P, block: &[u32], width: u8, bytes:
 /// Each of the 96 bits of a block of one lane at width 3 is a bit of one of its codes.
 pub fn every_bit_is_used()
     ensures { (bit : ℕ) → bit < 96 → (code : ℕ) × (j : ℕ) × (code < 32) × (j < 3) × (place 1 3 code j ≡ bit) }
+{
+    one_layout();
+}
+
+/// No bit of such a block is a bit of two codes, or two bits of one.
+pub fn no_bit_is_used_twice()
+    ensures { (bit code other j k : ℕ) → bit < 96 → code < 32 → other < 32 → j < 3 → k < 3
+        → place 1 3 code j ≡ bit → place 1 3 other k ≡ bit → (other ≡ code) × (k ≡ j) }
+{
+    one_layout();
+}
+
+/// Any 32 codes of 3 bits have bytes, and any 12 bytes have codes.
+pub fn codes_and_bytes_are_free()
+    ensures bytes { (codes : List ℕ) → length codes ≡ 32 → Fits codes 3
+        → (bytes : List ℕ) × AreBytes bytes × Layout 1 3 codes bytes }
+    ensures codes { (bytes : List ℕ) → length bytes ≡ 12 → (codes : List ℕ) × Layout 1 3 codes bytes }
 {
     one_layout();
 }
@@ -196,16 +215,34 @@ pub fn width_by_two<P: BitPacker, Q: BitPacker>(packer: &P, other: &Q, block: &[
     (packer.num_bits(block), other.num_bits(block))
 }
 
-/// Any words are the differences of some block.
+/// Any words are the differences of some block, which is of words too.
 pub fn differences_are_free()
-    ensures { (initial : ℕ) (words : List ℕ) → initial < 2 ^ 32 → AreWords words → (block : List ℕ) × (codes (Kind.Sorted initial) block ≡ words) }
+    ensures { (initial : ℕ) (words : List ℕ) → initial < 2 ^ 32 → AreWords words
+        → (block : List ℕ) × AreWords block × (codes (Kind.Sorted initial) block ≡ words) }
 {
     one_block();
 }
 
+/// Blocks of the same differences are equal.
+pub fn differences_are_of_one_block()
+    ensures { (initial : ℕ) (block other : List ℕ) → initial < 2 ^ 32 → AreWords block → AreWords other
+        → AreWords (codes (Kind.Sorted initial) block)
+        → codes (Kind.Sorted initial) other ≡ codes (Kind.Sorted initial) block → other ≡ block }
+{
+    one_block();
+}
+
+/// Codes have a least width.
+pub fn a_least_width()
+    ensures { (codes : List ℕ) → AreWords codes → (width : ℕ) × (width ≤ 32) × Least codes width }
+{
+    one_least_width();
+}
+
 /// Lane 2 of a block of four lanes is a block of one lane.
 pub fn lane_2_of_4()
-    ensures { (width : ℕ) (codes bytes : List ℕ) → Layout 4 width codes bytes → Layout 1 width (lane_codes 4 2 codes) (lane_bytes 4 2 width bytes) }
+    ensures { (width : ℕ) (codes bytes : List ℕ) → Layout 4 width codes bytes
+        → Layout 1 width (lane_codes 4 2 codes) (lane_bytes 4 2 width bytes) }
 {
     lanes_are_one_lane_layouts();
 }

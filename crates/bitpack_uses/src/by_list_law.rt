@@ -1,18 +1,21 @@
 //! What the laws of lists and of the line language are good for. Each function calls one law, and its contract needs it.
 
-ghost use Rattle.std.specs.Prelude.{◌≡◌, ◌<◌, ◌≤◌, ◌^◌, ℕ, List, IsTrue, IfOk, IfErr, length, drop, slice_index};
+ghost use Rattle.std.specs.Prelude.{◌≡◌, ◌≢◌, ◌<◌, ◌≤◌, ◌^◌, ℕ, List, None, IsTrue, IfOk, IfErr, length, drop, slice_index};
+ghost use Rattle.std.specs.List.Sorted.{IsNonDecreasing, IsStrictlyIncreasing};
 ghost use Rattle.bitpacking.specs.Bits.{AreBytes};
 ghost use Rattle.bitpacking.specs.Layout.{Layout};
 ghost use Rattle.bitpacking.specs.Width.{Fits};
 ghost use Rattle.bitpack.specs.Answers.{IsAnswer};
 ghost use Rattle.bitpack.specs.Grammar.{Request, Spells};
 ghost use Rattle.bitpack_lists.specs.declared.list_kind.ListKind.{ListKind};
+ghost use Rattle.bitpack_lists.specs.Opened.{kind_of, values};
 ghost use Rattle.bitpack_lists.specs.Parts.{is_loose};
 ghost use Rattle.bitpack_lists.specs.Version1.{List1};
-ghost use Rattle.bitpack_lists.specs.Version2.{List2};
+ghost use Rattle.bitpack_lists.specs.Version2.{List2, first_out};
 
-use bitpack::laws::{one_answer, one_command, one_text, same_bodies};
-use bitpack::{ListError, ListKind, list};
+use bitpack::laws::{in_order, one_answer, one_command, one_common, one_text, same_bodies};
+use bitpack::list2::{PackedList, Reads, intersect};
+use bitpack::{ListError, ListKind, list, list2};
 use bitpacking::BitPacker;
 use std::alloc::Global;
 
@@ -37,24 +40,91 @@ pub fn text_by_two<P: BitPacker, Q: BitPacker>(
     Ok((text, same))
 }
 
+/// Packs a list in version 2; packs it in version 1 and upgrades that text. The texts are equal.
+pub fn text_by_upgrade<P: BitPacker>(
+    alloc: Global,
+    packer: &P,
+    kind: ListKind,
+    values: &[u32],
+) -> Result<(Vec<u8>, Vec<u8>), ListError>
+    ensures text { IfOk result (λ texts. List2 P.lanes kind values.now texts.0.items) }
+    ensures same { IfOk result (λ texts. texts.1.items ≡ texts.0.items) }
+{
+    one_text();
+    let mut text = Vec::new(alloc);
+    list2::encode(packer, kind, values, &mut text)?;
+    let mut old = Vec::new(alloc);
+    list::encode(packer, kind, values, &mut old)?;
+    let mut same = Vec::new(alloc);
+    list2::upgrade(packer, &old, &mut same)?;
+    Ok((text, same))
+}
+
+/// A text of version 2 belongs to one list.
+pub fn no_two_lists()
+    ensures { (kind other_kind : ListKind) (values others text : List ℕ) → AreBytes text
+        → List2 4 kind values text → List2 4 other_kind others text
+        → (other_kind ≡ kind) × (others ≡ values) }
+{
+    one_text();
+}
+
+/// A width is refused as loose if a smaller one holds its codes.
+pub fn a_width_too_great()
+    ensures { (codes bytes : List ℕ) → Layout 4 7 codes bytes → Fits codes 6 → IsTrue (is_loose 4 7 bytes) }
+{
+    one_text();
+}
+
 /// A width that is refused as loose is above another that its codes fit.
 pub fn a_smaller_width()
-    ensures { (codes bytes : List ℕ) → Layout 4 7 codes bytes → IsTrue (is_loose 4 7 bytes) → (width : ℕ) × (width < 7) × Fits codes width }
+    ensures { (codes bytes : List ℕ) → Layout 4 7 codes bytes → IsTrue (is_loose 4 7 bytes)
+        → (width : ℕ) × (width < 7) × Fits codes width }
 {
     one_text();
 }
 
 /// The texts of a list of one whole block have the same width after the header in both versions.
 pub fn same_first_width()
-    ensures { (kind : ListKind) (values text other : List ℕ) → 32 ≤ length values → length values < 64 → AreBytes text → AreBytes other
-        → List1 1 kind values text → List2 1 kind values other → slice_index (drop 7 text) 0 ≡ slice_index (drop 7 other) 0 }
+    ensures { (kind : ListKind) (values text other : List ℕ) → 32 ≤ length values → length values < 64
+        → AreBytes text → AreBytes other → List1 1 kind values text → List2 1 kind values other
+        → slice_index (drop 7 text) 0 ≡ slice_index (drop 7 other) 0 }
 {
     same_bodies();
 }
 
+/// The values of a strictly sorted text increase, and values that do not fall are in the order of a sorted list.
+pub fn texts_in_order()
+    ensures strict { (values text : List ℕ) → List2 4 ListKind.StrictlySorted values text
+        → IsStrictlyIncreasing values }
+    ensures sorted { (values : List ℕ) → IsNonDecreasing values → first_out ListKind.Sorted values ≡ None }
+{
+    in_order();
+}
+
+/// Intersects two lists in both orders. The values are the same, and they are no more than either list has.
+pub fn either_first<P: BitPacker, Q: BitPacker>(
+    alloc: Global,
+    a: &PackedList<'_, P>,
+    b: &PackedList<'_, Q>,
+) -> Result<(Vec<u32>, Vec<u32>), ListError>
+    requires ordered_a { kind_of a.now ≢ ListKind.Plain }
+    requires ordered_b { kind_of b.now ≢ ListKind.Plain }
+    ensures same { IfOk result (λ found. found.1.items ≡ found.0.items) }
+    ensures short { IfOk result (λ found. (length found.0.items ≤ length (values a.now))
+        × (length found.0.items ≤ length (values b.now))) }
+{
+    one_common();
+    let (mut ours, mut theirs) = (Vec::new(alloc), Vec::new(alloc));
+    intersect(a, b, &mut ours, &mut Reads::new(), &mut Reads::new())?;
+    intersect(b, a, &mut theirs, &mut Reads::new(), &mut Reads::new())?;
+    Ok((ours, theirs))
+}
+
 /// A line is not two commands.
 pub fn no_two_commands()
-    ensures { (line : List ℕ) (packer : _) (command other : Request) → Spells line packer command → Spells line packer other → command ≡ other }
+    ensures { (line : List ℕ) (packer : _) (command other : Request) → Spells line packer command
+        → Spells line packer other → command ≡ other }
 {
     one_command();
 }
@@ -62,6 +132,21 @@ pub fn no_two_commands()
 /// A line has no two answers.
 pub fn no_two_answers()
     ensures { (line answer other : List ℕ) → IsAnswer line answer → IsAnswer line other → answer ≡ other }
+{
+    one_answer();
+}
+
+/// A line is not a command of two packers.
+pub fn no_two_packers()
+    ensures { (line : List ℕ) (packer other : _) (command other_command : Request)
+        → Spells line packer command → Spells line other other_command → packer ≡ other }
+{
+    one_command();
+}
+
+/// Each line has an answer.
+pub fn an_answer()
+    ensures { (line : List ℕ) → (answer : List ℕ) × IsAnswer line answer }
 {
     one_answer();
 }

@@ -138,7 +138,7 @@ impl IdSet {
 }
 
 /// Whether each value is below the next.
-fn is_increasing(values: &[u32]) -> bool
+pub(crate) fn is_increasing(values: &[u32]) -> bool
     ensures { IsTrue result ↔ IsStrictlyIncreasing values.now }
 {
     for index in 1..values.len() {

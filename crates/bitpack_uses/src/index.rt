@@ -1,12 +1,14 @@
-//! A small inverted index: words, and for each the packed set of the documents that have it.
+//! A small inverted index: words, and for each the posting list of the documents that have it.
 
-ghost use Rattle.std.specs.Prelude.{◌≡◌, ℕ, List, IfOk};
-ghost use Rattle.bitpack_lists.specs.declared.list_kind.ListKind.{ListKind};
-ghost use Rattle.bitpack_lists.specs.Version1.{List1};
-ghost use Rattle.bitpack_uses.specs.Sets.{common};
+ghost use Rattle.std.specs.Prelude.{◌≡◌, IfOk};
+ghost use Rattle.bitpack_lists.specs.Increasing.{shared};
+ghost use Rattle.bitpack_uses.specs.Postings.{distinct_ids};
 
-use crate::id_set::{IdSet, IdSetError};
-use bitpack::ListKind;
+use crate::and_query::collect;
+use crate::id_set::IdSetError;
+use crate::postings::{Postings, select};
+use bitpack::ListError;
+use bitpack::sorted::And;
 use bitpacking::BitPacker;
 use std::alloc::{AllocError, Global};
 use std::collections::BTreeMap;
@@ -42,44 +44,60 @@ impl Builder {
 
     /// Packs the documents of each word.
     pub fn pack<P: BitPacker>(&self, alloc: Global, packer: P) -> Result<Index<P>, IdSetError> {
-        let mut texts = BTreeMap::new(alloc);
+        let mut lists = BTreeMap::new(alloc);
         for (word, documents) in self.documents_of.iter() {
-            let text = IdSet::new(alloc, documents)?.encode(alloc, &packer)?;
+            let mut documents = Vec::from_slice(alloc, documents)?;
+            documents.dedup();
+            let list = Postings::from_ids(alloc, packer, &documents)?;
             let word = word.clone()?;
-            texts.insert(word, text)?;
+            lists.insert(word, list)?;
         }
-        Ok(Index { packer, texts })
+        let none = Postings::from_ids(alloc, packer, &[])?;
+        Ok(Index { lists, none })
     }
 }
 
-/// The packed documents of each word.
+/// The posting list of each word. The lists stay packed, and no query packs one again.
 #[derive(Drop)]
 pub struct Index<P: BitPacker> {
-    packer: P,
-    texts: BTreeMap<String, Vec<u8>>,
+    lists: BTreeMap<String, Postings<P>>,
+    none: Postings<P>,
 }
 
 impl<P: BitPacker> Index<P> {
-    /// The documents that have both words.
-    pub fn both(&self, alloc: Global, first: &str, second: &str) -> Result<IdSet, IdSetError> {
-        match (self.texts.get(first), self.texts.get(second)) {
-            (Some(first), Some(second)) => shared(alloc, &self.packer, first, second),
-            _ => IdSet::new(alloc, &[]),
+    /// The documents that have a word.
+    fn list(&self, word: &str) -> &Postings<P> {
+        match self.lists.get(word) {
+            Some(list) => list,
+            None => &self.none,
         }
+    }
+
+    /// The documents that have both words.
+    pub fn both(&self, alloc: Global, first: &str, second: &str) -> Result<Vec<u32>, ListError> {
+        both(alloc, self.list(first), self.list(second))
+    }
+
+    /// The documents that have the first word, and the second or the third, and not the fourth.
+    pub fn select(&self, alloc: Global, words: [&str; 4]) -> Result<Vec<u32>, ListError> {
+        let [a, b, c, d] = words;
+        select(
+            alloc,
+            self.list(a),
+            self.list(b),
+            self.list(c),
+            self.list(d),
+        )
     }
 }
 
-/// The ids that two packed sets share.
-pub fn shared<P: BitPacker>(
+/// The ids that two posting lists share.
+pub fn both<P: BitPacker, Q: BitPacker>(
     alloc: Global,
-    packer: &P,
-    first: &[u8],
-    second: &[u8],
-) -> Result<IdSet, IdSetError>
-    ensures { IfOk result (λ both. (firsts : List ℕ) × (seconds : List ℕ) × List1 P.lanes ListKind.StrictlySorted firsts first.now
-        × List1 P.lanes ListKind.StrictlySorted seconds second.now × (both ≡ common firsts seconds)) }
+    first: &Postings<P>,
+    second: &Postings<Q>,
+) -> Result<Vec<u32>, ListError>
+    ensures { IfOk result (λ found. found.items ≡ shared (distinct_ids first.now) (distinct_ids second.now)) }
 {
-    let first = IdSet::decode(alloc, packer, first)?;
-    let second = IdSet::decode(alloc, packer, second)?;
-    first.and(alloc, &second)
+    collect(alloc, And::new(first.cursor(), second.cursor()))
 }

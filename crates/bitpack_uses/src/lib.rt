@@ -3,6 +3,7 @@
 
 pub mod and_query;
 pub mod answered;
+pub mod any_list;
 pub mod by_hand;
 pub mod by_law;
 pub mod by_list_law;
@@ -10,9 +11,16 @@ pub mod counts;
 pub mod exact_calls;
 pub mod id_set;
 pub mod index;
+pub mod joined;
+pub mod membership;
+pub mod owned_lists;
 pub mod posting_list;
+pub mod postings;
 pub mod reads;
 pub mod round_trips;
+pub mod selection;
+pub mod shared_values;
+pub mod sorted_block;
 pub mod stored_blocks;
 #[cfg(test)]
 mod tests;

@@ -95,7 +95,6 @@ pub fn search<P: BitPacker>(
 ) -> Result<Option<(usize, u32)>, ListError>
     ensures first { IfOk result (λ found. found ≡ first_at_least values.now target) }
 {
-    one_text();
     let mut text = Vec::new(alloc);
     list2::encode(packer, ListKind::Sorted, values, &mut text)?;
     let list = PackedList::open(*packer, &text)?;

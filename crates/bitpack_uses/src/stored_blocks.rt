@@ -56,13 +56,7 @@ pub fn read_block<P: BitPacker>(
     if values.len() < P::BLOCK_LEN {
         return Err(StoredError::MissingRoom);
     }
-    Ok(match kind {
-        Kind::Plain => packer.decompress(bytes, values, width),
-        Kind::Sorted(initial) => packer.decompress_sorted(initial, bytes, values, width),
-        Kind::StrictlySorted(initial) => {
-            packer.decompress_strictly_sorted(initial, bytes, values, width)
-        }
-    })
+    Ok(packer.decompress_kind(kind, bytes, values, width))
 }
 
 /// Reads a chain of blocks and returns the number of bytes read.
@@ -77,7 +71,8 @@ pub fn read_chain<P: BitPacker>(
     ensures size { IfOk result (λ read. read ≡ 4 * P.lanes * sum widths.now) }
     ensures ok { OnOk result (Loose P.lanes kind (take (P.BLOCK_LEN * length widths.now) values.new) widths.now
         (take (4 * P.lanes * sum widths.now) bytes.now)) }
-    ensures rest { OnOk result (drop (P.BLOCK_LEN * length widths.now) values.new ≡ drop (P.BLOCK_LEN * length widths.now) values.old) }
+    ensures rest { OnOk result (drop (P.BLOCK_LEN * length widths.now) values.new
+        ≡ drop (P.BLOCK_LEN * length widths.now) values.old) }
     ensures err { IfErr result (IsRefused P.lanes widths.now bytes.now values.old) }
     ensures unchanged { OnErr result (values.new ≡ values.old) }
 {

@@ -3,12 +3,19 @@
 mod by_law;
 mod calls;
 mod checks;
+mod members;
+mod owned_lists;
 mod packed_lists;
+mod postings;
+mod shared_values;
+mod sorted;
 
 use crate::id_set::{IdSet, IdSetError, packed_set_contains};
 use crate::index::{Builder, Index};
 use crate::stored_blocks::{StoredError, read_block, read_chain};
-use crate::{and_query, by_hand, counts, exact_calls, posting_list, reads, round_trips};
+use crate::{
+    and_query, by_hand, counts, exact_calls, posting_list, reads, round_trips, sorted_block,
+};
 use bitpack::list2::{PackedList, Reads};
 use bitpack::{ListError, ListKind};
 use bitpacking::{BitPacker, BitPacker1x, BitPacker4x, BitPacker8x, Kind};
@@ -43,6 +50,8 @@ fn a_posting_list(rt: HostRuntime) {
 fn by_hand(rt: HostRuntime) {
     let values = thirds();
     assert!(rt; by_hand::block(&values) == values);
+    let values = thirds();
+    assert!(rt; sorted_block::sorted_block(&values) == values);
     let documents = thirds();
     assert!(rt; by_hand::chain(&documents) == documents);
 }
@@ -267,7 +276,7 @@ fn both_are_in(
     documents: &[u32],
 ) {
     let both = index.both(alloc, first, second).expect(rt, "documents");
-    same_values(rt, both.as_slice(), documents);
+    same_values(rt, &both, documents);
 }
 
 #[test]
@@ -277,6 +286,11 @@ fn an_index(rt: HostRuntime) {
     both_are_in(&rt, alloc, &index, ("not", "to"), &[0, 3]);
     both_are_in(&rt, alloc, &index, ("be", "be"), &[0]);
     both_are_in(&rt, alloc, &index, ("not", "never"), &[]);
+    // "to" is in 0, 2 and 3, "be" in 0, "point" in 2, and "not" in 0, 1 and 3.
+    let found = index.select(alloc, ["to", "be", "point", "not"]);
+    same_values(&rt, &found.expect(&rt, "documents"), &[2]);
+    let found = index.select(alloc, ["to", "be", "point", "never"]);
+    same_values(&rt, &found.expect(&rt, "documents"), &[0, 2]);
 }
 
 /// The short list is given first.

@@ -2,9 +2,11 @@
 
 ghost use Rattle.std.specs.Prelude.{◌≡◌, ◌↔◌, IfOk, IsTrue, None};
 ghost use Rattle.bitpack_lists.specs.Version1.{fault1};
-ghost use Rattle.bitpack_uses.specs.Texts.{IsText};
+ghost use Rattle.bitpack_lists.specs.Version2.{fault2};
+ghost use Rattle.bitpack_uses.specs.Texts.{IsText, IsText2};
 
 use bitpack::laws::one_text;
+use bitpack::list2::PackedList;
 use bitpack::{ListError, list};
 use bitpacking::BitPacker;
 use std::alloc::{AllocError, Global};
@@ -27,4 +29,19 @@ pub fn no_fault_is_a_text<P: BitPacker>(bytes: &[u8])
     ensures { fault1 P.lanes bytes.now ≡ None → IsText P.lanes bytes.now }
 {
     one_text();
+}
+
+/// Bytes without a fault of version 2 are the text of a list of version 2.
+pub fn no_fault_is_a_text2<P: BitPacker>(bytes: &[u8])
+    ensures { fault2 P.lanes bytes.now ≡ None → IsText2 P.lanes bytes.now }
+{
+    one_text();
+}
+
+/// Whether the bytes are the text of a list of version 2, which takes no memory.
+pub fn is_text2<P: BitPacker>(packer: &P, bytes: &[u8]) -> bool
+    ensures { IsTrue result ↔ IsText2 P.lanes bytes.now }
+{
+    one_text();
+    PackedList::open(*packer, bytes).is_ok()
 }

@@ -7,8 +7,8 @@ mod OneToOne
 mod Blocks
 mod Widths
 mod OneLaneLayouts
-mod PackSteps
-mod UnpackSteps
+mod PackedLane
+mod UnpackedLane
 mod FrontWords
 mod WordsOfParts
 mod RegisterLemmas

@@ -11,7 +11,7 @@ use Rattle.bitpacking.specs.Width.{Fits}
 use Rattle.bitpacking.specs.Words.{word as word_of}
 use Rattle.bitpacking.specs.declared.memory.Steps.{Steps}
 use Rattle.bitpacking.proofs.LaneEquations.{lane_code, lane_word, Layout-from_lanes}
-use Rattle.bitpacking.proofs.PackSteps.{Packed-start, Packed-keep, Packed-store, Packed-end, room_left}
+use Rattle.bitpacking.proofs.PackedLane.{Packed-start, Packed-keep, Packed-store, Packed-end, room_left}
 use Rattle.bitpacking.proofs.WordsOfParts.{row_after, row_at}
 use Rattle.bitpacking.proofs.RegisterLemmas.{lane-splat}
 use Rattle.bitpacking.proofs.RowSteps.{codes_step}

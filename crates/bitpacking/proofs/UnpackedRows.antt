@@ -11,7 +11,7 @@ use Rattle.bitpacking.proofs.LaneEquations.{word-lt, lane_word}
 use Rattle.bitpacking.proofs.RegisterLemmas.{lane-zip2, lane-splat}
 use Rattle.bitpacking.proofs.RowSteps.{values_step, values_done}
 use Rattle.bitpacking.proofs.FrontWords.{joined-front, AreBytes-take}
-use Rattle.bitpacking.proofs.UnpackSteps.{Unpacked-start, Unpacked-whole, Unpacked-load, digit, digit-joined, digit-code, masked, words_left}
+use Rattle.bitpacking.proofs.UnpackedLane.{Unpacked-start, Unpacked-whole, Unpacked-load, digit, digit-joined, digit-code, masked, words_left}
 
 -- The number that the words of a lane make.
 abbrev pub lane_number : ℕ → ℕ → List ℕ → ℕ → ℕ

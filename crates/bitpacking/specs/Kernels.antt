@@ -1,8 +1,10 @@
 -- What a kernel is given, and what it leaves: as the clauses of the calls, but of codes in place of a block and its kind.
-use Rattle.std.specs.Prelude.{◌≡◌, ℕ, ◌*◌, List, take, drop}
+use Rattle.std.specs.Prelude.{◌≡◌, ℕ, ◌*◌, ◌<◌, List, take, drop}
 use Rattle.bitpacking.specs.Bits.{AreBytes}
 use Rattle.bitpacking.specs.Calls.{CanPackCodes, CanUnpack}
 use Rattle.bitpacking.specs.Layout.{size, Layout}
+use Rattle.bitpacking.specs.declared.memory.ByteTarget.{ByteTarget}
+use Rattle.bitpacking.specs.declared.memory.ValueTarget.{ValueTarget}
 
 -- as a call is given it, with the bits of a lane that each register of values counts for
 pub record KernelCanPack (lanes width counted : ℕ) (values codes buffer : List ℕ) : Type 0 where
@@ -14,6 +16,15 @@ pub record KernelCanUnpack (lanes width counted : ℕ) (bytes values : List ℕ)
   pub can : CanUnpack lanes width bytes values
   pub bits : counted ≡ width
   pub are_bytes : AreBytes bytes
+
+-- as a kernel is given it that packs or unpacks codes of fewer than 32 bits
+pub record NarrowCanPack (lanes width counted : ℕ) (values codes buffer : List ℕ) : Type 0 where
+  pub narrow : width < 32
+  pub can : KernelCanPack lanes width counted values codes buffer
+
+pub record NarrowCanUnpack (lanes width counted : ℕ) (bytes values : List ℕ) : Type 0 where
+  pub narrow : width < 32
+  pub can : KernelCanUnpack lanes width counted bytes values
 
 -- the buffer begins with the layout of the codes, which has as many bytes as were written, and goes on as it was
 pub record PackedCodes (lanes width : ℕ) (codes old new : List ℕ) (written : ℕ) : Type 0 where
@@ -27,3 +38,13 @@ pub record UnpackedCodes (lanes width : ℕ) (values_of : List ℕ → List ℕ)
       × (take (32 * lanes) new ≡ values_of codes)
   pub rest : drop (32 * lanes) new ≡ drop (32 * lanes) old
   pub count : read ≡ size lanes width
+
+-- a kernel leaves this in the buffer of its target, which is still the same one
+pub record KernelPacked (lanes width : ℕ) (codes : List ℕ) (old new : ByteTarget) (written : ℕ) : Type 0 where
+  pub same_reference : new.bytes.ghost_name ≡ old.bytes.ghost_name
+  pub packed : PackedCodes lanes width codes old.bytes.now new.bytes.now written
+
+pub record KernelUnpacked (lanes width : ℕ) (values_of : List ℕ → List ℕ) (bytes : List ℕ) (old new : ValueTarget) (read : ℕ)
+    : Type 0 where
+  pub same_reference : new.words.ghost_name ≡ old.words.ghost_name
+  pub unpacked : UnpackedCodes lanes width values_of bytes old.words.now new.words.now read

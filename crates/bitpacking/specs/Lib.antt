@@ -9,6 +9,7 @@ pub mod Words
 pub mod Moves
 pub mod Calls
 pub mod Kernels
+pub mod ByKind
 pub mod Partway
 pub mod Laws
 pub mod WorkedBlocks

@@ -22,6 +22,25 @@ words_to width n = (n * width + 31) / 32
 abbrev pub left_at : ℕ → ℕ → ℕ
 left_at width n = 32 * words_to width n - n * width
 
+-- What the rows from a row on are packed from and into: a whole block, room for its bytes, and the bits that fill no word yet.
+pub record RowsCanPack (lanes width row counted : ℕ) (values bytes : List ℕ) (inside : ℕ) : Type 0 where
+  pub narrow : width < 32
+  pub from : row ≤ 24
+  pub bits : counted ≡ width
+  pub block : length values ≡ 32 * lanes
+  pub room : size lanes width ≤ length bytes
+  pub loaded : row * width % 32 ≤ inside
+
+-- What they are unpacked from and into: the bytes of a block, room for its values, and the bits that are of no code yet.
+pub record RowsCanUnpack (lanes width row stored counted : ℕ) (bytes values : List ℕ) (inside : ℕ) : Type 0 where
+  pub narrow : width < 32
+  pub from : row ≤ 24
+  pub start : stored ≡ row
+  pub bits : counted ≡ width
+  pub whole : size lanes width ≤ length bytes
+  pub room : 32 * lanes ≤ length values
+  pub loaded : left_at width row ≤ inside
+
 -- The rows before row n of the codes are packed; `next` gives the codes of the values from that row on.
 pub record RowsPacked (lanes width n : ℕ) (codes values : List ℕ) (next : List ℕ → List ℕ) (bytes pending : List ℕ) : Type 0 where
   pub code_count : length codes ≡ 32 * lanes

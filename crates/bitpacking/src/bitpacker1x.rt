@@ -3,7 +3,7 @@
 ghost use Rattle.std.proofs.Common.{lit≤, refl, rules};
 
 use crate::by_kind::{pack_kind, unpack_kind, width_kind};
-use crate::code_kernels::InlinedLoops;
+use crate::kernel::unrolled::Unrolled;
 use crate::{BitPacker, Counted, Kind, Steps};
 
 /// Packs blocks of 32 values: the codes follow each other without gaps, from the lowest bit on.
@@ -22,113 +22,31 @@ impl BitPacker for BitPacker1x {
         BitPacker1x
     }
 
-    #[inline]
-    fn compress(&self, decompressed: &[u32], compressed: &mut [u8], num_bits: u8) -> usize {
-        self.pack_counted(
-            Kind::Plain,
-            decompressed,
-            compressed,
-            num_bits,
-            &mut Steps::new(),
-        )
-    }
-
-    #[inline]
-    fn compress_sorted(
+    #[inline(always)]
+    fn compress_kind(
         &self,
-        initial: u32,
+        kind: Kind,
         decompressed: &[u32],
         compressed: &mut [u8],
         num_bits: u8,
     ) -> usize {
-        self.pack_counted(
-            Kind::Sorted(initial),
-            decompressed,
-            compressed,
-            num_bits,
-            &mut Steps::new(),
-        )
+        self.pack_counted(kind, decompressed, compressed, num_bits, &mut Steps::new())
     }
 
-    #[inline]
-    fn compress_strictly_sorted(
+    #[inline(always)]
+    fn decompress_kind(
         &self,
-        initial: Option<u32>,
-        decompressed: &[u32],
-        compressed: &mut [u8],
-        num_bits: u8,
-    ) -> usize {
-        self.pack_counted(
-            Kind::StrictlySorted(initial),
-            decompressed,
-            compressed,
-            num_bits,
-            &mut Steps::new(),
-        )
-    }
-
-    #[inline]
-    fn decompress(&self, compressed: &[u8], decompressed: &mut [u32], num_bits: u8) -> usize {
-        self.unpack_counted(
-            Kind::Plain,
-            compressed,
-            decompressed,
-            num_bits,
-            &mut Steps::new(),
-        )
-    }
-
-    #[inline]
-    fn decompress_sorted(
-        &self,
-        initial: u32,
+        kind: Kind,
         compressed: &[u8],
         decompressed: &mut [u32],
         num_bits: u8,
     ) -> usize {
-        self.unpack_counted(
-            Kind::Sorted(initial),
-            compressed,
-            decompressed,
-            num_bits,
-            &mut Steps::new(),
-        )
+        self.unpack_counted(kind, compressed, decompressed, num_bits, &mut Steps::new())
     }
 
-    #[inline]
-    fn decompress_strictly_sorted(
-        &self,
-        initial: Option<u32>,
-        compressed: &[u8],
-        decompressed: &mut [u32],
-        num_bits: u8,
-    ) -> usize {
-        self.unpack_counted(
-            Kind::StrictlySorted(initial),
-            compressed,
-            decompressed,
-            num_bits,
-            &mut Steps::new(),
-        )
-    }
-
-    #[inline]
-    fn num_bits(&self, decompressed: &[u32]) -> u8 {
-        self.width_counted(Kind::Plain, decompressed, &mut Steps::new())
-    }
-
-    #[inline]
-    fn num_bits_sorted(&self, initial: u32, decompressed: &[u32]) -> u8 {
-        self.width_counted(Kind::Sorted(initial), decompressed, &mut Steps::new())
-    }
-
-    #[inline]
-    fn num_bits_strictly_sorted(&self, initial: Option<u32>, decompressed: &[u32]) -> u8 {
-        self.width_counted(
-            Kind::StrictlySorted(initial),
-            decompressed,
-            &mut Steps::new(),
-        )
+    #[inline(always)]
+    fn num_bits_kind(&self, kind: Kind, decompressed: &[u32]) -> u8 {
+        self.width_counted(kind, decompressed, &mut Steps::new())
     }
 
     ghost block_len = { refl };
@@ -150,7 +68,7 @@ impl Counted for BitPacker1x {
         num_bits: u8,
         steps: &mut Steps,
     ) -> usize {
-        pack_kind::<InlinedLoops, u32>(kind, decompressed, compressed, num_bits, steps)
+        pack_kind::<Unrolled, u32>(kind, decompressed, compressed, num_bits, steps)
     }
 
     #[inline(always)]
@@ -162,11 +80,11 @@ impl Counted for BitPacker1x {
         num_bits: u8,
         steps: &mut Steps,
     ) -> usize {
-        unpack_kind::<InlinedLoops, u32>(kind, compressed, decompressed, num_bits, steps)
+        unpack_kind::<Unrolled, u32>(kind, compressed, decompressed, num_bits, steps)
     }
 
     #[inline(always)]
     fn width_counted(&self, kind: Kind, decompressed: &[u32], steps: &mut Steps) -> u8 {
-        width_kind::<InlinedLoops, u32>(kind, decompressed, steps)
+        width_kind::<Unrolled, u32>(kind, decompressed, steps)
     }
 }

@@ -3,8 +3,9 @@
 ghost use Rattle.std.proofs.Common.{lit≤, refl, rules};
 
 use crate::by_kind::{pack_kind, unpack_kind, width_kind};
-use crate::code_kernels::{InlinedLoops, SimpleLoops};
+use crate::dispatch::ByWidth;
 use crate::instruction_set::InstructionSet;
+use crate::kernel::rolled::Rolled;
 use crate::{BitPacker, Counted, Kind, Steps};
 use std::simd::prelude::*;
 
@@ -31,113 +32,31 @@ impl BitPacker for BitPacker8x {
         BitPacker8x(InstructionSet::Lanes)
     }
 
-    #[inline]
-    fn compress(&self, decompressed: &[u32], compressed: &mut [u8], num_bits: u8) -> usize {
-        self.pack_counted(
-            Kind::Plain,
-            decompressed,
-            compressed,
-            num_bits,
-            &mut Steps::new(),
-        )
-    }
-
-    #[inline]
-    fn compress_sorted(
+    #[inline(always)]
+    fn compress_kind(
         &self,
-        initial: u32,
+        kind: Kind,
         decompressed: &[u32],
         compressed: &mut [u8],
         num_bits: u8,
     ) -> usize {
-        self.pack_counted(
-            Kind::Sorted(initial),
-            decompressed,
-            compressed,
-            num_bits,
-            &mut Steps::new(),
-        )
+        self.pack_counted(kind, decompressed, compressed, num_bits, &mut Steps::new())
     }
 
-    #[inline]
-    fn compress_strictly_sorted(
+    #[inline(always)]
+    fn decompress_kind(
         &self,
-        initial: Option<u32>,
-        decompressed: &[u32],
-        compressed: &mut [u8],
-        num_bits: u8,
-    ) -> usize {
-        self.pack_counted(
-            Kind::StrictlySorted(initial),
-            decompressed,
-            compressed,
-            num_bits,
-            &mut Steps::new(),
-        )
-    }
-
-    #[inline]
-    fn decompress(&self, compressed: &[u8], decompressed: &mut [u32], num_bits: u8) -> usize {
-        self.unpack_counted(
-            Kind::Plain,
-            compressed,
-            decompressed,
-            num_bits,
-            &mut Steps::new(),
-        )
-    }
-
-    #[inline]
-    fn decompress_sorted(
-        &self,
-        initial: u32,
+        kind: Kind,
         compressed: &[u8],
         decompressed: &mut [u32],
         num_bits: u8,
     ) -> usize {
-        self.unpack_counted(
-            Kind::Sorted(initial),
-            compressed,
-            decompressed,
-            num_bits,
-            &mut Steps::new(),
-        )
+        self.unpack_counted(kind, compressed, decompressed, num_bits, &mut Steps::new())
     }
 
-    #[inline]
-    fn decompress_strictly_sorted(
-        &self,
-        initial: Option<u32>,
-        compressed: &[u8],
-        decompressed: &mut [u32],
-        num_bits: u8,
-    ) -> usize {
-        self.unpack_counted(
-            Kind::StrictlySorted(initial),
-            compressed,
-            decompressed,
-            num_bits,
-            &mut Steps::new(),
-        )
-    }
-
-    #[inline]
-    fn num_bits(&self, decompressed: &[u32]) -> u8 {
-        self.width_counted(Kind::Plain, decompressed, &mut Steps::new())
-    }
-
-    #[inline]
-    fn num_bits_sorted(&self, initial: u32, decompressed: &[u32]) -> u8 {
-        self.width_counted(Kind::Sorted(initial), decompressed, &mut Steps::new())
-    }
-
-    #[inline]
-    fn num_bits_strictly_sorted(&self, initial: Option<u32>, decompressed: &[u32]) -> u8 {
-        self.width_counted(
-            Kind::StrictlySorted(initial),
-            decompressed,
-            &mut Steps::new(),
-        )
+    #[inline(always)]
+    fn num_bits_kind(&self, kind: Kind, decompressed: &[u32]) -> u8 {
+        self.width_counted(kind, decompressed, &mut Steps::new())
     }
 
     ghost block_len = { refl };
@@ -161,10 +80,10 @@ impl Counted for BitPacker8x {
     ) -> usize {
         match self.0 {
             InstructionSet::Lanes => {
-                pack_kind::<InlinedLoops, u32x8>(kind, decompressed, compressed, num_bits, steps)
+                pack_kind::<ByWidth, u32x8>(kind, decompressed, compressed, num_bits, steps)
             }
             InstructionSet::Scalar => {
-                pack_kind::<SimpleLoops, [u32; 8]>(kind, decompressed, compressed, num_bits, steps)
+                pack_kind::<Rolled, [u32; 8]>(kind, decompressed, compressed, num_bits, steps)
             }
         }
     }
@@ -180,16 +99,10 @@ impl Counted for BitPacker8x {
     ) -> usize {
         match self.0 {
             InstructionSet::Lanes => {
-                unpack_kind::<InlinedLoops, u32x8>(kind, compressed, decompressed, num_bits, steps)
+                unpack_kind::<ByWidth, u32x8>(kind, compressed, decompressed, num_bits, steps)
             }
             InstructionSet::Scalar => {
-                unpack_kind::<SimpleLoops, [u32; 8]>(
-                    kind,
-                    compressed,
-                    decompressed,
-                    num_bits,
-                    steps,
-                )
+                unpack_kind::<Rolled, [u32; 8]>(kind, compressed, decompressed, num_bits, steps)
             }
         }
     }
@@ -197,12 +110,8 @@ impl Counted for BitPacker8x {
     #[inline(always)]
     fn width_counted(&self, kind: Kind, decompressed: &[u32], steps: &mut Steps) -> u8 {
         match self.0 {
-            InstructionSet::Lanes => width_kind::<InlinedLoops, u32x8>(kind, decompressed, steps),
-            InstructionSet::Scalar => width_kind::<SimpleLoops, [u32; 8]>(
-                kind,
-                decompressed,
-                steps,
-            ),
+            InstructionSet::Lanes => width_kind::<ByWidth, u32x8>(kind, decompressed, steps),
+            InstructionSet::Scalar => width_kind::<Rolled, [u32; 8]>(kind, decompressed, steps),
         }
     }
 }

@@ -1,17 +1,15 @@
 //! The three counted calls at any register, by the kind of the block: what its codes are, and the value before the first.
 
-ghost use Rattle.std.specs.Prelude.{◌≡◌, ◌+◌, ◌*◌, ◌≤◌, length};
+ghost use Rattle.std.specs.Prelude.{◌≡◌, ◌*◌, length};
 ghost use Rattle.bitpacking.specs.declared.kind.Kind.TheVariants.{StrictlySorted};
 ghost use Rattle.bitpacking.specs.Codes.{start};
-ghost use Rattle.bitpacking.specs.Width.{IsWidth};
-ghost use Rattle.bitpacking.specs.Layout.{size};
-ghost use Rattle.bitpacking.specs.Calls.{CanPack, CanUnpack, IsPacked, IsUnpacked, MovesToMeasure, MovesToPack};
-ghost use Rattle.bitpacking.specs.Moves.{Moves};
+ghost use Rattle.bitpacking.specs.Calls.{CanPack, CanUnpack};
+ghost use Rattle.bitpacking.specs.ByKind.{KindMeasured, KindPacked, KindUnpacked};
 
 use crate::Kind;
-use crate::code_kernels::CodeKernels;
+use crate::dispatch::Dispatch;
 use crate::instruction_set::RunsOn;
-use crate::kernel::widths::width;
+use crate::kernel::least_width::width;
 use crate::kinds::sinks::{DeltaIntegrate, Store, StrictDeltaIntegrate};
 use crate::kinds::transformers::{DeltaComputer, NoDelta, StrictDeltaComputer};
 use crate::memory::{Steps, ValueSource};
@@ -19,7 +17,7 @@ use bitpacking_register::Register;
 
 /// Packs a block of a kind.
 #[inline(always)]
-pub(crate) fn pack_kind<K: CodeKernels + RunsOn<R>, R: Register>(
+pub(crate) fn pack_kind<K: Dispatch + RunsOn<R>, R: Register>(
     kind: Kind,
     decompressed: &[u32],
     compressed: &mut [u8],
@@ -27,9 +25,8 @@ pub(crate) fn pack_kind<K: CodeKernels + RunsOn<R>, R: Register>(
     steps: &mut Steps,
 ) -> usize
     requires { CanPack R.LANES num_bits kind decompressed.now compressed.old }
-    ensures size { result ≡ size R.LANES num_bits }
-    ensures packed { IsPacked R.LANES num_bits kind decompressed.now compressed.old compressed.new }
-    ensures counts { MovesToPack steps.old steps.new num_bits }
+    ensures { KindPacked R.LANES num_bits kind decompressed.now compressed.old compressed.new
+        result steps.old steps.new }
 {
     match kind {
         Kind::Plain => K::pack_codes::<R, NoDelta>(0, decompressed, compressed, num_bits, steps),
@@ -51,7 +48,7 @@ pub(crate) fn pack_kind<K: CodeKernels + RunsOn<R>, R: Register>(
 
 /// Unpacks a block of a kind.
 #[inline(always)]
-pub(crate) fn unpack_kind<K: CodeKernels + RunsOn<R>, R: Register>(
+pub(crate) fn unpack_kind<K: Dispatch + RunsOn<R>, R: Register>(
     kind: Kind,
     compressed: &[u8],
     decompressed: &mut [u32],
@@ -59,9 +56,8 @@ pub(crate) fn unpack_kind<K: CodeKernels + RunsOn<R>, R: Register>(
     steps: &mut Steps,
 ) -> usize
     requires { CanUnpack R.LANES num_bits compressed.now decompressed.old }
-    ensures size { result ≡ size R.LANES num_bits }
-    ensures unpacked { IsUnpacked R.LANES num_bits kind compressed.now decompressed.old decompressed.new }
-    ensures counts { Moves steps.old steps.new num_bits 32 (32 + num_bits) }
+    ensures { KindUnpacked R.LANES num_bits kind compressed.now decompressed.old decompressed.new
+        result steps.old steps.new }
 {
     match kind {
         Kind::Plain => K::unpack_codes::<R, Store>(0, compressed, decompressed, num_bits, steps),
@@ -95,9 +91,7 @@ pub(crate) fn width_kind<K: RunsOn<R>, R: Register>(
     steps: &mut Steps,
 ) -> u8
     requires { length decompressed.now ≡ 32 * R.LANES }
-    ensures width { IsWidth kind decompressed.now result }
-    ensures narrow { result ≤ 32 }
-    ensures counts { MovesToMeasure steps.old steps.new }
+    ensures { KindMeasured kind decompressed.now result steps.old steps.new }
 {
     let source = ValueSource::new(decompressed, 0);
     match kind {

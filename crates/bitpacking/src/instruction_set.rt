@@ -1,12 +1,14 @@
 //! Which registers a packer of several lanes runs on.
 
-use crate::code_kernels::{InlinedLoops, SimpleLoops};
+use crate::dispatch::ByWidth;
+use crate::kernel::rolled::Rolled;
+use crate::kernel::unrolled::Unrolled;
 use bitpacking_register::Register;
 use std::simd::prelude::*;
 
 #[derive(Clone, Copy)]
 pub(crate) enum InstructionSet {
-    /// Vectors, with loops for each width.
+    /// Vectors, with a kernel for each width.
     Lanes,
     /// Arrays, a word at a time, with one loop for all widths.
     Scalar,
@@ -29,8 +31,8 @@ impl Array for [u32; 8] {}
 /// Kernels with the registers that they run on: a call with other ones does not compile.
 pub(crate) trait RunsOn<R: Register> {}
 
-impl<R: Vector> RunsOn<R> for InlinedLoops {}
+impl<R: Vector> RunsOn<R> for ByWidth {}
 
-impl<R: Array> RunsOn<R> for SimpleLoops {}
+impl<R: Array> RunsOn<R> for Rolled {}
 
-impl RunsOn<u32> for InlinedLoops {}
+impl RunsOn<u32> for Unrolled {}

@@ -242,7 +242,8 @@ fn store_bytes<R: Register>(bytes: &mut [u8], index: usize, register: R)
     requires { 4 * R.LANES * index + 4 * R.LANES ≤ length bytes.old }
     ensures stored { (l : ℕ) → l < R.LANES → word bytes.new (R.LANES * index + l) ≡ slice_index (R.words register) l }
     ensures before { (q : ℕ) → q < R.LANES * index → word bytes.new q ≡ word bytes.old q }
-    ensures rest { drop (4 * R.LANES * index + 4 * R.LANES) bytes.new ≡ drop (4 * R.LANES * index + 4 * R.LANES) bytes.old }
+    ensures rest { drop (4 * R.LANES * index + 4 * R.LANES) bytes.new
+        ≡ drop (4 * R.LANES * index + 4 * R.LANES) bytes.old }
     ensures are_bytes { AreBytes bytes.new }
 {
     let len = 4 * R::LANES;

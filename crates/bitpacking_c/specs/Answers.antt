@@ -42,7 +42,7 @@ abbrev pub CannotUnpack : ℕ → ℕ → ℕ → ℕ → CallError → Type 0
 CannotUnpack lanes width bytes room BadLength = room < 32 * lanes
 CannotUnpack lanes width bytes room BadWidth = (32 * lanes ≤ room) × (32 < width)
 CannotUnpack lanes width bytes room Short = (32 * lanes ≤ room) × (width ≤ 32) × (bytes < size lanes width)
-CannotUnpack lanes width bytes room Unfit = ⊥
+CannotUnpack lanes width bytes room error = ⊥
 
 -- the values of the block were written, or they are as they were
 abbrev pub Unpacks : ℕ → ℕ → Kind → List ℕ → List ℕ → List ℕ → Result ℕ CallError → Type 0
@@ -54,17 +54,14 @@ Unpacks lanes width kind bytes old new (Err error) = (new ≡ old) × CannotUnpa
 abbrev pub GivesWidth : ℕ → Kind → List ℕ → Result ℕ CallError → Type 0
 GivesWidth lanes kind block (Ok width) = (length block ≡ 32 * lanes) × IsWidth kind block width × (width ≤ 32)
 GivesWidth lanes kind block (Err BadLength) = length block ≢ 32 * lanes
-GivesWidth lanes kind block (Err BadWidth) = ⊥
-GivesWidth lanes kind block (Err Short) = ⊥
-GivesWidth lanes kind block (Err Unfit) = ⊥
+GivesWidth lanes kind block (Err error) = ⊥
 
 -- why a block cannot be packed at its least width: the first that applies, in the order length, room
 abbrev pub CannotPackLeast : ℕ → Kind → List ℕ → ℕ → CallError → Type 0
 CannotPackLeast lanes kind block room BadLength = length block ≢ 32 * lanes
-CannotPackLeast lanes kind block room BadWidth = ⊥
 CannotPackLeast lanes kind block room Short =
     (length block ≡ 32 * lanes) × ((least : ℕ) × IsWidth kind block least × (room < size lanes least))
-CannotPackLeast lanes kind block room Unfit = ⊥
+CannotPackLeast lanes kind block room error = ⊥
 
 -- the bytes of the block at its least width and the width were written, or the buffer and the width are as they were
 abbrev pub PacksLeast : ℕ → ℕ → ℕ → Kind → List ℕ → List ℕ → List ℕ → Result ℕ CallError → Type 0
@@ -78,9 +75,8 @@ PacksLeast lanes before least kind block old new (Err error) =
 -- why values cannot be packed as a chain with so many widths: the first that applies, in the order length, room
 abbrev pub CannotPackAll : ℕ → List ℕ → ℕ → ℕ → CallError → Type 0
 CannotPackAll lanes values widths room BadLength = length values ≢ 32 * lanes * widths
-CannotPackAll lanes values widths room BadWidth = ⊥
 CannotPackAll lanes values widths room Short = (length values ≡ 32 * lanes * widths) × (room < 4 * length values)
-CannotPackAll lanes values widths room Unfit = ⊥
+CannotPackAll lanes values widths room error = ⊥
 
 -- the widths and bytes of the chain were written, or both buffers are as they were
 abbrev pub PacksAll : ℕ → Kind → List ℕ → List ℕ → List ℕ → List ℕ → List ℕ → Result ℕ CallError → Type 0
@@ -96,10 +92,9 @@ AreNarrow widths = All (λ width. width ≤ 32) widths
 
 -- why so many bytes do not hold blocks of these widths
 abbrev pub CannotHold : ℕ → List ℕ → ℕ → CallError → Type 0
-CannotHold lanes widths bytes BadLength = ⊥
 CannotHold lanes widths bytes BadWidth = ¬ (AreNarrow widths)
 CannotHold lanes widths bytes Short = bytes < 4 * lanes * sum widths
-CannotHold lanes widths bytes Unfit = ⊥
+CannotHold lanes widths bytes error = ⊥
 
 -- why bytes cannot be unpacked as a chain of these widths; room for the values is tested last
 abbrev pub CannotUnpackAll : ℕ → List ℕ → ℕ → ℕ → CallError → Type 0
@@ -107,7 +102,7 @@ CannotUnpackAll lanes widths bytes room BadLength =
     AreNarrow widths × (4 * lanes * sum widths ≤ bytes) × (room < 32 * lanes * length widths)
 CannotUnpackAll lanes widths bytes room BadWidth = ¬ (AreNarrow widths)
 CannotUnpackAll lanes widths bytes room Short = bytes < 4 * lanes * sum widths
-CannotUnpackAll lanes widths bytes room Unfit = ⊥
+CannotUnpackAll lanes widths bytes room error = ⊥
 
 -- the values of the chain were written, or they are as they were
 abbrev pub UnpacksAll : ℕ → Kind → List ℕ → List ℕ → List ℕ → List ℕ → Result ℕ CallError → Type 0

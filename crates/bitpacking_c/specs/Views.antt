@@ -11,19 +11,16 @@ abbrev pub fault_number : Option ListError → ℤ
 fault_number None = pos 0
 fault_number (Some fault) = negsuc (19 + number_of fault)
 
--- the value at the position was written and the answer is 1, or there is none, the answer is 0 and nothing was written
+-- what was found was written and the answer is 1, or nothing was found, the answer is 0 and nothing was written
+abbrev pub WritesFound : {X : Type 0} → Option X → X → X → ℤ → Type 0
+WritesFound found before after answer =
+    MatchOption found ((answer ≡ pos 0) × (after ≡ before)) (λ value. (answer ≡ pos 1) × (after ≡ value))
+
+-- the value at the position is found
 abbrev pub Gets : List ℕ → ℕ → ℕ → ℕ → ℤ → Type 0
-Gets values position before after answer =
-    MatchOption (slice_get values position) ((answer ≡ pos 0) × (after ≡ before)) (λ value. (answer ≡ pos 1) × (after ≡ value))
+Gets values position = WritesFound (slice_get values position)
 
--- the first value that is at least the target was written with its position and the answer is 1, or there is none, the answer is 0 and
--- nothing was written
-abbrev pub Finds : List ℕ → ℕ → ℕ × ℕ → ℕ × ℕ → ℤ → Type 0
-Finds values target before after answer =
-    MatchOption (first_at_least values target) ((answer ≡ pos 0) × (after ≡ before)) (λ found. (answer ≡ pos 1) × (after ≡ found))
-
--- the same for a list with an order; for a plain one the answer is -23 and nothing was written
+-- the first value that is at least the target is found, with its position; for a plain list the answer is -23 and nothing was written
 abbrev pub Seeks : ListKind → List ℕ → ℕ → ℕ × ℕ → ℕ × ℕ → ℤ → Type 0
 Seeks Plain values target before after answer = (answer ≡ negsuc 22) × (after ≡ before)
-Seeks Sorted values target before after answer = Finds values target before after answer
-Seeks StrictlySorted values target before after answer = Finds values target before after answer
+Seeks kind values target before after answer = WritesFound (first_at_least values target) before after answer

@@ -15,7 +15,8 @@ pub extern "C" fn bitpacking_4x_pack(
     compressed: &mut [u8],
     num_bits: &mut u8,
 ) -> isize
-    ensures { Answers result (PacksLeast 4 num_bits.old num_bits.new Plain decompressed.now compressed.old compressed.new) }
+    ensures { Answers result
+        (PacksLeast 4 num_bits.old num_bits.new Plain decompressed.now compressed.old compressed.new) }
 {
     number(block::pack(
         &BitPacker4x::new(),
@@ -95,7 +96,8 @@ pub extern "C" fn bitpacking_4x_pack_sorted(
     compressed: &mut [u8],
     num_bits: &mut u8,
 ) -> isize
-    ensures { Answers result (PacksLeast 4 num_bits.old num_bits.new (Sorted initial) decompressed.now compressed.old compressed.new) }
+    ensures { Answers result
+        (PacksLeast 4 num_bits.old num_bits.new (Sorted initial) decompressed.now compressed.old compressed.new) }
 {
     number(block::pack(
         &BitPacker4x::new(),
@@ -199,7 +201,8 @@ pub extern "C" fn bitpacking_4x_pack_strictly_sorted(
     compressed: &mut [u8],
     num_bits: &mut u8,
 ) -> isize
-    ensures { Answers result (PacksLeast 4 num_bits.old num_bits.new (StrictlySorted (Some initial)) decompressed.now compressed.old compressed.new) }
+    ensures { Answers result (PacksLeast 4 num_bits.old num_bits.new
+        (StrictlySorted (Some initial)) decompressed.now compressed.old compressed.new) }
 {
     number(block::pack(
         &BitPacker4x::new(),
@@ -219,7 +222,8 @@ pub extern "C" fn bitpacking_4x_compress_strictly_sorted(
     compressed: &mut [u8],
     num_bits: u8,
 ) -> isize
-    ensures { Answers result (Packs 4 num_bits (StrictlySorted (Some initial)) decompressed.now compressed.old compressed.new) }
+    ensures { Answers result
+        (Packs 4 num_bits (StrictlySorted (Some initial)) decompressed.now compressed.old compressed.new) }
 {
     number(block::compress(
         &BitPacker4x::new(),
@@ -238,7 +242,8 @@ pub extern "C" fn bitpacking_4x_decompress_strictly_sorted(
     decompressed: &mut [u32],
     num_bits: u8,
 ) -> isize
-    ensures { Answers result (Unpacks 4 num_bits (StrictlySorted (Some initial)) compressed.now decompressed.old decompressed.new) }
+    ensures { Answers result
+        (Unpacks 4 num_bits (StrictlySorted (Some initial)) compressed.now decompressed.old decompressed.new) }
 {
     number(block::decompress(
         &BitPacker4x::new(),
@@ -272,7 +277,8 @@ pub extern "C" fn bitpacking_4x_pack_all_strictly_sorted(
     widths: &mut [u8],
     out: &mut [u8],
 ) -> isize
-    ensures { Answers result (PacksAll 4 (StrictlySorted (Some initial)) values.now widths.old widths.new out.old out.new) }
+    ensures { Answers result
+        (PacksAll 4 (StrictlySorted (Some initial)) values.now widths.old widths.new out.old out.new) }
 {
     number(chain::pack_all(
         &BitPacker4x::new(),

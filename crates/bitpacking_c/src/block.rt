@@ -5,7 +5,7 @@ ghost use Rattle.bitpacking_c.specs.Answers.{GivesWidth, Packs, PacksLeast, Unpa
 
 use crate::CallError;
 use bitpacking::laws::one_least_width;
-use bitpacking::{Counted, Kind, Steps};
+use bitpacking::{Counted, Kind, MAX_WIDTH, Steps};
 
 /// Packs a block at a width.
 #[inline(always)]
@@ -19,7 +19,7 @@ pub(crate) fn compress<P: Counted>(
     ensures packs { Packs P.lanes num_bits kind decompressed.now compressed.old compressed.new result }
     ensures small { IfOk result (λ count. count < 2 ^ 63) }
 {
-    if num_bits > 32 {
+    if num_bits > MAX_WIDTH {
         return Err(CallError::BadWidth);
     }
     if decompressed.len() != P::BLOCK_LEN {
@@ -50,7 +50,7 @@ pub(crate) fn decompress<P: Counted>(
     if decompressed.len() < P::BLOCK_LEN {
         return Err(CallError::BadLength);
     }
-    if num_bits > 32 {
+    if num_bits > MAX_WIDTH {
         return Err(CallError::BadWidth);
     }
     if compressed.len() < P::compressed_block_size(num_bits) {
@@ -84,7 +84,8 @@ pub(crate) fn pack<P: Counted>(
     compressed: &mut [u8],
     num_bits: &mut u8,
 ) -> Result<usize, CallError>
-    ensures packs { PacksLeast P.lanes num_bits.old num_bits.new kind decompressed.now compressed.old compressed.new result }
+    ensures packs { PacksLeast P.lanes num_bits.old num_bits.new kind
+        decompressed.now compressed.old compressed.new result }
     ensures small { IfOk result (λ count. count < 2 ^ 63) }
 {
     if decompressed.len() != P::BLOCK_LEN {

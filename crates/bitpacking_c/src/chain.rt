@@ -5,7 +5,7 @@ ghost use Rattle.bitpacking_c.specs.Answers.{AreNarrow, CannotHold, PacksAll, Un
 
 use crate::CallError;
 use bitpack_lists::chain;
-use bitpacking::{BitPacker, Kind};
+use bitpacking::{BitPacker, Kind, MAX_WIDTH};
 
 /// Packs blocks, each at its least width.
 #[inline(always)]
@@ -61,7 +61,7 @@ fn test_widths<P: BitPacker>(widths: &[u8], bytes: usize) -> Result<(), CallErro
     let mut left = bytes;
     for index in 0..widths.len() {
         let width = widths[index];
-        if width > 32 {
+        if width > MAX_WIDTH {
             return Err(CallError::BadWidth);
         }
         let size = P::compressed_block_size(width);

@@ -3,7 +3,7 @@
 ghost use Rattle.std.specs.Prelude.{◌≡◌, ◌≢◌, ℕ, List, None, length, slice_get, pos};
 ghost use Rattle.bitpack_lists.specs.declared.list_kind.ListKind.{ListKind};
 ghost use Rattle.bitpack_lists.specs.Parts.{kind_byte};
-ghost use Rattle.bitpack_lists.specs.Search.{first_at_least};
+ghost use Rattle.bitpack_lists.specs.Search.{IsSearched, first_at_least};
 ghost use Rattle.bitpack_lists.specs.Version2.{fault2, List2};
 ghost use Rattle.bitpacking_c.specs.Views.{Gets, Seeks, fault_number};
 
@@ -75,30 +75,33 @@ pub extern "C" fn bitpacking_8x_list_open<'a>(bytes: &'a [u8], view: &mut ListVi
 /// How many values the list has.
 #[unsafe(no_mangle)]
 pub extern "C" fn bitpacking_list_len(view: &ListView<'_>) -> usize
-    ensures { (kind : ListKind) (values : List ℕ) → List2 view.now.lanes kind values view.now.bytes.now → result ≡ length values }
+    ensures { (kind : ListKind) (values : List ℕ) → List2 view.now.lanes kind values view.now.bytes.now
+        → result ≡ length values }
 {
     match view.lanes {
-        1 => PackedList::of_tested(BitPacker1x::new(), view.bytes).len(),
-        4 => PackedList::of_tested(BitPacker4x::new(), view.bytes).len(),
-        _ => PackedList::of_tested(BitPacker8x::new(), view.bytes).len(),
+        1 => PackedList::from_validated(BitPacker1x::new(), view.bytes).len(),
+        4 => PackedList::from_validated(BitPacker4x::new(), view.bytes).len(),
+        _ => PackedList::from_validated(BitPacker8x::new(), view.bytes).len(),
     }
 }
 
 /// The kind of the list.
 fn kind(view: &ListView<'_>) -> ListKind
-    ensures { (kind : ListKind) (values : List ℕ) → List2 view.now.lanes kind values view.now.bytes.now → result ≡ kind }
+    ensures { (kind : ListKind) (values : List ℕ) → List2 view.now.lanes kind values view.now.bytes.now
+        → result ≡ kind }
 {
     match view.lanes {
-        1 => PackedList::of_tested(BitPacker1x::new(), view.bytes).kind(),
-        4 => PackedList::of_tested(BitPacker4x::new(), view.bytes).kind(),
-        _ => PackedList::of_tested(BitPacker8x::new(), view.bytes).kind(),
+        1 => PackedList::from_validated(BitPacker1x::new(), view.bytes).kind(),
+        4 => PackedList::from_validated(BitPacker4x::new(), view.bytes).kind(),
+        _ => PackedList::from_validated(BitPacker8x::new(), view.bytes).kind(),
     }
 }
 
 /// The kind of the list: 0 for plain, 1 for sorted, 2 for strictly sorted.
 #[unsafe(no_mangle)]
 pub extern "C" fn bitpacking_list_kind(view: &ListView<'_>) -> u8
-    ensures { (kind : ListKind) (values : List ℕ) → List2 view.now.lanes kind values view.now.bytes.now → result ≡ kind_byte kind }
+    ensures { (kind : ListKind) (values : List ℕ) → List2 view.now.lanes kind values view.now.bytes.now
+        → result ≡ kind_byte kind }
 {
     match kind(view) {
         ListKind::Plain => 0,
@@ -109,12 +112,13 @@ pub extern "C" fn bitpacking_list_kind(view: &ListView<'_>) -> u8
 
 /// The value at a position.
 fn value(view: &ListView<'_>, position: usize) -> Option<u32>
-    ensures { (kind : ListKind) (values : List ℕ) → List2 view.now.lanes kind values view.now.bytes.now → result ≡ slice_get values position }
+    ensures { (kind : ListKind) (values : List ℕ) → List2 view.now.lanes kind values view.now.bytes.now
+        → result ≡ slice_get values position }
 {
     match view.lanes {
-        1 => PackedList::of_tested(BitPacker1x::new(), view.bytes).get(position),
-        4 => PackedList::of_tested(BitPacker4x::new(), view.bytes).get(position),
-        _ => PackedList::of_tested(BitPacker8x::new(), view.bytes).get(position),
+        1 => PackedList::from_validated(BitPacker1x::new(), view.bytes).get(position),
+        4 => PackedList::from_validated(BitPacker4x::new(), view.bytes).get(position),
+        _ => PackedList::from_validated(BitPacker8x::new(), view.bytes).get(position),
     }
 }
 
@@ -134,16 +138,43 @@ pub extern "C" fn bitpacking_list_get(view: &ListView<'_>, position: usize, item
 }
 
 /// The first value that is at least the target, with its position.
-fn first_at_least(view: &ListView<'_>, target: u32) -> Option<(usize, u32)>
-    requires { (kind : ListKind) (values : List ℕ) → List2 view.now.lanes kind values view.now.bytes.now → kind ≢ ListKind.Plain }
-    ensures { (kind : ListKind) (values : List ℕ) → List2 view.now.lanes kind values view.now.bytes.now → result ≡ first_at_least values target }
+fn first_at_least(view: &ListView<'_>, target: u32, reads: &mut Reads) -> Option<(usize, u32)>
+    requires { (kind : ListKind) (values : List ℕ) → List2 view.now.lanes kind values view.now.bytes.now
+        → kind ≢ ListKind.Plain }
+    ensures found { (kind : ListKind) (values : List ℕ) → List2 view.now.lanes kind values view.now.bytes.now
+        → result ≡ first_at_least values target }
+    ensures reads { (kind : ListKind) (values : List ℕ) → List2 view.now.lanes kind values view.now.bytes.now
+        → IsSearched view.now.lanes (length values) result reads.old reads.new }
 {
-    let mut reads = Reads::new();
     match view.lanes {
-        1 => PackedList::of_tested(BitPacker1x::new(), view.bytes).seek(target, &mut reads),
-        4 => PackedList::of_tested(BitPacker4x::new(), view.bytes).seek(target, &mut reads),
-        _ => PackedList::of_tested(BitPacker8x::new(), view.bytes).seek(target, &mut reads),
+        1 => PackedList::from_validated(BitPacker1x::new(), view.bytes).seek(target, reads),
+        4 => PackedList::from_validated(BitPacker4x::new(), view.bytes).seek(target, reads),
+        _ => PackedList::from_validated(BitPacker8x::new(), view.bytes).seek(target, reads),
     }
+}
+
+/// The search, with the entries and blocks that it reads.
+fn seek(
+    view: &ListView<'_>,
+    target: u32,
+    position: &mut usize,
+    item: &mut u32,
+    reads: &mut Reads,
+) -> i32
+    ensures answer { (kind : ListKind) (values : List ℕ) → List2 view.now.lanes kind values view.now.bytes.now
+        → Seeks kind values target (position.old, item.old) (position.new, item.new) result }
+    ensures reads { (kind : ListKind) (values : List ℕ) → List2 view.now.lanes kind values view.now.bytes.now
+        → IsSearched view.now.lanes (length values) (first_at_least values target) reads.old reads.new }
+{
+    if kind(view) == ListKind::Plain {
+        return -23;
+    }
+    let Some((at, found)) = first_at_least(view, target, reads) else {
+        return 0;
+    };
+    *position = at;
+    *item = found;
+    1
 }
 
 /// Writes the position and the value of the first value that is at least the target, and answers 1. Where every value is below it, it
@@ -158,13 +189,5 @@ pub extern "C" fn bitpacking_list_seek(
     ensures { (kind : ListKind) (values : List ℕ) → List2 view.now.lanes kind values view.now.bytes.now
         → Seeks kind values target (position.old, item.old) (position.new, item.new) result }
 {
-    if kind(view) == ListKind::Plain {
-        return -23;
-    }
-    let Some((at, found)) = first_at_least(view, target) else {
-        return 0;
-    };
-    *position = at;
-    *item = found;
-    1
+    seek(view, target, position, item, &mut Reads::new())
 }

@@ -1,11 +1,9 @@
 //! The replies to `enc`, `dec` and `seek`, by any packer.
 
-ghost use Rattle.std.specs.Prelude.{◌≡◌, ◌==◌, ℕ, List, IfOk, slice_index};
-ghost use Rattle.bitpack_lists.specs.declared.list_kind.ListKind.{ListKind};
+ghost use Rattle.std.specs.Prelude.{◌≡◌, ◌==◌, IfOk, slice_index};
 ghost use Rattle.bitpack.specs.Grammar.{Dec, Enc, Seek};
 ghost use Rattle.bitpack.specs.Answers.{IsReply, printed, sought};
-ghost use Rattle.bitpack_lists.specs.Opened.{text};
-ghost use Rattle.bitpack_lists.specs.Version2.{List2};
+ghost use Rattle.bitpack_lists.specs.Opened.{kind_of, values};
 
 use super::Answer;
 use super::formatting::{format_bytes, format_found, refuse};
@@ -64,14 +62,13 @@ pub(crate) fn answer_dec<P: BitPacker>(
 
 /// The values of an opened list.
 fn values_of<P: BitPacker>(alloc: Global, list: &PackedList<'_, P>) -> Result<Vec<u32>, AllocError>
-    ensures { IfOk result (λ values. (kind : ListKind) (all : List ℕ) → List2 P.lanes kind all (text list.now) → values.items ≡ all) }
+    ensures { IfOk result (λ all. all.items ≡ values list.now) }
 {
-    let mut values = Vec::with_capacity(alloc, list.len())?;
-    for position in 0..list.len() {
-        // There is one: the position is below the length.
-        values.push(list.get(position).unwrap_or(0))?;
+    let mut all = Vec::new(alloc);
+    if list.append_to(&mut all).is_err() {
+        return Err(AllocError);
     }
-    Ok(values)
+    Ok(all)
 }
 
 pub(crate) fn answer_seek<P: BitPacker>(
@@ -94,7 +91,7 @@ fn seek_in<P: BitPacker>(
     list: &PackedList<'_, P>,
     target: u32,
 ) -> Result<Answer, AllocError>
-    ensures { IfOk result (λ answer. (kind : ListKind) (values : List ℕ) → List2 P.lanes kind values (text list.now) → printed answer ≡ sought kind values target) }
+    ensures { IfOk result (λ answer. printed answer ≡ sought (kind_of list.now) (values list.now) target) }
 {
     if list.kind() == ListKind::Plain {
         return refuse(alloc, LIST_REFUSALS + ListError::BadKind(0).number());

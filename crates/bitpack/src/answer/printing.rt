@@ -13,8 +13,10 @@ use crate::{ListKind, RunError};
 use std::io::Write;
 
 fn put_value<W: Write>(output: &mut Output, writer: &mut W, value: u32) -> Result<(), RunError>
-    ensures ok { OnOk result (AppendsBut (W.contents writer.old) (W.contents writer.new) (output.old ++ decimal value) output.new) }
-    ensures err { OnErr result (AppendsBeginning (W.contents writer.old) (W.contents writer.new) (output.old ++ decimal value)) }
+    ensures ok { OnOk result
+        (AppendsBut (W.contents writer.old) (W.contents writer.new) (output.old ++ decimal value) output.new) }
+    ensures err { OnErr result
+        (AppendsBeginning (W.contents writer.old) (W.contents writer.new) (output.old ++ decimal value)) }
     ensures kind { IfErr result (λ e. e ≡ RunError.Write) }
 {
     let mut bytes = [0; MOST_DIGITS];
@@ -24,8 +26,10 @@ fn put_value<W: Write>(output: &mut Output, writer: &mut W, value: u32) -> Resul
 
 /// Puts values as decimals, with commas between them.
 fn put_values<W: Write>(output: &mut Output, writer: &mut W, values: &[u32]) -> Result<(), RunError>
-    ensures ok { OnOk result (AppendsBut (W.contents writer.old) (W.contents writer.new) (output.old ++ printed_values values.now) output.new) }
-    ensures err { OnErr result (AppendsBeginning (W.contents writer.old) (W.contents writer.new) (output.old ++ printed_values values.now)) }
+    ensures ok { OnOk result (AppendsBut (W.contents writer.old) (W.contents writer.new)
+        (output.old ++ printed_values values.now) output.new) }
+    ensures err { OnErr result
+        (AppendsBeginning (W.contents writer.old) (W.contents writer.new) (output.old ++ printed_values values.now)) }
     ensures kind { IfErr result (λ e. e ≡ RunError.Write) }
 {
     let Some((first, rest)) = values.split_first() else {
@@ -57,8 +61,10 @@ fn put_list<W: Write>(
     kind: ListKind,
     values: &[u32],
 ) -> Result<(), RunError>
-    ensures ok { OnOk result (AppendsBut (W.contents writer.old) (W.contents writer.new) (output.old ++ printed_list kind values.now) output.new) }
-    ensures err { OnErr result (AppendsBeginning (W.contents writer.old) (W.contents writer.new) (output.old ++ printed_list kind values.now)) }
+    ensures ok { OnOk result (AppendsBut (W.contents writer.old) (W.contents writer.new)
+        (output.old ++ printed_list kind values.now) output.new) }
+    ensures err { OnErr result (AppendsBeginning (W.contents writer.old) (W.contents writer.new)
+        (output.old ++ printed_list kind values.now)) }
     ensures kind { IfErr result (λ e. e ≡ RunError.Write) }
 {
     output.put(writer, list_kind_prefix(kind).as_bytes())?;
@@ -71,8 +77,10 @@ pub(crate) fn put_answer<W: Write>(
     writer: &mut W,
     answer: &Answer,
 ) -> Result<(), RunError>
-    ensures ok { OnOk result (AppendsBut (W.contents writer.old) (W.contents writer.new) (output.old ++ printed answer.now) output.new) }
-    ensures err { OnErr result (AppendsBeginning (W.contents writer.old) (W.contents writer.new) (output.old ++ printed answer.now)) }
+    ensures ok { OnOk result
+        (AppendsBut (W.contents writer.old) (W.contents writer.new) (output.old ++ printed answer.now) output.new) }
+    ensures err { OnErr result
+        (AppendsBeginning (W.contents writer.old) (W.contents writer.new) (output.old ++ printed answer.now)) }
     ensures kind { IfErr result (λ e. e ≡ RunError.Write) }
 {
     match answer {

@@ -6,17 +6,8 @@ ghost use Rattle.bitpack.specs.Answers.{IsReply, printed};
 
 use super::formatting::{copy_values, format_bytes, format_number, refuse};
 use super::{Answer, NOT_A_BLOCK, NOT_ITS_BYTES, TOO_GREAT, TOO_WIDE};
-use bitpacking::{BitPacker, Counted, Kind, Steps};
+use bitpacking::{BitPacker, Counted, Kind, MAX_BLOCK_LEN, MAX_BLOCK_SIZE, MAX_WIDTH, Steps};
 use std::alloc::{AllocError, Global};
-
-/// The widest width.
-const WIDEST: u8 = 32;
-
-/// The most values of a block: 32 in each of 8 lanes.
-const LONGEST_BLOCK: usize = 256;
-
-/// The most bytes of a block: its values at 32 bits each.
-const LONGEST_BODY: usize = 1024;
 
 pub(crate) fn answer_size<P: BitPacker>(alloc: Global, width: u8) -> Result<Answer, AllocError>
     ensures { IfOk result (λ answer. IsReply P.lanes (Size width) (printed answer)) }
@@ -53,13 +44,13 @@ pub(crate) fn answer_pack<P: Counted>(
     if values.len() != P::BLOCK_LEN {
         return refuse(alloc, NOT_A_BLOCK);
     }
-    if width > WIDEST {
+    if width > MAX_WIDTH {
         return refuse(alloc, TOO_WIDE);
     }
     if width < packer.width_counted(kind, values, &mut Steps::new()) {
         return refuse(alloc, TOO_GREAT);
     }
-    let mut bytes = [0; LONGEST_BODY];
+    let mut bytes = [0; MAX_BLOCK_SIZE];
     let byte_len = packer.pack_counted(kind, values, &mut bytes, width, &mut Steps::new());
     format_bytes(alloc, &bytes[..byte_len])
 }
@@ -73,13 +64,13 @@ pub(crate) fn answer_unpack<P: Counted>(
 ) -> Result<Answer, AllocError>
     ensures { IfOk result (λ answer. IsReply P.lanes (Unpack kind width bytes.now) (printed answer)) }
 {
-    if width > WIDEST {
+    if width > MAX_WIDTH {
         return refuse(alloc, TOO_WIDE);
     }
     if bytes.len() != P::compressed_block_size(width) {
         return refuse(alloc, NOT_ITS_BYTES);
     }
-    let mut block = [0; LONGEST_BLOCK];
+    let mut block = [0; MAX_BLOCK_LEN];
     packer.unpack_counted(kind, bytes, &mut block, width, &mut Steps::new());
     copy_values(alloc, &block[..P::BLOCK_LEN])
 }

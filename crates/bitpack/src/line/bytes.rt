@@ -11,7 +11,8 @@ use std::alloc::Global;
 
 /// Whether the string is one or more pairs of digits.
 fn is_pairs(string: &str) -> bool
-    ensures { IsTrue result ↔ ((0 < length string.now) × (length string.now % 2 ≡ 0) × AllPass is_hex_digit string.now) }
+    ensures { IsTrue result
+        ↔ ((0 < length string.now) × (length string.now % 2 ≡ 0) × AllPass is_hex_digit string.now) }
 {
     !string.is_empty()
         && string.len() % 2 == 0

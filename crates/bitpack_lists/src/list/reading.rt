@@ -1,12 +1,12 @@
 //! Texts into their lists. The bytes are untrusted.
 
-ghost use Rattle.std.specs.Prelude.{◌≡◌, ◌+◌, ◌-◌, ◌*◌, ◌<◌, ◌≤◌, ◌/◌, ◌%◌, ◌++◌, ℕ, List, length, take, drop, slice_index, OnOk, OnErr, IfOk, IfErr, MatchOption, None, vec_len, vec_capacity};
+ghost use Rattle.std.specs.Prelude.{◌≡◌, ◌+◌, ◌-◌, ◌*◌, ◌<◌, ◌≤◌, ◌/◌, ◌%◌, ◌++◌, ℕ, List, length, slice_index, OnOk, OnErr, IfOk, IfErr, MatchOption, None, vec_len, vec_capacity};
 ghost use Rattle.bitpacking.specs.Codes.{AreWords};
-ghost use Rattle.bitpack_lists.specs.Chains.{second_kind};
-ghost use Rattle.bitpack_lists.specs.Parts.{BeginsWithHeader, FindsFault, count_of, first_kind, tail_values, whole_blocks};
-ghost use Rattle.bitpack_lists.specs.Version1.{Blocks1, IsPart1, IsRight, List1, after_block1, block_fault1, blocks_fault1, fault1};
+ghost use Rattle.bitpack_lists.specs.Appending.{HasAppended};
+ghost use Rattle.bitpack_lists.specs.Parts.{BeginsWithHeader, FindsFault, count_of, first_kind, whole_blocks};
+ghost use Rattle.bitpack_lists.specs.Version1.{Blocks1, IsRead1, IsRight, IsSound1, List1, after_block1, block_fault1, blocks_fault1, fault1};
 
-use crate::chain::{decompress_kind, next_kind};
+use crate::chain::next_kind;
 use crate::header::{HEADER_LEN, Header};
 use crate::list_error::ListError;
 use crate::list_kind::ListKind;
@@ -25,11 +25,14 @@ pub fn decode<P: BitPacker>(
     out: &mut Vec<u32>,
 ) -> Result<ListKind, ListError>
     // The bytes are the text of these values, which are appended to what the vector held.
-    ensures ok { IfOk result (λ kind. (values : List ℕ) × List1 P.lanes kind values bytes.now × (out.new.items ≡ out.old.items ++ values)) }
+    ensures ok { IfOk result (λ kind. (values : List ℕ) × List1 P.lanes kind values bytes.now
+        × (out.new.items ≡ out.old.items ++ values)) }
     // Bytes with a fault are refused for the first, and bytes without one only where memory runs out.
-    ensures err { MatchOption (fault1 P.lanes bytes.now) (IfErr result (λ e. e ≡ ListError.Memory)) (λ fault. result ≡ Err fault) }
+    ensures err { MatchOption (fault1 P.lanes bytes.now)
+        (IfErr result (λ e. e ≡ ListError.Memory)) (λ fault. result ≡ Err fault) }
     // Memory runs out only where the vector has no room for the values.
-    ensures room { fault1 P.lanes bytes.now ≡ None → OnErr result (vec_capacity out.old < vec_len out.old + count_of bytes.now) }
+    ensures room { fault1 P.lanes bytes.now ≡ None
+        → OnErr result (vec_capacity out.old < vec_len out.old + count_of bytes.now) }
     ensures unchanged { OnErr result (out.new.items ≡ out.old.items) }
     // A refusal takes no room either, whatever the header promises.
     ensures kept { OnErr result (vec_capacity out.new ≡ vec_capacity out.old) }
@@ -111,9 +114,11 @@ fn test_block<'a, P: BitPacker>(
 
 /// Appends the values of blocks and tail that were tested, where there is room for them.
 fn read_blocks<P: BitPacker>(packer: &P, header: Header, bytes: &[u8], out: &mut Vec<u32>)
-    requires sound { blocks_fault1 P.lanes (4 * tail_values P.lanes header.count) 0 (whole_blocks P.lanes header.count) bytes.now ≡ None }
+    requires sound { IsSound1 P.lanes header.count bytes.now }
     requires room { vec_len out.old + header.count ≤ vec_capacity out.old }
-    ensures { (values : List ℕ) → AreWords values → Blocks1 P.lanes (whole_blocks P.lanes header.count) (first_kind header.kind) values bytes.now → out.new.items ≡ out.old.items ++ values }
+    ensures { (values : List ℕ) → AreWords values
+        → Blocks1 P.lanes (whole_blocks P.lanes header.count) (first_kind header.kind) values bytes.now
+        → out.new.items ≡ out.old.items ++ values }
 {
     let blocks = header.count / P::BLOCK_LEN;
     let mut kind = header.kind.first();
@@ -134,9 +139,8 @@ fn read_block<'a, P: BitPacker>(
 ) -> (Kind, &'a [u8])
     requires right { IsRight P.lanes bytes.now }
     requires room { vec_len out.old + P.BLOCK_LEN ≤ vec_capacity out.old }
-    ensures block { (block : List ℕ) × (part : List ℕ) × AreWords block × IsPart1 P.lanes kind block part × (bytes.now ≡ part ++ result.1.now)
-        × (out.new.items ≡ out.old.items ++ block) × (result.0 ≡ second_kind P.lanes kind block) }
-    ensures capacity { vec_capacity out.old ≤ vec_capacity out.new }
+    ensures block { (block : List ℕ) × HasAppended out.old out.new block
+        × IsRead1 P.lanes kind block bytes.now result.0 result.1.now }
 {
     let from = out.len();
     append_zeros(out, P::BLOCK_LEN);
@@ -153,10 +157,9 @@ pub(crate) fn unpack_block<'a, P: BitPacker>(
 ) -> (Kind, &'a [u8])
     requires right { IsRight P.lanes bytes.now }
     requires whole { length block.old ≡ P.BLOCK_LEN }
-    ensures block { (part : List ℕ) × AreWords block.new × IsPart1 P.lanes kind block.new part × (bytes.now ≡ part ++ result.1.now)
-        × (result.0 ≡ second_kind P.lanes kind block.new) }
+    ensures block { IsRead1 P.lanes kind block.new bytes.now result.0 result.1.now }
 {
-    let size = decompress_kind(packer, kind, &bytes[1..], block, bytes[0]);
+    let size = packer.decompress_kind(kind, &bytes[1..], block, bytes[0]);
     (next_kind(kind, last_value(block)), &bytes[1 + size..])
 }
 

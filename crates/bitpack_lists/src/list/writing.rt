@@ -1,13 +1,15 @@
 //! Lists into their texts.
 
-ghost use Rattle.std.specs.Prelude.{◌≡◌, ◌+◌, ◌^◌, ◌<◌, ◌≤◌, ◌∷◌, ◌++◌, [], ℕ, List, length, take, slice_index, OnOk, OnErr, IfErr, vec_len, vec_capacity};
+ghost use Rattle.std.specs.Prelude.{◌≡◌, ◌+◌, ◌^◌, ◌<◌, ◌≤◌, ◌++◌, ℕ, List, length, take, OnOk, OnErr, IfErr, vec_len, vec_capacity};
 ghost use Rattle.bitpacking.specs.Bits.{AreBytes};
+ghost use Rattle.bitpacking.specs.Calls.{CanPack};
 ghost use Rattle.bitpacking.specs.Width.{IsWidth};
+ghost use Rattle.bitpack_lists.specs.Appending.{HasAppended};
 ghost use Rattle.bitpack_lists.specs.Chains.{LeastWidths};
 ghost use Rattle.bitpack_lists.specs.Parts.{whole_blocks};
 ghost use Rattle.bitpack_lists.specs.Version1.{Blocks1, IsPart1, List1};
 
-use crate::chain::{LONGEST_BODY, compress_kind, next_kind};
+use crate::chain::{LONGEST_BODY, next_kind};
 use crate::header::{Header, LONGEST_LIST};
 use crate::list_error::ListError;
 use crate::list_kind::ListKind;
@@ -26,7 +28,8 @@ pub fn encode<P: BitPacker>(
     out: &mut Vec<u8>,
 ) -> Result<(), ListError>
     // What is appended is the text of the values.
-    ensures ok { OnOk result ((text : List ℕ) × AreBytes text × List1 P.lanes kind values.now text × (out.new.items ≡ out.old.items ++ text)) }
+    ensures ok { OnOk result ((text : List ℕ) × AreBytes text × List1 P.lanes kind values.now text
+        × (out.new.items ≡ out.old.items ++ text)) }
     // Too many values are refused as such, and others only where memory runs out.
     ensures long { 2 ^ 28 < length values.now → result ≡ Err (ListError.TooLong (length values.now)) }
     ensures memory { length values.now ≤ 2 ^ 28 → IfErr result (λ e. e ≡ ListError.Memory) }
@@ -60,10 +63,12 @@ fn write_blocks<P: BitPacker>(
     widths: &[u8],
     out: &mut Vec<u8>,
 )
-    requires widths { LeastWidths P.lanes kind values.now (take (whole_blocks P.lanes (length values.now)) widths.now) }
+    requires widths { LeastWidths P.lanes kind values.now
+        (take (whole_blocks P.lanes (length values.now)) widths.now) }
     requires room { (text : List ℕ) → Blocks1 P.lanes (whole_blocks P.lanes (length values.now)) kind values.now text
         → vec_len out.old + length text ≤ vec_capacity out.old }
-    ensures { (text : List ℕ) → AreBytes text → Blocks1 P.lanes (whole_blocks P.lanes (length values.now)) kind values.now text
+    ensures { (text : List ℕ) → AreBytes text
+        → Blocks1 P.lanes (whole_blocks P.lanes (length values.now)) kind values.now text
         → out.new.items ≡ out.old.items ++ text }
 {
     let len = P::BLOCK_LEN;
@@ -91,15 +96,14 @@ fn write_block<P: BitPacker>(
     body: &mut [u8],
     out: &mut Vec<u8>,
 )
-    requires block { length block.now ≡ P.BLOCK_LEN }
+    requires pack { CanPack P.lanes width kind block.now body.old }
     requires width { IsWidth kind block.now width }
-    requires narrow { width ≤ 32 }
-    requires body { LONGEST_BODY ≤ length body.old }
-    requires room { (part : List ℕ) → IsPart1 P.lanes kind block.now part → vec_len out.old + length part ≤ vec_capacity out.old }
-    ensures part { (part : List ℕ) × AreBytes part × IsPart1 P.lanes kind block.now part × (out.new.items ≡ out.old.items ++ part) }
-    ensures capacity { vec_capacity out.old ≤ vec_capacity out.new }
+    requires room { (part : List ℕ) → IsPart1 P.lanes kind block.now part
+        → vec_len out.old + length part ≤ vec_capacity out.old }
+    ensures part { (part : List ℕ) × AreBytes part × IsPart1 P.lanes kind block.now part
+        × HasAppended out.old out.new part }
 {
-    let size = compress_kind(packer, kind, block, body, width);
+    let size = packer.compress_kind(kind, block, body, width);
     append(out, &[width]);
     append(out, &body[..size]);
 }

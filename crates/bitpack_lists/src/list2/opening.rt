@@ -1,14 +1,15 @@
 //! Tests of texts of version 2. The bytes are untrusted.
 
-ghost use Rattle.std.specs.Prelude.{◌≡◌, ◌+◌, ◌-◌, ◌*◌, ◌^◌, ◌<◌, ◌≤◌, ℕ, length, slice_index, IfOk, None};
+ghost use Rattle.std.specs.Prelude.{◌≡◌, ◌+◌, ◌-◌, ◌*◌, ◌^◌, ◌<◌, ◌≤◌, length, slice_index, IfOk, None};
 ghost use Rattle.bitpacking.specs.declared.kind.Kind.{Kind};
 ghost use Rattle.bitpacking.specs.Codes.{values_of};
-ghost use Rattle.bitpacking.specs.Layout.{codes_of, size};
-ghost use Rattle.bitpack_lists.specs.Parts.{BeginsWithHeader, FindsFault, whole_blocks};
+ghost use Rattle.bitpacking.specs.Layout.{codes_of};
+ghost use Rattle.bitpack_lists.specs.Parts.{BeginsWithHeader, FindsFault, IsBody, whole_blocks};
 ghost use Rattle.bitpack_lists.specs.Version2.{block_fault2, body_fault2, entry_fault2, fault2, first_fault, is_out, least_below, rest_fault2, short_of, tail_start, value_at, widths_before};
 
 use super::entry::{ENTRY_LEN, Entry};
 use super::order::{first_out, first_out_of_words};
+use super::reads::Reads;
 use crate::chain::{LONGEST_BLOCK, next_kind};
 use crate::header::{HEADER_LEN, Header};
 use crate::list_error::ListError;
@@ -16,6 +17,7 @@ use crate::loose::fits_smaller;
 use bitpacking::BitPacker;
 
 /// Tests the whole text, and returns its header.
+// Reads bytes: read, test_rest.
 pub(crate) fn test<P: BitPacker>(packer: &P, bytes: &[u8]) -> Result<Header, ListError>
     ensures fault { FindsFault result (fault2 P.lanes bytes.now) }
     ensures header { IfOk result (λ header. BeginsWithHeader 2 P.lanes header.kind header.count bytes.now) }
@@ -26,6 +28,7 @@ pub(crate) fn test<P: BitPacker>(packer: &P, bytes: &[u8]) -> Result<Header, Lis
 }
 
 /// Tests what is after the header.
+// Reads bytes: test_room, test_entries, test_room, test_bodies, first_out_of_words.
 fn test_rest<P: BitPacker>(packer: &P, header: Header, rest: &[u8]) -> Result<(), ListError>
     requires { header.count ≤ 2 ^ 28 }
     ensures { FindsFault result (rest_fault2 P.lanes header.kind header.count rest.now) }
@@ -59,6 +62,7 @@ fn test_room(bytes: &[u8], end: usize) -> Result<(), ListError>
 }
 
 /// Tests the entries of so many blocks, and returns the sum of their widths.
+// Reads bytes: new, for, entry.
 fn test_entries(rest: &[u8], blocks: usize) -> Result<usize, ListError>
     requires few { blocks ≤ 2 ^ 28 }
     requires room { ENTRY_LEN * blocks ≤ length rest.now }
@@ -66,9 +70,10 @@ fn test_entries(rest: &[u8], blocks: usize) -> Result<usize, ListError>
     ensures widths { IfOk result (λ widths. widths ≡ widths_before rest.now blocks) }
     ensures few { IfOk result (λ widths. widths ≤ 32 * blocks) }
 {
+    let mut reads = Reads::new();
     let mut widths = 0;
     for block in 0..blocks {
-        let entry = Entry::read(rest, block);
+        let entry = reads.entry(rest, block);
         if entry.width > 32 {
             return Err(ListError::BadWidth(block, entry.width));
         }
@@ -82,6 +87,7 @@ fn test_entries(rest: &[u8], blocks: usize) -> Result<usize, ListError>
 
 /// Tests the bodies of the blocks, whose entries were tested. Returns the last value of the last block, and the first position out
 /// of order in the blocks.
+// Reads bytes: new, first, for, entry, unpack, body, test_block, first_out, next_kind.
 fn test_bodies<P: BitPacker>(
     packer: &P,
     header: Header,
@@ -90,19 +96,26 @@ fn test_bodies<P: BitPacker>(
     requires few { header.count ≤ 2 ^ 28 }
     requires entries { first_fault (entry_fault2 rest.now) (whole_blocks P.lanes header.count) ≡ None }
     requires room { tail_start P.lanes (whole_blocks P.lanes header.count) rest.now ≤ length rest.now }
-    ensures fault { FindsFault result (first_fault (body_fault2 P.lanes (whole_blocks P.lanes header.count) header.kind rest.now) (whole_blocks P.lanes header.count)) }
-    ensures last { IfOk result (λ found. 0 < whole_blocks P.lanes header.count → value_at P.lanes (whole_blocks P.lanes header.count) header.kind rest.now (32 * P.lanes * whole_blocks P.lanes header.count - 1) ≡ found.0) }
-    ensures out { IfOk result (λ found. found.1 ≡ least_below (is_out header.kind (value_at P.lanes (whole_blocks P.lanes header.count) header.kind rest.now)) (32 * P.lanes * whole_blocks P.lanes header.count)) }
+    ensures fault { FindsFault result
+        (first_fault (body_fault2 P.lanes (whole_blocks P.lanes header.count) header.kind rest.now)
+        (whole_blocks P.lanes header.count)) }
+    ensures last { IfOk result (λ found. 0 < whole_blocks P.lanes header.count
+        → value_at P.lanes (whole_blocks P.lanes header.count) header.kind rest.now
+        (32 * P.lanes * whole_blocks P.lanes header.count - 1) ≡ found.0) }
+    ensures out { IfOk result (λ found. found.1 ≡ least_below
+        (is_out header.kind (value_at P.lanes (whole_blocks P.lanes header.count) header.kind rest.now))
+        (32 * P.lanes * whole_blocks P.lanes header.count)) }
 {
     let len = P::BLOCK_LEN;
     let blocks = header.count / len;
+    let mut reads = Reads::new();
     let mut kind = header.kind.first();
     let mut last = 0;
     let mut out = None;
+    let mut room = [0; LONGEST_BLOCK];
     for block in 0..blocks {
-        let entry = Entry::read(rest, block);
-        let mut room = [0; LONGEST_BLOCK];
-        entry.unpack(packer, kind, blocks, rest, &mut room);
+        let entry = reads.entry(rest, block);
+        reads.unpack(packer, kind, entry, blocks, rest, &mut room);
         let values = &room[..len];
         let body = entry.body(len / 32, blocks, rest);
         test_block(len / 32, block, entry, body, values[len - 1])?;
@@ -122,9 +135,7 @@ fn test_block(
     body: &[u8],
     last: u32,
 ) -> Result<(), ListError>
-    requires lanes { (1 ≤ lanes) × (lanes ≤ 8) }
-    requires width { entry.width ≤ 32 }
-    requires body { length body.now ≡ size lanes entry.width }
+    requires { IsBody lanes entry.width body.now }
     ensures { (kind : Kind) → last ≡ slice_index (values_of kind (codes_of lanes entry.width body.now)) (32 * lanes - 1)
         → FindsFault result (block_fault2 lanes kind block entry.width entry.last body.now) }
 {

@@ -1,6 +1,10 @@
 //! A packed list of version 2, read in place: it borrows its text.
 
+mod common;
+mod copying;
+mod cursor;
 mod intersection;
+mod of_kind;
 mod search;
 mod walk;
 
@@ -18,6 +22,9 @@ use crate::list_error::ListError;
 use crate::list_kind::ListKind;
 use crate::little_endian::read_one;
 use bitpacking::{BitPacker, Kind};
+pub use common::append_common;
+pub use cursor::Cursor;
+pub(crate) use cursor::{first_ahead, first_from};
 pub use intersection::intersect;
 use std::alloc::AllocError;
 
@@ -59,6 +66,7 @@ impl<'a, P: BitPacker> Clone for PackedList<'a, P> {
 
     ghost is_infallible = { λ _. ⊤ };
 
+    // Reads bytes: packer, bytes.
     fn clone(&self) -> Result<Self, AllocError> {
         Ok(PackedList {
             packer: self.packer,
@@ -70,17 +78,20 @@ impl<'a, P: BitPacker> Clone for PackedList<'a, P> {
 }
 
 impl<'a, P: BitPacker> PackedList<'a, P> {
-    ghost use Rattle.std.specs.Prelude.{◌+◌, ◌*◌, ◌^◌, ◌<◌, ◌≤◌, ℕ, List, length, take, drop, slice_get, slice_index, IfOk};
-    ghost use Rattle.bitpack_lists.specs.Parts.{FindsFault, whole_blocks};
-    ghost use Rattle.bitpack_lists.specs.Opened.{text};
-    ghost use Rattle.bitpack_lists.specs.Searching.{IsListBlock};
-    ghost use Rattle.bitpack_lists.specs.Version2.{List2, block_at, kind_at, last_at, offset_at, value_at, width_at};
+    ghost use Rattle.std.specs.Prelude.{length, slice_get, IfOk};
+    ghost use Rattle.bitpack_lists.specs.Parts.{FindsFault};
+    ghost use Rattle.bitpack_lists.specs.Opened.{kind_of, text, values};
+    ghost use Rattle.bitpack_lists.specs.Version2.{List2, OfNoOther};
 
     /// Opens a text, which is tested whole. Any bytes are taken, and no memory.
+    // Reads bytes: test, packer, bytes.
     pub fn open(packer: P, bytes: &'a [u8]) -> Result<PackedList<'a, P>, ListError>
         // Bytes with a fault are refused for the first, and bytes without one are opened.
         ensures fault { FindsFault result (fault2 P.lanes bytes.now) }
         ensures bytes { IfOk result (λ list. text list ≡ bytes.now) }
+        // The bytes are the text of this kind and these values, and of no other list.
+        ensures list { IfOk result (λ list. List2 P.lanes (kind_of list) (values list) bytes.now) }
+        ensures only { IfOk result (λ list. OfNoOther P.lanes (kind_of list) (values list) bytes.now) }
     {
         let header = test(&packer, bytes)?;
         Ok(PackedList {
@@ -93,9 +104,12 @@ impl<'a, P: BitPacker> PackedList<'a, P> {
 
     /// The list of a text that was opened before: the blocks are not tested again. It is for a caller who keeps the text
     /// alone, and the fact that it has no fault.
-    pub fn of_tested(packer: P, bytes: &'a [u8]) -> PackedList<'a, P>
+    // Reads bytes: read, bytes, packer.
+    pub fn from_validated(packer: P, bytes: &'a [u8]) -> PackedList<'a, P>
         requires sound { fault2 P.lanes bytes.now ≡ None }
-        ensures { text result ≡ bytes.now }
+        ensures bytes { text result ≡ bytes.now }
+        ensures list { List2 P.lanes (kind_of result) (values result) bytes.now }
+        ensures only { OfNoOther P.lanes (kind_of result) (values result) bytes.now }
     {
         match Header::read(2, P::BLOCK_LEN / 32, bytes) {
             Ok(Header { kind, count }) => PackedList {
@@ -110,21 +124,22 @@ impl<'a, P: BitPacker> PackedList<'a, P> {
 
     /// How many values the list has.
     pub fn len(&self) -> usize
-        ensures { (kind : ListKind) (values : List ℕ) → List2 P.lanes kind values (text self.now) → result ≡ length values }
+        ensures { result ≡ length (values self.now) }
     {
         self.count
     }
 
     /// The kind of the list.
     pub fn kind(&self) -> ListKind
-        ensures { (kind : ListKind) (values : List ℕ) → List2 P.lanes kind values (text self.now) → result ≡ kind }
+        ensures { result ≡ kind_of self.now }
     {
         self.kind
     }
 
     /// The value at a position, or `None` from the length on. One block is unpacked at most, and none for a value of the tail.
+    // Reads bytes: value_in_block, value_in_tail.
     pub fn get(&self, position: usize) -> Option<u32>
-        ensures { (kind : ListKind) (values : List ℕ) → List2 P.lanes kind values (text self.now) → result ≡ slice_get values position }
+        ensures { result ≡ slice_get (values self.now) position }
     {
         if position >= self.count {
             return None;
@@ -136,12 +151,19 @@ impl<'a, P: BitPacker> PackedList<'a, P> {
             Some(self.value_in_tail(position))
         }
     }
+}
+
+impl<'a, P: BitPacker> PackedList<'a, P> {
+    ghost use Rattle.std.specs.Prelude.{◌+◌, ◌*◌, ◌<◌, ◌≤◌, length, take, slice_index};
+    ghost use Rattle.bitpack_lists.specs.Searching.{IsListBlock, ReadsEntries, block_of_list, blocks_of, rest_of, value_of};
+    ghost use Rattle.bitpack_lists.specs.Version2.{kind_at, last_at, offset_at, width_at};
 
     /// The value at an index of a whole block.
+    // Reads bytes: new, entry, kind_of, unpack.
     fn value_in_block(&self, number: usize, index: usize) -> u32
-        requires block { number < whole_blocks P.lanes self.now.count }
+        requires block { number < blocks_of self.now }
         requires index { index < P.BLOCK_LEN }
-        ensures { result ≡ slice_index (block_at P.lanes (whole_blocks P.lanes self.now.count) self.now.kind (drop HEADER_LEN self.now.bytes.now) number) index }
+        ensures { result ≡ slice_index (block_of_list self.now number) index }
     {
         let mut reads = Reads::new();
         let entry = self.entry(number, &mut reads);
@@ -157,18 +179,20 @@ impl<'a, P: BitPacker> PackedList<'a, P> {
     }
 
     /// The value at a position of the tail.
+    // Reads bytes: read_one, bytes.
     fn value_in_tail(&self, position: usize) -> u32
-        requires tail { 32 * P.lanes * whole_blocks P.lanes self.now.count ≤ position }
+        requires tail { 32 * P.lanes * blocks_of self.now ≤ position }
         requires within { position < self.now.count }
-        ensures { result ≡ value_at P.lanes (whole_blocks P.lanes self.now.count) self.now.kind (drop HEADER_LEN self.now.bytes.now) position }
+        ensures { result ≡ value_of self.now position }
     {
         read_one(self.bytes, self.bytes.len() - 4 * (self.count - position))
     }
 
     /// The kind of a block, which goes on from the last value of the block before.
     fn kind_of(&self, block: usize, reads: &mut Reads) -> Kind
-        requires { block < whole_blocks P.lanes self.now.count }
-        ensures { result ≡ kind_at self.now.kind (drop HEADER_LEN self.now.bytes.now) block }
+        requires { block < blocks_of self.now }
+        ensures kind { result ≡ kind_at self.now.kind (rest_of self.now) block }
+        ensures reads { ReadsEntries reads.old reads.new }
     {
         let first = self.kind.first();
         if block == 0 {
@@ -178,11 +202,12 @@ impl<'a, P: BitPacker> PackedList<'a, P> {
     }
 
     /// Reads the entry of a block, which is in the text.
+    // Reads bytes: entry, bytes.
     pub(crate) fn entry(&self, block: usize, reads: &mut Reads) -> Entry
-        requires { block < whole_blocks P.lanes self.now.count }
-        ensures width { result.width ≡ width_at (drop HEADER_LEN self.now.bytes.now) block }
-        ensures offset { result.offset ≡ offset_at (drop HEADER_LEN self.now.bytes.now) block }
-        ensures last { result.last ≡ last_at (drop HEADER_LEN self.now.bytes.now) block }
+        requires { block < blocks_of self.now }
+        ensures width { result.width ≡ width_at (rest_of self.now) block }
+        ensures offset { result.offset ≡ offset_at (rest_of self.now) block }
+        ensures last { result.last ≡ last_at (rest_of self.now) block }
         ensures entries { reads.new.entries ≡ reads.old.entries + 1 }
         ensures blocks { reads.new.blocks ≡ reads.old.blocks }
     {
@@ -190,10 +215,11 @@ impl<'a, P: BitPacker> PackedList<'a, P> {
     }
 
     /// Unpacks a block, whose body is in the text.
+    // Reads bytes: unpack, packer, bytes.
     fn unpack(&self, block: ListBlock, values: &mut [u32], reads: &mut Reads)
         requires block { IsListBlock self.now block }
         requires room { P.BLOCK_LEN ≤ length values.old }
-        ensures block { take P.BLOCK_LEN values.new ≡ block_at P.lanes (whole_blocks P.lanes self.now.count) self.now.kind (drop HEADER_LEN self.now.bytes.now) block.number }
+        ensures block { take P.BLOCK_LEN values.new ≡ block_of_list self.now block.number }
         ensures entries { reads.new.entries ≡ reads.old.entries }
         ensures blocks { reads.new.blocks ≡ reads.old.blocks + 1 }
     {

@@ -1,4 +1,5 @@
-//! What a search reads of a packed list: each entry and each block counts in `Reads`.
+//! What is read of a packed list: each entry and each block counts in `Reads`. No other code reads an entry of a text or unpacks
+//! a block of one.
 
 ghost use Rattle.std.specs.Prelude.{◌≡◌, ◌+◌, ◌*◌, ◌^◌, ◌<◌, ◌≤◌, ℕ, length, take, drop};
 ghost use Rattle.std.specs.Borrow.{ftrue};
@@ -7,6 +8,7 @@ ghost use Rattle.bitpacking.specs.Layout.{codes_of, size};
 ghost use Rattle.bitpack_lists.specs.Version2.{last_at, offset_at, width_at};
 
 use super::entry::{ENTRY_LEN, Entry};
+use crate::little_endian::read_one;
 use bitpacking::{BitPacker, Kind};
 use std::marker::{Model, PhantomData};
 use std::mem::size_of;
@@ -45,6 +47,7 @@ impl Reads {
     {}
 
     /// Reads the entry of a block. The bytes are those after a header.
+    // Reads bytes: record, read_one, read_one.
     pub(crate) fn entry(&mut self, rest: &[u8], block: usize) -> Entry
         requires { ENTRY_LEN * block + ENTRY_LEN ≤ length rest.now }
         ensures width { result.width ≡ width_at rest.now block }
@@ -54,10 +57,16 @@ impl Reads {
         ensures blocks { self.new.blocks ≡ self.old.blocks }
     {
         self.record(1, 0);
-        Entry::read(rest, block)
+        let index = ENTRY_LEN * block;
+        Entry {
+            width: rest[index],
+            offset: read_one(rest, index + 1),
+            last: read_one(rest, index + 5),
+        }
     }
 
     /// Unpacks the block of an entry, which is one of so many. The bytes are those after a header.
+    // Reads bytes: record, body, decompress_kind.
     pub(crate) fn unpack<P: BitPacker>(
         &mut self,
         packer: &P,
@@ -72,11 +81,13 @@ impl Reads {
         requires room { P.BLOCK_LEN ≤ length values.old }
         requires start { start kind < 2 ^ 32 }
         ensures block { take P.BLOCK_LEN values.new
-            ≡ values_of kind (codes_of P.lanes entry.width (take (size P.lanes entry.width) (drop (ENTRY_LEN * blocks + 4 * P.lanes * entry.offset) rest.now))) }
+            ≡ values_of kind (codes_of P.lanes entry.width
+            (take (size P.lanes entry.width) (drop (ENTRY_LEN * blocks + 4 * P.lanes * entry.offset) rest.now))) }
         ensures entries { self.new.entries ≡ self.old.entries }
         ensures blocks { self.new.blocks ≡ self.old.blocks + 1 }
     {
         self.record(0, 1);
-        entry.unpack(packer, kind, blocks, rest, values);
+        let body = entry.body(P::BLOCK_LEN / 32, blocks, rest);
+        packer.decompress_kind(kind, body, values, entry.width);
     }
 }

@@ -1,13 +1,13 @@
 //! Texts of version 1 into those of version 2. The bytes are untrusted.
 
-ghost use Rattle.std.specs.Prelude.{◌≡◌, ◌+◌, ◌*◌, ◌^◌, ◌≤◌, ◌<◌, ◌++◌, ⊤, ℕ, List, length, OnOk, OnErr, IfErr, MatchOption, None, vec_len, vec_capacity};
+ghost use Rattle.std.specs.Prelude.{◌≡◌, ◌+◌, ◌*◌, ◌≤◌, ◌<◌, ◌++◌, ⊤, ℕ, List, length, OnOk, OnErr, IfErr, MatchOption, vec_len, vec_capacity};
 ghost use Rattle.bitpacking.specs.Bits.{AreBytes};
 ghost use Rattle.bitpack_lists.specs.declared.list_kind.ListKind.{ListKind};
-ghost use Rattle.bitpack_lists.specs.Parts.{tail_values, whole_blocks};
-ghost use Rattle.bitpack_lists.specs.Version1.{List1, blocks_fault1, fault1};
+ghost use Rattle.bitpack_lists.specs.Parts.{whole_blocks};
+ghost use Rattle.bitpack_lists.specs.Version1.{IsSound1, List1, fault1};
 ghost use Rattle.bitpack_lists.specs.Version2.{IsRest2, List2, first_out};
 ghost use Rattle.bitpack_lists.specs.Opening.{HasBodies};
-ghost use Rattle.bitpack_lists.specs.Upgrading.{IsRest1};
+ghost use Rattle.bitpack_lists.specs.Upgrading.{IsRest1, IsTested1};
 
 use super::entry::{ENTRY_LEN, Entry};
 use super::order::{first_out, first_out_of_words};
@@ -25,18 +25,21 @@ use bitpacking::BitPacker;
 /// list may not decrease, and those of a strictly sorted one have to increase. The bodies of the blocks are copied, since they
 /// are the same bytes in both versions. The vector grows once at most, by the length of the new text, which has eight bytes more
 /// than the old one for each whole block.
+// Reads bytes: test, first_out_of_rest, write, write_entries, copy_bodies.
 pub fn upgrade<P: BitPacker>(packer: &P, bytes: &[u8], out: &mut Vec<u8>) -> Result<(), ListError>
     // The bytes are the text of some values, and what is appended is the text of version 2 of the same.
-    ensures ok { OnOk result ((kind : ListKind) × (values : List ℕ) × (text : List ℕ) × List1 P.lanes kind values bytes.now
-        × AreBytes text × List2 P.lanes kind values text × (out.new.items ≡ out.old.items ++ text)) }
+    ensures ok { OnOk result ((kind : ListKind) × (values : List ℕ) × (text : List ℕ)
+        × List1 P.lanes kind values bytes.now × AreBytes text × List2 P.lanes kind values text
+        × (out.new.items ≡ out.old.items ++ text)) }
     // Bytes with a fault of version 1 are refused for the first, values out of order at the first that is, and others only where
     // memory runs out.
     ensures fault { MatchOption (fault1 P.lanes bytes.now) ⊤ (λ fault. result ≡ Err fault) }
     ensures order { (kind : ListKind) (values : List ℕ) → List1 P.lanes kind values bytes.now
-        → MatchOption (first_out kind values) (IfErr result (λ e. e ≡ ListError.Memory)) (λ position. result ≡ Err (ListError.NotSorted position)) }
+        → MatchOption (first_out kind values) (IfErr result (λ e. e ≡ ListError.Memory))
+        (λ position. result ≡ Err (ListError.NotSorted position)) }
     // Memory runs out only where the vector has no room for the text.
-    ensures room { (kind : ListKind) (values text : List ℕ) → List1 P.lanes kind values bytes.now → List2 P.lanes kind values text
-        → OnErr result (vec_capacity out.old < vec_len out.old + length text) }
+    ensures room { (kind : ListKind) (values text : List ℕ) → List1 P.lanes kind values bytes.now
+        → List2 P.lanes kind values text → OnErr result (vec_capacity out.old < vec_len out.old + length text) }
     ensures unchanged { OnErr result (out.new.items ≡ out.old.items) }
     ensures kept { OnErr result (vec_capacity out.new ≡ vec_capacity out.old) }
 {
@@ -58,8 +61,7 @@ pub fn upgrade<P: BitPacker>(packer: &P, bytes: &[u8], out: &mut Vec<u8>) -> Res
 
 /// The first position out of order of the values whose blocks and tail these bytes are.
 fn first_out_of_rest<P: BitPacker>(packer: &P, header: Header, bytes: &[u8]) -> Option<usize>
-    requires few { header.count ≤ 2 ^ 28 }
-    requires sound { blocks_fault1 P.lanes (4 * tail_values P.lanes header.count) 0 (whole_blocks P.lanes header.count) bytes.now ≡ None }
+    requires tested { IsTested1 P.lanes header.count bytes.now }
     ensures { (values : List ℕ) → IsRest1 P.lanes header.kind header.count values bytes.now
         → result ≡ Rattle.bitpack_lists.specs.Version2.first_out header.kind values }
 {
@@ -68,8 +70,8 @@ fn first_out_of_rest<P: BitPacker>(packer: &P, header: Header, bytes: &[u8]) -> 
     let mut kind = header.kind.first();
     let mut rest = bytes;
     let mut last = 0;
+    let mut room = [0; LONGEST_BLOCK];
     for index in 0..blocks {
-        let mut room = [0; LONGEST_BLOCK];
         let block = &mut room[..len];
         (kind, rest) = unpack_block(packer, kind, rest, block);
         if let Some(position) = first_out(header.kind, len * index, last, block) {
@@ -82,20 +84,20 @@ fn first_out_of_rest<P: BitPacker>(packer: &P, header: Header, bytes: &[u8]) -> 
 
 /// Appends an entry for each whole block, where there is room for them.
 fn write_entries<P: BitPacker>(packer: &P, header: Header, bytes: &[u8], out: &mut Vec<u8>)
-    requires few { header.count ≤ 2 ^ 28 }
-    requires sound { blocks_fault1 P.lanes (4 * tail_values P.lanes header.count) 0 (whole_blocks P.lanes header.count) bytes.now ≡ None }
+    requires tested { IsTested1 P.lanes header.count bytes.now }
     requires room { vec_len out.old + ENTRY_LEN * whole_blocks P.lanes header.count ≤ vec_capacity out.old }
     ensures entries { (values : List ℕ) → IsRest1 P.lanes header.kind header.count values bytes.now
-        → (entries : List ℕ) × HasBodies P.lanes (whole_blocks P.lanes header.count) header.kind values entries 0 × (out.new.items ≡ out.old.items ++ entries) }
+        → (entries : List ℕ) × HasBodies P.lanes (whole_blocks P.lanes header.count) header.kind values entries 0
+        × (out.new.items ≡ out.old.items ++ entries) }
     ensures capacity { vec_capacity out.old ≤ vec_capacity out.new }
 {
     let len = P::BLOCK_LEN;
     let mut kind = header.kind.first();
     let mut rest = bytes;
     let mut offset = 0;
+    let mut room = [0; LONGEST_BLOCK];
     for _ in 0..header.count / len {
         let width = rest[0];
-        let mut room = [0; LONGEST_BLOCK];
         let block = &mut room[..len];
         (kind, rest) = unpack_block(packer, kind, rest, block);
         let last = block[len - 1];
@@ -112,11 +114,12 @@ fn write_entries<P: BitPacker>(packer: &P, header: Header, bytes: &[u8], out: &m
 
 /// Appends the bodies of the whole blocks and the tail, where there is room for them.
 fn copy_bodies<P: BitPacker>(header: Header, bytes: &[u8], out: &mut Vec<u8>)
-    requires sound { blocks_fault1 P.lanes (4 * tail_values P.lanes header.count) 0 (whole_blocks P.lanes header.count) bytes.now ≡ None }
+    requires sound { IsSound1 P.lanes header.count bytes.now }
     requires room { vec_len out.old + length bytes.now ≤ vec_capacity out.old + whole_blocks P.lanes header.count }
     ensures { (values entries : List ℕ) → IsRest1 P.lanes header.kind header.count values bytes.now
         → HasBodies P.lanes (whole_blocks P.lanes header.count) header.kind values entries 0
-        → (later : List ℕ) × IsRest2 P.lanes (whole_blocks P.lanes header.count) header.kind values (entries ++ later) × (out.new.items ≡ out.old.items ++ later) }
+        → (later : List ℕ) × IsRest2 P.lanes (whole_blocks P.lanes header.count) header.kind values (entries ++ later)
+        × (out.new.items ≡ out.old.items ++ later) }
 {
     let mut rest = bytes;
     for _ in 0..header.count / P::BLOCK_LEN {

@@ -2,9 +2,9 @@
 
 ghost use Rattle.std.specs.Prelude.{◌≡◌, ◌+◌, ◌*◌, ◌^◌, ◌<◌, ◌≤◌, ◌++◌, ℕ, List, length, take, drop, OnOk, OnErr, IfErr, MatchOption, None, vec_len, vec_capacity};
 ghost use Rattle.bitpacking.specs.Bits.{AreBytes};
-ghost use Rattle.bitpacking.specs.Codes.{codes};
+ghost use Rattle.bitpacking.specs.Calls.{CanPack};
 ghost use Rattle.bitpacking.specs.Layout.{Holds, size};
-ghost use Rattle.bitpacking.specs.Width.{Fits};
+ghost use Rattle.bitpack_lists.specs.Appending.{HasAppended};
 ghost use Rattle.bitpack_lists.specs.Chains.{LeastWidths};
 ghost use Rattle.bitpack_lists.specs.Parts.{first_kind, whole_blocks};
 ghost use Rattle.bitpack_lists.specs.Version2.{List2, first_out, tail_start};
@@ -12,7 +12,8 @@ ghost use Rattle.bitpack_lists.specs.Opening.{HasBodies};
 
 use super::entry::{ENTRY_LEN, Entry};
 use super::order;
-use crate::chain::{LONGEST_BODY, compress_kind, next_kind};
+use super::reads::Reads;
+use crate::chain::{LONGEST_BODY, next_kind};
 use crate::header::{Header, LONGEST_LIST};
 use crate::list_error::ListError;
 use crate::list_kind::ListKind;
@@ -32,14 +33,17 @@ pub fn encode<P: BitPacker>(
     out: &mut Vec<u8>,
 ) -> Result<(), ListError>
     // What is appended is the text of the values.
-    ensures ok { OnOk result ((text : List ℕ) × AreBytes text × List2 P.lanes kind values.now text × (out.new.items ≡ out.old.items ++ text)) }
+    ensures ok { OnOk result ((text : List ℕ) × AreBytes text × List2 P.lanes kind values.now text
+        × (out.new.items ≡ out.old.items ++ text)) }
     // Too many values are refused as such, values out of order at the first that is, and others only where memory runs out.
     ensures long { 2 ^ 28 < length values.now → result ≡ Err (ListError.TooLong (length values.now)) }
     ensures order { length values.now ≤ 2 ^ 28
-        → MatchOption (first_out kind values.now) (IfErr result (λ e. e ≡ ListError.Memory)) (λ position. result ≡ Err (ListError.NotSorted position)) }
+        → MatchOption (first_out kind values.now) (IfErr result (λ e. e ≡ ListError.Memory))
+        (λ position. result ≡ Err (ListError.NotSorted position)) }
     // Memory runs out only where the vector has no room for the text.
     ensures room { length values.now ≤ 2 ^ 28 → first_out kind values.now ≡ None
-        → OnErr result ((text : List ℕ) → List2 P.lanes kind values.now text → vec_capacity out.old < vec_len out.old + length text) }
+        → OnErr result ((text : List ℕ) → List2 P.lanes kind values.now text
+        → vec_capacity out.old < vec_len out.old + length text) }
     ensures unchanged { OnErr result (out.new.items ≡ out.old.items) }
     ensures kept { OnErr result (vec_capacity out.new ≡ vec_capacity out.old) }
 {
@@ -66,7 +70,7 @@ pub fn encode<P: BitPacker>(
 }
 
 /// Appends the entries of the whole blocks, where there is room for them. The widths are those that were kept.
-fn write_entries<P: BitPacker>(
+pub(crate) fn write_entries<P: BitPacker>(
     packer: &P,
     kind: ListKind,
     values: &[u32],
@@ -74,9 +78,11 @@ fn write_entries<P: BitPacker>(
     out: &mut Vec<u8>,
 )
     requires few { length values.now ≤ 2 ^ 28 }
-    requires widths { LeastWidths P.lanes (first_kind kind) values.now (take (whole_blocks P.lanes (length values.now)) widths.now) }
+    requires widths { LeastWidths P.lanes (first_kind kind) values.now
+        (take (whole_blocks P.lanes (length values.now)) widths.now) }
     requires room { vec_len out.old + ENTRY_LEN * whole_blocks P.lanes (length values.now) ≤ vec_capacity out.old }
-    ensures entries { HasBodies P.lanes (whole_blocks P.lanes (length values.now)) kind values.now (drop (vec_len out.old) out.new.items) 0 }
+    ensures entries { HasBodies P.lanes (whole_blocks P.lanes (length values.now)) kind values.now
+        (drop (vec_len out.old) out.new.items) 0 }
     ensures front { take (vec_len out.old) out.new.items ≡ out.old.items }
     ensures capacity { vec_capacity out.old ≤ vec_capacity out.new }
 {
@@ -102,7 +108,8 @@ fn write_entries<P: BitPacker>(
 }
 
 /// Appends the bodies of the whole blocks, where there is room for them. Their entries are in the vector, from `start` on.
-fn write_bodies<P: BitPacker>(
+// Reads bytes: new, first, for, entry, write_body, next_kind.
+pub(crate) fn write_bodies<P: BitPacker>(
     packer: &P,
     kind: ListKind,
     values: &[u32],
@@ -110,35 +117,42 @@ fn write_bodies<P: BitPacker>(
     out: &mut Vec<u8>,
 )
     requires start { start ≤ vec_len out.old }
-    requires entries { HasBodies P.lanes (whole_blocks P.lanes (length values.now)) kind values.now (drop start out.old.items) 0 }
-    requires room { start + tail_start P.lanes (whole_blocks P.lanes (length values.now)) (drop start out.old.items) ≤ vec_capacity out.old }
-    ensures bodies { HasBodies P.lanes (whole_blocks P.lanes (length values.now)) kind values.now (drop start out.new.items)
-        (whole_blocks P.lanes (length values.now)) }
+    requires entries { HasBodies P.lanes (whole_blocks P.lanes (length values.now)) kind values.now
+        (drop start out.old.items) 0 }
+    requires room { start + tail_start P.lanes (whole_blocks P.lanes (length values.now)) (drop start out.old.items)
+        ≤ vec_capacity out.old }
+    ensures bodies { HasBodies P.lanes (whole_blocks P.lanes (length values.now)) kind values.now
+        (drop start out.new.items) (whole_blocks P.lanes (length values.now)) }
     ensures front { take start out.new.items ≡ take start out.old.items }
     ensures capacity { vec_capacity out.old ≤ vec_capacity out.new }
 {
     let len = P::BLOCK_LEN;
+    let mut reads = Reads::new();
     let mut block_kind = kind.first();
     let mut left = values;
+    let mut body = [0; LONGEST_BODY];
     for index in 0..values.len() / len {
-        let entry = Entry::read(&out[start..], index);
+        let entry = reads.entry(&out[start..], index);
         let (block, after) = left.split_at(len);
-        write_body(packer, block_kind, block, entry.width, out);
+        write_body(packer, block_kind, block, entry.width, &mut body, out);
         block_kind = next_kind(block_kind, entry.last);
         left = after;
     }
 }
 
-/// Appends the bytes that hold a block, where there is room for them.
-fn write_body<P: BitPacker>(packer: &P, kind: Kind, block: &[u32], width: u8, out: &mut Vec<u8>)
-    requires block { length block.now ≡ P.BLOCK_LEN }
-    requires narrow { width ≤ 32 }
-    requires fits { Fits (codes kind block.now) width }
+/// Appends the bytes that hold a block, if there is room for them. They are packed in `body`.
+fn write_body<P: BitPacker>(
+    packer: &P,
+    kind: Kind,
+    block: &[u32],
+    width: u8,
+    body: &mut [u8],
+    out: &mut Vec<u8>,
+)
+    requires pack { CanPack P.lanes width kind block.now body.old }
     requires room { vec_len out.old + size P.lanes width ≤ vec_capacity out.old }
-    ensures body { (body : List ℕ) × Holds P.lanes width kind block.now body × (out.new.items ≡ out.old.items ++ body) }
-    ensures capacity { vec_capacity out.old ≤ vec_capacity out.new }
+    ensures body { (body : List ℕ) × Holds P.lanes width kind block.now body × HasAppended out.old out.new body }
 {
-    let mut body = [0; LONGEST_BODY];
-    let size = compress_kind(packer, kind, block, &mut body, width);
+    let size = packer.compress_kind(kind, block, body, width);
     append(out, &body[..size]);
 }

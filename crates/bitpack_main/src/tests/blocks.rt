@@ -2,7 +2,6 @@
 //!
 //! The expected bytes are those of `oracle`, or were worked by hand.
 
-use super::by_kind::{compress_kind, decompress_kind, width_kind};
 use super::oracle::{KINDS, LONGEST, block_of, bytes, codes_of, laid, least_width, numbers};
 use bitpacking::laws::one_least_width;
 use bitpacking::{BitPacker, BitPacker1x, BitPacker4x, BitPacker8x, Counted, Kind, Steps};
@@ -27,11 +26,11 @@ pub(super) fn packed<P: BitPacker>(
     num_bits: u8,
 ) -> usize {
     assert!(rt; block.len() == P::BLOCK_LEN);
-    let least = width_kind(packer, kind, block);
+    let least = packer.num_bits_kind(kind, block);
     assert!(rt; least <= num_bits && num_bits <= 32);
     assert!(rt; P::compressed_block_size(num_bits) <= out.len());
     one_least_width();
-    compress_kind(packer, kind, block, out, num_bits)
+    packer.compress_kind(kind, block, out, num_bits)
 }
 
 /// Unpacks a block, and returns the number of bytes read.
@@ -46,13 +45,13 @@ fn unpacked<P: BitPacker>(
     assert!(rt; num_bits <= 32);
     assert!(rt; P::compressed_block_size(num_bits) <= bytes.len());
     assert!(rt; P::BLOCK_LEN <= places.len());
-    decompress_kind(packer, kind, bytes, places, num_bits)
+    packer.decompress_kind(kind, bytes, places, num_bits)
 }
 
 /// The least width of a block.
 pub(super) fn measured<P: BitPacker>(rt: &impl Abort, packer: &P, kind: Kind, block: &[u32]) -> u8 {
     assert!(rt; block.len() == P::BLOCK_LEN);
-    width_kind(packer, kind, block)
+    packer.num_bits_kind(kind, block)
 }
 
 /// Whether each byte is this one.

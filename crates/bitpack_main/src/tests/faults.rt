@@ -141,6 +141,46 @@ fn the_flush_fails(rt: HostRuntime) {
     }
 }
 
+/// The run ends with this fault, and these bytes were written.
+fn run_ends(
+    rt: &impl Abort,
+    alloc: Global,
+    reader: &mut Giver,
+    writer: &mut Taker,
+    fault: RunError,
+    written: &[u8],
+) {
+    let outcome = run_over(alloc, reader, writer);
+    assert!(rt; outcome == Err(fault));
+    assert!(rt; writer.taken.as_slice() == written);
+}
+
+#[test]
+fn lines_before_a_fault(rt: HostRuntime) {
+    let alloc = rt.alloc();
+    // A read fails in the second line.
+    let mut reader = Giver::new(b"size 1x 1\nsize 1", 100);
+    reader.fails_at_end = true;
+    let mut writer = Taker::new(alloc, 100);
+    run_ends(&rt, alloc, &mut reader, &mut writer, RunError::Read, b"4\n");
+    // The second write fails, of an answer that is 208.
+    let mut reader = Giver::new(b"size 4x 13", 100);
+    let mut writer = Taker::new(alloc, 2);
+    writer.fails_at = 1;
+    run_ends(&rt, alloc, &mut reader, &mut writer, RunError::Write, b"20");
+    let mut reader = Giver::new(b"size 1x 1", 100);
+    let mut writer = Taker::new(alloc, 100);
+    writer.flush_fails = true;
+    run_ends(
+        &rt,
+        alloc,
+        &mut reader,
+        &mut writer,
+        RunError::Write,
+        b"4\n",
+    );
+}
+
 /// How a program ends after this outcome.
 fn ends(rt: &impl Abort, outcome: Result<(), RunError>, status: u8, message: &str) {
     let (found, text) = ending(&outcome);

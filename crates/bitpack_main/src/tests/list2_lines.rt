@@ -1,6 +1,7 @@
 //! Lines for packed lists of version 2: a search, and the way from version 1. The single texts were worked by hand.
 
 use super::running::{each_is_answered, line_is_answered, none_is_a_line, run_over_bytes};
+use super::texts::{Part, parts_are_answered};
 use bitpack::{ListKind, list, list2};
 use bitpacking::{BitPacker, BitPacker1x, BitPacker4x, BitPacker8x};
 use std::alloc::{AllocError, Global};
@@ -170,4 +171,16 @@ fn lists_of_each_packer_are_upgraded(rt: HostRuntime) -> Result<(), Fail> {
     each_is_upgraded(&rt, rt.alloc(), &BitPacker4x::scalar(), "4s")?;
     each_is_upgraded(&rt, rt.alloc(), &BitPacker8x::new(), "8x")?;
     each_is_upgraded(&rt, rt.alloc(), &BitPacker8x::scalar(), "8s")
+}
+
+/// A line of 65,516 bytes: 3,638 blocks of zeros, whose entries are nine bytes of zeros, and 5 at the position 931,328.
+#[test]
+fn a_search_in_a_long_line(rt: HostRuntime) -> Result<(), Fail> {
+    let line = [
+        Part::Text("seek 8x 5 02010801360e00"),
+        Part::Repeated("00", 9 * 3638),
+        Part::Text("05000000"),
+    ];
+    parts_are_answered(&rt, rt.alloc(), &line, 4096, &[Part::Text("931328 5")])?;
+    Ok(())
 }

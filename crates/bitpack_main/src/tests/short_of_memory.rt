@@ -221,6 +221,67 @@ fn lists_with_memory_for_so_many_doublings(rt: HostRuntime) -> Result<(), Fail> 
     Ok(())
 }
 
+/// With memory for enough growths, at least `least`, the line is answered. With less nothing is written.
+fn is_answered_from(
+    rt: &impl Abort,
+    alloc: Global,
+    line: &[Part],
+    answer: &[Part],
+    least: u32,
+) -> Result<(), AllocError> {
+    let line = text_of(alloc, line)?;
+    let answer = text_of(alloc, answer)?;
+    let mut last = 0;
+    for count in 0..12u32 {
+        let reader = Giver::new(line.as_bytes(), 100_000);
+        last = written_with(rt, alloc, reader, 100, answer.as_bytes(), count, last)?;
+        assert!(rt; last != answer.len() || count >= least, "{count} growths");
+    }
+    assert!(rt; last == answer.len(), "{}", line.as_str());
+    Ok(())
+}
+
+/// The fourth growth has room for 64 bytes, which a list of up to four fields takes.
+#[test]
+fn short_lines_with_memory_for_so_many_doublings(rt: HostRuntime) -> Result<(), Fail> {
+    grow_stack(&rt);
+    let alloc = rt.alloc();
+    let size = Part::Text("size 4x 13\n");
+    is_answered_from(&rt, alloc, &[size], &[Part::Text("208\n")], 4)?;
+    let seek = Part::Text("seek 1x 32 0202012100000000000000001f00000020000000\n");
+    is_answered_from(&rt, alloc, &[seek], &[Part::Text("32 32\n")], 4)?;
+    Ok(())
+}
+
+/// Lines whose values or whose new text take more than they do: the eighth growth has room for 256 values, and the seventh for a text of
+/// 28 entries.
+#[test]
+fn values_with_memory_for_so_many_doublings(rt: HostRuntime) -> Result<(), Fail> {
+    grow_stack(&rt);
+    let alloc = rt.alloc();
+    let width = Part::Text("width 8x plain 1*256\n");
+    is_answered_from(&rt, alloc, &[width], &[Part::Text("1\n")], 8)?;
+    let dec = Part::Text("dec 8x 02000800010000000000000000000000\n");
+    let values = [
+        Part::Text("plain "),
+        Part::Counted(0, 0, 256),
+        Part::Text("\n"),
+    ];
+    is_answered_from(&rt, alloc, &[dec], &values, 8)?;
+    let old = [
+        Part::Text("upgrade 8x 010008001c0000"),
+        Part::Repeated("00", 28),
+        Part::Text("\n"),
+    ];
+    let new = [
+        Part::Text("020008001c0000"),
+        Part::Repeated("00", 252),
+        Part::Text("\n"),
+    ];
+    is_answered_from(&rt, alloc, &old, &new, 7)?;
+    Ok(())
+}
+
 /// The answers to the first two lines are written before memory ends, or the write of the number `call` fails.
 fn fault_is(
     rt: &impl Abort,

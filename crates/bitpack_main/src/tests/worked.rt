@@ -1,6 +1,6 @@
 //! Blocks whose bytes, values and widths were worked by hand from the layout, on both kernels where a packer has two.
 
-use super::blocks::{measured, packs_to, unpacks_to};
+use super::blocks::{all_bytes_are, measured, packed, packs_to, unpacks_to};
 use super::texts::{Part, parts_are_answered};
 use bitpacking::{BitPacker, BitPacker1x, BitPacker4x, BitPacker8x, Kind};
 use std::alloc::AllocError;
@@ -123,6 +123,38 @@ fn one_lane_unpacks_sorted(rt: &impl Abort) {
     one_lane_unpacks_to(rt, Kind::Sorted(7), &[], 0, &[7; 32]);
     counting(&mut block, 32);
     one_lane_unpacks_to(rt, Kind::StrictlySorted(None), &[], 0, &block);
+}
+
+/// A block of ones is packed at this width into as many zeros as a block can take: each later byte is 0 still.
+fn later_bytes_are_zero<P: BitPacker>(rt: &impl Abort, packer: &P, num_bits: u8) {
+    let mut out = [0; 1024];
+    let block = [1; 256];
+    let room = &mut out[..4 * P::BLOCK_LEN];
+    let size = packed(
+        rt,
+        packer,
+        Kind::Plain,
+        &block[..P::BLOCK_LEN],
+        room,
+        num_bits,
+    );
+    assert!(rt; size == P::BLOCK_LEN / 8 * num_bits as usize);
+    assert!(rt; all_bytes_are(out.get(size..).unwrap_or(&[]), 0));
+}
+
+fn each_width_into_zeros<P: BitPacker>(rt: &impl Abort, packer: &P) {
+    for num_bits in 1..33u8 {
+        later_bytes_are_zero(rt, packer, num_bits);
+    }
+}
+
+#[test]
+fn zeros_after_a_block_stay(rt: HostRuntime) {
+    each_width_into_zeros(&rt, &BitPacker1x::new());
+    each_width_into_zeros(&rt, &BitPacker4x::new());
+    each_width_into_zeros(&rt, &BitPacker4x::scalar());
+    each_width_into_zeros(&rt, &BitPacker8x::new());
+    each_width_into_zeros(&rt, &BitPacker8x::scalar());
 }
 
 /// Rows of four words, of which each byte is a number.

@@ -60,16 +60,30 @@ fn text_by_two(rt: &impl Abort, alloc: Global) {
     same_bytes(rt, &text, &same);
 }
 
+fn text_by_upgrade(rt: &impl Abort, alloc: Global) {
+    let packer = BitPacker4x::new();
+    let texts = by_list_law::text_by_upgrade(alloc, &packer, ListKind::Plain, &[5]);
+    let (text, same) = texts.expect(rt, "two texts");
+    same_bytes(rt, &text, &[2, 0, 4, 1, 0, 0, 0, 5, 0, 0, 0]);
+    same_bytes(rt, &text, &same);
+}
+
 #[test]
 fn two_packers(rt: HostRuntime) {
     values_by_two(&rt);
     width_by_two(&rt);
     text_by_two(&rt, rt.alloc());
+    text_by_upgrade(&rt, rt.alloc());
 }
 
 fn is_text(rt: &impl Abort, alloc: Global, bytes: &[u8], expected: bool) {
     let found = untrusted::is_text(alloc, &BitPacker1x::new(), bytes);
     holds(rt, found.expect(rt, "memory") == expected, "a text");
+}
+
+fn is_text2(rt: &impl Abort, bytes: &[u8], expected: bool) {
+    let found = untrusted::is_text2(&BitPacker1x::new(), bytes);
+    holds(rt, found == expected, "a text of version 2");
 }
 
 fn answers(rt: &impl Abort, alloc: Global) {
@@ -84,5 +98,7 @@ fn answers(rt: &impl Abort, alloc: Global) {
 fn texts_and_lines(rt: HostRuntime) {
     is_text(&rt, rt.alloc(), &[1, 0, 1, 0, 0, 0, 0], true);
     is_text(&rt, rt.alloc(), &[1, 0, 1, 0, 0, 0], false);
+    is_text2(&rt, &[2, 0, 1, 0, 0, 0, 0], true);
+    is_text2(&rt, &[2, 0, 1, 0, 0, 0], false);
     answers(&rt, rt.alloc());
 }

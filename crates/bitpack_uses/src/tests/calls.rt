@@ -1,7 +1,7 @@
 //! The calls on packed lists, each once and with no contract. The proof of a test does not read what a call promises, so it is short
 //! where the test calls these.
 
-use bitpack::list2::{PackedList, Reads, intersect};
+use bitpack::list2::{Cursor, PackedList, Reads, intersect};
 use bitpack::{ListError, ListKind, list, list2};
 use bitpacking::BitPacker;
 use std::process::Abort;
@@ -86,4 +86,11 @@ pub(super) fn intersect_texts<P: BitPacker, Q: BitPacker>(
         return None;
     }
     Some(intersect(&a, &b, out, &mut Reads::new(), &mut Reads::new()))
+}
+
+/// Moves a cursor to the first value that is at least the target, if its list is in order.
+pub(super) fn seek_cursor<P: BitPacker>(cursor: &mut Cursor<'_, P>, target: u32) {
+    if cursor.is_sorted() {
+        cursor.seek(target);
+    }
 }

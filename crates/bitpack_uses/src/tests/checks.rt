@@ -135,3 +135,28 @@ pub(super) fn says(rt: &impl Abort, alloc: Global, error: ListError, number: u8,
     let said = format!(in alloc; "{error}").expect(rt, "memory");
     same_words(rt, said.as_str(), text);
 }
+
+/// Numbers that follow from one seed.
+#[derive(Drop)]
+pub(super) struct Numbers {
+    last: u32,
+}
+
+impl Numbers {
+    pub(super) fn new(seed: u32) -> Numbers {
+        Numbers { last: seed }
+    }
+
+    /// The next number, below a bound of at most 65,536.
+    pub(super) fn below(&mut self, bound: u32) -> u32 {
+        self.last = self
+            .last
+            .wrapping_mul(1_664_525)
+            .wrapping_add(1_013_904_223);
+        if bound == 0 {
+            0
+        } else {
+            (self.last >> 16) % bound
+        }
+    }
+}

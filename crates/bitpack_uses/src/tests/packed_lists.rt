@@ -2,13 +2,16 @@
 
 mod changed_lists;
 mod intersect;
+mod large;
 mod list2;
 mod list2_memory;
 mod list2_refused;
+mod list3;
 mod list_growths;
 mod list_memory;
 mod lists;
 mod memory;
+mod room;
 mod seek;
 mod upgrade;
 mod upgrade_memory;

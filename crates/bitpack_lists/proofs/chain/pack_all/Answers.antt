@@ -12,21 +12,21 @@ use Rattle.bitpack_lists.proofs.chain.pack_all.Goals as goal
 pub compress_kind-written-requires : goal.compress_kind-written-requires
 compress_kind-written-requires g c =
     let lanes : ℕ = g.P.BitPacker.lanes in
-    let width : ℕ = c.width_kind-width.result in
+    let width : ℕ = c.num_bits_kind-width.result in
     let i : ℕ = c.loop-index.index in
     let blocks : ℕ = length c.args.widths.now in
     let all : length c.args.values.now ≡ 32 * lanes * blocks =
     c.requires.blocks ∙ ap (λ n. n * blocks) g.met.P.BitPacker.block_len in
     let reach : 32 * lanes * (i + 1) ≤ 32 * lanes * blocks = mul-le (32 * lanes) (i + 1) (32 * lanes) blocks (omega arith) (omega arith) in
     let more = bound-more lanes c.loop-index.written (size lanes width) width i c.loop-index.invariant.bound refl
-    c.width_kind-width.ensures.narrow in
+    c.num_bits_kind-width.ensures.narrow in
     record {
       whole =
           length-block (32 * lanes) c.BLOCK_LEN-len.result i blocks c.args.values.now (c.BLOCK_LEN-len.ensures ∙ g.met.P.BitPacker.block_len)
           (omega arith) (omega arith);
-      narrow = c.width_kind-width.ensures.narrow;
+      narrow = c.num_bits_kind-width.ensures.narrow;
       room = simp (length-take, length-drop) (omega arith);
-      fits = c.width_kind-width.ensures.width.fits;
+      fits = c.num_bits_kind-width.ensures.width.fits;
     }
 
 pub loop-index-preserved : goal.loop-index-preserved
@@ -36,11 +36,11 @@ loop-index-preserved g c =
     let i : ℕ = c.loop-index.index in
     let values : List ℕ = c.args.values.now in
     let widths : List ℕ = c.loop-index.widths in
-    let width : ℕ = c.width_kind-width.result in
+    let width : ℕ = c.num_bits_kind-width.result in
     let out : List ℕ = c.loop-index.out in
     let written : ℕ = c.loop-index.written in
     let added : ℕ = c.compress_kind-written.result in
-    let part : List ℕ = c.compress_kind-written.new.out in
+    let part : List ℕ = c.compress_kind-written.new.compressed in
     let block : List ℕ = take (i * len + len - i * len) (drop (i * len) values) in
     let before = c.loop-index.invariant in
     let Narrow : ℕ → Type 0 = λ width. width ≤ 32 in
@@ -54,7 +54,7 @@ loop-index-preserved g c =
     length-block (32 * lanes) len i (length c.args.widths.now) values whole (omega arith) (omega arith) in
     let within : written ≤ length out = omega arith in
     let room : length part ≡ length out - written =
-    c.compress_kind-written.auto.out ∙ simp (length-take, length-drop) (omega arith) in
+    c.compress_kind-written.auto.compressed ∙ simp (length-take, length-drop) (omega arith) in
     let kind : c.next_kind-block_kind.result ≡ next_kind c.loop-index.block_kind (get_or block (32 * lanes - 1) 0) =
     c.next_kind-block_kind.ensures ∙ ap (λ n. next_kind c.loop-index.block_kind (get_or block (n - 1) 0)) whole in
     let more : take (i + 1) (set widths i width) ≡ take i widths ++ width ∷ [] =
@@ -65,17 +65,17 @@ loop-index-preserved g c =
     (rw c.compress_kind-written.ensures.size c.compress_kind-written.ensures.packed.rest) in
     record {
       written = rw more (sum-more lanes written added width (take i widths) before.written c.compress_kind-written.ensures.size);
-      bound = bound-more lanes written added width i before.bound c.compress_kind-written.ensures.size c.width_kind-width.ensures.narrow;
+      bound = bound-more lanes written added width i before.bound c.compress_kind-written.ensures.size c.num_bits_kind-width.ensures.narrow;
       narrow = rw more (All-append Narrow (take i widths) (width ∷ []) before.narrow
-          (All-cons Narrow width [] c.width_kind-width.ensures.narrow (All-nil Narrow)));
+          (All-cons Narrow width [] c.num_bits_kind-width.ensures.narrow (All-nil Narrow)));
       loose =
           rw (kind, more, bytes, take-block (32 * lanes) len i values whole)
           (Loose_step lanes width c.args.kind c.loop-index.block_kind (take (32 * lanes * i) values) (take i widths) block some long
-          (take written out) (take added part) c.width_kind-width.ensures.narrow holds before.loose);
+          (take written out) (take added part) c.num_bits_kind-width.ensures.narrow holds before.loose);
       least =
           rw (kind, more, take-block (32 * lanes) len i values whole)
           (LeastWidths_step lanes width c.args.kind c.loop-index.block_kind (take (32 * lanes * i) values) (take i widths) block some long
-          c.width_kind-width.ensures.width before.least);
+          c.num_bits_kind-width.ensures.width before.least);
       rest = rest ∙ drop-further written added out c.args.out.now before.rest;
     }
 

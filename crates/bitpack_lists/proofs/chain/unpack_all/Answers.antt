@@ -48,7 +48,7 @@ loop-index-preserved g c =
     let bytes : List ℕ = c.args.bytes.now in
     let read : ℕ = c.loop-index.read in
     let added : ℕ = c.decompress_kind-read.result in
-    let block : List ℕ = c.decompress_kind-read.new.block in
+    let block : List ℕ = c.decompress_kind-read.new.decompressed in
     let before = c.loop-index.invariant in
     let some = g.met.P.BitPacker.some_lanes in
     let whole : len ≡ 32 * lanes = c.BLOCK_LEN-len.ensures ∙ g.met.P.BitPacker.block_len in
@@ -57,7 +57,7 @@ loop-index-preserved g c =
     let span : 32 * lanes * (i + 1) ≤ length values =
     omega (arith, mul-le (32 * lanes) (i + 1) (32 * lanes) (length widths) (omega arith) (omega arith)) in
     let long : length block ≡ 32 * lanes =
-    c.decompress_kind-read.auto.block ∙ rw whole (simp (length-take, length-drop) (omega arith)) in
+    c.decompress_kind-read.auto.decompressed ∙ rw whole (simp (length-take, length-drop) (omega arith)) in
     let kind : c.next_kind-block_kind.result ≡ next_kind c.loop-index.block_kind (get_or block (32 * lanes - 1) 0) =
     c.next_kind-block_kind.ensures ∙ ap (λ n. next_kind c.loop-index.block_kind (get_or block (n - 1) 0)) whole in
     let given : take (size lanes width) (take (length bytes - read) (drop read bytes)) ≡ take added (drop read bytes) =

@@ -3,8 +3,7 @@
 ghost use Rattle.std.specs.Prelude.{◌≡◌, ◌≢◌, ◌+◌, ◌<◌, ◌++◌, ℕ, min, List, length, OnOk, OnErr, IfErr, vec_len, vec_capacity};
 ghost use Rattle.bitpack_lists.specs.declared.list_kind.ListKind.{ListKind};
 ghost use Rattle.bitpack_lists.specs.Intersections.{IsCommon, ReadsSearched, ReadsWalked};
-ghost use Rattle.bitpack_lists.specs.Opened.{text};
-ghost use Rattle.bitpack_lists.specs.Version2.{List2};
+ghost use Rattle.bitpack_lists.specs.Opened.{kind_of, values};
 
 use super::super::reads::Reads;
 use super::PackedList;
@@ -26,19 +25,17 @@ pub fn intersect<P: BitPacker, Q: BitPacker>(
     reads_a: &mut Reads,
     reads_b: &mut Reads,
 ) -> Result<(), ListError>
-    requires ordered_a { (kind : ListKind) (values : List ℕ) → List2 P.lanes kind values (text a.now) → kind ≢ ListKind.Plain }
-    requires ordered_b { (kind : ListKind) (values : List ℕ) → List2 Q.lanes kind values (text b.now) → kind ≢ ListKind.Plain }
-    // What is appended is what each list of the one text and each of the other have in common: by the law there is one list of each.
-    ensures ok { (kind kind' : ListKind) (values others : List ℕ) → List2 P.lanes kind values (text a.now) → List2 Q.lanes kind' others (text b.now)
-        → OnOk result ((shared : List ℕ) × IsCommon values others shared × (out.new.items ≡ out.old.items ++ shared)) }
-    ensures reads_a { (kind kind' : ListKind) (values others : List ℕ) → List2 P.lanes kind values (text a.now) → List2 Q.lanes kind' others (text b.now)
-        → ReadsWalked P.lanes values others reads_a.old reads_a.new }
-    ensures reads_b { (kind kind' : ListKind) (values others : List ℕ) → List2 P.lanes kind values (text a.now) → List2 Q.lanes kind' others (text b.now)
-        → ReadsSearched Q.lanes values others reads_b.old reads_b.new }
-    // Memory runs out only where the vector has no room for as many values as the shorter list has.
+    requires ordered_a { kind_of a.now ≢ ListKind.Plain }
+    requires ordered_b { kind_of b.now ≢ ListKind.Plain }
+    // By the law there is one list of common values.
+    ensures ok { OnOk result ((shared : List ℕ) × IsCommon (values a.now) (values b.now) shared
+        × (out.new.items ≡ out.old.items ++ shared)) }
+    ensures reads_a { ReadsWalked P.lanes (values a.now) (values b.now) reads_a.old reads_a.new }
+    ensures reads_b { ReadsSearched Q.lanes (values a.now) (values b.now) reads_b.old reads_b.new }
+    // Memory runs out only if the vector has no room for as many values as the shorter list has.
     ensures memory { IfErr result (λ e. e ≡ ListError.Memory) }
-    ensures room { (kind kind' : ListKind) (values others : List ℕ) → List2 P.lanes kind values (text a.now) → List2 Q.lanes kind' others (text b.now)
-        → OnErr result (vec_capacity out.old < vec_len out.old + min (length values) (length others)) }
+    ensures room { OnErr result
+        (vec_capacity out.old < vec_len out.old + min (length (values a.now)) (length (values b.now))) }
     ensures unchanged { OnErr result (out.new.items ≡ out.old.items) }
     ensures kept { OnErr result (vec_capacity out.new ≡ vec_capacity out.old) }
     ensures unread { OnErr result ((reads_a.new ≡ reads_a.old) × (reads_b.new ≡ reads_b.old)) }

@@ -6,37 +6,44 @@ ghost use Rattle.bitpack_lists.specs.Search.{first_reaching};
 use super::super::reads::Reads;
 use super::{KeptBlock, ListBlock, PackedList};
 use crate::chain::{LONGEST_BLOCK, next_kind};
-use bitpacking::BitPacker;
+use bitpacking::{BitPacker, Kind};
+
+/// The step of a search that halves all blocks, and of one that tries the nearest first.
+pub(crate) const HALVES: usize = usize::MAX;
+
+pub(crate) const DOUBLES: usize = 0;
+
+/// The number of no block.
+const NO_BLOCK: usize = usize::MAX;
 
 impl KeptBlock {
     /// No block.
     pub(crate) fn new() -> KeptBlock
-        ensures { result.number ≡ usize.MAX }
+        ensures { result.number ≡ NO_BLOCK }
     {
         KeptBlock {
-            number: usize::MAX,
+            number: NO_BLOCK,
             values: [0; LONGEST_BLOCK],
         }
     }
 }
 
 impl<'a, P: BitPacker> PackedList<'a, P> {
-    ghost use Rattle.std.specs.Prelude.{◌≢◌, List, MatchOption, true, false};
+    ghost use Rattle.std.specs.Prelude.{◌≢◌, ◌-◌, true, false};
     ghost use Rattle.bitpack_lists.specs.declared.list_kind.ListKind.{ListKind};
-    ghost use Rattle.bitpack_lists.specs.Opened.{text};
+    ghost use Rattle.bitpack_lists.specs.Opened.{kind_of, values};
     ghost use Rattle.bitpack_lists.specs.Search.{IsSearched, first_at_least, in_whole_block};
-    ghost use Rattle.bitpack_lists.specs.Searching.{EndsBelow, IsFirstBlock, IsKept, IsListBlock, KeepsOne, blocks_of, value_of};
-    ghost use Rattle.bitpack_lists.specs.Version2.{List2};
+    ghost use Rattle.bitpack_lists.specs.Searching.{EndsBelow, IsFirstBlock, IsFirstFrom, IsInBlock, IsKept, IsListBlock, IsNear, KeepsBlock, KeepsOne, ReadsEntries, blocks_of, number_or_all, rest_of, value_of};
+    ghost use Rattle.bitpack_lists.specs.Version2.{kind_at};
 
     /// The first value that is at least the target, with its position, or `None` where every value is below it.
     ///
     /// The list has to be sorted or strictly sorted. Its entries are searched by halves, and one block is unpacked at most.
     pub fn seek(&self, target: u32, reads: &mut Reads) -> Option<(usize, u32)>
-        requires { (kind : ListKind) (values : List ℕ) → List2 P.lanes kind values (text self.now) → kind ≢ ListKind.Plain }
-        ensures found { (kind : ListKind) (values : List ℕ) → List2 P.lanes kind values (text self.now) → result ≡ first_at_least values target }
+        requires { kind_of self.now ≢ ListKind.Plain }
+        ensures found { result ≡ first_at_least (values self.now) target }
         // The entries that it reads are at most as many as the count of whole blocks has binary digits.
-        ensures reads { (kind : ListKind) (values : List ℕ) → List2 P.lanes kind values (text self.now)
-            → IsSearched P.lanes (length values) result reads.old reads.new }
+        ensures reads { IsSearched P.lanes (length (values self.now)) result reads.old reads.new }
     {
         let mut kept = KeptBlock::new();
         self.seek_kept(target, &mut kept, reads)
@@ -52,34 +59,47 @@ impl<'a, P: BitPacker> PackedList<'a, P> {
         requires ordered { self.now.kind ≢ ListKind.Plain }
         requires kept { IsKept self.now kept.old }
         ensures found { result ≡ first_reaching (value_of self.now) self.now.count target }
-        ensures kept { IsKept self.now kept.new }
-        ensures entries { (digits : ℕ) → blocks_of self.now < 2 ^ digits → reads.new.entries ≤ reads.old.entries + digits }
-        ensures blocks { KeepsOne self.now result kept.old kept.new reads.old reads.new }
+        ensures kept { KeepsOne self.now result kept.old kept.new reads.old reads.new }
     {
-        match self.find(target, reads) {
+        match self.find(0, self.kind.first(), HALVES, target, reads) {
             Some(block) => self.seek_in_block(block, target, kept, reads),
             None => self.seek_in_tail(target),
         }
     }
 
-    /// The first whole block whose last value is at least the target.
-    fn find(&self, target: u32, reads: &mut Reads) -> Option<ListBlock>
-        ensures found { MatchOption result (EndsBelow self.now target (blocks_of self.now))
-            (λ block. IsFirstBlock self.now target block) }
-        ensures entries { (digits : ℕ) → blocks_of self.now < 2 ^ digits → reads.new.entries ≤ reads.old.entries + digits }
-        ensures blocks { reads.new.blocks ≡ reads.old.blocks }
+    /// The first whole block from one on, which has this kind, whose last value is at least the target. Tries the first blocks at
+    /// distances that grow from a step, and then halves.
+    pub(crate) fn find(
+        &self,
+        from: usize,
+        kind: Kind,
+        step: usize,
+        target: u32,
+        reads: &mut Reads,
+    ) -> Option<ListBlock>
+        requires from { from ≤ blocks_of self.now }
+        requires kind { kind ≡ kind_at self.now.kind (rest_of self.now) from }
+        requires before { EndsBelow self.now target from }
+        ensures found { IsFirstFrom self.now target from result }
+        ensures halves { blocks_of self.now - from ≤ 2 * step + 1
+            → (digits : ℕ) → blocks_of self.now - from < 2 ^ digits → reads.new.entries ≤ reads.old.entries + digits }
+        ensures near { step ≡ 0 → IsNear from (number_or_all self.now result) reads.old.entries reads.new.entries }
+        ensures reads { ReadsEntries reads.old reads.new }
     {
         let first = self.kind.first();
-        let mut low = 0;
+        let mut low = from;
+        let mut low_kind = kind;
         let mut high = self.count / P::BLOCK_LEN;
-        let mut kind = first;
         let mut found = None;
+        let mut reach = step;
         while low < high {
-            let middle = low + (high - low) / 2;
+            let skip = reach.min((high - low) / 2);
+            let middle = low + skip;
             let entry = self.entry(middle, reads);
             if entry.last < target {
                 low = middle + 1;
-                kind = next_kind(first, entry.last);
+                low_kind = next_kind(first, entry.last);
+                reach = 2 * skip + 1;
             } else {
                 high = middle;
                 found = Some(entry);
@@ -89,7 +109,7 @@ impl<'a, P: BitPacker> PackedList<'a, P> {
             Some(entry) => Some(ListBlock {
                 number: low,
                 entry,
-                kind,
+                kind: low_kind,
             }),
             None => None,
         }
@@ -108,12 +128,8 @@ impl<'a, P: BitPacker> PackedList<'a, P> {
         requires kept { IsKept self.now kept.old }
         ensures found { result ≡ first_reaching (value_of self.now) self.now.count target }
         ensures inside { in_whole_block P.lanes self.now.count result ≡ true }
-        ensures within { IfSome result (λ found. (32 * P.lanes * block.number ≤ found.0) × (found.0 < 32 * P.lanes * block.number + 32 * P.lanes)) }
-        ensures kept { IsKept self.now kept.new }
-        ensures number { kept.new.number ≡ block.number }
-        ensures entries { reads.new.entries ≡ reads.old.entries }
-        ensures blocks { reads.new.blocks ≤ reads.old.blocks + 1 }
-        ensures again { kept.old.number ≡ block.number → reads.new.blocks ≡ reads.old.blocks }
+        ensures within { IsInBlock self.now block.number result }
+        ensures kept { KeepsBlock self.now block.number kept.old kept.new reads.old reads.new }
     {
         self.keep(block, kept, reads);
         let len = P::BLOCK_LEN;
@@ -124,11 +140,7 @@ impl<'a, P: BitPacker> PackedList<'a, P> {
     pub(crate) fn keep(&self, block: ListBlock, kept: &mut KeptBlock, reads: &mut Reads)
         requires block { IsListBlock self.now block }
         requires kept { IsKept self.now kept.old }
-        ensures kept { IsKept self.now kept.new }
-        ensures number { kept.new.number ≡ block.number }
-        ensures entries { reads.new.entries ≡ reads.old.entries }
-        ensures blocks { reads.new.blocks ≤ reads.old.blocks + 1 }
-        ensures again { kept.old.number ≡ block.number → reads.new.blocks ≡ reads.old.blocks }
+        ensures kept { KeepsBlock self.now block.number kept.old kept.new reads.old reads.new }
     {
         if kept.number != block.number {
             self.unpack(block, &mut kept.values, reads);
@@ -157,7 +169,8 @@ impl<'a, P: BitPacker> PackedList<'a, P> {
 fn first_at_least(values: &[u32], start: usize, target: u32) -> Option<(usize, u32)>
     requires { start + length values.now < 2 ^ 64 }
     ensures within { IfSome result (λ found. (start ≤ found.0) × (found.0 < start + length values.now)) }
-    ensures found { (value : ℕ → ℕ) → ((k : ℕ) → k < start → value k < target) → ((k : ℕ) → k < length values.now → value (start + k) ≡ slice_index values.now k)
+    ensures found { (value : ℕ → ℕ) → ((k : ℕ) → k < start → value k < target)
+        → ((k : ℕ) → k < length values.now → value (start + k) ≡ slice_index values.now k)
         → result ≡ first_reaching value (start + length values.now) target }
 {
     for index in 0..values.len() {

@@ -4,16 +4,20 @@ ghost use Rattle.std.specs.Prelude.{◌≡◌, ◌≢◌, ◌+◌, ◌*◌, ◌<
 ghost use Rattle.bitpack_lists.specs.declared.list_kind.ListKind.{ListKind};
 ghost use Rattle.bitpack_lists.specs.declared.list2.packed_list.walk.Walk.{Walk};
 ghost use Rattle.bitpack_lists.specs.Parts.{tail_values};
-ghost use Rattle.bitpack_lists.specs.Searching.{IsListBlock, blocks_of, rest_of, value_of};
+ghost use Rattle.bitpack_lists.specs.Search.{HasGrown};
+ghost use Rattle.bitpack_lists.specs.Searching.{IsListBlock, UnpacksOne, blocks_of, rest_of, value_of};
 ghost use Rattle.bitpack_lists.specs.Version2.{last_at};
-ghost use Rattle.bitpack_lists.specs.Walks.{Appends, AreNext, Begun, IsWalking, IsWantedNext, Stage, begun_with, further, stage_in};
+ghost use Rattle.bitpack_lists.specs.Walks.{Appends, AreNext, Begun, IsWalking, IsWalkingOver, IsWantedNext, Stage, begun_with, further};
 
 use super::super::reads::Reads;
 use super::{KeptBlock, ListBlock, PackedList};
 use crate::chain::{LONGEST_BLOCK, next_kind};
 use bitpacking::BitPacker;
 
-/// What a walk wants next of the list that it searches, or 2 ^ 32 where that has nothing more; and the block of that list that was
+/// What is wanted of a list that has nothing more: above every value.
+const NOTHING: u64 = 1 << 32;
+
+/// What a walk wants next of the list that it searches, or `NOTHING` if that has nothing more; and the block of that list that was
 /// unpacked last.
 #[derive(Drop)]
 pub(crate) struct Walk {
@@ -32,10 +36,12 @@ pub(crate) fn walk_list<P: BitPacker, Q: BitPacker>(
     requires ordered { one.now.kind ≢ ListKind.Plain }
     requires other_ordered { other.now.kind ≢ ListKind.Plain }
     requires room { vec_len out.old + min one.now.count other.now.count ≤ vec_capacity out.old }
-    ensures walking { (walk : Walk) × IsWalking other.now (stage_in one.now (begun_with out.old.items reads.old other_reads.old) one.now.count reads.new.blocks) walk
-        out.new.items (vec_capacity out.new) other_reads.new }
+    ensures walking { (walk : Walk) × IsWalkingOver one.now other.now
+        (begun_with out.old.items reads.old other_reads.old)
+        one.now.count reads.new.blocks walk out.new other_reads.new }
     ensures entries { reads.new.entries ≤ reads.old.entries + blocks_of one.now }
     ensures blocks { reads.new.blocks ≤ reads.old.blocks + blocks_of one.now }
+    ensures grown { HasGrown reads.old reads.new }
 {
     let mut walk = Walk {
         want: 0,
@@ -70,18 +76,16 @@ fn walk_block<P: BitPacker, Q: BitPacker>(
     reads: &mut Reads,
     other_reads: &mut Reads,
 )
-    requires ordered { one.now.kind ≢ ListKind.Plain }
-    requires other_ordered { other.now.kind ≢ ListKind.Plain }
     requires block { IsListBlock one.now block }
     requires last { block.entry.last ≡ last_at (rest_of one.now) block.number }
-    requires walking { (begun : Begun) × IsWalking other.now (stage_in one.now begun (32 * P.lanes * block.number) reads.old.blocks) walk.old
-        out.old.items (vec_capacity out.old) other_reads.old }
-    ensures walking { (begun : Begun) → IsWalking other.now (stage_in one.now begun (32 * P.lanes * block.number) reads.old.blocks) walk.old
-        out.old.items (vec_capacity out.old) other_reads.old
-        → IsWalking other.now (stage_in one.now begun (32 * P.lanes * (block.number + 1)) reads.new.blocks) walk.new
-        out.new.items (vec_capacity out.new) other_reads.new }
-    ensures entries { reads.new.entries ≡ reads.old.entries }
-    ensures blocks { reads.new.blocks ≤ reads.old.blocks + 1 }
+    requires walking { (begun : Begun) × IsWalkingOver one.now other.now
+        begun (32 * P.lanes * block.number) reads.old.blocks walk.old out.old other_reads.old }
+    ensures walking { (begun : Begun)
+        → IsWalkingOver one.now other.now
+        begun (32 * P.lanes * block.number) reads.old.blocks walk.old out.old other_reads.old
+        → IsWalkingOver one.now other.now
+        begun (32 * P.lanes * (block.number + 1)) reads.new.blocks walk.new out.new other_reads.new }
+    ensures reads { UnpacksOne reads.old reads.new }
 {
     if block.entry.last as u64 >= walk.want {
         let mut values = [0; LONGEST_BLOCK];
@@ -98,13 +102,12 @@ fn walk_tail<P: BitPacker, Q: BitPacker>(
     out: &mut Vec<u32>,
     other_reads: &mut Reads,
 )
-    requires ordered { one.now.kind ≢ ListKind.Plain }
-    requires other_ordered { other.now.kind ≢ ListKind.Plain }
-    requires walking { (begun : Begun) × (blocks : ℕ) × IsWalking other.now (stage_in one.now begun (32 * P.lanes * blocks_of one.now) blocks) walk.old
-        out.old.items (vec_capacity out.old) other_reads.old }
-    ensures walking { (begun : Begun) (blocks : ℕ) → IsWalking other.now (stage_in one.now begun (32 * P.lanes * blocks_of one.now) blocks) walk.old
-        out.old.items (vec_capacity out.old) other_reads.old
-        → IsWalking other.now (stage_in one.now begun one.now.count blocks) walk.new out.new.items (vec_capacity out.new) other_reads.new }
+    requires { (begun : Begun) × (blocks : ℕ) × IsWalkingOver one.now other.now
+        begun (32 * P.lanes * blocks_of one.now) blocks walk.old out.old other_reads.old }
+    ensures walking { (begun : Begun) (blocks : ℕ)
+        → IsWalkingOver one.now other.now
+        begun (32 * P.lanes * blocks_of one.now) blocks walk.old out.old other_reads.old
+        → IsWalkingOver one.now other.now begun one.now.count blocks walk.new out.new other_reads.new }
 {
     let mut values = [0; LONGEST_BLOCK];
     let tail = read_tail(one, &mut values);
@@ -112,10 +115,11 @@ fn walk_tail<P: BitPacker, Q: BitPacker>(
 }
 
 /// Reads the values of the tail, and returns how many these are.
-fn read_tail<P: BitPacker>(list: &PackedList<'_, P>, values: &mut [u32]) -> usize
+pub(crate) fn read_tail<P: BitPacker>(list: &PackedList<'_, P>, values: &mut [u32]) -> usize
     requires room { tail_values P.lanes list.now.count ≤ length values.old }
     ensures len { result ≡ tail_values P.lanes list.now.count }
-    ensures values { (k : ℕ) → k < result → slice_index values.new k ≡ value_of list.now (32 * P.lanes * blocks_of list.now + k) }
+    ensures values { (k : ℕ) → k < result
+        → slice_index values.new k ≡ value_of list.now (32 * P.lanes * blocks_of list.now + k) }
 {
     let tail = list.count % P::BLOCK_LEN;
     let start = list.count - tail;
@@ -133,10 +137,11 @@ fn walk_values<Q: BitPacker>(
     out: &mut Vec<u32>,
     other_reads: &mut Reads,
 )
-    requires other_ordered { other.now.kind ≢ ListKind.Plain }
-    requires walking { (stage : Stage) × AreNext stage values.now × IsWalking other.now stage walk.old out.old.items (vec_capacity out.old) other_reads.old }
-    ensures walking { (stage : Stage) → AreNext stage values.now → IsWalking other.now stage walk.old out.old.items (vec_capacity out.old) other_reads.old
-        → IsWalking other.now (further stage (length values.now)) walk.new out.new.items (vec_capacity out.new) other_reads.new }
+    requires { (stage : Stage) × AreNext stage values.now
+        × IsWalking other.now stage walk.old out.old other_reads.old }
+    ensures walking { (stage : Stage) → AreNext stage values.now
+        → IsWalking other.now stage walk.old out.old other_reads.old
+        → IsWalking other.now (further stage (length values.now)) walk.new out.new other_reads.new }
 {
     for index in 0..values.len() {
         let value = values[index];
@@ -160,7 +165,7 @@ fn wanted_next(value: u32, found: Option<(usize, u32)>) -> u64
                 found as u64
             }
         }
-        None => 1 << 32,
+        None => NOTHING,
     }
 }
 

@@ -1,6 +1,5 @@
 -- The law `same_bodies`: where one block is whole, what is after the header begins with its width.
-use Rattle.std.proofs.Common.{◌≡◌, ◌*◌, ◌/◌, ◌<◌, ◌≤◌, ◌++◌, ℕ, length, drop, slice_index, ap, arith}
-use Rattle.bitpack_lists.specs.Version2.{parts_before, tail_start}
+use Rattle.std.proofs.Common.{◌≡◌, ◌*◌, ◌/◌, length, slice_index, ap, arith}
 use Rattle.bitpack_uses.proofs.by_list_law.same_first_width.Goals as goal
 
 pub returns : goal.returns

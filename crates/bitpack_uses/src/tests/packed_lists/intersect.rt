@@ -6,8 +6,8 @@ use super::memory::{grow_stack, take_all};
 use super::seek::{COUNTED, SEVENS, TWO_STEPS, rising};
 use crate::tests::calls::{encode2, intersect_texts};
 use crate::tests::checks::{
-    appended_values, kept_values, one_value, push, push_steps, room_for, same_number, same_values,
-    steps, succeeds,
+    Numbers, appended_values, kept_values, one_value, push, push_steps, room_for, same_number,
+    same_values, steps, succeeds,
 };
 use bitpack::{ListError, ListKind};
 use bitpacking::{BitPacker, BitPacker1x, BitPacker4x, BitPacker8x};
@@ -148,42 +148,27 @@ fn the_greatest_value_ends_a_walk(rt: HostRuntime) {
     lists_share(&rt, rt.alloc(), one, other, shared);
 }
 
-/// Numbers that follow from one seed.
-#[derive(Drop)]
-struct Numbers {
-    last: u32,
-}
-
-impl Numbers {
-    /// The next number, below a bound of at most 65,536.
-    fn below(&mut self, bound: u32) -> u32 {
-        self.last = self
-            .last
-            .wrapping_mul(1_664_525)
-            .wrapping_add(1_013_904_223);
-        if bound == 0 {
-            0
-        } else {
-            (self.last >> 16) % bound
-        }
+/// Up to so many values in order: some of them repeat in a sorted list, and now and then there is a gap that is longer than a block.
+fn random_values(
+    rt: &impl Abort,
+    alloc: Global,
+    numbers: &mut Numbers,
+    kind: ListKind,
+    count: u32,
+) -> Vec<u32> {
+    let least = if kind == ListKind::Sorted { 0 } else { 1 };
+    let mut values = Vec::new(alloc);
+    let mut value = numbers.below(40);
+    for _ in 0..numbers.below(count) {
+        push(rt, &mut values, value);
+        let gap = if numbers.below(50) == 0 { 300 } else { 0 };
+        let step = numbers.below(4);
+        value = value
+            .wrapping_add(least)
+            .wrapping_add(step)
+            .wrapping_add(gap);
     }
-
-    /// Up to so many values in order: some of them repeat in a sorted list, and now and then there is a gap that is longer than a block.
-    fn values(&mut self, rt: &impl Abort, alloc: Global, kind: ListKind, count: u32) -> Vec<u32> {
-        let least = if kind == ListKind::Sorted { 0 } else { 1 };
-        let mut values = Vec::new(alloc);
-        let mut value = self.below(40);
-        for _ in 0..self.below(count) {
-            push(rt, &mut values, value);
-            let gap = if self.below(50) == 0 { 300 } else { 0 };
-            let step = self.below(4);
-            value = value
-                .wrapping_add(least)
-                .wrapping_add(step)
-                .wrapping_add(gap);
-        }
-        values
-    }
+    values
 }
 
 /// Whether a value is one of these.
@@ -215,8 +200,8 @@ fn random_pair<P: BitPacker, Q: BitPacker>(
     (other_packer, other_kind): (&Q, ListKind),
     numbers: &mut Numbers,
 ) {
-    let values = numbers.values(rt, alloc, kind, 3 * P::BLOCK_LEN as u32);
-    let others = numbers.values(rt, alloc, other_kind, 3 * Q::BLOCK_LEN as u32);
+    let values = random_values(rt, alloc, numbers, kind, 3 * P::BLOCK_LEN as u32);
+    let others = random_values(rt, alloc, numbers, other_kind, 3 * Q::BLOCK_LEN as u32);
     let shared = merge(rt, alloc, &values, &others);
     let one = (packer, kind, values.as_slice());
     let other = (other_packer, other_kind, others.as_slice());
@@ -231,7 +216,7 @@ fn random_pairs<P: BitPacker, Q: BitPacker>(
     other_packer: &Q,
     seed: u32,
 ) {
-    let mut numbers = Numbers { last: seed };
+    let mut numbers = Numbers::new(seed);
     let kinds = [ListKind::Sorted, ListKind::StrictlySorted];
     for pair in 0..200usize {
         let one = (packer, kinds[pair % 2]);

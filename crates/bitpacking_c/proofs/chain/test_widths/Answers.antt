@@ -15,6 +15,6 @@ loop-index-preserved g c =
     c.args.widths.now c.loop-index-test.true c.compressed_block_size-size.ensures c.loop-index.invariant.left in
     record {
       narrow = All-more (λ (width : ℕ). width ≤ 32) c.args.widths.now c.loop-index.index 0 c.loop-index-test.true c.loop-index.invariant.narrow
-          (omega (arith, c.if-width-gt32.false));
+          (omega (arith, c.if-width-gt-MAX_WIDTH.false));
       left = omega (arith, found.0, c.if-left-size.false);
     }

@@ -18,8 +18,7 @@ pub returns : goal.returns
 returns g c =
     IfOk-weaker c.format_bytes.result _ _ (λ answer is.
     Passed (λ other. other (omega (arith, g.met.P.BitPacker.block_len, c.BLOCK_LEN.ensures, c.if-values-BLOCK_LEN.false))) (Passed (λ wide. omega arith) (Passed (λ none. none (fits_greater _ c.width_counted.result c.args.width (omega arith) c.width_counted.ensures.width.fits)) (record {
-      bytes = take c.pack_counted-byte_len.result c.pack_counted-byte_len.new.compressed;
-      are_bytes = c.format_bytes.ensures.range;
-      holds = rw c.pack_counted-byte_len.ensures.size c.pack_counted-byte_len.ensures.packed.bytes;
+      thing = take c.pack_counted-byte_len.result c.pack_counted-byte_len.new.compressed;
+      fact = (c.format_bytes.ensures.range, rw c.pack_counted-byte_len.ensures.size c.pack_counted-byte_len.ensures.packed.bytes);
       answer_is = is;
     })))) c.format_bytes.ensures.answer

@@ -9,4 +9,4 @@ pub returns-in_err-parse_values-in-pack : goal.returns-in_err-parse_values-in-pa
 returns-in_err-parse_values-in-pack c =
     let p = err_from_is_err_and c.from_residual-in_err-parse_values-in-pack.result c.from_residual-in_err-parse_values-in-pack.ensures.1 in
     rw (c.in-pack.is) (fails_at (codes "pack") (c.args.first.now ∷ c.args.second.now ∷ c.args.third.now ∷ []) (λ (values : Vec ℕ Global). values.items) (SpellsValues c.args.third.now) _ c.in_err-parse_values-in-pack.field-0.0
-    (p.1 ∙ ap Err p.2) c.in_err-parse_values-in-pack.ensures (λ spelled. (_, spelled.1.1.1.0)))
+    (p.1 ∙ ap Err p.2) c.in_err-parse_values-in-pack.ensures (λ spelled. (_, spelled.3)))

@@ -9,10 +9,10 @@ pub returns-in_err-parse_values-in-width : goal.returns-in_err-parse_values-in-w
 returns-in_err-parse_values-in-width c =
     let p = err_from_is_err_and c.from_residual-in_err-parse_values-in-width.result c.from_residual-in_err-parse_values-in-width.ensures.1 in
     rw (c.in-width.is) (fails_at (codes "width") (c.args.first.now ∷ c.args.second.now ∷ []) (λ (values : Vec ℕ Global). values.items) (SpellsValues c.args.second.now) _ c.in_err-parse_values-in-width.field-0.0
-    (p.1 ∙ ap Err p.2) c.in_err-parse_values-in-width.ensures (λ spelled. (_, spelled.1.1.0)))
+    (p.1 ∙ ap Err p.2) c.in_err-parse_values-in-width.ensures (λ spelled. (_, spelled.2)))
 
 pub returns-in_err-parse_values-in-enc : goal.returns-in_err-parse_values-in-enc
 returns-in_err-parse_values-in-enc c =
     let p = err_from_is_err_and c.from_residual-in_err-parse_values-in-enc.result c.from_residual-in_err-parse_values-in-enc.ensures.1 in
     rw (c.in-enc.is) (fails_at (codes "enc") (c.args.first.now ∷ c.args.second.now ∷ []) (λ (values : Vec ℕ Global). values.items) (SpellsValues c.args.second.now) _ c.in_err-parse_values-in-enc.field-0.0
-    (p.1 ∙ ap Err p.2) c.in_err-parse_values-in-enc.ensures (λ spelled. (_, spelled.1.1.0)))
+    (p.1 ∙ ap Err p.2) c.in_err-parse_values-in-enc.ensures (λ spelled. (_, spelled.2)))

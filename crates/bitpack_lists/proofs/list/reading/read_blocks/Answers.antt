@@ -1,7 +1,6 @@
 -- One block more is appended, and then the tail.
 use Rattle.std.proofs.Common.{◌≡◌, ◌+◌, ◌*◌, ◌/◌, ◌<◌, ◌≤◌, ◌++◌, ℕ, List, length, refl, sym, ◌∙◌, ap, arith}
 use Rattle.std.proofs.Math.Nat.{sub-zero}
-use Rattle.std.proofs.lemmas.List.{length-append}
 use Rattle.std.proofs.lemmas.Nat.{mul-le}
 use Rattle.bitpacking.proofs.ForCallers.{as_many_codes}
 use Rattle.bitpack_lists.specs.Parts.{first_kind, tail_values}
@@ -43,7 +42,7 @@ loop-preserved g c =
     let rest : List ℕ = c.loop.rest.now in
     let blocks : ℕ = count / c.BLOCK_LEN.result in
     let some = g.met.P.BitPacker.some_lanes in
-    let (block, part, words, is, parts, items, next) = c.read_block.ensures.block in
+    let (block, appended, (part, words, is, parts, next)) = c.read_block.ensures.block in
     let right = right_left lanes (4 * tail_values lanes count) blocks i rest c.loop-test.true c.loop.invariant.right in
     let length_of : length block ≡ 32 * lanes = sym (as_many_codes c.loop.kind block) ∙ is.holds.code_count in
     record {
@@ -51,16 +50,13 @@ loop-preserved g c =
       room = omega (
         arith,
         length_of,
-        ap length items,
-        length-append c.loop.out.items block,
-        c.read_block.new.out.ok,
-        c.loop.out.ok,
-        c.read_block.ensures.capacity,
+        appended.len,
+        appended.capacity,
         c.loop.invariant.room,
       );
       read = λ values words' is'.
           rw next (read_step lanes blocks i c.loop.kind rest c.read_block.result.1.now c.loop.out.items block part c.read_block.new.out.items
-          (c.args.out.now.items ++ values) some c.loop-test.true words is parts items (c.loop.invariant.read values words' is'));
+          (c.args.out.now.items ++ values) some c.loop-test.true words is parts appended.items (c.loop.invariant.read values words' is'));
     }
 
 pub read_all-requires : goal.read_all-requires

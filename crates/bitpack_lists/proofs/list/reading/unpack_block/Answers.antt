@@ -13,10 +13,10 @@ returns g c =
     let bytes : List ℕ = c.args.bytes.now in
     let n : ℕ = size lanes (get_or bytes 0 0) in
     let taken : ℕ = c.decompress_kind-size.result in
-    let block : List ℕ = c.decompress_kind-size.new.block in
+    let block : List ℕ = c.decompress_kind-size.new.decompressed in
     let given : take n (take (length bytes - 1) (drop 1 bytes)) ≡ take n (drop 1 bytes) =
     ap (take n) (take_all (length bytes - 1) (drop 1 bytes) (omega (arith, length-drop 1 bytes))) in
-    let long : length block ≡ 32 * lanes = c.decompress_kind-size.auto.block ∙ c.requires.whole ∙ g.met.P.BitPacker.block_len in
+    let long : length block ≡ 32 * lanes = c.decompress_kind-size.auto.decompressed ∙ c.requires.whole ∙ g.met.P.BitPacker.block_len in
     let whole : take (32 * lanes) block ≡ block = take_all (32 * lanes) block (omega arith) in
     let holds = rw (given, whole) at c.decompress_kind-size.ensures.unpacked.block in
     let is : IsRight lanes bytes = c.requires.right in

@@ -24,7 +24,7 @@ append-requires g c =
     let lanes : ℕ = g.P.BitPacker.lanes in
     let block : List ℕ = c.args.block.now in
     let width : ℕ = c.args.width in
-    let body : List ℕ = c.compress_kind-size.new.out in
+    let body : List ℕ = c.compress_kind-size.new.compressed in
     let written : ℕ = c.compress_kind-size.result in
     let least = c.requires.width in
     let holds = c.compress_kind-size.ensures.packed.bytes in
@@ -37,7 +37,7 @@ append-requires-2 g c =
     let lanes : ℕ = g.P.BitPacker.lanes in
     let block : List ℕ = c.args.block.now in
     let width : ℕ = c.args.width in
-    let body : List ℕ = c.compress_kind-size.new.out in
+    let body : List ℕ = c.compress_kind-size.new.compressed in
     let written : ℕ = c.compress_kind-size.result in
     let least = c.requires.width in
     let holds = c.compress_kind-size.ensures.packed.bytes in
@@ -47,20 +47,27 @@ append-requires-2 g c =
     let capacity = c.append.ensures.capacity in
     record { room = omega (arith, room) }
 
-pub returns-clause-part : goal.returns-clause-part
-returns-clause-part g c =
+pub returns : goal.returns
+returns g c =
     let lanes : ℕ = g.P.BitPacker.lanes in
     let block : List ℕ = c.args.block.now in
     let width : ℕ = c.args.width in
-    let body : List ℕ = c.compress_kind-size.new.out in
+    let body : List ℕ = c.compress_kind-size.new.compressed in
     let written : ℕ = c.compress_kind-size.result in
     let old : List ℕ = c.args.out.now.items in
     let new : List ℕ = c.append-2.new.out.items in
     let items : new ≡ old ++ width ∷ take written body =
     c.append-2.ensures.items ∙ ap (λ zs. zs ++ take written body) c.append.ensures.items ∙ append_assoc old (width ∷ []) (take written body) in
-    let bytes : AreBytes new = AreBytes-from_items new c.type_inv.out in (
-      width ∷ take written body,
-      AreBytes-right old (width ∷ take written body) (rw items at bytes),
-      part lanes c.args.kind block body width written c.requires.width c.compress_kind-size.ensures.packed.bytes c.compress_kind-size.ensures.size,
-      items,
-    )
+    let bytes : AreBytes new = AreBytes-from_items new c.type_inv.out in
+    record {
+      part = (
+        width ∷ take written body,
+        AreBytes-right old (width ∷ take written body) (rw items at bytes),
+        part lanes c.args.kind block body width written c.requires.width c.compress_kind-size.ensures.packed.bytes c.compress_kind-size.ensures.size,
+        record {
+          items = items;
+          len = omega (arith, c.append.ensures.len, c.append-2.ensures.len);
+          capacity = omega (arith, c.append.ensures.capacity, c.append-2.ensures.capacity);
+        },
+      );
+    }

@@ -10,7 +10,7 @@ use Rattle.bitpacking.proofs.ForCallers.{AreWords-from_slice}
 use Rattle.bitpack_lists.specs.Parts.{whole_blocks}
 use Rattle.bitpack_lists.specs.Version1.{Blocks1}
 use Rattle.bitpack_lists.proofs.TextLemmas.{blocks_of}
-use Rattle.bitpack_lists.proofs.WriteSteps.{block-left, left-more, last-block, written_step, written_room, written_tail, written_tail_room, kept_first, kept_rest}
+use Rattle.bitpack_lists.proofs.WriteSteps.{block-left, left-more, last-block, packable, written_step, written_room, written_tail, written_tail_room, kept_first, kept_rest}
 use Rattle.bitpack_lists.proofs.list.writing.write_blocks.Goals as goal
 
 pub loop-index-init : goal.loop-index-init
@@ -72,10 +72,9 @@ write_block-requires g c =
     let text = text_with_room lanes c.args.kind values len (vec_len c.args.out.now) (vec_capacity c.args.out.now) g.met.P.BitPacker.some_lanes whole words c.requires.room in
     let before = c.loop-index.invariant.written text.0 text.1 text.2 in
     record {
-      block = c.split_at.ensures.front_len ∙ c.BLOCK_LEN-len.ensures;
+      pack = packable lanes c.width_of-width.result c.loop-index.kind c.split_at.result.0.now c.loop-index.body c.width_of-width.ensures.width
+          (c.split_at.ensures.front_len ∙ whole) c.width_of-width.ensures.narrow g.met.P.BitPacker.few_lanes (omega arith);
       width = c.width_of-width.ensures.width;
-      narrow = c.width_of-width.ensures.narrow;
-      body = omega arith;
       room = λ part is.
           let fits = written_room lanes (length values / len) i c.loop-index.kind rest c.loop-index.out.items part (c.args.out.now.items ++ text.0) c.loop-index-test.true
           (rw block at is) before in
@@ -102,12 +101,12 @@ loop-index-preserved g c =
     let part = rw block at c.write_block.ensures.part in
     record {
       left = left-more n i (length values) (length rest) (length c.split_at.result.1.now) before.left (ap length after ∙ length-drop n rest) room;
-      capacity = omega (arith, c.write_block.ensures.capacity);
+      capacity = omega (arith, part.3.capacity);
       least = rw (next, after) (kept_rest lanes c.loop-index.kind rest (take (length values / len) c.args.widths.now) i before.least);
       written = λ text small blocks.
           rw (next, after)
           (written_step lanes (length values / len) i c.loop-index.kind rest c.loop-index.out.items part.0 c.write_block.new.out.items (c.args.out.now.items ++ text)
-          some c.loop-index-test.true part.1 part.2 part.3 (before.written text small blocks));
+          some c.loop-index-test.true part.1 part.2 part.3.items (before.written text small blocks));
     }
 
 pub write_all-requires : goal.write_all-requires

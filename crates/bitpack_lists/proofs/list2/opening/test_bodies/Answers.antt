@@ -26,13 +26,13 @@ loop-block-init g c =
 pub unpack-requires-clause-width : goal.unpack-requires-clause-width
 unpack-requires-clause-width g c =
     let whole : c.BLOCK_LEN-len.result ≡ 32 * g.P.BitPacker.lanes = c.BLOCK_LEN-len.ensures ∙ g.met.P.BitPacker.block_len in
-    rw c.read-entry.ensures.width (narrow_entry g.P.BitPacker.lanes (whole_blocks g.P.BitPacker.lanes c.args.header.count) c.args.rest.now c.requires.entries
+    rw c.entry-entry.ensures.width (narrow_entry g.P.BitPacker.lanes (whole_blocks g.P.BitPacker.lanes c.args.header.count) c.args.rest.now c.requires.entries
     c.loop-block.block (rw whole at c.loop-block-test.true))
 
 pub unpack-requires-clause-body : goal.unpack-requires-clause-body
 unpack-requires-clause-body g c =
     let whole : c.BLOCK_LEN-len.result ≡ 32 * g.P.BitPacker.lanes = c.BLOCK_LEN-len.ensures ∙ g.met.P.BitPacker.block_len in
-    rw (c.read-entry.ensures.offset, c.read-entry.ensures.width, whole)
+    rw (c.entry-entry.ensures.offset, c.entry-entry.ensures.width, whole)
     (body_room g.P.BitPacker.lanes (whole_blocks g.P.BitPacker.lanes c.args.header.count) c.args.rest.now c.requires.entries
     c.loop-block.block (rw whole at c.loop-block-test.true) c.requires.room)
 
@@ -46,7 +46,7 @@ body-body-requires g c =
     let same : c.BLOCK_LEN-len.result / 32 ≡ g.P.BitPacker.lanes = lanes-is g.P.BitPacker.lanes c.BLOCK_LEN-len.result whole in
     record {
       lanes = rw same g.met.P.BitPacker.few_lanes;
-      body = rw (c.read-entry.ensures.offset, c.read-entry.ensures.width, same, whole)
+      body = rw (c.entry-entry.ensures.offset, c.entry-entry.ensures.width, same, whole)
           (body_room g.P.BitPacker.lanes (whole_blocks g.P.BitPacker.lanes c.args.header.count) c.args.rest.now c.requires.entries
           c.loop-block.block (rw whole at c.loop-block-test.true) c.requires.room);
     }
@@ -57,7 +57,7 @@ test_block-requires g c =
     let same : c.BLOCK_LEN-len.result / 32 ≡ g.P.BitPacker.lanes = lanes-is g.P.BitPacker.lanes c.BLOCK_LEN-len.result whole in
     record {
       lanes = rw same (g.met.P.BitPacker.some_lanes, g.met.P.BitPacker.few_lanes);
-      width = rw c.read-entry.ensures.width (narrow_entry g.P.BitPacker.lanes (whole_blocks g.P.BitPacker.lanes c.args.header.count) c.args.rest.now
+      width = rw c.entry-entry.ensures.width (narrow_entry g.P.BitPacker.lanes (whole_blocks g.P.BitPacker.lanes c.args.header.count) c.args.rest.now
           c.requires.entries c.loop-block.block (rw whole at c.loop-block-test.true));
       body = c.body-body.ensures.len;
     }
@@ -112,8 +112,8 @@ returns-in_err-test_block-clause-fault g c =
     let block : ℕ = c.loop-block.block in
     let blocks : ℕ = whole_blocks lanes c.args.header.count in
     let before = c.loop-block.invariant in
-    let entry = c.read-entry.result in
-    let read = c.read-entry.ensures in
+    let entry = c.entry-entry.result in
+    let read = c.entry-entry.ensures in
     let whole : c.BLOCK_LEN-len.result ≡ 32 * lanes = c.BLOCK_LEN-len.ensures ∙ g.met.P.BitPacker.block_len in
     let lt : block < blocks = rw whole at c.loop-block-test.true in
     let unpacked = unpacked_is lanes c.BLOCK_LEN-len.result g.P.BitPacker.BLOCK_LEN blocks entry.width entry.offset entry.last block kind
@@ -134,8 +134,8 @@ loop-block-preserved g c =
     let block : ℕ = c.loop-block.block in
     let blocks : ℕ = whole_blocks lanes c.args.header.count in
     let before = c.loop-block.invariant in
-    let entry = c.read-entry.result in
-    let read = c.read-entry.ensures in
+    let entry = c.entry-entry.result in
+    let read = c.entry-entry.ensures in
     let whole : c.BLOCK_LEN-len.result ≡ 32 * lanes = c.BLOCK_LEN-len.ensures ∙ g.met.P.BitPacker.block_len in
     let lt : block < blocks = rw whole at c.loop-block-test.true in
     let unpacked = unpacked_is lanes c.BLOCK_LEN-len.result g.P.BitPacker.BLOCK_LEN blocks entry.width entry.offset entry.last block kind

@@ -48,17 +48,17 @@ module _ (lanes len count : ℕ) (kind : ListKind) (rest : List ℕ) (whole : le
       module _ (bodies : first_fault (body_fault2 lanes (count / len) kind rest) (count / len) ≡ None) where
         bad_order : (position : ℕ) → least_below (is_out kind value) count ≡ Some position → rest_fault2 lanes kind count rest ≡ Some (NotSorted position)
         unfolding rest_fault2
-        bad_order position found = rw (← whole, room, entries, ← start_is, ended, bodies, found) refl
+        bad_order position found = rw (← whole, found, room, entries, ← start_is, ended, bodies) refl
 
         too_long : least_below (is_out kind value) count ≡ None → start + 4 * (count % len) < length rest → rest_fault2 lanes kind count rest ≡ Some Trailing
         unfolding rest_fault2
         too_long ordered more =
-            rw (← whole, room, entries, ← start_is, ended, bodies, ordered, lt-ltb (start + 4 * (count % len)) (length rest) more) refl
+            rw (← whole, ordered, room, entries, ← start_is, ended, bodies, lt-ltb (start + 4 * (count % len)) (length rest) more) refl
 
         right : least_below (is_out kind value) count ≡ None → length rest ≤ start + 4 * (count % len) → rest_fault2 lanes kind count rest ≡ None
         unfolding rest_fault2
         right ordered few =
-            rw (← whole, room, entries, ← start_is, ended, bodies, ordered, le-ltb (start + 4 * (count % len)) (length rest) few) refl
+            rw (← whole, ordered, room, entries, ← start_is, ended, bodies, le-ltb (start + 4 * (count % len)) (length rest) few) refl
 
 -- ---- where the tail begins, and the order of all values
 

@@ -8,7 +8,7 @@ use Rattle.bitpack_lists.proofs.list2.upgrading.first_out_of_rest.Goals as goal
 
 pub loop-index-init : goal.loop-index-init
 loop-index-init g c = record {
-  right = rw sub-zero c.requires.sound;
+  right = rw sub-zero c.requires.tested.sound;
   ordered = λ values listed. rw c.first-kind.ensures (in_order_first g.P.BitPacker.lanes c.args.header.count 0 c.args.header.kind values c.args.bytes.now listed);
 }
 

@@ -6,9 +6,9 @@ use Rattle.bitpacking.proofs.ForCallers.{AreBytes-from_slice}
 use Rattle.bitpack_lists.specs.declared.list_kind.ListKind.{ListKind}
 use Rattle.bitpack_lists.specs.declared.list_error.ListError.{ListError}
 use Rattle.bitpack_lists.specs.Parts.{BeginsWithHeader, header, tail_values, whole_blocks}
-use Rattle.bitpack_lists.specs.Version1.{List1, blocks_fault1, fault1}
+use Rattle.bitpack_lists.specs.Version1.{List1, fault1}
 use Rattle.bitpack_lists.specs.Version2.{IsRest2, first_out}
-use Rattle.bitpack_lists.specs.Upgrading.{IsRest1}
+use Rattle.bitpack_lists.specs.Upgrading.{IsRest1, IsTested1}
 use Rattle.bitpack_lists.proofs.HeaderLemmas.{header_bytes, length-header}
 use Rattle.bitpack_lists.proofs.ListLemmas.{lanes-is, on_err, on_ok}
 use Rattle.bitpack_lists.proofs.OneText.{later_from_none, list_from_none, none_from_list}
@@ -39,9 +39,8 @@ module _ (lanes count : ℕ) (kind : ListKind) (bytes : List ℕ) (begins : Begi
   lent : take (length bytes - 7) (drop 7 bytes) ≡ drop 7 bytes
   lent = take_all (length bytes - 7) (drop 7 bytes) (omega (arith, length-drop 7 bytes))
 
-  sound : fault1 lanes bytes ≡ None
-      → blocks_fault1 lanes (4 * tail_values lanes count) 0 (whole_blocks lanes count) (take (length bytes - 7) (drop 7 bytes)) ≡ None
-  sound none = rw lent (later_from_none lanes count kind bytes begins none)
+  tested : fault1 lanes bytes ≡ None → IsTested1 lanes count (take (length bytes - 7) (drop 7 bytes))
+  tested none = record { few = begins.few; sound = rw lent (later_from_none lanes count kind bytes begins none) }
 
   listed_as : (kind' : ListKind) (values : List ℕ) → List1 lanes kind' values bytes → (kind' ≡ kind) × IsRest1 lanes kind count values (take (length bytes - 7) (drop 7 bytes))
   listed_as kind' values list = rw lent (listed lanes count kind kind' values bytes begins list)
@@ -53,17 +52,17 @@ module _ (lanes count : ℕ) (kind : ListKind) (bytes : List ℕ) (begins : Begi
       let (same, is) = listed_as kind' values list in
       rw same (sym (finds values is))
 
-pub first_out_of_rest-requires-clause-sound : goal.first_out_of_rest-requires-clause-sound
-first_out_of_rest-requires-clause-sound g c =
-    sound g.P.BitPacker.lanes c.in_ok-header.header.count c.in_ok-header.header.kind c.args.bytes.now c.in_ok-header.ensures.header c.in_ok-header.ensures.fault
+pub first_out_of_rest-requires : goal.first_out_of_rest-requires
+first_out_of_rest-requires g c =
+    record { tested = tested g.P.BitPacker.lanes c.in_ok-header.header.count c.in_ok-header.header.kind c.args.bytes.now c.in_ok-header.ensures.header c.in_ok-header.ensures.fault }
 
-pub write_entries-requires-clause-sound : goal.write_entries-requires-clause-sound
-write_entries-requires-clause-sound g c =
-    sound g.P.BitPacker.lanes c.in_ok-header.header.count c.in_ok-header.header.kind c.args.bytes.now c.in_ok-header.ensures.header c.in_ok-header.ensures.fault
+pub write_entries-requires-clause-tested : goal.write_entries-requires-clause-tested
+write_entries-requires-clause-tested g c =
+    tested g.P.BitPacker.lanes c.in_ok-header.header.count c.in_ok-header.header.kind c.args.bytes.now c.in_ok-header.ensures.header c.in_ok-header.ensures.fault
 
 pub copy_bodies-requires-clause-sound : goal.copy_bodies-requires-clause-sound
 copy_bodies-requires-clause-sound g c =
-    sound g.P.BitPacker.lanes c.in_ok-header.header.count c.in_ok-header.header.kind c.args.bytes.now c.in_ok-header.ensures.header c.in_ok-header.ensures.fault
+    (tested g.P.BitPacker.lanes c.in_ok-header.header.count c.in_ok-header.header.kind c.args.bytes.now c.in_ok-header.ensures.header c.in_ok-header.ensures.fault).sound
 
 -- ---- order
 

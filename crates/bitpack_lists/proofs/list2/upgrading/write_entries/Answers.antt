@@ -11,7 +11,7 @@ use Rattle.bitpack_lists.proofs.list2.upgrading.write_entries.Goals as goal
 
 pub loop-init : goal.loop-init
 loop-init g c = record {
-  right = rw sub-zero c.requires.sound;
+  right = rw sub-zero c.requires.tested.sound;
   few = omega arith;
   long = omega arith;
   capacity = omega arith;
@@ -45,7 +45,7 @@ overflow_add-offset g c =
     let right = right_left lanes (4 * tail_values lanes c.args.header.count) (whole_blocks lanes c.args.header.count) c.loop.counter c.loop.rest.now (rw whole at c.loop-test.true)
     c.loop.invariant.right in
     let few = few_blocks lanes c.loop.counter c.args.header.count some (rw whole at c.loop-test.true) in
-    let fits : c.loop.offset + get_or c.loop.rest.now 0 0 ≤ 2 ^ 28 = omega (arith, few, c.requires.few, c.loop.invariant.few, right.0.narrow) in
+    let fits : c.loop.offset + get_or c.loop.rest.now 0 0 ≤ 2 ^ 28 = omega (arith, few, c.requires.tested.few, c.loop.invariant.few, right.0.narrow) in
     search (rules, fits)
 
 pub loop-preserved : goal.loop-preserved
@@ -69,7 +69,7 @@ loop-preserved g c =
       capacity = omega (arith, before.capacity, c.write.ensures.capacity);
       entries = λ values listed.
           rw next (entering_step lanes c.BLOCK_LEN-len.result count i c.loop.offset c.args.header.kind c.loop.kind values rest block part c.unpack_block.result.1.now
-          c.args.out.now.items c.loop.out.items c.write.new.out.items g.met.P.BitPacker.some_lanes whole lt c.requires.few listed.words listed.long words is parts
+          c.args.out.now.items c.loop.out.items c.write.new.out.items g.met.P.BitPacker.some_lanes whole lt c.requires.tested.few listed.words listed.long words is parts
           right.0.narrow c.write.ensures.items (before.entries values listed));
     }
 

@@ -1,57 +1,45 @@
 -- There is room for the text, and header, entries, bodies and tail are it.
-use Rattle.std.proofs.Common.{◌≡◌, ◌+◌, ◌-◌, ◌*◌, ◌/◌, ◌%◌, ◌<◌, ◌++◌, ℕ, List, length, take, drop, get_or, Option, Some, None, refl, sym, ◌∙◌, ap, arith, append_assoc, zero-add, vec_len}
+use Rattle.std.proofs.Common.{◌≡◌, ◌+◌, ◌-◌, ◌*◌, ◌/◌, ◌%◌, ◌++◌, ℕ, List, length, take, drop, Some, None, refl, sym, ◌∙◌, ap, arith, append_assoc, vec_len}
 use Rattle.std.proofs.Math.Nat.{mod-eq-sub-mul-div, mul-div-le}
-use Rattle.std.proofs.lemmas.List.{length-append, length-drop, take-append-drop, take_all}
+use Rattle.std.proofs.lemmas.List.{length-append, length-drop, take_all}
 use Rattle.bitpacking.specs.Words.{bytes_of_words}
 use Rattle.bitpacking.proofs.ForCallers.{AreWords-from_slice, length-bytes_of_words}
 use Rattle.bitpack_lists.specs.declared.list_kind.ListKind.{ListKind}
 use Rattle.bitpack_lists.specs.Parts.{header, tail_values, whole_blocks}
-use Rattle.bitpack_lists.specs.Version2.{first_out, is_out, least_below}
 use Rattle.bitpack_lists.proofs.HeaderLemmas.{length-header}
 use Rattle.bitpack_lists.proofs.ListLemmas.{lanes-is, on_err, on_ok}
 use Rattle.bitpack_lists.proofs.MeasuredLengths.{length-rest2}
-use Rattle.bitpack_lists.proofs.Orders.{ordered_first}
+use Rattle.bitpack_lists.proofs.Orders.{first_found}
 use Rattle.bitpack_lists.proofs.PartLemmas.{AreBytes-from_items, AreBytes-right}
 use Rattle.bitpack_lists.proofs.RestLemmas.{List2-from_rest, length-tail, length-text2, rest_done}
+use Rattle.bitpack_lists.proofs.WriteSteps.{parts_are}
 use Rattle.bitpack_lists.proofs.list2.writing.encode.Goals as goal
 
 -- ---- order
 
--- What the test finds is the first position out of order.
-found_is : (kind : ListKind) (values : List ℕ) (found : Option ℕ) → found ≡ least_below (is_out kind (λ k. get_or values k 0)) (0 + length values)
-    → first_out kind values ≡ found
-found_is kind values found is = sym (is ∙ ap (least_below (is_out kind (λ k. get_or values k 0))) (zero-add (length values)))
-
-in_place : (values : List ℕ) (k : ℕ) → k < length values → get_or values (0 + k) 0 ≡ get_or values k 0
-in_place values k lt = ap (λ i. get_or values i 0) (zero-add k)
-
 pub returns-in-Some-clause-order : goal.returns-in-Some-clause-order
 returns-in-Some-clause-order g c = λ few.
     let values : List ℕ = c.args.values.now in
-    let found = found_is c.args.kind values c.first_out.result
-    (c.first_out.ensures (λ k. get_or values k 0) (ordered_first c.args.kind (λ k. get_or values k 0) 0) (in_place values)) in
+    let found = first_found c.args.kind values c.first_out.result c.first_out.ensures in
     rw (found, c.in-Some.is) refl
 
 pub returns-in-Some-clause-room : goal.returns-in-Some-clause-room
 returns-in-Some-clause-room g c = λ few none.
     let values : List ℕ = c.args.values.now in
-    let found = found_is c.args.kind values c.first_out.result
-    (c.first_out.ensures (λ k. get_or values k 0) (ordered_first c.args.kind (λ k. get_or values k 0) 0) (in_place values)) in
+    let found = first_found c.args.kind values c.first_out.result c.first_out.ensures in
     let other : Some c.in-Some.position ≡ None = sym c.in-Some.is ∙ sym found ∙ none in
     absurd cc
 
 pub returns-then-is_err-clause-order : goal.returns-then-is_err-clause-order
 returns-then-is_err-clause-order g c = λ few.
     let values : List ℕ = c.args.values.now in
-    let found = found_is c.args.kind values c.first_out.result
-    (c.first_out.ensures (λ k. get_or values k 0) (ordered_first c.args.kind (λ k. get_or values k 0) 0) (in_place values)) in
+    let found = first_found c.args.kind values c.first_out.result c.first_out.ensures in
     rw (found, c.in_default.is) refl
 
 pub returns-clause-order : goal.returns-clause-order
 returns-clause-order g c = λ few.
     let values : List ℕ = c.args.values.now in
-    let found = found_is c.args.kind values c.first_out.result
-    (c.first_out.ensures (λ k. get_or values k 0) (ordered_first c.args.kind (λ k. get_or values k 0) 0) (in_place values)) in
+    let found = first_found c.args.kind values c.first_out.result c.first_out.ensures in
     rw (found, c.in_default.is) tt
 
 -- ---- room
@@ -62,7 +50,7 @@ returns-then-is_err-clause-room g c = λ few none text list.
     let long = length-text2 g.P.BitPacker.lanes c.args.kind c.args.values.now text g.met.P.BitPacker.some_lanes list in
     let size = length-rest2 g.P.BitPacker.lanes (whole_blocks g.P.BitPacker.lanes (length c.args.values.now)) c.text_len.result
     (4 * tail_values g.P.BitPacker.lanes (length c.args.values.now)) c.args.kind c.args.values.now (drop 7 text) g.met.P.BitPacker.some_lanes
-    c.text_len.ensures.len list.rest.entries in
+    c.text_len.ensures.len list.rest.whole.entries in
     omega (arith, full, long, size)
 
 -- What is in the vector, as long as it is.
@@ -111,12 +99,6 @@ tail_is lanes len values whole =
     rw whole (omega (arith, mod-eq-sub-mul-div (length values) n, mul-div-le (length values) n)) in
     let start : ℕ = length values - length values % len in
     take_all (length values - start) (drop start values) (omega (arith, length-drop start values)) ∙ ap (λ k. drop k values) from
-
--- The vector before the tail: what it held, the header, and entries and bodies.
-parts_are : (start len : ℕ) (front entered done : List ℕ) → start ≡ len → take len entered ≡ front → take start done ≡ take start entered
-    → done ≡ front ++ drop start done
-parts_are start len front entered done e f g =
-    sym (take-append-drop start done) ∙ ap (λ xs. xs ++ drop start done) (g ∙ ap (λ k. take k entered) e ∙ f)
 
 pub write_all-requires : goal.write_all-requires
 write_all-requires g c =
@@ -168,8 +150,7 @@ returns-clause-ok g c =
     let blocks : ℕ = whole_blocks lanes (length values) in
     let tail : List ℕ = bytes_of_words (drop (32 * lanes * blocks) values) in
     let rest : List ℕ = drop start done in
-    let found = found_is kind values c.first_out.result
-    (c.first_out.ensures (λ k. get_or values k 0) (ordered_first kind (λ k. get_or values k 0) 0) (in_place values)) in
+    let found = first_found kind values c.first_out.result c.first_out.ensures in
     let head = header_is lanes c.BLOCK_LEN.result (length values) kind old c.reserve.new.self.items front
     c.reserve.ensures.items (c.BLOCK_LEN.ensures ∙ g.met.P.BitPacker.block_len) c.write.ensures.items in
     let parts = parts_are start (vec_len c.write.new.out) front c.write_entries.new.out.items done c.len-start.ensures c.write_entries.ensures.front c.write_bodies.ensures.front in

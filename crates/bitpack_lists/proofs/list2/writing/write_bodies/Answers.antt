@@ -13,6 +13,7 @@ use Rattle.bitpack_lists.specs.Version2.{block_of, kind_at, last_at, tail_start,
 use Rattle.bitpack_lists.proofs.BlockLemmas.{AreWords-block_of, kind_at-next, next_block, next_left}
 use Rattle.bitpack_lists.proofs.EntryLemmas.{bodies_step, body_end, kind_at-append, last_at-append, widths_before-append}
 use Rattle.bitpack_lists.proofs.TextLemmas.{narrow_least}
+use Rattle.bitpack_lists.proofs.WriteSteps.{packable}
 use Rattle.bitpack_lists.proofs.list2.writing.write_bodies.Goals as goal
 
 -- The rest of the text, as the code lends it.
@@ -44,28 +45,28 @@ module _ (lanes len i start width : ℕ) (kind : ListKind) (block_kind : Kind) (
       let blocks : ℕ = whole_blocks lanes (length values) in
       rw (has.long, width_is) (rw (has.entries i lt).offset at (body_end lanes blocks blocks (drop start out) i lt (has.entries i lt).offset))
 
-pub write_body-requires-clause-narrow : goal.write_body-requires-clause-narrow
-write_body-requires-clause-narrow g c =
-    narrow g.P.BitPacker.lanes c.BLOCK_LEN-len.result c.loop-index.index c.args.start c.read-entry.result.width c.args.kind c.loop-index.block_kind c.args.values.now
+pub write_body-requires-clause-pack : goal.write_body-requires-clause-pack
+write_body-requires-clause-pack g c =
+    let whole : c.BLOCK_LEN-len.result ≡ 32 * g.P.BitPacker.lanes = c.BLOCK_LEN-len.ensures ∙ g.met.P.BitPacker.block_len in
+    let narrow_is = narrow g.P.BitPacker.lanes c.BLOCK_LEN-len.result c.loop-index.index c.args.start c.entry-entry.result.width c.args.kind c.loop-index.block_kind c.args.values.now
     c.loop-index.left.now c.split_at.result.0.now c.loop-index.out.items c.deref.result.now g.met.P.BitPacker.some_lanes
     (c.BLOCK_LEN-len.ensures ∙ g.met.P.BitPacker.block_len) c.loop-index.invariant.left c.loop-index-test.true c.split_at.ensures.front c.deref.ensures.value
-    c.read-entry.ensures.width c.loop-index.invariant.kind c.loop-index.invariant.has
-    (AreWords-from_slice c.args.values.now c.type_inv.values)
-
-pub write_body-requires-clause-fits : goal.write_body-requires-clause-fits
-write_body-requires-clause-fits g c =
-    (least g.P.BitPacker.lanes c.BLOCK_LEN-len.result c.loop-index.index c.args.start c.read-entry.result.width c.args.kind c.loop-index.block_kind c.args.values.now
+    c.entry-entry.ensures.width c.loop-index.invariant.kind c.loop-index.invariant.has
+    (AreWords-from_slice c.args.values.now c.type_inv.values) in
+    let least_is = least g.P.BitPacker.lanes c.BLOCK_LEN-len.result c.loop-index.index c.args.start c.entry-entry.result.width c.args.kind c.loop-index.block_kind c.args.values.now
     c.loop-index.left.now c.split_at.result.0.now c.loop-index.out.items c.deref.result.now g.met.P.BitPacker.some_lanes
     (c.BLOCK_LEN-len.ensures ∙ g.met.P.BitPacker.block_len) c.loop-index.invariant.left c.loop-index-test.true c.split_at.ensures.front c.deref.ensures.value
-    c.read-entry.ensures.width c.loop-index.invariant.kind c.loop-index.invariant.has).fits
+    c.entry-entry.ensures.width c.loop-index.invariant.kind c.loop-index.invariant.has in
+    packable g.P.BitPacker.lanes c.entry-entry.result.width c.loop-index.block_kind c.split_at.result.0.now c.loop-index.body least_is
+    (c.split_at.ensures.front_len ∙ whole) narrow_is g.met.P.BitPacker.few_lanes (omega arith)
 
 pub write_body-requires-clause-room : goal.write_body-requires-clause-room
 write_body-requires-clause-room g c =
     let before = c.loop-index.invariant in
-    let fits = room g.P.BitPacker.lanes c.BLOCK_LEN-len.result c.loop-index.index c.args.start c.read-entry.result.width c.args.kind c.loop-index.block_kind c.args.values.now
+    let fits = room g.P.BitPacker.lanes c.BLOCK_LEN-len.result c.loop-index.index c.args.start c.entry-entry.result.width c.args.kind c.loop-index.block_kind c.args.values.now
     c.loop-index.left.now c.split_at.result.0.now c.loop-index.out.items c.deref.result.now g.met.P.BitPacker.some_lanes
     (c.BLOCK_LEN-len.ensures ∙ g.met.P.BitPacker.block_len) c.loop-index.invariant.left c.loop-index-test.true c.split_at.ensures.front c.deref.ensures.value
-    c.read-entry.ensures.width c.loop-index.invariant.kind c.loop-index.invariant.has in
+    c.entry-entry.ensures.width c.loop-index.invariant.kind c.loop-index.invariant.has in
     omega (
       arith,
       fits,
@@ -93,9 +94,10 @@ loop-index-preserved g c =
     let lt : i < whole_blocks lanes (length values) = rw whole at c.loop-index-test.true in
     let block = c.split_at.ensures.front ∙ next_block lanes c.BLOCK_LEN-len.result i values c.loop-index.left.now some whole before.left c.loop-index-test.true in
     let lent_is = lent start old c.deref.result.now c.deref.ensures.value in
-    let read = c.read-entry.ensures.width ∙ ap (λ xs. width_at xs i) lent_is in
-    let last = c.read-entry.ensures.last ∙ ap (λ xs. last_at xs i) lent_is in
-    let (body, holds, items) = c.write_body.ensures.body in
+    let read = c.entry-entry.ensures.width ∙ ap (λ xs. width_at xs i) lent_is in
+    let last = c.entry-entry.ensures.last ∙ ap (λ xs. last_at xs i) lent_is in
+    let (body, holds, appended) = c.write_body.ensures.body in
+    let items = appended.items in
     let within : start ≤ length old = omega (arith, before.long, c.requires.start, c.args.out.now.ok) in
     let new : drop start c.write_body.new.out.items ≡ rest ++ body = ap (drop start) items ∙ drop-append-le start old body within in
     let long : 9 * whole_blocks lanes (length values) ≤ length rest = omega (arith, before.has.long) in
@@ -103,14 +105,14 @@ loop-index-preserved g c =
       left = c.split_at.ensures.back ∙ next_left lanes c.BLOCK_LEN-len.result i values c.loop-index.left.now some whole before.left c.loop-index-test.true;
       kind =
           rw new (c.next_kind-block_kind.ensures
-          ∙ kind_at-next c.args.kind (rest ++ body) i c.loop-index.block_kind c.read-entry.result.last
+          ∙ kind_at-next c.args.kind (rest ++ body) i c.loop-index.block_kind c.entry-entry.result.last
           (before.kind ∙ sym (kind_at-append rest body c.args.kind i (omega (arith, long, lt))))
           (last ∙ sym (last_at-append rest body i (omega (arith, long, lt)))));
       has = rw new (bodies_step lanes (whole_blocks lanes (length values)) c.args.kind values rest body i lt before.has (rw (← read, ← before.kind, ← block) holds));
       end = rw new (ap (λ x. 9 * whole_blocks lanes (length values) + 4 * lanes * x) (widths_before-append rest body (whole_blocks lanes (length values)) long) ∙ before.end);
       long = omega (arith, before.long, ap length items, length-append old body);
       front = ap (take start) items ∙ take-append-le start old body within ∙ before.front;
-      capacity = omega (arith, before.capacity, c.write_body.ensures.capacity);
+      capacity = omega (arith, before.capacity, appended.capacity);
     }
 
 pub returns-clause-bodies : goal.returns-clause-bodies

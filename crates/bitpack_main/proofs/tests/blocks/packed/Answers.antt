@@ -6,11 +6,11 @@ use Rattle.bitpack_main.proofs.tests.blocks.packed.Goals as goal
 -- the width is at least the least
 pub compress_kind-requires : goal.compress_kind-requires
 compress_kind-requires g c =
-    let wide : c.width_kind-least.result ≤ c.args.num_bits = search rules in
+    let wide : c.num_bits_kind-least.result ≤ c.args.num_bits = search rules in
     record {
       whole = search rules;
       narrow = search rules;
       room = search rules;
-      fits = c.one_least_width.ensures.greater (codes c.args.kind c.args.block.now) c.width_kind-least.result c.args.num_bits wide
-          c.width_kind-least.ensures.width.fits;
+      fits = c.one_least_width.ensures.greater (codes c.args.kind c.args.block.now) c.num_bits_kind-least.result c.args.num_bits wide
+          c.num_bits_kind-least.ensures.width.fits;
     }

@@ -1,30 +1,27 @@
 -- The value is that of its block, or of the tail.
 use Rattle.std.proofs.Common.{◌≡◌, ◌*◌, Some, sym, ◌∙◌, ap, arith}
-use Rattle.std.proofs.lemmas.Option.{slice_get-get_or, slice_get_past}
-use Rattle.bitpack_lists.proofs.OpenedLists.{opened_block, opened_count, opened_value}
+use Rattle.std.proofs.lemmas.Option.{slice_get_past}
+use Rattle.bitpack_lists.specs.Opened.{values}
+use Rattle.bitpack_lists.specs.Searching.{value_of}
+use Rattle.bitpack_lists.proofs.CursorSteps.{slice_get-first_of}
+use Rattle.bitpack_lists.proofs.OpenedLists.{opened_block}
+use Rattle.bitpack_lists.proofs.OpenedValues.{length-values}
 use Rattle.bitpack_lists.proofs.list2.packed_list.PackedList.get.Goals as goal
 
 pub returns-then-position-self : goal.returns-then-position-self
-returns-then-position-self g c = λ kind values list.
-    let count = opened_count g.P.BitPacker.lanes c.args.self.now.count c.args.self.now.kind c.args.self.now.bytes.now g.met.P.BitPacker.some_lanes c.args.self.now.begins c.args.self.now.sound
-    kind values list in
-    sym (slice_get_past values c.args.position (omega (arith, count, c.if-position-self.true)))
+returns-then-position-self g c =
+    let self = c.args.self.now in
+    sym (slice_get_past (values self) c.args.position (omega (arith, length-values self, c.if-position-self.true)))
 
 pub returns-then-position-len : goal.returns-then-position-len
-returns-then-position-len g c = λ kind values list.
+returns-then-position-len g c =
+    let self = c.args.self.now in
     let whole : c.BLOCK_LEN-len.result ≡ 32 * g.P.BitPacker.lanes = c.BLOCK_LEN-len.ensures ∙ g.met.P.BitPacker.block_len in
-    let count = opened_count g.P.BitPacker.lanes c.args.self.now.count c.args.self.now.kind c.args.self.now.bytes.now g.met.P.BitPacker.some_lanes c.args.self.now.begins c.args.self.now.sound
-    kind values list in
-    let value = opened_value g.P.BitPacker.lanes c.args.self.now.count c.args.self.now.kind c.args.self.now.bytes.now g.met.P.BitPacker.some_lanes c.args.self.now.begins c.args.self.now.sound
-    c.args.self.now.are_bytes kind values list c.args.position c.if-position-self.false in
-    let block = opened_block g.P.BitPacker.lanes c.args.self.now.count c.args.self.now.kind c.args.self.now.bytes.now g.met.P.BitPacker.some_lanes c.args.self.now.begins c.args.self.now.sound
+    let block = opened_block g.P.BitPacker.lanes self.count self.kind self.bytes.now g.met.P.BitPacker.some_lanes self.begins self.sound
     c.BLOCK_LEN-len.result c.args.position whole c.if-position-len.true in
-    ap Some (c.value_in_block.ensures ∙ sym block ∙ value) ∙ sym (slice_get-get_or values c.args.position 0 (omega (arith, count, c.if-position-self.false)))
+    ap Some (c.value_in_block.ensures ∙ sym block) ∙ sym (slice_get-first_of (value_of self) self.count c.args.position c.if-position-self.false)
 
 pub returns-else-position-len : goal.returns-else-position-len
-returns-else-position-len g c = λ kind values list.
-    let count = opened_count g.P.BitPacker.lanes c.args.self.now.count c.args.self.now.kind c.args.self.now.bytes.now g.met.P.BitPacker.some_lanes c.args.self.now.begins c.args.self.now.sound
-    kind values list in
-    let value = opened_value g.P.BitPacker.lanes c.args.self.now.count c.args.self.now.kind c.args.self.now.bytes.now g.met.P.BitPacker.some_lanes c.args.self.now.begins c.args.self.now.sound
-    c.args.self.now.are_bytes kind values list c.args.position c.if-position-self.false in
-    ap Some (c.value_in_tail.ensures ∙ value) ∙ sym (slice_get-get_or values c.args.position 0 (omega (arith, count, c.if-position-self.false)))
+returns-else-position-len g c =
+    let self = c.args.self.now in
+    ap Some c.value_in_tail.ensures ∙ sym (slice_get-first_of (value_of self) self.count c.args.position c.if-position-self.false)

@@ -1,8 +1,7 @@
--- The count of the header is the length of each list whose text this is.
-use Rattle.bitpack_lists.proofs.OpenedLists.{opened_count}
+-- The count of the header is the length of the values.
+use Rattle.std.proofs.Common.{sym}
+use Rattle.bitpack_lists.proofs.OpenedValues.{length-values}
 use Rattle.bitpack_lists.proofs.list2.packed_list.PackedList.len.Goals as goal
 
 pub returns : goal.returns
-returns g c = λ kind values list.
-    opened_count g.P.BitPacker.lanes c.args.self.now.count c.args.self.now.kind c.args.self.now.bytes.now g.met.P.BitPacker.some_lanes c.args.self.now.begins
-    c.args.self.now.sound kind values list
+returns g c = sym (length-values c.args.self.now)

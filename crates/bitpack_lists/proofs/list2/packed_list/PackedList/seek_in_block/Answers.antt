@@ -7,8 +7,9 @@ pub returns-clause-found : goal.returns-clause-found
 returns-clause-found g c =
     let whole : c.BLOCK_LEN-len.result ≡ 32 * g.P.BitPacker.lanes = c.BLOCK_LEN-len.ensures ∙ g.met.P.BitPacker.block_len in
     let block = c.requires.block in
-    let kept = c.keep.ensures.kept (rw c.keep.ensures.number block.is.within) in
-    let values = ap (λ len. take len c.keep.new.kept.values) whole ∙ rw c.keep.ensures.number at kept in
+    let keeps = c.keep.ensures.kept in
+    let kept = keeps.kept (rw keeps.number block.is.within) in
+    let values = ap (λ len. take len c.keep.new.kept.values) whole ∙ rw keeps.number at kept in
     opened_search g.P.BitPacker.lanes c.args.self.now.count c.args.self.now.kind c.args.self.now.bytes.now g.met.P.BitPacker.some_lanes c.args.self.now.begins
     c.args.self.now.sound c.requires.ordered c.args.target c.args.block.number block.before block.is.within block.enough c.args.self.now.are_bytes
     c.BLOCK_LEN-len.result (take c.BLOCK_LEN-len.result c.keep.new.kept.values) c.first_at_least.result whole values c.first_at_least.ensures.found

@@ -15,14 +15,19 @@ loop-number-init g c =
     let few : blocks_of other < c.new.result.number = omega (arith, c.new.ensures, few_blocks g.Q.BitPacker.lanes other.count g.met.Q.BitPacker.some_lanes other.begins.few) in
     record {
       walking = record {
-        kept = λ lt. absurd (omega arith);
-        walked =
-            rw none
-            (walked_none_yet g.Q.BitPacker.lanes (values_in c.args.one.now) (values_in other) begun c.new.result.number (vec_capacity c.args.out.now) (omega arith)
-            (omega (arith, c.requires.room, c.args.out.now.ok)));
+        ordered = c.requires.ordered;
+        walking = record {
+          ordered = c.requires.other_ordered;
+          kept = λ lt. absurd (omega arith);
+          walked =
+              rw none
+              (walked_none_yet g.Q.BitPacker.lanes (values_in c.args.one.now) (values_in other) begun c.new.result.number (vec_capacity c.args.out.now) (omega arith)
+              (omega (arith, c.requires.room, c.args.out.now.ok)));
+        };
       };
       entries = omega arith;
       blocks = omega arith;
+      grown = record { entries = omega arith; blocks = omega arith };
       kind_is = c.first-first.ensures;
     }
 
@@ -31,21 +36,25 @@ returns-then-walk-clause-walking g c =
     let begun : Begun = begun_with c.args.out.now.items c.args.reads.now c.args.other_reads.now in
     let list = c.args.one.now in
     let n : ℕ = 32 * g.P.BitPacker.lanes in
-    let before = c.loop-number.invariant.walking in
+    let before = c.loop-number.invariant.walking.walking in
     let whole : c.BLOCK_LEN.result ≡ n = c.BLOCK_LEN.ensures ∙ g.met.P.BitPacker.block_len in
     let lt : c.loop-number.number < list.count / n = rw whole at c.loop-number-test.true in
     let room = block_room g.P.BitPacker.lanes list.count list.kind list.bytes.now g.met.P.BitPacker.some_lanes list.begins list.sound list.are_bytes c.requires.ordered
     c.loop-number.number lt in (
       c.loop-number.walk,
       record {
-        kept = before.kept;
-        walked =
-            walked_upto g.Q.BitPacker.lanes (values_in list) (values_in c.args.other.now) begun (n * c.loop-number.number) c.loop-number.walk.want
-            c.loop-number.walk.kept.number c.loop-number.out.items (vec_capacity c.loop-number.out) c.loop-number.reads.blocks c.loop-number.other_reads 0 before.walked
-            list.count (omega (arith, room)) (λ k within.
-            let word = opened_words g.P.BitPacker.lanes list.count list.kind list.bytes.now g.met.P.BitPacker.some_lanes list.begins list.sound list.are_bytes
-            c.requires.ordered k within in
-            omega (arith, word, c.if-walk.true));
+        ordered = c.requires.ordered;
+        walking = record {
+          ordered = before.ordered;
+          kept = before.kept;
+          walked =
+              walked_upto g.Q.BitPacker.lanes (values_in list) (values_in c.args.other.now) begun (n * c.loop-number.number) c.loop-number.walk.want
+              c.loop-number.walk.kept.number c.loop-number.out.items (vec_capacity c.loop-number.out) c.loop-number.reads.blocks c.loop-number.other_reads 0 before.walked
+              list.count (omega (arith, room)) (λ k within.
+              let word = opened_words g.P.BitPacker.lanes list.count list.kind list.bytes.now g.met.P.BitPacker.some_lanes list.begins list.sound list.are_bytes
+              c.requires.ordered k within in
+              omega (arith, word, c.if-walk.true));
+        };
       },
     )
 
@@ -59,15 +68,19 @@ loop-number-preserved g c =
     let begun : Begun = begun_with c.args.out.now.items c.args.reads.now c.args.other_reads.now in
     record {
       walking = c.walk_block.ensures.walking begun (rw c.entry-entry.ensures.blocks c.loop-number.invariant.walking);
-      entries = omega (arith, c.walk_block.ensures.entries, c.entry-entry.ensures.entries, c.loop-number.invariant.entries);
-      blocks = omega (arith, c.walk_block.ensures.blocks, c.entry-entry.ensures.blocks, c.loop-number.invariant.blocks);
+      entries = omega (arith, c.walk_block.ensures.reads.entries, c.entry-entry.ensures.entries, c.loop-number.invariant.entries);
+      blocks = omega (arith, c.walk_block.ensures.reads.blocks, c.entry-entry.ensures.blocks, c.loop-number.invariant.blocks);
+      grown = record {
+        entries = omega (arith, c.walk_block.ensures.reads.grown.entries, c.entry-entry.ensures.entries, c.loop-number.invariant.grown.entries);
+        blocks = omega (arith, c.walk_block.ensures.reads.grown.blocks, c.entry-entry.ensures.blocks, c.loop-number.invariant.grown.blocks);
+      };
       kind_is =
           rw add-one
           (c.next_kind-kind.ensures ∙ ap (λ k. next_kind k c.entry-entry.result.last) c.first-first.ensures ∙ ap (next_kind _) c.entry-entry.ensures.last);
     }
 
-pub walk_tail-requires-clause-walking : goal.walk_tail-requires-clause-walking
-walk_tail-requires-clause-walking g c =
+pub walk_tail-requires : goal.walk_tail-requires
+walk_tail-requires g c =
     let begun : Begun = begun_with c.args.out.now.items c.args.reads.now c.args.other_reads.now in
     let list = c.args.one.now in
     let whole : c.BLOCK_LEN.result ≡ 32 * g.P.BitPacker.lanes = c.BLOCK_LEN.ensures ∙ g.met.P.BitPacker.block_len in

@@ -8,18 +8,18 @@ use Rattle.bitpack_lists.proofs.OpenedWalks.{few_in_tail, next_tail}
 use Rattle.bitpack_lists.proofs.Walking.{stage_of}
 use Rattle.bitpack_lists.proofs.list2.packed_list.walk.walk_tail.Goals as goal
 
-pub walk_values-requires-clause-walking : goal.walk_values-requires-clause-walking
-walk_values-requires-clause-walking g c =
+pub walk_values-requires : goal.walk_values-requires
+walk_values-requires g c =
     let list = c.args.one.now in
     let n : ℕ = 32 * g.P.BitPacker.lanes in
-    let (begun, blocks, before) = c.requires.walking in
+    let (begun, blocks, before) = c.requires in
     let read = c.read_tail-tail.new.values in
     let long : length (take c.read_tail-tail.result read) ≡ c.read_tail-tail.result = omega (arith, length-take c.read_tail-tail.result read, c.read_tail-tail.ensures.len, few_in_tail g.P.BitPacker.lanes list.count g.met.P.BitPacker.some_lanes g.met.P.BitPacker.few_lanes) in (
       stage_of (values_in list) begun (n * blocks_of list) blocks 0,
-      next_tail g.P.BitPacker.lanes list.count list.kind list.bytes.now g.met.P.BitPacker.some_lanes list.begins list.sound list.are_bytes c.requires.ordered begun blocks 0
+      next_tail g.P.BitPacker.lanes list.count list.kind list.bytes.now g.met.P.BitPacker.some_lanes list.begins list.sound list.are_bytes before.ordered begun blocks 0
           (take c.read_tail-tail.result read) (long ∙ c.read_tail-tail.ensures.len)
           (λ k lt. get_or-take c.read_tail-tail.result read k 0 (rw long at lt) ∙ c.read_tail-tail.ensures.values k (rw long at lt)),
-      before,
+      before.walking,
     )
 
 pub returns : goal.returns
@@ -31,8 +31,11 @@ returns g c = record {
       let long : length (take c.read_tail-tail.result read) ≡ c.read_tail-tail.result = omega (arith, length-take c.read_tail-tail.result read, c.read_tail-tail.ensures.len, few_in_tail g.P.BitPacker.lanes list.count g.met.P.BitPacker.some_lanes g.met.P.BitPacker.few_lanes) in
       let end : n * blocks_of list + length (take c.read_tail-tail.result read) ≡ list.count =
       omega (arith, long, c.read_tail-tail.ensures.len, div-add-mod list.count n) in
-      rw end at (c.walk_values.ensures.walking (stage_of (values_in list) begun (n * blocks_of list) blocks 0)
-      (next_tail g.P.BitPacker.lanes list.count list.kind list.bytes.now g.met.P.BitPacker.some_lanes list.begins list.sound list.are_bytes c.requires.ordered begun blocks 0
-      (take c.read_tail-tail.result read) (long ∙ c.read_tail-tail.ensures.len)
-      (λ k lt. get_or-take c.read_tail-tail.result read k 0 (rw long at lt) ∙ c.read_tail-tail.ensures.values k (rw long at lt))) before);
+      record {
+        ordered = before.ordered;
+        walking = rw end at (c.walk_values.ensures.walking (stage_of (values_in list) begun (n * blocks_of list) blocks 0)
+            (next_tail g.P.BitPacker.lanes list.count list.kind list.bytes.now g.met.P.BitPacker.some_lanes list.begins list.sound list.are_bytes before.ordered begun blocks 0
+            (take c.read_tail-tail.result read) (long ∙ c.read_tail-tail.ensures.len)
+            (λ k lt. get_or-take c.read_tail-tail.result read k 0 (rw long at lt) ∙ c.read_tail-tail.ensures.values k (rw long at lt))) before.walking);
+      };
 }

@@ -10,17 +10,17 @@ use Rattle.bitpack_lists.proofs.list2.packed_list.walk.walk_values.Goals.{then-v
 
 pub seek_kept-found-requires-clause-kept : goal.seek_kept-found-requires-clause-kept
 seek_kept-found-requires-clause-kept g c =
-    let (stage, next, walking) = c.requires.walking in
+    let (stage, next, walking) = c.requires in
     (c.loop-index.invariant.walking stage next walking).kept
 
 pub append_found-requires : goal.append_found-requires
 append_found-requires g c = record {
   room =
-      let (stage, next, walking) = c.requires.walking in
+      let (stage, next, walking) = c.requires in
       let before = c.loop-index.invariant.walking stage next walking in
       let list = c.args.other.now in
       let sound = opened_sound g.Q.BitPacker.lanes list.count list.kind list.bytes.now g.met.Q.BitPacker.some_lanes list.begins list.sound in
-      let order : InOrder (values_in list) = in_order list.kind (values_in list).value list.count c.requires.other_ordered sound.ordered in
+      let order : InOrder (values_in list) = in_order list.kind (values_in list).value list.count before.ordered sound.ordered in
       step_room g.Q.BitPacker.lanes (values_in list) stage c.args.values.now c.loop-index.index c.loop-index.walk.want c.loop-index.walk.kept.number
       c.loop-index.out.items (vec_capacity c.loop-index.out) c.loop-index.other_reads order next c.loop-index-test.true before.walked (vec_len c.loop-index.out)
       c.seek_kept-found.result (omega (arith, c.loop-index.out.ok)) c.if-value-walk.true (sym c.seek_kept-found.ensures.found);
@@ -32,24 +32,27 @@ loop-index-preserved g c = record {
       let before = c.loop-index.invariant.walking stage next walking in
       let list = c.args.other.now in
       let sound = opened_sound g.Q.BitPacker.lanes list.count list.kind list.bytes.now g.met.Q.BitPacker.some_lanes list.begins list.sound in
-      let order : InOrder (values_in list) = in_order list.kind (values_in list).value list.count c.requires.other_ordered sound.ordered in
+      let order : InOrder (values_in list) = in_order list.kind (values_in list).value list.count before.ordered sound.ordered in
       elim c.if-value-walk.branch [
         | then-value-walk w ↦ rw (w.walk-is, w.out-is, w.other_reads-is) (record {
-          kept = w.seek_kept-found.ensures.kept;
+          ordered = before.ordered;
+          kept = w.seek_kept-found.ensures.kept.kept;
           walked =
               rw w.append_found.ensures.capacity
               (step_searched g.Q.BitPacker.lanes (values_in list) stage c.args.values.now c.loop-index.index c.loop-index.walk.want c.loop-index.walk.kept.number
               c.loop-index.out.items (vec_capacity c.loop-index.out) c.loop-index.other_reads order next c.loop-index-test.true before.walked w.seek_kept-found.result
               w.wanted_next-walk.result w.seek_kept-found.new.kept.number w.append_found.new.out.items w.seek_kept-found.new.reads w.if-value-walk.true (record {
                 answers = sym w.seek_kept-found.ensures.found;
-                entries = w.seek_kept-found.ensures.entries;
-                blocks = w.seek_kept-found.ensures.blocks.blocks;
-                again = w.seek_kept-found.ensures.blocks.again;
-                inside = w.seek_kept-found.ensures.blocks.inside;
-                outside = w.seek_kept-found.ensures.blocks.outside;
+                entries = w.seek_kept-found.ensures.kept.entries;
+                blocks = w.seek_kept-found.ensures.kept.blocks;
+                again = w.seek_kept-found.ensures.kept.again;
+                grown = w.seek_kept-found.ensures.kept.grown;
+                inside = w.seek_kept-found.ensures.kept.inside;
+                outside = w.seek_kept-found.ensures.kept.outside;
               }) w.wanted_next-walk.ensures w.append_found.ensures.appends);
         })
         | else-value-walk w ↦ rw (w.walk-is, w.out-is, w.other_reads-is) (record {
+          ordered = before.ordered;
           kept = before.kept;
           walked =
               step_passed g.Q.BitPacker.lanes (values_in list) stage c.args.values.now c.loop-index.index c.loop-index.walk.want c.loop-index.walk.kept.number

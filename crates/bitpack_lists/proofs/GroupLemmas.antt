@@ -1,0 +1,158 @@
+-- Groups: a body that is cut, its codes, and the tests of a reader.
+use Rattle.std.proofs.Common.{◌≡◌, ℕ, zero, suc, ◌+◌, ◌-◌, ◌*◌, ◌%◌, ◌^◌, ◌<◌, ◌≤◌, true, false, ltb, Some, None, List, [], ◌∷◌, ◌++◌, length, take, drop, replicate, refl, sym, ◌∙◌, ap, arith}
+use Rattle.std.specs.List.{list_all}
+use Rattle.std.proofs.lemmas.Bool.{lt-ltb, le-ltb}
+use Rattle.std.proofs.lemmas.Nat.{mul-le, pow_pos, one_shl}
+use Rattle.std.proofs.lemmas.List.{drop-replicate, take-replicate, take-take, take_all, take_at, length-append, length-replicate, length-take-le}
+use Rattle.std.proofs.lemmas.List.Elements.{All-append, All-replicate, All-take}
+use Rattle.bitpacking.specs.Bits.{AreBytes}
+use Rattle.bitpacking.specs.Width.{Fits, Least}
+use Rattle.bitpacking.specs.Layout.{codes_of, size, Layout}
+use Rattle.bitpacking.proofs.ForCallers.{same_least_width, AreBytes-take, one_layout_bytes, one_layout_codes}
+use Rattle.bitpack_lists.specs.declared.list_error.ListError.TheVariants.{Short, BadWidth, LooseWidth, Padding}
+use Rattle.bitpack_lists.specs.Groups.{group_size, padded, IsGroup, body_of, all_codes, are_loose, are_zeros, group_fault}
+
+-- ---- sizes
+
+pub group_size-le : (count width : ℕ) → count ≤ 32 → group_size count width ≤ 4 * width
+group_size-le count width few = omega (arith, mul-le count width 32 width few (omega arith))
+
+-- ---- the codes of bytes that were cut
+
+take-zeros : (cut : List ℕ) (m n : ℕ) → length cut ≤ m → m ≤ length cut + n
+    → take m (cut ++ replicate n 0) ≡ cut ++ replicate (m - length cut) 0
+take-zeros [] m n fits room =
+    let e : m - 0 ≡ m = omega arith in
+    let all : take m (replicate {A = ℕ} n 0) ≡ replicate m 0 = take-replicate m n 0 (omega arith) in
+    rw e all
+take-zeros (byte ∷ cut) zero n fits room = absurd (omega arith)
+take-zeros (byte ∷ cut) (suc m) n fits room =
+    let e : suc m - suc (length cut) ≡ m - length cut = omega arith in
+    rw e (ap (λ zs. byte ∷ zs) (take-zeros cut m n (omega arith) (omega arith)))
+
+-- The first bytes and zeros, of a buffer that goes on with zeros.
+pub take-body : (cut : List ℕ) (width n : ℕ) → length cut ≤ 4 * width → 4 * width ≤ length cut + n
+    → take (4 * width) (cut ++ replicate n 0) ≡ body_of width cut
+take-body cut width n fits room = take-zeros cut (4 * width) n fits room
+
+-- What is unpacked from them.
+pub unpacked-is : (width k : ℕ) (cut body codes : List ℕ) → length codes ≡ 32 → length cut ≤ 4 * width → 4 * width ≤ 128 → length cut ≡ k
+    → body ≡ cut ++ drop k (replicate {A = ℕ} 128 0)
+    → Layout 1 width (take 32 codes) (take (size 1 width) body) → codes ≡ codes_of 1 width (body_of width cut)
+unpacked-is width k cut body codes whole fits narrow long is layout =
+    let all : take 32 codes ≡ codes = take_all 32 codes (omega arith) in
+    let four : size 1 width ≡ 4 * width = omega arith in
+    let zeros : drop k (replicate {A = ℕ} 128 0) ≡ replicate (128 - k) 0 = drop-replicate k 128 0 in
+    let front : take (size 1 width) body ≡ body_of width cut = rw (four, is, zeros) (take-body cut width (128 - k) fits (omega arith)) in
+    let laid : Layout 1 width codes (body_of width cut) = rw (← all, ← front) layout in
+    (one_layout_codes 1 width (body_of width cut) laid.byte_count).1 codes laid
+
+-- ---- the tests of a reader
+
+pub not_loose_at_0 : (width : ℕ) (codes : List ℕ) → width ≡ 0 → false ≡ are_loose width codes
+unfolding are_loose
+not_loose_at_0 width codes none = rw none refl
+
+pub loose_by_bound : (width : ℕ) (codes : List ℕ) → 0 < width → width ≤ 32
+    → list_all (λ code. ltb code (1 * 2 ^ (width - 1) % 2 ^ 32)) codes ≡ are_loose width codes
+unfolding are_loose
+loose_by_bound width codes some narrow = rw (one_shl (width - 1) 32 (omega arith), lt-ltb 0 width some) refl
+
+pub no_byte : (block count : ℕ) (bytes : List ℕ) → length bytes < 1 → group_fault block count bytes ≡ Some Short
+unfolding group_fault
+no_byte block count [] none = refl
+no_byte block count (byte ∷ bytes) none = absurd (omega arith)
+
+module _ (block count width : ℕ) (bytes rest : List ℕ) (is : bytes ≡ width ∷ rest) where
+  pub wide : 32 < width → group_fault block count bytes ≡ Some (BadWidth block width)
+  unfolding group_fault
+  wide above = ap (group_fault block count) is ∙ rw (lt-ltb 32 width above) refl
+
+  pub missing : width ≤ 32 → length rest < group_size count width → group_fault block count bytes ≡ Some Short
+  unfolding group_fault
+  missing narrow few = ap (group_fault block count) is ∙ rw (le-ltb 32 width narrow, lt-ltb (length rest) (group_size count width) few) refl
+
+  pub loose : width ≤ 32 → group_size count width ≤ length rest → are_loose width (take count (all_codes count width rest)) ≡ true
+      → group_fault block count bytes ≡ Some (LooseWidth block width)
+  unfolding group_fault
+  loose narrow room test =
+      ap (group_fault block count) is ∙ rw (le-ltb 32 width narrow, le-ltb (length rest) (group_size count width) room, test) refl
+
+  module _ (narrow : width ≤ 32) (room : group_size count width ≤ length rest) (least : are_loose width (take count (all_codes count width rest)) ≡ false) where
+    pub padding : are_zeros (drop count (all_codes count width rest)) ≡ false → group_fault block count bytes ≡ Some Padding
+    unfolding group_fault
+    padding test =
+        ap (group_fault block count) is ∙ rw (le-ltb 32 width narrow, le-ltb (length rest) (group_size count width) room, least, test) refl
+
+    pub right : are_zeros (drop count (all_codes count width rest)) ≡ true → group_fault block count bytes ≡ None
+    unfolding group_fault
+    right test =
+        ap (group_fault block count) is ∙ rw (le-ltb 32 width narrow, le-ltb (length rest) (group_size count width) room, least, test) refl
+
+-- ---- widths
+
+-- Zeros fit every width.
+pub Fits-more_zeros : (codes : List ℕ) (n width : ℕ) → Fits codes width → Fits (codes ++ replicate n 0) width
+Fits-more_zeros codes n width fits =
+    All-append (λ code. code < 2 ^ width) codes (replicate n 0) fits (All-replicate (λ code. code < 2 ^ width) n 0 (pow_pos width))
+
+pub Fits-front : (codes others : List ℕ) (width : ℕ) → Fits (codes ++ others) width → Fits codes width
+Fits-front codes others width fits = rw (take_at codes others (length codes) refl) at (All-take (λ code. code < 2 ^ width) (length codes) (codes ++ others) fits)
+
+pub Least-no_zeros : (codes : List ℕ) (n width : ℕ) → Least (codes ++ replicate n 0) width → Least codes width
+Least-no_zeros codes n width least = record {
+  fits = Fits-front codes (replicate n 0) width least.fits;
+  least = λ smaller lt fits. least.least smaller lt (Fits-more_zeros codes n smaller fits);
+}
+
+-- ---- writing
+
+-- The width and the first bytes that were packed are a group.
+pub written-is : (codes block body : List ℕ) (width : ℕ) → length codes ≤ 32 → block ≡ padded codes → AreBytes body → Least block width
+    → Layout 1 width block (take (size 1 width) body) → IsGroup codes (width ∷ take (group_size (length codes) width) body)
+written-is codes block body width few is small least layout =
+    let four : size 1 width ≡ 4 * width = omega arith in
+    let le : group_size (length codes) width ≤ size 1 width = rw four (group_size-le (length codes) width few) in
+    record {
+      width = width;
+      body = take (size 1 width) body;
+      least = Least-no_zeros codes (32 - length codes) width (rw (← is) least);
+      bytes = AreBytes-take body (size 1 width) small;
+      layout = rw (← is) layout;
+      parts = ap (λ zs. width ∷ zs) (sym (take-take (group_size (length codes) width) (size 1 width) body le));
+    }
+
+-- The room for the group is room for the width and those bytes.
+pub written-room : (codes block : List ℕ) (width : ℕ) → length codes ≤ 32 → block ≡ padded codes → Least block width
+    → (part : List ℕ) × IsGroup codes part × (length part ≡ 1 + group_size (length codes) width)
+written-room codes block width few is least =
+    let whole : length (padded codes) ≡ 32 * 1 = simp (length-append, length-replicate) (omega arith) in
+    let least' : Least (padded codes) width = rw (← is) least in
+    let found = one_layout_bytes 1 width (padded codes) (omega arith) whole least'.fits in
+    let body : List ℕ = found.0 in
+    let le : group_size (length codes) width ≤ 4 * width = group_size-le (length codes) width few in
+    let long : length body ≡ size 1 width = found.2.byte_count in (
+      width ∷ take (group_size (length codes) width) body,
+      record {
+        width = width;
+        body = body;
+        least = Least-no_zeros codes (32 - length codes) width least';
+        bytes = found.1;
+        layout = found.2;
+        parts = refl;
+      },
+      ap suc (length-take-le (group_size (length codes) width) body (omega arith)) ∙ omega arith,
+    )
+
+pub padded-is : (codes : List ℕ) → length codes ≤ 32 → codes ++ drop (length codes) (replicate {A = ℕ} 32 0) ≡ padded codes
+padded-is codes few = ap (λ zs. codes ++ zs) (drop-replicate (length codes) 32 0)
+
+-- How long a group is, by the least width of the block that its codes begin.
+pub length-group : (codes block part : List ℕ) (width : ℕ) → length codes ≤ 32 → block ≡ padded codes → Least block width → IsGroup codes part
+    → length part ≡ 1 + group_size (length codes) width
+length-group codes block part width few is least group =
+    let same : group.width ≡ width = same_least_width codes width group.width (Least-no_zeros codes (32 - length codes) width (rw (← is) least)) group.least in
+    let le : group_size (length codes) group.width ≤ 4 * group.width = group_size-le (length codes) group.width few in
+    let long : length group.body ≡ 4 * group.width = group.layout.byte_count ∙ omega arith in
+    ap length group.parts ∙ ap suc (length-take-le (group_size (length codes) group.width) group.body (omega (arith, le, long)))
+    ∙ ap (λ w. suc (group_size (length codes) w)) same ∙ omega arith

@@ -1,0 +1,6 @@
+-- The law is a lemma on the first byte of a text.
+use Rattle.bitpack_lists.proofs.Versions.{one_version}
+use Rattle.bitpack_lists.proofs.laws.one_version.Goals as goal
+
+pub returns : goal.returns
+returns c = one_version

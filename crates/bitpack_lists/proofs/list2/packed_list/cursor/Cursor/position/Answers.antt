@@ -1,0 +1,17 @@
+-- No block after the place was unpacked.
+use Rattle.std.proofs.Common.{◌/◌, ◌*◌, ap, arith}
+use Rattle.bitpack_lists.specs.Searching.{value_of}
+use Rattle.bitpack_lists.proofs.CursorPlaces.{unpacked_before}
+use Rattle.bitpack_lists.proofs.CursorSteps.{length-first_of}
+use Rattle.bitpack_lists.proofs.list2.packed_list.cursor.Cursor.position.Goals as goal
+
+pub returns-clause-once : goal.returns-clause-once
+returns-clause-once g c =
+    let self = c.args.self.now in
+    unpacked_before self.list g.met.P.BitPacker.some_lanes self.block self.index self.len self.values self.reads.blocks self.place
+
+pub returns-clause-whole : goal.returns-clause-whole
+returns-clause-whole g c =
+    let self = c.args.self.now in
+    let same = ap (λ n. n / (32 * g.P.BitPacker.lanes)) (length-first_of (value_of self.list) self.list.count) in
+    rw same (omega (arith, self.place.once))

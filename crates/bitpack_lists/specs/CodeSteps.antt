@@ -1,0 +1,12 @@
+-- Values and codes one after the other, of inner functions. No public contract cites these.
+use Rattle.std.specs.Prelude.{ℕ, ◌+◌, ◌-◌, ◌%◌, ◌^◌, List, [], ◌∷◌}
+
+-- each code and so much more, added to the value before it
+abbrev pub sums : ℕ → ℕ → List ℕ → List ℕ
+sums before more [] = []
+sums before more (code ∷ codes) = ((before + code + more) % 2 ^ 32) ∷ sums ((before + code + more) % 2 ^ 32) more codes
+
+-- each value less the one before it, and so much less
+abbrev pub gaps : ℕ → ℕ → List ℕ → List ℕ
+gaps before less [] = []
+gaps before less (value ∷ values) = ((value + (2 ^ 32 - before) + (2 ^ 32 - less)) % 2 ^ 32) ∷ gaps value less values

@@ -1,0 +1,37 @@
+-- What a cursor shows: its position, the values of its list, and the blocks that it unpacked; and what a move leaves.
+use Rattle.std.specs.Prelude.{◌≡◌, ℕ, ◌+◌, ◌-◌, ◌*◌, ◌≤◌, List}
+use Rattle.bitpacking.specs.declared.bit_packer.BitPacker.{Ghosts}
+use Rattle.bitpack_lists.specs.declared.list2.packed_list.cursor.Cursor.{Cursor}
+use Rattle.bitpack_lists.specs.Opened.{values}
+
+module _ {P : Type 0} {members : Ghosts P} (cursor : Cursor P members) where
+  -- how many values are before it
+  abbrev pub position : ℕ
+  position = 32 * members.lanes * cursor.block + cursor.index
+
+  -- the number of the block at hand, or the count of blocks in the tail
+  abbrev pub block_number : ℕ
+  block_number = cursor.block
+
+  -- how many values at hand are left
+  abbrev pub left_at_hand : ℕ
+  left_at_hand = cursor.len - cursor.index
+
+  -- the values of its list
+  abbrev pub values_of_cursor : List ℕ
+  values_of_cursor = values cursor.list
+
+  -- how many entries it read over its whole life
+  abbrev pub entries_read : ℕ
+  entries_read = cursor.reads.entries
+
+  -- how many blocks it unpacked over its whole life
+  abbrev pub unpacked : ℕ
+  unpacked = cursor.reads.blocks
+
+-- a cursor moved in its list: it unpacked at most one more block, and none if it stayed in its block
+pub record HasMoved {P : Type 0} {members : Ghosts P} (old new : Cursor P members) : Type 0 where
+  pub list : new.list ≡ old.list
+  pub counted : unpacked old ≤ unpacked new
+  pub later : unpacked new + block_number old ≤ unpacked old + block_number new
+  pub unpacked : unpacked new ≤ unpacked old + 1

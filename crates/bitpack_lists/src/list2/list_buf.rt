@@ -1,0 +1,93 @@
+//! A packed list that owns its text.
+
+ghost use Rattle.std.specs.Prelude.{◌≡◌, None};
+ghost use Rattle.bitpack_lists.specs.Version2.{fault2};
+
+use super::packed_list::PackedList;
+use super::writing::encode;
+use crate::list_error::ListError;
+use crate::list_kind::ListKind;
+use bitpacking::BitPacker;
+use std::alloc::Global;
+
+/// A packed list that owns its text, which was tested once.
+///
+/// ```text
+/// let list = ListBuf::open(BitPacker1x::new(), bytes)?;    // bytes is a Vec<u8>
+/// list.as_list().get(0)                                    // Some(5), if the list is 5, 7, 9
+/// ```
+#[derive(Drop)]
+pub struct ListBuf<P: BitPacker> {
+    packer: P,
+    bytes: Vec<u8>,
+    pub ghost sound: { fault2 P.lanes bytes.items ≡ None },
+}
+
+impl<P: BitPacker> ListBuf<P> {
+    ghost use Rattle.std.specs.Prelude.{◌^◌, ◌≤◌, ◌<◌, Err, IfErr, IfOk, MatchOption, Some, length};
+    ghost use Rattle.bitpack_lists.specs.declared.list_error.ListError.{ListError};
+    ghost use Rattle.bitpack_lists.specs.Opened.{kind_of, text, values};
+    ghost use Rattle.bitpack_lists.specs.Owned.{bytes_of_buf, kind_of_buf, values_of_buf};
+    ghost use Rattle.bitpack_lists.specs.Version2.{List2, first_out};
+
+    /// Opens a text, which is tested whole. Accepts any bytes, and allocates nothing.
+    ///
+    /// Returns the bytes beside the first fault if they are refused.
+    pub fn open(packer: P, bytes: Vec<u8>) -> Result<ListBuf<P>, (ListError, Vec<u8>)>
+        ensures sound { IfOk result (λ _. fault2 P.lanes bytes.items ≡ None) }
+        ensures bytes { IfOk result (λ list. bytes_of_buf list ≡ bytes.items) }
+        ensures fault { IfErr result (λ refused. fault2 P.lanes bytes.items ≡ Some refused.0) }
+        ensures back { IfErr result (λ refused. refused.1 ≡ bytes) }
+    {
+        match PackedList::open(packer, bytes.as_slice()) {
+            Ok(_) => Ok(ListBuf { packer, bytes }),
+            Err(fault) => Err((fault, bytes)),
+        }
+    }
+
+    /// Packs values, which are in the order of their kind, as [`encode`] does.
+    ///
+    /// Fails with `TooLong`, with `NotSorted`, or with `Memory`.
+    pub fn from_values(
+        alloc: Global,
+        packer: P,
+        kind: ListKind,
+        values: &[u32],
+    ) -> Result<ListBuf<P>, ListError>
+        ensures kind { IfOk result (λ list. kind_of_buf list ≡ kind) }
+        ensures values { IfOk result (λ list. values_of_buf list ≡ values.now) }
+        ensures text { IfOk result (λ list. List2 P.lanes kind values.now (bytes_of_buf list)) }
+        ensures long { 2 ^ 28 < length values.now → result ≡ Err (ListError.TooLong (length values.now)) }
+        ensures order { length values.now ≤ 2 ^ 28
+            → MatchOption (first_out kind values.now) (IfErr result (λ e. e ≡ ListError.Memory))
+            (λ position. result ≡ Err (ListError.NotSorted position)) }
+    {
+        let mut bytes = Vec::new(alloc);
+        encode(&packer, kind, values, &mut bytes)?;
+        Ok(ListBuf { packer, bytes })
+    }
+
+    /// The list, which borrows the text. Nothing is tested again.
+    pub fn as_list(&self) -> PackedList<'_, P>
+        ensures text { text result ≡ bytes_of_buf self.now }
+        ensures kind { kind_of result ≡ kind_of_buf self.now }
+        ensures values { values result ≡ values_of_buf self.now }
+    {
+        PackedList::from_validated(self.packer, self.bytes.as_slice())
+    }
+
+    /// The text.
+    pub fn as_bytes(&self) -> &[u8]
+        ensures { result.now ≡ bytes_of_buf self.now }
+    {
+        self.bytes.as_slice()
+    }
+
+    /// The vector with the text.
+    pub fn into_bytes(self) -> Vec<u8>
+        ensures bytes { result.items ≡ bytes_of_buf self }
+        ensures sound { fault2 P.lanes result.items ≡ None }
+    {
+        self.bytes
+    }
+}

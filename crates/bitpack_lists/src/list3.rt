@@ -1,0 +1,17 @@
+//! Packed lists of version 3: a short header, the entries and bodies of version 2, and the tail in groups of 32 codes. Texts of short
+//! lists are about half as long as those of version 2.
+//!
+//! ```text
+//! 6f 21                         strictly sorted, 1 lane, 33 values
+//! 00 00 00 00 00 1f 00 00 00    an entry: width 0, offset 0, last value 31
+//! 00                            a group of one code, 0, at width 0: the value 32
+//! ```
+
+mod codes;
+mod group;
+mod header;
+mod number;
+mod tail;
+mod writing;
+
+pub use writing::encode;

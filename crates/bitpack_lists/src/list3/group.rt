@@ -1,0 +1,148 @@
+//! Groups of 1 to 32 codes: a width, and the first bytes of a block of one lane that holds the codes and then zeros.
+
+ghost use Rattle.std.specs.Prelude.{◌≡◌, ℕ, List, ◌+◌, ◌*◌, ◌/◌, ◌^◌, ◌≤◌, ◌∷◌, ◌++◌, OnOk, IfOk, nat_lt, length, take, vec_len, vec_capacity};
+ghost use Rattle.std.specs.List.{list_all};
+ghost use Rattle.bitpacking.specs.Bits.{AreBytes};
+ghost use Rattle.bitpacking.specs.Layout.{codes_of};
+ghost use Rattle.bitpack_lists.specs.Groups.{IsGroup, are_zeros, body_of, group_codes, group_end, group_fault};
+ghost use Rattle.bitpack_lists.specs.Parts.{FindsFault};
+
+use crate::list_error::ListError;
+use crate::reserved::append;
+use bitpacking::{BitPacker, BitPacker1x};
+
+/// The most codes of a group.
+pub(crate) const LONGEST_GROUP: usize = 32;
+
+/// The most bytes of a body of one lane: 32 codes at 32 bits each.
+const LONGEST_GROUP_BODY: usize = 128;
+
+/// Reads the group of so many codes at the front of the bytes, which is block number `block`, and returns how many bytes it has.
+/// Its codes are the first of `codes`; after a refusal these may be any.
+pub(crate) fn read_group(
+    block: usize,
+    count: usize,
+    bytes: &[u8],
+    codes: &mut [u32],
+) -> Result<usize, ListError>
+    requires some { 1 ≤ count }
+    requires count { count ≤ LONGEST_GROUP }
+    requires room { length codes.old ≡ LONGEST_GROUP }
+    ensures fault { FindsFault result (group_fault block count bytes.now) }
+    ensures codes { OnOk result (take count codes.new ≡ group_codes count bytes.now) }
+    ensures end { IfOk result (λ end. end ≡ group_end count bytes.now) }
+    ensures within { IfOk result (λ end. end ≤ length bytes.now) }
+{
+    let [width, rest @ ..] = bytes else {
+        return Err(ListError::Short);
+    };
+    let width = *width;
+    if width > 32 {
+        return Err(ListError::BadWidth(block, width));
+    }
+    let size = group_size(count, width);
+    if rest.len() < size {
+        return Err(ListError::Short);
+    }
+    unpack_cut(width, &rest[..size], codes);
+    if are_loose(width, &codes[..count]) {
+        return Err(ListError::LooseWidth(block, width));
+    }
+    if !all_zeros(&codes[count..]) {
+        return Err(ListError::Padding);
+    }
+    Ok(1 + size)
+}
+
+/// How many bytes the group of the codes has.
+pub(crate) fn group_len(codes: &[u32]) -> usize
+    requires some { 1 ≤ length codes.now }
+    requires count { length codes.now ≤ LONGEST_GROUP }
+    ensures len { (part : List ℕ) → IsGroup codes.now part → length part ≡ result }
+    ensures few { result ≤ 129 }
+{
+    let mut block = [0; LONGEST_GROUP];
+    block[..codes.len()].copy_from_slice(codes);
+    let width = BitPacker1x::new().num_bits(&block);
+    1 + group_size(codes.len(), width)
+}
+
+/// Appends the group of the codes, if there is room for it.
+pub(crate) fn write_group(codes: &[u32], out: &mut Vec<u8>)
+    requires some { 1 ≤ length codes.now }
+    requires count { length codes.now ≤ LONGEST_GROUP }
+    requires room { (part : List ℕ) → IsGroup codes.now part → vec_len out.old + length part ≤ vec_capacity out.old }
+    ensures part { (part : List ℕ) × AreBytes part × IsGroup codes.now part × (out.new.items ≡ out.old.items ++ part) }
+    ensures capacity { vec_capacity out.old ≤ vec_capacity out.new }
+{
+    let mut block = [0; LONGEST_GROUP];
+    block[..codes.len()].copy_from_slice(codes);
+    let packer = BitPacker1x::new();
+    let width = packer.num_bits(&block);
+    let mut body = [0; LONGEST_GROUP_BODY];
+    packer.compress(&block, &mut body, width);
+    append_cut(codes.len(), width, &body, out);
+}
+
+/// Appends the width, and the bytes of the body up to the last code, if there is room for them.
+fn append_cut(count: usize, width: u8, body: &[u8], out: &mut Vec<u8>)
+    requires count { count ≤ LONGEST_GROUP }
+    requires width { width ≤ 32 }
+    requires body { length body.now ≡ LONGEST_GROUP_BODY }
+    requires room { vec_len out.old + 1 + Rattle.bitpack_lists.specs.Groups.group_size count width
+        ≤ vec_capacity out.old }
+    ensures bytes { AreBytes body.now }
+    ensures items { out.new.items
+        ≡ out.old.items ++ width ∷ take (Rattle.bitpack_lists.specs.Groups.group_size count width) body.now }
+    ensures capacity { vec_capacity out.old ≤ vec_capacity out.new }
+{
+    append(out, &[width]);
+    append(out, &body[..group_size(count, width)]);
+}
+
+/// How many bytes hold so many codes of a width.
+pub(crate) fn group_size(count: usize, width: u8) -> usize
+    requires count { count ≤ LONGEST_GROUP }
+    requires width { width ≤ 32 }
+    ensures size { result ≡ Rattle.bitpack_lists.specs.Groups.group_size count width }
+    ensures few { result ≤ 4 * width }
+{
+    (count * width as usize + 7) / 8
+}
+
+/// Unpacks the body that begins with these bytes and goes on with zeros.
+fn unpack_cut(width: u8, cut: &[u8], codes: &mut [u32])
+    requires width { width ≤ 32 }
+    requires cut { length cut.now ≤ 4 * width }
+    requires room { length codes.old ≡ LONGEST_GROUP }
+    ensures { codes.new ≡ codes_of 1 width (body_of width cut.now) }
+{
+    let mut body = [0; LONGEST_GROUP_BODY];
+    body[..cut.len()].copy_from_slice(cut);
+    BitPacker1x::new().decompress(&body, codes, width);
+}
+
+/// Whether the codes fit a smaller width.
+fn are_loose(width: u8, codes: &[u32]) -> bool
+    requires { width ≤ 32 }
+    ensures { result ≡ Rattle.bitpack_lists.specs.Groups.are_loose width codes.now }
+{
+    if width == 0 {
+        return false;
+    }
+    all_below(1 << (width - 1), codes)
+}
+
+/// Whether all codes are below a bound.
+fn all_below(bound: u32, codes: &[u32]) -> bool
+    ensures { result ≡ list_all (λ code. nat_lt code bound) codes.now }
+{
+    codes.iter().all(|code| *code < bound)
+}
+
+/// Whether all codes are 0.
+fn all_zeros(codes: &[u32]) -> bool
+    ensures { result ≡ are_zeros codes.now }
+{
+    codes.iter().all(|code| *code == 0)
+}

@@ -1,0 +1,146 @@
+//! The header of version 3: one byte of lanes, kind and a count below 15, or the count as a number after it.
+
+ghost use Rattle.std.specs.Prelude.{◌≡◌, ℕ, ◌+◌, ◌*◌, ◌^◌, ◌≤◌, ◌++◌, IfOk, length, drop, vec_len, vec_capacity};
+ghost use Rattle.bitpack_lists.specs.declared.list_kind.ListKind.{ListKind};
+ghost use Rattle.bitpack_lists.specs.Numbers.{number_end, number_value};
+ghost use Rattle.bitpack_lists.specs.Parts.{FindsFault};
+ghost use Rattle.bitpack_lists.specs.Version3.{count3, count_fault, header3, header_end, header_fault3, kind3};
+
+use super::number::{number_len, read_number, write_number};
+use crate::header::LONGEST_LIST;
+use crate::list_error::ListError;
+use crate::list_kind::ListKind;
+use crate::reserved::append;
+
+/// A count that is below this is in the first byte.
+const COUNTED: usize = 15;
+
+/// What a header of version 3 says of its list, and how many bytes it has.
+#[derive(Clone, Copy)]
+pub(crate) struct ShortHeader {
+    pub(crate) kind: ListKind,
+    pub(crate) count: usize,
+    pub(crate) end: usize,
+}
+
+impl ShortHeader {
+    /// Reads the header of a text, for a packer of so many lanes.
+    #[tactic(auto, unfolding(crate::specs::Version3::header_fault3))]
+    pub(crate) fn read(lanes: usize, bytes: &[u8]) -> Result<ShortHeader, ListError>
+        ensures fault { FindsFault result (header_fault3 lanes bytes.now) }
+        ensures kind { IfOk result (λ header. header.kind ≡ kind3 bytes.now) }
+        ensures count { IfOk result (λ header. header.count ≡ count3 bytes.now) }
+        ensures end { IfOk result (λ header. header.end ≡ header_end bytes.now) }
+        ensures few { IfOk result (λ header. header.count ≤ 2 ^ 28) }
+        ensures within { IfOk result (λ header. header.end ≤ length bytes.now) }
+    {
+        if bytes.len() < 1 {
+            return Err(ListError::Short);
+        }
+        let first = bytes[0];
+        if first < 64 {
+            return Err(ListError::BadVersion(first));
+        }
+        let kind = match first / 16 % 4 {
+            0 => ListKind::Plain,
+            1 => ListKind::Sorted,
+            2 => ListKind::StrictlySorted,
+            _ => return Err(ListError::BadKind(3)),
+        };
+        let found = lanes_of(first / 64);
+        if found as usize != lanes {
+            return Err(ListError::WrongLanes(found));
+        }
+        let count = (first % 16) as usize;
+        if count < COUNTED {
+            return Ok(ShortHeader {
+                kind,
+                count,
+                end: 1,
+            });
+        }
+        let (count, size) = read_count(&bytes[1..])?;
+        Ok(ShortHeader {
+            kind,
+            count,
+            end: 1 + size,
+        })
+    }
+}
+
+/// How many lanes a number of the first byte means.
+fn lanes_of(code: u8) -> u8
+    ensures { result ≡ Rattle.bitpack_lists.specs.Version3.lanes_of code }
+{
+    if code == 1 {
+        1
+    } else if code == 2 {
+        4
+    } else {
+        8
+    }
+}
+
+/// Reads the count at the front of the bytes, and how many bytes it has.
+#[tactic(auto, unfolding(crate::specs::Version3::count_fault))]
+fn read_count(bytes: &[u8]) -> Result<(usize, usize), ListError>
+    ensures fault { FindsFault result (count_fault bytes.now) }
+    ensures value { IfOk result (λ found. found.0 ≡ number_value bytes.now) }
+    ensures end { IfOk result (λ found. found.1 ≡ number_end bytes.now) }
+    ensures few { IfOk result (λ found. found.0 ≤ 2 ^ 28) }
+    ensures within { IfOk result (λ found. found.1 ≤ length bytes.now) }
+{
+    let (count, size) = read_number(bytes)?;
+    let count = count as usize;
+    if count < COUNTED {
+        return Err(ListError::BadNumber);
+    }
+    if count > LONGEST_LIST {
+        return Err(ListError::TooLong(count));
+    }
+    Ok((count, size))
+}
+
+/// How many bytes the header of so many values has.
+#[tactic(auto, unfolding(crate::specs::Version3::header3))]
+pub(crate) fn header_len(count: usize) -> usize
+    requires { count ≤ 2 ^ 28 }
+    ensures len { (kind : ListKind) (lanes : ℕ) → length (header3 kind lanes count) ≡ result }
+    ensures few { result ≤ 6 }
+{
+    if count < COUNTED {
+        return 1;
+    }
+    1 + number_len(count as u32)
+}
+
+/// Appends the header of so many values, if there is room for it.
+#[tactic(auto, unfolding(crate::specs::Version3::header3))]
+pub(crate) fn write_header(kind: ListKind, lanes: usize, count: usize, out: &mut Vec<u8>)
+    requires count { count ≤ 2 ^ 28 }
+    requires room { vec_len out.old + length (header3 kind lanes count) ≤ vec_capacity out.old }
+    ensures items { out.new.items ≡ out.old.items ++ header3 kind lanes count }
+    ensures capacity { vec_capacity out.old ≤ vec_capacity out.new }
+{
+    let first = 64 * lanes_code(lanes) + 16 * kind.byte();
+    if count < COUNTED {
+        append(out, &[first + count as u8]);
+        return;
+    }
+    append(out, &[first + 15]);
+    write_number(count as u32, out);
+}
+
+/// The number of the first byte that means so many lanes.
+fn lanes_code(lanes: usize) -> u8
+    ensures code { result ≡ Rattle.bitpack_lists.specs.Version3.lanes_code lanes }
+    ensures few { result ≤ 3 }
+{
+    if lanes == 1 {
+        1
+    } else if lanes == 4 {
+        2
+    } else {
+        3
+    }
+}

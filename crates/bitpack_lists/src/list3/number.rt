@@ -1,0 +1,66 @@
+//! Numbers of seven bits a byte, the lowest first, with 128 added to every byte but the last.
+
+ghost use Rattle.std.specs.Prelude.{◌≡◌, ◌+◌, ◌≤◌, ◌++◌, IfOk, length, vec_len, vec_capacity};
+ghost use Rattle.bitpack_lists.specs.Numbers.{number, number_end, number_fault, number_value};
+ghost use Rattle.bitpack_lists.specs.Parts.{FindsFault};
+
+use crate::list_error::ListError;
+
+/// The most bytes of a number.
+pub(crate) const LONGEST_NUMBER: usize = 5;
+
+/// Reads the number at the front of the bytes: its value and how many bytes it has.
+pub(crate) fn read_number(bytes: &[u8]) -> Result<(u32, usize), ListError>
+    ensures fault { FindsFault result (number_fault bytes.now) }
+    ensures value { IfOk result (λ found. found.0 ≡ number_value bytes.now) }
+    ensures end { IfOk result (λ found. found.1 ≡ number_end bytes.now) }
+    ensures within { IfOk result (λ found. found.1 ≤ length bytes.now) }
+{
+    let mut value: u64 = 0;
+    for index in 0..LONGEST_NUMBER {
+        if index == bytes.len() {
+            return Err(ListError::Short);
+        }
+        let byte = bytes[index];
+        value += ((byte % 128) as u64) << (7 * index);
+        if byte < 128 {
+            if byte == 0 && index > 0 {
+                return Err(ListError::BadNumber);
+            }
+            if value > u32::MAX as u64 {
+                return Err(ListError::BadNumber);
+            }
+            return Ok((value as u32, index + 1));
+        }
+    }
+    Err(ListError::BadNumber)
+}
+
+/// How many bytes a number has.
+pub(crate) fn number_len(value: u32) -> usize
+    ensures len { result ≡ length (number value) }
+    ensures few { result ≤ LONGEST_NUMBER }
+{
+    let mut len = 1;
+    let mut left = value;
+    while left >= 128 {
+        left /= 128;
+        len += 1;
+    }
+    len
+}
+
+/// Appends the bytes of a number, if there is room for them.
+pub(crate) fn write_number(value: u32, out: &mut Vec<u8>)
+    requires room { vec_len out.old + length (number value) ≤ vec_capacity out.old }
+    ensures items { out.new.items ≡ out.old.items ++ number value }
+    ensures len { vec_len out.new ≡ vec_len out.old + length (number value) }
+    ensures capacity { vec_capacity out.old ≤ vec_capacity out.new }
+{
+    let mut left = value;
+    while left >= 128 {
+        out.push_reserved((left % 128) as u8 + 128);
+        left /= 128;
+    }
+    out.push_reserved(left as u8);
+}

@@ -1,0 +1,127 @@
+//! The tail of a list: its codes in groups, after the first one as a number if the list has no whole block.
+
+ghost use Rattle.std.specs.Prelude.{◌≡◌, ℕ, List, ◌+◌, ◌^◌, ◌≤◌, ◌++◌, OnOk, IfOk, min, length, vec_len, vec_capacity};
+ghost use Rattle.bitpack_lists.specs.Groups.{AreGroups, after_groups, groups_codes, groups_fault, groups_of};
+ghost use Rattle.bitpack_lists.specs.Parts.{FindsFault};
+ghost use Rattle.bitpack_lists.specs.Version3.{IsTail3, after_tail3, tail_codes3, tail_fault3};
+
+use super::group::{LONGEST_GROUP, group_len, read_group, write_group};
+use super::number::{number_len, read_number, write_number};
+use crate::list_error::ListError;
+
+/// Reads the tail of as many codes as the slice has, after so many blocks, and returns the bytes after it. After a refusal the codes
+/// may be any.
+#[tactic(auto, unfolding(crate::specs::Version3::tail_fault3, crate::specs::Version3::tail_codes3, crate::specs::Version3::after_tail3))]
+pub(crate) fn read_tail<'a>(
+    blocks: usize,
+    bytes: &'a [u8],
+    codes: &mut [u32],
+) -> Result<&'a [u8], ListError>
+    requires blocks { blocks ≤ 2 ^ 28 }
+    requires few { length codes.old ≤ 2 ^ 28 }
+    ensures fault { FindsFault result (tail_fault3 blocks (length codes.old) bytes.now) }
+    ensures codes { OnOk result (codes.new ≡ tail_codes3 blocks (length codes.old) bytes.now) }
+    ensures rest { IfOk result (λ rest. rest.now ≡ after_tail3 blocks (length codes.old) bytes.now) }
+{
+    if blocks == 0 && codes.len() > 0 {
+        let (first, size) = read_number(bytes)?;
+        codes[0] = first;
+        let rest = read_groups(0, &bytes[size..], &mut codes[1..])?;
+        return Ok(rest);
+    }
+    read_groups(blocks, bytes, codes)
+}
+
+/// Reads the groups of as many codes as the slice has, from block number `block` on, and returns the bytes after them. After a
+/// refusal the codes may be any.
+pub(crate) fn read_groups<'a>(
+    block: usize,
+    bytes: &'a [u8],
+    codes: &mut [u32],
+) -> Result<&'a [u8], ListError>
+    requires block { block ≤ 2 ^ 28 }
+    requires few { length codes.old ≤ 2 ^ 28 }
+    ensures fault { FindsFault result (groups_fault (groups_of (length codes.old)) block (length codes.old) bytes.now) }
+    ensures codes { OnOk result (codes.new ≡ groups_codes (groups_of (length codes.old)) (length codes.old) bytes.now) }
+    ensures rest { IfOk result (λ rest. rest.now
+        ≡ after_groups (groups_of (length codes.old)) (length codes.old) bytes.now) }
+{
+    let mut rest = bytes;
+    let mut group = [0; LONGEST_GROUP];
+    for index in 0..(codes.len() + 31) / LONGEST_GROUP {
+        let from = LONGEST_GROUP * index;
+        let count = next_len(codes.len() - from);
+        let end = read_group(block + index, count, rest, &mut group)?;
+        codes[from..from + count].copy_from_slice(&group[..count]);
+        rest = &rest[end..];
+    }
+    Ok(rest)
+}
+
+/// How many codes the next group has, where so many are left.
+fn next_len(left: usize) -> usize
+    ensures { result ≡ min 32 left }
+{
+    if left < LONGEST_GROUP {
+        left
+    } else {
+        LONGEST_GROUP
+    }
+}
+
+/// How many bytes the tail of these codes has, after so many blocks.
+pub(crate) fn tail_len(blocks: usize, codes: &[u32]) -> usize
+    requires few { length codes.now ≤ 2 ^ 28 }
+    ensures len { (bytes : List ℕ) → IsTail3 blocks codes.now bytes → length bytes ≡ result }
+    ensures few { result ≤ 2 ^ 36 }
+{
+    if blocks == 0 && codes.len() > 0 {
+        return number_len(codes[0]) + groups_len(&codes[1..]);
+    }
+    groups_len(codes)
+}
+
+/// How many bytes the groups of these codes have.
+fn groups_len(codes: &[u32]) -> usize
+    requires few { length codes.now ≤ 2 ^ 28 }
+    ensures len { (bytes : List ℕ) → AreGroups (groups_of (length codes.now)) codes.now bytes → length bytes ≡ result }
+    ensures few { result ≤ 2 ^ 35 }
+{
+    let mut len = 0;
+    for index in 0..(codes.len() + 31) / LONGEST_GROUP {
+        let from = LONGEST_GROUP * index;
+        let count = next_len(codes.len() - from);
+        len += group_len(&codes[from..from + count]);
+    }
+    len
+}
+
+/// Appends the tail of these codes, after so many blocks, if there is room for it.
+pub(crate) fn write_tail(blocks: usize, codes: &[u32], out: &mut Vec<u8>)
+    requires few { length codes.now ≤ 2 ^ 28 }
+    requires room { (bytes : List ℕ) → IsTail3 blocks codes.now bytes
+        → vec_len out.old + length bytes ≤ vec_capacity out.old }
+    ensures tail { (bytes : List ℕ) → IsTail3 blocks codes.now bytes → out.new.items ≡ out.old.items ++ bytes }
+{
+    if blocks == 0 && codes.len() > 0 {
+        write_number(codes[0], out);
+        write_groups(&codes[1..], out);
+        return;
+    }
+    write_groups(codes, out);
+}
+
+/// Appends the groups of these codes, if there is room for them.
+fn write_groups(codes: &[u32], out: &mut Vec<u8>)
+    requires few { length codes.now ≤ 2 ^ 28 }
+    requires room { (bytes : List ℕ) → AreGroups (groups_of (length codes.now)) codes.now bytes
+        → vec_len out.old + length bytes ≤ vec_capacity out.old }
+    ensures groups { (bytes : List ℕ) → AreGroups (groups_of (length codes.now)) codes.now bytes
+        → out.new.items ≡ out.old.items ++ bytes }
+{
+    for index in 0..(codes.len() + 31) / LONGEST_GROUP {
+        let from = LONGEST_GROUP * index;
+        let count = next_len(codes.len() - from);
+        write_group(&codes[from..from + count], out);
+    }
+}

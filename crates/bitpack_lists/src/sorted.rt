@@ -1,0 +1,32 @@
+//! Cursors over increasing values: intersections, unions and differences.
+//!
+//! A [`SortedCursor`] is a place in increasing values that only moves forward. [`DistinctValues`] is one over a packed list, and
+//! [`IncreasingSlice`] one over a slice. [`And`], [`Or`] and [`AndNot`] combine any two, [`AndAll`]
+//! and [`OrAll`] any number of one type. They are such cursors themselves.
+//!
+//! ```text
+//! AndNot::new(And::new(a, Or::new(b, c)), d)      a AND (b OR c) AND NOT d
+//! ```
+
+mod and;
+mod and_all;
+mod and_not;
+mod collecting;
+mod distinct_values;
+mod increasing_slice;
+mod or;
+mod or_all;
+mod passing;
+mod retaining;
+mod sorted_cursor;
+
+pub use and::And;
+pub use and_all::AndAll;
+pub use and_not::AndNot;
+pub use collecting::{collect_into, count};
+pub use distinct_values::DistinctValues;
+pub use increasing_slice::IncreasingSlice;
+pub use or::Or;
+pub use or_all::OrAll;
+pub use retaining::retain_common;
+pub use sorted_cursor::SortedCursor;

@@ -1,0 +1,67 @@
+-- The ids of queries over three and four lists.
+use Rattle.std.proofs.Common.{◌≡◌, ◌⊎◌, ◌↔◌, ℕ, List, Contains, Result, Ok, Err, IfOk, refl, inl, inr}
+use Rattle.std.specs.List.Sorted.{IsStrictlyIncreasing}
+use Rattle.bitpack_lists.specs.Distinct.{distinct}
+use Rattle.bitpack_lists.specs.Increasing.{shared, united, without}
+use Rattle.bitpack_lists.proofs.ForCallers.{contains-distinct, contains-shared, contains-united, contains-without}
+use Rattle.bitpack_uses.specs.Selected.{IsInAll, IsSelected}
+
+module _ (a b c d : List ℕ) where
+  abbrev either : List ℕ
+  either = united (distinct b) (distinct c)
+
+  abbrev ids_of : List ℕ
+  ids_of = without (shared (distinct a) either) (distinct d)
+
+  -- exactly the ids of the query are left
+  same_ids : (id : ℕ) → Contains ids_of id ↔ (Contains a id × (Contains b id ⊎ Contains c id) × (Contains d id → ⊥))
+  same_ids id = (
+    λ found.
+        let kept = (contains-without (shared (distinct a) either) (distinct d) id).0 found in
+        let both = (contains-shared (distinct a) either id).0 kept.0 in (
+          (contains-distinct a id).0 both.0,
+          elim ((contains-united (distinct b) (distinct c) id).0 both.1) [
+            | inl one ↦ inl ((contains-distinct b id).0 one)
+            | inr other ↦ inr ((contains-distinct c id).0 other)
+          ],
+          λ away. kept.1 ((contains-distinct d id).1 away),
+        ),
+    λ wanted.
+        let one = (contains-distinct a id).1 wanted.0 in
+        let other = (contains-united (distinct b) (distinct c) id).1 (elim wanted.1 [
+          | inl first ↦ inl ((contains-distinct b id).1 first)
+          | inr second ↦ inr ((contains-distinct c id).1 second)
+        ]) in
+        (contains-without (shared (distinct a) either) (distinct d) id).1
+        ((contains-shared (distinct a) either id).1 (one, other), λ away. wanted.2 ((contains-distinct d id).0 away)),
+  )
+
+  pub selected : (ra rb rc rd found : List ℕ) → ra ≡ distinct a → rb ≡ distinct b → rc ≡ distinct c → rd ≡ distinct d
+      → found ≡ without (shared ra (united rb rc)) rd → IsStrictlyIncreasing found → IsSelected a b c d found
+  selected ra rb rc rd found ea eb ec ed is increasing =
+      let all : found ≡ ids_of = rw (is, ea, eb, ec, ed) refl in
+      record { increasing = increasing; same = λ id. rw all (same_ids id) }
+
+module _ (a b c : List ℕ) where
+  -- exactly the ids that all three have are left
+  same_in_all : (id : ℕ) → Contains (shared (shared (distinct a) (distinct b)) (distinct c)) id ↔ (Contains a id × Contains b id × Contains c id)
+  same_in_all id = (
+    λ found.
+        let both = (contains-shared (shared (distinct a) (distinct b)) (distinct c) id).0 found in
+        let first = (contains-shared (distinct a) (distinct b) id).0 both.0 in
+        ((contains-distinct a id).0 first.0, (contains-distinct b id).0 first.1, (contains-distinct c id).0 both.1),
+    λ wanted.
+        let first = (contains-shared (distinct a) (distinct b) id).1 ((contains-distinct a id).1 wanted.0, (contains-distinct b id).1 wanted.1) in
+        (contains-shared (shared (distinct a) (distinct b)) (distinct c) id).1 (first, (contains-distinct c id).1 wanted.2),
+  )
+
+  pub in_all : (ra rb rc found : List ℕ) → ra ≡ distinct a → rb ≡ distinct b → rc ≡ distinct c → found ≡ shared (shared ra rb) rc
+      → IsStrictlyIncreasing found → IsInAll a b c found
+  in_all ra rb rc found ea eb ec is increasing =
+      let all : found ≡ shared (shared (distinct a) (distinct b)) (distinct c) = rw (is, ea, eb, ec) refl in
+      record { increasing = increasing; same = λ id. rw all (same_in_all id) }
+
+-- two facts of a result that is no error are one
+pub both_ok : {T E : Type 0} (r : Result T E) (P Q R : T → Type 0) → IfOk r P → IfOk r Q → ((x : T) → P x → Q x → R x) → IfOk r R
+both_ok (Ok x) P Q R one other both = both x one other
+both_ok (Err e) P Q R one other both = tt

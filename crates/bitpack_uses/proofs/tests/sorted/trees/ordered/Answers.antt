@@ -1,0 +1,5 @@
+-- A list that is not plain is in order.
+use Rattle.bitpack_uses.proofs.tests.sorted.trees.ordered.Goals as goal
+
+pub new-requires : goal.new-requires
+new-requires g c = c.is_sorted.ensures.sorted c.if-is_sorted.true

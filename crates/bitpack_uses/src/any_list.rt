@@ -1,0 +1,75 @@
+//! The values of a list whose packer is known only when the program runs, or of a slice.
+
+ghost use Rattle.bitpack_lists.specs.Cursors.{position, values_of_cursor};
+ghost use Rattle.bitpack_lists.specs.DistinctLaws.{increasing_rest};
+ghost use Rattle.bitpack_lists.specs.IncreasingLaws.{IsIncreasing-from};
+ghost use Rattle.bitpack_lists.specs.Remaining.{remaining};
+ghost use Rattle.bitpack_uses.specs.declared.any_list.AnyList.TheVariants.{Eight, Four, Loose, One};
+
+use bitpack::sorted::{DistinctValues, IncreasingSlice, SortedCursor};
+use bitpacking::{BitPacker1x, BitPacker4x, BitPacker8x};
+
+/// A cursor over a list of one, four or eight lanes, or over values that are not packed.
+#[derive(Drop)]
+pub enum AnyList<'a> {
+    One(DistinctValues<'a, BitPacker1x>),
+    Four(DistinctValues<'a, BitPacker4x>),
+    Eight(DistinctValues<'a, BitPacker8x>),
+    Loose(IncreasingSlice<'a>),
+}
+
+impl<'a> SortedCursor for AnyList<'a> {
+    ghost rest = { elim [ One c ↦ remaining c | Four c ↦ remaining c | Eight c ↦ remaining c | Loose c ↦ c.values.now ] };
+
+    ghost increasing = { elim [
+      | One c ↦ increasing_rest (values_of_cursor c.cursor) (position c.cursor) c.ordered
+      | Four c ↦ increasing_rest (values_of_cursor c.cursor) (position c.cursor) c.ordered
+      | Eight c ↦ increasing_rest (values_of_cursor c.cursor) (position c.cursor) c.ordered
+      | Loose c ↦ IsIncreasing-from c.values.now c.rising
+    ] };
+
+    fn value(&self) -> Option<u32> {
+        match self {
+            AnyList::One(cursor) => cursor.value(),
+            AnyList::Four(cursor) => cursor.value(),
+            AnyList::Eight(cursor) => cursor.value(),
+            AnyList::Loose(cursor) => cursor.value(),
+        }
+    }
+
+    fn advance(&mut self) {
+        match self {
+            AnyList::One(cursor) => cursor.advance(),
+            AnyList::Four(cursor) => cursor.advance(),
+            AnyList::Eight(cursor) => cursor.advance(),
+            AnyList::Loose(cursor) => cursor.advance(),
+        }
+    }
+
+    fn seek(&mut self, target: u32) {
+        match self {
+            AnyList::One(cursor) => cursor.seek(target),
+            AnyList::Four(cursor) => cursor.seek(target),
+            AnyList::Eight(cursor) => cursor.seek(target),
+            AnyList::Loose(cursor) => cursor.seek(target),
+        }
+    }
+
+    fn at_hand(&self) -> &[u32] {
+        match self {
+            AnyList::One(cursor) => cursor.at_hand(),
+            AnyList::Four(cursor) => cursor.at_hand(),
+            AnyList::Eight(cursor) => cursor.at_hand(),
+            AnyList::Loose(cursor) => cursor.at_hand(),
+        }
+    }
+
+    fn seek_ahead(&mut self, target: u32, ahead: usize) {
+        match self {
+            AnyList::One(cursor) => cursor.seek_ahead(target, ahead),
+            AnyList::Four(cursor) => cursor.seek_ahead(target, ahead),
+            AnyList::Eight(cursor) => cursor.seek_ahead(target, ahead),
+            AnyList::Loose(cursor) => cursor.seek_ahead(target, ahead),
+        }
+    }
+}

@@ -1,0 +1,53 @@
+//! Two cursors, joined by an operator that is chosen when the program runs.
+
+ghost use Rattle.bitpack_lists.specs.Increasing.{shared, united, without};
+ghost use Rattle.bitpack_lists.specs.IncreasingLaws.{increasing_shared, increasing_united, increasing_without};
+ghost use Rattle.bitpack_uses.specs.declared.joined.Joined.TheVariants.{Both, Either, FirstOnly};
+
+use bitpack::sorted::{And, AndNot, Or, SortedCursor};
+
+/// Two cursors as one, by AND, OR or AND NOT. It is a cursor itself, so trees of any depth can be built of it.
+#[derive(Drop)]
+pub enum Joined<A: SortedCursor, B: SortedCursor> {
+    Both(And<A, B>),
+    Either(Or<A, B>),
+    FirstOnly(AndNot<A, B>),
+}
+
+impl<A: SortedCursor, B: SortedCursor> SortedCursor for Joined<A, B> {
+    ghost rest = { elim [
+      | Both c ↦ shared (A.rest c.one) (B.rest c.other)
+      | Either c ↦ united (A.rest c.one) (B.rest c.other)
+      | FirstOnly c ↦ without (A.rest c.one) (B.rest c.other)
+    ] };
+
+    ghost increasing = { elim [
+      | Both c ↦ increasing_shared (A.rest c.one) (B.rest c.other) (A.increasing c.one)
+      | Either c ↦ increasing_united (A.rest c.one) (B.rest c.other) (B.increasing c.other)
+      | FirstOnly c ↦ increasing_without (A.rest c.one) (B.rest c.other) (A.increasing c.one)
+    ] };
+
+    fn value(&self) -> Option<u32> {
+        match self {
+            Joined::Both(cursor) => cursor.value(),
+            Joined::Either(cursor) => cursor.value(),
+            Joined::FirstOnly(cursor) => cursor.value(),
+        }
+    }
+
+    fn advance(&mut self) {
+        match self {
+            Joined::Both(cursor) => cursor.advance(),
+            Joined::Either(cursor) => cursor.advance(),
+            Joined::FirstOnly(cursor) => cursor.advance(),
+        }
+    }
+
+    fn seek(&mut self, target: u32) {
+        match self {
+            Joined::Both(cursor) => cursor.seek(target),
+            Joined::Either(cursor) => cursor.seek(target),
+            Joined::FirstOnly(cursor) => cursor.seek(target),
+        }
+    }
+}

@@ -1,0 +1,67 @@
+//! Lists of one kind, lists that own their texts, and values that are unpacked into a slice.
+
+ghost use Rattle.std.specs.Prelude.{◌≡◌, ℕ, List, IfErr, IfOk, IfSome, slice_get, take};
+ghost use Rattle.bitpack_lists.specs.declared.list_error.ListError.{ListError};
+ghost use Rattle.bitpack_lists.specs.declared.list_kind.ListKind.{ListKind};
+ghost use Rattle.bitpack_lists.specs.Intersections.{IsCommon};
+ghost use Rattle.bitpack_lists.specs.Opened.{values};
+ghost use Rattle.bitpack_lists.specs.Owned.{bytes_of_buf, values_of_buf};
+ghost use Rattle.bitpack_lists.specs.Version2.{List2};
+
+use bitpack::list2::{ListBuf, PackedList, append_common};
+use bitpack::{ListError, ListKind};
+use bitpacking::BitPacker;
+use std::alloc::Global;
+
+/// The ids that two packed sets share. The texts may be untrusted.
+pub fn shared_ids<P: BitPacker>(
+    alloc: Global,
+    packer: P,
+    first: &[u8],
+    second: &[u8],
+) -> Result<Vec<u32>, ListError>
+    ensures { IfOk result (λ shared. (ours : List ℕ) × (theirs : List ℕ)
+        × List2 P.lanes ListKind.StrictlySorted ours first.now
+        × List2 P.lanes ListKind.StrictlySorted theirs second.now
+        × IsCommon ours theirs shared.items) }
+{
+    let first = PackedList::open_as(packer, ListKind::StrictlySorted, first)?;
+    let second = PackedList::open_as(packer, ListKind::StrictlySorted, second)?;
+    let mut shared = Vec::new(alloc);
+    append_common(&first, &second, &mut shared)?;
+    Ok(shared)
+}
+
+/// Unpacks a list into a slice of the caller, if there is room, and returns how many values it has.
+pub fn unpacked_into<P: BitPacker>(list: &PackedList<'_, P>, room: &mut [u32]) -> Option<usize>
+    ensures { IfSome result (λ count. take count room.new ≡ values list.now) }
+{
+    if list.len() > room.len() {
+        return None;
+    }
+    Some(list.copy_to(room))
+}
+
+/// Packs values, keeps them packed, and reads one of them.
+pub fn value_of_packed<P: BitPacker>(
+    alloc: Global,
+    packer: P,
+    kind: ListKind,
+    values: &[u32],
+    position: usize,
+) -> Result<Option<u32>, ListError>
+    ensures { IfOk result (λ found. found ≡ slice_get values.now position) }
+{
+    let list = ListBuf::from_values(alloc, packer, kind, values)?;
+    Ok(list.as_list().get(position))
+}
+
+/// Sends a list as its text, and opens the text again, which cannot fail.
+pub fn sent<P: BitPacker>(packer: P, list: ListBuf<P>) -> ListBuf<P>
+    ensures { bytes_of_buf result ≡ bytes_of_buf list }
+{
+    match ListBuf::open(packer, list.into_bytes()) {
+        Ok(list) => list,
+        Err(_) => unreachable!(),
+    }
+}

@@ -1,0 +1,74 @@
+//! What posting lists have in common, or together, or one without another.
+
+ghost use Rattle.std.specs.Prelude.{◌≡◌, IfErr, IfOk, map};
+ghost use Rattle.std.specs.List.Sorted.{IsStrictlyIncreasing};
+ghost use Rattle.bitpack_lists.specs.declared.list_error.ListError.{ListError};
+ghost use Rattle.bitpack_lists.specs.Increasing.{shared, united, without};
+ghost use Rattle.bitpack_lists.specs.Many.{shared_by_all};
+ghost use Rattle.bitpack_uses.specs.Postings.{distinct_ids};
+
+use super::Postings;
+use crate::and_query::collect;
+use bitpack::ListError;
+use bitpack::sorted::{And, AndAll, AndNot, Or};
+use bitpacking::BitPacker;
+use std::alloc::Global;
+
+/// The ids that all of the lists have, and none if there is no list. Put the shortest list first: its ids are sought in the others.
+pub fn and<P: BitPacker>(alloc: Global, lists: &[&Postings<P>]) -> Result<Vec<u32>, ListError>
+    ensures ids { IfOk result (λ found. found.items ≡ shared_by_all (map (λ list. distinct_ids list.now) lists.now)) }
+    ensures increasing { IfOk result (λ found. IsStrictlyIncreasing found.items) }
+    ensures memory { IfErr result (λ e. e ≡ ListError.Memory) }
+{
+    let mut cursors = Vec::new(alloc);
+    for list in lists {
+        if cursors.push(list.cursor()).is_err() {
+            return Err(ListError::Memory);
+        }
+    }
+    collect(alloc, AndAll::new(cursors))
+}
+
+/// The ids that at least one of two lists has.
+pub fn or<P: BitPacker, Q: BitPacker>(
+    alloc: Global,
+    a: &Postings<P>,
+    b: &Postings<Q>,
+) -> Result<Vec<u32>, ListError>
+    ensures ids { IfOk result (λ found. found.items ≡ united (distinct_ids a.now) (distinct_ids b.now)) }
+    ensures increasing { IfOk result (λ found. IsStrictlyIncreasing found.items) }
+    ensures memory { IfErr result (λ e. e ≡ ListError.Memory) }
+{
+    collect(alloc, Or::new(a.cursor(), b.cursor()))
+}
+
+/// The ids of one list that another lacks.
+pub fn and_not<P: BitPacker, Q: BitPacker>(
+    alloc: Global,
+    a: &Postings<P>,
+    b: &Postings<Q>,
+) -> Result<Vec<u32>, ListError>
+    ensures ids { IfOk result (λ found. found.items ≡ without (distinct_ids a.now) (distinct_ids b.now)) }
+    ensures increasing { IfOk result (λ found. IsStrictlyIncreasing found.items) }
+    ensures memory { IfErr result (λ e. e ≡ ListError.Memory) }
+{
+    collect(alloc, AndNot::new(a.cursor(), b.cursor()))
+}
+
+/// The ids that `a` has, and `b` or `c`, and not `d`. Walks the four lists side by side, and unpacks no block twice.
+pub fn select<P: BitPacker>(
+    alloc: Global,
+    a: &Postings<P>,
+    b: &Postings<P>,
+    c: &Postings<P>,
+    d: &Postings<P>,
+) -> Result<Vec<u32>, ListError>
+    ensures ids { IfOk result (λ found. found.items
+        ≡ without (shared (distinct_ids a.now) (united (distinct_ids b.now) (distinct_ids c.now)))
+        (distinct_ids d.now)) }
+    ensures increasing { IfOk result (λ found. IsStrictlyIncreasing found.items) }
+    ensures memory { IfErr result (λ e. e ≡ ListError.Memory) }
+{
+    let either = Or::new(b.cursor(), c.cursor());
+    collect(alloc, AndNot::new(And::new(a.cursor(), either), d.cursor()))
+}

@@ -1,0 +1,180 @@
+//! Lists of one kind, owned lists, and values in a slice. The texts were worked by hand.
+
+use super::checks::{holds, returns, same_bytes, same_number, same_values, says};
+use crate::owned_lists;
+use bitpack::list2::{ListBuf, PackedList};
+use bitpack::{ListError, ListKind};
+use bitpacking::{BitPacker, BitPacker1x};
+use std::alloc::Global;
+use std::process::Abort;
+
+/// Strictly sorted 5, 7, 9, in one lane.
+const STRICT: [u8; 19] = [2, 2, 1, 3, 0, 0, 0, 5, 0, 0, 0, 7, 0, 0, 0, 9, 0, 0, 0];
+
+/// Sorted 5, 5, 9.
+const SORTED: [u8; 19] = [2, 1, 1, 3, 0, 0, 0, 5, 0, 0, 0, 5, 0, 0, 0, 9, 0, 0, 0];
+
+/// Plain 7.
+const PLAIN: [u8; 11] = [2, 0, 1, 1, 0, 0, 0, 7, 0, 0, 0];
+
+/// Sorted 1 to 32 and 40: a block with an entry of width 1, offset 0 and last value 32, four bytes with each bit set, and the tail.
+const BLOCK_AND_TAIL: [u8; 24] = [
+    2, 1, 1, 33, 0, 0, 0, 1, 0, 0, 0, 0, 32, 0, 0, 0, 255, 255, 255, 255, 40, 0, 0, 0,
+];
+
+/// The text is opened as a list of this kind, or refused for this.
+fn opens_as(rt: &impl Abort, kind: ListKind, text: &[u8], expected: Result<(), ListError>) {
+    let found = match PackedList::open_as(BitPacker1x::new(), kind, text) {
+        Ok(list) => {
+            holds(rt, list.kind() == kind, "the kind that was asked for");
+            Ok(())
+        }
+        Err(error) => Err(error),
+    };
+    returns(rt, found, expected, text);
+}
+
+#[test]
+fn lists_of_one_kind(rt: HostRuntime) {
+    let (plain, sorted, strict) = (ListKind::Plain, ListKind::Sorted, ListKind::StrictlySorted);
+    opens_as(&rt, strict, &STRICT, Ok(()));
+    opens_as(&rt, sorted, &SORTED, Ok(()));
+    opens_as(&rt, plain, &PLAIN, Ok(()));
+    opens_as(
+        &rt,
+        sorted,
+        &STRICT,
+        Err(ListError::WrongKind(strict, sorted)),
+    );
+    opens_as(
+        &rt,
+        plain,
+        &STRICT,
+        Err(ListError::WrongKind(strict, plain)),
+    );
+    opens_as(
+        &rt,
+        strict,
+        &SORTED,
+        Err(ListError::WrongKind(sorted, strict)),
+    );
+    opens_as(
+        &rt,
+        strict,
+        &PLAIN,
+        Err(ListError::WrongKind(plain, strict)),
+    );
+    // Sorted 9, 5; and plain 7 with a byte after it.
+    let unsorted = [2, 1, 1, 2, 0, 0, 0, 9, 0, 0, 0, 5, 0, 0, 0];
+    opens_as(&rt, plain, &unsorted, Err(ListError::NotSorted(1)));
+    let longer = [2, 0, 1, 1, 0, 0, 0, 7, 0, 0, 0, 0];
+    opens_as(&rt, strict, &longer, Err(ListError::Trailing));
+    opens_as(&rt, strict, &[], Err(ListError::Short));
+}
+
+#[test]
+fn a_wrong_kind_is_said(rt: HostRuntime) {
+    let (plain, sorted, strict) = (ListKind::Plain, ListKind::Sorted, ListKind::StrictlySorted);
+    let error = ListError::WrongKind(sorted, strict);
+    says(
+        &rt,
+        rt.alloc(),
+        error,
+        15,
+        "the list is sorted, not strictly sorted",
+    );
+    let error = ListError::WrongKind(strict, plain);
+    says(
+        &rt,
+        rt.alloc(),
+        error,
+        15,
+        "the list is strictly sorted, not plain",
+    );
+}
+
+/// The list is unpacked into a slice of 35 nines.
+fn unpacks(rt: &impl Abort, text: &[u8], expected: &[u32]) {
+    let list = PackedList::open(BitPacker1x::new(), text).expect(rt, "a list");
+    let mut room = [9; 35];
+    let count = owned_lists::unpacked_into(&list, &mut room).unwrap_or(99);
+    same_number(rt, count, expected.len(), "values");
+    same_values(rt, room.get(..count).unwrap_or(&[]), expected);
+    for value in room.get(count..).unwrap_or(&[]) {
+        holds(rt, *value == 9, "the rest of the slice");
+    }
+}
+
+#[test]
+fn values_in_a_slice(rt: HostRuntime) {
+    let mut expected = [40; 33];
+    for index in 0..32 {
+        expected[index] = index as u32 + 1;
+    }
+    unpacks(&rt, &BLOCK_AND_TAIL, &expected);
+    unpacks(&rt, &STRICT, &[5, 7, 9]);
+    unpacks(&rt, &[2, 2, 1, 0, 0, 0, 0], &[]);
+    let list = PackedList::open(BitPacker1x::new(), &STRICT).expect(&rt, "a list");
+    let none = owned_lists::unpacked_into(&list, &mut [9; 2]);
+    holds(&rt, none.is_none(), "no room for three values");
+}
+
+#[test]
+fn shared_ids(rt: HostRuntime) {
+    // Strictly sorted 7, 8, 9.
+    let other = [2, 2, 1, 3, 0, 0, 0, 7, 0, 0, 0, 8, 0, 0, 0, 9, 0, 0, 0];
+    let packer = BitPacker1x::new();
+    let shared = owned_lists::shared_ids(rt.alloc(), packer, &STRICT, &other);
+    same_values(&rt, &shared.expect(&rt, "shared values"), &[7, 9]);
+    let refused = owned_lists::shared_ids(rt.alloc(), packer, &STRICT, &SORTED).err();
+    let error = ListError::WrongKind(ListKind::Sorted, ListKind::StrictlySorted);
+    holds(&rt, refused == Some(error), "the second is no set");
+}
+
+/// A vector with these bytes.
+fn owned(rt: &impl Abort, alloc: Global, bytes: &[u8]) -> Vec<u8> {
+    Vec::from_slice(alloc, bytes).expect(rt, "memory")
+}
+
+#[test]
+fn an_owned_list(rt: HostRuntime) {
+    let packer = BitPacker1x::new();
+    let list = match ListBuf::open(packer, owned(&rt, rt.alloc(), &STRICT)) {
+        Ok(list) => list,
+        Err(_) => {
+            holds(&rt, false, "a list");
+            return;
+        }
+    };
+    same_bytes(&rt, list.as_bytes(), &STRICT);
+    let list = owned_lists::sent(packer, list);
+    holds(&rt, list.as_list().get(2) == Some(9), "the last value");
+    same_bytes(&rt, &list.into_bytes(), &STRICT);
+}
+
+#[test]
+fn bytes_that_are_refused_come_back(rt: HostRuntime) {
+    let short = [2, 2, 1, 3, 0, 0, 0, 5];
+    match ListBuf::open(BitPacker1x::new(), owned(&rt, rt.alloc(), &short)) {
+        Ok(_) => holds(&rt, false, "bytes are missing"),
+        Err((error, bytes)) => {
+            holds(&rt, error == ListError::Short, "bytes are missing");
+            same_bytes(&rt, &bytes, &short);
+        }
+    }
+}
+
+#[test]
+fn a_list_of_values(rt: HostRuntime) {
+    let packer = BitPacker1x::new();
+    let list = ListBuf::from_values(rt.alloc(), packer, ListKind::StrictlySorted, &[5, 7, 9]);
+    same_bytes(&rt, list.expect(&rt, "a list").as_bytes(), &STRICT);
+    let refused = ListBuf::from_values(rt.alloc(), packer, ListKind::StrictlySorted, &[5, 5]);
+    holds(
+        &rt,
+        refused.err() == Some(ListError::NotSorted(1)),
+        "5 twice",
+    );
+    let value = owned_lists::value_of_packed(rt.alloc(), packer, ListKind::Plain, &[8, 6], 1);
+    holds(&rt, value == Ok(Some(6)), "the second value");
+}

@@ -1,0 +1,83 @@
+//! Posting lists. The texts and the ids were worked by hand.
+
+use super::checks::{holds, same_bytes, same_number, same_values};
+use crate::postings::{Postings, and, and_not, or, select};
+use bitpack::{ListError, ListKind};
+use bitpacking::{BitPacker, BitPacker1x, BitPacker4x};
+use std::alloc::Global;
+use std::process::Abort;
+
+/// Strictly sorted 5, 7, 9, in one lane; and sorted.
+const STRICT: [u8; 19] = [2, 2, 1, 3, 0, 0, 0, 5, 0, 0, 0, 7, 0, 0, 0, 9, 0, 0, 0];
+
+const SORTED: [u8; 19] = [2, 1, 1, 3, 0, 0, 0, 5, 0, 0, 0, 7, 0, 0, 0, 9, 0, 0, 0];
+
+fn of<P: BitPacker>(rt: &impl Abort, alloc: Global, packer: P, ids: &[u32]) -> Postings<P> {
+    Postings::from_ids(alloc, packer, ids).expect(rt, "a posting list")
+}
+
+#[test]
+fn a_posting_list(rt: HostRuntime) {
+    let list = of(&rt, rt.alloc(), BitPacker1x::new(), &[5, 7, 9]);
+    same_bytes(&rt, list.as_bytes(), &STRICT);
+    same_number(&rt, list.len(), 3, "ids");
+    holds(&rt, list.contains(7) && !list.contains(8), "7, but not 8");
+    holds(&rt, list.next_at_least(8) == Some(9), "the id after 8");
+    holds(&rt, list.next_at_least(10).is_none(), "no id after 9");
+    let mut ids = list.to_vec(rt.alloc()).expect(&rt, "ids");
+    same_values(&rt, &ids, &[5, 7, 9]);
+    of(&rt, rt.alloc(), BitPacker4x::new(), &[6, 7, 9, 10]).retain_in(&mut ids);
+    same_values(&rt, &ids, &[7, 9]);
+}
+
+/// The bytes are opened, or refused for this and given back.
+fn opens(rt: &impl Abort, alloc: Global, bytes: &[u8], expected: Option<ListError>) {
+    let owned = Vec::from_slice(alloc, bytes).expect(rt, "memory");
+    match Postings::open(BitPacker1x::new(), owned) {
+        Ok(list) => {
+            holds(rt, expected.is_none(), "a text");
+            same_bytes(rt, list.as_bytes(), bytes);
+        }
+        Err((error, back)) => {
+            holds(rt, expected == Some(error), "the first fault");
+            same_bytes(rt, &back, bytes);
+        }
+    }
+}
+
+#[test]
+fn texts_are_opened(rt: HostRuntime) {
+    opens(&rt, rt.alloc(), &STRICT, None);
+    let error = ListError::WrongKind(ListKind::Sorted, ListKind::StrictlySorted);
+    opens(&rt, rt.alloc(), &SORTED, Some(error));
+    opens(&rt, rt.alloc(), &[], Some(ListError::Short));
+    let refused = Postings::from_ids(rt.alloc(), BitPacker1x::new(), &[5, 5]).err();
+    holds(&rt, refused == Some(ListError::NotSorted(1)), "5 twice");
+}
+
+#[test]
+fn queries(rt: HostRuntime) {
+    let alloc = rt.alloc();
+    let packer = BitPacker4x::new();
+    let a = of(&rt, alloc, packer, &[1, 2, 3, 4, 6, u32::MAX]);
+    let b = of(&rt, alloc, packer, &[2, 4, u32::MAX]);
+    let c = of(&rt, alloc, packer, &[3, 4, 5]);
+    let none = of(&rt, alloc, packer, &[]);
+    same_values(&rt, &and(alloc, &[&a, &b, &c]).expect(&rt, "ids"), &[4]);
+    same_values(
+        &rt,
+        &and(alloc, &[&b]).expect(&rt, "ids"),
+        &[2, 4, u32::MAX],
+    );
+    same_values(&rt, &and(alloc, &[&b, &none]).expect(&rt, "ids"), &[]);
+    same_values(
+        &rt,
+        &or(alloc, &b, &c).expect(&rt, "ids"),
+        &[2, 3, 4, 5, u32::MAX],
+    );
+    same_values(&rt, &and_not(alloc, &a, &b).expect(&rt, "ids"), &[1, 3, 6]);
+    let found = select(alloc, &a, &b, &c, &none);
+    same_values(&rt, &found.expect(&rt, "ids"), &[2, 3, 4, u32::MAX]);
+    let found = select(alloc, &a, &b, &c, &b);
+    same_values(&rt, &found.expect(&rt, "ids"), &[3]);
+}

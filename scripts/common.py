@@ -1,0 +1,63 @@
+"""What the scripts share: the files of the repository, running a command, and how a script says what passed and what failed."""
+
+import os
+import shutil
+import subprocess
+import sys
+
+ROOT = os.path.dirname(os.path.dirname(os.path.realpath(__file__)))
+
+
+def source(path):
+    """The text of a file of the repository."""
+    with open(f"{ROOT}/{path}", encoding="utf-8") as file:
+        return file.read()
+
+
+def run(*command, folder=ROOT, **more):
+    """Runs a command to its end, without input if none is given. `stdout` of the result has what it printed, errors too."""
+    given = {"input": "", "stdout": subprocess.PIPE, "stderr": subprocess.STDOUT, "encoding": "utf-8", "errors": "replace"}
+    return subprocess.run(command, cwd=folder, **(given | more))
+
+
+def words(*flags):
+    """The arguments of the script. One that begins with `-` and is not among the flags ends it."""
+    unknown = [it for it in sys.argv[1:] if it.startswith("-") and it not in flags]
+    if unknown:
+        sys.exit(f"{os.path.basename(sys.argv[0])}: unknown option {unknown[0]}")
+    return sys.argv[1:]
+
+
+def missing(*tools):
+    """The commands that are not on this machine."""
+    return [it for it in tools if not shutil.which(it)]
+
+
+def leave_out(part, why):
+    print(f"LEFT OUT: {part}, {why}")
+
+
+def left_out_without(part, *tools):
+    """Says that a whole script is left out, if one of its tools is missing. Returns whether it is."""
+    lacking = missing(*tools)
+    if lacking:
+        leave_out(part, f"since there is no {' and no '.join(lacking)}")
+        ended(0, 0)
+    return bool(lacking)
+
+
+def ended(passed, failed):
+    """Prints the last line, and returns the status of the script."""
+    print(f"{passed} passed, {failed} failed")
+    return 1 if failed else 0
+
+
+def report(checks):
+    """Prints which of the checks failed, and the last line. Returns the status of the script. A check is its name and why it failed, or
+    None. A script without a check has failed."""
+    passed = failed = 0
+    for name, why in checks:
+        if why is not None:
+            print(f"FAILED: {name}: {why}")
+        passed, failed = passed + (why is None), failed + (why is not None)
+    return ended(passed, failed if passed or failed else 1)

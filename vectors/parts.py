@@ -1,0 +1,119 @@
+"""The parts of blocks and lists, as docs/FORMAT.md has them, and the blocks of blocks.tsv."""
+
+import os
+
+FOLDER = os.path.dirname(os.path.realpath(__file__))
+KINDS = ["plain", "sorted", "strict"]
+LANES = [1, 4, 8]
+MOST = 268_435_456
+STARTS = [0, 0, 2**32 - 1]  # of the first block of a list, by its kind
+
+
+def rows(name):
+    """The lines of a table below its head, as lists of fields."""
+    with open(f"{FOLDER}/{name}", encoding="ascii") as file:
+        return [line.rstrip("\n").split("\t") for line in file][1:]
+
+
+def plain_blocks():
+    """By lanes and width: the codes of a block, which are the values of a plain one, and their body."""
+    found = {}
+    for packer, kind, _, width, values, body in rows("blocks.tsv"):
+        if kind == "plain":
+            codes = [int(value) for value in values.split(",")]
+            found[int(packer[0]), int(width)] = codes, bytes.fromhex(body.strip("-"))
+    return found
+
+
+def word(value):
+    return value.to_bytes(4, "little")
+
+
+def header(lanes, count, kind=0, version=1):
+    return bytes([version, kind, lanes]) + word(count)
+
+
+def entry(width, offset, last):
+    return bytes([width]) + word(offset) + word(last)
+
+
+def summed(name, last, codes):
+    """The values of a block of a kind after a value."""
+    values = []
+    for code in codes:
+        last = code if name == "plain" else (last + code + (name == "strict")) % 2**32
+        values.append(last)
+    return values
+
+
+def number(value):
+    """A number of version 3: seven bits a byte, the lowest first, with 128 added to every byte but the last."""
+    return bytes([value]) if value < 128 else bytes([value % 128 + 128]) + number(value // 128)
+
+
+def header3(lanes, count, kind=0):
+    return bytes([64 * (LANES.index(lanes) + 1) + 16 * kind + min(count, 15)]) + (number(count) if count >= 15 else b"")
+
+
+def group(codes):
+    """A group of version 3, of 1 to 32 codes: the body of a block of one lane, cut after its last code."""
+    width = max(codes).bit_length()
+    body = body_of(1, width, [*codes, *[0] * (32 - len(codes))])
+    return bytes([width]) + body[: (len(codes) * width + 7) // 8]
+
+
+def tail_of(version, kind, bodies, values):
+    """The bytes of a tail after blocks of these widths, last values and bodies."""
+    if version < 3:
+        return b"".join(map(word, values))
+    codes, first = codes_after(kind, bodies[-1][1] if bodies else STARTS[kind], values), b""
+    if codes and not bodies:
+        first, codes = number(codes[0]), codes[1:]
+    return first + b"".join(group(codes[at : at + 32]) for at in range(0, len(codes), 32))
+
+
+def text_of(version, lanes, kind, bodies, tail):
+    """A text, from the width, last value and body of each block, and the values of the tail."""
+    count, offset = 32 * lanes * len(bodies) + len(tail), 0
+    text = header3(lanes, count, kind) if version == 3 else header(lanes, count, kind, version)
+    end = tail_of(version, kind, bodies, tail)
+    if version == 1:
+        return text + b"".join(bytes([width]) + body for width, _, body in bodies) + end
+    for width, last, _ in bodies:
+        text += entry(width, offset, last)
+        offset += width
+    return text + b"".join(body for _, _, body in bodies) + end
+
+
+def body_of(lanes, width, codes):
+    """The body of codes that fit the width: bit j of code k is where the layout of docs/FORMAT.md has it."""
+    body = bytearray(4 * lanes * width)
+    for k, code in enumerate(codes):
+        for j in range(width):
+            p = k // lanes * width + j
+            index = 4 * (lanes * (p // 32) + k % lanes) + p % 32 // 8
+            body[index] |= (code >> j & 1) << p % 8
+    return bytes(body)
+
+
+def codes_after(kind, last, values):
+    """The codes of values after a value, by the number of the kind."""
+    if kind == 0:
+        return values
+    return [(value - before - (kind == 2)) % 2**32 for before, value in zip([last, *values], values)]
+
+
+def list_text(version, lanes, kind, values):
+    """The text of the values, by the number of their kind. In version 2 their order is not tested."""
+    block, last, bodies = 32 * lanes, STARTS[kind], []
+    whole = len(values) // block * block
+    for place in range(0, whole, block):
+        codes = codes_after(kind, last, values[place : place + block])
+        width, last = max(codes).bit_length(), values[place + block - 1]
+        bodies.append((width, last, body_of(lanes, width, codes)))
+    return text_of(version, lanes, kind, bodies, values[whole:])
+
+
+def first_out(kind, values):
+    """The first position whose value is out of order, or None."""
+    return next((p for p in range(1, len(values)) if kind and values[p] < values[p - 1] + kind - 1), None)
