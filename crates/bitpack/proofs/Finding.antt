@@ -16,7 +16,7 @@ use Rattle.hex.specs.declared.error.FromHexError.{FromHexError}
 use Rattle.bitpack.specs.declared.line.values.Item.{Item}
 use Rattle.bitpack.specs.declared.line.values.Item.TheVariants.{Once, Times}
 use Rattle.bitpack.specs.Grammar.{IsCount, IsItem, IsWord, SpellsBytes, SpellsNumber, SpellsValues, item_string, item_values, items_string}
-use Rattle.bitpack.specs.Found.{Finds, SpellsItem}
+use Rattle.bitpack.specs.inner.Found.{Finds, SpellsItem}
 use Rattle.bitpack.proofs.Numerals.{numeral}
 use Rattle.bitpack.proofs.Cuts.{Lacks, Lacks-append, Lacks-cons}
 use Rattle.bitpack.proofs.Items.{Lacks-item, item_parts, item_whole, same_item}

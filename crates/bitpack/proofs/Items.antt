@@ -6,7 +6,7 @@ use Rattle.std.proofs.lemmas.Fmt.{decimal_injective}
 use Rattle.bitpack.specs.declared.line.values.Item.{Item}
 use Rattle.bitpack.specs.declared.line.values.Item.TheVariants.{Once, Times}
 use Rattle.bitpack.specs.Grammar.{IsCount, IsItem, IsWord, SpellsNumber, item_string}
-use Rattle.bitpack.specs.Found.{SpellsItem}
+use Rattle.bitpack.specs.inner.Found.{SpellsItem}
 use Rattle.bitpack.proofs.Cuts.{Lacks, Lacks-append, Lacks-cons, Lacks-decimal, has_cut, same_cut}
 
 Lacks-word : (n : ℕ) → IsWord n → Lacks 42 (decimal n)

@@ -10,7 +10,7 @@ use Rattle.bitpack.specs.declared.line.Line.{Line}
 use Rattle.bitpack.specs.declared.line.error.ParseError.{ParseError}
 use Rattle.bitpack.specs.declared.line.error.ParseError.TheVariants.{Memory, Spelling}
 use Rattle.bitpack.specs.Grammar.{Request, Spells, packer_string}
-use Rattle.bitpack.specs.Found.{Asks, Parses, asked_by, request_of}
+use Rattle.bitpack.specs.inner.Found.{Asks, Parses, asked_by, request_of}
 use Rattle.bitpack.proofs.Cuts.{Lacks}
 use Rattle.bitpack.proofs.VisibleFields.{AreFields, IsAscii-fields, IsVisible, Lacks-visible, are_fields}
 use Rattle.bitpack.proofs.ValueLists.{split-join}

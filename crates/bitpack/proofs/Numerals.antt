@@ -7,7 +7,7 @@ use Rattle.std.specs.Fmt.{decimal}
 use Rattle.std.proofs.lemmas.Str.Parse.{IsNumeralModel, numerals_by_value, tells_digits, digit_at, parse_plain}
 use Rattle.std.proofs.lemmas.Fmt.{decimal-digits_value, decimal_nonempty, digits_decimal, digits_value-decimal, first_decimal, decimal_digit}
 use Rattle.std.proofs.lemmas.Bool.{cases_eq}
-use Rattle.bitpack.specs.Found.{Finds, BeginsNumber}
+use Rattle.bitpack.specs.inner.Found.{Finds, BeginsNumber}
 
 -- digits, and the number that they write
 pub numeral : IsNumeralModel (AllDigits 10) (digits_value 10)

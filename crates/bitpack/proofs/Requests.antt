@@ -15,7 +15,7 @@ use Rattle.bitpack.specs.declared.line.PackerName.TheVariants.{EightLanes, Eight
 use Rattle.bitpack_lists.specs.declared.list_kind.ListKind.{ListKind}
 use Rattle.bitpack_lists.specs.declared.list_kind.ListKind.TheVariants as lists
 use Rattle.bitpack.specs.Grammar.{Dec, Enc, IsSmall, IsWord, Pack, Request, Seek, Size, Spells, SpellsBytes, SpellsKind, SpellsNumber, SpellsRequest, SpellsValues, Unpack, Upgrade, Width, kind_string, list_kind_string, packer_string}
-use Rattle.bitpack.specs.Found.{Asks, Parses, request_of}
+use Rattle.bitpack.specs.inner.Found.{Asks, Parses, request_of}
 use Rattle.bitpack.specs.Laws.{OneCommand}
 use Rattle.bitpack.proofs.Finding.{Decided, Search, below, both, find_bytes, find_values, only, same_bytes, same_string, same_values}
 use Rattle.bitpack.proofs.LineFields.{asks_in, between_spaces, fields_in, fields_of, spells_by}

@@ -8,7 +8,7 @@ use Rattle.std.proofs.lemmas.List.{drop_all, drop_more, get_or_default}
 use Rattle.std.proofs.lemmas.Bool.Decides.{eqb_tells}
 use Rattle.bitpack.specs.declared.line.values.Item.{Item}
 use Rattle.bitpack.specs.Grammar.{IsItem, SpellsValues, item_string, item_values, items_string}
-use Rattle.bitpack.specs.Found.{AddsItem, SpellsItem}
+use Rattle.bitpack.specs.inner.Found.{AddsItem, SpellsItem}
 use Rattle.bitpack.proofs.Cuts.{Lacks}
 use Rattle.bitpack.proofs.Items.{Lacks-item, same_item}
 

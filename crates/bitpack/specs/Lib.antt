@@ -1,7 +1,7 @@
 -- The definitions of this crate.
 pub mod Answers
 pub mod Ending
-pub mod Found
 pub mod Grammar
 pub mod Laws
 pub mod Lines
+pub mod inner

@@ -1,7 +1,7 @@
 //! The answer to a line.
 
 ghost use Rattle.std.specs.Prelude.{IfErr, IfOk, OnOk};
-ghost use Rattle.bitpack.specs.Found.{request_of};
+ghost use Rattle.bitpack.specs.inner.Found.{request_of};
 ghost use Rattle.bitpack.specs.Answers.{IsAnswer, IsReply, lanes_of, printed};
 ghost use Rattle.bitpack.specs.Lines.{AppendsAnswer, StopsAtAnswer};
 

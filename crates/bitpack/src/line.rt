@@ -2,7 +2,7 @@
 
 ghost use Rattle.std.specs.Prelude.{map};
 ghost use Rattle.bitpack.specs.Grammar.{Spells};
-ghost use Rattle.bitpack.specs.Found.{Asks, Parses, asked_by};
+ghost use Rattle.bitpack.specs.inner.Found.{Asks, Parses, asked_by};
 
 mod bytes;
 mod error;

@@ -2,7 +2,7 @@
 use Rattle.std.proofs.Common.{◌≡◌, ℕ, ◌+◌, ◌-◌, ◌%◌, ◌^◌, List, [], ◌∷◌, Some, refl, ◌∙◌, ap, arith}
 use Rattle.bitpacking.specs.declared.kind.Kind.TheVariants.{Sorted, StrictlySorted}
 use Rattle.bitpacking.specs.Codes.{codes, values_of}
-use Rattle.bitpack_lists.specs.CodeSteps.{gaps, sums}
+use Rattle.bitpack_lists.specs.inner.CodeSteps.{gaps, sums}
 
 pub sums-sorted : (t u : ℕ) (xs : List ℕ) → t % 2 ^ 32 ≡ u % 2 ^ 32 → sums t 0 xs ≡ values_of (Sorted u) xs
 sums-sorted t u [] e = refl

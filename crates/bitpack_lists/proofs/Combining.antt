@@ -4,7 +4,7 @@ use Rattle.std.specs.List.{filter}
 use Rattle.std.proofs.Math.Bool.{and-false}
 use Rattle.std.proofs.lemmas.Bool.{and_parts, cases_lt, cases_order, cond_both, le-leb, leb-true, lt-leb, not-true, or_from, or_left, or_parts, or_right, true≢false}
 use Rattle.bitpack_lists.specs.Increasing.{IsIncreasing, after_first, at_least, first, has, shared, united, without}
-use Rattle.bitpack_lists.specs.Combined.{IsKept, IsShared}
+use Rattle.bitpack_lists.specs.inner.Combined.{IsKept, IsShared}
 use Rattle.bitpack_lists.specs.IncreasingLaws.{increasing_at_least, increasing_shared, increasing_united, increasing_without}
 use Rattle.bitpack_lists.proofs.Membership.{after_least, first_has, first_head, first_is, first_least, first_none, has-at_least, has-shared, has-united, has-without, same_numbers}
 

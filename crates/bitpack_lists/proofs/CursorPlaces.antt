@@ -15,7 +15,7 @@ use Rattle.bitpack_lists.specs.Cursors.{position, values_of_cursor}
 use Rattle.bitpack_lists.specs.Opened.{values}
 use Rattle.bitpack_lists.specs.Parts.{first_kind}
 use Rattle.bitpack_lists.specs.Places.{HasPart, InOrder, IsPlace, IsSoughtFrom, IsSoughtIn}
-use Rattle.bitpack_lists.specs.Searching.{EndsBelow, IsFirstFrom, blocks_of, number_or_all, rest_of, value_of}
+use Rattle.bitpack_lists.specs.inner.Searching.{EndsBelow, IsFirstFrom, blocks_of, number_or_all, rest_of, value_of}
 use Rattle.bitpack_lists.specs.Version2.{block_at, kind_at, last_at}
 use Rattle.bitpack_lists.proofs.BlockLemmas.{kind_at_after}
 use Rattle.bitpack_lists.proofs.CursorSteps.{get_or-first_of, left_end, left_whole, left_within, length-first_of, none_left}

@@ -14,7 +14,7 @@ use Rattle.bitpack_lists.specs.declared.list_kind.ListKind.{ListKind}
 use Rattle.bitpack_lists.specs.Chains.{next_kind}
 use Rattle.bitpack_lists.specs.Parts.{first_kind}
 use Rattle.bitpack_lists.specs.Version2.{IsBody2, IsEntry2, block_of, body_at, body_start, kind_at, last_at, offset_at, width_at, widths_before}
-use Rattle.bitpack_lists.specs.Opening.{AreEntries, HasBodies}
+use Rattle.bitpack_lists.specs.inner.Opening.{AreEntries, HasBodies}
 use Rattle.bitpack_lists.proofs.BlockLemmas.{AreWords-block_of, kind_at-next, length-block_of}
 use Rattle.bitpack_lists.proofs.PartLemmas.{word-bytes}
 

@@ -8,7 +8,7 @@ use Rattle.bitpack_lists.specs.Parts.{header, whole_blocks, first_kind}
 use Rattle.bitpack_lists.specs.Version1.{Blocks1, List1}
 use Rattle.bitpack_lists.proofs.HeaderLemmas.{AreBytes-header, length-header}
 use Rattle.bitpack_lists.proofs.PartLemmas.{AreBytes-append}
-use Rattle.bitpack_lists.proofs.TextLemmas.{blocks_of}
+use Rattle.bitpack_lists.proofs.OneText1.{blocks_of}
 
 pub List1-from_blocks : (lanes : ℕ) (kind : ListKind) (values later : List ℕ) → AreWords values → length values ≤ 2 ^ 28
     → Blocks1 lanes (whole_blocks lanes (length values)) (first_kind kind) values later

@@ -8,7 +8,7 @@ use Rattle.bitpack_lists.specs.Increasing.{IsIncreasing, after_first, at_least, 
 use Rattle.bitpack_lists.specs.IncreasingLaws.{increasing_at_least}
 use Rattle.bitpack_lists.specs.Many.{all_have, from_value, shared_by_all, united_all}
 use Rattle.bitpack_lists.specs.ManyLaws.{increasing_shared_by_all, increasing_united_all}
-use Rattle.bitpack_lists.specs.Leaping.{IsBefore, IsLeaping, IsLeapt, IsNearer, IsUniting, lesser_of}
+use Rattle.bitpack_lists.specs.inner.Leaping.{IsBefore, IsLeaping, IsLeapt, IsNearer, IsUniting, lesser_of}
 use Rattle.bitpack_lists.proofs.Combining.{at_least-above, at_least-same, stays_first, stays_none}
 use Rattle.bitpack_lists.proofs.ManyLemmas.{all_have-false, all_have-set, all_have-true, any_has-false, any_has-true, from_value-first, has-united_all, met_none, met_some, shared_by_all-first, shared_by_all-none, shared_by_all-seek, united_all-seek}
 use Rattle.bitpack_lists.proofs.Membership.{first_has, first_is, first_least, first_none, has-at_least, same_numbers}

@@ -12,12 +12,12 @@ use Rattle.bitpacking.proofs.ForCallers.{length-bytes_of_words, same_least_width
 use Rattle.bitpack_lists.specs.declared.list_kind.ListKind.{ListKind}
 use Rattle.bitpack_lists.specs.Chains.{LeastWidths, second_kind}
 use Rattle.bitpack_lists.specs.Parts.{first_kind, tail_values, whole_blocks}
-use Rattle.bitpack_lists.specs.Opening.{AreEntries}
+use Rattle.bitpack_lists.specs.inner.Opening.{AreEntries}
 use Rattle.bitpack_lists.specs.Version1.{Blocks1, List1}
 use Rattle.bitpack_lists.specs.Version2.{kind_at, tail_start, width_at, widths_before}
 use Rattle.bitpack_lists.proofs.BlockLemmas.{kind_at-next}
 use Rattle.bitpack_lists.proofs.HeaderLemmas.{header_bytes}
-use Rattle.bitpack_lists.proofs.TextLemmas.{length-part}
+use Rattle.bitpack_lists.proofs.OneText1.{length-part}
 use Rattle.bitpack_lists.proofs.WriteSteps.{kept_first}
 
 -- ---- one block more is measured

@@ -7,7 +7,7 @@ use Rattle.bitpack_lists.specs.Version2.{value_at}
 use Rattle.bitpack_lists.proofs.HeaderLemmas.{header_bytes, header_from_fault, kind_byte-same}
 use Rattle.bitpack_lists.proofs.PartLemmas.{AreBytes-drop}
 use Rattle.bitpack_lists.proofs.SameBlocks.{same_whole}
-use Rattle.bitpack_lists.proofs.Soundness.{header_right2, list_from_none2, none_from_list2, value_given}
+use Rattle.bitpack_lists.proofs.Soundness2.{header_right2, list_from_none2, none_from_list2, value_given}
 
 -- ---- a text has one list
 

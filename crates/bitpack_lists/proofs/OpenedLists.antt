@@ -16,7 +16,7 @@ use Rattle.bitpack_lists.proofs.PartLemmas.{AreBytes-drop, word-drop}
 use Rattle.bitpack_lists.proofs.RestFaults.{body_right, first_fault-none}
 use Rattle.bitpack_lists.proofs.RestValues.{length-block_at, value_at-block, value_at-tail}
 use Rattle.bitpack_lists.proofs.SearchLemmas.{before_block, first_further, first_same, first_within, in_order}
-use Rattle.bitpack_lists.proofs.Soundness.{IsSound, rest_next, sound_from_none, value_given}
+use Rattle.bitpack_lists.proofs.Soundness2.{IsSound, rest_next, sound_from_none, value_given}
 
 module _ (lanes count : ℕ) (kind : ListKind) (bytes : List ℕ) (some : 1 ≤ lanes) (begins : BeginsWithHeader 2 lanes kind count bytes)
     (none : fault2 lanes bytes ≡ None) where

@@ -6,15 +6,15 @@ use Rattle.bitpack_lists.specs.declared.list2.packed_list.PackedList.{PackedList
 use Rattle.bitpacking.specs.Bits.{AreBytes}
 use Rattle.bitpack_lists.specs.Opened.{first_of, kind_of, text, values}
 use Rattle.bitpack_lists.specs.Parts.{BeginsWithHeader, whole_blocks}
-use Rattle.bitpack_lists.specs.Searching.{value_of}
+use Rattle.bitpack_lists.specs.inner.Searching.{value_of}
 use Rattle.bitpack_lists.specs.Search.{first_at_least, first_reaching}
 use Rattle.bitpack_lists.specs.Version2.{List2, OfNoOther, fault2, value_at}
-use Rattle.bitpack_lists.specs.Walks.{values_in}
+use Rattle.bitpack_lists.specs.inner.Walks.{values_in}
 use Rattle.bitpack_lists.proofs.CursorSteps.{first_of-same, get_or-first_of, length-first_of}
 use Rattle.bitpack_lists.proofs.OneText2.{no_fault2}
 use Rattle.bitpack_lists.proofs.OpenedLists.{opened_count, opened_kind, opened_value}
 use Rattle.bitpack_lists.proofs.SearchLemmas.{first_same}
-use Rattle.bitpack_lists.proofs.Sharing.{AreValues}
+use Rattle.bitpack_lists.proofs.walking.Sharing.{AreValues}
 
 retyped : (lanes : ℕ) (kind kind' : ListKind) (one other bytes : List ℕ) → kind ≡ kind' → one ≡ other → List2 lanes kind' other bytes
     → List2 lanes kind one bytes

@@ -12,9 +12,9 @@ use Rattle.bitpack_lists.specs.declared.list_kind.ListKind.TheVariants as lists
 use Rattle.bitpack_lists.specs.Laws.{FirstIsFound, NeitherFalls, SortedIsOrder, StrictIsOrder}
 use Rattle.bitpack_lists.specs.Search.{first_at_least}
 use Rattle.bitpack_lists.specs.Version2.{is_out}
-use Rattle.bitpack_lists.specs.Walks.{Values}
+use Rattle.bitpack_lists.specs.inner.Walks.{Values}
 use Rattle.bitpack_lists.proofs.SearchLemmas.{in_order, least_below-all, least_below-none}
-use Rattle.bitpack_lists.proofs.Sharing.{IsFirst, sought_none, sought_some}
+use Rattle.bitpack_lists.proofs.walking.Sharing.{IsFirst, sought_none, sought_some}
 
 -- ---- a search
 

@@ -5,7 +5,7 @@ use Rattle.std.proofs.lemmas.Bool.{cases_lt}
 use Rattle.bitpack_lists.specs.declared.list_kind.ListKind.{ListKind}
 use Rattle.bitpack_lists.specs.declared.list_kind.ListKind.TheVariants as lists
 use Rattle.bitpack_lists.specs.Version2.{first_out, is_out, least_below}
-use Rattle.bitpack_lists.specs.Opening.{IsOrdered}
+use Rattle.bitpack_lists.specs.inner.Opening.{IsOrdered}
 
 -- ---- the least number below a bound
 

@@ -17,7 +17,7 @@ use Rattle.bitpack_lists.specs.Parts.{is_loose}
 use Rattle.bitpack_lists.specs.Version1.{IsPart1, Blocks1, block_fault1, after_block1, blocks_fault1}
 use Rattle.bitpack_lists.proofs.PartLemmas.{AreBytes-right, words_of}
 use Rattle.bitpack_lists.proofs.LooseLemmas.{Decides-loose}
-use Rattle.bitpack_lists.proofs.TextLemmas.{narrow_least, same_front}
+use Rattle.bitpack_lists.proofs.OneText1.{narrow_least, same_front}
 use Rattle.bitpack_lists.proofs.FaultLemmas.{IsRight, right_from_none, tail_from_none, blocks_left, no_blocks_left, none_first, right, tail_right}
 
 -- ---- one block without a fault

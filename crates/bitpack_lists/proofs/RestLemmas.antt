@@ -8,7 +8,7 @@ use Rattle.bitpacking.proofs.ForCallers.{length-bytes_of_words}
 use Rattle.bitpack_lists.specs.declared.list_kind.ListKind.{ListKind}
 use Rattle.bitpack_lists.specs.Parts.{header, tail_values, whole_blocks}
 use Rattle.bitpack_lists.specs.Version2.{HasBlocks, IsRest2, List2, first_out, tail_start}
-use Rattle.bitpack_lists.specs.Opening.{HasBodies}
+use Rattle.bitpack_lists.specs.inner.Opening.{HasBodies}
 use Rattle.bitpack_lists.proofs.EntryLemmas.{IsBody2-append, IsEntry2-append, body_end, widths_before-append}
 use Rattle.bitpack_lists.proofs.HeaderLemmas.{header_bytes, length-header}
 

@@ -6,7 +6,7 @@ use Rattle.std.proofs.lemmas.List.{get_or-set_other, length-set, take_all, take_
 use Rattle.std.proofs.lemmas.List.Elements.{filter_more}
 use Rattle.bitpack_lists.specs.Increasing.{IsIncreasing, at_least, first, has}
 use Rattle.bitpack_lists.specs.Distinct.{distinct}
-use Rattle.bitpack_lists.specs.Retaining.{HasFrom, IsRetaining}
+use Rattle.bitpack_lists.specs.inner.Retaining.{HasFrom, IsRetaining}
 use Rattle.bitpack_lists.proofs.Combining.{at_least-lacks}
 use Rattle.bitpack_lists.proofs.DistinctLemmas.{has-distinct}
 use Rattle.bitpack_lists.proofs.Membership.{first_has, has-at_least}

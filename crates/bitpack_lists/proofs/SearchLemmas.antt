@@ -4,7 +4,7 @@ use Rattle.std.specs.Option.{option_or, option_map}
 use Rattle.std.proofs.lemmas.Bool.{cases_lt, le-leb, leb-false, lt-leb, lt-ltb, ltb-false}
 use Rattle.bitpack_lists.specs.declared.list_kind.ListKind.{ListKind}
 use Rattle.bitpack_lists.specs.declared.list_kind.ListKind.TheVariants as lists
-use Rattle.bitpack_lists.specs.Opening.{is_fall}
+use Rattle.bitpack_lists.specs.inner.Opening.{is_fall}
 use Rattle.bitpack_lists.specs.Search.{first_reaching}
 use Rattle.bitpack_lists.specs.Version2.{is_out, least_below}
 use Rattle.bitpack_lists.proofs.Orders.{least_below-found, least_below-further, least_below-next, least_below-same}

@@ -2,7 +2,7 @@
 use Rattle.std.proofs.Common.{◌≡◌, ℕ, zero, suc, ◌+◌, ◌-◌, ◌*◌, ◌/◌, ◌^◌, ◌<◌, ◌≤◌, ◌⊎◌, min, refl, arith, inl, inr}
 use Rattle.std.proofs.Math.Pow.{pow_mono}
 use Rattle.std.proofs.lemmas.Bool.{cases_lt}
-use Rattle.bitpack_lists.specs.Searching.{IsNear}
+use Rattle.bitpack_lists.specs.inner.Searching.{IsNear}
 
 -- so many numbers are left, of which each entry leaves half; in all at most so many entries are read
 pub record IsHalving (left reach entries most : ℕ) : Type 0 where

@@ -11,7 +11,7 @@ use Rattle.bitpack_lists.specs.Version3.{HasCode, count3, count_fault, header3, 
 use Rattle.bitpack_lists.proofs.FaultLemmas.{none_first}
 use Rattle.bitpack_lists.proofs.HeaderLemmas.{kind_byte-le, passed}
 use Rattle.bitpack_lists.proofs.NumberLaws.{number_reads_back, one_number}
-use Rattle.bitpack_lists.proofs.Soundness.{kind_of_byte-is}
+use Rattle.bitpack_lists.proofs.Soundness2.{kind_of_byte-is}
 
 -- ---- the parts of the first byte
 

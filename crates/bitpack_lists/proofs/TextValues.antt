@@ -11,7 +11,7 @@ use Rattle.bitpack_lists.specs.Version2.{List2, value_at}
 use Rattle.bitpack_lists.proofs.CursorSteps.{first_of-same}
 use Rattle.bitpack_lists.proofs.HeaderLemmas.{header_bytes}
 use Rattle.bitpack_lists.proofs.OpenedValues.{opened_list2}
-use Rattle.bitpack_lists.proofs.Soundness.{kind_of_byte-is, value_given}
+use Rattle.bitpack_lists.proofs.Soundness2.{kind_of_byte-is, value_given}
 
 module _ (lanes : ℕ) (kind : ListKind) (all bytes : List ℕ) (some : 1 ≤ lanes) (small : AreBytes bytes) (list : List2 lanes kind all bytes) where
   pub kind_in-is : kind_in bytes ≡ kind

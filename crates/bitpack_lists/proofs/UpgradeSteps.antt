@@ -14,14 +14,14 @@ use Rattle.bitpack_lists.specs.Chains.{next_kind, second_kind}
 use Rattle.bitpack_lists.specs.Version1.{Blocks1, IsPart1, after_block1, block_fault1, blocks_fault1}
 use Rattle.bitpack_lists.specs.Parts.{first_kind, whole_blocks}
 use Rattle.bitpack_lists.specs.Version2.{IsRest2, block_of, first_out, is_out, kind_at, last_at, least_below, width_at}
-use Rattle.bitpack_lists.specs.Opening.{HasBodies, IsOrdered}
-use Rattle.bitpack_lists.specs.Upgrading.{IsRest1}
+use Rattle.bitpack_lists.specs.inner.Opening.{HasBodies, IsOrdered}
+use Rattle.bitpack_lists.specs.inner.Upgrading.{IsRest1}
 use Rattle.bitpack_lists.proofs.BlockLemmas.{block_end, get_or-block_of, kind_at-next, length-block_of, values_after}
 use Rattle.bitpack_lists.proofs.EntryLemmas.{Entered, bodies_step, entered_step, kind_at-append, last_at-append}
 use Rattle.bitpack_lists.proofs.FaultLemmas.{IsRight, none_first, right_from_none, tail_from_none}
 use Rattle.bitpack_lists.proofs.Orders.{least_below-further, ordered_first}
 use Rattle.bitpack_lists.proofs.RestLemmas.{rest_done}
-use Rattle.bitpack_lists.proofs.TextLemmas.{same_front}
+use Rattle.bitpack_lists.proofs.OneText1.{same_front}
 use Rattle.bitpack_lists.proofs.WriteSteps.{one-less}
 
 -- ---- how many bytes are left

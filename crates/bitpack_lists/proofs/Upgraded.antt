@@ -13,13 +13,13 @@ use Rattle.bitpack_lists.specs.Parts.{BeginsWithHeader, first_kind, whole_blocks
 use Rattle.bitpack_lists.specs.Version1.{Blocks1, List1}
 use Rattle.bitpack_lists.specs.Version2.{IsRest2, List2, block_of, body_at, body_start, kind_at, last_at, parts_before, tail_start, width_at, widths_before}
 use Rattle.bitpack_lists.specs.Laws.{SameBodies}
-use Rattle.bitpack_lists.specs.Opening.{AreEntries}
-use Rattle.bitpack_lists.specs.Upgrading.{IsRest1}
+use Rattle.bitpack_lists.specs.inner.Opening.{AreEntries}
+use Rattle.bitpack_lists.specs.inner.Upgrading.{IsRest1}
 use Rattle.bitpack_lists.proofs.BlockLemmas.{kind_at-next, values_after}
 use Rattle.bitpack_lists.proofs.HeaderLemmas.{header_bytes, kind_byte-same}
 use Rattle.bitpack_lists.proofs.PartLemmas.{AreBytes-drop, AreBytes-left, AreBytes-right}
 use Rattle.bitpack_lists.proofs.RestLemmas.{length-tail, length-text2}
-use Rattle.bitpack_lists.proofs.TextLemmas.{length-part}
+use Rattle.bitpack_lists.proofs.OneText1.{length-part}
 
 -- The text is that of the kind and the count that its header says.
 pub listed : (lanes count : ℕ) (kind kind' : ListKind) (values bytes : List ℕ) → BeginsWithHeader 1 lanes kind count bytes → List1 lanes kind' values bytes

@@ -21,7 +21,7 @@ use Rattle.bitpack_lists.proofs.FaultLemmas.{none_first}
 use Rattle.bitpack_lists.proofs.HeaderLemmas.{passed}
 use Rattle.bitpack_lists.proofs.Orders.{is_out-same, least_below-same}
 use Rattle.bitpack_lists.proofs.ReadSteps.{least_from_tight, tight_from_least}
-use Rattle.bitpack_lists.proofs.TextLemmas.{narrow_least}
+use Rattle.bitpack_lists.proofs.OneText1.{narrow_least}
 use Rattle.bitpack_lists.proofs.RestFaults.{body_right, first_fault-all, first_fault-none, right_body, right_entry}
 use Rattle.bitpack_lists.proofs.RestValues.{AreWords-block_at, Holds-block_at, length-block_at, offset_entry, start-kind_at, value_with-block, value_with-tail}
 

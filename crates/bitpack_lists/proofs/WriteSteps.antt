@@ -14,7 +14,7 @@ use Rattle.bitpacking.specs.Words.{bytes_of_words}
 use Rattle.bitpack_lists.specs.Version1.{IsPart1, Blocks1}
 use Rattle.bitpacking.proofs.ForCallers.{length-bytes_of_words}
 use Rattle.bitpack_lists.proofs.PartLemmas.{AreBytes-left, AreBytes-right}
-use Rattle.bitpack_lists.proofs.TextLemmas.{length-part, same_part}
+use Rattle.bitpack_lists.proofs.OneText1.{length-part, same_part}
 
 -- ---- the values that are left
 

@@ -8,7 +8,7 @@ use Rattle.bitpacking.specs.Codes.{AreWords, codes}
 use Rattle.bitpacking.proofs.ForCallers.{codes_are_words}
 use Rattle.bitpack_lists.specs.declared.list_kind.ListKind.{ListKind}
 use Rattle.bitpack_lists.specs.Chains.{LeastWidths, next_kind}
-use Rattle.bitpack_lists.specs.Opening.{AreEntries, HasBodies}
+use Rattle.bitpack_lists.specs.inner.Opening.{AreEntries, HasBodies}
 use Rattle.bitpack_lists.specs.Parts.{first_kind, whole_blocks}
 use Rattle.bitpack_lists.specs.Version2.{first_out, kind_at, last_at, tail_start}
 use Rattle.bitpack_lists.specs.Version3.{IsTail3, List3, header3}

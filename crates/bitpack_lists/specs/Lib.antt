@@ -1,8 +1,5 @@
 -- The definitions of this crate.
-pub mod Appending
 pub mod Chains
-pub mod CodeSteps
-pub mod Combined
 pub mod Cursors
 pub mod Distinct
 pub mod DistinctLaws
@@ -10,27 +7,21 @@ pub mod Fronts
 pub mod Groups
 pub mod Increasing
 pub mod IncreasingLaws
+pub mod inner
 pub mod Intersections
 pub mod Laws
 pub mod Laws3
-pub mod Leaping
 pub mod Many
 pub mod ManyLaws
 pub mod Numbers
 pub mod OfKind
 pub mod Opened
-pub mod Opening
 pub mod Owned
 pub mod Parts
-pub mod Passing
 pub mod Places
 pub mod Remaining
-pub mod Retaining
 pub mod Search
-pub mod Searching
-pub mod Upgrading
 pub mod Version1
 pub mod Version2
 pub mod Version3
-pub mod Walks
 pub mod WorkedTexts

@@ -1,7 +1,7 @@
 //! The seven bytes before the blocks of a packed list, in both versions: version, kind, lanes, and the count of values.
 
 ghost use Rattle.std.specs.Prelude.{◌+◌, ◌^◌, ◌≤◌, ◌<◌, OnOk, IfOk, length, vec_len, vec_capacity};
-ghost use Rattle.bitpack_lists.specs.Appending.{HasAppended};
+ghost use Rattle.bitpack_lists.specs.inner.Appending.{HasAppended};
 ghost use Rattle.bitpack_lists.specs.Parts.{BeginsWithHeader, FindsFault, header, header_fault};
 
 use super::list_error::ListError;

@@ -1,7 +1,7 @@
 //! Appending to vectors that have reserved room.
 
 ghost use Rattle.std.specs.Prelude.{◌+◌, ◌≤◌, length, replicate, vec_len, vec_capacity};
-ghost use Rattle.bitpack_lists.specs.Appending.{HasAppended};
+ghost use Rattle.bitpack_lists.specs.inner.Appending.{HasAppended};
 
 /// Appends to a vector that has the room.
 pub(crate) fn append<T: Copy>(out: &mut Vec<T>, part: &[T])

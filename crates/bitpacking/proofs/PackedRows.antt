@@ -6,7 +6,7 @@ use Rattle.std.proofs.lemmas.Nat.{mul-add-lt, mul-le}
 use Rattle.bitpacking.specs.Bits.{AreBytes}
 use Rattle.bitpacking.specs.Layout.{Layout}
 use Rattle.bitpacking.specs.Moves.{IsLoad, IsStore}
-use Rattle.bitpacking.specs.Partway.{RowsPacked, PacksRows}
+use Rattle.bitpacking.specs.inner.Partway.{RowsPacked, PacksRows}
 use Rattle.bitpacking.specs.Width.{Fits}
 use Rattle.bitpacking.specs.Words.{word as word_of}
 use Rattle.bitpacking.specs.declared.memory.Steps.{Steps}

@@ -2,7 +2,7 @@
 use Rattle.bitpacking.specs.Layout.{Layout}
 use Rattle.bitpacking.proofs.LaneEquations.{lane_code, lane_word, lane_code-lt, lanes-from_layout}
 use Rattle.bitpacking.specs.Words.{joined}
-pub use Rattle.bitpacking.specs.Partway.{Unpacked}
+pub use Rattle.bitpacking.specs.inner.Partway.{Unpacked}
 use Rattle.bitpacking.specs.Bits.{AreBytes}
 use Rattle.std.proofs.Common.{List, ◌≡◌, ℕ, zero, suc, ◌+◌, ◌-◌, ◌*◌, ◌/◌, ◌%◌, ◌^◌, ◌<◌, ◌≤◌, sym, ◌∙◌, ap, arith}
 use Rattle.std.specs.Prelude.{bit_and, bit_or}

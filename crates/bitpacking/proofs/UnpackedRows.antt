@@ -4,7 +4,7 @@ use lib.Lanes.{zip2}
 use Rattle.bitpacking.specs.Bits.{AreBytes}
 use Rattle.bitpacking.specs.Layout.{Layout}
 use Rattle.bitpacking.specs.Moves.{IsLoad, IsStore}
-use Rattle.bitpacking.specs.Partway.{Unpacked, RowsUnpacked, UnpacksRows, words_to, left_at}
+use Rattle.bitpacking.specs.inner.Partway.{Unpacked, RowsUnpacked, UnpacksRows, words_to, left_at}
 use Rattle.bitpacking.specs.Words.{joined}
 use Rattle.bitpacking.specs.declared.memory.Steps.{Steps}
 use Rattle.bitpacking.proofs.LaneEquations.{word-lt, lane_word}

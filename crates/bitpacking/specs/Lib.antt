@@ -8,8 +8,6 @@ pub mod Layout
 pub mod Words
 pub mod Moves
 pub mod Calls
-pub mod Kernels
-pub mod ByKind
-pub mod Partway
 pub mod Laws
 pub mod WorkedBlocks
+pub mod inner

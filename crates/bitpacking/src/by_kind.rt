@@ -4,7 +4,7 @@ ghost use Rattle.std.specs.Prelude.{◌≡◌, ◌*◌, length};
 ghost use Rattle.bitpacking.specs.declared.kind.Kind.TheVariants.{StrictlySorted};
 ghost use Rattle.bitpacking.specs.Codes.{start};
 ghost use Rattle.bitpacking.specs.Calls.{CanPack, CanUnpack};
-ghost use Rattle.bitpacking.specs.ByKind.{KindMeasured, KindPacked, KindUnpacked};
+ghost use Rattle.bitpacking.specs.inner.ByKind.{KindMeasured, KindPacked, KindUnpacked};
 
 use crate::Kind;
 use crate::dispatch::Dispatch;

@@ -2,7 +2,7 @@
 
 ghost use Rattle.std.specs.Prelude.{◌+◌};
 ghost use Rattle.bitpacking.specs.Calls.{CanPackCodes, CanUnpack, MovesToPack};
-ghost use Rattle.bitpacking.specs.Kernels.{PackedCodes, UnpackedCodes};
+ghost use Rattle.bitpacking.specs.inner.Kernels.{PackedCodes, UnpackedCodes};
 ghost use Rattle.bitpacking.specs.Moves.{Moves};
 
 mod by_width;

@@ -1,7 +1,7 @@
 //! The kernels: loops over the 32 registers of a block, each proved once for every register and every kind.
 
 ghost use Rattle.std.specs.Prelude.{◌+◌};
-ghost use Rattle.bitpacking.specs.Kernels.{KernelPacked, KernelUnpacked, NarrowCanPack, NarrowCanUnpack};
+ghost use Rattle.bitpacking.specs.inner.Kernels.{KernelPacked, KernelUnpacked, NarrowCanPack, NarrowCanUnpack};
 ghost use Rattle.bitpacking.specs.Moves.{Moves};
 
 pub(crate) mod full_width;

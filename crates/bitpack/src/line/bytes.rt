@@ -4,7 +4,7 @@ ghost use Rattle.std.specs.Prelude.{◌≡◌, ◌%◌, ◌<◌, ◌↔◌, IsTr
 ghost use Rattle.std.specs.List.{AllPass};
 ghost use Rattle.hex.specs.Hex.{is_hex_digit};
 ghost use Rattle.bitpack.specs.Grammar.{SpellsBytes};
-ghost use Rattle.bitpack.specs.Found.{Parses};
+ghost use Rattle.bitpack.specs.inner.Found.{Parses};
 
 use super::error::ParseError;
 use std::alloc::Global;

@@ -2,7 +2,7 @@
 
 ghost use Rattle.std.specs.Prelude.{[], ◌∷◌, map};
 ghost use Rattle.bitpack.specs.Grammar.{SpellsRequest};
-ghost use Rattle.bitpack.specs.Found.{Parses, request_of};
+ghost use Rattle.bitpack.specs.inner.Found.{Parses, request_of};
 
 use super::Command;
 use super::bytes::parse_bytes;

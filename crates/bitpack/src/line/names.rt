@@ -2,7 +2,7 @@
 
 ghost use Rattle.std.specs.Prelude.{◌≡◌};
 ghost use Rattle.bitpack.specs.Grammar.{SpellsKind, list_kind_string, packer_string};
-ghost use Rattle.bitpack.specs.Found.{Finds};
+ghost use Rattle.bitpack.specs.inner.Found.{Finds};
 
 use super::PackerName;
 use super::numbers::parse_word;

@@ -2,7 +2,7 @@
 
 ghost use Rattle.std.specs.Prelude.{◌↔◌, IsTrue};
 ghost use Rattle.bitpack.specs.Grammar.{IsCount, IsSmall, IsWord, SpellsNumber};
-ghost use Rattle.bitpack.specs.Found.{BeginsNumber, Finds};
+ghost use Rattle.bitpack.specs.inner.Found.{BeginsNumber, Finds};
 
 use super::LINE_LIMIT;
 

@@ -2,7 +2,7 @@
 
 ghost use Rattle.std.specs.Prelude.{◌≤◌, vec_len};
 ghost use Rattle.bitpack.specs.Grammar.{SpellsValues};
-ghost use Rattle.bitpack.specs.Found.{AddsItem, Finds, Parses, SpellsItem};
+ghost use Rattle.bitpack.specs.inner.Found.{AddsItem, Finds, Parses, SpellsItem};
 
 use super::LINE_LIMIT;
 use super::error::ParseError;

@@ -2,7 +2,7 @@
 
 ghost use Rattle.std.specs.Prelude.{◌≡◌, ◌+◌, ◌-◌, ◌*◌, ◌<◌, ◌≤◌, ◌/◌, ◌%◌, ◌++◌, ℕ, List, length, slice_index, OnOk, OnErr, IfOk, IfErr, MatchOption, None, vec_len, vec_capacity};
 ghost use Rattle.bitpacking.specs.Codes.{AreWords};
-ghost use Rattle.bitpack_lists.specs.Appending.{HasAppended};
+ghost use Rattle.bitpack_lists.specs.inner.Appending.{HasAppended};
 ghost use Rattle.bitpack_lists.specs.Parts.{BeginsWithHeader, FindsFault, count_of, first_kind, whole_blocks};
 ghost use Rattle.bitpack_lists.specs.Version1.{Blocks1, IsRead1, IsRight, IsSound1, List1, after_block1, block_fault1, blocks_fault1, fault1};
 

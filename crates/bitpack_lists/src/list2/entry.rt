@@ -3,7 +3,7 @@
 ghost use Rattle.std.specs.Prelude.{◌≡◌, ◌+◌, ◌*◌, ◌≤◌, ◌∷◌, [], length, take, drop, vec_len, vec_capacity};
 ghost use Rattle.bitpacking.specs.Layout.{size};
 ghost use Rattle.bitpacking.specs.Words.{bytes_of_words};
-ghost use Rattle.bitpack_lists.specs.Appending.{HasAppended};
+ghost use Rattle.bitpack_lists.specs.inner.Appending.{HasAppended};
 
 use crate::reserved::append;
 

@@ -3,7 +3,7 @@
 ghost use Rattle.std.specs.Prelude.{◌≡◌, ◌+◌, ◌-◌, ◌*◌, ◌^◌, ◌<◌, ◌≤◌, ℕ, true, false, length, slice_index, None};
 ghost use Rattle.bitpacking.specs.Words.{word};
 ghost use Rattle.bitpack_lists.specs.Version2.{is_out, least_below};
-ghost use Rattle.bitpack_lists.specs.Opening.{IsOrdered, is_fall};
+ghost use Rattle.bitpack_lists.specs.inner.Opening.{IsOrdered, is_fall};
 
 use crate::list_kind::ListKind;
 use crate::little_endian::read_one;

@@ -155,7 +155,7 @@ impl<'a, P: BitPacker> PackedList<'a, P> {
 
 impl<'a, P: BitPacker> PackedList<'a, P> {
     ghost use Rattle.std.specs.Prelude.{◌+◌, ◌*◌, ◌<◌, ◌≤◌, length, take, slice_index};
-    ghost use Rattle.bitpack_lists.specs.Searching.{IsListBlock, ReadsEntries, block_of_list, blocks_of, rest_of, value_of};
+    ghost use Rattle.bitpack_lists.specs.inner.Searching.{IsListBlock, ReadsEntries, block_of_list, blocks_of, rest_of, value_of};
     ghost use Rattle.bitpack_lists.specs.Version2.{kind_at, last_at, offset_at, width_at};
 
     /// The value at an index of a whole block.

@@ -6,8 +6,8 @@ ghost use Rattle.bitpack_lists.specs.declared.list_kind.ListKind.{ListKind};
 ghost use Rattle.bitpack_lists.specs.Parts.{whole_blocks};
 ghost use Rattle.bitpack_lists.specs.Version1.{IsSound1, List1, fault1};
 ghost use Rattle.bitpack_lists.specs.Version2.{IsRest2, List2, first_out};
-ghost use Rattle.bitpack_lists.specs.Opening.{HasBodies};
-ghost use Rattle.bitpack_lists.specs.Upgrading.{IsRest1, IsTested1};
+ghost use Rattle.bitpack_lists.specs.inner.Opening.{HasBodies};
+ghost use Rattle.bitpack_lists.specs.inner.Upgrading.{IsRest1, IsTested1};
 
 use super::entry::{ENTRY_LEN, Entry};
 use super::order::{first_out, first_out_of_words};

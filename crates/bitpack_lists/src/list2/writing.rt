@@ -4,11 +4,11 @@ ghost use Rattle.std.specs.Prelude.{◌≡◌, ◌+◌, ◌*◌, ◌^◌, ◌<�
 ghost use Rattle.bitpacking.specs.Bits.{AreBytes};
 ghost use Rattle.bitpacking.specs.Calls.{CanPack};
 ghost use Rattle.bitpacking.specs.Layout.{Holds, size};
-ghost use Rattle.bitpack_lists.specs.Appending.{HasAppended};
+ghost use Rattle.bitpack_lists.specs.inner.Appending.{HasAppended};
 ghost use Rattle.bitpack_lists.specs.Chains.{LeastWidths};
 ghost use Rattle.bitpack_lists.specs.Parts.{first_kind, whole_blocks};
 ghost use Rattle.bitpack_lists.specs.Version2.{List2, first_out, tail_start};
-ghost use Rattle.bitpack_lists.specs.Opening.{HasBodies};
+ghost use Rattle.bitpack_lists.specs.inner.Opening.{HasBodies};
 
 use super::entry::{ENTRY_LEN, Entry};
 use super::order;

@@ -2,7 +2,7 @@
 
 ghost use Rattle.std.specs.Prelude.{◌≡◌, length};
 ghost use Rattle.bitpacking.specs.Codes.{codes, values_of};
-ghost use Rattle.bitpack_lists.specs.CodeSteps.{gaps, sums};
+ghost use Rattle.bitpack_lists.specs.inner.CodeSteps.{gaps, sums};
 
 use bitpacking::Kind;
 

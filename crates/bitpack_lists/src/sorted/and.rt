@@ -2,7 +2,7 @@
 
 ghost use Rattle.std.specs.Prelude.{◌≡◌, ℕ, List};
 ghost use Rattle.bitpack_lists.specs.Increasing.{shared};
-ghost use Rattle.bitpack_lists.specs.Combined.{IsShared};
+ghost use Rattle.bitpack_lists.specs.inner.Combined.{IsShared};
 ghost use Rattle.bitpack_lists.specs.Fronts.{IsFront, NoneBelow};
 ghost use Rattle.bitpack_lists.specs.IncreasingLaws.{increasing_shared};
 

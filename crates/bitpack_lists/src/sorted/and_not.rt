@@ -2,7 +2,7 @@
 
 ghost use Rattle.std.specs.Prelude.{◌≡◌};
 ghost use Rattle.bitpack_lists.specs.Increasing.{without};
-ghost use Rattle.bitpack_lists.specs.Combined.{IsKept};
+ghost use Rattle.bitpack_lists.specs.inner.Combined.{IsKept};
 ghost use Rattle.bitpack_lists.specs.IncreasingLaws.{increasing_without};
 
 use super::sorted_cursor::SortedCursor;

@@ -2,7 +2,7 @@
 
 ghost use Rattle.std.specs.Prelude.{◌≡◌, ◌+◌, map};
 ghost use Rattle.bitpack_lists.specs.Increasing.{at_least};
-ghost use Rattle.bitpack_lists.specs.Leaping.{lesser_of};
+ghost use Rattle.bitpack_lists.specs.inner.Leaping.{lesser_of};
 ghost use Rattle.bitpack_lists.specs.Many.{from_value, united_all};
 ghost use Rattle.bitpack_lists.specs.ManyLaws.{increasing_from_value, increasing_united_all};
 

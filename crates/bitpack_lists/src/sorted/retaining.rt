@@ -5,7 +5,7 @@ ghost use Rattle.bitpack_lists.specs.declared.list_kind.ListKind.{ListKind};
 ghost use Rattle.bitpack_lists.specs.Increasing.{at_least, has};
 ghost use Rattle.bitpack_lists.specs.Opened.{kind_of, values};
 ghost use Rattle.bitpack_lists.specs.Remaining.{remaining};
-ghost use Rattle.bitpack_lists.specs.Retaining.{HasFrom};
+ghost use Rattle.bitpack_lists.specs.inner.Retaining.{HasFrom};
 
 use super::distinct_values::DistinctValues;
 use super::sorted_cursor::SortedCursor;

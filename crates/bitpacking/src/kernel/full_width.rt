@@ -1,6 +1,6 @@
 //! Packing and unpacking at width 32, at which each code is a word.
 
-ghost use Rattle.bitpacking.specs.Kernels.{KernelCanPack, KernelCanUnpack, KernelPacked, KernelUnpacked};
+ghost use Rattle.bitpacking.specs.inner.Kernels.{KernelCanPack, KernelCanUnpack, KernelPacked, KernelUnpacked};
 ghost use Rattle.bitpacking.specs.Moves.{Moves};
 
 use crate::LANE_LEN;

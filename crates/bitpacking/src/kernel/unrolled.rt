@@ -2,10 +2,10 @@
 //! parameter.
 
 ghost use Rattle.std.specs.Prelude.{◌≡◌, ℕ, ◌+◌, ◌*◌, List, length, drop};
-ghost use Rattle.bitpacking.specs.Kernels.{KernelPacked, KernelUnpacked, NarrowCanPack, NarrowCanUnpack};
+ghost use Rattle.bitpacking.specs.inner.Kernels.{KernelPacked, KernelUnpacked, NarrowCanPack, NarrowCanUnpack};
 ghost use Rattle.bitpacking.specs.Layout.{size};
 ghost use Rattle.bitpacking.specs.Moves.{Moves};
-ghost use Rattle.bitpacking.specs.Partway.{
+ghost use Rattle.bitpacking.specs.inner.Partway.{
   PacksRows,
   RowsCanPack,
   RowsCanUnpack,

@@ -2,7 +2,7 @@
 use Rattle.std.proofs.Common.{arith}
 use Rattle.std.proofs.lemmas.Result.{IfOk-weaker}
 use Rattle.bitpack.specs.Answers.{IsAnswer, Passed, Refused}
-use Rattle.bitpack.specs.Found.{request_of}
+use Rattle.bitpack.specs.inner.Found.{request_of}
 use Rattle.bitpack.proofs.answer.answer_to.Goals as goal
 
 pub returns-then-line-gt-LINE_LIMIT : goal.returns-then-line-gt-LINE_LIMIT

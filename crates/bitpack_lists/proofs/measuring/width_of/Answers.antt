@@ -1,7 +1,7 @@
 -- The least width of a block is at most 32.
 use Rattle.std.proofs.Common.{slice_index}
 use Rattle.bitpacking.proofs.ForCallers.{AreWords-from_slice}
-use Rattle.bitpack_lists.proofs.TextLemmas.{narrow_least}
+use Rattle.bitpack_lists.proofs.OneText1.{narrow_least}
 use Rattle.bitpack_lists.proofs.measuring.width_of.Goals as goal
 
 pub returns-then-index-widths-clause-narrow : goal.returns-then-index-widths-clause-narrow

@@ -3,7 +3,7 @@
 ghost use Rattle.std.specs.Prelude.{◌≡◌, ◌+◌, ◌<◌, ◌≤◌, ◌++◌, length, take, drop, OnOk, OnErr, IfErr, vec_len, vec_capacity};
 ghost use Rattle.bitpack_lists.specs.declared.list_error.ListError.{ListError};
 ghost use Rattle.bitpack_lists.specs.Opened.{values};
-ghost use Rattle.bitpack_lists.specs.Searching.{blocks_of};
+ghost use Rattle.bitpack_lists.specs.inner.Searching.{blocks_of};
 
 use super::super::reads::Reads;
 use super::walk::read_tail;

@@ -39,7 +39,7 @@ impl<'a, P: BitPacker> PackedList<'a, P> {
     ghost use Rattle.bitpack_lists.specs.Cursors.{position, unpacked, values_of_cursor};
     ghost use Rattle.bitpack_lists.specs.Opened.{kind_of, text};
     ghost use Rattle.bitpack_lists.specs.Places.{HasPart};
-    ghost use Rattle.bitpack_lists.specs.Searching.{IsListBlock, ReadsEntries, blocks_of, number_or_all, rest_of};
+    ghost use Rattle.bitpack_lists.specs.inner.Searching.{IsListBlock, ReadsEntries, blocks_of, number_or_all, rest_of};
     ghost use Rattle.bitpack_lists.specs.Version2.{List2, kind_at};
 
     /// A cursor at the first value. Unpacks the first block, if there is one.
@@ -123,7 +123,7 @@ impl<'a, P: BitPacker> Cursor<'a, P> {
     ghost use Rattle.bitpack_lists.specs.Cursors.{HasMoved, block_number, entries_read, left_at_hand, position, unpacked, values_of_cursor};
     ghost use Rattle.bitpack_lists.specs.Opened.{kind_of};
     ghost use Rattle.bitpack_lists.specs.Parts.{whole_blocks};
-    ghost use Rattle.bitpack_lists.specs.Searching.{blocks_of, rest_of};
+    ghost use Rattle.bitpack_lists.specs.inner.Searching.{blocks_of, rest_of};
     ghost use Rattle.bitpack_lists.specs.Version2.{kind_at};
 
     /// Whether the list is sorted or strictly sorted, which `seek` requires.

@@ -5,9 +5,9 @@ ghost use Rattle.bitpack_lists.specs.declared.list_kind.ListKind.{ListKind};
 ghost use Rattle.bitpack_lists.specs.declared.list2.packed_list.walk.Walk.{Walk};
 ghost use Rattle.bitpack_lists.specs.Parts.{tail_values};
 ghost use Rattle.bitpack_lists.specs.Search.{HasGrown};
-ghost use Rattle.bitpack_lists.specs.Searching.{IsListBlock, UnpacksOne, blocks_of, rest_of, value_of};
+ghost use Rattle.bitpack_lists.specs.inner.Searching.{IsListBlock, UnpacksOne, blocks_of, rest_of, value_of};
 ghost use Rattle.bitpack_lists.specs.Version2.{last_at};
-ghost use Rattle.bitpack_lists.specs.Walks.{Appends, AreNext, Begun, IsWalking, IsWalkingOver, IsWantedNext, Stage, begun_with, further};
+ghost use Rattle.bitpack_lists.specs.inner.Walks.{Appends, AreNext, Begun, IsWalking, IsWalkingOver, IsWantedNext, Stage, begun_with, further};
 
 use super::super::reads::Reads;
 use super::{KeptBlock, ListBlock, PackedList};

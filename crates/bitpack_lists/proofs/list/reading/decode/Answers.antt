@@ -8,7 +8,7 @@ use Rattle.bitpack_lists.specs.Parts.{whole_blocks, first_kind}
 use Rattle.bitpack_lists.specs.Version1.{Blocks1}
 use Rattle.bitpack_lists.proofs.ListLemmas.{on_ok, on_err}
 use Rattle.bitpack_lists.proofs.HeaderLemmas.{header_bytes}
-use Rattle.bitpack_lists.proofs.OneText.{later_from_none, list_from_none}
+use Rattle.bitpack_lists.proofs.Soundness1.{later_from_none, list_from_none}
 use Rattle.bitpack_lists.proofs.list.reading.decode.Goals as goal
 
 pub returns-in_err-header-clause-err : goal.returns-in_err-header-clause-err

@@ -9,7 +9,7 @@ use Rattle.bitpack_lists.specs.Chains.{second_kind}
 use Rattle.bitpacking.proofs.ForCallers.{AreWords-from_slice}
 use Rattle.bitpack_lists.specs.Parts.{whole_blocks}
 use Rattle.bitpack_lists.specs.Version1.{Blocks1}
-use Rattle.bitpack_lists.proofs.TextLemmas.{blocks_of}
+use Rattle.bitpack_lists.proofs.OneText1.{blocks_of}
 use Rattle.bitpack_lists.proofs.WriteSteps.{block-left, left-more, last-block, packable, written_step, written_room, written_tail, written_tail_room, kept_first, kept_rest}
 use Rattle.bitpack_lists.proofs.list.writing.write_blocks.Goals as goal
 

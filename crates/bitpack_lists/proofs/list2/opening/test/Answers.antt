@@ -4,7 +4,7 @@ use Rattle.std.proofs.lemmas.List.{length-drop, take_all}
 use Rattle.std.proofs.lemmas.Result.{err_from_is_err_and}
 use Rattle.bitpack_lists.specs.Version2.{rest_fault2}
 use Rattle.bitpack_lists.proofs.ListLemmas.{lanes-is}
-use Rattle.bitpack_lists.proofs.Soundness.{header_first2, rest_next}
+use Rattle.bitpack_lists.proofs.Soundness2.{header_first2, rest_next}
 use Rattle.bitpack_lists.proofs.list2.opening.test.Goals as goal
 
 pub returns-in_err-header-clause-fault : goal.returns-in_err-header-clause-fault

@@ -8,7 +8,7 @@ use Rattle.bitpacking.proofs.ForCallers.{AreBytes-from_slice}
 use Rattle.bitpack_lists.specs.declared.list_error.ListError.{ListError}
 use Rattle.bitpack_lists.specs.declared.list_kind.ListKind.{ListKind}
 use Rattle.bitpack_lists.specs.Parts.{whole_blocks}
-use Rattle.bitpack_lists.specs.Opening.{IsOrdered}
+use Rattle.bitpack_lists.specs.inner.Opening.{IsOrdered}
 use Rattle.bitpack_lists.specs.Version2.{block_at, block_fault2, body_at, body_fault2, first_fault, is_out, kind_at, last_at, least_below, offset_at, value_at, width_at}
 use Rattle.bitpack_lists.proofs.BlockLemmas.{kind_at-next, positive}
 use Rattle.bitpack_lists.proofs.ListLemmas.{lanes-is}

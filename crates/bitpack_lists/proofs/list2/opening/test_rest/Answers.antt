@@ -9,7 +9,7 @@ use Rattle.bitpacking.specs.Words.{word}
 use Rattle.bitpack_lists.specs.declared.list_error.ListError.{ListError}
 use Rattle.bitpack_lists.specs.declared.list_error.ListError.TheVariants.{NotSorted, Trailing}
 use Rattle.bitpack_lists.specs.declared.list_kind.ListKind.{ListKind}
-use Rattle.bitpack_lists.specs.Opening.{IsOrdered}
+use Rattle.bitpack_lists.specs.inner.Opening.{IsOrdered}
 use Rattle.bitpack_lists.specs.Version2.{body_fault2, entry_fault2, first_fault, is_out, least_below, rest_fault2, short_of, tail_start, value_at, widths_before}
 use Rattle.bitpack_lists.proofs.BlockLemmas.{positive}
 use Rattle.bitpack_lists.proofs.HeaderLemmas.{passed}

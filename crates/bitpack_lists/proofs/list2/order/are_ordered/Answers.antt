@@ -4,7 +4,7 @@ use Rattle.std.proofs.lemmas.Bool.{eqb-false, not-true}
 use Rattle.bitpack_lists.specs.declared.list_kind.ListKind.{ListKind}
 use Rattle.bitpack_lists.specs.declared.list_kind.ListKind.TheVariants as lists
 use Rattle.bitpack_lists.specs.Version2.{is_out}
-use Rattle.bitpack_lists.specs.Opening.{is_fall}
+use Rattle.bitpack_lists.specs.inner.Opening.{is_fall}
 use Rattle.bitpack_lists.proofs.SearchLemmas.{is_out-from_fall, ordered_each}
 use Rattle.bitpack_lists.proofs.list2.order.are_ordered.Goals as goal
 

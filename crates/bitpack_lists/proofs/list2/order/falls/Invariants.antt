@@ -1,6 +1,6 @@
 -- If no value fell so far, each pair of neighbours so far is in order.
 use Rattle.std.proofs.Common.{◌≡◌, ◌+◌, ◌<◌, ℕ, false, slice_index}
-use Rattle.bitpack_lists.specs.Opening.{is_fall}
+use Rattle.bitpack_lists.specs.inner.Opening.{is_fall}
 use Rattle.bitpack_lists.proofs.list2.order.falls.Given as goal
 
 abbrev pub invariant-loop-index : goal.invariant-loop-index

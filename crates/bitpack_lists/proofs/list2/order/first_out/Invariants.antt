@@ -1,6 +1,6 @@
 -- The values so far are in order.
 use Rattle.std.proofs.Common.{◌≡◌, ◌+◌, ◌<◌, ℕ, length, get_or}
-use Rattle.bitpack_lists.specs.Opening.{IsOrdered}
+use Rattle.bitpack_lists.specs.inner.Opening.{IsOrdered}
 use Rattle.bitpack_lists.proofs.list2.order.first_out.Given as goal
 
 abbrev pub invariant-loop-index : goal.invariant-loop-index

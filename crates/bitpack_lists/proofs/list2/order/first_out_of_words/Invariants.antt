@@ -1,7 +1,7 @@
 -- The values so far are in order.
 use Rattle.std.proofs.Common.{◌≡◌, ◌+◌, ◌<◌, ℕ}
 use Rattle.bitpacking.specs.Words.{word}
-use Rattle.bitpack_lists.specs.Opening.{IsOrdered}
+use Rattle.bitpack_lists.specs.inner.Opening.{IsOrdered}
 use Rattle.bitpack_lists.proofs.list2.order.first_out_of_words.Given as goal
 
 abbrev pub invariant-loop-index : goal.invariant-loop-index

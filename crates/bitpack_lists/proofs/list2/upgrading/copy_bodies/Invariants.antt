@@ -2,8 +2,8 @@
 use Rattle.std.proofs.Common.{◌≡◌, ◌+◌, ◌-◌, ◌*◌, ◌≤◌, ℕ, List, length, None, vec_len, vec_capacity}
 use Rattle.bitpack_lists.specs.Parts.{tail_values, whole_blocks}
 use Rattle.bitpack_lists.specs.Version1.{blocks_fault1}
-use Rattle.bitpack_lists.specs.Opening.{HasBodies}
-use Rattle.bitpack_lists.specs.Upgrading.{IsRest1}
+use Rattle.bitpack_lists.specs.inner.Opening.{HasBodies}
+use Rattle.bitpack_lists.specs.inner.Upgrading.{IsRest1}
 use Rattle.bitpack_lists.proofs.UpgradeSteps.{Copied}
 use Rattle.bitpack_lists.proofs.list2.upgrading.copy_bodies.Given as goal
 

@@ -8,10 +8,10 @@ use Rattle.bitpack_lists.specs.declared.list_error.ListError.{ListError}
 use Rattle.bitpack_lists.specs.Parts.{BeginsWithHeader, header, tail_values, whole_blocks}
 use Rattle.bitpack_lists.specs.Version1.{List1, fault1}
 use Rattle.bitpack_lists.specs.Version2.{IsRest2, first_out}
-use Rattle.bitpack_lists.specs.Upgrading.{IsRest1, IsTested1}
+use Rattle.bitpack_lists.specs.inner.Upgrading.{IsRest1, IsTested1}
 use Rattle.bitpack_lists.proofs.HeaderLemmas.{header_bytes, length-header}
 use Rattle.bitpack_lists.proofs.ListLemmas.{lanes-is, on_err, on_ok}
-use Rattle.bitpack_lists.proofs.OneText.{later_from_none, list_from_none, none_from_list}
+use Rattle.bitpack_lists.proofs.Soundness1.{later_from_none, list_from_none, none_from_list}
 use Rattle.bitpack_lists.proofs.PartLemmas.{AreBytes-from_items, AreBytes-right}
 use Rattle.bitpack_lists.proofs.RestLemmas.{List2-from_rest}
 use Rattle.bitpack_lists.proofs.Upgraded.{length_upgraded, listed}

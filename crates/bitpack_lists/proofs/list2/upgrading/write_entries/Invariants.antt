@@ -2,7 +2,7 @@
 use Rattle.std.proofs.Common.{◌≡◌, ◌+◌, ◌-◌, ◌*◌, ◌≤◌, ℕ, List, None, vec_len, vec_capacity}
 use Rattle.bitpack_lists.specs.Parts.{tail_values, whole_blocks}
 use Rattle.bitpack_lists.specs.Version1.{blocks_fault1}
-use Rattle.bitpack_lists.specs.Upgrading.{IsRest1}
+use Rattle.bitpack_lists.specs.inner.Upgrading.{IsRest1}
 use Rattle.bitpack_lists.proofs.UpgradeSteps.{Entering}
 use Rattle.bitpack_lists.proofs.list2.upgrading.write_entries.Given as goal
 

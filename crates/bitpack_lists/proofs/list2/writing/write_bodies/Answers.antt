@@ -8,11 +8,11 @@ use Rattle.bitpacking.specs.Width.{IsWidth}
 use Rattle.bitpacking.proofs.ForCallers.{AreWords-from_slice}
 use Rattle.bitpack_lists.specs.declared.list_kind.ListKind.{ListKind}
 use Rattle.bitpack_lists.specs.Parts.{whole_blocks}
-use Rattle.bitpack_lists.specs.Opening.{HasBodies}
+use Rattle.bitpack_lists.specs.inner.Opening.{HasBodies}
 use Rattle.bitpack_lists.specs.Version2.{block_of, kind_at, last_at, tail_start, width_at}
 use Rattle.bitpack_lists.proofs.BlockLemmas.{AreWords-block_of, kind_at-next, next_block, next_left}
 use Rattle.bitpack_lists.proofs.EntryLemmas.{bodies_step, body_end, kind_at-append, last_at-append, widths_before-append}
-use Rattle.bitpack_lists.proofs.TextLemmas.{narrow_least}
+use Rattle.bitpack_lists.proofs.OneText1.{narrow_least}
 use Rattle.bitpack_lists.proofs.WriteSteps.{packable}
 use Rattle.bitpack_lists.proofs.list2.writing.write_bodies.Goals as goal
 

@@ -2,7 +2,7 @@
 use Rattle.std.proofs.Common.{◌≡◌, ◌*◌, ◌≤◌, length, take, drop, vec_capacity}
 use Rattle.bitpack_lists.specs.Parts.{whole_blocks}
 use Rattle.bitpack_lists.specs.Version2.{kind_at, tail_start}
-use Rattle.bitpack_lists.specs.Opening.{HasBodies}
+use Rattle.bitpack_lists.specs.inner.Opening.{HasBodies}
 use Rattle.bitpack_lists.proofs.list2.writing.write_bodies.Given as goal
 
 abbrev pub invariant-loop-index : goal.invariant-loop-index

@@ -1,6 +1,6 @@
 -- The values so far, with those of the codes that are left, are the values.
 use Rattle.std.proofs.Common.{◌≡◌, ◌++◌, take, drop}
-use Rattle.bitpack_lists.specs.CodeSteps.{sums}
+use Rattle.bitpack_lists.specs.inner.CodeSteps.{sums}
 use Rattle.bitpack_lists.proofs.list3.codes.add_up.Given as goal
 
 abbrev pub invariant-loop-index : goal.invariant-loop-index

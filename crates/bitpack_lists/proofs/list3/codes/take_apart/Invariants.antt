@@ -1,6 +1,6 @@
 -- The codes so far, with those of the values that are left, are the codes.
 use Rattle.std.proofs.Common.{◌≡◌, ◌++◌, take, drop, length}
-use Rattle.bitpack_lists.specs.CodeSteps.{gaps}
+use Rattle.bitpack_lists.specs.inner.CodeSteps.{gaps}
 use Rattle.bitpack_lists.proofs.list3.codes.take_apart.Given as goal
 
 abbrev pub invariant-loop-index : goal.invariant-loop-index

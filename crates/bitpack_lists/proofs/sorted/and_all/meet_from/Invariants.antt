@@ -1,6 +1,6 @@
 -- No value before the one that is wanted is shared; it grows each time.
 use Rattle.std.proofs.Common.{◌-◌, ◌^◌, map}
-use Rattle.bitpack_lists.specs.Leaping.{IsNearer}
+use Rattle.bitpack_lists.specs.inner.Leaping.{IsNearer}
 use Rattle.bitpack_lists.proofs.sorted.and_all.meet_from.Given as goal
 
 abbrev pub invariant-loop-found : goal.invariant-loop-found

@@ -4,7 +4,7 @@ use Rattle.std.specs.List.{slice_get}
 use Rattle.bitpack_lists.specs.Cursors.{position, values_of_cursor}
 use Rattle.bitpack_lists.specs.Opened.{values}
 use Rattle.bitpack_lists.proofs.CursorPlaces.{position_within}
-use Rattle.bitpack_lists.proofs.PassingLemmas.{passing_first, passing_found, passing_next, passing_none, some_at}
+use Rattle.bitpack_lists.proofs.walking.PassingLemmas.{passing_first, passing_found, passing_next, passing_none, some_at}
 use Rattle.bitpack_lists.proofs.sorted.distinct_values.pass.Goals as goal
 
 pub loop-here-init : goal.loop-here-init

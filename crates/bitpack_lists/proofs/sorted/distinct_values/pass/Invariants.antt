@@ -1,7 +1,7 @@
 -- The values passed are at most this one.
 use Rattle.std.proofs.Common.{◌≡◌, ◌-◌, length}
 use Rattle.bitpack_lists.specs.Cursors.{position, values_of_cursor}
-use Rattle.bitpack_lists.specs.Passing.{IsPassing}
+use Rattle.bitpack_lists.specs.inner.Passing.{IsPassing}
 use Rattle.bitpack_lists.proofs.sorted.distinct_values.pass.Given as goal
 
 abbrev pub invariant-loop-here : goal.invariant-loop-here

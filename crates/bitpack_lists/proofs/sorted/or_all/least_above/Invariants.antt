@@ -1,6 +1,6 @@
 -- The cursors so far have moved, and this is their least value.
 use Rattle.std.proofs.Common.{◌+◌, map}
-use Rattle.bitpack_lists.specs.Leaping.{IsUniting}
+use Rattle.bitpack_lists.specs.inner.Leaping.{IsUniting}
 use Rattle.bitpack_lists.proofs.sorted.or_all.least_above.Given as goal
 
 abbrev pub invariant-loop-index : goal.invariant-loop-index

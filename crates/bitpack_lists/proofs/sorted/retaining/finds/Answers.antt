@@ -5,7 +5,7 @@ use Rattle.bitpack_lists.specs.Distinct.{distinct}
 use Rattle.bitpack_lists.specs.Increasing.{has}
 use Rattle.bitpack_lists.specs.Opened.{values}
 use Rattle.bitpack_lists.specs.Remaining.{remaining}
-use Rattle.bitpack_lists.specs.Retaining.{HasFrom}
+use Rattle.bitpack_lists.specs.inner.Retaining.{HasFrom}
 use Rattle.bitpack_lists.proofs.RetainSteps.{has_all, has_from, retain_found}
 use Rattle.bitpack_lists.proofs.sorted.retaining.finds.Goals as goal
 use Rattle.bitpack_lists.proofs.sorted.retaining.finds.Goals.{then-item-last, else-item-last}

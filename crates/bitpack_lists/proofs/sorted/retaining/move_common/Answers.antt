@@ -4,7 +4,7 @@ use Rattle.bitpack_lists.specs.Cursors.{values_of_cursor}
 use Rattle.bitpack_lists.specs.Distinct.{distinct}
 use Rattle.bitpack_lists.specs.Opened.{values}
 use Rattle.bitpack_lists.specs.Remaining.{remaining}
-use Rattle.bitpack_lists.specs.Retaining.{IsRetaining}
+use Rattle.bitpack_lists.specs.inner.Retaining.{IsRetaining}
 use Rattle.bitpack_lists.proofs.RetainSteps.{has_all, retain_begin, retain_none, retain_one}
 use Rattle.bitpack_lists.proofs.sorted.retaining.move_common.Goals as goal
 use Rattle.bitpack_lists.proofs.sorted.retaining.move_common.Goals.{then-finds, else-finds}

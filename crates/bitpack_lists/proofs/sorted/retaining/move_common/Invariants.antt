@@ -1,7 +1,7 @@
 -- The items so far that the list has are in front; the cursor has what the list has from the last of them on.
 use Rattle.bitpack_lists.specs.Opened.{values}
 use Rattle.bitpack_lists.specs.Remaining.{remaining}
-use Rattle.bitpack_lists.specs.Retaining.{HasFrom, IsRetaining}
+use Rattle.bitpack_lists.specs.inner.Retaining.{HasFrom, IsRetaining}
 use Rattle.bitpack_lists.proofs.sorted.retaining.move_common.Given as goal
 
 abbrev pub invariant-loop-index : goal.invariant-loop-index

@@ -1,6 +1,6 @@
 -- What is promised of row `FROM + 8`, of row `i`.
 use Rattle.std.proofs.Common.{◌≡◌, ℕ, ◌*◌, List, length, drop}
-use Rattle.bitpacking.specs.Partway.{RowsPacked, PacksRows}
+use Rattle.bitpacking.specs.inner.Partway.{RowsPacked, PacksRows}
 use Rattle.bitpacking.proofs.kernel.unrolled.pack_rows.Given as goal
 
 abbrev pub invariant-loop-i : goal.invariant-loop-i

@@ -1,7 +1,7 @@
 -- One row more is unpacked.
 use Rattle.std.proofs.Common.{List, ◌≡◌, ℕ, ◌+◌, ◌-◌, ◌<◌, length, get_or, ◌∙◌, ap, arith}
 use Rattle.bitpacking_register.specs.Words.{shifted_right}
-use Rattle.bitpacking.specs.Partway.{RowsUnpacked, words_to, left_at}
+use Rattle.bitpacking.specs.inner.Partway.{RowsUnpacked, words_to, left_at}
 use Rattle.bitpacking.proofs.PackedLane.{row_room}
 use Rattle.bitpacking.proofs.RegisterLemmas.{lane-map, lane-or_shifted}
 use Rattle.bitpacking.proofs.RowSteps.{rest_step}

@@ -1,6 +1,6 @@
 -- What is promised of row `FROM + 8`, of row `i`.
 use Rattle.std.proofs.Common.{◌≡◌, ℕ, ◌*◌, List, length, drop}
-use Rattle.bitpacking.specs.Partway.{RowsUnpacked, UnpacksRows}
+use Rattle.bitpacking.specs.inner.Partway.{RowsUnpacked, UnpacksRows}
 use Rattle.bitpacking.proofs.kernel.unrolled.unpack_rows.Given as goal
 
 abbrev pub invariant-rows : goal.invariant-rows

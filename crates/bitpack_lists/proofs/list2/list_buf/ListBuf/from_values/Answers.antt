@@ -1,6 +1,6 @@
 -- What was encoded is the whole text.
 use Rattle.std.proofs.Common.{◌≡◌, ◌++◌, ◌∙◌, ap}
-use Rattle.bitpack_lists.proofs.Soundness.{none_from_list2}
+use Rattle.bitpack_lists.proofs.Soundness2.{none_from_list2}
 use Rattle.bitpack_lists.proofs.TextValues.{kind_in-is, values_in-are}
 use Rattle.bitpack_lists.proofs.list2.list_buf.ListBuf.from_values.Goals as goal
 

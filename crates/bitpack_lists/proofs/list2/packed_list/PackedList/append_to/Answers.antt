@@ -3,7 +3,7 @@ use Rattle.std.proofs.Common.{◌≡◌, ◌++◌, ℕ, List, length, replicate,
 use Rattle.std.proofs.lemmas.List.{length-replicate, take_all}
 use Rattle.bitpack_lists.proofs.ListLemmas.{on_err}
 use Rattle.bitpack_lists.specs.Opened.{values}
-use Rattle.bitpack_lists.specs.Searching.{value_of}
+use Rattle.bitpack_lists.specs.inner.Searching.{value_of}
 use Rattle.bitpack_lists.proofs.CursorSteps.{length-first_of}
 use Rattle.bitpack_lists.proofs.ReadSteps.{written_over}
 use Rattle.bitpack_lists.proofs.list2.packed_list.PackedList.append_to.Goals as goal

@@ -1,7 +1,7 @@
 -- The room is that of all values.
 use Rattle.std.proofs.Common.{sym, arith}
 use Rattle.std.proofs.lemmas.List.{length-take}
-use Rattle.bitpack_lists.specs.Searching.{value_of}
+use Rattle.bitpack_lists.specs.inner.Searching.{value_of}
 use Rattle.bitpack_lists.proofs.CursorSteps.{length-first_of}
 use Rattle.bitpack_lists.proofs.list2.packed_list.PackedList.copy_to.Goals as goal
 

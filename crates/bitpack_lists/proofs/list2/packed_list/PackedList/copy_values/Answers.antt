@@ -5,7 +5,7 @@ use Rattle.std.proofs.lemmas.List.{length-drop, length-take}
 use Rattle.bitpack_lists.specs.Chains.{next_kind}
 use Rattle.bitpack_lists.specs.Opened.{first_of}
 use Rattle.bitpack_lists.specs.Places.{HasPart}
-use Rattle.bitpack_lists.specs.Searching.{blocks_of, value_of}
+use Rattle.bitpack_lists.specs.inner.Searching.{blocks_of, value_of}
 use Rattle.bitpack_lists.proofs.ChainLemmas.{length-block}
 use Rattle.bitpack_lists.proofs.CopySteps.{copied_block, copied_tail}
 use Rattle.bitpack_lists.proofs.CursorPlaces.{part_unpacked}

@@ -1,6 +1,6 @@
 -- The values of the blocks before the number were written, each unpacked once.
 use Rattle.std.proofs.Common.{◌≡◌, ◌+◌, ◌*◌}
-use Rattle.bitpack_lists.specs.Searching.{rest_of, value_of}
+use Rattle.bitpack_lists.specs.inner.Searching.{rest_of, value_of}
 use Rattle.bitpack_lists.specs.Version2.{kind_at}
 use Rattle.bitpack_lists.proofs.CopySteps.{HoldsUpTo}
 use Rattle.bitpack_lists.proofs.list2.packed_list.PackedList.copy_values.Given as goal

@@ -1,6 +1,6 @@
 -- The blocks before `low` end below the target, and the block `high`, whose entry was found, does not.
 use Rattle.std.proofs.Common.{◌≡◌, ◌+◌, ◌-◌, ◌*◌, ◌^◌, ◌<◌, ◌≤◌, ℕ, MatchOption}
-use Rattle.bitpack_lists.specs.Searching.{EndsBelow, blocks_of, rest_of}
+use Rattle.bitpack_lists.specs.inner.Searching.{EndsBelow, blocks_of, rest_of}
 use Rattle.bitpack_lists.specs.Version2.{kind_at, last_at, offset_at, width_at}
 use Rattle.bitpack_lists.proofs.SearchSteps.{IsHalving, IsNearing}
 use Rattle.bitpack_lists.proofs.list2.packed_list.PackedList.find.Given as goal

@@ -3,7 +3,7 @@ use Rattle.std.proofs.Common.{◌≡◌, ◌/◌, Some, None, sym, ◌∙◌, ru
 use Rattle.bitpacking.proofs.ForCallers.{AreBytes-from_slice}
 use Rattle.bitpack_lists.proofs.ListLemmas.{lanes-is}
 use Rattle.bitpack_lists.proofs.OpenedValues.{given_list, given_only}
-use Rattle.bitpack_lists.proofs.Soundness.{header_first2}
+use Rattle.bitpack_lists.proofs.Soundness2.{header_first2}
 use Rattle.bitpack_lists.proofs.list2.packed_list.PackedList.from_validated.Goals as goal
 
 pub unreachable-requires : goal.unreachable-requires

@@ -2,7 +2,7 @@
 use Rattle.std.proofs.Common.{◌≡◌, ◌*◌, Some, sym, ◌∙◌, ap, arith}
 use Rattle.std.proofs.lemmas.Option.{slice_get_past}
 use Rattle.bitpack_lists.specs.Opened.{values}
-use Rattle.bitpack_lists.specs.Searching.{value_of}
+use Rattle.bitpack_lists.specs.inner.Searching.{value_of}
 use Rattle.bitpack_lists.proofs.CursorSteps.{slice_get-first_of}
 use Rattle.bitpack_lists.proofs.OpenedLists.{opened_block}
 use Rattle.bitpack_lists.proofs.OpenedValues.{length-values}

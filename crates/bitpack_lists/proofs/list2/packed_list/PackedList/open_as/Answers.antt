@@ -6,7 +6,7 @@ use Rattle.bitpack_lists.specs.Owned.{kind_in}
 use Rattle.bitpack_lists.specs.Version2.{List2}
 use Rattle.bitpack_lists.proofs.KindFaults.{kind_fault-none, kind_fault-other}
 use Rattle.bitpack_lists.proofs.OpenedValues.{opened_list2}
-use Rattle.bitpack_lists.proofs.Soundness.{none_from_list2}
+use Rattle.bitpack_lists.proofs.Soundness2.{none_from_list2}
 use Rattle.bitpack_lists.proofs.TextValues.{kind_from_text, kind_in-is}
 use Rattle.bitpack_lists.proofs.list2.packed_list.PackedList.open_as.Goals as goal
 

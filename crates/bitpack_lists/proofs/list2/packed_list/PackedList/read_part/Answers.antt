@@ -1,6 +1,6 @@
 -- The values are those of the block, or of the tail.
 use Rattle.std.proofs.Common.{take, ◌∙◌, ap}
-use Rattle.bitpack_lists.specs.Searching.{IsListBlock}
+use Rattle.bitpack_lists.specs.inner.Searching.{IsListBlock}
 use Rattle.bitpack_lists.proofs.CursorPlaces.{part_unpacked}
 use Rattle.bitpack_lists.proofs.list2.packed_list.PackedList.read_part.Goals as goal
 

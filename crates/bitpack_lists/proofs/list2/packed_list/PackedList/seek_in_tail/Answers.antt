@@ -1,7 +1,7 @@
 -- Each value of the tail is tested in turn.
 use Rattle.std.proofs.Common.{◌≡◌, ◌-◌, ◌*◌, ◌/◌, ◌%◌, ◌≤◌, ◌<◌, ℕ, Some, sym, ◌∙◌, ap, arith}
 use Rattle.std.proofs.Math.Nat.{div-add-mod}
-use Rattle.bitpack_lists.specs.Searching.{blocks_of, value_of}
+use Rattle.bitpack_lists.specs.inner.Searching.{blocks_of, value_of}
 use Rattle.bitpack_lists.proofs.SearchLemmas.{first_found, none_before, none_next}
 use Rattle.bitpack_lists.proofs.list2.packed_list.PackedList.seek_in_tail.Goals as goal
 

@@ -1,6 +1,6 @@
 -- Every value before the position is below the target.
 use Rattle.std.proofs.Common.{◌≡◌, ◌*◌, ◌<◌, ◌≤◌, ℕ, None}
-use Rattle.bitpack_lists.specs.Searching.{blocks_of, value_of}
+use Rattle.bitpack_lists.specs.inner.Searching.{blocks_of, value_of}
 use Rattle.bitpack_lists.specs.Version2.{least_below}
 use Rattle.bitpack_lists.proofs.SearchLemmas.{reaches}
 use Rattle.bitpack_lists.proofs.list2.packed_list.PackedList.seek_in_tail.Given as goal

@@ -1,6 +1,6 @@
 -- Where no block ends with the target or more, all values of the blocks are below it.
 use Rattle.std.proofs.Common.{arith}
-use Rattle.bitpack_lists.specs.Searching.{blocks_of}
+use Rattle.bitpack_lists.specs.inner.Searching.{blocks_of}
 use Rattle.bitpack_lists.proofs.OpenedLists.{opened_before}
 use Rattle.bitpack_lists.proofs.list2.packed_list.PackedList.seek_kept.Goals as goal
 

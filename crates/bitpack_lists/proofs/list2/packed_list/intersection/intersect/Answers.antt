@@ -2,11 +2,11 @@
 use Rattle.std.proofs.Common.{◌+◌, ◌*◌, ◌≤◌, ◌++◌, length, refl, sym, ◌∙◌, ap, vec_capacity, arith}
 use Rattle.bitpack_lists.specs.Opened.{values}
 use Rattle.bitpack_lists.specs.Parts.{whole_blocks}
-use Rattle.bitpack_lists.specs.Walks.{Begun, begun_with, values_in}
+use Rattle.bitpack_lists.specs.inner.Walks.{Begun, begun_with, values_in}
 use Rattle.bitpack_lists.proofs.ListLemmas.{on_err}
 use Rattle.bitpack_lists.proofs.OpenedValues.{are_listed, length-values}
-use Rattle.bitpack_lists.proofs.Sharing.{shared_common}
-use Rattle.bitpack_lists.proofs.Walking.{blocks_few, entries_few, walked_few}
+use Rattle.bitpack_lists.proofs.walking.Sharing.{shared_common}
+use Rattle.bitpack_lists.proofs.walking.Walking.{blocks_few, entries_few, walked_few}
 use Rattle.bitpack_lists.proofs.list2.packed_list.intersection.intersect.Goals as goal
 
 pub returns-then-is_err-clause-room : goal.returns-then-is_err-clause-room

@@ -1,6 +1,6 @@
 -- The values read so far are those of the tail.
 use Rattle.std.proofs.Common.{◌≡◌, ◌+◌, ◌*◌, ◌<◌, ℕ, length, get_or}
-use Rattle.bitpack_lists.specs.Searching.{blocks_of, value_of}
+use Rattle.bitpack_lists.specs.inner.Searching.{blocks_of, value_of}
 use Rattle.bitpack_lists.proofs.list2.packed_list.walk.read_tail.Given as goal
 
 abbrev pub invariant-loop-index : goal.invariant-loop-index

@@ -1,9 +1,9 @@
 -- A block is unpacked and its values met, or all of them are below what is wanted.
 use Rattle.std.proofs.Common.{◌≡◌, ◌+◌, ◌-◌, ◌*◌, ℕ, length, take, refl, sym, ◌∙◌, ap, vec_capacity, arith}
-use Rattle.bitpack_lists.specs.Walks.{values_in}
+use Rattle.bitpack_lists.specs.inner.Walks.{values_in}
 use Rattle.bitpack_lists.proofs.OpenedLists.{opened_last}
-use Rattle.bitpack_lists.proofs.OpenedWalks.{block_below, next_block}
-use Rattle.bitpack_lists.proofs.Walking.{stage_of, walked_block, walked_unpacked, walked_upto}
+use Rattle.bitpack_lists.proofs.walking.OpenedWalks.{block_below, next_block}
+use Rattle.bitpack_lists.proofs.walking.Walking.{stage_of, walked_block, walked_unpacked, walked_upto}
 use Rattle.bitpack_lists.proofs.list2.packed_list.walk.walk_block.Goals as goal
 
 pub walk_values-requires : goal.walk_values-requires

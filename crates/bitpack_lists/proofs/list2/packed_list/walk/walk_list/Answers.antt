@@ -1,10 +1,10 @@
 -- The walk begins with no value met, and ends with all of them.
 use Rattle.std.proofs.Common.{◌≡◌, ◌*◌, ◌/◌, ◌<◌, ℕ, ◌∙◌, ap, vec_capacity, arith, add-one}
 use Rattle.bitpack_lists.specs.Chains.{next_kind}
-use Rattle.bitpack_lists.specs.Searching.{blocks_of}
-use Rattle.bitpack_lists.specs.Walks.{Begun, begun_with, values_in}
-use Rattle.bitpack_lists.proofs.OpenedWalks.{block_room, few_blocks, opened_words}
-use Rattle.bitpack_lists.proofs.Walking.{walked_none_yet, walked_upto}
+use Rattle.bitpack_lists.specs.inner.Searching.{blocks_of}
+use Rattle.bitpack_lists.specs.inner.Walks.{Begun, begun_with, values_in}
+use Rattle.bitpack_lists.proofs.walking.OpenedWalks.{block_room, few_blocks, opened_words}
+use Rattle.bitpack_lists.proofs.walking.Walking.{walked_none_yet, walked_upto}
 use Rattle.bitpack_lists.proofs.list2.packed_list.walk.walk_list.Goals as goal
 
 pub loop-number-init : goal.loop-number-init

@@ -1,9 +1,9 @@
 -- The blocks before the number were met or passed over, none of them with more than one entry and one block read.
 use Rattle.std.proofs.Common.{◌≡◌, ◌+◌, ◌*◌, ◌≤◌}
 use Rattle.bitpack_lists.specs.Search.{HasGrown}
-use Rattle.bitpack_lists.specs.Searching.{rest_of}
+use Rattle.bitpack_lists.specs.inner.Searching.{rest_of}
 use Rattle.bitpack_lists.specs.Version2.{kind_at}
-use Rattle.bitpack_lists.specs.Walks.{IsWalkingOver, begun_with}
+use Rattle.bitpack_lists.specs.inner.Walks.{IsWalkingOver, begun_with}
 use Rattle.bitpack_lists.proofs.list2.packed_list.walk.walk_list.Given as goal
 
 abbrev pub invariant-loop-number : goal.invariant-loop-number

@@ -2,10 +2,10 @@
 use Rattle.std.proofs.Common.{◌≡◌, ◌+◌, ◌*◌, ℕ, length, take, ◌∙◌, arith}
 use Rattle.std.proofs.Math.Nat.{div-add-mod}
 use Rattle.std.proofs.lemmas.List.{get_or-take, length-take}
-use Rattle.bitpack_lists.specs.Searching.{blocks_of}
-use Rattle.bitpack_lists.specs.Walks.{values_in}
-use Rattle.bitpack_lists.proofs.OpenedWalks.{few_in_tail, next_tail}
-use Rattle.bitpack_lists.proofs.Walking.{stage_of}
+use Rattle.bitpack_lists.specs.inner.Searching.{blocks_of}
+use Rattle.bitpack_lists.specs.inner.Walks.{values_in}
+use Rattle.bitpack_lists.proofs.walking.OpenedWalks.{few_in_tail, next_tail}
+use Rattle.bitpack_lists.proofs.walking.Walking.{stage_of}
 use Rattle.bitpack_lists.proofs.list2.packed_list.walk.walk_tail.Goals as goal
 
 pub walk_values-requires : goal.walk_values-requires

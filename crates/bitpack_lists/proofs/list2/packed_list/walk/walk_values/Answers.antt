@@ -1,10 +1,10 @@
 -- A value is passed over, or searched.
 use Rattle.std.proofs.Common.{◌≡◌, length, sym, vec_capacity, vec_len, arith}
-use Rattle.bitpack_lists.specs.Walks.{values_in}
+use Rattle.bitpack_lists.specs.inner.Walks.{values_in}
 use Rattle.bitpack_lists.proofs.OpenedLists.{opened_sound}
-use Rattle.bitpack_lists.proofs.Sharing.{InOrder}
+use Rattle.bitpack_lists.proofs.walking.Sharing.{InOrder}
 use Rattle.bitpack_lists.proofs.SearchLemmas.{in_order}
-use Rattle.bitpack_lists.proofs.WalkSteps.{step_passed, step_room, step_searched}
+use Rattle.bitpack_lists.proofs.walking.WalkSteps.{step_passed, step_room, step_searched}
 use Rattle.bitpack_lists.proofs.list2.packed_list.walk.walk_values.Goals as goal
 use Rattle.bitpack_lists.proofs.list2.packed_list.walk.walk_values.Goals.{then-value-walk, else-value-walk}
 

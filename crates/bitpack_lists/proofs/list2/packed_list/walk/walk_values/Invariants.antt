@@ -1,5 +1,5 @@
 -- The values before the index were met.
-use Rattle.bitpack_lists.specs.Walks.{AreNext, IsWalking, Stage, further}
+use Rattle.bitpack_lists.specs.inner.Walks.{AreNext, IsWalking, Stage, further}
 use Rattle.bitpack_lists.proofs.list2.packed_list.walk.walk_values.Given as goal
 
 abbrev pub invariant-loop-index : goal.invariant-loop-index

@@ -1,7 +1,7 @@
 -- The list has as many values as its count says.
 use Rattle.std.proofs.Common.{◌≡◌, length, arith}
 use Rattle.bitpack_lists.specs.Opened.{values}
-use Rattle.bitpack_lists.specs.Searching.{value_of}
+use Rattle.bitpack_lists.specs.inner.Searching.{value_of}
 use Rattle.bitpack_lists.proofs.CursorPlaces.{place_within}
 use Rattle.bitpack_lists.proofs.CursorSteps.{length-first_of}
 use Rattle.bitpack_lists.proofs.list2.packed_list.cursor.Cursor.advance.Goals as goal

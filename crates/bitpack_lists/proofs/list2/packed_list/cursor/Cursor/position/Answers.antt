@@ -1,6 +1,6 @@
 -- No block after the place was unpacked.
 use Rattle.std.proofs.Common.{◌/◌, ◌*◌, ap, arith}
-use Rattle.bitpack_lists.specs.Searching.{value_of}
+use Rattle.bitpack_lists.specs.inner.Searching.{value_of}
 use Rattle.bitpack_lists.proofs.CursorPlaces.{unpacked_before}
 use Rattle.bitpack_lists.proofs.CursorSteps.{length-first_of}
 use Rattle.bitpack_lists.proofs.list2.packed_list.cursor.Cursor.position.Goals as goal

@@ -2,9 +2,9 @@
 use Rattle.std.proofs.Common.{◌≡◌, ℕ, ◌+◌, ◌<◌, ◌≤◌, List, length, get_or, Option, Some, None, IfSome, arith}
 use Rattle.bitpack_lists.specs.declared.list2.reads.Reads.{Reads}
 use Rattle.bitpack_lists.specs.Search.{first_reaching}
-use Rattle.bitpack_lists.specs.Walks.{Appends, AreNext, IsWalked, IsWantedNext, Stage, Values, further}
-use Rattle.bitpack_lists.proofs.Sharing.{InOrder, IsFirst, sought_some}
-use Rattle.bitpack_lists.proofs.Walking.{IsSought, room_left, walked_answer, walked_passed}
+use Rattle.bitpack_lists.specs.inner.Walks.{Appends, AreNext, IsWalked, IsWantedNext, Stage, Values, further}
+use Rattle.bitpack_lists.proofs.walking.Sharing.{InOrder, IsFirst, sought_some}
+use Rattle.bitpack_lists.proofs.walking.Walking.{IsSought, room_left, walked_answer, walked_passed}
 
 module _ (lanes : ℕ) (other : Values) (stage : Stage) (values : List ℕ) (index want last : ℕ) (items : List ℕ) (capacity : ℕ) (old : Reads)
     (order : InOrder other) (next : AreNext stage values) (lt : index < length values)

@@ -12,7 +12,7 @@ use Rattle.bitpack_lists.proofs.PartLemmas.{AreBytes-drop}
 use Rattle.bitpack_lists.proofs.LooseLemmas.{Decides-loose}
 use Rattle.bitpack_lists.proofs.HeaderLemmas.{header_bytes, header_fault-none, header_from_fault, kind_byte-same}
 use Rattle.bitpack_lists.proofs.FaultLemmas.{none_first, body_next, body_blocks, body_from_none}
-use Rattle.bitpack_lists.proofs.TextLemmas.{same_blocks, same_values}
+use Rattle.bitpack_lists.proofs.OneText1.{same_blocks, same_values}
 use Rattle.bitpack_lists.proofs.ReadSteps.{values_from_none, none_from_values}
 
 start-first : (kind : ListKind) → start (first_kind kind) < 2 ^ 32

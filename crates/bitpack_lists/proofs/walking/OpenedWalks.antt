@@ -7,14 +7,14 @@ use Rattle.bitpack_lists.specs.declared.list_kind.ListKind.{ListKind}
 use Rattle.bitpack_lists.specs.declared.list_kind.ListKind.TheVariants as lists
 use Rattle.bitpack_lists.specs.Parts.{BeginsWithHeader, tail_values, whole_blocks}
 use Rattle.bitpack_lists.specs.Version2.{block_at, fault2, last_at, value_at}
-use Rattle.bitpack_lists.specs.Walks.{AreNext, Begun, Values}
+use Rattle.bitpack_lists.specs.inner.Walks.{AreNext, Begun, Values}
 use Rattle.bitpack_lists.proofs.OneText2.{no_fault2}
 use Rattle.bitpack_lists.proofs.OpenedLists.{opened_count, opened_last, opened_sound, opened_value}
 use Rattle.bitpack_lists.proofs.PartLemmas.{AreBytes-drop}
 use Rattle.bitpack_lists.proofs.RestValues.{length-block_at, value_at-block}
 use Rattle.bitpack_lists.proofs.SearchLemmas.{in_order}
-use Rattle.bitpack_lists.proofs.Sharing.{InOrder}
-use Rattle.bitpack_lists.proofs.Walking.{stage_of}
+use Rattle.bitpack_lists.proofs.walking.Sharing.{InOrder}
+use Rattle.bitpack_lists.proofs.walking.Walking.{stage_of}
 
 -- No list has the block of the number that stands for none.
 pub few_blocks : (lanes count : ℕ) → 1 ≤ lanes → count ≤ 2 ^ 28 → whole_blocks lanes count ≤ 2 ^ 28

@@ -1,4 +1,4 @@
--- What a call that appends leaves in a vector that has room. No public contract cites it.
+-- What a call that appends leaves in a vector that has room.
 use Rattle.std.specs.Prelude.{◌≡◌, ◌+◌, ◌≤◌, ◌++◌, List, length, vec_len, vec_capacity}
 use Rattle.std.specs.declared.vec.Vec.{Vec}
 

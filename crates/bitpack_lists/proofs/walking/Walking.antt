@@ -6,8 +6,8 @@ use Rattle.std.proofs.lemmas.List.{length-append, append-nil}
 use Rattle.bitpack_lists.specs.declared.list2.reads.Reads.{Reads}
 use Rattle.bitpack_lists.specs.Search.{HasGrown, first_reaching, in_whole_block}
 use Rattle.bitpack_lists.specs.Parts.{whole_blocks}
-use Rattle.bitpack_lists.specs.Walks.{Appends, Begun, IsLastBlock, IsPast, IsShared, IsWalked, IsWantedNext, Stage, Values}
-use Rattle.bitpack_lists.proofs.Sharing.{InOrder, IsFirst, found_past, length-more, past_equal, past_greater, past_none, searches_few, sought_none, sought_some, shared_more, shared_next, shared_passed, shared_upto}
+use Rattle.bitpack_lists.specs.inner.Walks.{Appends, Begun, IsLastBlock, IsPast, IsShared, IsWalked, IsWantedNext, Stage, Values}
+use Rattle.bitpack_lists.proofs.walking.Sharing.{InOrder, IsFirst, found_past, length-more, past_equal, past_greater, past_none, searches_few, sought_none, sought_some, shared_more, shared_next, shared_passed, shared_upto}
 
 abbrev pub stage_of : Values → Begun → ℕ → ℕ → ℕ → Stage
 stage_of one begun done blocks due = record { one = one; begun = begun; done = done; blocks = blocks; due = due }

@@ -3,7 +3,7 @@ use Rattle.std.proofs.Common.{◌≡◌, ℕ, zero, suc, ◌+◌, ◌<◌, ◌�
 use Rattle.std.specs.List.{slice_get}
 use Rattle.std.proofs.lemmas.Bool.{cases_lt}
 use Rattle.bitpack_lists.specs.Places.{IsSoughtFrom}
-use Rattle.bitpack_lists.specs.Passing.{IsPassing}
+use Rattle.bitpack_lists.specs.inner.Passing.{IsPassing}
 
 pub some_at : (xs : List ℕ) (p v : ℕ) → slice_get xs p ≡ Some v → (p < length xs) × (get_or xs p 0 ≡ v)
 some_at [] p v e = absurd cc

@@ -1,4 +1,4 @@
--- What inner functions know of a text of version 2 that they test or write. No public contract cites it.
+-- What inner functions know of a text of version 2 that they test or write.
 use Rattle.std.specs.Prelude.{◌≡◌, ℕ, ◌+◌, ◌-◌, ◌*◌, ◌<◌, Bool, true, false, nat_lt, nat_le, List, length, None}
 use Rattle.bitpack_lists.specs.declared.list_kind.ListKind.{ListKind}
 use Rattle.bitpack_lists.specs.Version2.{IsBody2, IsEntry2, is_out, least_below, widths_before}

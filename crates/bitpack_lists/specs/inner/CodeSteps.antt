@@ -1,4 +1,4 @@
--- Values and codes one after the other, of inner functions. No public contract cites these.
+-- Values and codes one after the other, of inner functions.
 use Rattle.std.specs.Prelude.{ℕ, ◌+◌, ◌-◌, ◌%◌, ◌^◌, List, [], ◌∷◌}
 
 -- each code and so much more, added to the value before it

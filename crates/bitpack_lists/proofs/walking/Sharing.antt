@@ -10,7 +10,7 @@ use Rattle.bitpack_lists.specs.Search.{first_reaching}
 use Rattle.bitpack_lists.specs.Version2.{least_below}
 use Rattle.bitpack_lists.proofs.SearchLemmas.{least_below-none, reaches}
 use Rattle.bitpack_lists.specs.Intersections.{IsCommon}
-use Rattle.bitpack_lists.specs.Walks.{Has, IsOneOf, IsPast, IsShared, Values}
+use Rattle.bitpack_lists.specs.inner.Walks.{Has, IsOneOf, IsPast, IsShared, Values}
 
 abbrev pub InOrder : Values → Type 0
 InOrder values = (i j : ℕ) → i ≤ j → j < values.count → values.value i ≤ values.value j

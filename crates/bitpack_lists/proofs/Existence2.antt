@@ -8,7 +8,7 @@ use Rattle.bitpacking.proofs.ForCallers.{as_many_codes, codes_are_words, one_lay
 use Rattle.bitpack_lists.specs.declared.list_kind.ListKind.{ListKind}
 use Rattle.bitpack_lists.specs.Parts.{first_kind, header, whole_blocks}
 use Rattle.bitpack_lists.specs.Version2.{List2, block_of, first_out, kind_at, width_at}
-use Rattle.bitpack_lists.specs.Opening.{HasBodies}
+use Rattle.bitpack_lists.specs.inner.Opening.{HasBodies}
 use Rattle.bitpack_lists.proofs.BlockLemmas.{AreWords-block_of, block_end, length-block_of}
 use Rattle.bitpack_lists.proofs.EntryLemmas.{Entered, bodies_step, entered_step}
 use Rattle.bitpack_lists.proofs.HeaderLemmas.{AreBytes-header}

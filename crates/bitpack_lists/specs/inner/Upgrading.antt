@@ -1,4 +1,4 @@
--- What inner functions know of a text of version 1 that is upgraded. No public contract cites it.
+-- What inner functions know of a text of version 1 that is upgraded.
 use Rattle.std.specs.Prelude.{◌≡◌, ℕ, ◌^◌, ◌≤◌, List, length}
 use Rattle.bitpacking.specs.Codes.{AreWords}
 use Rattle.bitpack_lists.specs.declared.list_kind.ListKind.{ListKind}

@@ -1,4 +1,4 @@
--- What the inner functions of a search know of an opened list. No public contract cites it.
+-- What the inner functions of a search know of an opened list.
 use Rattle.std.specs.Prelude.{◌≡◌, ℕ, suc, ◌+◌, ◌*◌, ◌^◌, ◌<◌, ◌≤◌, true, false, List, take, drop, Option, Some, None, IfSome}
 use Rattle.bitpacking.specs.declared.bit_packer.BitPacker.{Ghosts}
 use Rattle.bitpack_lists.specs.declared.list2.packed_list.ListBlock.{ListBlock}

@@ -1,4 +1,4 @@
--- A walk over the values of one list that searches them in another. No public contract cites it.
+-- A walk over the values of one list that searches them in another.
 use Rattle.std.specs.Prelude.{◌≡◌, ◌≢◌, ◌⊎◌, ℕ, ◌+◌, ◌*◌, ◌^◌, ◌<◌, ◌≤◌, min, List, [], ◌∷◌, ◌++◌, length, slice_index, Option, Some, None, vec_capacity}
 use Rattle.std.specs.List.Sorted.{IsStrictlyIncreasing}
 use Rattle.std.specs.declared.vec.Vec.{Vec}
@@ -9,7 +9,7 @@ use Rattle.bitpack_lists.specs.declared.list2.reads.Reads.{Reads}
 use Rattle.bitpack_lists.specs.declared.list_kind.ListKind.TheVariants as lists
 use Rattle.bitpack_lists.specs.Parts.{whole_blocks}
 use Rattle.bitpack_lists.specs.Search.{HasGrown}
-use Rattle.bitpack_lists.specs.Searching.{IsKept, value_of}
+use Rattle.bitpack_lists.specs.inner.Searching.{IsKept, value_of}
 
 -- ---- one value
 

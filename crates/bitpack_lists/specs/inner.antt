@@ -1,0 +1,11 @@
+-- Definitions that no public contract cites: what inner functions promise each other.
+pub mod Appending
+pub mod CodeSteps
+pub mod Combined
+pub mod Leaping
+pub mod Opening
+pub mod Passing
+pub mod Retaining
+pub mod Searching
+pub mod Upgrading
+pub mod Walks

@@ -1,0 +1,4 @@
+-- Definitions that no public contract cites: what inner functions promise each other.
+pub mod ByKind
+pub mod Kernels
+pub mod Partway
