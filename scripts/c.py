@@ -21,6 +21,8 @@ STACK = 256 << 10  # bytes; the sanitizer needs more
 SANITIZED = ["-fsanitize=address,undefined", "-fno-sanitize-recover=all"]
 # Gaps of 2 and 4 in turn: one less are 1 and 3, two bits each, and so 2 * 16 bytes for each block of 128.
 PROGRAMS = {
+    # Gaps of 3: two bits each, and so 2 * 16 bytes.
+    "examples/block.c": "128 ids in 32 bytes\n",
     "examples/posting_list.c": "300 numbers: 2 and 2 bits, 64 bytes, 44 numbers as they are\n",
     # A header of 7 bytes, 2 entries of 9, those blocks, and 44 numbers of 4 bytes; the last number is 3 * 299 + 1.
     "examples/packed_list.c": "300 numbers in 265 bytes, the last 898\nthe first from 500 on is 502, at position 167\n",

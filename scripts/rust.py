@@ -1,5 +1,5 @@
 #!/usr/bin/env python3
-"""Builds the crate in rust/ with warnings as errors, and runs its tests, the example of its page and the program rust/examples/. It
+"""Builds the crate in rust/ with warnings as errors, and runs its tests, the example of its page and the programs of rust/examples/. It
 takes the archives that scripts/archives.py wrote, and builds them where they are not there; nothing is fetched. Builds without archives
 and for another processor have to fail and say why. The last line is 'N passed, M failed', one for each test; a part that is left out
 for want of a tool is named.
@@ -12,8 +12,13 @@ import sys
 import archives
 from common import ROOT, report, run
 
-# Gaps of 2 and 4 in turn: one less are 1 and 3, two bits each, and so 2 * 16 bytes for each block of 128.
-EXAMPLE = "300 numbers: [2, 2] bits, 64 bytes, 44 numbers as they are\n"
+# The programs of rust/examples/ and what they print, worked by hand.
+EXAMPLES = {
+    # Gaps of 3: two bits each, and so 2 * 16 bytes.
+    "block": "128 ids in 32 bytes\n",
+    # Gaps of 2 and 4 in turn: one less are 1 and 3, two bits each, and so 2 * 16 bytes for each block of 128.
+    "posting_list": "300 numbers: [2, 2] bits, 64 bytes, 44 numbers as they are\n",
+}
 
 
 def cargo(*arguments, **variables):
@@ -38,8 +43,9 @@ def checks():
         yield "cargo test", f"it ended with {tests.returncode}"
     for name, result in results:
         yield name, None if result == "ok" else result
-    example = cargo("run", "--quiet", "--release", "--example", "posting_list")
-    yield "rust/examples/posting_list.rs", None if example.stdout == EXAMPLE else f"printed {example.stdout!r} {example.stderr[-2000:]}"
+    for name, wanted in EXAMPLES.items():
+        example = cargo("run", "--quiet", "--release", "--example", name)
+        yield f"rust/examples/{name}.rs", None if example.stdout == wanted else f"printed {example.stdout!r} {example.stderr[-2000:]}"
     for name, done, text in refused():
         right = done.returncode != 0 and text in done.stderr
         yield name, None if right else f"ended with {done.returncode} and said {done.stderr[-2000:]}"
