@@ -21,7 +21,7 @@ CLAUSE = re.compile(r"^(requires|ensures)\b")
 LIMITS = {
     "bitpacking_register": (15, 120),
     "bitpacking": (15, 120),
-    "bitpack_lists": (17, 120),
+    "bitpack_lists": (15, 120),
     "bitpacking_c": (15, 120),
     "bitpack": (15, 120),
     "bitpack_uses": (17, 120),

@@ -1,11 +1,12 @@
 //! Groups of 1 to 32 codes: a width, and the first bytes of a block of one lane that holds the codes and then zeros.
 
-ghost use Rattle.std.specs.Prelude.{◌≡◌, ℕ, List, ◌+◌, ◌*◌, ◌/◌, ◌^◌, ◌≤◌, ◌∷◌, ◌++◌, OnOk, IfOk, nat_lt, length, take, vec_len, vec_capacity};
+ghost use Rattle.std.specs.Prelude.{◌≡◌, ℕ, List, ◌+◌, ◌*◌, ◌/◌, ◌^◌, ◌≤◌, ◌∷◌, OnOk, IfOk, nat_lt, length, take, vec_len, vec_capacity};
 ghost use Rattle.std.specs.List.{list_all};
 ghost use Rattle.bitpacking.specs.Bits.{AreBytes};
 ghost use Rattle.bitpacking.specs.Layout.{codes_of};
 ghost use Rattle.bitpack_lists.specs.Groups.{IsGroup, are_zeros, body_of, group_codes, group_end, group_fault};
 ghost use Rattle.bitpack_lists.specs.Parts.{FindsFault};
+ghost use Rattle.bitpack_lists.specs.inner.Appending.{HasAppended};
 
 use crate::list_error::ListError;
 use crate::reserved::append;
@@ -72,8 +73,7 @@ pub(crate) fn write_group(codes: &[u32], out: &mut Vec<u8>)
     requires some { 1 ≤ length codes.now }
     requires count { length codes.now ≤ LONGEST_GROUP }
     requires room { (part : List ℕ) → IsGroup codes.now part → vec_len out.old + length part ≤ vec_capacity out.old }
-    ensures part { (part : List ℕ) × AreBytes part × IsGroup codes.now part × (out.new.items ≡ out.old.items ++ part) }
-    ensures capacity { vec_capacity out.old ≤ vec_capacity out.new }
+    ensures part { (part : List ℕ) × AreBytes part × IsGroup codes.now part × HasAppended out.old out.new part }
 {
     let mut block = [0; LONGEST_GROUP];
     block[..codes.len()].copy_from_slice(codes);
@@ -81,23 +81,18 @@ pub(crate) fn write_group(codes: &[u32], out: &mut Vec<u8>)
     let width = packer.num_bits(&block);
     let mut body = [0; LONGEST_GROUP_BODY];
     packer.compress(&block, &mut body, width);
-    append_cut(codes.len(), width, &body, out);
+    append_cut(width, group_size(codes.len(), width), &body, out);
 }
 
-/// Appends the width, and the bytes of the body up to the last code, if there is room for them.
-fn append_cut(count: usize, width: u8, body: &[u8], out: &mut Vec<u8>)
-    requires count { count ≤ LONGEST_GROUP }
-    requires width { width ≤ 32 }
-    requires body { length body.now ≡ LONGEST_GROUP_BODY }
-    requires room { vec_len out.old + 1 + Rattle.bitpack_lists.specs.Groups.group_size count width
-        ≤ vec_capacity out.old }
+/// Appends the width and the first bytes of the body, up to `size`, if there is room for them.
+fn append_cut(width: u8, size: usize, body: &[u8], out: &mut Vec<u8>)
+    requires size { size ≤ length body.now }
+    requires room { vec_len out.old + 1 + size ≤ vec_capacity out.old }
     ensures bytes { AreBytes body.now }
-    ensures items { out.new.items
-        ≡ out.old.items ++ width ∷ take (Rattle.bitpack_lists.specs.Groups.group_size count width) body.now }
-    ensures capacity { vec_capacity out.old ≤ vec_capacity out.new }
+    ensures cut { HasAppended out.old out.new (width ∷ take size body.now) }
 {
     append(out, &[width]);
-    append(out, &body[..group_size(count, width)]);
+    append(out, &body[..size]);
 }
 
 /// How many bytes hold so many codes of a width.

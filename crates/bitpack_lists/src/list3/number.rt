@@ -1,8 +1,9 @@
 //! Numbers of seven bits a byte, the lowest first, with 128 added to every byte but the last.
 
-ghost use Rattle.std.specs.Prelude.{◌≡◌, ◌+◌, ◌≤◌, ◌++◌, IfOk, length, vec_len, vec_capacity};
+ghost use Rattle.std.specs.Prelude.{◌≡◌, ◌+◌, ◌≤◌, IfOk, length, vec_len, vec_capacity};
 ghost use Rattle.bitpack_lists.specs.Numbers.{number, number_end, number_fault, number_value};
 ghost use Rattle.bitpack_lists.specs.Parts.{FindsFault};
+ghost use Rattle.bitpack_lists.specs.inner.Appending.{HasAppended};
 
 use crate::list_error::ListError;
 
@@ -53,9 +54,7 @@ pub(crate) fn number_len(value: u32) -> usize
 /// Appends the bytes of a number, if there is room for them.
 pub(crate) fn write_number(value: u32, out: &mut Vec<u8>)
     requires room { vec_len out.old + length (number value) ≤ vec_capacity out.old }
-    ensures items { out.new.items ≡ out.old.items ++ number value }
-    ensures len { vec_len out.new ≡ vec_len out.old + length (number value) }
-    ensures capacity { vec_capacity out.old ≤ vec_capacity out.new }
+    ensures { HasAppended out.old out.new (number value) }
 {
     let mut left = value;
     while left >= 128 {

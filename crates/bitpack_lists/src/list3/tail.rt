@@ -98,7 +98,6 @@ fn groups_len(codes: &[u32]) -> usize
 
 /// Appends the tail of these codes, after so many blocks, if there is room for it.
 pub(crate) fn write_tail(blocks: usize, codes: &[u32], out: &mut Vec<u8>)
-    requires few { length codes.now ≤ 2 ^ 28 }
     requires room { (bytes : List ℕ) → IsTail3 blocks codes.now bytes
         → vec_len out.old + length bytes ≤ vec_capacity out.old }
     ensures tail { (bytes : List ℕ) → IsTail3 blocks codes.now bytes → out.new.items ≡ out.old.items ++ bytes }
@@ -113,7 +112,6 @@ pub(crate) fn write_tail(blocks: usize, codes: &[u32], out: &mut Vec<u8>)
 
 /// Appends the groups of these codes, if there is room for them.
 fn write_groups(codes: &[u32], out: &mut Vec<u8>)
-    requires few { length codes.now ≤ 2 ^ 28 }
     requires room { (bytes : List ℕ) → AreGroups (groups_of (length codes.now)) codes.now bytes
         → vec_len out.old + length bytes ≤ vec_capacity out.old }
     ensures groups { (bytes : List ℕ) → AreGroups (groups_of (length codes.now)) codes.now bytes

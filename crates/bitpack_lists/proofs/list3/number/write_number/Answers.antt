@@ -27,11 +27,11 @@ push_reserved-requires-2 c =
     let more = ap length (number-small c.loop-left.left c.loop-left-test.false) in
     omega (arith, more)
 
-pub returns-clause-items : goal.returns-clause-items
-returns-clause-items c =
-    c.push_reserved-2.ensures.items
-    ∙ ap (λ zs. c.loop-left.out.items ++ zs) (sym (number-small c.loop-left.left c.loop-left-test.false)) ∙ c.loop-left.invariant.items
-
-pub returns-clause-len : goal.returns-clause-len
-returns-clause-len c =
-    omega (arith, ap length (number-small c.loop-left.left c.loop-left-test.false), c.push_reserved-2.ensures.len)
+pub returns : goal.returns
+returns c =
+    let last = sym (number-small c.loop-left.left c.loop-left-test.false) in
+    record {
+      items = c.push_reserved-2.ensures.items ∙ ap (λ zs. c.loop-left.out.items ++ zs) last ∙ c.loop-left.invariant.items;
+      len = omega (arith, ap length last, c.push_reserved-2.ensures.len);
+      capacity = omega (arith, c.push_reserved-2.ensures.capacity);
+    }

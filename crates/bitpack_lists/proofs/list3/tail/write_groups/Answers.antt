@@ -62,7 +62,7 @@ loop-index-preserved c =
     let count : ℕ = c.next_len-count.result in
     let out : List ℕ = c.loop-index.out.items in
     let words : AreWords codes = AreWords-from_slice codes c.type_inv.codes in
-    let (part, small, group, items) = c.write_group.ensures.part in
+    let (part, small, group, appended) = c.write_group.ensures.part in
     record {
       written = λ bytes are.
           let (later, left, before) = c.loop-index.invariant.written bytes are in
@@ -71,9 +71,9 @@ loop-index-preserved c =
           (length-lent i count codes c.next_len-count.ensures) (lent_group i count codes c.next_len-count.ensures) group group' in (
             rest,
             more,
-            ap (λ zs. zs ++ rest) (items ∙ ap (λ zs. out ++ zs) same) ∙ append_assoc out other rest ∙ ap (λ zs. out ++ zs) (sym parts) ∙ before,
+            ap (λ zs. zs ++ rest) (appended.items ∙ ap (λ zs. out ++ zs) same) ∙ append_assoc out other rest ∙ ap (λ zs. out ++ zs) (sym parts) ∙ before,
           );
-      capacity = omega (arith, c.loop-index.invariant.capacity, c.write_group.ensures.capacity);
+      capacity = omega (arith, c.loop-index.invariant.capacity, appended.capacity);
     }
 
 pub returns : goal.returns

@@ -13,15 +13,17 @@ write_number-requires c =
     let (groups, parts, are) = first_of_tail c.args.blocks codes bytes c.if-blocks-eq0.true c.if-codes-gt0.true is in
     record { room = omega (arith, c.requires.room bytes is, ap length parts, length-append (number (get_or codes 0 0)) groups) }
 
-pub write_groups-requires-clause-room : goal.write_groups-requires-clause-room
-write_groups-requires-clause-room c = λ bytes are.
-    let codes : List ℕ = c.args.codes.now in
-    let lent : take (length codes - 1) (drop 1 codes) ≡ drop 1 codes = take_rest codes 1 in
-    let is = tail_of_first c.args.blocks codes bytes c.if-blocks-eq0.true c.if-codes-gt0.true (rw lent at are) in
-    omega (
-      arith,
-      c.requires.room _ is,
-      length-append (number (get_or codes 0 0)) bytes,
-      c.write_number.ensures.len,
-      c.write_number.ensures.capacity,
-    )
+pub write_groups-requires : goal.write_groups-requires
+write_groups-requires c = record {
+  room = λ bytes are.
+      let codes : List ℕ = c.args.codes.now in
+      let lent : take (length codes - 1) (drop 1 codes) ≡ drop 1 codes = take_rest codes 1 in
+      let is = tail_of_first c.args.blocks codes bytes c.if-blocks-eq0.true c.if-codes-gt0.true (rw lent at are) in
+      omega (
+        arith,
+        c.requires.room _ is,
+        length-append (number (get_or codes 0 0)) bytes,
+        c.write_number.ensures.len,
+        c.write_number.ensures.capacity,
+      );
+}

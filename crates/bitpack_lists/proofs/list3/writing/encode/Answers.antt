@@ -77,38 +77,40 @@ write_bodies-requires-clause-room g c =
       c.reserve.ensures.len,
     ))
 
-pub write_tail-requires-clause-room : goal.write_tail-requires-clause-room
-write_tail-requires-clause-room g c = λ bytes is.
-    let lanes : ℕ = g.P.BitPacker.lanes in
-    let kind : ListKind = c.args.kind in
-    let values : List ℕ = c.args.values.now in
-    let start : ℕ = c.len-start.result in
-    let front : List ℕ = c.write_header.new.out.items in
-    let done : List ℕ = c.write_bodies.new.out.items in
-    let room = on_ok c.reserve.result (sym c.is_err.ensures.value ∙ c.if-is_err.false) c.reserve.ensures.ok in
-    let long = length-header_is lanes c.BLOCK_LEN-3.result (length values) kind c.args.out.now.items c.reserve.new.self.items front
-    c.reserve.ensures.items (c.BLOCK_LEN-3.ensures ∙ g.met.P.BitPacker.block_len) c.write_header.ensures.items in
-    let has = c.write_bodies.ensures.bodies in
-    let size = blocks_long lanes (whole_blocks lanes (length values)) c.blocks_len-whole.result kind values (drop start done) g.met.P.BitPacker.some_lanes
-    c.blocks_len-whole.ensures.len has.entries in
-    let parts = parts_are start (vec_len c.write_header.new.out) front c.write_entries.new.out.items done c.len-start.ensures c.write_entries.ensures.front c.write_bodies.ensures.front in
-    omega (
-      arith,
-      room,
-      long,
-      size,
-      has.long,
-      c.tail_len.ensures.len bytes is,
-      c.header_len.ensures.len kind lanes,
-      ap length parts,
-      length-append front (drop start done),
-      c.write_header.ensures.capacity,
-      c.write_entries.ensures.capacity,
-      c.write_bodies.ensures.capacity,
-      c.write_bodies.new.out.ok,
-      c.args.out.now.ok,
-      c.reserve.ensures.len,
-    )
+pub write_tail-requires : goal.write_tail-requires
+write_tail-requires g c = record {
+  room = λ bytes is.
+      let lanes : ℕ = g.P.BitPacker.lanes in
+      let kind : ListKind = c.args.kind in
+      let values : List ℕ = c.args.values.now in
+      let start : ℕ = c.len-start.result in
+      let front : List ℕ = c.write_header.new.out.items in
+      let done : List ℕ = c.write_bodies.new.out.items in
+      let room = on_ok c.reserve.result (sym c.is_err.ensures.value ∙ c.if-is_err.false) c.reserve.ensures.ok in
+      let long = length-header_is lanes c.BLOCK_LEN-3.result (length values) kind c.args.out.now.items c.reserve.new.self.items front
+      c.reserve.ensures.items (c.BLOCK_LEN-3.ensures ∙ g.met.P.BitPacker.block_len) c.write_header.ensures.items in
+      let has = c.write_bodies.ensures.bodies in
+      let size = blocks_long lanes (whole_blocks lanes (length values)) c.blocks_len-whole.result kind values (drop start done) g.met.P.BitPacker.some_lanes
+      c.blocks_len-whole.ensures.len has.entries in
+      let parts = parts_are start (vec_len c.write_header.new.out) front c.write_entries.new.out.items done c.len-start.ensures c.write_entries.ensures.front c.write_bodies.ensures.front in
+      omega (
+        arith,
+        room,
+        long,
+        size,
+        has.long,
+        c.tail_len.ensures.len bytes is,
+        c.header_len.ensures.len kind lanes,
+        ap length parts,
+        length-append front (drop start done),
+        c.write_header.ensures.capacity,
+        c.write_entries.ensures.capacity,
+        c.write_bodies.ensures.capacity,
+        c.write_bodies.new.out.ok,
+        c.args.out.now.ok,
+        c.reserve.ensures.len,
+      );
+}
 
 -- ---- the text
 
