@@ -32,7 +32,7 @@ pub fn one_text()
     ensures fault3 { NoFault3 }
 {}
 
-/// The text of an opened list is that of its kind and its values, and of no other list.
+/// The text of an opened list is the text of its kind and its values, and of no other list.
 pub fn opened_text<P: BitPacker>(list: &PackedList<'_, P>)
     ensures list { List2 P.lanes (kind_of list.now) (values list.now) (text list.now) }
     ensures only { OfNoOther P.lanes (kind_of list.now) (values list.now) (text list.now) }

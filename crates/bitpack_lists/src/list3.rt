@@ -1,5 +1,5 @@
 //! Packed lists of version 3: a short header, the entries and bodies of version 2, and the tail in groups of 32 codes. Texts of short
-//! lists are about half as long as those of version 2.
+//! lists are about half as long as in version 2.
 //!
 //! ```text
 //! 6f 21                         strictly sorted, 1 lane, 33 values

@@ -18,7 +18,7 @@ pub(crate) const LONGEST_GROUP: usize = 32;
 /// The most bytes of a body of one lane: 32 codes at 32 bits each.
 const LONGEST_GROUP_BODY: usize = 128;
 
-/// Reads the group of so many codes at the front of the bytes, which is block number `block`, and returns how many bytes it has.
+/// Reads the group of `count` codes at the front of the bytes, which is block number `block`, and returns how many bytes it has.
 /// Its codes are the first of `codes`; after a refusal these may be any.
 pub(crate) fn read_group(
     block: usize,
@@ -95,7 +95,7 @@ fn append_cut(width: u8, size: usize, body: &[u8], out: &mut Vec<u8>)
     append(out, &body[..size]);
 }
 
-/// How many bytes hold so many codes of a width.
+/// How many bytes hold `count` codes of a width.
 pub(crate) fn group_size(count: usize, width: u8) -> usize
     requires count { count ≤ LONGEST_GROUP }
     requires width { width ≤ 32 }

@@ -24,7 +24,7 @@ pub(crate) struct ShortHeader {
 }
 
 impl ShortHeader {
-    /// Reads the header of a text, for a packer of so many lanes.
+    /// Reads the header of a text, for a packer of `lanes` lanes.
     #[tactic(auto, unfolding(crate::specs::Version3::header_fault3))]
     pub(crate) fn read(lanes: usize, bytes: &[u8]) -> Result<ShortHeader, ListError>
         ensures fault { FindsFault result (header_fault3 lanes bytes.now) }
@@ -101,7 +101,7 @@ fn read_count(bytes: &[u8]) -> Result<(usize, usize), ListError>
     Ok((count, size))
 }
 
-/// How many bytes the header of so many values has.
+/// How many bytes the header of `count` values has.
 #[tactic(auto, unfolding(crate::specs::Version3::header3))]
 pub(crate) fn header_len(count: usize) -> usize
     requires { count ≤ 2 ^ 28 }

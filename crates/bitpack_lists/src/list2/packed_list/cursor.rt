@@ -245,7 +245,7 @@ impl<'a, P: BitPacker> Cursor<'a, P> {
         }
     }
 
-    /// The same as `seek`, which tries the value so many places ahead first.
+    /// Moves as `seek` does, and tries the value some places ahead first.
     #[inline(always)]
     pub(crate) fn seek_ahead(&mut self, target: u32, ahead: usize)
         requires { InOrder (values_of_cursor self.old) }
@@ -318,7 +318,7 @@ pub(crate) fn first_from(values: &[u32], from: usize, target: u32) -> usize
     low
 }
 
-/// The same as `first_from`, which tries the value so many places ahead first.
+/// Finds what `first_from` finds, and tries the value some places ahead first.
 #[inline(always)]
 pub(crate) fn first_ahead(values: &[u32], from: usize, ahead: usize, target: u32) -> usize
     requires from { from ≤ length values.now }
