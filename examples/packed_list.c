@@ -63,7 +63,7 @@ int main(void)
     for (i = 0; i < COUNT; i++)
         documents[i] = (uint32_t)(3 * i + i % 2);
     size = text ? encode(documents, COUNT, text) : 0;
-    if (size == 0 || bitpacking_4x_list_open(text, size, &list) != 0)
+    if (size == 0 || bitpacking_list_open(text, size, &list) != 0)
         return EXIT_FAILURE;
     for (i = 0; i < bitpacking_list_len(&list); i++)
         if (!bitpacking_list_get(&list, i, &value) || value != documents[i])

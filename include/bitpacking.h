@@ -197,16 +197,16 @@ ptrdiff_t bitpacking_8x_unpack_all_sorted(uint32_t initial, const uint8_t *width
 ptrdiff_t bitpacking_8x_unpack_all_strictly_sorted(uint32_t initial, const uint8_t *widths, size_t widths_len,
                                                    const uint8_t *bytes, size_t bytes_len, uint32_t *values, size_t values_len);
 
-/* A packed list of version 2, read in place: a text of a header, an entry for each whole block, the blocks, and the values after
+/* A packed list of version 2 or 3, read in place: a text of a header, an entry for each whole block, the blocks, and the values after
  * them. docs/FORMAT.md of the repository has every byte.
  *
- * A view is set to BITPACKING_LIST_EMPTY before anything else, and then opened, as often as one likes. It has a pointer to the bytes,
- * and no memory of its own. The caller keeps the bytes where they are, unchanged, for as long as the view is used. A view may be
+ * A view is set to BITPACKING_LIST_EMPTY before anything else, or all of it to zero, which is an empty list too. Then it is opened, as
+ * often as one likes. It has a pointer to the bytes, and no memory of its own. The caller keeps the bytes where they are, unchanged, for as long as the view is used. A view may be
  * copied, and the same is true of the copy. Only the open functions may write the fields.
  *
  *     bitpacking_list list = BITPACKING_LIST_EMPTY;
  *     uint32_t value;
- *     if (bitpacking_4x_list_open(bytes, bytes_len, &list) < 0) return -1;
+ *     if (bitpacking_list_open(bytes, bytes_len, &list) < 0) return -1;
  *     if (bitpacking_list_get(&list, 1000, &value)) ...
  */
 typedef struct bitpacking_list {
@@ -217,14 +217,17 @@ typedef struct bitpacking_list {
 
 #define BITPACKING_LIST_EMPTY {(const uint8_t *)"\2\0\1\0\0\0\0", 7, 1}
 
-/* Opens a text of the packer of 1, 4 or 8 lanes. Any bytes are taken, and all of them are tested. Returns 0; or the first of the
+/* Opens a text of version 2 or 3, of the packer that it names. Accepts any bytes, and tests all of them. Returns 0; or the first of the
  * faults below, in the order of docs/FORMAT.md, and then the view is as it was. */
+ptrdiff_t bitpacking_list_open(const uint8_t *bytes, size_t bytes_len, bitpacking_list *view);
+
+/* The same for a text of version 2 of the packer of 1, 4 or 8 lanes: any other version or packer is a fault. */
 ptrdiff_t bitpacking_1x_list_open(const uint8_t *bytes, size_t bytes_len, bitpacking_list *view);
 ptrdiff_t bitpacking_4x_list_open(const uint8_t *bytes, size_t bytes_len, bitpacking_list *view);
 ptrdiff_t bitpacking_8x_list_open(const uint8_t *bytes, size_t bytes_len, bitpacking_list *view);
 
 #define BITPACKING_LIST_SHORT (-21)       /* bytes are missing */
-#define BITPACKING_LIST_BAD_VERSION (-22) /* the text is not of version 2 */
+#define BITPACKING_LIST_BAD_VERSION (-22) /* the text is of another version */
 #define BITPACKING_LIST_BAD_KIND (-23)    /* the kind is none; of a search: the list is plain */
 #define BITPACKING_LIST_WRONG_LANES (-24) /* the text is of another packer */
 #define BITPACKING_LIST_TOO_LONG (-25)    /* more than 268,435,456 values */
@@ -234,6 +237,8 @@ ptrdiff_t bitpacking_8x_list_open(const uint8_t *bytes, size_t bytes_len, bitpac
 #define BITPACKING_LIST_BAD_LAST (-29)    /* a last value is not that of its block */
 #define BITPACKING_LIST_NOT_SORTED (-30)  /* the values are not in the order of the kind */
 #define BITPACKING_LIST_TRAILING (-31)    /* bytes are left over */
+#define BITPACKING_LIST_BAD_NUMBER (-33)  /* of version 3: a number is not as it has to be */
+#define BITPACKING_LIST_PADDING (-34)     /* of version 3: a bit after the codes of a group is set */
 
 /* How many values an opened list has. */
 size_t bitpacking_list_len(const bitpacking_list *view);
@@ -244,6 +249,10 @@ uint8_t bitpacking_list_kind(const bitpacking_list *view);
 /* Writes the value at a position, from 0 on, and returns 1. If there is no such position it returns 0 and writes nothing. It unpacks
  * one block at most. */
 int32_t bitpacking_list_get(const bitpacking_list *view, size_t position, uint32_t *item);
+
+/* Unpacks the whole list into values, and returns the number of values. If there is no room for them it returns BITPACKING_SHORT and
+ * writes nothing. Values after those of the list stay as they were. Each block is unpacked once. */
+ptrdiff_t bitpacking_list_unpack(const bitpacking_list *view, uint32_t *values, size_t values_len);
 
 /* Searches a sorted or strictly sorted list for the first value that is at least target. Writes its position, the value, and
  * returns 1. If every value is below the target it returns 0, and for a plain list BITPACKING_LIST_BAD_KIND; then nothing is

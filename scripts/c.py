@@ -1,9 +1,9 @@
 #!/usr/bin/env python3
 """Compiles and runs the C programs over the archive for each level of the processor: those of examples/, whose output is worked by hand,
-and scripts/calls.c. They are compiled as C99 with every warning an error and run with little stack, and once more with the address
-sanitizer where the compiler has it; scripts/calls.c also as C++11 and C++17. It has to name every macro of the header. The archives are
-those that scripts/archives.py wrote, which is called where they are not there. The last line is 'N passed, M failed'; a part that is
-left out for want of a tool is named.
+scripts/calls.c, and scripts/tables.c over the tables of vectors/. They are compiled as C99 with every warning an error and run with
+little stack, and once more with the address sanitizer where the compiler has it; scripts/calls.c also as C++11 and C++17. It has to name
+every macro of the header. The archives are those that scripts/archives.py wrote, which is called where they are not there. The last line
+is 'N passed, M failed'; a part that is left out for want of a tool is named.
 """
 import re
 import resource
@@ -17,6 +17,7 @@ from common import ROOT, leave_out, report, run, source
 STRICT = ["-Wall", "-Wextra", "-Werror", "-pedantic", f"-I{ROOT}/include"]
 C99 = ["cc", "-std=c99", *STRICT]
 CALLS = "scripts/calls.c"
+TABLES = "scripts/tables.c"
 STACK = 256 << 10  # bytes; the sanitizer needs more
 SANITIZED = ["-fsanitize=address,undefined", "-fno-sanitize-recover=all"]
 # Gaps of 2 and 4 in turn: one less are 1 and 3, two bits each, and so 2 * 16 bytes for each block of 128.
@@ -27,7 +28,10 @@ PROGRAMS = {
     # A header of 7 bytes, 2 entries of 9, those blocks, and 44 numbers of 4 bytes; the last number is 3 * 299 + 1.
     "examples/packed_list.c": "300 numbers in 265 bytes, the last 898\nthe first from 500 on is 502, at position 167\n",
     CALLS: "",
+    # Each row of the tables that it is given.
+    TABLES: "532 lists, 725 refusals\n",
 }
+VECTORS = ["lists2", "lists3", "refused2", "refused3"]
 
 
 def works(command, **given):
@@ -94,9 +98,10 @@ def checks():
             leave_out(f"the C programs at the level {level}", "which this processor does not have")
             continue
         for program in PROGRAMS:
-            yield f"{program} at {level}", compiled_and_run(level, program, C99, preexec_fn=with_little_stack)
+            given = {"input": "".join(source(f"vectors/{table}.tsv") for table in VECTORS)} if program == TABLES else {}
+            yield f"{program} at {level}", compiled_and_run(level, program, C99, preexec_fn=with_little_stack, **given)
             if sanitizers:
-                yield f"{program} at {level}, sanitized", compiled_and_run(level, program, [*C99, *SANITIZED])
+                yield f"{program} at {level}, sanitized", compiled_and_run(level, program, [*C99, *SANITIZED], **given)
         for standard in ["c++11", "c++17"] if in_cpp else []:
             command = ["c++", f"-std={standard}", *STRICT, "-x", "c++"]
             yield f"{CALLS} as {standard} at {level}", compiled_and_run(level, CALLS, command)

@@ -170,6 +170,55 @@ static void lists(void)
     EXPECT(position, 32);
 }
 
+/* The same list in version 3, worked by hand: byte 0 says one lane, strictly sorted and a count that follows. After the block is a group of
+   one code, 0, at width 0. And strictly sorted 7, 9, 10, 300 in four lanes: the first value, and the codes 1, 0 and 289 at width 9. */
+static void lists_of_version_3(void)
+{
+    static const uint8_t right[12] = {0x6F, 33, 0, 0, 0, 0, 0, 31, 0, 0, 0, 0}, four[7] = {0xA4, 7, 9, 1, 0, 0x84, 4};
+    static const struct {
+        size_t len;
+        uint8_t bytes[3];
+        ptrdiff_t fault;
+    } faults[] = {{0, {0}, BITPACKING_LIST_SHORT},
+                  {1, {0x70}, BITPACKING_LIST_BAD_KIND},
+                  {3, {0x41, 0x85, 0}, BITPACKING_LIST_BAD_NUMBER},
+                  {3, {0x41, 5, 0}, BITPACKING_LIST_TRAILING}};
+    static const uint8_t padded[4] = {0x42, 5, 1, 3}, *no_bytes = NULL;
+    bitpacking_list list;
+    uint32_t values[35], value = 77;
+    size_t i, position = 78;
+
+    memset(&list, 0, sizeof list); /* an empty list */
+    EXPECT(bitpacking_list_len(&list), 0);
+    EXPECT(bitpacking_list_kind(&list), 0);
+    EXPECT(bitpacking_list_get(&list, 0, &value), 0);
+    EXPECT(bitpacking_list_seek(&list, 0, &position, &value), BITPACKING_LIST_BAD_KIND);
+    EXPECT(bitpacking_list_unpack(&list, NULL, 0), 0);
+    for (i = 0; i < sizeof faults / sizeof *faults; i++)
+        EXPECT(bitpacking_list_open(i == 0 ? no_bytes : faults[i].bytes, faults[i].len, &list), faults[i].fault);
+    EXPECT(bitpacking_list_open(padded, 4, &list), BITPACKING_LIST_PADDING);
+    EXPECT(list.bytes == NULL && list.bytes_len == 0 && list.lanes == 0, 1);
+    EXPECT(bitpacking_1x_list_open(right, 12, &list), BITPACKING_LIST_BAD_VERSION);
+    EXPECT(bitpacking_list_open(right, 12, &list), 0);
+    EXPECT(bitpacking_list_len(&list), 33);
+    EXPECT(bitpacking_list_kind(&list), 2);
+    EXPECT(bitpacking_list_get(&list, 32, &value), 1);
+    EXPECT(value, 32);
+    EXPECT(bitpacking_list_seek(&list, 32, &position, &value), 1);
+    EXPECT(position, 32);
+    memset(values, 9, sizeof values);
+    EXPECT(bitpacking_list_unpack(&list, values, 32), BITPACKING_SHORT);
+    EXPECT(values[0], 0x09090909);
+    EXPECT(bitpacking_list_unpack(&list, values, 35), 33);
+    for (i = 0; i < 33; i++)
+        EXPECT(values[i], (ptrdiff_t)i);
+    EXPECT(values[33], 0x09090909);
+    EXPECT(bitpacking_list_open(four, 7, &list), 0);
+    EXPECT(list.lanes, 4);
+    EXPECT(bitpacking_list_get(&list, 3, &value), 1);
+    EXPECT(value, 300);
+}
+
 /* A list worked by hand for each packer: two whole blocks and one value after them, strictly sorted.
    The gaps of the first block are 1 and 2 in turn, the codes 0 and 1: in one lane the bits 01010101, in more all bits of every other lane.
    The gaps of the second are 4, the codes 3: each bit is set. */
@@ -252,6 +301,7 @@ int main(void)
     errors();
     chains();
     lists();
+    lists_of_version_3();
     short_lists();
     return failed;
 }

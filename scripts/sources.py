@@ -14,7 +14,8 @@
   the one for groups, and else takes the one that it is given.
 - The Rust crate asks for the features of each level, has the functions of each level in its table, and takes the best level.
 - Of `bitpack_lists`, a function that makes a `Reads` has a mark, `// Reads bytes: ..`. So has a function below list2 that reads a number
-  or unpacks a block from bytes, or tests a text, and one that sees the bytes or the packer of an opened list, or makes a cursor. The
+  or unpacks a block from bytes, or tests a text, and one that sees the bytes or the packer of an opened list, or makes a cursor; and one
+  that tests a text of version 3. The
   mark names its calls in the order of the text: those that count read once for each count, `open` tests a text once and each block
   of it once, and `from_validated` tests none. No other function has a mark, and no code calls `get`. A walk reads no entry once nothing is
   wanted.
@@ -63,13 +64,14 @@ CHOICE = {
 LISTS = "crates/bitpack_lists/src"
 GROUPS = (f"{LISTS}/list3/group.rt", "BitPacker1x")
 # The mark above a function of `bitpack_lists` that may read bytes: its loops and its calls of functions of the crate in the order of the
-# text, and `bytes` and `packer` when it first names them.
+# text, and `bytes`, `packer` and the fields `rest` and `tail` when it first names them.
 MARK = re.compile(r"^ *// Reads bytes: (.*)\.$")
 # The words that only such a function may have, by the beginning of the paths where this is so. The fields are those of a list.
 READING = {
     "": r"\bvalue_in_block\b|\bReads::",
-    "list2/": r"\bdecompress\w*|\bunpack_all\b|\bread_one\b|\btest(?:_rest|_entries|_bodies)?\(",
-    "list2/packed_list": r"\bbytes\b|\bpacker\b|\bcursor\(",
+    "list2/": r"\bdecompress\w*|\bunpack_all\b|\bread_one\b|\bread_words\b|\btest(?:_rest|_entries|_bodies|_blocks)?\(",
+    "list2/packed_list": r"\bbytes\b|\bpacker\b|self\.rest\b|self\.tail\b|\bcursor\(",
+    "list3/opening": r"\bread\(|\bread_tail\(|\btest_(?:rest|blocks)\(",
 }
 # What no code of `bitpack_lists` has.
 NEVER = r"(?<!fn )\bget\b|\bReads as\b|\btype\b[^;]*\bReads\b"
@@ -258,10 +260,10 @@ def mark_above(lines, number):
 
 def mark_of(path, body, functions):
     """The mark that a function with this body has to have."""
-    fields = "bytes|packer" if path.startswith("list2/packed_list") else "(?!)"
-    found = re.findall(rf"\b(for|while|loop)\b|\b(\w+)(?:::<[^()]*>)?\(|\b({fields})\b", body)
+    fields = r"\bbytes\b|\bpacker\b|(?<=self\.)(?:rest|tail)\b" if path.startswith("list2/packed_list") else "(?!)"
+    found = re.findall(rf"\b(for|while|loop)\b|\b(\w+)(?:::<[^()]*>)?\(|({fields})", body)
     named = [loop or field or call for loop, call, field in found if loop or field or call in functions - {"len"}]
-    kept = [it for at, it in enumerate(named) if it not in ("bytes", "packer") or it not in named[:at]]
+    kept = [it for at, it in enumerate(named) if it not in ("bytes", "packer", "rest", "tail") or it not in named[:at]]
     return ", ".join(kept)
 
 

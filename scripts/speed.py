@@ -1,7 +1,7 @@
 #!/usr/bin/env python3
 """Times packed lists beside other ways, in one process that takes the candidates in turn:
 
-    scripts/speed.py [--cpu LEVEL] [--core N] [--rounds N] [--only WORD]
+    scripts/speed.py [--cpu LEVEL] [--core N] [--rounds N] [--only WORD] [--texts FOLDER]
 
 It copies the repository and what its checks left in out/ to a folder, adds a crate of C functions over the lists
 (scripts/speed/exports.txt), builds it for a level of x86-64, and runs scripts/speed/main.rs, which rustc compiles, over it on one core.
@@ -113,13 +113,16 @@ def main():
     parser.add_argument("--core", default="0")
     parser.add_argument("--rounds", default="21")
     parser.add_argument("--only", default="")
+    parser.add_argument("--texts", default="", help="a folder of text files, for the lists of an index in each version")
     parser.add_argument("--keep")
     parser.add_argument("--built", action="store_true", help="time what --keep FOLDER has")
     given = parser.parse_args()
     folder = given.keep or tempfile.mkdtemp(prefix="speed-")
     if not given.built:
         build(folder, given.cpu)
-    return subprocess.run(["taskset", "-c", given.core, f"{folder}/speed", given.rounds, given.only], check=False).returncode
+    return subprocess.run(
+        ["taskset", "-c", given.core, f"{folder}/speed", given.rounds, given.only, *filter(None, [given.texts])], check=False
+    ).returncode
 
 
 def build(folder, cpu):

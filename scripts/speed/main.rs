@@ -1,4 +1,5 @@
-//! Times packed lists beside other ways: main ROUNDS [WORD], for the rows whose name has the word.
+//! Times packed lists beside other ways: main ROUNDS [WORD [FOLDER]], for the rows whose name has the word. With a folder also the lists
+//! of an index of its text files, in each version.
 mod hand;
 
 use hand::*;
@@ -297,11 +298,86 @@ fn texts(asked: &Asked, calls: &'static Calls, bits: u32, count: usize) {
     ]);
 }
 
+/// The words of the text files below a folder, each with the numbers of the paragraphs that have it.
+fn words_below(folder: &std::path::Path, words: &mut std::collections::HashMap<Vec<u8>, Vec<u32>>, paragraphs: &mut u32) {
+    let Ok(found) = std::fs::read_dir(folder) else { return };
+    let mut paths: Vec<_> = found.flatten().map(|it| it.path()).collect();
+    paths.sort();
+    for path in paths {
+        if path.is_symlink() {
+            continue;
+        }
+        if path.is_dir() {
+            words_below(&path, words, paragraphs);
+            continue;
+        }
+        let Ok(bytes) = std::fs::read(&path) else { continue };
+        if bytes.contains(&0) {
+            continue;
+        }
+        for paragraph in bytes.split(|&byte| byte == b'\n').collect::<Vec<_>>().split(|line| line.is_empty()) {
+            *paragraphs += 1;
+            for word in paragraph.iter().flat_map(|line| line.split(|byte| !byte.is_ascii_alphanumeric())).filter(|word| !word.is_empty()) {
+                let ids = words.entry(word.to_ascii_lowercase()).or_default();
+                if ids.last() != Some(paragraphs) {
+                    ids.push(*paragraphs);
+                }
+            }
+        }
+    }
+}
+
+/// All lists of an index, in each version: bytes, and times for each value.
+fn index(asked: &Asked, calls: &'static Calls, lists: &[Vec<u32>], what: &str) {
+    let row = format!("index, {} lanes, {what}", calls.len / 32);
+    if lists.is_empty() || !asked.wants(&row) {
+        return;
+    }
+    let values = lists.concat();
+    let ends: Vec<u32> = lists.iter().scan(0, |end, list| { *end += list.len() as u32; Some(*end) }).collect();
+    println!("{row}: {} lists, {} values", lists.len(), values.len());
+    let texts: Vec<(Vec<u8>, Vec<u32>)> = (1..=3).map(|version| {
+        let (mut out, mut text_ends) = (vec![0; 5 * values.len() + 16 * lists.len()], vec![0; lists.len()]);
+        let size = calls.encode_lists(&values, &ends, version, &mut out, &mut text_ends);
+        out.truncate(size);
+        println!("    version {version}: {size} bytes, {:.2} bits a value", 8.0 * size as f64 / values.len() as f64);
+        (out, text_ends)
+    }).collect();
+    for (version, (bytes, text_ends)) in (1..).zip(&texts) {
+        assert!(calls.decode_lists(bytes, text_ends, version) == values.len());
+        assert!(version == 1 || calls.open_lists(bytes, text_ends, 0) == values.len());
+    }
+    let encode = |version| black_box(calls.encode_lists(black_box(&values), &ends, version, &mut [], &mut []));
+    let open = |version: usize, last| black_box(calls.open_lists(black_box(&texts[version - 1].0), &texts[version - 1].1, last));
+    let decode = |version: usize| black_box(calls.decode_lists(black_box(&texts[version - 1].0), &texts[version - 1].1, version as u32));
+    compete(asked.rounds, &format!("{row}, encode"), values.len(), 1, &mut [
+        ("version 3", Box::new(|| { encode(3); })), ("version 2", Box::new(|| { encode(2); })), ("version 1", Box::new(|| { encode(1); })),
+    ]);
+    for (name, last) in [("open", 0), ("open and get the last value", 1)] {
+        compete(asked.rounds, &format!("{row}, {name}"), values.len(), 1, &mut [
+            ("version 3", Box::new(|| { open(3, last); })), ("version 2", Box::new(|| { open(2, last); })),
+        ]);
+    }
+    compete(asked.rounds, &format!("{row}, decode"), values.len(), 1, &mut [
+        ("version 3", Box::new(|| { decode(3); })), ("version 2", Box::new(|| { decode(2); })), ("version 1", Box::new(|| { decode(1); })),
+    ]);
+}
+
 fn main() {
     let mut words = std::env::args().skip(1);
     let rounds = words.next().and_then(|word| word.parse().ok()).unwrap_or(21);
     let asked = Asked { rounds, word: words.next().unwrap_or_default() };
+    let (mut found, mut paragraphs) = (std::collections::HashMap::new(), 0);
+    if let Some(folder) = words.next() {
+        words_below(folder.as_ref(), &mut found, &mut paragraphs);
+    }
+    let mut lists: Vec<_> = found.into_iter().collect();
+    lists.sort();
+    let lists: Vec<Vec<u32>> = lists.into_iter().map(|(_, ids)| ids).collect();
+    let short: Vec<Vec<u32>> = lists.iter().filter(|ids| ids.len() < 32).cloned().collect();
     for calls in [&CALLS4, &CALLS8] {
+        index(&asked, calls, &lists, "all lists");
+        index(&asked, calls, &short, "lists of 1 to 31 values");
         for (ratio, cluster) in [(1, false), (10, true), (1_000, false), (100_000, true)] {
             shared(&asked, calls, ratio, cluster);
         }

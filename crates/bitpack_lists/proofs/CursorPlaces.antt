@@ -19,8 +19,7 @@ use Rattle.bitpack_lists.specs.inner.Searching.{EndsBelow, IsFirstFrom, blocks_o
 use Rattle.bitpack_lists.specs.Version2.{block_at, kind_at, last_at}
 use Rattle.bitpack_lists.proofs.BlockLemmas.{kind_at_after}
 use Rattle.bitpack_lists.proofs.CursorSteps.{get_or-first_of, left_end, left_whole, left_within, length-first_of, none_left}
-use Rattle.bitpack_lists.proofs.OpenedLists.{opened_last, opened_sound}
-use Rattle.bitpack_lists.proofs.RestValues.{value_at-block}
+use Rattle.bitpack_lists.proofs.OpenedLists.{opened_at, opened_last, opened_ordered}
 use Rattle.bitpack_lists.proofs.SearchLemmas.{before_block, in_order}
 
 module _ {P : Type 0} {members : Ghosts P} (list : PackedList P members) (some : 1 ≤ members.lanes) where
@@ -38,7 +37,7 @@ module _ {P : Type 0} {members : Ghosts P} (list : PackedList P members) (some :
     len_is = whole ∙ sym (left_whole n list.count (omega arith) number lt);
     values_are = λ k inside.
         sym (get_or-take len at_hand k 0 inside) ∙ ap (λ zs. get_or zs k 0) is
-        ∙ sym (value_at-block members.lanes blocks list.kind (rest_of list) some number k lt (omega (arith, inside, whole)));
+        ∙ sym (opened_at list some number k lt (omega (arith, inside, whole)));
   }
 
   -- The values of a list that is not plain are in order.
@@ -48,7 +47,7 @@ module _ {P : Type 0} {members : Ghosts P} (list : PackedList P members) (some :
       let from = get_or-first_of (value_of list) list.count i (omega arith) in
       let to = get_or-first_of (value_of list) list.count j within in
       let order = in_order list.kind (value_of list) list.count ordered
-      (opened_sound members.lanes list.count list.kind list.bytes.now some list.begins list.sound).ordered i j le within in
+      (opened_ordered list some) i j le within in
       omega (arith, from, to, order)
 
   values_order : InOrder (values list) → (i j : ℕ) → i ≤ j → j < list.count → value_of list i ≤ value_of list j
@@ -74,7 +73,7 @@ module _ {P : Type 0} {members : Ghosts P} (list : PackedList P members) (some :
   before_part ordered target number ends le =
       before_block n number target list.count (value_of list) (values_order ordered) (omega arith)
       (omega (arith, left_within n list.count (omega arith) number le))
-      (λ before e. rw (opened_last members.lanes list.count list.kind list.bytes.now some list.begins list.sound before (omega (arith, e, le))) (ends before e))
+      (λ before e. rw (opened_last list some before (omega (arith, e, le))) (ends before e))
 
   -- The values of a part are in order.
   pub part_order : (number len : ℕ) (at_hand : List ℕ) → HasPart list number len at_hand → InOrder (values list)
@@ -166,7 +165,7 @@ module _ {P : Type 0} {members : Ghosts P} (list : PackedList P members) (some :
     kind_next lt =
         let whole = place_whole lt in
         let same : len - 1 ≡ n - 1 = omega (arith, whole) in
-        let last = opened_last members.lanes list.count list.kind list.bytes.now some list.begins list.sound block lt in
+        let last = opened_last list some block lt in
         kind_at_after list.kind (rest_of list) block (get_or at_hand (len - 1) 0)
         (place.part.values_are (len - 1) (omega (arith, whole)) ∙ ap (λ i. value_of list (n * block + i)) same ∙ last)
 
@@ -259,7 +258,7 @@ module _ {P : Type 0} {members : Ghosts P} (list : PackedList P members) (some :
           ] in
           let is = place.part.values_are (len - 1) (omega arith) in
           let at : len - 1 ≡ n - 1 = omega (arith, whole) in
-          let last = opened_last members.lanes list.count list.kind list.bytes.now some list.begins list.sound block lt in
+          let last = opened_last list some block lt in
           let least = below inside in
           rw same (omega (arith, least, is, last, ap (λ i. value_of list (n * block + i)) at))
 
@@ -293,7 +292,7 @@ module _ {P : Type 0} {members : Ghosts P} (list : PackedList P members) (some :
               let is = part.values_are (len' - 1) (omega arith) in
               let least = before (len' - 1) (omega arith) in
               let same : len' - 1 ≡ n - 1 = omega (arith, whole) in
-              let last = opened_last members.lanes list.count list.kind list.bytes.now some list.begins list.sound number lt in
+              let last = opened_last list some number lt in
               absurd (omega (arith, least, is, last, enough lt, ap (λ i. value_of list (n * number + i)) same))
         ]
 

@@ -1,14 +1,11 @@
 -- Lists that increase: the values that they contain determine them, and there are no more than in any list that contains these.
-use Rattle.std.proofs.Common.{◌≡◌, ℕ, zero, suc, ◌<◌, ◌≤◌, ◌⊎◌, Bool, true, false, List, [], ◌∷◌, length, get_or, refl, sym, inl, inr, arith, Contains}
+use Rattle.std.proofs.Common.{◌≡◌, ℕ, zero, suc, ◌<◌, ◌≤◌, ◌⊎◌, List, [], ◌∷◌, length, get_or, refl, sym, inl, inr, arith, Contains}
 use Rattle.std.specs.List.{AllPairs, remove}
 use Rattle.std.proofs.lemmas.List.Edits.{length-remove}
 use Rattle.std.proofs.lemmas.List.Kept.{AllPairs-from_increasing}
 use Rattle.std.proofs.lemmas.List.Sorted.{Contains-permutation, IsPermutation-remove}
-use Rattle.bitpack_lists.specs.Increasing.{has}
-use Rattle.bitpack_lists.specs.IncreasingLaws.{IsIncreasing-from}
 use Rattle.bitpack_lists.specs.Laws.{CommonIsShort, OneCommon}
-use Rattle.bitpack_lists.proofs.Membership.{same_numbers}
-use Rattle.bitpack_lists.proofs.MembersOfSorted.{has_contains}
+use Rattle.bitpack_lists.proofs.MembersOfSorted.{same_members}
 
 abbrev Increases : List ℕ → Type 0
 Increases = AllPairs (λ x y. x < y)
@@ -46,19 +43,7 @@ others_within x xs ys up within value found = elim (Contains-either x ys value (
   | inr later ↦ later
 ]
 
--- ---- what they contain determines them
-
-same_tests : (a b : Bool) → (a ≡ true → b ≡ true) → (b ≡ true → a ≡ true) → a ≡ b
-same_tests true b to back = sym (to refl)
-same_tests false true to back = back refl
-same_tests false false to back = refl
-
-same_has : (xs ys : List ℕ) → IsWithin xs ys → IsWithin ys xs → (value : ℕ) → has xs value ≡ has ys value
-same_has xs ys to back value =
-    same_tests (has xs value) (has ys value) (λ e. (has_contains ys value).1 (to value ((has_contains xs value).0 e)))
-    (λ e. (has_contains xs value).1 (back value ((has_contains ys value).0 e)))
-
--- ---- and how many they are
+-- ---- how many they are
 
 few_within : (xs ys : List ℕ) → Increases xs → IsWithin xs ys → length xs ≤ length ys
 few_within [] ys up within = omega arith
@@ -73,9 +58,10 @@ few_within (x ∷ xs) ys up within =
 
 pub one_common : OneCommon
 one_common one other shared shared' common common' =
-    same_numbers shared' shared (IsIncreasing-from shared' common'.increasing) (IsIncreasing-from shared common.increasing)
-    (same_has shared' shared (λ value found. (common.members value).1 ((common'.members value).0 found))
-    (λ value found. (common'.members value).1 ((common.members value).0 found)))
+    same_members shared' shared common'.increasing common.increasing (λ value. (
+      λ found. (common.members value).1 ((common'.members value).0 found),
+      λ found. (common'.members value).1 ((common.members value).0 found),
+    ))
 
 pub common_is_short : CommonIsShort
 common_is_short one other shared common = (

@@ -7,13 +7,14 @@ pub use Rattle.bitpack_lists.proofs.CursorPlaces.{position_within}
 pub use Rattle.bitpack_lists.proofs.Distinct.{common_is_short, one_common}
 pub use Rattle.bitpack_lists.proofs.HeaderLemmas.{header_bytes}
 pub use Rattle.bitpack_lists.proofs.ListLemmas.{text_of}
-pub use Rattle.bitpack_lists.proofs.MembersOfSorted.{contains-distinct, contains-shared, contains-united, contains-without, has_contains, strictly_from_increasing}
+pub use Rattle.bitpack_lists.proofs.MembersOfSorted.{contains-distinct, contains-shared, contains-shared_by_all, contains-united, contains-united_all, contains-without, distinct-increasing, has_contains, same_members, strictly_from_increasing}
 pub use Rattle.bitpack_lists.proofs.Soundness1.{one_list1, one_text1, text_from_none}
 pub use Rattle.bitpack_lists.proofs.OneText2.{no_fault2, one_list2, one_text2}
 pub use Rattle.bitpack_lists.proofs.OpenedValues.{kind_is, opened_list2, values_are}
 pub use Rattle.bitpack_lists.proofs.OrderLaws.{first_is_found, neither_falls, sorted_is_order, strict_is_order}
 pub use Rattle.bitpack_lists.proofs.PartLemmas.{AreBytes-nil}
 pub use Rattle.bitpack_lists.proofs.Existence2.{text_of2}
+pub use Rattle.bitpack_lists.proofs.Versions.{either_right2}
 
 -- the bytes of the blocks before block i, and those of block i
 pub sizes_more : (lanes i : ℕ) (widths : List ℕ) → i < length widths

@@ -49,11 +49,14 @@ mod Soundness1
 mod Soundness2
 mod Soundness3
 mod TailLaws
+mod TailOrder
 mod TailSteps
 mod TailTexts
-mod TextValues
+mod TextSizes
 mod Upgraded
 mod UpgradeSteps
+mod UpgradeSteps3
+mod ValueFaults
 mod Versions
 mod walking
 mod WholeBlocks

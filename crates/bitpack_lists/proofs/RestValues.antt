@@ -92,9 +92,9 @@ module _ (lanes blocks : ℕ) (kind : ListKind) (rest : List ℕ) (some : 1 ≤ 
   value_at-tail = value_with-tail lanes blocks kind rest (word (drop (tail_start lanes blocks rest) rest)) some
 
 -- The last value of a block, as the block's kind goes on from it.
-pub value_at-last : (lanes blocks : ℕ) (kind : ListKind) (rest : List ℕ) (block last : ℕ) → 1 ≤ lanes → block < blocks
-    → get_or (block_at lanes blocks kind rest block) (32 * lanes - 1) 0 ≡ last → value_at lanes blocks kind rest (32 * lanes * (block + 1) - 1) ≡ last
-value_at-last lanes blocks kind rest block last some lt is =
+pub value_with-last : (lanes blocks : ℕ) (kind : ListKind) (rest : List ℕ) (tail : ℕ → ℕ) (block last : ℕ) → 1 ≤ lanes → block < blocks
+    → get_or (block_at lanes blocks kind rest block) (32 * lanes - 1) 0 ≡ last → value_with lanes blocks kind rest tail (32 * lanes * (block + 1) - 1) ≡ last
+value_with-last lanes blocks kind rest tail block last some lt is =
     let n : ℕ = 32 * lanes in
     let here : n * (block + 1) - 1 ≡ n * block + (n - 1) = omega arith in
-    ap (value_at lanes blocks kind rest) here ∙ value_at-block lanes blocks kind rest some block (n - 1) lt (omega arith) ∙ is
+    ap (value_with lanes blocks kind rest tail) here ∙ value_with-block lanes blocks kind rest tail some block (n - 1) lt (omega arith) ∙ is

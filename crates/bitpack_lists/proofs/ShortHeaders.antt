@@ -1,8 +1,8 @@
 -- Version 3: bytes without a fault in their header begin with the header of a kind and a count, and a header is read as them.
-use Rattle.std.proofs.Common.{◌≡◌, ℕ, zero, suc, min, ◌+◌, ◌*◌, ◌/◌, ◌%◌, ◌^◌, ◌<◌, ◌≤◌, Bool, true, false, cond, List, [], ◌∷◌, ◌++◌, length, drop, get_or, None, refl, sym, ◌∙◌, ap, arith, inl, inr, one-add}
+use Rattle.std.proofs.Common.{◌≡◌, ℕ, zero, suc, min, ◌+◌, ◌-◌, ◌*◌, ◌/◌, ◌%◌, ◌^◌, ◌<◌, ◌≤◌, Bool, true, false, cond, List, [], ◌∷◌, ◌++◌, length, take, drop, get_or, None, refl, sym, ◌∙◌, ap, arith, inl, inr, one-add}
 use Rattle.std.specs.Prelude.{◌==◌}
 use Rattle.std.proofs.lemmas.Bool.{cases_eq, cases_lt, le-ltb, lt-ltb, ltb-false, eq-eqb, eqb-true, eqb-false, ne_eqb, not-false}
-use Rattle.std.proofs.lemmas.List.{drop_at, take-append-drop}
+use Rattle.std.proofs.lemmas.List.{drop_at, length-drop, take-append-drop, take_all}
 use Rattle.bitpacking.specs.Bits.{AreBytes}
 use Rattle.bitpack_lists.specs.declared.list_kind.ListKind.{ListKind}
 use Rattle.bitpack_lists.specs.Numbers.{number, number_end, number_fault, number_value}
@@ -174,3 +174,7 @@ header_from_none3 lanes (byte ∷ later) small none =
             rw plain (ap (λ b. b ∷ later) head ∙ sym (small_header lanes count (kind3 (byte ∷ later)) later lt)),
           )
     ]
+
+-- What is after the header, as code lends it.
+pub rest_lent : (bytes : List ℕ) (end : ℕ) → end ≡ header_end bytes → take (length bytes - end) (drop end bytes) ≡ drop (header_end bytes) bytes
+rest_lent bytes end is = take_all (length bytes - end) (drop end bytes) (omega (arith, length-drop end bytes)) ∙ ap (λ i. drop i bytes) is

@@ -10,10 +10,10 @@ use Rattle.bitpacking.proofs.ForCallers.{words_read_back}
 use Rattle.bitpack_lists.specs.declared.list_error.ListError.{ListError}
 use Rattle.bitpack_lists.specs.declared.list_kind.ListKind.{ListKind}
 use Rattle.bitpack_lists.specs.declared.list_kind.ListKind.TheVariants as lists
-use Rattle.bitpack_lists.specs.Parts.{BeginsWithHeader, header_fault, kind_byte, kind_of_byte, tail_values, whole_blocks}
+use Rattle.bitpack_lists.specs.Parts.{BeginsWithHeader, count_of, header_fault, kind_byte, kind_of_byte, tail_values, whole_blocks}
 use Rattle.bitpack_lists.specs.Version2.{IsRest2, List2, blocks_fault, body_fault2, entry_fault2, fault2, first_fault, first_out, is_out, least_below, order_fault, rest_fault2, tail_start, value_at}
 use Rattle.bitpack_lists.proofs.FaultLemmas.{none_first}
-use Rattle.bitpack_lists.proofs.HeaderLemmas.{header_bytes, header_fault-none, passed}
+use Rattle.bitpack_lists.proofs.HeaderLemmas.{header_bytes, header_fault-none, header_from_fault, passed}
 use Rattle.bitpack_lists.proofs.PartLemmas.{AreBytes-drop, word-drop, word-lt, words_of}
 use Rattle.bitpack_lists.proofs.RestLemmas.{length-tail}
 use Rattle.bitpack_lists.proofs.WholeBlocks.{AreSound, AreWords-values_with, blocks_held, blocks_sound, length-values_with, order_from_none, ordered_is, ordered_with, sound_blocks, sound_from_blocks, tail_held, value_held, values_with}
@@ -48,7 +48,7 @@ pub record IsSound (lanes : ℕ) (kind : ListKind) (count : ℕ) (rest : List �
   pub ordered : least_below (is_out kind (value_at lanes (whole_blocks lanes count) kind rest)) count ≡ None
   pub long : length rest ≡ tail_start lanes (whole_blocks lanes count) rest + 4 * tail_values lanes count
 
-whole_of : (lanes count : ℕ) (kind : ListKind) (rest : List ℕ) → IsSound lanes kind count rest → AreSound lanes (whole_blocks lanes count) kind rest
+pub whole_of : (lanes count : ℕ) (kind : ListKind) (rest : List ℕ) → IsSound lanes kind count rest → AreSound lanes (whole_blocks lanes count) kind rest
 whole_of lanes count kind rest sound = record { entries = sound.entries; bodies = sound.bodies; room = omega (arith, sound.long) }
 
 pub sound_from_none : (lanes count : ℕ) (kind : ListKind) (rest : List ℕ) → rest_fault2 lanes kind count rest ≡ None → IsSound lanes kind count rest
@@ -72,6 +72,13 @@ none_from_sound lanes count kind rest sound =
       sound.ordered,
       le-ltb (tail_start lanes blocks rest + tail) (length rest) (omega (arith, sound.long)),
     ) refl
+
+pub sound_from_none2 : (lanes : ℕ) (bytes : List ℕ) → AreBytes bytes → fault2 lanes bytes ≡ None
+    → (count_of bytes ≤ 2 ^ 28) × IsSound lanes (kind_of_byte (get_or bytes 1 0)) (count_of bytes) (drop 7 bytes)
+unfolding fault2
+sound_from_none2 lanes bytes small none =
+    let (right, later) = none_first (header_fault 2 lanes bytes) _ none in
+    ((header_from_fault 2 lanes bytes small right).1.few, sound_from_none lanes (count_of bytes) (kind_of_byte (get_or bytes 1 0)) (drop 7 bytes) later)
 
 -- ---- from sound bytes to their values
 

@@ -92,6 +92,29 @@ module _ (lanes count : ℕ) (kind : ListKind) (rest : List ℕ) (some : 1 ≤ l
     },
   )
 
+-- A fault of the header would be one of the text.
+pub header_right3 : (lanes : ℕ) (bytes : List ℕ) → fault3 lanes bytes ≡ None → header_fault3 lanes bytes ≡ None
+unfolding fault3
+header_right3 lanes bytes none = (none_first (header_fault3 lanes bytes) _ none).0
+
+pub sound_from_none3 : (lanes : ℕ) (bytes : List ℕ) → 1 ≤ lanes → AreBytes bytes → fault3 lanes bytes ≡ None
+    → (count3 bytes ≤ 2 ^ 28) × AreSound lanes (whole_blocks lanes (count3 bytes)) (kind3 bytes) (drop (header_end bytes) bytes)
+    × (least_below (is_out (kind3 bytes) (value_at3 lanes (whole_blocks lanes (count3 bytes)) (tail_values lanes (count3 bytes)) (kind3 bytes) (drop (header_end bytes) bytes))) (count3 bytes) ≡ None)
+    × (tail_fault3 (whole_blocks lanes (count3 bytes)) (tail_values lanes (count3 bytes))
+    (drop (tail_start lanes (whole_blocks lanes (count3 bytes)) (drop (header_end bytes) bytes)) (drop (header_end bytes) bytes)) ≡ None)
+unfolding fault3
+sound_from_none3 lanes bytes some small none =
+    let rest : List ℕ = drop (header_end bytes) bytes in
+    let both = none_first (header_fault3 lanes bytes) _ none in
+    let (known, few, front) = header_from_none3 lanes bytes small both.0 in
+    let small' : AreBytes rest = AreBytes-drop (header_end bytes) bytes small in
+    let in_parts = parts lanes (count3 bytes) (kind3 bytes) rest some small' both.1 in (
+      few,
+      sound lanes (count3 bytes) (kind3 bytes) rest some small' both.1,
+      order_from_none (kind3 bytes) (value_at3 lanes (whole_blocks lanes (count3 bytes)) (tail_values lanes (count3 bytes)) (kind3 bytes) rest) (count3 bytes) in_parts.2,
+      in_parts.1,
+    )
+
 pub list_from_none3 : (lanes : ℕ) (bytes : List ℕ) → 1 ≤ lanes → AreBytes bytes → fault3 lanes bytes ≡ None
     → (kind : ListKind) × (values : List ℕ) × List3 lanes kind values bytes
 unfolding fault3
@@ -184,6 +207,17 @@ none_from_list3 lanes kind values bytes some known small list =
     rw (list.parts, found.no_fault known, found.kind_is, found.count_is, found.rest_is)
     (none_from_rest3 lanes kind values list.rest some small' list.words list.is_rest list.ordered)
 
+-- What a text gives is the kind and the values of its list.
+pub list_given3 : (lanes : ℕ) (kind : ListKind) (values bytes : List ℕ) → 1 ≤ lanes → AreBytes bytes → List3 lanes kind values bytes
+    → (kind3 bytes ≡ kind) × (count3 bytes ≡ length values)
+    × ((p : ℕ) → p < count3 bytes → value_at3 lanes (whole_blocks lanes (count3 bytes)) (tail_values lanes (count3 bytes)) (kind3 bytes) (drop (header_end bytes) bytes) p
+    ≡ get_or values p 0)
+list_given3 lanes kind values bytes some small list =
+    let found = read_header3 lanes (length values) kind list.rest list.few in
+    let small' : AreBytes list.rest = AreBytes-right (header3 kind lanes (length values)) list.rest (rw list.parts at small) in
+    let given = value_given3 lanes kind values list.rest some small' list.words list.is_rest in
+    rw (list.parts, found.kind_is, found.count_is, found.rest_is) (refl, refl, λ p lt. sym (given p lt))
+
 -- ---- the laws
 
 pub no_fault3 : NoFault3
@@ -218,7 +252,8 @@ one_text3 lanes kind values text other some small small' one two =
     let a = one.is_rest.whole in
     let b = two.is_rest.whole in
     let left : List ℕ = drop (32 * lanes * blocks_here) values in
-    let kinds : kind_at kind one.rest blocks_here ≡ kind_at kind two.rest blocks_here = same_kind_after lanes blocks_here kind values one.rest two.rest some are are' a b blocks_here (omega arith) in
+    let kinds : kind_at kind one.rest blocks_here ≡ kind_at kind two.rest blocks_here =
+    same_kind_after lanes blocks_here kind values one.rest two.rest a.entries b.entries blocks_here (omega arith) in
     let tail = tail_same blocks_here (codes (kind_at kind one.rest blocks_here) left) _ _
     (codes_are_words (kind_at kind one.rest blocks_here) left (All-drop (λ v. v < 2 ^ 32) (32 * lanes * blocks_here) values one.words)) one.is_rest.tail (rw kinds two.is_rest.tail) in
     let later : two.rest ≡ one.rest = same_whole lanes blocks_here kind values one.rest two.rest some are are' a b tail in

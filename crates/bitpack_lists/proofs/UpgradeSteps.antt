@@ -1,5 +1,5 @@
 -- The loops that upgrade a text of version 1: the values that are left are those of the bytes that are left.
-use Rattle.std.proofs.Common.{◌≡◌, ℕ, zero, suc, ◌+◌, ◌-◌, ◌*◌, ◌/◌, ◌%◌, ◌^◌, ◌<◌, ◌≤◌, List, [], ◌∷◌, ◌++◌, length, take, drop, get_or, Option, Some, None, refl, sym, ◌∙◌, ap, arith, append_assoc}
+use Rattle.std.proofs.Common.{◌≡◌, ℕ, zero, suc, ◌+◌, ◌-◌, ◌*◌, ◌/◌, ◌%◌, ◌^◌, ◌<◌, ◌≤◌, List, [], ◌∷◌, ◌++◌, length, take, drop, get_or, true, Option, Some, None, Result, Ok, Err, is_ok, MatchOption, refl, sym, ◌∙◌, ap, arith, append_assoc}
 use Rattle.std.proofs.Math.Nat.{div-add-mod, sub-zero}
 use Rattle.std.proofs.lemmas.List.{append-nil, take_at, drop_at, get_or-drop, get_or-take, length-drop}
 use Rattle.std.proofs.lemmas.List.Elements.{All-take, All-drop}
@@ -13,14 +13,13 @@ use Rattle.bitpack_lists.specs.declared.list_kind.ListKind.{ListKind}
 use Rattle.bitpack_lists.specs.Chains.{next_kind, second_kind}
 use Rattle.bitpack_lists.specs.Version1.{Blocks1, IsPart1, after_block1, block_fault1, blocks_fault1}
 use Rattle.bitpack_lists.specs.Parts.{first_kind, whole_blocks}
-use Rattle.bitpack_lists.specs.Version2.{IsRest2, block_of, first_out, is_out, kind_at, last_at, least_below, width_at}
-use Rattle.bitpack_lists.specs.inner.Opening.{HasBodies, IsOrdered}
+use Rattle.bitpack_lists.specs.Version2.{block_of, first_out, is_out, kind_at, last_at, least_below, width_at}
+use Rattle.bitpack_lists.specs.inner.Opening.{AreEntries, HasBodies, IsOrdered}
 use Rattle.bitpack_lists.specs.inner.Upgrading.{IsRest1}
 use Rattle.bitpack_lists.proofs.BlockLemmas.{block_end, get_or-block_of, kind_at-next, length-block_of, values_after}
 use Rattle.bitpack_lists.proofs.EntryLemmas.{Entered, bodies_step, entered_step, kind_at-append, last_at-append}
 use Rattle.bitpack_lists.proofs.FaultLemmas.{IsRight, none_first, right_from_none, tail_from_none}
 use Rattle.bitpack_lists.proofs.Orders.{least_below-further, ordered_first}
-use Rattle.bitpack_lists.proofs.RestLemmas.{rest_done}
 use Rattle.bitpack_lists.proofs.OneText1.{same_front}
 use Rattle.bitpack_lists.proofs.WriteSteps.{one-less}
 
@@ -80,16 +79,17 @@ module _ (lanes blocks i : ℕ) (kind : Kind) (values rest : List ℕ) (some : 1
 
 -- ---- the order of the values
 
--- The values so far are in order.
+-- The values so far are in order, and the kind of what follows is that by any entries of them.
 abbrev pub InOrder : ℕ → ℕ → ℕ → ListKind → List ℕ → Kind → ℕ → List ℕ → Type 0
 InOrder lanes blocks i kind values block_kind last rest =
     IsOrdered kind (λ k. get_or values k 0) (32 * lanes * i) last × Blocks1 lanes (blocks - i) block_kind (drop (32 * lanes * i) values) rest
+    × ((entries : List ℕ) → AreEntries lanes blocks kind values entries → block_kind ≡ kind_at kind entries i)
 
 pub in_order_first : (lanes count last : ℕ) (kind : ListKind) (values rest : List ℕ) → IsRest1 lanes kind count values rest
     → InOrder lanes (whole_blocks lanes count) 0 kind values (first_kind kind) last rest
 in_order_first lanes count last kind values rest is =
     let none : 32 * lanes * 0 ≡ 0 = omega arith in
-    (rw none (ordered_first kind (λ k. get_or values k 0) last), rw (none, sub-zero) is.blocks)
+    (rw none (ordered_first kind (λ k. get_or values k 0) last), rw (none, sub-zero) is.blocks, λ entries are. refl)
 
 -- The next block, and the first position out of order up to its end.
 module _ (lanes len count i last : ℕ) (kind : ListKind) (block_kind : Kind) (values rest block part after : List ℕ) (found : Option ℕ) (some : 1 ≤ lanes)
@@ -133,6 +133,9 @@ module _ (lanes len count i last : ℕ) (kind : ListKind) (block_kind : Kind) (v
           rw (here, whole, same) (sym (get_or-block_of lanes i (32 * lanes - 1) values (omega arith)));
     },
     (left_step lanes (whole_blocks lanes count) i block_kind values rest some lt before.1 block part after words words' is parts).2,
+    λ entries are.
+        kind_at-next kind entries i block_kind (get_or block (32 * lanes - 1) 0) (before.2 entries are)
+        (ap (λ xs. get_or xs (32 * lanes - 1) 0) same ∙ sym (are i lt).last),
   )
 
 -- After the last block the tail is tested.
@@ -141,7 +144,7 @@ pub in_order_done : (lanes len count i last : ℕ) (kind : ListKind) (block_kind
     → ((all : ℕ → ℕ) → IsOrdered kind all (len * (count / len)) last → ((k : ℕ) → k < count % len → all (len * (count / len) + k) ≡ word rest k)
     → found ≡ least_below (is_out kind all) (len * (count / len) + count % len))
     → InOrder lanes (whole_blocks lanes count) i kind values block_kind last rest → found ≡ first_out kind values
-in_order_done lanes len count i last kind block_kind values rest found whole low high words long finds (ordered, left) =
+in_order_done lanes len count i last kind block_kind values rest found whole low high words long finds (ordered, left, kinds) =
     let n : ℕ = 32 * lanes in
     let all : ℕ → ℕ = λ k. get_or values k 0 in
     let end : i ≡ count / n = omega (arith, low, high) in
@@ -156,6 +159,13 @@ in_order_done lanes len count i last kind block_kind values rest found whole low
     sym (get_or-drop (n * (count / n)) values k 0)
     ∙ sym (words_read_back tail k words_of_tail (omega (arith, within, length-drop (n * (count / n)) values, over, long))) ∙ ap (λ zs. word zs k) (sym is))
     ∙ ap (least_below (is_out kind all)) (over ∙ sym long)
+
+pub in_order_kind : (lanes count i last : ℕ) (kind : ListKind) (block_kind : Kind) (values rest entries : List ℕ) → whole_blocks lanes count ≤ i
+    → i ≤ whole_blocks lanes count → AreEntries lanes (whole_blocks lanes count) kind values entries
+    → InOrder lanes (whole_blocks lanes count) i kind values block_kind last rest → block_kind ≡ kind_at kind entries (whole_blocks lanes count)
+in_order_kind lanes count i last kind block_kind values rest entries low high are (ordered, left, kinds) =
+    let end : i ≡ whole_blocks lanes count = omega (arith, low, high) in
+    kinds entries are ∙ ap (kind_at kind entries) end
 
 -- ---- the entries
 
@@ -253,16 +263,26 @@ copied_first lanes count kind values entries rest old is has =
     ([], sym (append-nil old), rw (append-nil entries) has, rw (none, sub-zero) is.blocks)
 
 -- After the last block the tail is left.
-pub copied_done : (lanes blocks i : ℕ) (kind : ListKind) (values entries rest old out new : List ℕ) → blocks ≤ i → i ≤ blocks
-    → new ≡ out ++ rest → Copied lanes blocks i kind values entries rest old out
-    → (later : List ℕ) × IsRest2 lanes blocks kind values (entries ++ later) × (new ≡ old ++ later)
-copied_done lanes blocks i kind values entries rest old out new low high items (later, items', has, left) =
+pub copied_done : (lanes blocks i : ℕ) (kind : ListKind) (values entries rest old out : List ℕ) → blocks ≤ i → i ≤ blocks
+    → Copied lanes blocks i kind values entries rest old out
+    → (later : List ℕ) × HasBodies lanes blocks kind values (entries ++ later) blocks × (out ≡ old ++ later)
+    × (rest ≡ bytes_of_words (drop (32 * lanes * blocks) values))
+copied_done lanes blocks i kind values entries rest old out low high (later, items, has, left) =
     let end : i ≡ blocks = omega (arith, low, high) in
     let none : blocks - i ≡ 0 = omega arith in
-    let tail : List ℕ = bytes_of_words (drop (32 * lanes * blocks) values) in
-    let is : rest ≡ tail = rw end at (rw none at left) in
-    let all : (entries ++ later) ++ tail ≡ entries ++ (later ++ tail) = append_assoc entries later tail in (
-      later ++ tail,
-      rw (← all) (rest_done lanes blocks kind values (entries ++ later) (rw end at has)),
-      items ∙ rw (is, items') (append_assoc old later tail),
-    )
+    (later, rw end at has, items, rw end at (rw none at left))
+
+-- ---- what the test of order finds
+
+pub out_from_err : {A : Type 0} (found : Option ℕ) (result : Result A ℕ) (position : ℕ) → MatchOption found (is_ok result ≡ true) (λ p. result ≡ Err p)
+    → result ≡ Err position → found ≡ Some position
+out_from_err None (Ok x) position ordered e = absurd cc
+out_from_err None (Err p) position ordered e = absurd cc
+out_from_err (Some p) result position ordered e =
+    let same : Err p ≡ Err position = sym ordered ∙ e in
+    cc
+
+pub none_from_ok : {A : Type 0} (found : Option ℕ) (result : Result A ℕ) (kind : A) → MatchOption found (is_ok result ≡ true) (λ p. result ≡ Err p)
+    → result ≡ Ok kind → found ≡ None
+none_from_ok None result kind ordered e = refl
+none_from_ok (Some p) result kind ordered e = absurd cc

@@ -44,7 +44,7 @@ module _ (lanes blocks : ℕ) (kind : ListKind) (values other : List ℕ) (some 
       sym (get_or-take n (drop (n * i) values) (n - 1) 0 (omega arith)) ∙ sym (entries i lt).last in
       kind_at-next kind other i (kind_at kind other i) (get_or (drop (n * i) values) (n - 1) 0) refl last
 
-  length_left : (left i : ℕ) (rest : List ℕ) → i + left ≡ blocks → Blocks1 lanes left (kind_at kind other i) (drop (32 * lanes * i) values) rest
+  pub length_left : (left i : ℕ) (rest : List ℕ) → i + left ≡ blocks → Blocks1 lanes left (kind_at kind other i) (drop (32 * lanes * i) values) rest
       → length rest + 4 * lanes * widths_before other i
       ≡ left + 4 * lanes * widths_before other blocks + length (bytes_of_words (drop (32 * lanes * blocks) values))
   length_left zero i rest e is =

@@ -1,10 +1,13 @@
 -- A text of one version is none of another, and the entries and bodies of versions 2 and 3 are the same bytes.
-use Rattle.std.proofs.Common.{◌≡◌, ◌≢◌, ℕ, ◌<◌, ◌≤◌, List, [], ◌∷◌, length, take, drop, get_or, Some, None, refl, ◌∙◌, ap, arith, false, eqb}
-use Rattle.std.proofs.lemmas.Bool.{eqb-true, false_from_ne_true, le-ltb, lt-ltb, ltb-false, not-false}
+use Rattle.std.proofs.Common.{◌≡◌, ◌≢◌, ℕ, ◌<◌, ◌≤◌, List, [], ◌∷◌, length, take, drop, get_or, Some, None, refl, ◌∙◌, ap, arith, false, eqb, inl, inr}
+use Rattle.std.proofs.lemmas.Bool.{cases_lt, eqb-true, false_from_ne_true, le-ltb, lt-ltb, ltb-false, not-false}
 use Rattle.bitpacking.specs.Bits.{AreBytes}
 use Rattle.bitpack_lists.specs.declared.list_error.ListError.TheVariants.{BadVersion}
+use Rattle.bitpack_lists.specs.declared.version.Version.{Version}
+use Rattle.bitpack_lists.specs.declared.version.Version.TheVariants as versions
 use Rattle.bitpack_lists.specs.Laws3.{OneVersion, SameBlocks3}
 use Rattle.bitpack_lists.specs.Parts.{header_fault, whole_blocks}
+use Rattle.bitpack_lists.specs.Texts.{fault_in, fault_of_either, version_in}
 use Rattle.bitpack_lists.specs.Version1.{fault1}
 use Rattle.bitpack_lists.specs.Version2.{fault2}
 use Rattle.bitpack_lists.specs.Version3.{fault3, header3, header_end, header_fault3}
@@ -13,6 +16,8 @@ use Rattle.bitpack_lists.proofs.HeaderLemmas.{passed}
 use Rattle.bitpack_lists.proofs.PartLemmas.{AreBytes-drop, AreBytes-right}
 use Rattle.bitpack_lists.proofs.SameBlocks.{same_front, same_start}
 use Rattle.bitpack_lists.proofs.ShortHeaders.{first_right, read_header3}
+use Rattle.bitpack_lists.proofs.Soundness2.{header_right2}
+use Rattle.bitpack_lists.proofs.Soundness3.{header_right3}
 
 -- ---- the first byte
 
@@ -44,13 +49,24 @@ header_none1 : (lanes : ℕ) (bytes : List ℕ) → fault1 lanes bytes ≡ None 
 unfolding fault1
 header_none1 lanes bytes none = (none_first (header_fault 1 lanes bytes) _ none).0
 
-header_none2 : (lanes : ℕ) (bytes : List ℕ) → fault2 lanes bytes ≡ None → header_fault 2 lanes bytes ≡ None
-unfolding fault2
-header_none2 lanes bytes none = (none_first (header_fault 2 lanes bytes) _ none).0
+-- A text of version 2 or 3 is one of the version that its first byte says.
+pub version_right : (version : Version) (lanes : ℕ) (bytes : List ℕ) → fault_in version lanes bytes ≡ None → version_in bytes ≡ version
+version_right versions.Two lanes bytes none =
+    let first : get_or bytes 0 0 ≡ 2 = (version_is 2 lanes bytes (header_right2 lanes bytes none)).1 in
+    rw (lt-ltb (get_or bytes 0 0) 64 (omega (arith, first))) refl
+version_right versions.Three lanes bytes none = rw (le-ltb (get_or bytes 0 0) 64 (high_version lanes bytes (header_right3 lanes bytes none))) refl
 
-header_none3 : (lanes : ℕ) (bytes : List ℕ) → fault3 lanes bytes ≡ None → header_fault3 lanes bytes ≡ None
-unfolding fault3
-header_none3 lanes bytes none = (none_first (header_fault3 lanes bytes) _ none).0
+pub either_right2 : (lanes : ℕ) (bytes : List ℕ) → fault2 lanes bytes ≡ None → fault_of_either lanes bytes ≡ None
+either_right2 lanes bytes none =
+    let first : get_or bytes 0 0 ≡ 2 = (version_is 2 lanes bytes (header_right2 lanes bytes none)).1 in
+    rw (lt-ltb (get_or bytes 0 0) 64 (omega (arith, first))) none
+
+-- What is no fault of either version is none of that version.
+pub right_in : (lanes : ℕ) (bytes : List ℕ) → fault_of_either lanes bytes ≡ None → fault_in (version_in bytes) lanes bytes ≡ None
+right_in lanes bytes none = elim (cases_lt (get_or bytes 0 0) 64) [
+  | inl low ↦ rw (lt-ltb (get_or bytes 0 0) 64 low) (rw (lt-ltb (get_or bytes 0 0) 64 low) at none)
+  | inr high ↦ rw (le-ltb (get_or bytes 0 0) 64 high) (rw (le-ltb (get_or bytes 0 0) 64 high) at none)
+]
 
 pub one_version : OneVersion
 unfolding fault1 fault2 fault3
@@ -59,12 +75,12 @@ one_version lanes other bytes = (
       let (long, is) = version_is 1 lanes bytes (header_none1 lanes bytes none) in
       (rw (other_version 2 other bytes long (λ e. omega (arith, e, is)), is) refl, rw (low_version other bytes long (omega (arith, is)), is) refl),
   λ none.
-      let (long, is) = version_is 2 lanes bytes (header_none2 lanes bytes none) in
+      let (long, is) = version_is 2 lanes bytes (header_right2 lanes bytes none) in
       (rw (other_version 1 other bytes long (λ e. omega (arith, e, is)), is) refl, rw (low_version other bytes long (omega (arith, is)), is) refl),
   λ none.
-      let high = high_version lanes bytes (header_none3 lanes bytes none) in (
+      let high = high_version lanes bytes (header_right3 lanes bytes none) in (
         λ one. omega (arith, high, (version_is 1 other bytes (header_none1 other bytes one)).1),
-        λ two. omega (arith, high, (version_is 2 other bytes (header_none2 other bytes two)).1),
+        λ two. omega (arith, high, (version_is 2 other bytes (header_right2 other bytes two)).1),
       ),
 )
 
@@ -77,6 +93,6 @@ same_blocks3 lanes kind values text other some small small' two three =
     let given : drop (header_end other) other ≡ three.rest = ap (λ zs. drop (header_end zs) zs) three.parts ∙ found.rest_is in
     let are : AreBytes rest = AreBytes-drop 7 text small in
     let are' : AreBytes three.rest = AreBytes-right front three.rest (rw three.parts at small') in
-    let start = same_start lanes blocks kind values rest three.rest some are are' two.rest.whole three.is_rest.whole in
+    let start = same_start lanes blocks kind values rest three.rest two.rest.whole.entries three.is_rest.whole.entries in
     let same = same_front lanes blocks kind values rest three.rest some are are' two.rest.whole three.is_rest.whole in
     rw given (ap (λ n. take n three.rest) start ∙ same)

@@ -1,9 +1,11 @@
 -- The loops that measure and write a text: what is after the blocks so far, and the widths that are kept.
-use Rattle.std.proofs.Common.{◌≡◌, ℕ, suc, ◌+◌, ◌-◌, ◌*◌, ◌/◌, ◌<◌, ◌≤◌, List, [], ◌∷◌, ◌++◌, length, take, drop, get_or, sym, ◌∙◌, ap, arith, append_assoc, add-one, inl, inr}
+use Rattle.std.proofs.Common.{◌≡◌, ℕ, suc, ◌+◌, ◌-◌, ◌*◌, ◌/◌, ◌%◌, ◌<◌, ◌≤◌, List, [], ◌∷◌, ◌++◌, length, take, drop, get_or, sym, ◌∙◌, ap, arith, append_assoc, add-one, inl, inr}
+use Rattle.std.proofs.Math.Nat.{mod-eq-sub-mul-div, mul-div-le}
 use Rattle.std.proofs.Math.Seq.{drop-cons}
 use Rattle.std.proofs.lemmas.Bool.{cases_lt}
-use Rattle.std.proofs.lemmas.List.{take-append-drop, append-nil, length-append, get_or-take, take_all, drop_all}
+use Rattle.std.proofs.lemmas.List.{append-nil, length-append, length-drop, get_or-take, take_all, take_rest, drop_all}
 use Rattle.std.proofs.lemmas.Nat.{mul-le}
+use borrow.Rule.Slice.PartMut.{put_mid}
 use Rattle.bitpacking.specs.declared.kind.Kind.{Kind}
 use Rattle.bitpacking.specs.Bits.{AreBytes}
 use Rattle.bitpacking.specs.Calls.{CanPack}
@@ -11,9 +13,12 @@ use Rattle.bitpacking.specs.Width.{IsWidth}
 use Rattle.bitpacking.specs.Layout.{size}
 use Rattle.bitpack_lists.specs.Chains.{next_kind, second_kind, LeastWidths}
 use Rattle.bitpacking.specs.Words.{bytes_of_words}
+use Rattle.bitpack_lists.specs.Parts.{whole_blocks}
 use Rattle.bitpack_lists.specs.Version1.{IsPart1, Blocks1}
 use Rattle.bitpacking.proofs.ForCallers.{length-bytes_of_words}
 use Rattle.bitpack_lists.proofs.PartLemmas.{AreBytes-left, AreBytes-right}
+use Rattle.bitpack_lists.proofs.ChainLemmas.{put_end}
+use Rattle.bitpack_lists.proofs.GroupSteps.{length-written}
 use Rattle.bitpack_lists.proofs.OneText1.{length-part, same_part}
 
 -- ---- the values that are left
@@ -136,8 +141,21 @@ packable lanes width kind block buffer least whole narrow few room = record {
 
 -- ---- the parts of a text
 
--- The vector before the tail: what it held, the header, and entries and bodies.
-pub parts_are : (start len : ℕ) (front entered done : List ℕ) → start ≡ len → take len entered ≡ front → take start done ≡ take start entered
-    → done ≡ front ++ drop start done
-parts_are start len front entered done e f g =
-    sym (take-append-drop start done) ∙ ap (λ xs. xs ++ drop start done) (g ∙ ap (λ k. take k entered) e ∙ f)
+-- Where the whole blocks end.
+pub whole_end : (lanes len count : ℕ) → len ≡ 32 * lanes → count - count % len ≡ 32 * lanes * whole_blocks lanes count
+whole_end lanes len count whole =
+    let n : ℕ = 32 * lanes in
+    rw whole (omega (arith, mod-eq-sub-mul-div count n, mul-div-le count n))
+
+-- A slice after its front, and how long that is.
+pub lent_after : (start : ℕ) (xs : List ℕ) → length (take (length xs - start) (drop start xs)) ≡ length xs - start
+lent_after start xs = ap length (take_rest xs start) ∙ length-drop start xs
+
+-- What was written after the front of a slice, and then after the front of that.
+pub parts_are : (start end : ℕ) (xs rest later : List ℕ) → start ≤ length xs → length rest ≡ length xs - start → end ≤ length rest
+    → length later ≡ length rest - end
+    → put_mid start (length xs - start) xs (put_mid end (length rest - end) rest later) ≡ take start xs ++ (take end rest ++ later)
+parts_are start end xs rest later within long within' long' =
+    let same : length (put_mid end (length rest - end) rest later) ≡ length rest =
+    length-written end (length rest - end) rest later within' long' (omega (arith, within')) in
+    put_end start xs (put_mid end (length rest - end) rest later) within (same ∙ long) ∙ ap (λ zs. take start xs ++ zs) (put_end end rest later within' long')

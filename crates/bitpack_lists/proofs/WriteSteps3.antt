@@ -1,6 +1,6 @@
 -- Writing a text of version 3: the codes of its tail, how long it is, and its parts one after the other.
 use Rattle.std.proofs.Common.{◌≡◌, ℕ, zero, suc, ◌+◌, ◌-◌, ◌*◌, ◌%◌, ◌^◌, ◌<◌, ◌≤◌, List, ◌++◌, length, take, drop, get_or, sum, None, refl, sym, ◌∙◌, ap, arith}
-use Rattle.std.proofs.Math.Nat.{mod-eq-sub-mul-div, mul-div-le}
+use Rattle.std.proofs.Math.Nat.{mul-div-le}
 use Rattle.std.proofs.lemmas.List.{get_or-take, length-append, length-drop, length-take-le}
 use Rattle.std.proofs.lemmas.List.Elements.{All-drop}
 use Rattle.bitpacking.specs.declared.kind.Kind.{Kind}
@@ -9,25 +9,14 @@ use Rattle.bitpacking.proofs.ForCallers.{codes_are_words}
 use Rattle.bitpack_lists.specs.declared.list_kind.ListKind.{ListKind}
 use Rattle.bitpack_lists.specs.Chains.{LeastWidths, next_kind}
 use Rattle.bitpack_lists.specs.inner.Opening.{AreEntries, HasBodies}
+use Rattle.bitpack_lists.specs.inner.Sizes.{AreTailCodes}
 use Rattle.bitpack_lists.specs.Parts.{first_kind, whole_blocks}
 use Rattle.bitpack_lists.specs.Version2.{first_out, kind_at, last_at, tail_start}
 use Rattle.bitpack_lists.specs.Version3.{IsTail3, List3, header3}
 use Rattle.bitpack_lists.proofs.BlockLemmas.{get_or-block_of}
-use Rattle.bitpack_lists.proofs.MeasuredLengths.{length-rest2}
+use Rattle.bitpack_lists.proofs.MeasuredLengths.{blocks_long}
 use Rattle.bitpack_lists.proofs.RestLemmas.{after_done, blocks_done}
-
--- Where the whole blocks end.
-pub whole_end : (lanes len count : ℕ) → len ≡ 32 * lanes → count - count % len ≡ 32 * lanes * whole_blocks lanes count
-whole_end lanes len count whole =
-    let n : ℕ = 32 * lanes in
-    rw whole (omega (arith, mod-eq-sub-mul-div count n, mul-div-le count n))
-
--- How long the whole blocks are, as they were measured.
-pub blocks_long : (lanes blocks size_of : ℕ) (kind : ListKind) (values rest : List ℕ) → 1 ≤ lanes
-    → ((all : List ℕ) → length all ≡ blocks → LeastWidths lanes (first_kind kind) values all → size_of ≡ 9 * blocks + 4 * lanes * sum all)
-    → AreEntries lanes blocks kind values rest → size_of ≡ tail_start lanes blocks rest
-blocks_long lanes blocks size_of kind values rest some measured are =
-    omega (arith, length-rest2 lanes blocks (7 + size_of) 0 kind values rest some (λ all long least. omega (arith, measured all long least)) are)
+use Rattle.bitpack_lists.proofs.WriteSteps.{whole_end}
 
 -- The kind of what follows whole blocks, by their last value.
 pub kind_done : (lanes blocks : ℕ) (kind : ListKind) (values front rest : List ℕ) (found : Kind) → 1 ≤ lanes → front ≡ take (32 * lanes * blocks) values
@@ -48,21 +37,11 @@ kind_done lanes (suc block) kind values front rest found some is room are first 
     ∙ sym (are block (omega arith)).last in
     next (omega (arith, long, more, some)) ∙ ap (next_kind (first_kind kind)) last
 
--- The values in front of the tail and those of it, with the codes that were made of them.
-pub record IsSplit (lanes : ℕ) (kind : ListKind) (values found_codes : List ℕ) : Type 0 where
-  pub front : List ℕ
-  pub left : List ℕ
-  pub found : Kind
-  pub front_is : front ≡ take (32 * lanes * whole_blocks lanes (length values)) values
-  pub left_is : left ≡ drop (32 * lanes * whole_blocks lanes (length values)) values
-  pub first : length front ≡ 0 → found ≡ first_kind kind
-  pub next : 0 < length front → found ≡ next_kind (first_kind kind) (get_or front (length front - 1) 0)
-  pub codes_are : found_codes ≡ codes found left
-
+-- The codes of the tail, as they are made of the values.
 pub split_is : (lanes len : ℕ) (kind : ListKind) (values front left found_codes : List ℕ) (found : Kind) → len ≡ 32 * lanes
     → front ≡ take (length values - length values % len) values → left ≡ drop (length values - length values % len) values
     → (length front ≡ 0 → found ≡ first_kind kind) → (0 < length front → found ≡ next_kind (first_kind kind) (get_or front (length front - 1) 0))
-    → found_codes ≡ codes found left → IsSplit lanes kind values found_codes
+    → found_codes ≡ codes found left → AreTailCodes lanes kind values found_codes
 split_is lanes len kind values front left found_codes found whole front_is left_is first next codes_are =
     let end = whole_end lanes len (length values) whole in
     record {
@@ -76,7 +55,7 @@ split_is lanes len kind values front left found_codes found whole front_is left_
       codes_are = codes_are;
     }
 
-module _ (lanes : ℕ) (kind : ListKind) (values found_codes : List ℕ) (some : 1 ≤ lanes) (split : IsSplit lanes kind values found_codes) where
+module _ (lanes : ℕ) (kind : ListKind) (values found_codes : List ℕ) (some : 1 ≤ lanes) (split : AreTailCodes lanes kind values found_codes) where
   abbrev blocks : ℕ
   blocks = whole_blocks lanes (length values)
 
@@ -94,16 +73,25 @@ module _ (lanes : ℕ) (kind : ListKind) (values found_codes : List ℕ) (some :
       let left_words : AreWords split.left = rw split.left_is (All-drop (λ v. v < 2 ^ 32) (32 * lanes * blocks) values words) in
       rw split.codes_are (codes_are_words split.found split.left left_words)
 
+-- The codes of the tail, by any entries of the values.
+abbrev pub AreCodesOfTail : ℕ → ListKind → List ℕ → List ℕ → Type 0
+AreCodesOfTail lanes kind values found_codes =
+    (rest : List ℕ) → AreEntries lanes (whole_blocks lanes (length values)) kind values rest
+    → found_codes ≡ codes (kind_at kind rest (whole_blocks lanes (length values))) (drop (32 * lanes * whole_blocks lanes (length values)) values)
+
+module _ (lanes : ℕ) (kind : ListKind) (values found_codes : List ℕ) (codes_are : AreCodesOfTail lanes kind values found_codes) where
+  abbrev blocks_of : ℕ
+  blocks_of = whole_blocks lanes (length values)
+
   -- How long any text of the values is, as its parts were measured.
   pub length-text3 : (head whole tail : ℕ) (text : List ℕ) → List3 lanes kind values text → length (header3 kind lanes (length values)) ≡ head
-      → ((all : List ℕ) → length all ≡ blocks → LeastWidths lanes (first_kind kind) values all → whole ≡ 9 * blocks + 4 * lanes * sum all)
-      → ((bytes : List ℕ) → IsTail3 blocks found_codes bytes → length bytes ≡ tail) → length text ≡ head + whole + tail
-  length-text3 head whole tail text list header_long measured tail_long =
+      → ((rest : List ℕ) → AreEntries lanes blocks_of kind values rest → whole ≡ tail_start lanes blocks_of rest)
+      → ((bytes : List ℕ) → IsTail3 blocks_of found_codes bytes → length bytes ≡ tail) → length text ≡ head + whole + tail
+  length-text3 head whole tail text list header_long whole_is tail_long =
       let rest : List ℕ = list.rest in
-      let start : ℕ = tail_start lanes blocks rest in
-      let end : whole ≡ start = blocks_long lanes blocks whole kind values rest some measured list.is_rest.whole.entries in
-      let codes_are = tail_codes rest list.is_rest.whole.entries in
-      let later : length (drop start rest) ≡ tail = tail_long (drop start rest) (rw codes_are list.is_rest.tail) in
+      let start : ℕ = tail_start lanes blocks_of rest in
+      let end : whole ≡ start = whole_is rest list.is_rest.whole.entries in
+      let later : length (drop start rest) ≡ tail = tail_long (drop start rest) (rw (codes_are rest list.is_rest.whole.entries) list.is_rest.tail) in
       omega (
         arith,
         ap length list.parts,
@@ -116,10 +104,10 @@ module _ (lanes : ℕ) (kind : ListKind) (values found_codes : List ℕ) (some :
       )
 
   -- The header, the entries with the bodies, and the tail are a text.
-  pub text_done : (rest tail : List ℕ) → AreWords values → length values ≤ 2 ^ 28 → first_out kind values ≡ None → HasBodies lanes blocks kind values rest blocks
-      → IsTail3 blocks found_codes tail → List3 lanes kind values (header3 kind lanes (length values) ++ (rest ++ tail))
+  pub text_done : (rest tail : List ℕ) → AreWords values → length values ≤ 2 ^ 28 → first_out kind values ≡ None → HasBodies lanes blocks_of kind values rest blocks_of
+      → IsTail3 blocks_of found_codes tail → List3 lanes kind values (header3 kind lanes (length values) ++ (rest ++ tail))
   text_done rest tail words few ordered has is =
-      let whole = blocks_done lanes blocks kind values rest tail has in
+      let whole = blocks_done lanes blocks_of kind values rest tail has in
       record {
         words = words;
         few = few;
@@ -128,6 +116,6 @@ module _ (lanes : ℕ) (kind : ListKind) (values found_codes : List ℕ) (some :
         parts = refl;
         is_rest = record {
           whole = whole;
-          tail = rw (← tail_codes (rest ++ tail) whole.entries, after_done lanes blocks kind values rest tail has) is;
+          tail = rw (← codes_are (rest ++ tail) whole.entries, after_done lanes blocks_of kind values rest tail has) is;
         };
       }

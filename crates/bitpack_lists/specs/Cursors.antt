@@ -1,5 +1,5 @@
 -- What a cursor shows: its position, the values of its list, and the blocks that it unpacked; and what a move leaves.
-use Rattle.std.specs.Prelude.{◌≡◌, ℕ, ◌+◌, ◌-◌, ◌*◌, ◌≤◌, List}
+use Rattle.std.specs.Prelude.{◌≡◌, ℕ, ◌+◌, ◌-◌, ◌*◌, ◌≤◌, List, drop}
 use Rattle.bitpacking.specs.declared.bit_packer.BitPacker.{Ghosts}
 use Rattle.bitpack_lists.specs.declared.list2.packed_list.cursor.Cursor.{Cursor}
 use Rattle.bitpack_lists.specs.Opened.{values}
@@ -20,6 +20,10 @@ module _ {P : Type 0} {members : Ghosts P} (cursor : Cursor P members) where
   -- the values of its list
   abbrev pub values_of_cursor : List ℕ
   values_of_cursor = values cursor.list
+
+  -- those from its position on
+  abbrev pub values_left : List ℕ
+  values_left = drop position values_of_cursor
 
   -- how many entries it read over its whole life
   abbrev pub entries_read : ℕ

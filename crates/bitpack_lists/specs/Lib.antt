@@ -15,12 +15,14 @@ pub mod Many
 pub mod ManyLaws
 pub mod Numbers
 pub mod OfKind
+pub mod Older
 pub mod Opened
 pub mod Owned
 pub mod Parts
 pub mod Places
 pub mod Remaining
 pub mod Search
+pub mod Texts
 pub mod Version1
 pub mod Version2
 pub mod Version3

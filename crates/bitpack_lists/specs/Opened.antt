@@ -4,11 +4,16 @@ use Rattle.std.specs.List.{range_with_len}
 use Rattle.bitpacking.specs.declared.bit_packer.BitPacker.{Ghosts}
 use Rattle.bitpack_lists.specs.declared.list2.packed_list.PackedList.{PackedList}
 use Rattle.bitpack_lists.specs.declared.list_kind.ListKind.{ListKind}
+use Rattle.bitpack_lists.specs.declared.version.Version.{Version}
 use Rattle.bitpack_lists.specs.inner.Searching.{value_of}
 
 -- the bytes that were opened
 abbrev pub text : {P : Type 0} {members : Ghosts P} → PackedList P members → List ℕ
 text list = list.bytes.now
+
+-- the version of its text
+abbrev pub version_of : {P : Type 0} {members : Ghosts P} → PackedList P members → Version
+version_of list = list.version
 
 -- its kind
 abbrev pub kind_of : {P : Type 0} {members : Ghosts P} → PackedList P members → ListKind

@@ -1,27 +1,28 @@
--- What an owned text of version 2 shows: its bytes, and the kind and the values of its list.
-use Rattle.std.specs.Prelude.{ℕ, List, drop, slice_index}
+-- What an owned text shows: its version, its bytes, and the kind and the values of its list.
+use Rattle.std.specs.Prelude.{ℕ, List, drop}
 use Rattle.bitpacking.specs.declared.bit_packer.BitPacker.{Ghosts}
 use Rattle.bitpack_lists.specs.declared.list_kind.ListKind.{ListKind}
 use Rattle.bitpack_lists.specs.declared.list2.list_buf.ListBuf.{ListBuf}
+use Rattle.bitpack_lists.specs.declared.version.Version.{Version}
 use Rattle.bitpack_lists.specs.Opened.{first_of}
-use Rattle.bitpack_lists.specs.Parts.{count_of, kind_of_byte, whole_blocks}
-use Rattle.bitpack_lists.specs.Version2.{value_at}
+use Rattle.bitpack_lists.specs.Texts.{stated_count, stated_end, stated_kind, value_in, version_in}
 
--- the kind that a text gives
-abbrev pub kind_in : List ℕ → ListKind
-kind_in bytes = kind_of_byte (slice_index bytes 1)
-
--- the values that it gives
-abbrev pub values_in : ℕ → List ℕ → List ℕ
-values_in lanes bytes = first_of (value_at lanes (whole_blocks lanes (count_of bytes)) (kind_in bytes) (drop 7 bytes)) (count_of bytes)
+-- the values of a text, as its header and its bytes state them
+abbrev pub stated_values : Version → ℕ → List ℕ → List ℕ
+stated_values version lanes bytes =
+    first_of (value_in version lanes (stated_count version bytes) (stated_kind version bytes) (drop (stated_end version bytes) bytes)) (stated_count version bytes)
 
 -- the bytes
 abbrev pub bytes_of_buf : {P : Type 0} {members : Ghosts P} → ListBuf P members → List ℕ
 bytes_of_buf buf = buf.bytes.items
 
+-- their version
+abbrev pub version_of_buf : {P : Type 0} {members : Ghosts P} → ListBuf P members → Version
+version_of_buf buf = version_in (bytes_of_buf buf)
+
 -- the kind and the values of the list
 abbrev pub kind_of_buf : {P : Type 0} {members : Ghosts P} → ListBuf P members → ListKind
-kind_of_buf buf = kind_in (bytes_of_buf buf)
+kind_of_buf buf = stated_kind (version_of_buf buf) (bytes_of_buf buf)
 
 abbrev pub values_of_buf : {P : Type 0} {members : Ghosts P} → ListBuf P members → List ℕ
-values_of_buf {members = members} buf = values_in members.lanes (bytes_of_buf buf)
+values_of_buf {members = members} buf = stated_values (version_of_buf buf) members.lanes (bytes_of_buf buf)

@@ -1,10 +1,10 @@
 -- What a sorted cursor over a packed list has left.
-use Rattle.std.specs.Prelude.{ℕ, List, drop}
+use Rattle.std.specs.Prelude.{ℕ, List}
 use Rattle.bitpacking.specs.declared.bit_packer.BitPacker.{Ghosts}
 use Rattle.bitpack_lists.specs.declared.sorted.distinct_values.DistinctValues.{DistinctValues}
-use Rattle.bitpack_lists.specs.Cursors.{position, values_of_cursor}
+use Rattle.bitpack_lists.specs.Cursors.{values_left}
 use Rattle.bitpack_lists.specs.Distinct.{distinct}
 
 -- the values from its place on, each once
 abbrev pub remaining : {P : Type 0} {members : Ghosts P} → DistinctValues P members → List ℕ
-remaining values = distinct (drop (position values.cursor) (values_of_cursor values.cursor))
+remaining values = distinct (values_left values.cursor)

@@ -1,6 +1,6 @@
 -- Packed lists of version 2: the header, an entry for each whole block, the bodies of the blocks, and the tail's values. The values
 -- are in the order of their kind. What is after the header is called the rest of the text.
-use Rattle.std.specs.Prelude.{◌≡◌, ℕ, zero, suc, ◌+◌, ◌-◌, ◌*◌, ◌/◌, ◌%◌, ◌<◌, ◌≤◌, Bool, false, not, ◌&&◌, ◌==◌, nat_lt, nat_le, if◌then◌else◌, List, [], ◌∷◌, ◌++◌, length, take, drop, slice_index, Option, Some, None}
+use Rattle.std.specs.Prelude.{◌≡◌, ℕ, zero, suc, ◌+◌, ◌-◌, ◌*◌, ◌/◌, ◌%◌, ◌^◌, ◌<◌, ◌≤◌, Bool, false, not, ◌&&◌, ◌==◌, nat_lt, nat_le, if◌then◌else◌, List, [], ◌∷◌, ◌++◌, length, take, drop, slice_index, Option, Some, None}
 use Rattle.std.specs.Option.{option_or, option_map}
 use Rattle.bitpacking.specs.declared.kind.Kind.{Kind}
 use Rattle.bitpacking.specs.Codes.{AreWords, values_of}
@@ -10,7 +10,7 @@ use Rattle.bitpacking.specs.Words.{bytes_of_words, word}
 use Rattle.bitpack_lists.specs.declared.list_kind.ListKind.{ListKind}
 use Rattle.bitpack_lists.specs.declared.list_kind.ListKind.TheVariants as lists
 use Rattle.bitpack_lists.specs.declared.list_error.ListError.{ListError}
-use Rattle.bitpack_lists.specs.declared.list_error.ListError.TheVariants.{Short, BadWidth, LooseWidth, BadOffset, BadLast, NotSorted, Trailing}
+use Rattle.bitpack_lists.specs.declared.list_error.ListError.TheVariants.{Short, BadWidth, LooseWidth, BadOffset, BadLast, NotSorted, TooLong, Trailing}
 use Rattle.bitpack_lists.specs.Chains.{next_kind}
 use Rattle.bitpack_lists.specs.Parts.{BeginsWithHeader, count_of, first_kind, header_fault, is_loose, kind_of_byte, tail_values, whole_blocks}
 
@@ -30,6 +30,11 @@ least_below test (suc bound) = option_or (least_below test bound) (if test bound
 -- the first position out of order
 abbrev pub first_out : ListKind → List ℕ → Option ℕ
 first_out kind values = least_below (is_out kind (slice_index values)) (length values)
+
+-- the first fault of values that are to be written: they are too many, or out of order
+unfoldable pub values_fault : ListKind → List ℕ → Option ListError
+values_fault kind values =
+    if nat_lt (2 ^ 28) (length values) then Some (TooLong (length values)) else option_map NotSorted (first_out kind values)
 
 -- ---- where what is in the rest of a text
 

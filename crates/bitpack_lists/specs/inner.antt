@@ -4,8 +4,10 @@ pub mod CodeSteps
 pub mod Combined
 pub mod Leaping
 pub mod Opening
+pub mod Opening3
 pub mod Passing
 pub mod Retaining
 pub mod Searching
+pub mod Sizes
 pub mod Upgrading
 pub mod Walks

@@ -1,6 +1,6 @@
 //! The seven bytes before the blocks of a packed list, in both versions: version, kind, lanes, and the count of values.
 
-ghost use Rattle.std.specs.Prelude.{◌+◌, ◌^◌, ◌≤◌, ◌<◌, OnOk, IfOk, length, vec_len, vec_capacity};
+ghost use Rattle.std.specs.Prelude.{◌≡◌, ◌+◌, ◌^◌, ◌≤◌, ◌<◌, OnOk, IfOk, length, vec_len, vec_capacity};
 ghost use Rattle.bitpack_lists.specs.inner.Appending.{HasAppended};
 ghost use Rattle.bitpack_lists.specs.Parts.{BeginsWithHeader, FindsFault, header, header_fault};
 
@@ -52,6 +52,17 @@ impl Header {
         Ok(Header { kind, count })
     }
 
+    /// The bytes of the header.
+    #[tactic(auto, unfolding(crate::specs::Parts::header))]
+    pub(crate) fn bytes(self, version: u8, lanes: usize) -> [u8; HEADER_LEN]
+        requires lanes { lanes < 2 ^ 8 }
+        requires count { self.count ≤ LONGEST_LIST }
+        ensures { result ≡ header version self.kind lanes self.count }
+    {
+        let [a, b, c, d] = (self.count as u32).to_le_bytes();
+        [version, self.kind.byte(), lanes as u8, a, b, c, d]
+    }
+
     /// Appends the header.
     pub(crate) fn write(self, version: u8, lanes: usize, out: &mut Vec<u8>)
         requires lanes { lanes < 2 ^ 8 }
@@ -59,7 +70,6 @@ impl Header {
         requires room { vec_len out.old + HEADER_LEN ≤ vec_capacity out.old }
         ensures { HasAppended out.old out.new (header version self.kind lanes self.count) }
     {
-        append(out, &[version, self.kind.byte(), lanes as u8]);
-        append(out, &(self.count as u32).to_le_bytes());
+        append(out, &self.bytes(version, lanes));
     }
 }

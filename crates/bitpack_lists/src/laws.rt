@@ -1,13 +1,15 @@
 //! Laws of the definitions, each the contract of a function that does nothing at run time, for generic code to call.
 //!
 //! The definitions are in `specs/`: `Loose` and `Chained` in Chains; `header`, `is_loose` and the other parts of packed lists
-//! in Parts; `List1` and `fault1` in Version1; `List2`, `fault2`, `first_out`, `parts_before` and `OfNoOther` in Version2; `List3` and
-//! `fault3` in Version3, with the words of Numbers and Groups; `first_at_least` in Search; `IsCommon` in Intersections.
+//! in Parts; `List1` and `fault1` in Version1; `List2`, `fault2`, `first_out` and `parts_before` in Version2; `List3` and `fault3` in
+//! Version3, with the words of Numbers and Groups; `IsText` in Texts; `first_at_least` in Search; `IsCommon` in Intersections.
 
+ghost use Rattle.std.specs.Prelude.{◌≡◌, None};
 ghost use Rattle.bitpack_lists.specs.Laws.{ChainsReadBack, CommonIsShort, FirstIsFound, LooseFitsSmaller, NeitherFalls, NoFault1, NoFault2, OneCommon, OneList1, OneList2, OneText1, OneText2, SameBodies, SortedIsOrder, StrictIsOrder};
 ghost use Rattle.bitpack_lists.specs.Laws3.{GroupReadsBack, GroupsAreRead, GroupsReadBack, NoFault3, NumberReadsBack, OneGroup, OneGroupOfCodes, OneList3, OneNumber, OneText3, OneVersion, SameBlocks3};
-ghost use Rattle.bitpack_lists.specs.Opened.{kind_of, text, values};
-ghost use Rattle.bitpack_lists.specs.Version2.{List2, OfNoOther};
+ghost use Rattle.bitpack_lists.specs.Opened.{kind_of, text, values, version_of};
+ghost use Rattle.bitpack_lists.specs.Texts.{IsText, IsTextOfNoOther};
+ghost use Rattle.bitpack_lists.specs.Version2.{first_out};
 
 use crate::list2::PackedList;
 use bitpacking::BitPacker;
@@ -34,8 +36,9 @@ pub fn one_text()
 
 /// The text of an opened list is the text of its kind and its values, and of no other list.
 pub fn opened_text<P: BitPacker>(list: &PackedList<'_, P>)
-    ensures list { List2 P.lanes (kind_of list.now) (values list.now) (text list.now) }
-    ensures only { OfNoOther P.lanes (kind_of list.now) (values list.now) (text list.now) }
+    ensures list { IsText (version_of list.now) P.lanes (kind_of list.now) (values list.now) (text list.now) }
+    ensures only { IsTextOfNoOther (version_of list.now) P.lanes (kind_of list.now) (values list.now) (text list.now) }
+    ensures ordered { first_out (kind_of list.now) (values list.now) ≡ None }
 {}
 
 /// The widths, the bodies of the blocks and the tail of a list are the same bytes in its texts of versions 1 and 2.

@@ -8,11 +8,11 @@
 
 pub(crate) mod entry;
 mod list_buf;
-mod opening;
+pub(crate) mod opening;
 pub(crate) mod order;
 mod packed_list;
-mod reads;
-mod upgrading;
+pub(crate) mod reads;
+pub(crate) mod upgrading;
 pub(crate) mod writing;
 
 pub use list_buf::ListBuf;
@@ -20,4 +20,4 @@ pub(crate) use packed_list::{first_ahead, first_from};
 pub use packed_list::{Cursor, PackedList, append_common, intersect};
 pub use reads::Reads;
 pub use upgrading::upgrade;
-pub use writing::encode;
+pub use writing::{encode, encode_to, encoded_len};

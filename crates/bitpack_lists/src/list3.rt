@@ -1,5 +1,6 @@
 //! Packed lists of version 3: a short header, the entries and bodies of version 2, and the tail in groups of 32 codes. Texts of short
-//! lists are about half as long as in version 2.
+//! lists are about half as long as in version 2. [`PackedList::open3`](crate::list2::PackedList::open3) opens a text, and the list that
+//! it returns is read as one of version 2. [`upgrade`] converts a text of version 1 or 2.
 //!
 //! ```text
 //! 6f 21                         strictly sorted, 1 lane, 33 values
@@ -7,11 +8,14 @@
 //! 00                            a group of one code, 0, at width 0: the value 32
 //! ```
 
-mod codes;
+pub(crate) mod codes;
 mod group;
-mod header;
+pub(crate) mod header;
 mod number;
-mod tail;
+pub(crate) mod opening;
+pub(crate) mod tail;
+mod upgrading;
 mod writing;
 
-pub use writing::encode;
+pub use upgrading::upgrade;
+pub use writing::{encode, encode_to, encoded_len};

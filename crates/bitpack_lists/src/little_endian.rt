@@ -1,6 +1,6 @@
 //! Words of four bytes, the lowest first: one of them, and the tail of a list, which is its values as such words.
 
-ghost use Rattle.std.specs.Prelude.{◌≡◌, ◌+◌, ◌*◌, ◌/◌, ◌≤◌, ◌++◌, ℕ, List, drop, length, vec_len, vec_capacity};
+ghost use Rattle.std.specs.Prelude.{◌≡◌, ◌+◌, ◌*◌, ◌/◌, ◌<◌, ◌≤◌, ◌++◌, ℕ, List, drop, length, slice_index, take, vec_len, vec_capacity};
 ghost use Rattle.bitpacking.specs.Codes.{AreWords};
 ghost use Rattle.bitpacking.specs.Words.{bytes_of_words, word};
 
@@ -20,6 +20,16 @@ pub(crate) fn read_one(bytes: &[u8], index: usize) -> u32
     ])
 }
 
+/// Reads as many words as the slice has, from the first byte on.
+pub(crate) fn read_words(bytes: &[u8], values: &mut [u32])
+    requires { 4 * length values.old ≤ length bytes.now }
+    ensures { (k : ℕ) → k < length values.new → slice_index values.new k ≡ word bytes.now k }
+{
+    for index in 0..values.len() {
+        values[index] = read_one(bytes, 4 * index);
+    }
+}
+
 /// Appends the values whose bytes these are, where there is room for them.
 pub(crate) fn read_all(bytes: &[u8], out: &mut Vec<u32>)
     requires room { vec_len out.old + length bytes.now / 4 ≤ vec_capacity out.old }
@@ -28,6 +38,16 @@ pub(crate) fn read_all(bytes: &[u8], out: &mut Vec<u32>)
 {
     for index in 0..bytes.len() / 4 {
         out.push_reserved(read_one(bytes, 4 * index));
+    }
+}
+
+/// Writes the bytes of the values at the start of the slice.
+pub(crate) fn write_words(values: &[u32], bytes: &mut [u8])
+    requires { 4 * length values.now ≤ length bytes.old }
+    ensures { take (4 * length values.now) bytes.new ≡ bytes_of_words values.now }
+{
+    for index in 0..values.len() {
+        bytes[4 * index..4 * index + 4].copy_from_slice(&values[index].to_le_bytes());
     }
 }
 

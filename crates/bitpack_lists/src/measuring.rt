@@ -24,7 +24,8 @@ pub(crate) fn text_len<P: BitPacker>(
 ) -> usize
     requires few { length values.now ≤ 2 ^ 28 }
     requires entry { entry_len ≤ 9 }
-    ensures room { HEADER_LEN + entry_len * whole_blocks P.lanes (length values.now) ≤ result }
+    ensures room { HEADER_LEN + entry_len * whole_blocks P.lanes (length values.now)
+        + 4 * tail_values P.lanes (length values.now) ≤ result }
     ensures len { (all : List ℕ) → length all ≡ whole_blocks P.lanes (length values.now)
         → LeastWidths P.lanes (first_kind kind) values.now all
         → result ≡ HEADER_LEN + entry_len * whole_blocks P.lanes (length values.now) + 4 * P.lanes * sum all

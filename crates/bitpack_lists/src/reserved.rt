@@ -12,10 +12,10 @@ pub(crate) fn append<T: Copy>(out: &mut Vec<T>, part: &[T])
 }
 
 /// Appends so many zeros to a vector that has the room.
-pub(crate) fn append_zeros(out: &mut Vec<u32>, count: usize)
+pub(crate) fn append_zeros<T: Copy>(out: &mut Vec<T>, zero: T, count: usize)
     requires room { vec_len out.old + count ≤ vec_capacity out.old }
-    ensures { HasAppended out.old out.new (replicate count 0) }
+    ensures { HasAppended out.old out.new (replicate count zero) }
 {
     let len = out.len();
-    out.resize(len + count, 0).unwrap();
+    out.resize(len + count, zero).unwrap();
 }

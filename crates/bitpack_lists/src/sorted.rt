@@ -7,6 +7,9 @@
 //! ```text
 //! AndNot::new(And::new(a, Or::new(b, c)), d)      a AND (b OR c) AND NOT d
 //! ```
+//!
+//! [`Values`] is an iterator over the values that such a cursor has left. [`collect_into`] appends them to a vector, and [`count`]
+//! counts them.
 
 mod and;
 mod and_all;
@@ -19,6 +22,7 @@ mod or_all;
 mod passing;
 mod retaining;
 mod sorted_cursor;
+mod values;
 
 pub use and::And;
 pub use and_all::AndAll;
@@ -30,3 +34,4 @@ pub use or::Or;
 pub use or_all::OrAll;
 pub use retaining::retain_common;
 pub use sorted_cursor::SortedCursor;
+pub use values::Values;

@@ -27,17 +27,17 @@ pub fn in_all_three(
     collect(alloc, And::new(first_two, open(third)?))
 }
 
-/// The values of a list, each once.
-pub(crate) type Values<'a> = DistinctValues<'a, BitPacker4x>;
+/// The ids of a list, each once.
+pub(crate) type Ids<'a> = DistinctValues<'a, BitPacker4x>;
 
 /// The values of a list, which may not be plain.
-pub(crate) fn open(bytes: &[u8]) -> Result<Values<'_>, ListError>
+pub(crate) fn open(bytes: &[u8]) -> Result<Ids<'_>, ListError>
     ensures values { IfOk result (λ opened. (kind : ListKind) (values : List ℕ)
         → List2 4 kind values bytes.now → remaining opened ≡ distinct values) }
     ensures refused { IfErr result (λ e. IsListInOrder bytes.now → ⊥) }
 {
     let cursor = PackedList::open(BitPacker4x::new(), bytes)?.cursor();
-    if !cursor.is_sorted() {
+    if !cursor.is_in_order() {
         return Err(ListError::BadKind(0));
     }
     Ok(DistinctValues::new(cursor))

@@ -1,166 +1,169 @@
-//! A set of ids: built from ids in any order, packed as one text, and read from a text that may be untrusted.
+//! Sets of ids that stay packed: made of ids in any order, combined with other sets, and opened from bytes that may be untrusted.
 
-ghost use Rattle.std.specs.Prelude.{◌≡◌, ◌↔◌, ◌≤◌, ◌^◌, ℕ, List, Contains, IsTrue, IfOk, IsOkUnless, length};
+ghost use Rattle.std.specs.Prelude.{◌≡◌, ◌↔◌, ◌⊎◌, ◌+◌, ◌≤◌, ◌^◌, ℕ, List, Contains, IfErr, IfOk, IsTrue, Some, length};
 ghost use Rattle.std.specs.List.Sorted.{IsStrictlyIncreasing};
-ghost use Rattle.bitpack_lists.specs.declared.list_error.ListError.TheVariants.{Memory};
-ghost use Rattle.bitpack_lists.specs.Version1.{List1};
-ghost use Rattle.bitpack_uses.specs.declared.id_set.IdSetError.TheVariants.{Refused};
-ghost use Rattle.bitpack_uses.specs.Sets.{IsSetOf, common, has};
+ghost use Rattle.bitpack_lists.specs.declared.list_error.ListError.{ListError};
+ghost use Rattle.bitpack_lists.specs.declared.list_kind.ListKind.{ListKind};
+ghost use Rattle.bitpack_lists.specs.OfKind.{fault2_as};
+ghost use Rattle.bitpack_lists.specs.Version2.{List2};
+ghost use Rattle.bitpack_uses.specs.Postings.{ids_of};
+ghost use Rattle.bitpack_uses.specs.Sets.{IsSetOf};
 
-use bitpack::laws::one_text;
-use bitpack::{ListError, ListKind, list};
+use crate::and_query::collect;
+use crate::postings::Postings;
+use bitpack::ListError;
+use bitpack::laws::{in_order, opened_text};
+use bitpack::sorted::{And, AndNot, Or, SortedCursor};
 use bitpacking::BitPacker;
-use std::alloc::{AllocError, AllocFailed, Global};
-use std::error::Error;
-use std::fmt;
+use std::alloc::Global;
 use std::marker::Model;
 
-/// Why a text is not read as a set.
-#[derive(Clone, Copy, PartialEq, Eq, Debug)]
-pub enum IdSetError {
-    /// It is not a packed list, or memory ran out.
-    Refused(ListError),
-    /// It is a list of another kind, or not in order.
-    NotASet,
-}
-
-impl fmt::Display for IdSetError {
-    fn fmt<W: fmt::Write>(&self, f: &mut fmt::Formatter<W>) -> fmt::Result {
-        match self {
-            IdSetError::Refused(error) => write!(f, "{error}"),
-            IdSetError::NotASet => write!(f, "the list is not a set"),
-        }
-    }
-}
-
-impl Error for IdSetError {}
-
-impl From<ListError> for IdSetError {
-    ghost from_gives = { λ error e. e ≡ Refused error };
-
-    fn from(error: ListError) -> IdSetError {
-        IdSetError::Refused(error)
-    }
-}
-
-impl From<AllocError> for IdSetError {
-    ghost from_gives = { λ _ e. e ≡ Refused Memory };
-
-    fn from(_error: AllocError) -> IdSetError {
-        IdSetError::Refused(ListError::Memory)
-    }
-}
-
-impl<T: Drop> From<AllocFailed<T>> for IdSetError {
-    ghost from_gives = { λ _ e. e ≡ Refused Memory };
-
-    fn from(_error: AllocFailed<T>) -> IdSetError {
-        IdSetError::Refused(ListError::Memory)
-    }
-}
-
-/// Ids in order, each once.
+/// Ids in order, each once, packed.
 #[derive(Drop)]
-pub struct IdSet {
-    ids: Vec<u32>,
+pub struct IdSet<P: BitPacker> {
+    packer: P,
+    postings: Postings<P>,
 }
 
-impl Model for IdSet {
+impl<P: BitPacker> Model for IdSet<P> {
     ghost Value = { List ℕ };
 
-    ghost view = { λ set. set.ids.items };
+    ghost view = { λ set. ids_of set.postings };
 
-    ghost invariant = { λ set. IsStrictlyIncreasing set.ids.items };
+    ghost invariant = { λ set. IsStrictlyIncreasing (ids_of set.postings) };
 }
 
-impl IdSet {
+impl<P: BitPacker> IdSet<P> {
     /// The set of these ids, which may be in any order and may repeat.
-    pub fn new(alloc: Global, ids: &[u32]) -> Result<IdSet, IdSetError>
+    pub fn new(alloc: Global, packer: P, ids: &[u32]) -> Result<IdSet<P>, ListError>
         ensures set { IfOk result (λ set. IsSetOf ids.now set) }
-        ensures memory { IsOkUnless result (Refused Memory) }
+        ensures memory { length ids.now ≤ 2 ^ 28 → IfErr result (λ e. e ≡ ListError.Memory) }
     {
-        let mut ids = Vec::from_slice(alloc, ids)?;
+        let mut ids = Vec::from_slice(alloc, ids).or(Err(ListError::Memory))?;
         ids.sort_unstable();
         ids.dedup();
-        Ok(IdSet { ids })
+        of_increasing(alloc, packer, &ids)
     }
 
-    /// Whether the set has the id.
+    /// Opens a text, which may be untrusted.
+    pub fn open(packer: P, bytes: Vec<u8>) -> Result<IdSet<P>, ListError>
+        ensures text { IfOk result (λ set. List2 P.lanes ListKind.StrictlySorted set bytes.items) }
+        ensures ids { (ids : List ℕ) → List2 P.lanes ListKind.StrictlySorted ids bytes.items
+            → IfOk result (λ set. set ≡ ids) }
+        ensures fault { IfErr result (λ e. fault2_as P.lanes ListKind.StrictlySorted bytes.items ≡ Some e) }
+    {
+        in_order();
+        match Postings::open(packer, bytes) {
+            Err((error, _)) => Err(error),
+            Ok(postings) => {
+                opened_text(&postings.as_list());
+                Ok(IdSet { packer, postings })
+            }
+        }
+    }
+
+    /// The text, to be stored.
+    pub fn as_bytes(&self) -> &[u8]
+        ensures { List2 P.lanes ListKind.StrictlySorted self.now result.now }
+    {
+        // Its contract says that the bytes are the text of the ids.
+        let _list = self.postings.as_list();
+        self.postings.as_bytes()
+    }
+
+    /// The vector with the text.
+    pub fn into_bytes(self) -> Vec<u8>
+        ensures { List2 P.lanes ListKind.StrictlySorted self result.items }
+    {
+        let _list = self.postings.as_list();
+        self.postings.into_bytes()
+    }
+
+    /// Whether the set has the id. At most one block is unpacked.
     pub fn contains(&self, id: u32) -> bool
-        ensures found { IsTrue result ↔ Contains self.now id }
-        ensures test { result ≡ has self.now id }
+        ensures { IsTrue result ↔ Contains self.now id }
     {
-        self.ids.binary_search(&id).is_ok()
+        self.postings.contains(id)
     }
 
-    /// Packs the set.
-    pub fn encode<P: BitPacker>(&self, alloc: Global, packer: &P) -> Result<Vec<u8>, IdSetError>
-        ensures text { IfOk result (λ text. List1 P.lanes ListKind.StrictlySorted self.now text.items) }
-        ensures memory { length self.now ≤ 2 ^ 28 → IsOkUnless result (Refused Memory) }
+    /// All ids, which are unpacked block by block.
+    pub fn to_vec(&self, alloc: Global) -> Result<Vec<u32>, ListError>
+        ensures ids { IfOk result (λ ids. ids.items ≡ self.now) }
+        ensures memory { IfErr result (λ e. e ≡ ListError.Memory) }
     {
-        let mut text = Vec::new(alloc);
-        list::encode(packer, ListKind::StrictlySorted, &self.ids, &mut text)?;
-        Ok(text)
+        self.postings.to_vec(alloc)
     }
 
-    /// Unpacks a set.
-    pub fn decode<P: BitPacker>(alloc: Global, packer: &P, text: &[u8]) -> Result<IdSet, IdSetError>
-        ensures ok { IfOk result (λ set. List1 P.lanes ListKind.StrictlySorted set text.now) }
+    /// The ids that both sets have. Call it on the smaller set: its ids are sought in the other.
+    pub fn and<Q: BitPacker>(&self, alloc: Global, other: &IdSet<Q>) -> Result<IdSet<P>, ListError>
+        ensures both { IfOk result (λ both. (id : ℕ)
+            → Contains both id ↔ (Contains self.now id × Contains other.now id)) }
+        ensures memory { IfErr result (λ e. e ≡ ListError.Memory) }
     {
-        let mut ids = Vec::new(alloc);
-        let kind = list::decode(packer, text, &mut ids)?;
-        if kind != ListKind::StrictlySorted || !is_increasing(&ids) {
-            return Err(IdSetError::NotASet);
-        }
-        Ok(IdSet { ids })
+        let _list = self.postings.as_list();
+        let both = And::new(self.postings.cursor(), other.postings.cursor());
+        packed(alloc, self.packer, both)
     }
 
-    /// The ids that both sets have.
-    pub fn and(&self, alloc: Global, other: &IdSet) -> Result<IdSet, IdSetError>
-        ensures both { IfOk result (λ both. both ≡ common self.now other.now) }
-        ensures memory { IsOkUnless result (Refused Memory) }
+    /// The ids that at least one of the sets has.
+    pub fn or<Q: BitPacker>(&self, alloc: Global, other: &IdSet<Q>) -> Result<IdSet<P>, ListError>
+        ensures either { IfOk result (λ either. (id : ℕ)
+            → Contains either id ↔ (Contains self.now id ⊎ Contains other.now id)) }
+        ensures memory { length self.now + length other.now ≤ 2 ^ 28 → IfErr result (λ e. e ≡ ListError.Memory) }
     {
-        let ids = self
-            .ids
-            .iter()
-            .copied()
-            .filter(|id| other.contains(*id))
-            .collect(alloc)?;
-        Ok(IdSet { ids })
+        let either = Or::new(self.postings.cursor(), other.postings.cursor());
+        packed(alloc, self.packer, either)
     }
 
-    /// The ids in order.
-    pub fn as_slice(&self) -> &[u32]
-        ensures { result.now ≡ self.now }
+    /// The ids of this set that the other lacks.
+    pub fn without<Q: BitPacker>(
+        &self,
+        alloc: Global,
+        other: &IdSet<Q>,
+    ) -> Result<IdSet<P>, ListError>
+        ensures rest { IfOk result (λ rest. (id : ℕ)
+            → Contains rest id ↔ (Contains self.now id × (Contains other.now id → ⊥))) }
+        ensures memory { IfErr result (λ e. e ≡ ListError.Memory) }
     {
-        self.ids.as_slice()
+        let _list = self.postings.as_list();
+        let rest = AndNot::new(self.postings.cursor(), other.postings.cursor());
+        packed(alloc, self.packer, rest)
     }
 }
 
-/// Whether each value is below the next.
-pub(crate) fn is_increasing(values: &[u32]) -> bool
-    ensures { IsTrue result ↔ IsStrictlyIncreasing values.now }
+/// The set of a cursor's values.
+fn packed<P: BitPacker, C: SortedCursor>(
+    alloc: Global,
+    packer: P,
+    cursor: C,
+) -> Result<IdSet<P>, ListError>
+    ensures set { IfOk result (λ set. set ≡ C.rest cursor) }
+    ensures memory { length (C.rest cursor) ≤ 2 ^ 28 → IfErr result (λ e. e ≡ ListError.Memory) }
 {
-    for index in 1..values.len() {
-        if values[index] <= values[index - 1] {
-            return false;
-        }
-    }
-    true
+    let ids = collect(alloc, cursor)?;
+    of_increasing(alloc, packer, &ids)
 }
 
-/// Packs a set, unpacks it and tests it for an id.
+/// The set of ids that increase.
+fn of_increasing<P: BitPacker>(alloc: Global, packer: P, ids: &[u32]) -> Result<IdSet<P>, ListError>
+    requires increasing { IsStrictlyIncreasing ids.now }
+    ensures set { IfOk result (λ set. set ≡ ids.now) }
+    ensures memory { length ids.now ≤ 2 ^ 28 → IfErr result (λ e. e ≡ ListError.Memory) }
+{
+    let postings = Postings::from_ids(alloc, packer, ids)?;
+    Ok(IdSet { packer, postings })
+}
+
+/// Packs a set, opens its text again and tests it for an id.
 pub fn packed_set_contains<P: BitPacker>(
     alloc: Global,
-    packer: &P,
+    packer: P,
     ids: &[u32],
     id: u32,
-) -> Result<bool, IdSetError>
+) -> Result<bool, ListError>
     ensures { IfOk result (λ found. IsTrue found ↔ Contains ids.now id) }
 {
-    one_text();
-    let set = IdSet::new(alloc, ids)?;
-    let text = set.encode(alloc, packer)?;
-    let unpacked = IdSet::decode(alloc, packer, &text)?;
-    Ok(unpacked.contains(id))
+    let set = IdSet::new(alloc, packer, ids)?;
+    let opened = IdSet::open(packer, set.into_bytes())?;
+    Ok(opened.contains(id))
 }

@@ -5,7 +5,6 @@ ghost use Rattle.bitpack_lists.specs.Increasing.{shared};
 ghost use Rattle.bitpack_uses.specs.Postings.{distinct_ids};
 
 use crate::and_query::collect;
-use crate::id_set::IdSetError;
 use crate::postings::{Postings, select};
 use bitpack::ListError;
 use bitpack::sorted::And;
@@ -43,14 +42,16 @@ impl Builder {
     }
 
     /// Packs the documents of each word.
-    pub fn pack<P: BitPacker>(&self, alloc: Global, packer: P) -> Result<Index<P>, IdSetError> {
+    pub fn pack<P: BitPacker>(&self, alloc: Global, packer: P) -> Result<Index<P>, ListError> {
         let mut lists = BTreeMap::new(alloc);
         for (word, documents) in self.documents_of.iter() {
-            let mut documents = Vec::from_slice(alloc, documents)?;
+            let mut documents = Vec::from_slice(alloc, documents).or(Err(ListError::Memory))?;
             documents.dedup();
             let list = Postings::from_ids(alloc, packer, &documents)?;
-            let word = word.clone()?;
-            lists.insert(word, list)?;
+            let word = word.clone().or(Err(ListError::Memory))?;
+            if lists.insert(word, list).is_err() {
+                return Err(ListError::Memory);
+            }
         }
         let none = Postings::from_ids(alloc, packer, &[])?;
         Ok(Index { lists, none })

@@ -1,6 +1,6 @@
-//! Lists of one kind, lists that own their texts, and values that are unpacked into a slice.
+//! Lists of one kind, lists that own their texts, values that are unpacked into a slice, and values one by one.
 
-ghost use Rattle.std.specs.Prelude.{◌≡◌, ℕ, List, IfErr, IfOk, IfSome, slice_get, take};
+ghost use Rattle.std.specs.Prelude.{◌≡◌, ℕ, List, IfErr, IfOk, IfSome, slice_get, sum, take};
 ghost use Rattle.bitpack_lists.specs.declared.list_error.ListError.{ListError};
 ghost use Rattle.bitpack_lists.specs.declared.list_kind.ListKind.{ListKind};
 ghost use Rattle.bitpack_lists.specs.Intersections.{IsCommon};
@@ -42,6 +42,17 @@ pub fn unpacked_into<P: BitPacker>(list: &PackedList<'_, P>, room: &mut [u32]) -
     Some(list.copy_to(room))
 }
 
+/// The sum of the values of a list, or `None` if it is 2 ^ 64 or more. The blocks are unpacked one by one, and nothing is allocated.
+pub fn sum_of_values<P: BitPacker>(list: &PackedList<'_, P>) -> Option<u64>
+    ensures { IfSome result (λ total. total ≡ sum (values list.now)) }
+{
+    let mut total = 0u64;
+    for value in list.cursor() {
+        total = total.checked_add(value as u64)?;
+    }
+    Some(total)
+}
+
 /// Packs values, keeps them packed, and reads one of them.
 pub fn value_of_packed<P: BitPacker>(
     alloc: Global,
@@ -60,7 +71,7 @@ pub fn value_of_packed<P: BitPacker>(
 pub fn sent<P: BitPacker>(packer: P, list: ListBuf<P>) -> ListBuf<P>
     ensures { bytes_of_buf result ≡ bytes_of_buf list }
 {
-    match ListBuf::open(packer, list.into_bytes()) {
+    match ListBuf::open_any(packer, list.into_bytes()) {
         Ok(list) => list,
         Err(_) => unreachable!(),
     }

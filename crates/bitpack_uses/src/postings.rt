@@ -4,20 +4,23 @@ mod queries;
 
 ghost use Rattle.std.specs.Prelude.{◌≡◌};
 ghost use Rattle.bitpack_lists.specs.declared.list_kind.ListKind.{ListKind};
-ghost use Rattle.bitpack_lists.specs.Owned.{kind_of_buf};
+ghost use Rattle.bitpack_lists.specs.declared.version.Version.{Version};
+ghost use Rattle.bitpack_lists.specs.Owned.{kind_of_buf, version_of_buf};
 
+use crate::membership::contains;
 use bitpack::laws::{first_is_found, in_order, opened_text};
 use bitpack::list2::{ListBuf, PackedList, Reads};
 use bitpack::sorted::{DistinctValues, retain_common};
 use bitpack::{ListError, ListKind};
 use bitpacking::BitPacker;
-pub use queries::{and, and_not, or, select};
+pub use queries::{and, and_not, first_shared, or, select};
 use std::alloc::Global;
 
 /// Increasing ids, packed. The text was tested when the list was made.
 #[derive(Drop)]
 pub struct Postings<P: BitPacker> {
     list: ListBuf<P>,
+    ghost version: { version_of_buf list ≡ Version.Two },
     ghost strict: { kind_of_buf list ≡ ListKind.StrictlySorted },
 }
 
@@ -62,6 +65,7 @@ impl<P: BitPacker> Postings<P> {
 
     /// A list as postings, if it is strictly sorted.
     fn of_list(list: ListBuf<P>) -> Result<Postings<P>, (ListError, Vec<u8>)>
+        requires { version_of_buf list ≡ Version.Two }
         ensures text { IfOk result (λ postings. postings.list ≡ list) }
         ensures kind { IfErr result (λ refused. (kind_of_buf list ≢ ListKind.StrictlySorted)
             × (refused.0 ≡ ListError.WrongKind (kind_of_buf list) ListKind.StrictlySorted)) }
@@ -85,6 +89,13 @@ impl<P: BitPacker> Postings<P> {
         self.list.as_bytes()
     }
 
+    /// The vector with the text.
+    pub fn into_bytes(self) -> Vec<u8>
+        ensures { result.items ≡ text_of self }
+    {
+        self.list.into_bytes()
+    }
+
     /// How many ids there are.
     pub fn len(&self) -> usize
         ensures { result ≡ length (ids_of self.now) }
@@ -96,6 +107,7 @@ impl<P: BitPacker> Postings<P> {
     pub fn as_list(&self) -> PackedList<'_, P>
         ensures ids { values result ≡ ids_of self.now }
         ensures kind { kind_of result ≡ ListKind.StrictlySorted }
+        ensures list { List2 P.lanes ListKind.StrictlySorted (ids_of self.now) (text_of self.now) }
     {
         self.list.as_list()
     }
@@ -111,10 +123,7 @@ impl<P: BitPacker> Postings<P> {
     pub fn contains(&self, id: u32) -> bool
         ensures { IsTrue result ↔ Contains (ids_of self.now) id }
     {
-        match self.next_at_least(id) {
-            Some(found) => found == id,
-            None => false,
-        }
+        contains(&self.as_list(), id)
     }
 
     /// The least id that is at least this one. At most one block is unpacked.

@@ -8,7 +8,7 @@ ghost use Rattle.bitpack_lists.specs.Remaining.{remaining};
 ghost use Rattle.bitpack_lists.specs.Version2.{List2};
 ghost use Rattle.bitpack_uses.specs.Selected.{IsListInOrder, IsSelected};
 
-use crate::and_query::{Values, collect, open};
+use crate::and_query::{Ids, collect, open};
 use bitpack::ListError;
 use bitpack::sorted::{And, AndNot, Or};
 use std::alloc::Global;
@@ -28,10 +28,10 @@ pub fn select(alloc: Global, a: &[u8], b: &[u8], c: &[u8], d: &[u8]) -> Result<V
 /// Walks the four lists side by side, and unpacks no block twice.
 fn combine(
     alloc: Global,
-    a: Values<'_>,
-    b: Values<'_>,
-    c: Values<'_>,
-    d: Values<'_>,
+    a: Ids<'_>,
+    b: Ids<'_>,
+    c: Ids<'_>,
+    d: Ids<'_>,
 ) -> Result<Vec<u32>, ListError>
     ensures ids { IfOk result (λ ids. ids.items ≡ without
         (shared (remaining a.entry) (united (remaining b.entry) (remaining c.entry))) (remaining d.entry)) }

@@ -3,6 +3,7 @@
 mod by_law;
 mod calls;
 mod checks;
+mod id_set;
 mod members;
 mod owned_lists;
 mod packed_lists;
@@ -10,7 +11,6 @@ mod postings;
 mod shared_values;
 mod sorted;
 
-use crate::id_set::{IdSet, IdSetError, packed_set_contains};
 use crate::index::{Builder, Index};
 use crate::stored_blocks::{StoredError, read_block, read_chain};
 use crate::{
@@ -213,48 +213,6 @@ fn stored_blocks(rt: HostRuntime) {
     let short: (&[u8], &[u8]) = (&[1, 1], &[0; 7]);
     let error = StoredError::MissingBytes;
     chain_is_refused(&rt, rt.alloc(), short, error, "bytes are missing");
-}
-
-/// A set of ids, its text, and whether an id is in a set.
-fn set_of_ids(rt: &impl Abort, alloc: Global) {
-    let packer = BitPacker4x::new();
-    let set = IdSet::new(alloc, &[7, 5, 9, 5]).expect(rt, "a set");
-    same_values(rt, set.as_slice(), &[5, 7, 9]);
-    let text = set.encode(alloc, &packer).expect(rt, "a text");
-    let decoded = IdSet::decode(alloc, &packer, &text).expect(rt, "a set");
-    holds(rt, decoded.contains(7), "7 is in the set");
-}
-
-/// Whether the packed set of these ids contains this one.
-fn set_contains(rt: &impl Abort, alloc: Global, ids: &[u32], id: u32, expected: bool) {
-    let found = packed_set_contains(alloc, &BitPacker4x::new(), ids, id);
-    holds(rt, found.expect(rt, "a set") == expected, "an id");
-}
-
-/// The text is not read as a set, and the error says this.
-fn set_is_refused(rt: &impl Abort, alloc: Global, text: &[u8], error: IdSetError, said: &str) {
-    let refused = IdSet::decode(alloc, &BitPacker4x::new(), text).err();
-    holds(rt, refused == Some(error), said);
-    let words = format!(in alloc; "{error}").expect(rt, "memory");
-    same_words(rt, words.as_str(), said);
-}
-
-#[test]
-fn an_id_set(rt: HostRuntime) {
-    let alloc = rt.alloc();
-    set_of_ids(&rt, alloc);
-    set_contains(&rt, alloc, &[8, 6, 8], 8, true);
-    set_contains(&rt, alloc, &[8, 6, 8], 7, false);
-    // The kinds 2 and 0, in no order and in order: 7, 5 and 5, 7.
-    let unsorted = [1, 2, 4, 2, 0, 0, 0, 7, 0, 0, 0, 5, 0, 0, 0];
-    let plain = [1, 0, 4, 2, 0, 0, 0, 5, 0, 0, 0, 7, 0, 0, 0];
-    let said = "the list is not a set";
-    set_is_refused(&rt, alloc, &unsorted, IdSetError::NotASet, said);
-    set_is_refused(&rt, alloc, &plain, IdSetError::NotASet, said);
-    let version = [2, 2, 4, 2, 0, 0, 0, 5, 0, 0, 0, 7, 0, 0, 0];
-    let error = IdSetError::Refused(ListError::BadVersion(2));
-    let said = "version 2 is not read here";
-    set_is_refused(&rt, alloc, &version, error, said);
 }
 
 fn indexed(rt: &impl Abort, alloc: Global) -> Index<BitPacker8x> {

@@ -1,12 +1,38 @@
--- What the calls on packed lists answer. A list is of version 2, and is read in place.
-use Rattle.std.specs.Prelude.{◌≡◌, ℕ, ◌+◌, ℤ, pos, negsuc, List, slice_get, Option, Some, None, MatchOption}
+-- What the calls on packed lists answer. A list that is read in place is of version 2 or 3.
+use Rattle.std.specs.Prelude.{◌≡◌, ℕ, zero, suc, ◌+◌, ◌/◌, ◌<◌, ◌≤◌, ℤ, pos, negsuc, ◌==◌, nat_lt, if◌then◌else◌, List, [], ◌++◌, length, drop, slice_get, slice_index, Option, Some, None, MatchOption}
 use Rattle.bitpack_lists.specs.declared.list_error.ListError.{ListError}
 use Rattle.bitpack_lists.specs.declared.list_kind.ListKind.{ListKind}
 use Rattle.bitpack_lists.specs.declared.list_kind.ListKind.TheVariants.{Plain, Sorted, StrictlySorted}
 use Rattle.bitpack_lists.specs.Parts.{number_of}
 use Rattle.bitpack_lists.specs.Search.{first_at_least}
+use Rattle.bitpack_lists.specs.Texts.{IsText, fault_of_either, version_in}
+use Rattle.bitpack_lists.specs.Version3.{lanes_of}
 
--- the number of a fault of a text: -20 less the fault's own number, so -21 to -32; 0 is no fault
+-- ---- views
+
+-- the bytes are the text of a list of so many lanes; of no lanes they are the empty list, whatever they are
+abbrev pub IsListOf : ℕ → List ℕ → ListKind → List ℕ → Type 0
+IsListOf zero bytes kind values = (kind ≡ Plain) × (values ≡ [])
+IsListOf (suc lane) bytes kind values = IsText (version_in bytes) (suc lane) kind values bytes
+
+-- the lanes that a text says: 1 in place of any but 4 and 8
+abbrev pub known_lanes : ℕ → ℕ
+known_lanes lanes = if lanes == 4 then 4 else if lanes == 8 then 8 else 1
+
+abbrev pub lanes_in : List ℕ → ℕ
+lanes_in bytes = if nat_lt (slice_index bytes 0) 64 then known_lanes (slice_index bytes 2) else lanes_of (slice_index bytes 0 / 64)
+
+-- the first fault of bytes as a text of the version and the lanes that they say
+abbrev pub fault_of_any : List ℕ → Option ListError
+fault_of_any bytes = fault_of_either (lanes_in bytes) bytes
+
+-- all values were written and their number is the answer, or there is no room for them, the answer is -3 and nothing was written
+abbrev pub UnpacksList : List ℕ → List ℕ → List ℕ → ℤ → Type 0
+UnpacksList all before after answer =
+    (length before < length all → (answer ≡ negsuc 2) × (after ≡ before))
+    × (length all ≤ length before → (answer ≡ pos (length all)) × (after ≡ all ++ drop (length all) before))
+
+-- the number of a fault of a text: -20 less the fault's own number, so -21 to -34; 0 is no fault
 abbrev pub fault_number : Option ListError → ℤ
 fault_number None = pos 0
 fault_number (Some fault) = negsuc (19 + number_of fault)

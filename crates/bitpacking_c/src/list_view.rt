@@ -1,27 +1,31 @@
-//! Packed lists of version 2, read in place: a view in the caller's memory holds the bytes, and that they are a list.
+//! Packed lists of versions 2 and 3, read in place: a view in the caller's memory holds the bytes, and that they are a list.
 
 ghost use Rattle.std.specs.Prelude.{◌≡◌, ◌≢◌, ℕ, List, None, length, slice_get, pos};
 ghost use Rattle.bitpack_lists.specs.declared.list_kind.ListKind.{ListKind};
 ghost use Rattle.bitpack_lists.specs.Parts.{kind_byte};
 ghost use Rattle.bitpack_lists.specs.Search.{IsSearched, first_at_least};
-ghost use Rattle.bitpack_lists.specs.Version2.{fault2, List2};
-ghost use Rattle.bitpacking_c.specs.Views.{Gets, Seeks, fault_number};
+ghost use Rattle.bitpack_lists.specs.Texts.{IsText, fault_of_either, version_in};
+ghost use Rattle.bitpack_lists.specs.Version2.{fault2};
+ghost use Rattle.bitpacking_c.specs.Views.{Gets, IsListOf, Seeks, UnpacksList, fault_number, fault_of_any, lanes_in};
 
-use bitpack_lists::ListKind;
 use bitpack_lists::list2::{PackedList, Reads};
+use bitpack_lists::{ListError, ListKind};
 use bitpacking::{BitPacker, BitPacker1x, BitPacker4x, BitPacker8x};
+
+/// The first byte of a text of version 3 is at least this. Divided by this, it is the number that means the lanes.
+const FIRST_OF_3: u8 = 64;
 
 /// A packed list that was opened. It borrows its bytes, which stay as they are while the view is used.
 ///
-/// C has to set it to a list before it is opened, such as the empty one of the header.
+/// C has to set it before it is opened: to the empty list of the header, or all of it to zero, which is an empty list too.
 #[repr(C)]
 #[derive(Drop)]
 pub struct ListView<'a> {
     bytes: &'a [u8],
     lanes: u8,
-    // The bytes have no fault for the packer of so many lanes.
-    pub ghost sound: { fault2 lanes bytes.now ≡ None },
-    pub ghost known: { lanes ≢ 1 → lanes ≢ 4 → lanes ≡ 8 },
+    // The bytes have no fault for the packer of this many lanes.
+    pub ghost sound: { lanes ≢ 0 → fault_of_either lanes bytes.now ≡ None },
+    pub ghost known: { lanes ≢ 0 → lanes ≢ 1 → lanes ≢ 4 → lanes ≡ 8 },
 }
 
 /// Opens a text of a packer of so many lanes.
@@ -33,16 +37,10 @@ fn open<'a, P: BitPacker>(packer: P, lanes: u8, bytes: &'a [u8], view: &mut List
     ensures opened { fault2 P.lanes bytes.now ≡ None → (view.new.bytes.now ≡ bytes.now) × (view.new.lanes ≡ lanes) }
     ensures unchanged { fault2 P.lanes bytes.now ≢ None → view.new ≡ view.old }
 {
-    match PackedList::open(packer, bytes) {
-        Ok(_) => {
-            *view = ListView { bytes, lanes };
-            0
-        }
-        Err(fault) => -20 - fault.number() as isize,
-    }
+    keep(PackedList::open(packer, bytes).err(), lanes, bytes, view)
 }
 
-/// Opens a text that was packed in one lane, which is tested whole. Answers 0, or the number of the first fault.
+/// Opens a text of version 2 that was packed in one lane, which is tested whole. Answers 0, or the number of the first fault.
 #[unsafe(no_mangle)]
 pub extern "C" fn bitpacking_1x_list_open<'a>(bytes: &'a [u8], view: &mut ListView<'a>) -> isize
     ensures answer { result ≡ fault_number (fault2 1 bytes.now) }
@@ -72,35 +70,115 @@ pub extern "C" fn bitpacking_8x_list_open<'a>(bytes: &'a [u8], view: &mut ListVi
     open(BitPacker8x::new(), 8, bytes, view)
 }
 
+/// Opens a text of version 2 or 3 of any packer, as it says itself. It is tested whole. Answers 0, or the number of the first fault.
+#[unsafe(no_mangle)]
+pub extern "C" fn bitpacking_list_open<'a>(bytes: &'a [u8], view: &mut ListView<'a>) -> isize
+    ensures answer { result ≡ fault_number (fault_of_any bytes.now) }
+    ensures opened { fault_of_any bytes.now ≡ None
+        → (view.new.bytes.now ≡ bytes.now) × (view.new.lanes ≡ lanes_in bytes.now) }
+    ensures unchanged { fault_of_any bytes.now ≢ None → view.new ≡ view.old }
+{
+    match stated_lanes(bytes) {
+        1 => open_any(BitPacker1x::new(), 1, bytes, view),
+        4 => open_any(BitPacker4x::new(), 4, bytes, view),
+        _ => open_any(BitPacker8x::new(), 8, bytes, view),
+    }
+}
+
+/// Opens a text of version 2 or 3 of a packer of this many lanes.
+#[inline(always)]
+fn open_any<'a, P: BitPacker>(
+    packer: P,
+    lanes: u8,
+    bytes: &'a [u8],
+    view: &mut ListView<'a>,
+) -> isize
+    requires lanes { lanes ≡ P.lanes }
+    requires known { lanes ≢ 1 → lanes ≢ 4 → lanes ≡ 8 }
+    ensures answer { result ≡ fault_number (fault_of_either P.lanes bytes.now) }
+    ensures opened { fault_of_either P.lanes bytes.now ≡ None
+        → (view.new.bytes.now ≡ bytes.now) × (view.new.lanes ≡ lanes) }
+    ensures unchanged { fault_of_either P.lanes bytes.now ≢ None → view.new ≡ view.old }
+{
+    keep(
+        PackedList::open_any(packer, bytes).err(),
+        lanes,
+        bytes,
+        view,
+    )
+}
+
+/// Keeps the bytes in the view if they have no fault, and answers with the number of their fault.
+#[inline(always)]
+fn keep<'a>(fault: Option<ListError>, lanes: u8, bytes: &'a [u8], view: &mut ListView<'a>) -> isize
+    requires sound { fault ≡ None → fault_of_either lanes bytes.now ≡ None }
+    requires known { lanes ≢ 1 → lanes ≢ 4 → lanes ≡ 8 }
+    ensures answer { result ≡ fault_number fault }
+    ensures opened { fault ≡ None → (view.new.bytes.now ≡ bytes.now) × (view.new.lanes ≡ lanes) }
+    ensures unchanged { fault ≢ None → view.new ≡ view.old }
+{
+    match fault {
+        Some(fault) => -20 - fault.number() as isize,
+        None => {
+            *view = ListView { bytes, lanes };
+            0
+        }
+    }
+}
+
+/// The lanes that a text says: 1 in place of any but 4 and 8.
+fn stated_lanes(bytes: &[u8]) -> u8
+    ensures lanes { result ≡ lanes_in bytes.now }
+    ensures known { result ≢ 1 → result ≢ 4 → result ≡ 8 }
+{
+    if bytes.len() > 0 && bytes[0] >= FIRST_OF_3 {
+        return match bytes[0] / FIRST_OF_3 {
+            1 => 1,
+            2 => 4,
+            _ => 8,
+        };
+    }
+    if bytes.len() < 3 {
+        return 1;
+    }
+    match bytes[2] {
+        4 => 4,
+        8 => 8,
+        _ => 1,
+    }
+}
+
 /// How many values the list has.
 #[unsafe(no_mangle)]
 pub extern "C" fn bitpacking_list_len(view: &ListView<'_>) -> usize
-    ensures { (kind : ListKind) (values : List ℕ) → List2 view.now.lanes kind values view.now.bytes.now
+    ensures { (kind : ListKind) (values : List ℕ) → IsListOf view.now.lanes view.now.bytes.now kind values
         → result ≡ length values }
 {
     match view.lanes {
-        1 => PackedList::from_validated(BitPacker1x::new(), view.bytes).len(),
-        4 => PackedList::from_validated(BitPacker4x::new(), view.bytes).len(),
-        _ => PackedList::from_validated(BitPacker8x::new(), view.bytes).len(),
+        0 => 0,
+        1 => PackedList::from_validated_any(BitPacker1x::new(), view.bytes).len(),
+        4 => PackedList::from_validated_any(BitPacker4x::new(), view.bytes).len(),
+        _ => PackedList::from_validated_any(BitPacker8x::new(), view.bytes).len(),
     }
 }
 
 /// The kind of the list.
 fn kind(view: &ListView<'_>) -> ListKind
-    ensures { (kind : ListKind) (values : List ℕ) → List2 view.now.lanes kind values view.now.bytes.now
+    ensures { (kind : ListKind) (values : List ℕ) → IsListOf view.now.lanes view.now.bytes.now kind values
         → result ≡ kind }
 {
     match view.lanes {
-        1 => PackedList::from_validated(BitPacker1x::new(), view.bytes).kind(),
-        4 => PackedList::from_validated(BitPacker4x::new(), view.bytes).kind(),
-        _ => PackedList::from_validated(BitPacker8x::new(), view.bytes).kind(),
+        0 => ListKind::Plain,
+        1 => PackedList::from_validated_any(BitPacker1x::new(), view.bytes).kind(),
+        4 => PackedList::from_validated_any(BitPacker4x::new(), view.bytes).kind(),
+        _ => PackedList::from_validated_any(BitPacker8x::new(), view.bytes).kind(),
     }
 }
 
 /// The kind of the list: 0 for plain, 1 for sorted, 2 for strictly sorted.
 #[unsafe(no_mangle)]
 pub extern "C" fn bitpacking_list_kind(view: &ListView<'_>) -> u8
-    ensures { (kind : ListKind) (values : List ℕ) → List2 view.now.lanes kind values view.now.bytes.now
+    ensures { (kind : ListKind) (values : List ℕ) → IsListOf view.now.lanes view.now.bytes.now kind values
         → result ≡ kind_byte kind }
 {
     match kind(view) {
@@ -112,20 +190,21 @@ pub extern "C" fn bitpacking_list_kind(view: &ListView<'_>) -> u8
 
 /// The value at a position.
 fn value(view: &ListView<'_>, position: usize) -> Option<u32>
-    ensures { (kind : ListKind) (values : List ℕ) → List2 view.now.lanes kind values view.now.bytes.now
+    ensures { (kind : ListKind) (values : List ℕ) → IsListOf view.now.lanes view.now.bytes.now kind values
         → result ≡ slice_get values position }
 {
     match view.lanes {
-        1 => PackedList::from_validated(BitPacker1x::new(), view.bytes).get(position),
-        4 => PackedList::from_validated(BitPacker4x::new(), view.bytes).get(position),
-        _ => PackedList::from_validated(BitPacker8x::new(), view.bytes).get(position),
+        0 => None,
+        1 => PackedList::from_validated_any(BitPacker1x::new(), view.bytes).get(position),
+        4 => PackedList::from_validated_any(BitPacker4x::new(), view.bytes).get(position),
+        _ => PackedList::from_validated_any(BitPacker8x::new(), view.bytes).get(position),
     }
 }
 
 /// Writes the value at a position and answers 1. From the length on it answers 0 and writes nothing. One block is unpacked at most.
 #[unsafe(no_mangle)]
 pub extern "C" fn bitpacking_list_get(view: &ListView<'_>, position: usize, item: &mut u32) -> i32
-    ensures { (kind : ListKind) (values : List ℕ) → List2 view.now.lanes kind values view.now.bytes.now
+    ensures { (kind : ListKind) (values : List ℕ) → IsListOf view.now.lanes view.now.bytes.now kind values
         → Gets values position item.old item.new result }
 {
     match value(view, position) {
@@ -137,19 +216,49 @@ pub extern "C" fn bitpacking_list_get(view: &ListView<'_>, position: usize, item
     }
 }
 
+/// Writes all values to the front of `values`, and answers their number. If there is no room for them it answers -3 and writes nothing.
+/// The rest of `values` stays as it was. Each block is unpacked once.
+#[unsafe(no_mangle)]
+pub extern "C" fn bitpacking_list_unpack(view: &ListView<'_>, values: &mut [u32]) -> isize
+    ensures { (kind : ListKind) (all : List ℕ) → IsListOf view.now.lanes view.now.bytes.now kind all
+        → UnpacksList all values.old values.new result }
+{
+    match view.lanes {
+        0 => 0,
+        1 => unpack(BitPacker1x::new(), view.bytes, values),
+        4 => unpack(BitPacker4x::new(), view.bytes, values),
+        _ => unpack(BitPacker8x::new(), view.bytes, values),
+    }
+}
+
+/// Unpacks a text of a packer.
+#[inline(always)]
+fn unpack<P: BitPacker>(packer: P, bytes: &[u8], values: &mut [u32]) -> isize
+    requires { fault_of_either P.lanes bytes.now ≡ None }
+    ensures { (kind : ListKind) (all : List ℕ) → IsText (version_in bytes.now) P.lanes kind all bytes.now
+        → UnpacksList all values.old values.new result }
+{
+    let list = PackedList::from_validated_any(packer, bytes);
+    if values.len() < list.len() {
+        return -3;
+    }
+    list.copy_to(values) as isize
+}
+
 /// The first value that is at least the target, with its position.
 fn first_at_least(view: &ListView<'_>, target: u32, reads: &mut Reads) -> Option<(usize, u32)>
-    requires { (kind : ListKind) (values : List ℕ) → List2 view.now.lanes kind values view.now.bytes.now
+    requires { (kind : ListKind) (values : List ℕ) → IsListOf view.now.lanes view.now.bytes.now kind values
         → kind ≢ ListKind.Plain }
-    ensures found { (kind : ListKind) (values : List ℕ) → List2 view.now.lanes kind values view.now.bytes.now
+    ensures found { (kind : ListKind) (values : List ℕ) → IsListOf view.now.lanes view.now.bytes.now kind values
         → result ≡ first_at_least values target }
-    ensures reads { (kind : ListKind) (values : List ℕ) → List2 view.now.lanes kind values view.now.bytes.now
+    ensures reads { (kind : ListKind) (values : List ℕ) → IsListOf view.now.lanes view.now.bytes.now kind values
         → IsSearched view.now.lanes (length values) result reads.old reads.new }
 {
     match view.lanes {
-        1 => PackedList::from_validated(BitPacker1x::new(), view.bytes).seek(target, reads),
-        4 => PackedList::from_validated(BitPacker4x::new(), view.bytes).seek(target, reads),
-        _ => PackedList::from_validated(BitPacker8x::new(), view.bytes).seek(target, reads),
+        0 => None,
+        1 => PackedList::from_validated_any(BitPacker1x::new(), view.bytes).seek(target, reads),
+        4 => PackedList::from_validated_any(BitPacker4x::new(), view.bytes).seek(target, reads),
+        _ => PackedList::from_validated_any(BitPacker8x::new(), view.bytes).seek(target, reads),
     }
 }
 
@@ -161,9 +270,9 @@ fn seek(
     item: &mut u32,
     reads: &mut Reads,
 ) -> i32
-    ensures answer { (kind : ListKind) (values : List ℕ) → List2 view.now.lanes kind values view.now.bytes.now
+    ensures answer { (kind : ListKind) (values : List ℕ) → IsListOf view.now.lanes view.now.bytes.now kind values
         → Seeks kind values target (position.old, item.old) (position.new, item.new) result }
-    ensures reads { (kind : ListKind) (values : List ℕ) → List2 view.now.lanes kind values view.now.bytes.now
+    ensures reads { (kind : ListKind) (values : List ℕ) → IsListOf view.now.lanes view.now.bytes.now kind values
         → IsSearched view.now.lanes (length values) (first_at_least values target) reads.old reads.new }
 {
     if kind(view) == ListKind::Plain {
@@ -186,7 +295,7 @@ pub extern "C" fn bitpacking_list_seek(
     position: &mut usize,
     item: &mut u32,
 ) -> i32
-    ensures { (kind : ListKind) (values : List ℕ) → List2 view.now.lanes kind values view.now.bytes.now
+    ensures { (kind : ListKind) (values : List ℕ) → IsListOf view.now.lanes view.now.bytes.now kind values
         → Seeks kind values target (position.old, item.old) (position.new, item.new) result }
 {
     seek(view, target, position, item, &mut Reads::new())

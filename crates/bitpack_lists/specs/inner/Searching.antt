@@ -1,5 +1,5 @@
 -- What the inner functions of a search know of an opened list.
-use Rattle.std.specs.Prelude.{◌≡◌, ℕ, suc, ◌+◌, ◌*◌, ◌^◌, ◌<◌, ◌≤◌, true, false, List, take, drop, Option, Some, None, IfSome}
+use Rattle.std.specs.Prelude.{◌≡◌, ℕ, suc, ◌+◌, ◌*◌, ◌^◌, ◌<◌, ◌≤◌, true, false, List, take, Option, Some, None, IfSome}
 use Rattle.bitpacking.specs.declared.bit_packer.BitPacker.{Ghosts}
 use Rattle.bitpack_lists.specs.declared.list2.packed_list.ListBlock.{ListBlock}
 use Rattle.bitpack_lists.specs.declared.list2.packed_list.KeptBlock.{KeptBlock}
@@ -7,7 +7,8 @@ use Rattle.bitpack_lists.specs.declared.list2.packed_list.PackedList.{PackedList
 use Rattle.bitpack_lists.specs.declared.list2.reads.Reads.{Reads}
 use Rattle.bitpack_lists.specs.Parts.{whole_blocks}
 use Rattle.bitpack_lists.specs.Search.{HasGrown, in_whole_block}
-use Rattle.bitpack_lists.specs.Version2.{block_at, kind_at, last_at, offset_at, value_at, width_at}
+use Rattle.bitpack_lists.specs.Texts.{value_in}
+use Rattle.bitpack_lists.specs.Version2.{block_at, kind_at, last_at, offset_at, width_at}
 
 -- only entries were read
 pub record ReadsEntries (old new : Reads) : Type 0 where
@@ -32,11 +33,11 @@ module _ {P : Type 0} {members : Ghosts P} (list : PackedList P members) where
   blocks_of = whole_blocks members.lanes list.count
 
   abbrev pub rest_of : List ℕ
-  rest_of = drop 7 list.bytes.now
+  rest_of = list.rest.now
 
   -- the value at each position
   abbrev pub value_of : ℕ → ℕ
-  value_of = value_at members.lanes blocks_of list.kind rest_of
+  value_of = value_in list.version members.lanes list.count list.kind rest_of
 
   -- the values of each whole block
   abbrev pub block_of_list : ℕ → List ℕ

@@ -143,7 +143,7 @@ fn read_block<'a, P: BitPacker>(
         × IsRead1 P.lanes kind block bytes.now result.0 result.1.now }
 {
     let from = out.len();
-    append_zeros(out, P::BLOCK_LEN);
+    append_zeros(out, 0, P::BLOCK_LEN);
     unpack_block(packer, kind, bytes, out.slice_mut(from..))
 }
 

@@ -31,13 +31,20 @@ impl Entry {
         &rest[start..start + 4 * lanes * self.width as usize]
     }
 
+    /// The bytes of the entry.
+    pub(crate) fn bytes(self) -> [u8; ENTRY_LEN]
+        ensures { result ≡ self.width ∷ bytes_of_words (self.offset ∷ self.last ∷ []) }
+    {
+        let [a, b, c, d] = self.offset.to_le_bytes();
+        let [e, f, g, h] = self.last.to_le_bytes();
+        [self.width, a, b, c, d, e, f, g, h]
+    }
+
     /// Appends the entry, where there is room for it.
     pub(crate) fn write(self, out: &mut Vec<u8>)
         requires { vec_len out.old + ENTRY_LEN ≤ vec_capacity out.old }
         ensures { HasAppended out.old out.new (self.width ∷ bytes_of_words (self.offset ∷ self.last ∷ [])) }
     {
-        let [a, b, c, d] = self.offset.to_le_bytes();
-        let [e, f, g, h] = self.last.to_le_bytes();
-        append(out, &[self.width, a, b, c, d, e, f, g, h]);
+        append(out, &self.bytes());
     }
 }

@@ -1,11 +1,11 @@
 //! Tests of texts of version 2. The bytes are untrusted.
 
-ghost use Rattle.std.specs.Prelude.{◌≡◌, ◌+◌, ◌-◌, ◌*◌, ◌^◌, ◌<◌, ◌≤◌, length, slice_index, IfOk, None};
+ghost use Rattle.std.specs.Prelude.{◌≡◌, ◌+◌, ◌-◌, ◌*◌, ◌^◌, ◌<◌, ◌≤◌, ℕ, length, slice_index, IfOk, None};
 ghost use Rattle.bitpacking.specs.declared.kind.Kind.{Kind};
 ghost use Rattle.bitpacking.specs.Codes.{values_of};
 ghost use Rattle.bitpacking.specs.Layout.{codes_of};
 ghost use Rattle.bitpack_lists.specs.Parts.{BeginsWithHeader, FindsFault, IsBody, whole_blocks};
-ghost use Rattle.bitpack_lists.specs.Version2.{block_fault2, body_fault2, entry_fault2, fault2, first_fault, is_out, least_below, rest_fault2, short_of, tail_start, value_at, widths_before};
+ghost use Rattle.bitpack_lists.specs.Version2.{block_fault2, blocks_fault, body_fault2, entry_fault2, fault2, first_fault, is_out, kind_at, least_below, rest_fault2, short_of, tail_start, value_with, widths_before};
 
 use super::entry::{ENTRY_LEN, Entry};
 use super::order::{first_out, first_out_of_words};
@@ -14,7 +14,7 @@ use crate::chain::{LONGEST_BLOCK, next_kind};
 use crate::header::{HEADER_LEN, Header};
 use crate::list_error::ListError;
 use crate::loose::fits_smaller;
-use bitpacking::BitPacker;
+use bitpacking::{BitPacker, Kind};
 
 /// Tests the whole text, and returns its header.
 // Reads bytes: read, test_rest.
@@ -28,27 +28,77 @@ pub(crate) fn test<P: BitPacker>(packer: &P, bytes: &[u8]) -> Result<Header, Lis
 }
 
 /// Tests what is after the header.
-// Reads bytes: test_room, test_entries, test_room, test_bodies, first_out_of_words.
+// Reads bytes: test_blocks, first_out_of_words.
 fn test_rest<P: BitPacker>(packer: &P, header: Header, rest: &[u8]) -> Result<(), ListError>
     requires { header.count ≤ 2 ^ 28 }
     ensures { FindsFault result (rest_fault2 P.lanes header.kind header.count rest.now) }
 {
-    let len = P::BLOCK_LEN;
-    let blocks = header.count / len;
-    let tail = header.count % len;
-    test_room(rest, ENTRY_LEN * blocks + 4 * tail)?;
-    let widths = test_entries(rest, blocks)?;
-    let start = ENTRY_LEN * blocks + len / 8 * widths;
-    test_room(rest, start + 4 * tail)?;
-    let (last, out) = test_bodies(packer, header, rest)?;
-    let tail_out = first_out_of_words(header.kind, len * blocks, last, &rest[start..], tail);
-    if let Some(position) = out.or(tail_out) {
+    let tail = header.count % P::BLOCK_LEN;
+    let blocks = test_blocks(packer, header, 4 * tail, rest)?;
+    let tail_out = first_out_of_words(
+        header.kind,
+        header.count - tail,
+        blocks.last,
+        &rest[blocks.end..],
+        tail,
+    );
+    if let Some(position) = blocks.out.or(tail_out) {
         return Err(ListError::NotSorted(position));
     }
-    if rest.len() > start + 4 * tail {
+    if rest.len() > blocks.end + 4 * tail {
         return Err(ListError::Trailing);
     }
     Ok(())
+}
+
+/// What the test of the blocks leaves: where their bodies end, the last value, the first position out of order, and the kind of what
+/// follows.
+#[derive(Clone, Copy)]
+pub(crate) struct TestedBlocks {
+    pub(crate) end: usize,
+    pub(crate) last: u32,
+    pub(crate) out: Option<usize>,
+    pub(crate) kind: Kind,
+}
+
+/// Tests the blocks of a list, after which come this many bytes or more.
+// Reads bytes: test_room, test_entries, test_room, test_bodies.
+pub(crate) fn test_blocks<P: BitPacker>(
+    packer: &P,
+    header: Header,
+    tail: usize,
+    rest: &[u8],
+) -> Result<TestedBlocks, ListError>
+    requires count { header.count ≤ 2 ^ 28 }
+    requires tail { tail ≤ 4 * header.count }
+    ensures fault { FindsFault result
+        (blocks_fault P.lanes (whole_blocks P.lanes header.count) tail header.kind rest.now) }
+    ensures end { IfOk result (λ tested. tested.end
+        ≡ tail_start P.lanes (whole_blocks P.lanes header.count) rest.now) }
+    ensures room { IfOk result (λ tested. tested.end + tail ≤ length rest.now) }
+    ensures kind { IfOk result (λ tested. tested.kind
+        ≡ kind_at header.kind rest.now (whole_blocks P.lanes header.count)) }
+    // Whatever values follow.
+    ensures last { IfOk result (λ tested. (later : ℕ → ℕ) → 0 < whole_blocks P.lanes header.count
+        → value_with P.lanes (whole_blocks P.lanes header.count) header.kind rest.now later
+        (32 * P.lanes * whole_blocks P.lanes header.count - 1) ≡ tested.last) }
+    ensures out { IfOk result (λ tested. (later : ℕ → ℕ) → tested.out ≡ least_below
+        (is_out header.kind (value_with P.lanes (whole_blocks P.lanes header.count) header.kind rest.now later))
+        (32 * P.lanes * whole_blocks P.lanes header.count)) }
+{
+    let len = P::BLOCK_LEN;
+    let blocks = header.count / len;
+    test_room(rest, ENTRY_LEN * blocks + tail)?;
+    let widths = test_entries(rest, blocks)?;
+    let end = ENTRY_LEN * blocks + len / 8 * widths;
+    test_room(rest, end + tail)?;
+    let (last, out, kind) = test_bodies(packer, header, rest)?;
+    Ok(TestedBlocks {
+        end,
+        last,
+        out,
+        kind,
+    })
 }
 
 /// Tests that there are so many bytes.
@@ -85,26 +135,28 @@ fn test_entries(rest: &[u8], blocks: usize) -> Result<usize, ListError>
     Ok(widths)
 }
 
-/// Tests the bodies of the blocks, whose entries were tested. Returns the last value of the last block, and the first position out
-/// of order in the blocks.
+/// Tests the bodies of the blocks, whose entries were tested. Returns the last value of the last block, the first position out of
+/// order in the blocks, and the kind of what follows.
 // Reads bytes: new, first, for, entry, unpack, body, test_block, first_out, next_kind.
 fn test_bodies<P: BitPacker>(
     packer: &P,
     header: Header,
     rest: &[u8],
-) -> Result<(u32, Option<usize>), ListError>
+) -> Result<(u32, Option<usize>, Kind), ListError>
     requires few { header.count ≤ 2 ^ 28 }
     requires entries { first_fault (entry_fault2 rest.now) (whole_blocks P.lanes header.count) ≡ None }
     requires room { tail_start P.lanes (whole_blocks P.lanes header.count) rest.now ≤ length rest.now }
     ensures fault { FindsFault result
         (first_fault (body_fault2 P.lanes (whole_blocks P.lanes header.count) header.kind rest.now)
         (whole_blocks P.lanes header.count)) }
-    ensures last { IfOk result (λ found. 0 < whole_blocks P.lanes header.count
-        → value_at P.lanes (whole_blocks P.lanes header.count) header.kind rest.now
+    ensures last { IfOk result (λ found. (later : ℕ → ℕ) → 0 < whole_blocks P.lanes header.count
+        → value_with P.lanes (whole_blocks P.lanes header.count) header.kind rest.now later
         (32 * P.lanes * whole_blocks P.lanes header.count - 1) ≡ found.0) }
-    ensures out { IfOk result (λ found. found.1 ≡ least_below
-        (is_out header.kind (value_at P.lanes (whole_blocks P.lanes header.count) header.kind rest.now))
+    ensures out { IfOk result (λ found. (later : ℕ → ℕ) → found.1 ≡ least_below
+        (is_out header.kind (value_with P.lanes (whole_blocks P.lanes header.count) header.kind rest.now later))
         (32 * P.lanes * whole_blocks P.lanes header.count)) }
+    ensures kind { IfOk result (λ found. found.2
+        ≡ kind_at header.kind rest.now (whole_blocks P.lanes header.count)) }
 {
     let len = P::BLOCK_LEN;
     let blocks = header.count / len;
@@ -123,7 +175,7 @@ fn test_bodies<P: BitPacker>(
         last = entry.last;
         kind = next_kind(kind, last);
     }
-    Ok((last, out))
+    Ok((last, out, kind))
 }
 
 /// Tests that the width of a block is the least that its body allows, and that it ends with the value of its entry. `last` is the

@@ -2,11 +2,27 @@
 
 ghost use Rattle.std.specs.Prelude.{◌≡◌, ◌+◌, ◌-◌, ◌*◌, ◌^◌, ◌<◌, ◌≤◌, ℕ, true, false, length, slice_index, None};
 ghost use Rattle.bitpacking.specs.Words.{word};
-ghost use Rattle.bitpack_lists.specs.Version2.{is_out, least_below};
+ghost use Rattle.bitpack_lists.specs.Parts.{FindsFault};
+ghost use Rattle.bitpack_lists.specs.Version2.{is_out, least_below, values_fault};
 ghost use Rattle.bitpack_lists.specs.inner.Opening.{IsOrdered, is_fall};
 
+use crate::header::LONGEST_LIST;
+use crate::list_error::ListError;
 use crate::list_kind::ListKind;
 use crate::little_endian::read_one;
+
+/// Tests that a list can have these values: they are not too many, and in the order of their kind.
+pub(crate) fn test_values(kind: ListKind, values: &[u32]) -> Result<(), ListError>
+    ensures { FindsFault result (values_fault kind values.now) }
+{
+    if values.len() > LONGEST_LIST {
+        return Err(ListError::TooLong(values.len()));
+    }
+    if let Some(position) = first_out(kind, 0, 0, values) {
+        return Err(ListError::NotSorted(position));
+    }
+    Ok(())
+}
 
 /// Whether the value at a position is out of order after the one before it.
 fn is_out(kind: ListKind, position: usize, before: u32, value: u32) -> bool

@@ -1,4 +1,4 @@
-//! A packed list of version 2, read in place: it borrows its text.
+//! A packed list of version 2 or 3, read in place: it borrows its text.
 
 mod common;
 mod copying;
@@ -6,12 +6,16 @@ mod cursor;
 mod intersection;
 mod of_kind;
 mod search;
+mod tail;
+mod versions;
 mod walk;
 
-ghost use Rattle.std.specs.Prelude.{◌≡◌, None};
+ghost use Rattle.std.specs.Prelude.{◌≡◌, ◌^◌, ◌≤◌, drop};
 ghost use Rattle.bitpacking.specs.Bits.{AreBytes};
-ghost use Rattle.bitpack_lists.specs.Parts.{BeginsWithHeader};
-ghost use Rattle.bitpack_lists.specs.Version2.{fault2};
+ghost use Rattle.bitpack_lists.specs.declared.version.Version.{Version};
+ghost use Rattle.bitpack_lists.specs.Parts.{whole_blocks};
+ghost use Rattle.bitpack_lists.specs.Texts.{States};
+ghost use Rattle.bitpack_lists.specs.Version2.{kind_at, tail_start};
 
 use super::entry::Entry;
 use super::opening::test;
@@ -20,7 +24,7 @@ use crate::chain::{LONGEST_BLOCK, next_kind};
 use crate::header::{HEADER_LEN, Header};
 use crate::list_error::ListError;
 use crate::list_kind::ListKind;
-use crate::little_endian::read_one;
+use crate::version::Version;
 use bitpacking::{BitPacker, Kind};
 pub use common::append_common;
 pub use cursor::Cursor;
@@ -32,13 +36,21 @@ use std::alloc::AllocError;
 #[derive(Drop)]
 pub struct PackedList<'a, P: BitPacker> {
     packer: P,
+    version: Version,
     kind: ListKind,
     count: usize,
     bytes: &'a [u8],
-    // The text has no fault, so that it is the text of a list, which is of this kind and so many values.
+    // What is after the header, and its end.
+    rest: &'a [u8],
+    tail: &'a [u8],
+    // What is packed in a tail of version 3 in place of its values.
+    tail_kind: Kind,
+    // The text has no fault, so that it is the text of a list, which is of this kind and has this count of values.
     pub ghost are_bytes: { AreBytes bytes.now },
-    pub ghost sound: { fault2 P.lanes bytes.now ≡ None },
-    ghost begins: { BeginsWithHeader 2 P.lanes kind count bytes.now },
+    ghost few: { count ≤ 2 ^ 28 },
+    ghost states: { States version P.lanes bytes.now kind count rest.now },
+    ghost tail_is: { tail.now ≡ drop (tail_start P.lanes (whole_blocks P.lanes count) rest.now) rest.now },
+    ghost tail_kind_is: { version ≡ Version.Three → tail_kind ≡ kind_at kind rest.now (whole_blocks P.lanes count) },
 }
 
 /// A whole block of a list: which it is, its entry, and what is packed in place of its values.
@@ -66,25 +78,29 @@ impl<'a, P: BitPacker> Clone for PackedList<'a, P> {
 
     ghost is_infallible = { λ _. ⊤ };
 
-    // Reads bytes: packer, bytes.
+    // Reads bytes: packer, bytes, rest, tail.
     fn clone(&self) -> Result<Self, AllocError> {
         Ok(PackedList {
             packer: self.packer,
+            version: self.version,
             kind: self.kind,
             count: self.count,
             bytes: self.bytes,
+            rest: self.rest,
+            tail: self.tail,
+            tail_kind: self.tail_kind,
         })
     }
 }
 
 impl<'a, P: BitPacker> PackedList<'a, P> {
-    ghost use Rattle.std.specs.Prelude.{length, slice_get, IfOk};
-    ghost use Rattle.bitpack_lists.specs.Parts.{FindsFault};
-    ghost use Rattle.bitpack_lists.specs.Opened.{kind_of, text, values};
-    ghost use Rattle.bitpack_lists.specs.Version2.{List2, OfNoOther};
+    ghost use Rattle.std.specs.Prelude.{length, slice_get, IfOk, None};
+    ghost use Rattle.bitpack_lists.specs.Opened.{kind_of, text, values, version_of};
+    ghost use Rattle.bitpack_lists.specs.Parts.{BeginsWithHeader, FindsFault};
+    ghost use Rattle.bitpack_lists.specs.Version2.{List2, OfNoOther, fault2};
 
-    /// Opens a text, which is tested whole. Any bytes are taken, and no memory.
-    // Reads bytes: test, packer, bytes.
+    /// Opens a text of version 2, which is tested whole. Any bytes are taken, and no memory.
+    // Reads bytes: test, packer, bytes, of_text.
     pub fn open(packer: P, bytes: &'a [u8]) -> Result<PackedList<'a, P>, ListError>
         // Bytes with a fault are refused for the first, and bytes without one are opened.
         ensures fault { FindsFault result (fault2 P.lanes bytes.now) }
@@ -92,33 +108,46 @@ impl<'a, P: BitPacker> PackedList<'a, P> {
         // The bytes are the text of this kind and these values, and of no other list.
         ensures list { IfOk result (λ list. List2 P.lanes (kind_of list) (values list) bytes.now) }
         ensures only { IfOk result (λ list. OfNoOther P.lanes (kind_of list) (values list) bytes.now) }
+        ensures version { IfOk result (λ list. version_of list ≡ Version.Two) }
     {
         let header = test(&packer, bytes)?;
-        Ok(PackedList {
-            packer,
-            kind: header.kind,
-            count: header.count,
-            bytes,
-        })
+        Ok(PackedList::of_text(packer, header, bytes))
     }
 
-    /// The list of a text that was opened before: the blocks are not tested again. It is for a caller who keeps the text
-    /// alone, and the fact that it has no fault.
-    // Reads bytes: read, bytes, packer.
+    /// The list of a text of version 2 that was opened before: the blocks are not tested again. It is for a caller who keeps the
+    /// text alone, and the fact that it has no fault.
+    // Reads bytes: read, bytes, of_text, packer.
     pub fn from_validated(packer: P, bytes: &'a [u8]) -> PackedList<'a, P>
         requires sound { fault2 P.lanes bytes.now ≡ None }
         ensures bytes { text result ≡ bytes.now }
         ensures list { List2 P.lanes (kind_of result) (values result) bytes.now }
         ensures only { OfNoOther P.lanes (kind_of result) (values result) bytes.now }
+        ensures version { version_of result ≡ Version.Two }
     {
         match Header::read(2, P::BLOCK_LEN / 32, bytes) {
-            Ok(Header { kind, count }) => PackedList {
-                packer,
-                kind,
-                count,
-                bytes,
-            },
+            Ok(header) => PackedList::of_text(packer, header, bytes),
             Err(_) => unreachable!(),
+        }
+    }
+
+    // The list of a text of version 2 that has this header.
+    // Reads bytes: bytes, packer, first.
+    fn of_text(packer: P, header: Header, bytes: &'a [u8]) -> PackedList<'a, P>
+        requires sound { fault2 P.lanes bytes.now ≡ None }
+        requires begins { BeginsWithHeader 2 P.lanes header.kind header.count bytes.now }
+        ensures { (text result ≡ bytes.now) × (version_of result ≡ Version.Two) }
+    {
+        let Header { kind, count } = header;
+        let rest = &bytes[HEADER_LEN..];
+        PackedList {
+            packer,
+            version: Version::Two,
+            kind,
+            count,
+            bytes,
+            rest,
+            tail: &rest[rest.len() - 4 * (count % P::BLOCK_LEN)..],
+            tail_kind: kind.first(),
         }
     }
 
@@ -155,7 +184,7 @@ impl<'a, P: BitPacker> PackedList<'a, P> {
 
 impl<'a, P: BitPacker> PackedList<'a, P> {
     ghost use Rattle.std.specs.Prelude.{◌+◌, ◌*◌, ◌<◌, ◌≤◌, length, take, slice_index};
-    ghost use Rattle.bitpack_lists.specs.inner.Searching.{IsListBlock, ReadsEntries, block_of_list, blocks_of, rest_of, value_of};
+    ghost use Rattle.bitpack_lists.specs.inner.Searching.{IsListBlock, ReadsEntries, block_of_list, blocks_of, rest_of};
     ghost use Rattle.bitpack_lists.specs.Version2.{kind_at, last_at, offset_at, width_at};
 
     /// The value at an index of a whole block.
@@ -178,16 +207,6 @@ impl<'a, P: BitPacker> PackedList<'a, P> {
         values[index]
     }
 
-    /// The value at a position of the tail.
-    // Reads bytes: read_one, bytes.
-    fn value_in_tail(&self, position: usize) -> u32
-        requires tail { 32 * P.lanes * blocks_of self.now ≤ position }
-        requires within { position < self.now.count }
-        ensures { result ≡ value_of self.now position }
-    {
-        read_one(self.bytes, self.bytes.len() - 4 * (self.count - position))
-    }
-
     /// The kind of a block, which goes on from the last value of the block before.
     fn kind_of(&self, block: usize, reads: &mut Reads) -> Kind
         requires { block < blocks_of self.now }
@@ -202,7 +221,7 @@ impl<'a, P: BitPacker> PackedList<'a, P> {
     }
 
     /// Reads the entry of a block, which is in the text.
-    // Reads bytes: entry, bytes.
+    // Reads bytes: entry, rest.
     pub(crate) fn entry(&self, block: usize, reads: &mut Reads) -> Entry
         requires { block < blocks_of self.now }
         ensures width { result.width ≡ width_at (rest_of self.now) block }
@@ -211,11 +230,11 @@ impl<'a, P: BitPacker> PackedList<'a, P> {
         ensures entries { reads.new.entries ≡ reads.old.entries + 1 }
         ensures blocks { reads.new.blocks ≡ reads.old.blocks }
     {
-        reads.entry(&self.bytes[HEADER_LEN..], block)
+        reads.entry(self.rest, block)
     }
 
     /// Unpacks a block, whose body is in the text.
-    // Reads bytes: unpack, packer, bytes.
+    // Reads bytes: unpack, packer, rest.
     fn unpack(&self, block: ListBlock, values: &mut [u32], reads: &mut Reads)
         requires block { IsListBlock self.now block }
         requires room { P.BLOCK_LEN ≤ length values.old }
@@ -228,7 +247,7 @@ impl<'a, P: BitPacker> PackedList<'a, P> {
             block.kind,
             block.entry,
             self.count / P::BLOCK_LEN,
-            &self.bytes[HEADER_LEN..],
+            self.rest,
             values,
         );
     }

@@ -1,12 +1,14 @@
 //! Texts of version 1 into those of version 2. The bytes are untrusted.
 
-ghost use Rattle.std.specs.Prelude.{◌≡◌, ◌+◌, ◌*◌, ◌≤◌, ◌<◌, ◌++◌, ⊤, ℕ, List, length, OnOk, OnErr, IfErr, MatchOption, vec_len, vec_capacity};
+ghost use Rattle.std.specs.Prelude.{◌≡◌, ◌+◌, ◌*◌, ◌≤◌, ◌<◌, ◌++◌, ⊤, ℕ, List, length, drop, OnOk, OnErr, IsOk, IfOk, IfErr, MatchOption, vec_len, vec_capacity};
 ghost use Rattle.bitpacking.specs.Bits.{AreBytes};
+ghost use Rattle.bitpacking.specs.Words.{bytes_of_words};
 ghost use Rattle.bitpack_lists.specs.declared.list_kind.ListKind.{ListKind};
-ghost use Rattle.bitpack_lists.specs.Parts.{whole_blocks};
+ghost use Rattle.bitpack_lists.specs.Parts.{tail_values, whole_blocks};
 ghost use Rattle.bitpack_lists.specs.Version1.{IsSound1, List1, fault1};
-ghost use Rattle.bitpack_lists.specs.Version2.{IsRest2, List2, first_out};
-ghost use Rattle.bitpack_lists.specs.inner.Opening.{HasBodies};
+ghost use Rattle.bitpack_lists.specs.Version2.{List2, first_out, kind_at};
+ghost use Rattle.bitpack_lists.specs.inner.Appending.{HasAppended};
+ghost use Rattle.bitpack_lists.specs.inner.Opening.{AreEntries, HasBodies};
 ghost use Rattle.bitpack_lists.specs.inner.Upgrading.{IsRest1, IsTested1};
 
 use super::entry::{ENTRY_LEN, Entry};
@@ -17,7 +19,7 @@ use crate::list::reading::{test, unpack_block};
 use crate::list_error::ListError;
 use crate::list_kind::ListKind;
 use crate::reserved::append;
-use bitpacking::BitPacker;
+use bitpacking::{BitPacker, Kind};
 
 /// Appends the text of version 2 of a list whose text of version 1 these bytes are.
 ///
@@ -25,7 +27,7 @@ use bitpacking::BitPacker;
 /// list may not decrease, and those of a strictly sorted one have to increase. The bodies of the blocks are copied, since they
 /// are the same bytes in both versions. The vector grows once at most, by the length of the new text, which has eight bytes more
 /// than the old one for each whole block.
-// Reads bytes: test, first_out_of_rest, write, write_entries, copy_bodies.
+// Reads bytes: test, test_order, write, write_entries, copy_bodies, append.
 pub fn upgrade<P: BitPacker>(packer: &P, bytes: &[u8], out: &mut Vec<u8>) -> Result<(), ListError>
     // The bytes are the text of some values, and what is appended is the text of version 2 of the same.
     ensures ok { OnOk result ((kind : ListKind) × (values : List ℕ) × (text : List ℕ)
@@ -45,7 +47,7 @@ pub fn upgrade<P: BitPacker>(packer: &P, bytes: &[u8], out: &mut Vec<u8>) -> Res
 {
     let header = test(packer, bytes)?;
     let rest = &bytes[HEADER_LEN..];
-    if let Some(position) = first_out_of_rest(packer, header, rest) {
+    if let Err(position) = test_order(packer, header, rest) {
         return Err(ListError::NotSorted(position));
     }
     let blocks = header.count / P::BLOCK_LEN;
@@ -55,15 +57,26 @@ pub fn upgrade<P: BitPacker>(packer: &P, bytes: &[u8], out: &mut Vec<u8>) -> Res
     }
     header.write(2, P::BLOCK_LEN / 32, out);
     write_entries(packer, header, rest, out);
-    copy_bodies::<P>(header, rest, out);
+    let tail = copy_bodies::<P>(header, rest, out);
+    append(out, tail);
     Ok(())
 }
 
-/// The first position out of order of the values whose blocks and tail these bytes are.
-fn first_out_of_rest<P: BitPacker>(packer: &P, header: Header, bytes: &[u8]) -> Option<usize>
+/// Tests the order of the values whose blocks and tail these bytes are. Returns the kind of what follows the blocks, or the first
+/// position out of order.
+pub(crate) fn test_order<P: BitPacker>(
+    packer: &P,
+    header: Header,
+    bytes: &[u8],
+) -> Result<Kind, usize>
     requires tested { IsTested1 P.lanes header.count bytes.now }
-    ensures { (values : List ℕ) → IsRest1 P.lanes header.kind header.count values bytes.now
-        → result ≡ Rattle.bitpack_lists.specs.Version2.first_out header.kind values }
+    ensures order { (values : List ℕ) → IsRest1 P.lanes header.kind header.count values bytes.now
+        → MatchOption (Rattle.bitpack_lists.specs.Version2.first_out header.kind values) (IsOk result)
+        (λ position. result ≡ Err position) }
+    ensures kind { IfOk result (λ found. (values entries : List ℕ)
+        → IsRest1 P.lanes header.kind header.count values bytes.now
+        → AreEntries P.lanes (whole_blocks P.lanes header.count) header.kind values entries
+        → found ≡ kind_at header.kind entries (whole_blocks P.lanes header.count)) }
 {
     let len = P::BLOCK_LEN;
     let blocks = header.count / len;
@@ -75,20 +88,29 @@ fn first_out_of_rest<P: BitPacker>(packer: &P, header: Header, bytes: &[u8]) -> 
         let block = &mut room[..len];
         (kind, rest) = unpack_block(packer, kind, rest, block);
         if let Some(position) = first_out(header.kind, len * index, last, block) {
-            return Some(position);
+            return Err(position);
         }
         last = block[len - 1];
     }
-    first_out_of_words(header.kind, len * blocks, last, rest, header.count % len)
+    match first_out_of_words(header.kind, len * blocks, last, rest, header.count % len) {
+        Some(position) => Err(position),
+        None => Ok(kind),
+    }
 }
 
 /// Appends an entry for each whole block, where there is room for them.
-fn write_entries<P: BitPacker>(packer: &P, header: Header, bytes: &[u8], out: &mut Vec<u8>)
+pub(crate) fn write_entries<P: BitPacker>(
+    packer: &P,
+    header: Header,
+    bytes: &[u8],
+    out: &mut Vec<u8>,
+)
     requires tested { IsTested1 P.lanes header.count bytes.now }
     requires room { vec_len out.old + ENTRY_LEN * whole_blocks P.lanes header.count ≤ vec_capacity out.old }
     ensures entries { (values : List ℕ) → IsRest1 P.lanes header.kind header.count values bytes.now
         → (entries : List ℕ) × HasBodies P.lanes (whole_blocks P.lanes header.count) header.kind values entries 0
         × (out.new.items ≡ out.old.items ++ entries) }
+    ensures len { vec_len out.new ≡ vec_len out.old + ENTRY_LEN * whole_blocks P.lanes header.count }
     ensures capacity { vec_capacity out.old ≤ vec_capacity out.new }
 {
     let len = P::BLOCK_LEN;
@@ -112,14 +134,22 @@ fn write_entries<P: BitPacker>(packer: &P, header: Header, bytes: &[u8], out: &m
     }
 }
 
-/// Appends the bodies of the whole blocks and the tail, where there is room for them.
-fn copy_bodies<P: BitPacker>(header: Header, bytes: &[u8], out: &mut Vec<u8>)
+/// Appends the bodies of the whole blocks, if there is room for them, and returns the tail.
+pub(crate) fn copy_bodies<'a, P: BitPacker>(
+    header: Header,
+    bytes: &'a [u8],
+    out: &mut Vec<u8>,
+) -> &'a [u8]
     requires sound { IsSound1 P.lanes header.count bytes.now }
-    requires room { vec_len out.old + length bytes.now ≤ vec_capacity out.old + whole_blocks P.lanes header.count }
-    ensures { (values entries : List ℕ) → IsRest1 P.lanes header.kind header.count values bytes.now
+    requires room { vec_len out.old + length bytes.now
+        ≤ vec_capacity out.old + whole_blocks P.lanes header.count + 4 * tail_values P.lanes header.count }
+    ensures bodies { (values entries : List ℕ) → IsRest1 P.lanes header.kind header.count values bytes.now
         → HasBodies P.lanes (whole_blocks P.lanes header.count) header.kind values entries 0
-        → (later : List ℕ) × IsRest2 P.lanes (whole_blocks P.lanes header.count) header.kind values (entries ++ later)
-        × (out.new.items ≡ out.old.items ++ later) }
+        → (later : List ℕ) × HasBodies P.lanes (whole_blocks P.lanes header.count) header.kind values (entries ++ later)
+        (whole_blocks P.lanes header.count) × HasAppended out.old out.new later
+        × (result.now ≡ bytes_of_words (drop (32 * P.lanes * whole_blocks P.lanes header.count) values)) }
+    ensures len { vec_len out.new + length result.now + whole_blocks P.lanes header.count
+        ≡ vec_len out.old + length bytes.now }
 {
     let mut rest = bytes;
     for _ in 0..header.count / P::BLOCK_LEN {
@@ -127,5 +157,5 @@ fn copy_bodies<P: BitPacker>(header: Header, bytes: &[u8], out: &mut Vec<u8>)
         append(out, &rest[1..end]);
         rest = &rest[end..];
     }
-    append(out, rest);
+    rest
 }

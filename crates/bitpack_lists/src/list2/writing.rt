@@ -1,26 +1,23 @@
 //! Lists into their texts of version 2.
 
-ghost use Rattle.std.specs.Prelude.{◌≡◌, ◌+◌, ◌*◌, ◌^◌, ◌<◌, ◌≤◌, ◌++◌, ℕ, List, length, take, drop, OnOk, OnErr, IfErr, MatchOption, None, vec_len, vec_capacity};
+ghost use Rattle.std.specs.Prelude.{◌≡◌, ◌+◌, ◌*◌, ◌^◌, ◌<◌, ◌≤◌, ◌++◌, ℕ, List, length, take, drop, IfOk, IsOk, OnOk, OnErr, IfErr, MatchOption, None, vec_len, vec_capacity};
 ghost use Rattle.bitpacking.specs.Bits.{AreBytes};
-ghost use Rattle.bitpacking.specs.Calls.{CanPack};
-ghost use Rattle.bitpacking.specs.Layout.{Holds, size};
-ghost use Rattle.bitpack_lists.specs.inner.Appending.{HasAppended};
-ghost use Rattle.bitpack_lists.specs.Chains.{LeastWidths};
-ghost use Rattle.bitpack_lists.specs.Parts.{first_kind, whole_blocks};
-ghost use Rattle.bitpack_lists.specs.Version2.{List2, first_out, tail_start};
+ghost use Rattle.bitpack_lists.specs.Parts.{whole_blocks};
+ghost use Rattle.bitpack_lists.specs.Version2.{List2, first_out, tail_start, values_fault};
 ghost use Rattle.bitpack_lists.specs.inner.Opening.{HasBodies};
+ghost use Rattle.bitpack_lists.specs.inner.Sizes.{AreReady, IsBlocksSize, IsSize2};
 
 use super::entry::{ENTRY_LEN, Entry};
 use super::order;
 use super::reads::Reads;
-use crate::chain::{LONGEST_BODY, next_kind};
-use crate::header::{Header, LONGEST_LIST};
+use crate::chain::next_kind;
+use crate::header::{HEADER_LEN, Header};
 use crate::list_error::ListError;
 use crate::list_kind::ListKind;
-use crate::little_endian::write_all;
+use crate::little_endian::write_words;
 use crate::measuring::{KEPT_WIDTHS, text_len, width_of};
-use crate::reserved::append;
-use bitpacking::{BitPacker, Kind};
+use crate::reserved::append_zeros;
+use bitpacking::BitPacker;
 
 /// Appends the text of the values, which have to be in the order of their kind: those of a plain list may be in any, those of a
 /// sorted one do not decrease, and those of a strictly sorted one increase.
@@ -47,44 +44,115 @@ pub fn encode<P: BitPacker>(
     ensures unchanged { OnErr result (out.new.items ≡ out.old.items) }
     ensures kept { OnErr result (vec_capacity out.new ≡ vec_capacity out.old) }
 {
-    if values.len() > LONGEST_LIST {
-        return Err(ListError::TooLong(values.len()));
-    }
-    if let Some(position) = order::first_out(kind, 0, 0, values) {
-        return Err(ListError::NotSorted(position));
-    }
+    order::test_values(kind, values)?;
     let mut widths = [0; KEPT_WIDTHS];
-    if out
-        .reserve(text_len(packer, kind, values, ENTRY_LEN, &mut widths))
-        .is_err()
-    {
+    let size = text_len(packer, kind, values, ENTRY_LEN, &mut widths);
+    if out.reserve(size).is_err() {
         return Err(ListError::Memory);
     }
-    let count = values.len();
-    Header { kind, count }.write(2, P::BLOCK_LEN / 32, out);
     let start = out.len();
-    write_entries(packer, kind, values, &widths, out);
-    write_bodies(packer, kind, values, start, out);
-    write_all(&values[count - count % P::BLOCK_LEN..], out);
+    append_zeros(out, 0, size);
+    write_text(packer, kind, values, &widths, out.slice_mut(start..));
     Ok(())
 }
 
-/// Appends the entries of the whole blocks, where there is room for them. The widths are those that were kept.
-pub(crate) fn write_entries<P: BitPacker>(
+/// Writes the text of the values at the start of the slice, and returns its length in bytes. Allocates nothing.
+///
+/// The values have to be in the order of their kind, as for [`encode`]. A slice that is too short is refused with `Short`; then
+/// nothing is written. The bytes after the text stay as they were. [`encoded_len`] tells how many bytes are needed.
+pub fn encode_to<P: BitPacker>(
+    packer: &P,
+    kind: ListKind,
+    values: &[u32],
+    bytes: &mut [u8],
+) -> Result<usize, ListError>
+    // What is written is the text of the values, and what is after it stays.
+    ensures ok { IfOk result (λ len. (text : List ℕ) × AreBytes text × List2 P.lanes kind values.now text
+        × (len ≡ length text) × (bytes.new ≡ text ++ drop len bytes.old)) }
+    // Values with a fault are refused for the first, and others only if the slice is short.
+    ensures fault { MatchOption (values_fault kind values.now) (IfErr result (λ e. e ≡ ListError.Short))
+        (λ fault. result ≡ Err fault) }
+    // The slice is short only if it has no room for the text.
+    ensures room { values_fault kind values.now ≡ None
+        → OnErr result ((text : List ℕ) → List2 P.lanes kind values.now text → length bytes.old < length text) }
+    ensures unchanged { OnErr result (bytes.new ≡ bytes.old) }
+{
+    order::test_values(kind, values)?;
+    let mut widths = [0; KEPT_WIDTHS];
+    let size = text_len(packer, kind, values, ENTRY_LEN, &mut widths);
+    if bytes.len() < size {
+        return Err(ListError::Short);
+    }
+    write_text(packer, kind, values, &widths, &mut bytes[..size]);
+    Ok(size)
+}
+
+/// The length in bytes of the text of the values, which have to be in the order of their kind, as for [`encode`].
+pub fn encoded_len<P: BitPacker>(
+    packer: &P,
+    kind: ListKind,
+    values: &[u32],
+) -> Result<usize, ListError>
+    ensures len { IfOk result (λ len. (text : List ℕ) → List2 P.lanes kind values.now text → len ≡ length text) }
+    // Values with a fault are refused for the first.
+    ensures fault { MatchOption (values_fault kind values.now) (IsOk result) (λ fault. result ≡ Err fault) }
+{
+    order::test_values(kind, values)?;
+    let mut widths = [0; KEPT_WIDTHS];
+    Ok(text_len(packer, kind, values, ENTRY_LEN, &mut widths))
+}
+
+/// Fills the slice with the text of the values. The caller has measured it, and kept the widths.
+fn write_text<P: BitPacker>(
     packer: &P,
     kind: ListKind,
     values: &[u32],
     widths: &[u8],
-    out: &mut Vec<u8>,
+    bytes: &mut [u8],
 )
-    requires few { length values.now ≤ 2 ^ 28 }
-    requires widths { LeastWidths P.lanes (first_kind kind) values.now
-        (take (whole_blocks P.lanes (length values.now)) widths.now) }
-    requires room { vec_len out.old + ENTRY_LEN * whole_blocks P.lanes (length values.now) ≤ vec_capacity out.old }
-    ensures entries { HasBodies P.lanes (whole_blocks P.lanes (length values.now)) kind values.now
-        (drop (vec_len out.old) out.new.items) 0 }
-    ensures front { take (vec_len out.old) out.new.items ≡ out.old.items }
-    ensures capacity { vec_capacity out.old ≤ vec_capacity out.new }
+    requires ready { AreReady P.lanes kind values.now widths.now }
+    requires size { IsSize2 P.lanes kind values.now (length bytes.old) }
+    ensures { AreBytes bytes.new × List2 P.lanes kind values.now bytes.new }
+{
+    let count = values.len();
+    let header = Header { kind, count }.bytes(2, P::BLOCK_LEN / 32);
+    bytes[..HEADER_LEN].copy_from_slice(&header);
+    let rest = &mut bytes[HEADER_LEN..];
+    let end = write_blocks(packer, kind, values, widths, rest);
+    write_words(&values[count - count % P::BLOCK_LEN..], &mut rest[end..]);
+}
+
+/// Writes the entries and then the bodies of the whole blocks at the start of the slice, and returns their length in bytes. The
+/// caller has kept the widths.
+pub(crate) fn write_blocks<P: BitPacker>(
+    packer: &P,
+    kind: ListKind,
+    values: &[u32],
+    widths: &[u8],
+    rest: &mut [u8],
+) -> usize
+    requires ready { AreReady P.lanes kind values.now widths.now }
+    requires room { (size : ℕ) × IsBlocksSize P.lanes kind values.now size × (size ≤ length rest.old) }
+    ensures bodies { HasBodies P.lanes (whole_blocks P.lanes (length values.now)) kind values.now
+        (take result rest.new) (whole_blocks P.lanes (length values.now)) }
+    ensures within { result ≤ length rest.new }
+{
+    write_entries(packer, kind, values, widths, rest);
+    write_bodies(packer, kind, values, rest)
+}
+
+/// Writes the entries of the whole blocks at the start of the slice. The widths are those that were kept.
+fn write_entries<P: BitPacker>(
+    packer: &P,
+    kind: ListKind,
+    values: &[u32],
+    widths: &[u8],
+    rest: &mut [u8],
+)
+    requires ready { AreReady P.lanes kind values.now widths.now }
+    requires room { ENTRY_LEN * whole_blocks P.lanes (length values.now) ≤ length rest.old }
+    ensures { HasBodies P.lanes (whole_blocks P.lanes (length values.now)) kind values.now
+        (take (ENTRY_LEN * whole_blocks P.lanes (length values.now)) rest.new) 0 }
 {
     let len = P::BLOCK_LEN;
     let mut block_kind = kind.first();
@@ -94,12 +162,13 @@ pub(crate) fn write_entries<P: BitPacker>(
         let (block, after) = left.split_at(len);
         let width = width_of(packer, block_kind, block, widths, index);
         let last = block[len - 1];
-        Entry {
+        let entry = Entry {
             width,
             offset,
             last,
-        }
-        .write(out);
+        };
+        let start = ENTRY_LEN * index;
+        rest[start..start + ENTRY_LEN].copy_from_slice(&entry.bytes());
         // At most 2 ^ 23 widths of at most 32: the sum fits its four bytes.
         offset += width as u32;
         block_kind = next_kind(block_kind, last);
@@ -107,52 +176,30 @@ pub(crate) fn write_entries<P: BitPacker>(
     }
 }
 
-/// Appends the bodies of the whole blocks, where there is room for them. Their entries are in the vector, from `start` on.
-// Reads bytes: new, first, for, entry, write_body, next_kind.
-pub(crate) fn write_bodies<P: BitPacker>(
-    packer: &P,
-    kind: ListKind,
-    values: &[u32],
-    start: usize,
-    out: &mut Vec<u8>,
-)
-    requires start { start ≤ vec_len out.old }
+/// Packs the bodies of the whole blocks after their entries, and returns the length of both in bytes.
+// Reads bytes: new, first, for, entry, compress_kind, next_kind.
+fn write_bodies<P: BitPacker>(packer: &P, kind: ListKind, values: &[u32], rest: &mut [u8]) -> usize
     requires entries { HasBodies P.lanes (whole_blocks P.lanes (length values.now)) kind values.now
-        (drop start out.old.items) 0 }
-    requires room { start + tail_start P.lanes (whole_blocks P.lanes (length values.now)) (drop start out.old.items)
-        ≤ vec_capacity out.old }
+        (take (ENTRY_LEN * whole_blocks P.lanes (length values.now)) rest.old) 0 }
+    requires room { tail_start P.lanes (whole_blocks P.lanes (length values.now))
+        (take (ENTRY_LEN * whole_blocks P.lanes (length values.now)) rest.old) ≤ length rest.old }
     ensures bodies { HasBodies P.lanes (whole_blocks P.lanes (length values.now)) kind values.now
-        (drop start out.new.items) (whole_blocks P.lanes (length values.now)) }
-    ensures front { take start out.new.items ≡ take start out.old.items }
-    ensures capacity { vec_capacity out.old ≤ vec_capacity out.new }
+        (take result rest.new) (whole_blocks P.lanes (length values.now)) }
+    ensures end { result ≡ tail_start P.lanes (whole_blocks P.lanes (length values.now))
+        (take (ENTRY_LEN * whole_blocks P.lanes (length values.now)) rest.old) }
 {
     let len = P::BLOCK_LEN;
+    let blocks = values.len() / len;
     let mut reads = Reads::new();
     let mut block_kind = kind.first();
     let mut left = values;
-    let mut body = [0; LONGEST_BODY];
-    for index in 0..values.len() / len {
-        let entry = reads.entry(&out[start..], index);
+    let mut end = ENTRY_LEN * blocks;
+    for index in 0..blocks {
+        let entry = reads.entry(rest, index);
         let (block, after) = left.split_at(len);
-        write_body(packer, block_kind, block, entry.width, &mut body, out);
+        end += packer.compress_kind(block_kind, block, &mut rest[end..], entry.width);
         block_kind = next_kind(block_kind, entry.last);
         left = after;
     }
-}
-
-/// Appends the bytes that hold a block, if there is room for them. They are packed in `body`.
-fn write_body<P: BitPacker>(
-    packer: &P,
-    kind: Kind,
-    block: &[u32],
-    width: u8,
-    body: &mut [u8],
-    out: &mut Vec<u8>,
-)
-    requires pack { CanPack P.lanes width kind block.now body.old }
-    requires room { vec_len out.old + size P.lanes width ≤ vec_capacity out.old }
-    ensures body { (body : List ℕ) × Holds P.lanes width kind block.now body × HasAppended out.old out.new body }
-{
-    let size = packer.compress_kind(kind, block, body, width);
-    append(out, &body[..size]);
+    end
 }

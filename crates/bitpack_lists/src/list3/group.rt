@@ -1,15 +1,13 @@
 //! Groups of 1 to 32 codes: a width, and the first bytes of a block of one lane that holds the codes and then zeros.
 
-ghost use Rattle.std.specs.Prelude.{◌≡◌, ℕ, List, ◌+◌, ◌*◌, ◌/◌, ◌^◌, ◌≤◌, ◌∷◌, OnOk, IfOk, nat_lt, length, take, vec_len, vec_capacity};
+ghost use Rattle.std.specs.Prelude.{◌≡◌, ℕ, List, ◌+◌, ◌*◌, ◌/◌, ◌^◌, ◌≤◌, ◌∷◌, OnOk, IfOk, nat_lt, length, take};
 ghost use Rattle.std.specs.List.{list_all};
 ghost use Rattle.bitpacking.specs.Bits.{AreBytes};
 ghost use Rattle.bitpacking.specs.Layout.{codes_of};
 ghost use Rattle.bitpack_lists.specs.Groups.{IsGroup, are_zeros, body_of, group_codes, group_end, group_fault};
 ghost use Rattle.bitpack_lists.specs.Parts.{FindsFault};
-ghost use Rattle.bitpack_lists.specs.inner.Appending.{HasAppended};
 
 use crate::list_error::ListError;
-use crate::reserved::append;
 use bitpacking::{BitPacker, BitPacker1x};
 
 /// The most codes of a group.
@@ -68,12 +66,14 @@ pub(crate) fn group_len(codes: &[u32]) -> usize
     1 + group_size(codes.len(), width)
 }
 
-/// Appends the group of the codes, if there is room for it.
-pub(crate) fn write_group(codes: &[u32], out: &mut Vec<u8>)
+/// Writes the group of the codes at the start of the slice, and returns its length.
+pub(crate) fn write_group(codes: &[u32], bytes: &mut [u8]) -> usize
     requires some { 1 ≤ length codes.now }
     requires count { length codes.now ≤ LONGEST_GROUP }
-    requires room { (part : List ℕ) → IsGroup codes.now part → vec_len out.old + length part ≤ vec_capacity out.old }
-    ensures part { (part : List ℕ) × AreBytes part × IsGroup codes.now part × HasAppended out.old out.new part }
+    requires room { (part : List ℕ) → IsGroup codes.now part → length part ≤ length bytes.old }
+    ensures within { result ≤ length bytes.new }
+    ensures bytes { AreBytes (take result bytes.new) }
+    ensures group { IsGroup codes.now (take result bytes.new) }
 {
     let mut block = [0; LONGEST_GROUP];
     block[..codes.len()].copy_from_slice(codes);
@@ -81,18 +81,20 @@ pub(crate) fn write_group(codes: &[u32], out: &mut Vec<u8>)
     let width = packer.num_bits(&block);
     let mut body = [0; LONGEST_GROUP_BODY];
     packer.compress(&block, &mut body, width);
-    append_cut(width, group_size(codes.len(), width), &body, out);
+    write_cut(width, group_size(codes.len(), width), &body, bytes)
 }
 
-/// Appends the width and the first bytes of the body, up to `size`, if there is room for them.
-fn append_cut(width: u8, size: usize, body: &[u8], out: &mut Vec<u8>)
+/// Writes the width and the first bytes of the body, up to `size`, at the start of the slice, and returns how many they are.
+fn write_cut(width: u8, size: usize, body: &[u8], bytes: &mut [u8]) -> usize
     requires size { size ≤ length body.now }
-    requires room { vec_len out.old + 1 + size ≤ vec_capacity out.old }
+    requires room { 1 + size ≤ length bytes.old }
+    ensures len { result ≡ 1 + size }
     ensures bytes { AreBytes body.now }
-    ensures cut { HasAppended out.old out.new (width ∷ take size body.now) }
+    ensures cut { take result bytes.new ≡ width ∷ take size body.now }
 {
-    append(out, &[width]);
-    append(out, &body[..size]);
+    bytes[0] = width;
+    bytes[1..1 + size].copy_from_slice(&body[..size]);
+    1 + size
 }
 
 /// How many bytes hold `count` codes of a width.

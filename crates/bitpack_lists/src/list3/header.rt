@@ -1,6 +1,6 @@
 //! The header of version 3: one byte of lanes, kind and a count below 15, or the count as a number after it.
 
-ghost use Rattle.std.specs.Prelude.{◌≡◌, ℕ, ◌+◌, ◌*◌, ◌^◌, ◌≤◌, ◌++◌, IfOk, length, drop, vec_len, vec_capacity};
+ghost use Rattle.std.specs.Prelude.{◌≡◌, ℕ, ◌+◌, ◌*◌, ◌^◌, ◌≤◌, IfOk, length, drop, take};
 ghost use Rattle.bitpack_lists.specs.declared.list_kind.ListKind.{ListKind};
 ghost use Rattle.bitpack_lists.specs.Numbers.{number_end, number_value};
 ghost use Rattle.bitpack_lists.specs.Parts.{FindsFault};
@@ -10,7 +10,6 @@ use super::number::{number_len, read_number, write_number};
 use crate::header::LONGEST_LIST;
 use crate::list_error::ListError;
 use crate::list_kind::ListKind;
-use crate::reserved::append;
 
 /// A count that is below this is in the first byte.
 const COUNTED: usize = 15;
@@ -114,21 +113,21 @@ pub(crate) fn header_len(count: usize) -> usize
     1 + number_len(count as u32)
 }
 
-/// Appends the header of so many values, if there is room for it.
+/// Writes the header of `count` values at the start of the slice, and returns its length in bytes.
 #[tactic(auto, unfolding(crate::specs::Version3::header3))]
-pub(crate) fn write_header(kind: ListKind, lanes: usize, count: usize, out: &mut Vec<u8>)
+pub(crate) fn write_header(kind: ListKind, lanes: usize, count: usize, bytes: &mut [u8]) -> usize
     requires count { count ≤ 2 ^ 28 }
-    requires room { vec_len out.old + length (header3 kind lanes count) ≤ vec_capacity out.old }
-    ensures items { out.new.items ≡ out.old.items ++ header3 kind lanes count }
-    ensures capacity { vec_capacity out.old ≤ vec_capacity out.new }
+    requires room { length (header3 kind lanes count) ≤ length bytes.old }
+    ensures len { result ≡ length (header3 kind lanes count) }
+    ensures header { take result bytes.new ≡ header3 kind lanes count }
 {
     let first = 64 * lanes_code(lanes) + 16 * kind.byte();
     if count < COUNTED {
-        append(out, &[first + count as u8]);
-        return;
+        bytes[0] = first + count as u8;
+        return 1;
     }
-    append(out, &[first + 15]);
-    write_number(count as u32, out);
+    bytes[0] = first + 15;
+    1 + write_number(count as u32, &mut bytes[1..])
 }
 
 /// The number of the first byte that means so many lanes.

@@ -1,9 +1,8 @@
 //! Numbers of seven bits a byte, the lowest first, with 128 added to every byte but the last.
 
-ghost use Rattle.std.specs.Prelude.{◌≡◌, ◌+◌, ◌≤◌, IfOk, length, vec_len, vec_capacity};
+ghost use Rattle.std.specs.Prelude.{◌≡◌, ◌≤◌, IfOk, length, take};
 ghost use Rattle.bitpack_lists.specs.Numbers.{number, number_end, number_fault, number_value};
 ghost use Rattle.bitpack_lists.specs.Parts.{FindsFault};
-ghost use Rattle.bitpack_lists.specs.inner.Appending.{HasAppended};
 
 use crate::list_error::ListError;
 
@@ -51,15 +50,19 @@ pub(crate) fn number_len(value: u32) -> usize
     len
 }
 
-/// Appends the bytes of a number, if there is room for them.
-pub(crate) fn write_number(value: u32, out: &mut Vec<u8>)
-    requires room { vec_len out.old + length (number value) ≤ vec_capacity out.old }
-    ensures { HasAppended out.old out.new (number value) }
+/// Writes the bytes of a number at the start of the slice, and returns how many they are.
+pub(crate) fn write_number(value: u32, bytes: &mut [u8]) -> usize
+    requires room { length (number value) ≤ length bytes.old }
+    ensures len { result ≡ length (number value) }
+    ensures number { take result bytes.new ≡ number value }
 {
     let mut left = value;
+    let mut len = 0;
     while left >= 128 {
-        out.push_reserved((left % 128) as u8 + 128);
+        bytes[len] = (left % 128) as u8 + 128;
         left /= 128;
+        len += 1;
     }
-    out.push_reserved(left as u8);
+    bytes[len] = left as u8;
+    len + 1
 }

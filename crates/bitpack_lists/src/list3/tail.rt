@@ -1,6 +1,6 @@
 //! The tail of a list: its codes in groups, after the first one as a number if the list has no whole block.
 
-ghost use Rattle.std.specs.Prelude.{◌≡◌, ℕ, List, ◌+◌, ◌^◌, ◌≤◌, ◌++◌, OnOk, IfOk, min, length, vec_len, vec_capacity};
+ghost use Rattle.std.specs.Prelude.{◌≡◌, ℕ, List, ◌+◌, ◌^◌, ◌≤◌, OnOk, IfOk, min, length, take};
 ghost use Rattle.bitpack_lists.specs.Groups.{AreGroups, after_groups, groups_codes, groups_fault, groups_of};
 ghost use Rattle.bitpack_lists.specs.Parts.{FindsFault};
 ghost use Rattle.bitpack_lists.specs.Version3.{IsTail3, after_tail3, tail_codes3, tail_fault3};
@@ -96,30 +96,30 @@ fn groups_len(codes: &[u32]) -> usize
     len
 }
 
-/// Appends the tail of these codes, after so many blocks, if there is room for it.
-pub(crate) fn write_tail(blocks: usize, codes: &[u32], out: &mut Vec<u8>)
-    requires room { (bytes : List ℕ) → IsTail3 blocks codes.now bytes
-        → vec_len out.old + length bytes ≤ vec_capacity out.old }
-    ensures tail { (bytes : List ℕ) → IsTail3 blocks codes.now bytes → out.new.items ≡ out.old.items ++ bytes }
+/// Writes the tail at the start of the slice: its codes follow `blocks` whole blocks.
+pub(crate) fn write_tail(blocks: usize, codes: &[u32], bytes: &mut [u8])
+    requires room { (tail : List ℕ) → IsTail3 blocks codes.now tail → length tail ≤ length bytes.old }
+    ensures tail { (tail : List ℕ) → IsTail3 blocks codes.now tail → take (length tail) bytes.new ≡ tail }
 {
     if blocks == 0 && codes.len() > 0 {
-        write_number(codes[0], out);
-        write_groups(&codes[1..], out);
+        let end = write_number(codes[0], bytes);
+        write_groups(&codes[1..], &mut bytes[end..]);
         return;
     }
-    write_groups(codes, out);
+    write_groups(codes, bytes);
 }
 
-/// Appends the groups of these codes, if there is room for them.
-fn write_groups(codes: &[u32], out: &mut Vec<u8>)
-    requires room { (bytes : List ℕ) → AreGroups (groups_of (length codes.now)) codes.now bytes
-        → vec_len out.old + length bytes ≤ vec_capacity out.old }
-    ensures groups { (bytes : List ℕ) → AreGroups (groups_of (length codes.now)) codes.now bytes
-        → out.new.items ≡ out.old.items ++ bytes }
+/// Writes the codes in groups at the start of the slice.
+fn write_groups(codes: &[u32], bytes: &mut [u8])
+    requires room { (groups : List ℕ) → AreGroups (groups_of (length codes.now)) codes.now groups
+        → length groups ≤ length bytes.old }
+    ensures groups { (groups : List ℕ) → AreGroups (groups_of (length codes.now)) codes.now groups
+        → take (length groups) bytes.new ≡ groups }
 {
+    let mut end = 0;
     for index in 0..(codes.len() + 31) / LONGEST_GROUP {
         let from = LONGEST_GROUP * index;
         let count = next_len(codes.len() - from);
-        write_group(&codes[from..from + count], out);
+        end += write_group(&codes[from..from + count], &mut bytes[end..]);
     }
 }

@@ -1,23 +1,24 @@
 //! Lists into their texts of version 3.
 
-ghost use Rattle.std.specs.Prelude.{◌≡◌, ◌+◌, ◌-◌, ◌*◌, ◌^◌, ◌<◌, ◌≤◌, ◌++◌, ℕ, List, length, slice_index, OnOk, OnErr, IfErr, MatchOption, None, vec_len, vec_capacity};
+ghost use Rattle.std.specs.Prelude.{◌≡◌, ◌+◌, ◌-◌, ◌*◌, ◌^◌, ◌<◌, ◌≤◌, ◌++◌, ℕ, List, length, drop, slice_index, IfOk, IsOk, OnOk, OnErr, IfErr, MatchOption, None, vec_len, vec_capacity};
 ghost use Rattle.bitpacking.specs.Bits.{AreBytes};
 ghost use Rattle.bitpack_lists.specs.Chains;
-ghost use Rattle.bitpack_lists.specs.Parts.{first_kind};
-ghost use Rattle.bitpack_lists.specs.Version2.{first_out};
+ghost use Rattle.bitpack_lists.specs.Parts.{FindsFault, first_kind, tail_values};
+ghost use Rattle.bitpack_lists.specs.Version2.{first_out, values_fault};
 ghost use Rattle.bitpack_lists.specs.Version3.{List3};
+ghost use Rattle.bitpack_lists.specs.inner.Sizes.{AreReady, AreTailCodes, IsSize3};
 
 use super::codes::to_codes;
 use super::header::{header_len, write_header};
 use super::tail::{tail_len, write_tail};
 use crate::chain::{LONGEST_BLOCK, next_kind};
-use crate::header::LONGEST_LIST;
 use crate::list_error::ListError;
 use crate::list_kind::ListKind;
 use crate::list2::entry::ENTRY_LEN;
 use crate::list2::order;
-use crate::list2::writing::{write_bodies, write_entries};
+use crate::list2::writing::write_blocks;
 use crate::measuring::{KEPT_WIDTHS, blocks_len};
+use crate::reserved::append_zeros;
 use bitpacking::{BitPacker, Kind};
 
 /// Appends the text of version 3 of the values, which have to be in the order of their kind, as for `list2::encode`.
@@ -44,32 +45,110 @@ pub fn encode<P: BitPacker>(
     ensures unchanged { OnErr result (out.new.items ≡ out.old.items) }
     ensures kept { OnErr result (vec_capacity out.new ≡ vec_capacity out.old) }
 {
-    let count = values.len();
-    if count > LONGEST_LIST {
-        return Err(ListError::TooLong(count));
-    }
-    if let Some(position) = order::first_out(kind, 0, 0, values) {
-        return Err(ListError::NotSorted(position));
-    }
-    let blocks = count / P::BLOCK_LEN;
-    let (front, tail) = values.split_at(count - count % P::BLOCK_LEN);
-    let mut room = [0; LONGEST_BLOCK];
-    let codes = &mut room[..tail.len()];
-    to_codes(kind_after(kind, front), tail, codes);
     let mut widths = [0; KEPT_WIDTHS];
-    let whole = blocks_len(packer, kind, values, ENTRY_LEN, &mut widths);
-    if out
-        .reserve(header_len(count) + whole + tail_len(blocks, codes))
-        .is_err()
-    {
+    let mut room = [0; LONGEST_BLOCK];
+    let codes = &mut room[..values.len() % P::BLOCK_LEN];
+    let size = measure(packer, kind, values, &mut widths, codes)?;
+    if out.reserve(size).is_err() {
         return Err(ListError::Memory);
     }
-    write_header(kind, P::BLOCK_LEN / 32, count, out);
     let start = out.len();
-    write_entries(packer, kind, values, &widths, out);
-    write_bodies(packer, kind, values, start, out);
-    write_tail(blocks, codes, out);
+    append_zeros(out, 0, size);
+    write_text(packer, kind, values, &widths, codes, out.slice_mut(start..));
     Ok(())
+}
+
+/// Writes the text of version 3 of the values at the start of the slice, and returns its length in bytes. Allocates nothing.
+///
+/// The values have to be in the order of their kind, as for [`encode`]. A slice that is too short is refused with `Short`; then
+/// nothing is written. The bytes after the text stay as they were. [`encoded_len`] tells how many bytes are needed.
+pub fn encode_to<P: BitPacker>(
+    packer: &P,
+    kind: ListKind,
+    values: &[u32],
+    bytes: &mut [u8],
+) -> Result<usize, ListError>
+    // What is written is the text of the values, and what is after it stays.
+    ensures ok { IfOk result (λ len. (text : List ℕ) × AreBytes text × List3 P.lanes kind values.now text
+        × (len ≡ length text) × (bytes.new ≡ text ++ drop len bytes.old)) }
+    // Values with a fault are refused for the first, and others only if the slice is short.
+    ensures fault { MatchOption (values_fault kind values.now) (IfErr result (λ e. e ≡ ListError.Short))
+        (λ fault. result ≡ Err fault) }
+    // The slice is short only if it has no room for the text.
+    ensures room { values_fault kind values.now ≡ None
+        → OnErr result ((text : List ℕ) → List3 P.lanes kind values.now text → length bytes.old < length text) }
+    ensures unchanged { OnErr result (bytes.new ≡ bytes.old) }
+{
+    let mut widths = [0; KEPT_WIDTHS];
+    let mut room = [0; LONGEST_BLOCK];
+    let codes = &mut room[..values.len() % P::BLOCK_LEN];
+    let size = measure(packer, kind, values, &mut widths, codes)?;
+    if bytes.len() < size {
+        return Err(ListError::Short);
+    }
+    write_text(packer, kind, values, &widths, codes, &mut bytes[..size]);
+    Ok(size)
+}
+
+/// The length in bytes of the text of version 3 of the values, which have to be in the order of their kind, as for [`encode`].
+pub fn encoded_len<P: BitPacker>(
+    packer: &P,
+    kind: ListKind,
+    values: &[u32],
+) -> Result<usize, ListError>
+    ensures len { IfOk result (λ len. (text : List ℕ) → List3 P.lanes kind values.now text → len ≡ length text) }
+    // Values with a fault are refused for the first.
+    ensures fault { MatchOption (values_fault kind values.now) (IsOk result) (λ fault. result ≡ Err fault) }
+{
+    let mut widths = [0; KEPT_WIDTHS];
+    let mut room = [0; LONGEST_BLOCK];
+    let codes = &mut room[..values.len() % P::BLOCK_LEN];
+    let size = measure(packer, kind, values, &mut widths, codes)?;
+    Ok(size)
+}
+
+/// Tests the values, and returns the length of their text. The least widths of the first blocks and the codes of the tail are
+/// kept.
+fn measure<P: BitPacker>(
+    packer: &P,
+    kind: ListKind,
+    values: &[u32],
+    widths: &mut [u8],
+    codes: &mut [u32],
+) -> Result<usize, ListError>
+    requires tail { length codes.old ≡ tail_values P.lanes (length values.now) }
+    ensures fault { FindsFault result (values_fault kind values.now) }
+    ensures size { IfOk result (IsSize3 P.lanes kind values.now codes.new) }
+    ensures ready { OnOk result (AreReady P.lanes kind values.now widths.new) }
+    ensures codes { OnOk result (AreTailCodes P.lanes kind values.now codes.new) }
+{
+    order::test_values(kind, values)?;
+    let count = values.len();
+    let (front, tail) = values.split_at(count - count % P::BLOCK_LEN);
+    to_codes(kind_after(kind, front), tail, codes);
+    let whole = blocks_len(packer, kind, values, ENTRY_LEN, widths);
+    Ok(header_len(count) + whole + tail_len(count / P::BLOCK_LEN, codes))
+}
+
+/// Fills the slice with the text of the values. The caller has measured it, and kept the widths and the codes of the tail.
+fn write_text<P: BitPacker>(
+    packer: &P,
+    kind: ListKind,
+    values: &[u32],
+    widths: &[u8],
+    codes: &[u32],
+    bytes: &mut [u8],
+)
+    requires ready { AreReady P.lanes kind values.now widths.now }
+    requires codes { AreTailCodes P.lanes kind values.now codes.now }
+    requires size { IsSize3 P.lanes kind values.now codes.now (length bytes.old) }
+    ensures { AreBytes bytes.new × List3 P.lanes kind values.now bytes.new }
+{
+    let count = values.len();
+    let start = write_header(kind, P::BLOCK_LEN / 32, count, bytes);
+    let rest = &mut bytes[start..];
+    let end = write_blocks(packer, kind, values, widths, rest);
+    write_tail(count / P::BLOCK_LEN, codes, &mut rest[end..]);
 }
 
 /// The kind of what follows these values, which are whole blocks.

@@ -1,7 +1,7 @@
 //! A sorted cursor over a packed list.
 
-ghost use Rattle.std.specs.Prelude.{◌≡◌, ◌+◌, drop};
-ghost use Rattle.bitpack_lists.specs.Cursors.{position, unpacked, values_of_cursor};
+ghost use Rattle.std.specs.Prelude.{◌≡◌, ◌+◌};
+ghost use Rattle.bitpack_lists.specs.Cursors.{position, values_left, values_of_cursor};
 ghost use Rattle.bitpack_lists.specs.Places.{InOrder, IsSoughtFrom};
 ghost use Rattle.bitpack_lists.specs.Distinct.{distinct};
 ghost use Rattle.bitpack_lists.specs.DistinctLaws.{increasing_rest};
@@ -25,14 +25,14 @@ impl<'a, P: BitPacker> DistinctValues<'a, P> {
     /// The values from the place of the cursor on.
     pub fn new(cursor: Cursor<'a, P>) -> DistinctValues<'a, P>
         requires { InOrder (values_of_cursor cursor) }
-        ensures { remaining result ≡ distinct (drop (position cursor.entry) (values_of_cursor cursor.entry)) }
+        ensures { remaining result ≡ distinct (values_left cursor.entry) }
     {
         DistinctValues { cursor }
     }
 }
 
 impl<'a, P: BitPacker> SortedCursor for DistinctValues<'a, P> {
-    ghost rest = { λ ids. distinct (drop (position ids.cursor) (values_of_cursor ids.cursor)) };
+    ghost rest = { λ ids. distinct (values_left ids.cursor) };
 
     ghost increasing = { λ ids. increasing_rest (values_of_cursor ids.cursor) (position ids.cursor) ids.ordered };
 

@@ -1,6 +1,6 @@
 //! What posting lists have in common, or together, or one without another.
 
-ghost use Rattle.std.specs.Prelude.{◌≡◌, IfErr, IfOk, map};
+ghost use Rattle.std.specs.Prelude.{◌≡◌, IfErr, IfOk, map, take};
 ghost use Rattle.std.specs.List.Sorted.{IsStrictlyIncreasing};
 ghost use Rattle.bitpack_lists.specs.declared.list_error.ListError.{ListError};
 ghost use Rattle.bitpack_lists.specs.Increasing.{shared, united, without};
@@ -10,9 +10,9 @@ ghost use Rattle.bitpack_uses.specs.Postings.{distinct_ids};
 use super::Postings;
 use crate::and_query::collect;
 use bitpack::ListError;
-use bitpack::sorted::{And, AndAll, AndNot, Or};
+use bitpack::sorted::{And, AndAll, AndNot, Or, Values};
 use bitpacking::BitPacker;
-use std::alloc::Global;
+use std::alloc::{AllocError, Global};
 
 /// The ids that all of the lists have, and none if there is no list. Put the shortest list first: its ids are sought in the others.
 pub fn and<P: BitPacker>(alloc: Global, lists: &[&Postings<P>]) -> Result<Vec<u32>, ListError>
@@ -27,6 +27,25 @@ pub fn and<P: BitPacker>(alloc: Global, lists: &[&Postings<P>]) -> Result<Vec<u3
         }
     }
     collect(alloc, AndAll::new(cursors))
+}
+
+/// The first ids that two lists share, and no more than `limit`.
+pub fn first_shared<P: BitPacker, Q: BitPacker>(
+    alloc: Global,
+    a: &Postings<P>,
+    b: &Postings<Q>,
+    limit: usize,
+) -> Result<Vec<u32>, AllocError>
+    ensures { IfOk result (λ found. found.items ≡ take limit (shared (distinct_ids a.now) (distinct_ids b.now))) }
+{
+    let mut found = Vec::new(alloc);
+    for id in Values::new(And::new(a.cursor(), b.cursor())) {
+        if found.len() >= limit {
+            break;
+        }
+        found.push(id)?;
+    }
+    Ok(found)
 }
 
 /// The ids that at least one of two lists has.

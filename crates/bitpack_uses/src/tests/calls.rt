@@ -2,7 +2,7 @@
 //! where the test calls these.
 
 use bitpack::list2::{Cursor, PackedList, Reads, intersect};
-use bitpack::{ListError, ListKind, list, list2};
+use bitpack::{ListError, ListKind, list, list2, list3};
 use bitpacking::BitPacker;
 use std::process::Abort;
 
@@ -35,6 +35,80 @@ pub(super) fn encode2<P: BitPacker>(
     list2::encode(packer, kind, values, out)
 }
 
+/// Encodes in version 3.
+pub(super) fn encode3<P: BitPacker>(
+    packer: &P,
+    kind: ListKind,
+    values: &[u32],
+    out: &mut Vec<u8>,
+) -> Result<(), ListError> {
+    list3::encode(packer, kind, values, out)
+}
+
+/// A version of texts that are written into slices.
+#[derive(Clone, Copy)]
+pub(super) enum Version {
+    Two,
+    Three,
+}
+
+/// Encodes in a version.
+pub(super) fn encode_as<P: BitPacker>(
+    version: Version,
+    packer: &P,
+    kind: ListKind,
+    values: &[u32],
+    out: &mut Vec<u8>,
+) -> Result<(), ListError> {
+    match version {
+        Version::Two => encode2(packer, kind, values, out),
+        Version::Three => encode3(packer, kind, values, out),
+    }
+}
+
+/// Encodes into a slice, in a version.
+pub(super) fn encode_to<P: BitPacker>(
+    version: Version,
+    packer: &P,
+    kind: ListKind,
+    values: &[u32],
+    bytes: &mut [u8],
+) -> Result<usize, ListError> {
+    match version {
+        Version::Two => list2::encode_to(packer, kind, values, bytes),
+        Version::Three => list3::encode_to(packer, kind, values, bytes),
+    }
+}
+
+/// The length of a text of a version.
+pub(super) fn encoded_len<P: BitPacker>(
+    version: Version,
+    packer: &P,
+    kind: ListKind,
+    values: &[u32],
+) -> Result<usize, ListError> {
+    match version {
+        Version::Two => list2::encoded_len(packer, kind, values),
+        Version::Three => list3::encoded_len(packer, kind, values),
+    }
+}
+
+/// Opens a text of version 3.
+pub(super) fn open3<'a, P: BitPacker>(
+    packer: &P,
+    text: &'a [u8],
+) -> Result<PackedList<'a, P>, ListError> {
+    PackedList::open3(*packer, text)
+}
+
+/// Opens a text of version 2 or 3.
+pub(super) fn open_any<'a, P: BitPacker>(
+    packer: &P,
+    text: &'a [u8],
+) -> Result<PackedList<'a, P>, ListError> {
+    PackedList::open_any(*packer, text)
+}
+
 /// Makes a text of version 2 of one of version 1.
 pub(super) fn upgrade<P: BitPacker>(
     packer: &P,
@@ -42,6 +116,15 @@ pub(super) fn upgrade<P: BitPacker>(
     out: &mut Vec<u8>,
 ) -> Result<(), ListError> {
     list2::upgrade(packer, text, out)
+}
+
+/// Makes a text of version 3 of one of version 1 or 2.
+pub(super) fn upgrade3<P: BitPacker>(
+    packer: &P,
+    text: &[u8],
+    out: &mut Vec<u8>,
+) -> Result<(), ListError> {
+    list3::upgrade(packer, text, out)
 }
 
 /// Opens a text of version 2.
@@ -90,7 +173,7 @@ pub(super) fn intersect_texts<P: BitPacker, Q: BitPacker>(
 
 /// Moves a cursor to the first value that is at least the target, if its list is in order.
 pub(super) fn seek_cursor<P: BitPacker>(cursor: &mut Cursor<'_, P>, target: u32) {
-    if cursor.is_sorted() {
+    if cursor.is_in_order() {
         cursor.seek(target);
     }
 }

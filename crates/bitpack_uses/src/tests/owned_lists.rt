@@ -11,6 +11,9 @@ use std::process::Abort;
 /// Strictly sorted 5, 7, 9, in one lane.
 const STRICT: [u8; 19] = [2, 2, 1, 3, 0, 0, 0, 5, 0, 0, 0, 7, 0, 0, 0, 9, 0, 0, 0];
 
+/// The list 5, 7, 9 in version 3: the first value, 5, and the codes 1 and 1 at width 1.
+const STRICT3: [u8; 4] = [0x63, 5, 1, 3];
+
 /// Sorted 5, 5, 9.
 const SORTED: [u8; 19] = [2, 1, 1, 3, 0, 0, 0, 5, 0, 0, 0, 5, 0, 0, 0, 9, 0, 0, 0];
 
@@ -119,6 +122,30 @@ fn values_in_a_slice(rt: HostRuntime) {
     holds(&rt, none.is_none(), "no room for three values");
 }
 
+/// The values of the list have this sum.
+fn sums_to(rt: &impl Abort, text: &[u8], expected: u64) {
+    let list = PackedList::open(BitPacker1x::new(), text).expect(rt, "a list");
+    let sum = owned_lists::sum_of_values(&list);
+    holds(rt, sum == Some(expected), "the sum of the values");
+}
+
+#[test]
+fn values_one_by_one(rt: HostRuntime) {
+    sums_to(&rt, &[2, 2, 1, 0, 0, 0, 0], 0);
+    sums_to(&rt, &STRICT, 21);
+    sums_to(&rt, &SORTED, 19);
+    // 1 to 32 and 40.
+    sums_to(&rt, &BLOCK_AND_TAIL, 568);
+    // Three blocks and a tail of four: 4,294,967,195 to 4,294,967,294.
+    let mut values = [0; 100];
+    for index in 0..100 {
+        values[index] = 4_294_967_195 + index as u32;
+    }
+    let packer = BitPacker1x::new();
+    let list = ListBuf::from_values(rt.alloc(), packer, ListKind::StrictlySorted, &values);
+    sums_to(&rt, list.expect(&rt, "a list").as_bytes(), 429_496_724_450);
+}
+
 #[test]
 fn shared_ids(rt: HostRuntime) {
     // Strictly sorted 7, 8, 9.
@@ -150,6 +177,13 @@ fn an_owned_list(rt: HostRuntime) {
     let list = owned_lists::sent(packer, list);
     holds(&rt, list.as_list().get(2) == Some(9), "the last value");
     same_bytes(&rt, &list.into_bytes(), &STRICT);
+    match ListBuf::open_any(packer, owned(&rt, rt.alloc(), &STRICT3)) {
+        Ok(list) => {
+            holds(&rt, list.as_list().get(2) == Some(9), "the last value");
+            same_bytes(&rt, &owned_lists::sent(packer, list).into_bytes(), &STRICT3);
+        }
+        Err(_) => holds(&rt, false, "a list of version 3"),
+    }
 }
 
 #[test]

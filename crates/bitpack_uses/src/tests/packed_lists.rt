@@ -1,12 +1,14 @@
 //! Packed lists, by what no clause says: bytes from outside, each call for every packer and kind, and how much memory a call takes.
 
 mod changed_lists;
+mod encode_to;
 mod intersect;
 mod large;
 mod list2;
 mod list2_memory;
 mod list2_refused;
 mod list3;
+mod list3_refused;
 mod list_growths;
 mod list_memory;
 mod lists;
@@ -14,5 +16,6 @@ mod memory;
 mod room;
 mod seek;
 mod upgrade;
+mod upgrade3;
 mod upgrade_memory;
 mod walk;

@@ -1,7 +1,7 @@
 //! Posting lists. The texts and the ids were worked by hand.
 
 use super::checks::{holds, same_bytes, same_number, same_values};
-use crate::postings::{Postings, and, and_not, or, select};
+use crate::postings::{Postings, and, and_not, first_shared, or, select};
 use bitpack::{ListError, ListKind};
 use bitpacking::{BitPacker, BitPacker1x, BitPacker4x};
 use std::alloc::Global;
@@ -80,4 +80,37 @@ fn queries(rt: HostRuntime) {
     same_values(&rt, &found.expect(&rt, "ids"), &[2, 3, 4, u32::MAX]);
     let found = select(alloc, &a, &b, &c, &b);
     same_values(&rt, &found.expect(&rt, "ids"), &[3]);
+}
+
+/// These are the ids that both lists have, and at most `limit` of them.
+fn share_first<P: BitPacker, Q: BitPacker>(
+    rt: &impl Abort,
+    alloc: Global,
+    (a, b): (&Postings<P>, &Postings<Q>),
+    limit: usize,
+    expected: &[u32],
+) {
+    let found = first_shared(alloc, a, b, limit).expect(rt, "memory");
+    same_values(rt, &found, expected);
+}
+
+#[test]
+fn first_ids_that_are_shared(rt: HostRuntime) {
+    let alloc = rt.alloc();
+    // 0 to 99, in three blocks and a tail; the same times three, in one block of 128 that they do not fill; and none.
+    let (mut ids, mut thrice) = ([0; 100], [0; 100]);
+    for index in 0..100 {
+        ids[index] = index as u32;
+        thrice[index] = 3 * index as u32;
+    }
+    let a = of(&rt, alloc, BitPacker1x::new(), &ids);
+    let b = of(&rt, alloc, BitPacker4x::new(), &thrice);
+    let none = of(&rt, alloc, BitPacker1x::new(), &[]);
+    let shared = thrice.get(..34).unwrap_or(&[]);
+    share_first(&rt, alloc, (&a, &b), 100, shared);
+    share_first(&rt, alloc, (&b, &a), 34, shared);
+    share_first(&rt, alloc, (&a, &b), 3, &[0, 3, 6]);
+    share_first(&rt, alloc, (&a, &b), 0, &[]);
+    share_first(&rt, alloc, (&a, &none), 5, &[]);
+    share_first(&rt, alloc, (&a, &a), 100, &ids);
 }

@@ -5,9 +5,8 @@ mod moves;
 mod trees;
 
 use super::calls::encode2;
-use super::checks::{holds, push, returns, same_values};
-use crate::and_query::{Values, collect, open};
-use crate::id_set::is_increasing;
+use super::checks::{holds, is_increasing, push, returns, same_values};
+use crate::and_query::{Ids, collect, open};
 use crate::selection::select;
 use bitpack::sorted::{And, AndNot, IncreasingSlice, Or, SortedCursor, count};
 use bitpack::{ListError, ListKind};
@@ -69,7 +68,7 @@ fn texts(rt: &impl Abort, alloc: Global) -> Vec<Vec<u8>> {
     texts
 }
 
-fn opened<'a>(rt: &impl Abort, texts: &'a [Vec<u8>], set: u32) -> Values<'a> {
+fn opened<'a>(rt: &impl Abort, texts: &'a [Vec<u8>], set: u32) -> Ids<'a> {
     open(texts.get(set as usize).expect(rt, "a set")).expect(rt, "a list in order")
 }
 

@@ -6,7 +6,6 @@ ghost use Rattle.bitpack_lists.specs.Opened.{values};
 ghost use Rattle.bitpack_lists.specs.inner.Searching.{blocks_of};
 
 use super::super::reads::Reads;
-use super::walk::read_tail;
 use super::{ListBlock, PackedList};
 use crate::chain::next_kind;
 use crate::list_error::ListError;
@@ -28,7 +27,7 @@ impl<'a, P: BitPacker> PackedList<'a, P> {
             return Err(ListError::Memory);
         }
         let from = out.len();
-        append_zeros(out, self.count);
+        append_zeros(out, 0, self.count);
         self.copy_to(out.slice_mut(from..));
         Ok(())
     }
@@ -68,6 +67,6 @@ impl<'a, P: BitPacker> PackedList<'a, P> {
             kind = next_kind(first, entry.last);
         }
         let tail = self.count % len;
-        read_tail(self, &mut out[self.count - tail..]);
+        self.read_tail(&mut out[self.count - tail..]);
     }
 }

@@ -5,7 +5,6 @@ ghost use Rattle.bitpack_lists.specs.Places.{InOrder, IsPlace, IsSoughtFrom};
 
 use super::super::reads::Reads;
 use super::search::DOUBLES;
-use super::walk::read_tail;
 use super::{ListBlock, PackedList};
 use crate::chain::{LONGEST_BLOCK, next_kind};
 use crate::list_kind::ListKind;
@@ -13,13 +12,13 @@ use bitpacking::{BitPacker, Kind};
 
 /// A place in an opened list that only moves forward. It has the values of the block at hand, and so takes about 1 KB.
 ///
-/// However it is moved, it unpacks each block of the list at most once.
+/// However it is moved, it unpacks each block of the list at most once. It is an iterator over the values from its place on.
 ///
 /// ```text
-/// let mut cursor = list.cursor();          // of 3, 5, 9, 12
-/// cursor.value()                           // Some(3)
-/// cursor.seek(6);  cursor.value()          // Some(9), if the list is sorted
-/// cursor.advance();  cursor.position()     // 3
+/// let mut cursor = list.cursor();              // of 3, 5, 9, 12
+/// cursor.value()                               // Some(3)
+/// cursor.seek(6);  cursor.value()              // Some(9), if the list is sorted
+/// cursor.advance();  cursor.position()         // 3
 /// ```
 #[derive(Drop)]
 pub struct Cursor<'a, P: BitPacker> {
@@ -37,18 +36,19 @@ impl<'a, P: BitPacker> PackedList<'a, P> {
     ghost use Rattle.std.specs.Prelude.{IfSome};
     ghost use Rattle.bitpack_lists.specs.declared.list_kind.ListKind.{ListKind};
     ghost use Rattle.bitpack_lists.specs.Cursors.{position, unpacked, values_of_cursor};
-    ghost use Rattle.bitpack_lists.specs.Opened.{kind_of, text};
+    ghost use Rattle.bitpack_lists.specs.Opened.{kind_of, text, version_of};
     ghost use Rattle.bitpack_lists.specs.Places.{HasPart};
     ghost use Rattle.bitpack_lists.specs.inner.Searching.{IsListBlock, ReadsEntries, blocks_of, number_or_all, rest_of};
-    ghost use Rattle.bitpack_lists.specs.Version2.{List2, kind_at};
+    ghost use Rattle.bitpack_lists.specs.Texts.{IsText};
+    ghost use Rattle.bitpack_lists.specs.Version2.{kind_at};
 
     /// A cursor at the first value. Unpacks the first block, if there is one.
-    // Reads bytes: new, whole_block, first, read_part, packer, bytes.
+    // Reads bytes: new, whole_block, first, read_part, packer, bytes, rest, tail.
     pub fn cursor(&self) -> Cursor<'a, P>
         ensures values { values_of_cursor result ≡ Rattle.bitpack_lists.specs.Opened.values self.now }
         ensures kind { kind_of result.list ≡ kind_of self.now }
         // The text is the list of this kind and these values.
-        ensures list { List2 P.lanes
+        ensures list { IsText (version_of self.now) P.lanes
             (kind_of self.now) (Rattle.bitpack_lists.specs.Opened.values self.now) (text self.now) }
         ensures ordered { kind_of self.now ≢ ListKind.Plain → InOrder (values_of_cursor result) }
         ensures first { position result ≡ 0 }
@@ -61,9 +61,13 @@ impl<'a, P: BitPacker> PackedList<'a, P> {
         Cursor {
             list: PackedList {
                 packer: self.packer,
+                version: self.version,
                 kind: self.kind,
                 count: self.count,
                 bytes: self.bytes,
+                rest: self.rest,
+                tail: self.tail,
+                tail_kind: self.tail_kind,
             },
             block: 0,
             index: 0,
@@ -112,22 +116,22 @@ impl<'a, P: BitPacker> PackedList<'a, P> {
                 self.unpack(block, values, reads);
                 (block.number, P::BLOCK_LEN)
             }
-            None => (self.count / P::BLOCK_LEN, read_tail(self, values)),
+            None => (self.count / P::BLOCK_LEN, self.read_tail(values)),
         }
     }
 }
 
 impl<'a, P: BitPacker> Cursor<'a, P> {
-    ghost use Rattle.std.specs.Prelude.{drop, false, slice_get, take, true};
+    ghost use Rattle.std.specs.Prelude.{false, slice_get, take, true};
     ghost use Rattle.bitpack_lists.specs.declared.list_kind.ListKind.{ListKind};
-    ghost use Rattle.bitpack_lists.specs.Cursors.{HasMoved, block_number, entries_read, left_at_hand, position, unpacked, values_of_cursor};
+    ghost use Rattle.bitpack_lists.specs.Cursors.{HasMoved, block_number, entries_read, left_at_hand, position, unpacked, values_left, values_of_cursor};
     ghost use Rattle.bitpack_lists.specs.Opened.{kind_of};
     ghost use Rattle.bitpack_lists.specs.Parts.{whole_blocks};
     ghost use Rattle.bitpack_lists.specs.inner.Searching.{blocks_of, rest_of};
     ghost use Rattle.bitpack_lists.specs.Version2.{kind_at};
 
     /// Whether the list is sorted or strictly sorted, which `seek` requires.
-    pub fn is_sorted(&self) -> bool
+    pub fn is_in_order(&self) -> bool
         ensures sorted { result ≡ true → InOrder (values_of_cursor self.now) }
         ensures plain { result ≡ false → kind_of self.now.list ≡ ListKind.Plain }
     {
@@ -153,9 +157,9 @@ impl<'a, P: BitPacker> Cursor<'a, P> {
     ///
     /// The cursor has unpacked at most the blocks that begin at this place or before it, each at most once.
     pub fn position(&self) -> usize
-        ensures at { result ≡ Rattle.bitpack_lists.specs.Cursors.position self.now }
-        ensures once { 32 * P.lanes * unpacked self.now
-            ≤ Rattle.bitpack_lists.specs.Cursors.position self.now + 32 * P.lanes }
+        ensures at { result ≡ position self.now }
+        ensures within { result ≤ length (values_of_cursor self.now) }
+        ensures once { 32 * P.lanes * unpacked self.now ≤ position self.now + 32 * P.lanes }
         ensures whole { unpacked self.now ≤ whole_blocks P.lanes (length (values_of_cursor self.now)) }
     {
         P::BLOCK_LEN * self.block + self.index
@@ -179,8 +183,7 @@ impl<'a, P: BitPacker> Cursor<'a, P> {
     /// The values from here to the end of the block at hand, or of the tail. The slice is empty only after the last value.
     #[inline(always)]
     pub fn block(&self) -> &[u32]
-        ensures values { result.now
-            ≡ take (left_at_hand self.now) (drop (position self.now) (values_of_cursor self.now)) }
+        ensures values { result.now ≡ take (left_at_hand self.now) (values_left self.now) }
         ensures len { length result.now ≡ left_at_hand self.now }
         ensures some { position self.now < length (values_of_cursor self.now) → 0 < left_at_hand self.now }
     {
@@ -282,6 +285,37 @@ impl<'a, P: BitPacker> Cursor<'a, P> {
         self.block = number;
         self.len = len;
         self.index = first_from(&self.values[..len], 0, target);
+    }
+}
+
+/// The values from the place of the cursor on, in order. A value that the list repeats comes as often as it is there.
+///
+/// ```text
+/// let mut sum = 0u64;
+/// for value in list.cursor() {             // of 3, 5, 9, 12
+///     sum += value as u64;                 // 29 at the end
+/// }
+/// ```
+impl<'a, P: BitPacker> Iterator for Cursor<'a, P> {
+    ghost use Rattle.std.specs.Iterator.{YieldsFirst, item_count};
+    ghost use Rattle.bitpack_lists.specs.Cursors.{values_left};
+
+    type Item = u32;
+
+    ghost next_gives = { YieldsFirst values_left };
+
+    ghost remaining = { item_count values_left };
+
+    #[inline(always)]
+    fn next(&mut self) -> Option<u32> {
+        let value = self.value()?;
+        self.advance();
+        Some(value)
+    }
+
+    fn size_hint(&self) -> (usize, Option<usize>) {
+        let left = self.list.len() - self.position();
+        (left, Some(left))
     }
 }
 

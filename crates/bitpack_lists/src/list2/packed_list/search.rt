@@ -154,13 +154,9 @@ impl<'a, P: BitPacker> PackedList<'a, P> {
             → result ≡ first_reaching (value_of self.now) self.now.count target }
         ensures outside { in_whole_block P.lanes self.now.count result ≡ false }
     {
-        for position in self.count - self.count % P::BLOCK_LEN..self.count {
-            let value = self.value_in_tail(position);
-            if value >= target {
-                return Some((position, value));
-            }
-        }
-        None
+        let mut values = [0; LONGEST_BLOCK];
+        let len = self.read_tail(&mut values);
+        first_at_least(&values[..len], self.count - len, target)
     }
 }
 

@@ -3,9 +3,8 @@
 ghost use Rattle.std.specs.Prelude.{◌≡◌, ◌≢◌, ◌+◌, ◌*◌, ◌<◌, ◌≤◌, ℕ, IfSome, min, length, slice_index, vec_len, vec_capacity};
 ghost use Rattle.bitpack_lists.specs.declared.list_kind.ListKind.{ListKind};
 ghost use Rattle.bitpack_lists.specs.declared.list2.packed_list.walk.Walk.{Walk};
-ghost use Rattle.bitpack_lists.specs.Parts.{tail_values};
 ghost use Rattle.bitpack_lists.specs.Search.{HasGrown};
-ghost use Rattle.bitpack_lists.specs.inner.Searching.{IsListBlock, UnpacksOne, blocks_of, rest_of, value_of};
+ghost use Rattle.bitpack_lists.specs.inner.Searching.{IsListBlock, UnpacksOne, blocks_of, rest_of};
 ghost use Rattle.bitpack_lists.specs.Version2.{last_at};
 ghost use Rattle.bitpack_lists.specs.inner.Walks.{Appends, AreNext, Begun, IsWalking, IsWalkingOver, IsWantedNext, Stage, begun_with, further};
 
@@ -110,23 +109,8 @@ fn walk_tail<P: BitPacker, Q: BitPacker>(
         → IsWalkingOver one.now other.now begun one.now.count blocks walk.new out.new other_reads.new }
 {
     let mut values = [0; LONGEST_BLOCK];
-    let tail = read_tail(one, &mut values);
+    let tail = one.read_tail(&mut values);
     walk_values(&values[..tail], other, walk, out, other_reads);
-}
-
-/// Reads the values of the tail, and returns how many these are.
-pub(crate) fn read_tail<P: BitPacker>(list: &PackedList<'_, P>, values: &mut [u32]) -> usize
-    requires room { tail_values P.lanes list.now.count ≤ length values.old }
-    ensures len { result ≡ tail_values P.lanes list.now.count }
-    ensures values { (k : ℕ) → k < result
-        → slice_index values.new k ≡ value_of list.now (32 * P.lanes * blocks_of list.now + k) }
-{
-    let tail = list.count % P::BLOCK_LEN;
-    let start = list.count - tail;
-    for index in 0..tail {
-        values[index] = list.value_in_tail(start + index);
-    }
-    tail
 }
 
 /// Meets values in order: searches each that is not below what is wanted, and appends it where it is found.

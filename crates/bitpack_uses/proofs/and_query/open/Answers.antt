@@ -17,14 +17,14 @@ returns-in_err-open-clause-refused c =
     let clash : None ≡ Some c.in_err-open.field-0.0 = sym none ∙ c.in_err-open.ensures.fault in
     cc)
 
-pub returns-then-not-is_sorted-clause-refused : goal.returns-then-not-is_sorted-clause-refused
-returns-then-not-is_sorted-clause-refused c = λ list.
+pub returns-then-not-is_in_order-clause-refused : goal.returns-then-not-is_in_order-clause-refused
+returns-then-not-is_in_order-clause-refused c = λ list.
     let opened : List2 4 list.0 list.1 (text c.in_ok-open.field-0) = rw c.in_ok-open.ensures.bytes list.2 in
     let same = kind_is c.in_ok-open.field-0 (omega arith) list.0 list.1 opened in
-    list.3 (sym same ∙ sym c.cursor-cursor.ensures.kind ∙ c.if-not-is_sorted.ensures.plain refl)
+    list.3 (sym same ∙ sym c.cursor-cursor.ensures.kind ∙ c.if-not-is_in_order.ensures.plain refl)
 
 pub new-requires-2 : goal.new-requires-2
-new-requires-2 c = c.if-not-is_sorted.ensures.sorted refl
+new-requires-2 c = c.if-not-is_in_order.ensures.sorted refl
 
 pub returns-clause-values : goal.returns-clause-values
 returns-clause-values c = λ kind values list.

@@ -14,7 +14,7 @@ returns-in-Some g c = record {
       let found = c.in-Some.found in
       let value = c.args.value in
       let (here, enough, below) = rw (sym c.in-Some.ensures.found) at (c.first_is_found.ensures all value) in
-      let order = c.in_order.ensures.either (kind_of c.args.list.now) all c.requires.ordered c.opened_text.ensures.list.ordered in (
+      let order = c.in_order.ensures.either (kind_of c.args.list.now) all c.requires.ordered c.opened_text.ensures.ordered in (
         λ is. (at, slice_get_within all at found here, get_or_from_slice_get all at found value here ∙ eqb-true found value is),
         λ has.
             let (k, lt, is) = has in

@@ -1,8 +1,9 @@
 //! Packed lists of version 2. The expected bytes, values and refusals were worked by hand from the format: the header, the entries
 //! with least width, offset and last value, the layout of each block's bits, the tail. None is the program's own output.
 
+use super::encode_to::is_written_to;
 use super::lists::{before_first, push_block, push_words};
-use crate::tests::calls::{encode2, open, value_at};
+use crate::tests::calls::{Version, encode2, open, value_at};
 use crate::tests::checks::{
     appended_bytes, holds, nine, push, push_bytes, push_steps, returns, same_number, steps,
     succeeds, with_zero,
@@ -77,7 +78,7 @@ pub(super) fn is_list<P: BitPacker>(
     }
 }
 
-/// The values have this text, which is appended.
+/// The values have this text, which is appended, and written into slices.
 pub(super) fn is_written<P: BitPacker>(
     rt: &impl Abort,
     alloc: Global,
@@ -89,6 +90,7 @@ pub(super) fn is_written<P: BitPacker>(
     let mut written = nine(rt, alloc);
     succeeds(rt, encode2(packer, kind, values, &mut written), text);
     appended_bytes(rt, &written, text);
+    is_written_to(rt, alloc, Version::Two, packer, (kind, values), text);
 }
 
 /// The values have this text, which is appended, and the text has these values. Each proper beginning is refused, and so is the text

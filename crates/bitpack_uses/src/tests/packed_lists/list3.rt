@@ -1,12 +1,58 @@
 //! Packed lists of version 3. The expected bytes were worked by hand from the format.
 
-use crate::tests::checks::{appended_bytes, nine, push_steps, steps, succeeds};
-use bitpack::{ListKind, list3};
+use super::encode_to::is_written_to;
+use crate::tests::calls::{Version, encode3, open, open_any, open3, value_at};
+use crate::tests::checks::{appended_bytes, holds, nine, push_steps, same_values, steps, succeeds};
+use bitpack::ListKind;
+use bitpack::list2::PackedList;
 use bitpacking::{BitPacker, BitPacker1x, BitPacker4x, BitPacker8x};
 use std::alloc::Global;
 use std::process::Abort;
 
-/// The values have this text, which is appended.
+/// The list has this kind and these values, at each position and all together.
+fn is_list<P: BitPacker>(
+    rt: &impl Abort,
+    alloc: Global,
+    list: &PackedList<'_, P>,
+    kind: ListKind,
+    values: &[u32],
+) {
+    holds(rt, list.kind() == kind, "the kind");
+    let mut all = Vec::new(alloc);
+    holds(rt, list.append_to(&mut all).is_ok(), "room for all values");
+    same_values(rt, &all, values);
+    for position in 0..values.len() {
+        let value = values.get(position).copied();
+        holds(rt, value_at(list, position) == value, "a value");
+    }
+    holds(
+        rt,
+        value_at(list, values.len()).is_none(),
+        "after the last value",
+    );
+}
+
+/// `open3` and `open_any` read this list from the text, and `open` refuses it.
+pub(super) fn is_read<P: BitPacker>(
+    rt: &impl Abort,
+    alloc: Global,
+    packer: &P,
+    kind: ListKind,
+    values: &[u32],
+    text: &[u8],
+) {
+    let list = open3(packer, text).expect(rt, "a list");
+    is_list(rt, alloc, &list, kind, values);
+    let list = open_any(packer, text).expect(rt, "a list");
+    is_list(rt, alloc, &list, kind, values);
+    holds(
+        rt,
+        open(packer, text).is_err(),
+        "a reader of version 2 refuses it",
+    );
+}
+
+/// The values have this text, which is appended, and written into slices.
 fn is_written<P: BitPacker>(
     rt: &impl Abort,
     alloc: Global,
@@ -16,8 +62,10 @@ fn is_written<P: BitPacker>(
     text: &[u8],
 ) {
     let mut written = nine(rt, alloc);
-    succeeds(rt, list3::encode(packer, kind, values, &mut written), text);
+    succeeds(rt, encode3(packer, kind, values, &mut written), text);
     appended_bytes(rt, &written, text);
+    is_written_to(rt, alloc, Version::Three, packer, (kind, values), text);
+    is_read(rt, alloc, packer, kind, values, text);
 }
 
 /// Each list has this text.

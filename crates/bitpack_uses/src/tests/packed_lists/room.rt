@@ -1,6 +1,6 @@
 //! How much room a call makes in an empty vector, with memory to spare: no more than the text takes, or the shorter of two lists.
 
-use crate::tests::calls::{encode1, encode2, intersect_texts, upgrade};
+use crate::tests::calls::{encode1, encode2, intersect_texts, upgrade, upgrade3};
 use crate::tests::checks::{holds, same_number, steps, succeeds};
 use bitpack::ListKind;
 use bitpacking::{BitPacker, BitPacker1x, BitPacker4x, BitPacker8x};
@@ -43,6 +43,25 @@ fn upgrades_to<P: BitPacker>(
     is_full(rt, &text, bytes);
 }
 
+/// `upgrade` to version 3 makes room for this number of bytes, from the text of version 1 or 2.
+fn upgrades_to_3<P: BitPacker>(
+    rt: &impl Abort,
+    alloc: Global,
+    packer: &P,
+    values: &[u32],
+    bytes: usize,
+) {
+    let (mut one, mut two) = (Vec::new(alloc), Vec::new(alloc));
+    let kind = ListKind::StrictlySorted;
+    succeeds(rt, encode1(packer, kind, values, &mut one), &[]);
+    succeeds(rt, encode2(packer, kind, values, &mut two), &[]);
+    for old in [one, two] {
+        let mut text = Vec::new(alloc);
+        succeeds(rt, upgrade3(packer, &old, &mut text), &old);
+        is_full(rt, &text, bytes);
+    }
+}
+
 /// Ten blocks and five values, 1, 3, 5 and so on: each code is 1, so that a block has a bit a value.
 fn narrow_blocks<P: BitPacker>(rt: &impl Abort, alloc: Global, packer: &P) {
     let len = P::BLOCK_LEN;
@@ -50,6 +69,8 @@ fn narrow_blocks<P: BitPacker>(rt: &impl Abort, alloc: Global, packer: &P) {
     let bytes = 7 + 90 + len / 8 * 10 + 20;
     encodes_to(rt, alloc, packer, &values, bytes);
     upgrades_to(rt, alloc, packer, &values, bytes);
+    // In version 3 the header has three bytes, and the tail two: its width, and five bits.
+    upgrades_to_3(rt, alloc, packer, &values, 3 + 90 + len / 8 * 10 + 2);
 }
 
 #[test]

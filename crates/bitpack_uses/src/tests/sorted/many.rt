@@ -1,7 +1,7 @@
 //! Any number of cursors as one, and items that lists keep, against plain sets.
 
 use super::{COUNT, SETS, are_those, has, has_those, numbers_of, opened, slice, texts};
-use crate::and_query::{Values, collect};
+use crate::and_query::{Ids, collect};
 use crate::tests::checks::{holds, push, same_values};
 use bitpack::ListKind;
 use bitpack::list2::PackedList;
@@ -31,12 +31,7 @@ fn passing(sets: &[u32], all: bool) -> [bool; COUNT as usize] {
     passing
 }
 
-fn cursors<'a>(
-    rt: &impl Abort,
-    alloc: Global,
-    texts: &'a [Vec<u8>],
-    sets: &[u32],
-) -> Vec<Values<'a>> {
+fn cursors<'a>(rt: &impl Abort, alloc: Global, texts: &'a [Vec<u8>], sets: &[u32]) -> Vec<Ids<'a>> {
     let mut cursors = Vec::new(alloc);
     for set in sets {
         cursors.push(opened(rt, texts, *set)).expect(rt, "memory");

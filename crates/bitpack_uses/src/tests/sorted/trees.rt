@@ -4,9 +4,8 @@
 use super::slice;
 use crate::and_query::collect;
 use crate::any_list::AnyList;
-use crate::id_set::is_increasing;
 use crate::joined::Joined;
-use crate::tests::checks::{Numbers, holds, push};
+use crate::tests::checks::{Numbers, holds, is_increasing, push};
 use bitpack::ListKind;
 use bitpack::list2::{Cursor, ListBuf};
 use bitpack::sorted::{And, AndNot, DistinctValues, Or, SortedCursor};
@@ -148,7 +147,7 @@ type OfEight<'a> = Joined<OfFour<'a>, OfFour<'a>>;
 type OfSixteen<'a> = Joined<OfEight<'a>, OfEight<'a>>;
 
 fn ordered<P: BitPacker>(cursor: Cursor<'_, P>) -> Option<DistinctValues<'_, P>> {
-    if cursor.is_sorted() {
+    if cursor.is_in_order() {
         Some(DistinctValues::new(cursor))
     } else {
         None
@@ -239,18 +238,38 @@ fn tree(rt: &impl Abort, alloc: Global, lists: &[Leaves], numbers: &mut Numbers)
     holds(rt, set_of(&found) == Some(set), "the numbers of the set");
 }
 
-#[test]
-fn two_thousand_trees(rt: HostRuntime) {
-    let alloc = rt.alloc();
-    let mut numbers = Numbers::new(6);
-    for _ in 0..40 {
+/// 5,000 trees that follow from a seed: 50 over each of 100 sets of leaves.
+fn five_thousand(rt: &impl Abort, alloc: Global, seed: u32) {
+    let mut numbers = Numbers::new(seed);
+    for _ in 0..100 {
         let mut lists = Vec::new(alloc);
         for _ in 0..LISTS {
-            let leaves = random_leaves(&rt, alloc, &mut numbers);
-            lists.push(leaves).expect(&rt, "memory");
+            let leaves = random_leaves(rt, alloc, &mut numbers);
+            lists.push(leaves).expect(rt, "memory");
         }
         for _ in 0..50 {
-            tree(&rt, alloc, &lists, &mut numbers);
+            tree(rt, alloc, &lists, &mut numbers);
         }
     }
+}
+
+// Together these are 20,000 trees. In one test they take longer than the minute that `rt try` gives a test.
+#[test]
+fn trees_from_seed_6(rt: HostRuntime) {
+    five_thousand(&rt, rt.alloc(), 6);
+}
+
+#[test]
+fn trees_from_seed_7(rt: HostRuntime) {
+    five_thousand(&rt, rt.alloc(), 7);
+}
+
+#[test]
+fn trees_from_seed_8(rt: HostRuntime) {
+    five_thousand(&rt, rt.alloc(), 8);
+}
+
+#[test]
+fn trees_from_seed_9(rt: HostRuntime) {
+    five_thousand(&rt, rt.alloc(), 9);
 }

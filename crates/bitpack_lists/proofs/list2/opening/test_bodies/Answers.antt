@@ -9,19 +9,19 @@ use Rattle.bitpack_lists.specs.declared.list_error.ListError.{ListError}
 use Rattle.bitpack_lists.specs.declared.list_kind.ListKind.{ListKind}
 use Rattle.bitpack_lists.specs.Parts.{whole_blocks}
 use Rattle.bitpack_lists.specs.inner.Opening.{IsOrdered}
-use Rattle.bitpack_lists.specs.Version2.{block_at, block_fault2, body_at, body_fault2, first_fault, is_out, kind_at, last_at, least_below, offset_at, value_at, width_at}
+use Rattle.bitpack_lists.specs.Version2.{block_at, block_fault2, body_at, body_fault2, first_fault, is_out, kind_at, last_at, least_below, offset_at, value_with, width_at}
 use Rattle.bitpack_lists.proofs.BlockLemmas.{kind_at-next, positive}
 use Rattle.bitpack_lists.proofs.ListLemmas.{lanes-is}
 use Rattle.bitpack_lists.proofs.Orders.{least_below-or}
 use Rattle.bitpack_lists.proofs.RestFaults.{body_right, first_fault-found, first_fault-next}
-use Rattle.bitpack_lists.proofs.RestValues.{body_room, length-block_at, narrow_entry, start-kind_at, value_at-block, value_at-last}
+use Rattle.bitpack_lists.proofs.RestValues.{body_room, length-block_at, narrow_entry, start-kind_at, value_with-block, value_with-last}
 use Rattle.bitpack_lists.proofs.list2.opening.test_bodies.Goals as goal
 
 pub loop-block-init : goal.loop-block-init
 unfolding first_fault least_below
 loop-block-init g c =
     let none : 32 * g.P.BitPacker.lanes * 0 ≡ 0 = omega arith in
-    record { kind = c.first-kind.ensures; right = refl; last = λ lt. absurd (omega arith); out = rw none refl }
+    record { kind = c.first-kind.ensures; right = refl; last = λ later lt. absurd (omega arith); out = λ later. rw none refl }
 
 pub unpack-requires-clause-width : goal.unpack-requires-clause-width
 unpack-requires-clause-width g c =
@@ -85,23 +85,23 @@ module _ (lanes len full blocks width offset last block : ℕ) (kind : ListKind)
       rw (same, kind_is, width_is, last_is, body_at_is) at (found block_kind ends)
 
 -- What the test of order finds up to the end of the block.
-out_is : (lanes len blocks block last : ℕ) (kind : ListKind) (rest values : List ℕ) (found : Option ℕ) → 1 ≤ lanes → len ≡ 32 * lanes → block < blocks
+out_is : (lanes len blocks block last : ℕ) (kind : ListKind) (rest values : List ℕ) (found : Option ℕ) (later : ℕ → ℕ) → 1 ≤ lanes → len ≡ 32 * lanes → block < blocks
     → values ≡ block_at lanes blocks kind rest block → length (block_at lanes blocks kind rest block) ≡ 32 * lanes
-    → (0 < block → value_at lanes blocks kind rest (32 * lanes * block - 1) ≡ last)
+    → (0 < block → value_with lanes blocks kind rest later (32 * lanes * block - 1) ≡ last)
     → ((all : ℕ → ℕ) → IsOrdered kind all (block * len) last → ((k : ℕ) → k < length values → all (block * len + k) ≡ get_or values k 0)
     → found ≡ least_below (is_out kind all) (block * len + length values))
-    → least_below (is_out kind (value_at lanes blocks kind rest)) (32 * lanes * block) ≡ None
-    → found ≡ least_below (is_out kind (value_at lanes blocks kind rest)) (32 * lanes * (block + 1))
-out_is lanes len blocks block last kind rest values found some whole lt is long before finds none =
+    → least_below (is_out kind (value_with lanes blocks kind rest later)) (32 * lanes * block) ≡ None
+    → found ≡ least_below (is_out kind (value_with lanes blocks kind rest later)) (32 * lanes * (block + 1))
+out_is lanes len blocks block last kind rest values found later some whole lt is long before finds none =
     let n : ℕ = 32 * lanes in
-    let all : ℕ → ℕ = value_at lanes blocks kind rest in
+    let all : ℕ → ℕ = value_with lanes blocks kind rest later in
     let size_of : length values ≡ n = ap length is ∙ long in
     let from : block * len ≡ n * block = rw whole (omega arith) in
     let end : block * len + length values ≡ n * (block + 1) = omega (arith, from, size_of) in
     let ordered : IsOrdered kind all (block * len) last =
     rw from (record { so_far = none; last = λ some_before. before (positive n block some_before) }) in
     finds all ordered (λ k within.
-    ap (λ p. all (p + k)) from ∙ value_at-block lanes blocks kind rest some block k lt (omega (arith, within, size_of)) ∙ ap (λ xs. get_or xs k 0) (sym is))
+    ap (λ p. all (p + k)) from ∙ value_with-block lanes blocks kind rest later some block k lt (omega (arith, within, size_of)) ∙ ap (λ xs. get_or xs k 0) (sym is))
     ∙ ap (least_below (is_out kind all)) end
 
 pub returns-in_err-test_block-clause-fault : goal.returns-in_err-test_block-clause-fault
@@ -150,9 +150,9 @@ loop-block-preserved g c =
     record {
       kind = c.next_kind-kind.ensures ∙ kind_at-next kind rest block c.loop-block.kind entry.last before.kind read.last;
       right = first_fault-next (body_fault2 lanes blocks kind rest) block before.right ∙ none;
-      last = λ _. value_at-last lanes blocks kind rest block entry.last some lt (right.1 ∙ sym read.last);
-      out = c.or-out.ensures
-          ∙ least_below-or (is_out kind (value_at lanes blocks kind rest)) (32 * lanes * block) (32 * lanes * (block + 1)) c.loop-block.out c.first_out.result upto
-          before.out (out_is lanes c.BLOCK_LEN-len.result blocks block c.loop-block.last kind rest (take c.BLOCK_LEN-len.result c.unpack.new.values)
-          c.first_out.result some whole lt unpacked size_of before.last c.first_out.ensures);
+      last = λ later _. value_with-last lanes blocks kind rest later block entry.last some lt (right.1 ∙ sym read.last);
+      out = λ later. c.or-out.ensures
+          ∙ least_below-or (is_out kind (value_with lanes blocks kind rest later)) (32 * lanes * block) (32 * lanes * (block + 1)) c.loop-block.out c.first_out.result upto
+          (before.out later) (out_is lanes c.BLOCK_LEN-len.result blocks block c.loop-block.last kind rest (take c.BLOCK_LEN-len.result c.unpack.new.values)
+          c.first_out.result later some whole lt unpacked size_of (before.last later) c.first_out.ensures);
     }

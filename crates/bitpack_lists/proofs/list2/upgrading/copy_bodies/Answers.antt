@@ -1,7 +1,7 @@
 -- The bytes after each width are the body of its block, and those after the last block are the tail.
 use Rattle.std.proofs.Common.{◌≡◌, ◌+◌, ◌-◌, ◌*◌, ◌/◌, ◌<◌, ◌≤◌, ◌++◌, ℕ, List, length, take, drop, get_or, None, ◌∙◌, ap, arith}
 use Rattle.std.proofs.Math.Nat.{sub-zero}
-use Rattle.std.proofs.lemmas.List.{length-take-le, length-drop}
+use Rattle.std.proofs.lemmas.List.{length-append, length-take-le, length-drop}
 use Rattle.bitpacking.specs.Layout.{size}
 use Rattle.bitpack_lists.specs.Parts.{tail_values, whole_blocks}
 use Rattle.bitpack_lists.specs.Version1.{after_block1, blocks_fault1}
@@ -39,14 +39,15 @@ module _ (lanes len count i taken : ℕ) (rest : List ℕ) (whole : len ≡ 32 *
   long : length rest ≡ 1 + taken + length (after_block1 lanes rest)
   long = omega (arith, right_length lanes rest is, taken_is)
 
-  -- The blocks after it have a byte each.
-  enough : whole_blocks lanes count - (i + 1) ≤ length (after_block1 lanes rest)
+  -- The blocks after it have a byte each, and then there is the tail.
+  enough : whole_blocks lanes count - (i + 1) + 4 * tail_values lanes count ≤ length (after_block1 lanes rest)
   enough = omega (arith, enough_left lanes (4 * tail_values lanes count) (i + 1) (whole_blocks lanes count - (i + 1)) (after_block1 lanes rest) later)
 
 pub loop-init : goal.loop-init
 loop-init g c = record {
   right = rw sub-zero c.requires.sound;
-  room = rw sub-zero c.requires.room;
+  long = omega arith;
+  capacity = omega arith;
   copied = λ values entries listed has.
       copied_first g.P.BitPacker.lanes c.args.header.count c.args.header.kind values entries c.args.bytes.now c.args.out.now.items listed has;
 }
@@ -74,7 +75,7 @@ append-requires g c =
     let more = enough lanes c.BLOCK_LEN.result count i taken rest whole c.loop-test.true c.compressed_block_size-end.ensures c.loop.invariant.right in
     let all = long lanes c.BLOCK_LEN.result count i taken rest whole c.loop-test.true c.compressed_block_size-end.ensures c.loop.invariant.right in
     let size_of = length-body lanes c.BLOCK_LEN.result count i taken rest whole c.loop-test.true c.compressed_block_size-end.ensures c.loop.invariant.right in
-    record { room = omega (arith, below, more, all, size_of, c.loop.invariant.room) }
+    record { room = omega (arith, below, more, all, size_of, c.loop.invariant.long, c.loop.invariant.capacity, c.requires.room) }
 
 pub slice_bounds-rest-count : goal.slice_bounds-rest-count
 slice_bounds-rest-count g c =
@@ -101,23 +102,34 @@ loop-preserved g c =
     let copied = body lanes c.BLOCK_LEN.result count i taken rest whole c.loop-test.true c.compressed_block_size-end.ensures c.loop.invariant.right in
     record {
       right = rw left (later lanes c.BLOCK_LEN.result count i taken rest whole c.loop-test.true c.compressed_block_size-end.ensures c.loop.invariant.right);
-      room = rw left (omega (arith, below, all, size_of, c.append.ensures.len, c.append.ensures.capacity, c.loop.invariant.room));
+      long = rw left (omega (arith, all, size_of, c.append.ensures.len, c.loop.invariant.long));
+      capacity = omega (arith, c.append.ensures.capacity, c.loop.invariant.capacity);
       copied = λ values entries listed has.
           rw left (copied_step lanes (whole_blocks lanes count) i c.args.header.kind values entries rest c.args.out.now.items c.loop.out.items c.append.new.out.items
           g.met.P.BitPacker.some_lanes below (c.append.ensures.items ∙ ap (λ xs. c.loop.out.items ++ xs) copied) (c.loop.invariant.copied values entries listed has));
     }
 
-pub append-requires-2 : goal.append-requires-2
-append-requires-2 g c =
-    let whole : c.BLOCK_LEN.result ≡ 32 * g.P.BitPacker.lanes = c.BLOCK_LEN.ensures ∙ g.met.P.BitPacker.block_len in
-    let end : whole_blocks g.P.BitPacker.lanes c.args.header.count ≤ c.loop.counter = rw whole at c.loop-test.false in
-    record { room = omega (arith, end, c.loop.invariant.room) }
-
-pub returns : goal.returns
-returns g c =
+pub returns-clause-bodies : goal.returns-clause-bodies
+returns-clause-bodies g c =
     let lanes : ℕ = g.P.BitPacker.lanes in
     let whole : c.BLOCK_LEN.result ≡ 32 * lanes = c.BLOCK_LEN.ensures ∙ g.met.P.BitPacker.block_len in
     λ values entries listed has.
-    copied_done lanes (whole_blocks lanes c.args.header.count) c.loop.counter c.args.header.kind values entries c.loop.rest.now c.args.out.now.items c.loop.out.items
-    c.append-2.new.out.items (rw whole at c.loop-test.false) (rw whole at c.loop.auto.counter-end) c.append-2.ensures.items
-    (c.loop.invariant.copied values entries listed has)
+    let (later, bodies, items, tail) = copied_done lanes (whole_blocks lanes c.args.header.count) c.loop.counter c.args.header.kind values entries c.loop.rest.now
+    c.args.out.now.items c.loop.out.items (rw whole at c.loop-test.false) (rw whole at c.loop.auto.counter-end) (c.loop.invariant.copied values entries listed has) in (
+      later,
+      bodies,
+      record {
+        items = items;
+        len = omega (arith, ap length items, length-append c.args.out.now.items later, c.loop.out.ok, c.args.out.now.ok);
+        capacity = c.loop.invariant.capacity;
+      },
+      tail,
+    )
+
+pub returns-clause-len : goal.returns-clause-len
+returns-clause-len g c =
+    let lanes : ℕ = g.P.BitPacker.lanes in
+    let whole : c.BLOCK_LEN.result ≡ 32 * lanes = c.BLOCK_LEN.ensures ∙ g.met.P.BitPacker.block_len in
+    let low : whole_blocks lanes c.args.header.count ≤ c.loop.counter = rw whole at c.loop-test.false in
+    let high : c.loop.counter ≤ whole_blocks lanes c.args.header.count = rw whole at c.loop.auto.counter-end in
+    omega (arith, low, high, c.loop.invariant.long)

@@ -81,5 +81,13 @@ returns-clause-entries g c =
     entering_done lanes (whole_blocks lanes c.args.header.count) c.loop.counter c.loop.offset c.args.header.kind c.loop.kind values c.loop.rest.now c.args.out.now.items
     c.loop.out.items (rw whole at c.loop-test.false) (rw whole at c.loop.auto.counter-end) (c.loop.invariant.entries values listed)
 
+pub returns-clause-len : goal.returns-clause-len
+returns-clause-len g c =
+    let lanes : ℕ = g.P.BitPacker.lanes in
+    let whole : c.BLOCK_LEN-len.result ≡ 32 * lanes = c.BLOCK_LEN-len.ensures ∙ g.met.P.BitPacker.block_len in
+    let low : whole_blocks lanes c.args.header.count ≤ c.loop.counter = rw whole at c.loop-test.false in
+    let high : c.loop.counter ≤ whole_blocks lanes c.args.header.count = rw whole at c.loop.auto.counter-end in
+    omega (arith, low, high, c.loop.invariant.long)
+
 pub returns-clause-capacity : goal.returns-clause-capacity
 returns-clause-capacity g c = c.loop.invariant.capacity

@@ -1,167 +1,81 @@
--- There is room for the text, and header, entries, bodies and tail are it.
-use Rattle.std.proofs.Common.{◌≡◌, ◌+◌, ◌-◌, ◌*◌, ◌/◌, ◌%◌, ◌++◌, ℕ, List, length, take, drop, Some, None, refl, sym, ◌∙◌, ap, arith, append_assoc, vec_len}
-use Rattle.std.proofs.Math.Nat.{mod-eq-sub-mul-div, mul-div-le}
-use Rattle.std.proofs.lemmas.List.{length-append, length-drop, take_all}
-use Rattle.bitpacking.specs.Words.{bytes_of_words}
-use Rattle.bitpacking.proofs.ForCallers.{AreWords-from_slice, length-bytes_of_words}
-use Rattle.bitpack_lists.specs.declared.list_kind.ListKind.{ListKind}
-use Rattle.bitpack_lists.specs.Parts.{header, tail_values, whole_blocks}
-use Rattle.bitpack_lists.proofs.HeaderLemmas.{length-header}
-use Rattle.bitpack_lists.proofs.ListLemmas.{lanes-is, on_err, on_ok}
-use Rattle.bitpack_lists.proofs.MeasuredLengths.{length-rest2}
-use Rattle.bitpack_lists.proofs.Orders.{first_found}
-use Rattle.bitpack_lists.proofs.PartLemmas.{AreBytes-from_items, AreBytes-right}
-use Rattle.bitpack_lists.proofs.RestLemmas.{List2-from_rest, length-tail, length-text2, rest_done}
-use Rattle.bitpack_lists.proofs.WriteSteps.{parts_are}
+-- The zeros in the room that is reserved become the text.
+use Rattle.std.proofs.Common.{◌≡◌, ◌++◌, ℕ, List, length, replicate, Err, refl, sym, ◌∙◌, ap, arith}
+use Rattle.std.proofs.lemmas.List.{length-replicate}
+use Rattle.std.proofs.lemmas.Result.{err_from_is_err_and}
+use Rattle.bitpack_lists.specs.inner.Sizes.{IsSize2}
+use Rattle.bitpack_lists.proofs.ListLemmas.{on_err}
+use Rattle.bitpack_lists.proofs.ReadSteps.{written_over}
+use Rattle.bitpack_lists.proofs.TextSizes.{size_is2}
+use Rattle.bitpack_lists.proofs.ValueFaults.{few_values, is_refused, long_refused, order_refused, ordered_result}
 use Rattle.bitpack_lists.proofs.list2.writing.encode.Goals as goal
 
--- ---- order
+-- ---- a fault of the values
 
-pub returns-in-Some-clause-order : goal.returns-in-Some-clause-order
-returns-in-Some-clause-order g c = λ few.
-    let values : List ℕ = c.args.values.now in
-    let found = first_found c.args.kind values c.first_out.result c.first_out.ensures in
-    rw (found, c.in-Some.is) refl
+pub returns-in_err-test_values-clause-long : goal.returns-in_err-test_values-clause-long
+returns-in_err-test_values-clause-long g c = λ many.
+    let p = err_from_is_err_and c.from_residual.result c.from_residual.ensures.1 in
+    p.1 ∙ ap Err (p.2 ∙ long_refused c.args.kind c.args.values.now c.in_err-test_values.field-0.0 c.in_err-test_values.ensures many)
 
-pub returns-in-Some-clause-room : goal.returns-in-Some-clause-room
-returns-in-Some-clause-room g c = λ few none.
-    let values : List ℕ = c.args.values.now in
-    let found = first_found c.args.kind values c.first_out.result c.first_out.ensures in
-    let other : Some c.in-Some.position ≡ None = sym c.in-Some.is ∙ sym found ∙ none in
-    absurd cc
+pub returns-in_err-test_values-clause-order : goal.returns-in_err-test_values-clause-order
+returns-in_err-test_values-clause-order g c = λ few.
+    let p = err_from_is_err_and c.from_residual.result c.from_residual.ensures.1 in
+    order_refused c.args.kind c.args.values.now c.in_err-test_values.field-0.0 c.in_err-test_values.ensures _ c.from_residual.result (p.1 ∙ ap Err p.2) few
+
+pub returns-in_err-test_values-clause-room : goal.returns-in_err-test_values-clause-room
+returns-in_err-test_values-clause-room g c = λ few none.
+    absurd (is_refused c.args.kind c.args.values.now c.in_err-test_values.field-0.0 c.in_err-test_values.ensures few none)
+
+-- ---- no memory
+
+pub text_len-size-requires-clause-few : goal.text_len-size-requires-clause-few
+text_len-size-requires-clause-few g c = few_values c.args.kind c.args.values.now c.in_ok-test_values.ensures
+
+pub returns-then-is_err-clause-long : goal.returns-then-is_err-clause-long
+returns-then-is_err-clause-long g c = λ many.
+    let few = few_values c.args.kind c.args.values.now c.in_ok-test_values.ensures in
+    absurd (omega (arith, few, many))
 
 pub returns-then-is_err-clause-order : goal.returns-then-is_err-clause-order
-returns-then-is_err-clause-order g c = λ few.
-    let values : List ℕ = c.args.values.now in
-    let found = first_found c.args.kind values c.first_out.result c.first_out.ensures in
-    rw (found, c.in_default.is) refl
-
-pub returns-clause-order : goal.returns-clause-order
-returns-clause-order g c = λ few.
-    let values : List ℕ = c.args.values.now in
-    let found = first_found c.args.kind values c.first_out.result c.first_out.ensures in
-    rw (found, c.in_default.is) tt
-
--- ---- room
+returns-then-is_err-clause-order g c = λ few. ordered_result c.args.kind c.args.values.now _ c.in_ok-test_values.ensures refl
 
 pub returns-then-is_err-clause-room : goal.returns-then-is_err-clause-room
 returns-then-is_err-clause-room g c = λ few none text list.
     let full = on_err c.reserve.result (sym c.is_err.ensures.value ∙ c.if-is_err.true) c.reserve.ensures.full in
-    let long = length-text2 g.P.BitPacker.lanes c.args.kind c.args.values.now text g.met.P.BitPacker.some_lanes list in
-    let size = length-rest2 g.P.BitPacker.lanes (whole_blocks g.P.BitPacker.lanes (length c.args.values.now)) c.text_len.result
-    (4 * tail_values g.P.BitPacker.lanes (length c.args.values.now)) c.args.kind c.args.values.now (drop 7 text) g.met.P.BitPacker.some_lanes
-    c.text_len.ensures.len list.rest.whole.entries in
-    omega (arith, full, long, size)
+    let long = size_is2 g.P.BitPacker.lanes c.text_len-size.result c.args.kind c.args.values.now text g.met.P.BitPacker.some_lanes
+    (record { room = c.text_len-size.ensures.room; long = c.text_len-size.ensures.len }) list in
+    omega (arith, full, long)
 
--- What is in the vector, as long as it is.
-module _ (lanes len count : ℕ) (kind : ListKind) (old reserved written : List ℕ) (same : reserved ≡ old)
-    (whole : len ≡ 32 * lanes) (items : written ≡ reserved ++ header 2 kind (len / 32) count) where
-  header_is : written ≡ old ++ header 2 kind lanes count
-  header_is = items ∙ rw (same, lanes-is lanes len whole) refl
+-- ---- the text
 
-  length-header_is : length written ≡ length old + 7
-  length-header_is = ap length header_is ∙ length-append old (header 2 kind lanes count) ∙ ap (λ n. length old + n) (length-header 2 kind lanes count)
+pub write_text-requires-clause-ready : goal.write_text-requires-clause-ready
+write_text-requires-clause-ready g c = record { right = c.in_ok-test_values.ensures; least = c.text_len-size.ensures.widths }
 
-pub write_entries-requires-clause-room : goal.write_entries-requires-clause-room
-write_entries-requires-clause-room g c =
-    let room = on_ok c.reserve.result (sym c.is_err.ensures.value ∙ c.if-is_err.false) c.reserve.ensures.ok in
-    let long = length-header_is g.P.BitPacker.lanes c.BLOCK_LEN.result (length c.args.values.now) c.args.kind c.args.out.now.items c.reserve.new.self.items
-    c.write.new.out.items c.reserve.ensures.items (c.BLOCK_LEN.ensures ∙ g.met.P.BitPacker.block_len) c.write.ensures.items in
-    omega (arith, room, long, c.text_len.ensures.room, c.write.ensures.capacity, c.write.new.out.ok, c.args.out.now.ok, c.reserve.ensures.len)
+pub write_text-requires-clause-size : goal.write_text-requires-clause-size
+write_text-requires-clause-size g c =
+    let is : IsSize2 g.P.BitPacker.lanes c.args.kind c.args.values.now c.text_len-size.result = record { room = c.text_len-size.ensures.room; long = c.text_len-size.ensures.len } in
+    let long : length c.slice_mut.result.now ≡ c.text_len-size.result =
+    omega (arith, c.slice_mut.ensures.len, c.append_zeros.ensures.len, c.len-start.ensures, length-replicate {A = ℕ} c.text_len-size.result 0) in
+    rw long is
 
-pub write_bodies-requires-clause-room : goal.write_bodies-requires-clause-room
-write_bodies-requires-clause-room g c =
-    let room = on_ok c.reserve.result (sym c.is_err.ensures.value ∙ c.if-is_err.false) c.reserve.ensures.ok in
-    let long = length-header_is g.P.BitPacker.lanes c.BLOCK_LEN.result (length c.args.values.now) c.args.kind c.args.out.now.items c.reserve.new.self.items
-    c.write.new.out.items c.reserve.ensures.items (c.BLOCK_LEN.ensures ∙ g.met.P.BitPacker.block_len) c.write.ensures.items in
-    let size = length-rest2 g.P.BitPacker.lanes (whole_blocks g.P.BitPacker.lanes (length c.args.values.now)) c.text_len.result
-    (4 * tail_values g.P.BitPacker.lanes (length c.args.values.now)) c.args.kind c.args.values.now
-    (drop (vec_len c.write.new.out) c.write_entries.new.out.items) g.met.P.BitPacker.some_lanes c.text_len.ensures.len c.write_entries.ensures.entries.entries in
-    rw c.len-start.ensures (omega (
-      arith,
-      room,
-      long,
-      size,
-      c.write.ensures.capacity,
-      c.write_entries.ensures.capacity,
-      c.write.new.out.ok,
-      c.args.out.now.ok,
-      c.reserve.ensures.len,
-    ))
+pub returns-clause-long : goal.returns-clause-long
+returns-clause-long g c = λ many.
+    let few = few_values c.args.kind c.args.values.now c.in_ok-test_values.ensures in
+    absurd (omega (arith, few, many))
 
--- The tail, as the code lends it.
-tail_is : (lanes len : ℕ) (values : List ℕ) → len ≡ 32 * lanes
-    → take (length values - (length values - length values % len)) (drop (length values - length values % len) values)
-    ≡ drop (32 * lanes * whole_blocks lanes (length values)) values
-tail_is lanes len values whole =
-    let n : ℕ = 32 * lanes in
-    let from : length values - length values % len ≡ n * (length values / n) =
-    rw whole (omega (arith, mod-eq-sub-mul-div (length values) n, mul-div-le (length values) n)) in
-    let start : ℕ = length values - length values % len in
-    take_all (length values - start) (drop start values) (omega (arith, length-drop start values)) ∙ ap (λ k. drop k values) from
-
-pub write_all-requires : goal.write_all-requires
-write_all-requires g c =
-    let lanes : ℕ = g.P.BitPacker.lanes in
-    let values : List ℕ = c.args.values.now in
-    let start : ℕ = c.len-start.result in
-    let front : List ℕ = c.write.new.out.items in
-    let done : List ℕ = c.write_bodies.new.out.items in
-    let room = on_ok c.reserve.result (sym c.is_err.ensures.value ∙ c.if-is_err.false) c.reserve.ensures.ok in
-    let long = length-header_is lanes c.BLOCK_LEN.result (length values) c.args.kind c.args.out.now.items c.reserve.new.self.items front
-    c.reserve.ensures.items (c.BLOCK_LEN.ensures ∙ g.met.P.BitPacker.block_len) c.write.ensures.items in
-    let has = c.write_bodies.ensures.bodies in
-    let size = length-rest2 lanes (whole_blocks lanes (length values)) c.text_len.result (4 * tail_values lanes (length values)) c.args.kind values (drop start done)
-    g.met.P.BitPacker.some_lanes c.text_len.ensures.len has.entries in
-    let tail = tail_is lanes c.BLOCK_LEN-2.result values (c.BLOCK_LEN-2.ensures ∙ g.met.P.BitPacker.block_len) in
-    let over = length-tail lanes values g.met.P.BitPacker.some_lanes in
-    let behind : length (drop (32 * lanes * whole_blocks lanes (length values)) values) ≡ tail_values lanes (length values) =
-    omega (arith, over, length-bytes_of_words (drop (32 * lanes * whole_blocks lanes (length values)) values)) in
-    let parts = parts_are start (vec_len c.write.new.out) front c.write_entries.new.out.items done c.len-start.ensures c.write_entries.ensures.front c.write_bodies.ensures.front in
-    record {
-      room = rw tail (omega (
-        arith,
-        room,
-        long,
-        size,
-        behind,
-        has.long,
-        ap length parts,
-        length-append front (drop start done),
-        c.write.ensures.capacity,
-        c.write_entries.ensures.capacity,
-        c.write_bodies.ensures.capacity,
-        c.write_bodies.new.out.ok,
-        c.args.out.now.ok,
-        c.reserve.ensures.len,
-      ));
-    }
+pub returns-clause-order : goal.returns-clause-order
+returns-clause-order g c = λ few. ordered_result c.args.kind c.args.values.now _ c.in_ok-test_values.ensures tt
 
 pub returns-clause-ok : goal.returns-clause-ok
 returns-clause-ok g c =
-    let lanes : ℕ = g.P.BitPacker.lanes in
-    let kind : ListKind = c.args.kind in
-    let values : List ℕ = c.args.values.now in
-    let old : List ℕ = c.args.out.now.items in
-    let start : ℕ = c.len-start.result in
-    let front : List ℕ = c.write.new.out.items in
-    let done : List ℕ = c.write_bodies.new.out.items in
-    let header_of : List ℕ = header 2 kind lanes (length values) in
-    let blocks : ℕ = whole_blocks lanes (length values) in
-    let tail : List ℕ = bytes_of_words (drop (32 * lanes * blocks) values) in
-    let rest : List ℕ = drop start done in
-    let found = first_found kind values c.first_out.result c.first_out.ensures in
-    let head = header_is lanes c.BLOCK_LEN.result (length values) kind old c.reserve.new.self.items front
-    c.reserve.ensures.items (c.BLOCK_LEN.ensures ∙ g.met.P.BitPacker.block_len) c.write.ensures.items in
-    let parts = parts_are start (vec_len c.write.new.out) front c.write_entries.new.out.items done c.len-start.ensures c.write_entries.ensures.front c.write_bodies.ensures.front in
-    let items : c.write_all.new.out.items ≡ old ++ (header_of ++ (rest ++ tail)) =
-    c.write_all.ensures.items
-    ∙ ap (λ xs. done ++ bytes_of_words xs) (tail_is lanes c.BLOCK_LEN-2.result values (c.BLOCK_LEN-2.ensures ∙ g.met.P.BitPacker.block_len))
-    ∙ ap (λ xs. xs ++ tail) (parts ∙ ap (λ xs. xs ++ rest) head)
-    ∙ append_assoc (old ++ header_of) rest tail ∙ append_assoc old header_of (rest ++ tail) in (
-      header_of ++ (rest ++ tail),
-      AreBytes-right old (header_of ++ (rest ++ tail)) (rw items at (AreBytes-from_items c.write_all.new.out.items c.type_inv.out)),
-      List2-from_rest lanes kind values (rest ++ tail) (AreWords-from_slice values c.type_inv.values) (found ∙ c.in_default.is) c.if-values-gt-LONGEST_LIST.false
-          (rest_done lanes blocks kind values rest c.write_bodies.ensures.bodies),
-      items,
+    let old : List ℕ = c.reserve.new.self.items in
+    let zeros : List ℕ = replicate c.text_len-size.result 0 in
+    let text : List ℕ = c.write_text.new.bytes in
+    let from : c.len-start.result ≡ length old = omega (arith, c.len-start.ensures, c.reserve.new.self.ok) in
+    let long : length text ≡ length zeros = omega (arith, c.write_text.auto.bytes, c.slice_mut.ensures.len, c.append_zeros.ensures.len, c.len-start.ensures) in
+    let all : c.append_zeros.new.out.len ≡ length c.append_zeros.new.out.items = omega (arith, c.append_zeros.new.out.ok) in (
+      text,
+      c.write_text.ensures.0,
+      c.write_text.ensures.1,
+      written_over old zeros c.append_zeros.new.out.items text c.len-start.result c.append_zeros.new.out.len c.append_zeros.ensures.items from long all
+          ∙ ap (λ xs. xs ++ text) c.reserve.ensures.items,
     )

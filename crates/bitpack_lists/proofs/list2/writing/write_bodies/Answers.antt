@@ -1,6 +1,7 @@
--- One body more is appended.
+-- One body more is packed after those before it.
 use Rattle.std.proofs.Common.{◌≡◌, ◌+◌, ◌-◌, ◌*◌, ◌/◌, ◌<◌, ◌≤◌, ◌++◌, ℕ, List, length, take, drop, sym, ◌∙◌, ap, arith}
-use Rattle.std.proofs.lemmas.List.{drop-append-le, take-append-le, length-append, length-drop, take_all}
+use Rattle.std.proofs.lemmas.List.{take-append-drop, length-drop, length-take, length-take-le}
+use borrow.Rule.Slice.PartMut.{put_mid}
 use Rattle.bitpacking.specs.declared.kind.Kind.{Kind}
 use Rattle.bitpacking.specs.Codes.{AreWords}
 use Rattle.bitpacking.specs.Layout.{size}
@@ -11,28 +12,31 @@ use Rattle.bitpack_lists.specs.Parts.{whole_blocks}
 use Rattle.bitpack_lists.specs.inner.Opening.{HasBodies}
 use Rattle.bitpack_lists.specs.Version2.{block_of, kind_at, last_at, tail_start, width_at}
 use Rattle.bitpack_lists.proofs.BlockLemmas.{AreWords-block_of, kind_at-next, next_block, next_left}
-use Rattle.bitpack_lists.proofs.EntryLemmas.{bodies_step, body_end, kind_at-append, last_at-append, widths_before-append}
+use Rattle.bitpack_lists.proofs.ChainLemmas.{take-put_end}
+use Rattle.bitpack_lists.proofs.EntryLemmas.{bodies_step, body_end, kind_at-append, last_at-append, width_at-append, widths_before-append}
+use Rattle.bitpack_lists.proofs.GroupSteps.{length-written}
 use Rattle.bitpack_lists.proofs.OneText1.{narrow_least}
-use Rattle.bitpack_lists.proofs.WriteSteps.{packable}
 use Rattle.bitpack_lists.proofs.list2.writing.write_bodies.Goals as goal
 
--- The rest of the text, as the code lends it.
-lent : (start : ℕ) (items seen : List ℕ) → seen ≡ items → take (length seen - start) (drop start seen) ≡ drop start items
-lent start items seen e = take_all (length seen - start) (drop start seen) (omega (arith, length-drop start seen)) ∙ ap (drop start) e
-
--- The next block, where its width was read.
-module _ (lanes len i start width : ℕ) (kind : ListKind) (block_kind : Kind) (values left part out seen : List ℕ) (some : 1 ≤ lanes) (whole : len ≡ 32 * lanes)
-    (left_is : left ≡ drop (32 * lanes * i) values) (within : i < length values / len) (front : part ≡ take len left) (same : seen ≡ out)
-    (read : width ≡ width_at (take (length seen - start) (drop start seen)) i) (kind_is : block_kind ≡ kind_at kind (drop start out) i)
-    (has : HasBodies lanes (whole_blocks lanes (length values)) kind values (drop start out) i) where
+-- The next block, if its width was read. What is done is the front of the slice.
+module _ (lanes len i end width : ℕ) (kind : ListKind) (block_kind : Kind) (values left part rest : List ℕ) (some : 1 ≤ lanes) (whole : len ≡ 32 * lanes)
+    (left_is : left ≡ drop (32 * lanes * i) values) (within : i < length values / len) (front : part ≡ take len left)
+    (read : width ≡ width_at rest i) (kind_is : block_kind ≡ kind_at kind (take end rest) i)
+    (has : HasBodies lanes (whole_blocks lanes (length values)) kind values (take end rest) i) where
   lt : i < whole_blocks lanes (length values)
   lt = rw whole at within
 
   block_is : part ≡ block_of lanes values i
   block_is = front ∙ next_block lanes len i values left some whole left_is within
 
-  width_is : width ≡ width_at (drop start out) i
-  width_is = read ∙ ap (λ xs. width_at xs i) (lent start out seen same)
+  entered : 9 * i + 9 ≤ length (take end rest)
+  entered = omega (arith, has.long, lt)
+
+  width_is : width ≡ width_at (take end rest) i
+  width_is = read ∙ ap (λ xs. width_at xs i) (sym (take-append-drop end rest)) ∙ width_at-append (take end rest) (drop end rest) i entered
+
+  last_is : (last : ℕ) → last ≡ last_at rest i → last ≡ last_at (take end rest) i
+  last_is last found = found ∙ ap (λ xs. last_at xs i) (sym (take-append-drop end rest)) ∙ last_at-append (take end rest) (drop end rest) i entered
 
   least : IsWidth block_kind part width
   least = rw (kind_is, block_is, width_is) (has.entries i lt).least
@@ -40,79 +44,83 @@ module _ (lanes len i start width : ℕ) (kind : ListKind) (block_kind : Kind) (
   narrow : AreWords values → width ≤ 32
   narrow words = narrow_least block_kind part width (rw block_is (AreWords-block_of lanes i values words)) least
 
-  room : length (drop start out) + size lanes width ≤ tail_start lanes (whole_blocks lanes (length values)) (drop start out)
+  room : length (take end rest) + size lanes width ≤ tail_start lanes (whole_blocks lanes (length values)) (take end rest)
   room =
       let blocks : ℕ = whole_blocks lanes (length values) in
-      rw (has.long, width_is) (rw (has.entries i lt).offset at (body_end lanes blocks blocks (drop start out) i lt (has.entries i lt).offset))
+      rw (has.long, width_is) (rw (has.entries i lt).offset at (body_end lanes blocks blocks (take end rest) i lt (has.entries i lt).offset))
 
-pub write_body-requires-clause-pack : goal.write_body-requires-clause-pack
-write_body-requires-clause-pack g c =
-    let whole : c.BLOCK_LEN-len.result ≡ 32 * g.P.BitPacker.lanes = c.BLOCK_LEN-len.ensures ∙ g.met.P.BitPacker.block_len in
-    let narrow_is = narrow g.P.BitPacker.lanes c.BLOCK_LEN-len.result c.loop-index.index c.args.start c.entry-entry.result.width c.args.kind c.loop-index.block_kind c.args.values.now
-    c.loop-index.left.now c.split_at.result.0.now c.loop-index.out.items c.deref.result.now g.met.P.BitPacker.some_lanes
-    (c.BLOCK_LEN-len.ensures ∙ g.met.P.BitPacker.block_len) c.loop-index.invariant.left c.loop-index-test.true c.split_at.ensures.front c.deref.ensures.value
-    c.entry-entry.ensures.width c.loop-index.invariant.kind c.loop-index.invariant.has
-    (AreWords-from_slice c.args.values.now c.type_inv.values) in
-    let least_is = least g.P.BitPacker.lanes c.BLOCK_LEN-len.result c.loop-index.index c.args.start c.entry-entry.result.width c.args.kind c.loop-index.block_kind c.args.values.now
-    c.loop-index.left.now c.split_at.result.0.now c.loop-index.out.items c.deref.result.now g.met.P.BitPacker.some_lanes
-    (c.BLOCK_LEN-len.ensures ∙ g.met.P.BitPacker.block_len) c.loop-index.invariant.left c.loop-index-test.true c.split_at.ensures.front c.deref.ensures.value
-    c.entry-entry.ensures.width c.loop-index.invariant.kind c.loop-index.invariant.has in
-    packable g.P.BitPacker.lanes c.entry-entry.result.width c.loop-index.block_kind c.split_at.result.0.now c.loop-index.body least_is
-    (c.split_at.ensures.front_len ∙ whole) narrow_is g.met.P.BitPacker.few_lanes (omega arith)
-
-pub write_body-requires-clause-room : goal.write_body-requires-clause-room
-write_body-requires-clause-room g c =
+pub compress_kind-end-requires : goal.compress_kind-end-requires
+compress_kind-end-requires g c =
+    let lanes : ℕ = g.P.BitPacker.lanes in
+    let i : ℕ = c.loop-index.index in
+    let end : ℕ = c.loop-index.end in
+    let width : ℕ = c.entry-entry.result.width in
+    let values : List ℕ = c.args.values.now in
+    let left : List ℕ = c.loop-index.left.now in
+    let part : List ℕ = c.split_at.result.0.now in
+    let rest : List ℕ = c.loop-index.rest in
     let before = c.loop-index.invariant in
-    let fits = room g.P.BitPacker.lanes c.BLOCK_LEN-len.result c.loop-index.index c.args.start c.entry-entry.result.width c.args.kind c.loop-index.block_kind c.args.values.now
-    c.loop-index.left.now c.split_at.result.0.now c.loop-index.out.items c.deref.result.now g.met.P.BitPacker.some_lanes
-    (c.BLOCK_LEN-len.ensures ∙ g.met.P.BitPacker.block_len) c.loop-index.invariant.left c.loop-index-test.true c.split_at.ensures.front c.deref.ensures.value
-    c.entry-entry.ensures.width c.loop-index.invariant.kind c.loop-index.invariant.has in
-    omega (
-      arith,
-      fits,
-      before.end,
-      before.capacity,
-      before.long,
-      length-drop c.args.start c.loop-index.out.items,
-      c.requires.start,
-      c.requires.room,
-      c.loop-index.out.ok,
-      c.args.out.now.ok,
-    )
+    let some = g.met.P.BitPacker.some_lanes in
+    let whole : c.BLOCK_LEN-len.result ≡ 32 * lanes = c.BLOCK_LEN-len.ensures ∙ g.met.P.BitPacker.block_len in
+    let least_is = least lanes c.BLOCK_LEN-len.result i end width c.args.kind c.loop-index.block_kind values left part rest some whole before.left
+    c.loop-index-test.true c.split_at.ensures.front c.entry-entry.ensures.width before.kind before.has in
+    let fits = room lanes c.BLOCK_LEN-len.result i end width c.args.kind c.loop-index.block_kind values left part rest some whole before.left
+    c.loop-index-test.true c.split_at.ensures.front c.entry-entry.ensures.width before.kind before.has in
+    record {
+      whole = c.split_at.ensures.front_len ∙ whole;
+      narrow = narrow lanes c.BLOCK_LEN-len.result i end width c.args.kind c.loop-index.block_kind values left part rest some whole before.left
+          c.loop-index-test.true c.split_at.ensures.front c.entry-entry.ensures.width before.kind before.has (AreWords-from_slice values c.type_inv.values);
+      room =
+          let done = length-take-le end rest before.within in
+          simp (length-take, length-drop) (omega (arith, fits, done, before.end, before.long, c.requires.room));
+      fits = least_is.fits;
+    }
 
 pub loop-index-preserved : goal.loop-index-preserved
 loop-index-preserved g c =
     let lanes : ℕ = g.P.BitPacker.lanes in
     let i : ℕ = c.loop-index.index in
-    let start : ℕ = c.args.start in
+    let end : ℕ = c.loop-index.end in
+    let width : ℕ = c.entry-entry.result.width in
     let values : List ℕ = c.args.values.now in
-    let old : List ℕ = c.loop-index.out.items in
-    let rest : List ℕ = drop start old in
+    let left : List ℕ = c.loop-index.left.now in
+    let part : List ℕ = c.split_at.result.0.now in
+    let rest : List ℕ = c.loop-index.rest in
+    let done : List ℕ = take end rest in
+    let added : ℕ = c.compress_kind-end.result in
+    let packed : List ℕ = c.compress_kind-end.new.compressed in
+    let body : List ℕ = take added packed in
     let before = c.loop-index.invariant in
-    let whole : c.BLOCK_LEN-len.result ≡ 32 * lanes = c.BLOCK_LEN-len.ensures ∙ g.met.P.BitPacker.block_len in
+    let blocks : ℕ = whole_blocks lanes (length values) in
     let some = g.met.P.BitPacker.some_lanes in
-    let lt : i < whole_blocks lanes (length values) = rw whole at c.loop-index-test.true in
-    let block = c.split_at.ensures.front ∙ next_block lanes c.BLOCK_LEN-len.result i values c.loop-index.left.now some whole before.left c.loop-index-test.true in
-    let lent_is = lent start old c.deref.result.now c.deref.ensures.value in
-    let read = c.entry-entry.ensures.width ∙ ap (λ xs. width_at xs i) lent_is in
-    let last = c.entry-entry.ensures.last ∙ ap (λ xs. last_at xs i) lent_is in
-    let (body, holds, appended) = c.write_body.ensures.body in
-    let items = appended.items in
-    let within : start ≤ length old = omega (arith, before.long, c.requires.start, c.args.out.now.ok) in
-    let new : drop start c.write_body.new.out.items ≡ rest ++ body = ap (drop start) items ∙ drop-append-le start old body within in
-    let long : 9 * whole_blocks lanes (length values) ≤ length rest = omega (arith, before.has.long) in
+    let whole : c.BLOCK_LEN-len.result ≡ 32 * lanes = c.BLOCK_LEN-len.ensures ∙ g.met.P.BitPacker.block_len in
+    let lt : i < blocks = rw whole at c.loop-index-test.true in
+    let block = block_is lanes c.BLOCK_LEN-len.result i end width c.args.kind c.loop-index.block_kind values left part rest some whole before.left
+    c.loop-index-test.true c.split_at.ensures.front c.entry-entry.ensures.width before.kind before.has in
+    let read = width_is lanes c.BLOCK_LEN-len.result i end width c.args.kind c.loop-index.block_kind values left part rest some whole before.left
+    c.loop-index-test.true c.split_at.ensures.front c.entry-entry.ensures.width before.kind before.has in
+    let last = last_is lanes c.BLOCK_LEN-len.result i end width c.args.kind c.loop-index.block_kind values left part rest some whole before.left
+    c.loop-index-test.true c.split_at.ensures.front c.entry-entry.ensures.width before.kind before.has c.entry-entry.result.last c.entry-entry.ensures.last in
+    let fits = room lanes c.BLOCK_LEN-len.result i end width c.args.kind c.loop-index.block_kind values left part rest some whole before.left
+    c.loop-index-test.true c.split_at.ensures.front c.entry-entry.ensures.width before.kind before.has in
+    let front = length-take-le end rest before.within in
+    let long : length packed ≡ length rest - end = c.compress_kind-end.auto.compressed ∙ simp (length-take, length-drop) (omega arith) in
+    let new : take (end + added) (put_mid end (length rest - end) rest packed) ≡ done ++ body = take-put_end end added rest packed before.within long in
+    let holds = rw (sym c.compress_kind-end.ensures.size) at c.compress_kind-end.ensures.packed.bytes in
+    let entries : 9 * blocks ≤ length done = omega (arith, before.has.long) in
+    let same : length (put_mid end (length rest - end) rest packed) ≡ length rest =
+    length-written end (length rest - end) rest packed before.within long (omega (arith, before.within)) in
     record {
-      left = c.split_at.ensures.back ∙ next_left lanes c.BLOCK_LEN-len.result i values c.loop-index.left.now some whole before.left c.loop-index-test.true;
+      left = c.split_at.ensures.back ∙ next_left lanes c.BLOCK_LEN-len.result i values left some whole before.left c.loop-index-test.true;
       kind =
           rw new (c.next_kind-block_kind.ensures
-          ∙ kind_at-next c.args.kind (rest ++ body) i c.loop-index.block_kind c.entry-entry.result.last
-          (before.kind ∙ sym (kind_at-append rest body c.args.kind i (omega (arith, long, lt))))
-          (last ∙ sym (last_at-append rest body i (omega (arith, long, lt)))));
-      has = rw new (bodies_step lanes (whole_blocks lanes (length values)) c.args.kind values rest body i lt before.has (rw (← read, ← before.kind, ← block) holds));
-      end = rw new (ap (λ x. 9 * whole_blocks lanes (length values) + 4 * lanes * x) (widths_before-append rest body (whole_blocks lanes (length values)) long) ∙ before.end);
-      long = omega (arith, before.long, ap length items, length-append old body);
-      front = ap (take start) items ∙ take-append-le start old body within ∙ before.front;
-      capacity = omega (arith, before.capacity, appended.capacity);
+          ∙ kind_at-next c.args.kind (done ++ body) i c.loop-index.block_kind c.entry-entry.result.last
+          (before.kind ∙ sym (kind_at-append done body c.args.kind i (omega (arith, entries, lt))))
+          (last ∙ sym (last_at-append done body i (omega (arith, entries, lt)))));
+      has = rw new (bodies_step lanes blocks c.args.kind values done body i lt before.has (rw (← read, ← before.kind, ← block) holds));
+      end = rw new (ap (λ x. 9 * blocks + 4 * lanes * x) (widths_before-append done body blocks entries) ∙ before.end);
+      within = omega (arith, same, fits, front, before.end, before.long, c.requires.room, c.compress_kind-end.ensures.size);
+      long = same ∙ before.long;
     }
 
 pub returns-clause-bodies : goal.returns-clause-bodies

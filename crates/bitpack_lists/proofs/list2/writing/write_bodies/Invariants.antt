@@ -1,5 +1,5 @@
--- The bodies of the blocks so far are appended to the entries.
-use Rattle.std.proofs.Common.{◌≡◌, ◌*◌, ◌≤◌, length, take, drop, vec_capacity}
+-- The bodies of the blocks so far follow the entries.
+use Rattle.std.proofs.Common.{◌≡◌, ◌*◌, ◌≤◌, length, take, drop}
 use Rattle.bitpack_lists.specs.Parts.{whole_blocks}
 use Rattle.bitpack_lists.specs.Version2.{kind_at, tail_start}
 use Rattle.bitpack_lists.specs.inner.Opening.{HasBodies}
@@ -8,11 +8,11 @@ use Rattle.bitpack_lists.proofs.list2.writing.write_bodies.Given as goal
 abbrev pub invariant-loop-index : goal.invariant-loop-index
 invariant-loop-index g l = record {
   left : l.left ≡ drop (32 * g.P.BitPacker.lanes * l.index) l.values;
-  kind : l.block_kind ≡ kind_at l.fn.kind (drop l.start l.out.items) l.index;
-  has : HasBodies g.P.BitPacker.lanes (whole_blocks g.P.BitPacker.lanes (length l.values)) l.fn.kind l.values (drop l.start l.out.items) l.index;
-  end : tail_start g.P.BitPacker.lanes (whole_blocks g.P.BitPacker.lanes (length l.values)) (drop l.start l.out.items)
-      ≡ tail_start g.P.BitPacker.lanes (whole_blocks g.P.BitPacker.lanes (length l.values)) (drop l.start l.initial.out.items);
-  long : length l.initial.out.items ≤ length l.out.items;
-  front : take l.start l.out.items ≡ take l.start l.initial.out.items;
-  capacity : vec_capacity l.initial.out ≤ vec_capacity l.out;
+  kind : l.block_kind ≡ kind_at l.fn.kind (take l.end l.rest) l.index;
+  has : HasBodies g.P.BitPacker.lanes (whole_blocks g.P.BitPacker.lanes (length l.values)) l.fn.kind l.values (take l.end l.rest) l.index;
+  end : tail_start g.P.BitPacker.lanes (whole_blocks g.P.BitPacker.lanes (length l.values)) (take l.end l.rest)
+      ≡ tail_start g.P.BitPacker.lanes (whole_blocks g.P.BitPacker.lanes (length l.values))
+      (take (9 * whole_blocks g.P.BitPacker.lanes (length l.values)) l.fn.rest);
+  within : l.end ≤ length l.rest;
+  long : length l.rest ≡ length l.fn.rest;
 }

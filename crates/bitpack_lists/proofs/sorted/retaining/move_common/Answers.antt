@@ -1,7 +1,10 @@
 -- Each turn tests one item, and moves it to the front if the list has it.
-use Rattle.std.proofs.Common.{◌+◌, drop, slice_index, refl, sym, ◌∙◌, ap, arith}
+use Rattle.std.proofs.Common.{◌≡◌, ◌+◌, ℕ, List, drop, take, slice_index, refl, sym, ◌∙◌, ap, arith}
+use Rattle.std.specs.List.{filter}
+use Rattle.std.proofs.lemmas.List.{take_all}
 use Rattle.bitpack_lists.specs.Cursors.{values_of_cursor}
 use Rattle.bitpack_lists.specs.Distinct.{distinct}
+use Rattle.bitpack_lists.specs.Increasing.{has}
 use Rattle.bitpack_lists.specs.Opened.{values}
 use Rattle.bitpack_lists.specs.Remaining.{remaining}
 use Rattle.bitpack_lists.specs.inner.Retaining.{IsRetaining}
@@ -32,3 +35,10 @@ loop-index-preserved g c =
           (sym w.if-finds.false ∙ c.finds.ensures.found))
     ] in
     record { items = moved; cursor = c.finds.ensures.item }
+
+pub returns-clause-common : goal.returns-clause-common
+returns-clause-common g c =
+    let old : List ℕ = c.args.items.now in
+    let done = c.loop-index.invariant.items in
+    let all : take c.loop-index.index old ≡ old = take_all c.loop-index.index old (omega arith) in
+    done.common ∙ ap (filter (has (values c.args.list.now))) all

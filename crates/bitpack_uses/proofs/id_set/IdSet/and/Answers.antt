@@ -1,10 +1,18 @@
--- The ids kept are in order.
-use Rattle.std.proofs.Common.{◌≡◌, rules}
-use Rattle.std.proofs.lemmas.List.Kept.{IsStrictlyIncreasing-filter}
-use Rattle.bitpack_uses.specs.Sets.{common}
+-- The cursor has the ids, and they are no more than those of this set.
+use Rattle.std.proofs.Common.{◌∙◌, ap}
+use Rattle.std.proofs.lemmas.Result.{IfOk-weaker}
+use Rattle.bitpack_lists.specs.Distinct.{distinct}
+use Rattle.bitpack_uses.proofs.Combinations.{both_ids, both_few}
 use Rattle.bitpack_uses.proofs.id_set.IdSet.and.Goals as goal
 
-pub invariant_of-result : goal.invariant_of-result
-invariant_of-result c =
-    let is : c.in_ok-ids.ids.items ≡ common c.self.inside.ids.items c.args.other.now = search rules in
-    rw is (IsStrictlyIncreasing-filter _ _ c.self.invariant)
+pub returns-clause-both : goal.returns-clause-both
+returns-clause-both g c =
+    let ours = c.cursor.ensures ∙ ap distinct c.self.view_is in
+    let theirs = c.cursor-2.ensures ∙ ap distinct c.other.view_is in
+    IfOk-weaker c.packed.result _ _ (λ found is. both_ids _ _ _ _ found ours theirs (is ∙ c.new-both.ensures)) c.packed.ensures.set
+
+pub returns-clause-memory : goal.returns-clause-memory
+returns-clause-memory g c =
+    let ours = c.cursor.ensures ∙ ap distinct c.self.view_is in
+    let few = rw (c.self.view_is) at c.as_list-list.ensures.list.begins.few in
+    c.packed.ensures.memory (both_few _ _ _ _ _ ours c.new-both.ensures few)

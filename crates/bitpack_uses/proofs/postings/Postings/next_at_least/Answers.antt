@@ -14,7 +14,7 @@ returns-in-Some g c =
     let found = c.in-Some.found in
     let id = c.args.id in
     let (here, enough, below) = rw (sym c.in-Some.ensures.found) at (c.first_is_found.ensures all id) in
-    let order = c.in_order.ensures.either (kind_of c.as_list-list.result) all (search rules) c.opened_text.ensures.list.ordered in
+    let order = c.in_order.ensures.either (kind_of c.as_list-list.result) all (search rules) c.opened_text.ensures.ordered in
     let is : IsNextAtLeast all id (Some found) = (
       (at, slice_get_within all at found here, get_or_from_slice_get all at found found here),
       enough,

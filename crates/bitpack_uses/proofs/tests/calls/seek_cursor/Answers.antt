@@ -2,4 +2,4 @@
 use Rattle.bitpack_uses.proofs.tests.calls.seek_cursor.Goals as goal
 
 pub seek-requires : goal.seek-requires
-seek-requires g c = c.is_sorted.ensures.sorted c.if-is_sorted.true
+seek-requires g c = c.is_in_order.ensures.sorted c.if-is_in_order.true

@@ -1,16 +1,14 @@
--- The opened list is that of the text.
-use Rattle.std.proofs.Common.{◌≡◌, ◌∙◌, ap, rules}
-use Rattle.bitpack_lists.specs.Opened.{text}
-use Rattle.bitpack_lists.specs.Owned.{bytes_of_buf, kind_in, values_in}
-use Rattle.bitpack_lists.proofs.TextValues.{kind_from_text, values_from_text}
+-- A text without a fault is that of the list that it states.
+use Rattle.std.proofs.Common.{subst, ◌∙◌}
+use Rattle.bitpacking.specs.Bits.{AreBytes}
+use Rattle.bitpack_lists.specs.Owned.{bytes_of_buf, version_of_buf}
+use Rattle.bitpack_lists.proofs.OpenedValues.{given_list}
+use Rattle.bitpack_lists.proofs.Versions.{right_in}
 use Rattle.bitpack_lists.proofs.list2.list_buf.ListBuf.as_list.Goals as goal
 
-pub returns-clause-kind : goal.returns-clause-kind
-returns-clause-kind g c =
-    let same : text c.from_validated.result ≡ bytes_of_buf c.args.self.now = search rules in
-    kind_from_text c.from_validated.result g.met.P.BitPacker.some_lanes ∙ ap kind_in same
-
-pub returns-clause-values : goal.returns-clause-values
-returns-clause-values g c =
-    let same : text c.from_validated.result ≡ bytes_of_buf c.args.self.now = search rules in
-    values_from_text c.from_validated.result g.met.P.BitPacker.some_lanes ∙ ap (values_in g.P.BitPacker.lanes) same
+pub returns-clause-list : goal.returns-clause-list
+returns-clause-list g c =
+    let buf = c.args.self.now in
+    let found = c.from_validated_any in
+    given_list (version_of_buf buf) g.P.BitPacker.lanes (bytes_of_buf buf) g.met.P.BitPacker.some_lanes
+    (subst AreBytes (found.ensures.bytes ∙ c.as_slice.ensures.value) found.result.are_bytes) (right_in g.P.BitPacker.lanes (bytes_of_buf buf) buf.sound)

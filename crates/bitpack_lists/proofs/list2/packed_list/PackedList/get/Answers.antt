@@ -17,7 +17,7 @@ pub returns-then-position-len : goal.returns-then-position-len
 returns-then-position-len g c =
     let self = c.args.self.now in
     let whole : c.BLOCK_LEN-len.result ≡ 32 * g.P.BitPacker.lanes = c.BLOCK_LEN-len.ensures ∙ g.met.P.BitPacker.block_len in
-    let block = opened_block g.P.BitPacker.lanes self.count self.kind self.bytes.now g.met.P.BitPacker.some_lanes self.begins self.sound
+    let block = opened_block self g.met.P.BitPacker.some_lanes
     c.BLOCK_LEN-len.result c.args.position whole c.if-position-len.true in
     ap Some (c.value_in_block.ensures ∙ sym block) ∙ sym (slice_get-first_of (value_of self) self.count c.args.position c.if-position-self.false)
 

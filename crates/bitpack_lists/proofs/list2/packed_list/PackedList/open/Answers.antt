@@ -1,14 +1,18 @@
 -- The kind and the values of an opened list are those of its text.
-use Rattle.bitpacking.proofs.ForCallers.{AreBytes-from_slice}
-use Rattle.bitpack_lists.proofs.OpenedValues.{given_list, given_only}
+use Rattle.std.proofs.Common.{subst}
+use Rattle.bitpack_lists.specs.Opened.{kind_of, values}
+use Rattle.bitpack_lists.specs.Version2.{List2, OfNoOther}
+use Rattle.bitpack_lists.proofs.OpenedValues.{opened_list2, opened_only2}
 use Rattle.bitpack_lists.proofs.list2.packed_list.PackedList.open.Goals as goal
 
 pub returns-clause-list : goal.returns-clause-list
 returns-clause-list g c =
-    given_list g.P.BitPacker.lanes _ _ c.args.bytes.now g.met.P.BitPacker.some_lanes c.in_ok-header.ensures.header c.in_ok-header.ensures.fault
-    (AreBytes-from_slice c.args.bytes.now c.type_inv.bytes)
+    let list = c.of_text.result in
+    subst (λ bytes. List2 g.P.BitPacker.lanes (kind_of list) (values list) bytes) c.of_text.ensures.0
+    (opened_list2 list g.met.P.BitPacker.some_lanes c.of_text.ensures.1)
 
 pub returns-clause-only : goal.returns-clause-only
 returns-clause-only g c =
-    given_only g.P.BitPacker.lanes _ _ c.args.bytes.now g.met.P.BitPacker.some_lanes c.in_ok-header.ensures.header c.in_ok-header.ensures.fault
-    (AreBytes-from_slice c.args.bytes.now c.type_inv.bytes)
+    let list = c.of_text.result in
+    subst (λ bytes. OfNoOther g.P.BitPacker.lanes (kind_of list) (values list) bytes) c.of_text.ensures.0
+    (opened_only2 list g.met.P.BitPacker.some_lanes c.of_text.ensures.1)

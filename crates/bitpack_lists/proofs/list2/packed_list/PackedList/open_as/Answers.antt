@@ -1,13 +1,13 @@
 -- A text without a fault is of one kind, which its header gives.
-use Rattle.std.proofs.Common.{◌≡◌, sym, ◌∙◌, ap, subst, rules}
+use Rattle.std.proofs.Common.{◌≡◌, sym, ◌∙◌, subst, rules}
 use Rattle.bitpacking.proofs.ForCallers.{AreBytes-from_slice}
-use Rattle.bitpack_lists.specs.Opened.{kind_of, text, values}
-use Rattle.bitpack_lists.specs.Owned.{kind_in}
+use Rattle.bitpack_lists.specs.Opened.{values}
+use Rattle.bitpack_lists.specs.declared.version.Version.TheVariants as versions
+use Rattle.bitpack_lists.specs.Texts.{stated_kind}
 use Rattle.bitpack_lists.specs.Version2.{List2}
 use Rattle.bitpack_lists.proofs.KindFaults.{kind_fault-none, kind_fault-other}
-use Rattle.bitpack_lists.proofs.OpenedValues.{opened_list2}
 use Rattle.bitpack_lists.proofs.Soundness2.{none_from_list2}
-use Rattle.bitpack_lists.proofs.TextValues.{kind_from_text, kind_in-is}
+use Rattle.bitpack_lists.proofs.OpenedValues.{given_only}
 use Rattle.bitpack_lists.proofs.list2.packed_list.PackedList.open_as.Goals as goal
 
 pub returns-in_err-list-clause-every : goal.returns-in_err-list-clause-every
@@ -19,15 +19,15 @@ returns-in_err-list-clause-every g c = λ all is.
 pub returns-then-ne-clause-fault : goal.returns-then-ne-clause-fault
 returns-then-ne-clause-fault g c =
     let list = c.in_ok-list.list in
-    let kind : kind_in c.args.bytes.now ≡ list.kind = sym (kind_from_text list g.met.P.BitPacker.some_lanes ∙ ap kind_in c.in_ok-list.ensures.bytes) in
+    let kind : stated_kind versions.Two c.args.bytes.now ≡ list.kind = (given_only versions.Two g.P.BitPacker.lanes c.args.bytes.now g.met.P.BitPacker.some_lanes (AreBytes-from_slice _ c.type_inv.bytes) list.kind (values list) c.in_ok-list.ensures.list).0 in
     rw (c.in_ok-list.ensures.fault, kind) (kind_fault-other list.kind c.args.kind c.if-ne.ensures)
 
 pub returns-then-ne-clause-every : goal.returns-then-ne-clause-every
 returns-then-ne-clause-every g c = λ all is.
     let list = c.in_ok-list.list in
     let small = AreBytes-from_slice _ c.type_inv.bytes in
-    let kind : kind_in c.args.bytes.now ≡ list.kind = sym (kind_from_text list g.met.P.BitPacker.some_lanes ∙ ap kind_in c.in_ok-list.ensures.bytes) in
-    let same : list.kind ≡ c.args.kind = sym kind ∙ kind_in-is g.P.BitPacker.lanes c.args.kind all c.args.bytes.now g.met.P.BitPacker.some_lanes small is in
+    let kind : stated_kind versions.Two c.args.bytes.now ≡ list.kind = (given_only versions.Two g.P.BitPacker.lanes c.args.bytes.now g.met.P.BitPacker.some_lanes (AreBytes-from_slice _ c.type_inv.bytes) list.kind (values list) c.in_ok-list.ensures.list).0 in
+    let same : list.kind ≡ c.args.kind = sym kind ∙ (given_only versions.Two g.P.BitPacker.lanes c.args.bytes.now g.met.P.BitPacker.some_lanes small c.args.kind all is).0 in
     let other = kind_fault-other list.kind c.args.kind c.if-ne.ensures in
     let none = kind_fault-none c.args.kind in
     absurd cc
@@ -36,13 +36,11 @@ pub returns-clause-fault : goal.returns-clause-fault
 returns-clause-fault g c =
     let list = c.in_ok-list.list in
     let wanted : list.kind ≡ c.args.kind = search rules in
-    let kind : kind_in c.args.bytes.now ≡ list.kind = sym (kind_from_text list g.met.P.BitPacker.some_lanes ∙ ap kind_in c.in_ok-list.ensures.bytes) in
+    let kind : stated_kind versions.Two c.args.bytes.now ≡ list.kind = (given_only versions.Two g.P.BitPacker.lanes c.args.bytes.now g.met.P.BitPacker.some_lanes (AreBytes-from_slice _ c.type_inv.bytes) list.kind (values list) c.in_ok-list.ensures.list).0 in
     rw (c.in_ok-list.ensures.fault, kind, wanted) (kind_fault-none c.args.kind)
 
 pub returns-clause-list : goal.returns-clause-list
 returns-clause-list g c =
     let list = c.in_ok-list.list in
     let wanted : list.kind ≡ c.args.kind = search rules in
-    let is : List2 g.P.BitPacker.lanes (kind_of list) (values list) (text list) = opened_list2 list g.met.P.BitPacker.some_lanes in
-    subst (λ bytes. List2 g.P.BitPacker.lanes c.args.kind (values list) bytes) c.in_ok-list.ensures.bytes
-    (subst (λ kind. List2 g.P.BitPacker.lanes kind (values list) (text list)) wanted is)
+    subst (λ kind. List2 g.P.BitPacker.lanes kind (values list) c.args.bytes.now) wanted c.in_ok-list.ensures.list

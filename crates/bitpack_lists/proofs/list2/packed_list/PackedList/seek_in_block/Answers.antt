@@ -10,13 +10,11 @@ returns-clause-found g c =
     let keeps = c.keep.ensures.kept in
     let kept = keeps.kept (rw keeps.number block.is.within) in
     let values = ap (λ len. take len c.keep.new.kept.values) whole ∙ rw keeps.number at kept in
-    opened_search g.P.BitPacker.lanes c.args.self.now.count c.args.self.now.kind c.args.self.now.bytes.now g.met.P.BitPacker.some_lanes c.args.self.now.begins
-    c.args.self.now.sound c.requires.ordered c.args.target c.args.block.number block.before block.is.within block.enough c.args.self.now.are_bytes
+    opened_search c.args.self.now g.met.P.BitPacker.some_lanes c.requires.ordered c.args.target c.args.block.number block.before block.is.within block.enough
     c.BLOCK_LEN-len.result (take c.BLOCK_LEN-len.result c.keep.new.kept.values) c.first_at_least.result whole values c.first_at_least.ensures.found
 
 pub returns-clause-inside : goal.returns-clause-inside
 returns-clause-inside g c =
     let block = c.requires.block in
     rw (returns-clause-found g c)
-    (opened_inside g.P.BitPacker.lanes c.args.self.now.count c.args.self.now.kind c.args.self.now.bytes.now g.met.P.BitPacker.some_lanes c.args.self.now.begins
-    c.args.self.now.sound c.requires.ordered c.args.target c.args.block.number block.before block.is.within block.enough)
+    (opened_inside c.args.self.now g.met.P.BitPacker.some_lanes c.requires.ordered c.args.target c.args.block.number block.before block.is.within block.enough)

@@ -1,35 +1,25 @@
--- Each value of the tail is tested in turn.
-use Rattle.std.proofs.Common.{◌≡◌, ◌-◌, ◌*◌, ◌/◌, ◌%◌, ◌≤◌, ◌<◌, ℕ, Some, sym, ◌∙◌, ap, arith}
+-- The values of the blocks are below the target, and after these come those of the tail.
+use Rattle.std.proofs.Common.{◌≡◌, ◌+◌, ◌-◌, ◌*◌, ℕ, length, take, sym, ◌∙◌, ap, arith}
 use Rattle.std.proofs.Math.Nat.{div-add-mod}
+use Rattle.std.proofs.lemmas.List.{get_or-take, length-take}
+use Rattle.bitpack_lists.specs.Search.{first_reaching}
 use Rattle.bitpack_lists.specs.inner.Searching.{blocks_of, value_of}
-use Rattle.bitpack_lists.proofs.SearchLemmas.{first_found, none_before, none_next}
+use Rattle.bitpack_lists.proofs.walking.OpenedWalks.{few_in_tail}
 use Rattle.bitpack_lists.proofs.list2.packed_list.PackedList.seek_in_tail.Goals as goal
 
--- Where the tail begins.
-start_is : (n len count : ℕ) → len ≡ n → count - count % len ≡ n * (count / n)
-start_is n len count whole = rw whole (omega (arith, div-add-mod count n))
-
-pub loop-position-init : goal.loop-position-init
-loop-position-init g c =
+pub returns-clause-found : goal.returns-clause-found
+returns-clause-found g c = λ before.
+    let list = c.args.self.now in
     let n : ℕ = 32 * g.P.BitPacker.lanes in
-    let start = start_is n c.BLOCK_LEN.result c.args.self.now.count (c.BLOCK_LEN.ensures ∙ g.met.P.BitPacker.block_len) in
-    record {
-      tail = omega (arith, start);
-      none = λ before. rw start (none_before (value_of c.args.self.now) c.args.target (n * blocks_of c.args.self.now) before);
-    }
-
-pub returns-then-value-target-clause-found : goal.returns-then-value-target-clause-found
-returns-then-value-target-clause-found g c = λ before.
-    let value : ℕ → ℕ = value_of c.args.self.now in
-    let here = c.value_in_tail-value.ensures in
-    let enough : c.args.target ≤ value c.loop-position.position = rw (sym here) c.if-value-target.true in
-    ap (λ v. Some (c.loop-position.position, v)) here
-    ∙ first_found value c.args.target c.loop-position.position c.args.self.now.count c.loop-position-test.true (c.loop-position.invariant.none before) enough
-
-pub loop-position-preserved : goal.loop-position-preserved
-loop-position-preserved g c = record {
-  tail = omega (arith, c.loop-position.invariant.tail);
-  none = λ before.
-      let below : value_of c.args.self.now c.loop-position.position < c.args.target = rw (sym c.value_in_tail-value.ensures) c.if-value-target.false in
-      none_next (value_of c.args.self.now) c.args.target c.loop-position.position (c.loop-position.invariant.none before) below;
-}
+    let read = c.read_tail-len.new.values in
+    let len : ℕ = c.read_tail-len.result in
+    let parts = div-add-mod list.count n in
+    let start : list.count - len ≡ n * blocks_of list = omega (arith, parts, c.read_tail-len.ensures.len) in
+    let few = few_in_tail g.P.BitPacker.lanes list.count g.met.P.BitPacker.some_lanes g.met.P.BitPacker.few_lanes in
+    let long : length (take len read) ≡ len = omega (arith, length-take len read, c.read_tail-len.auto.values, c.read_tail-len.ensures.len, few) in
+    let all : list.count - len + length (take len read) ≡ list.count = omega (arith, long, start, parts) in
+    c.first_at_least.ensures.found (value_of list) (λ k lt. before k (omega (arith, lt, start)))
+    (λ k lt.
+    let within = rw long at lt in
+    ap (λ p. value_of list (p + k)) start ∙ sym (get_or-take len read k 0 within ∙ c.read_tail-len.ensures.values k within))
+    ∙ ap (λ count. first_reaching (value_of list) count c.args.target) all

@@ -7,5 +7,4 @@ use Rattle.bitpack_lists.proofs.list2.packed_list.PackedList.seek_kept.Goals as 
 pub returns-in-None-clause-found : goal.returns-in-None-clause-found
 returns-in-None-clause-found g c =
     c.seek_in_tail.ensures.found
-    (opened_before g.P.BitPacker.lanes c.args.self.now.count c.args.self.now.kind c.args.self.now.bytes.now g.met.P.BitPacker.some_lanes c.args.self.now.begins
-    c.args.self.now.sound c.requires.ordered c.args.target (blocks_of c.args.self.now) c.in-None.ensures.found.before (omega arith))
+    (opened_before c.args.self.now g.met.P.BitPacker.some_lanes c.requires.ordered c.args.target (blocks_of c.args.self.now) c.in-None.ensures.found.before (omega arith))

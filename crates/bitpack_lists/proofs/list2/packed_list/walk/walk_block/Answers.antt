@@ -14,7 +14,7 @@ walk_values-requires g c =
     let number : ℕ = c.args.block.number in
     let last : ℕ = c.args.block.entry.last in
     let blocks : ℕ = c.args.reads.now.blocks in
-    let (long, next) = next_block g.P.BitPacker.lanes list.count list.kind list.bytes.now g.met.P.BitPacker.some_lanes list.begins list.sound list.are_bytes over.ordered
+    let (long, next) = next_block list g.met.P.BitPacker.some_lanes over.ordered
     begun number (blocks + 1) (last + 1) (take c.BLOCK_LEN.result c.unpack.new.values) c.requires.block.within (rw c.BLOCK_LEN.ensures c.unpack.ensures.block) in (
       stage_of (values_in list) begun (32 * g.P.BitPacker.lanes * number) (blocks + 1) (last + 1),
       next,
@@ -36,7 +36,7 @@ returns-then-block-walk-clause-walking g c = λ begun over.
     let number : ℕ = c.args.block.number in
     let last : ℕ = c.args.block.entry.last in
     let blocks : ℕ = c.args.reads.now.blocks in
-    let (long, next) = next_block g.P.BitPacker.lanes list.count list.kind list.bytes.now g.met.P.BitPacker.some_lanes list.begins list.sound list.are_bytes over.ordered
+    let (long, next) = next_block list g.met.P.BitPacker.some_lanes over.ordered
     begun number (blocks + 1) (last + 1) (take c.BLOCK_LEN.result c.unpack.new.values) c.requires.block.within (rw c.BLOCK_LEN.ensures c.unpack.ensures.block) in
     let after = c.walk_values.ensures.walking (stage_of (values_in list) begun (n * number) (blocks + 1) (last + 1)) next (record {
       ordered = before.ordered;
@@ -49,7 +49,7 @@ returns-then-block-walk-clause-walking g c = λ begun over.
     let end : n * number + length (take c.BLOCK_LEN.result c.unpack.new.values) ≡ n * (number + 1) = omega (arith, long) in
     let due : last + 1 ≡ (values_in list).value (n * number + (n - 1)) + 1 =
     ap (λ x. x + 1) (c.requires.last
-    ∙ sym (opened_last g.P.BitPacker.lanes list.count list.kind list.bytes.now g.met.P.BitPacker.some_lanes list.begins list.sound number c.requires.block.within)) in
+    ∙ sym (opened_last list g.met.P.BitPacker.some_lanes number c.requires.block.within)) in
     record {
       ordered = over.ordered;
       walking = record {
@@ -77,7 +77,7 @@ returns-else-block-walk-clause-walking g c = λ begun over.
         walked =
             walked_upto g.Q.BitPacker.lanes (values_in list) (values_in c.args.other.now) begun (n * number) c.args.walk.now.want c.args.walk.now.kept.number
             c.args.out.now.items (vec_capacity c.args.out.now) c.args.reads.now.blocks c.args.other_reads.now 0 before.walked (n * (number + 1)) (omega arith)
-            (block_below g.P.BitPacker.lanes list.count list.kind list.bytes.now g.met.P.BitPacker.some_lanes list.begins list.sound list.are_bytes over.ordered
+            (block_below list g.met.P.BitPacker.some_lanes over.ordered
             number c.args.walk.now.want c.args.block.entry.last c.requires.block.within c.requires.last (omega (arith, c.if-block-walk.false)));
       };
     }

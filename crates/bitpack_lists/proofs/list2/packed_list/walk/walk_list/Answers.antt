@@ -12,7 +12,7 @@ loop-number-init g c =
     let begun : Begun = begun_with c.args.out.now.items c.args.reads.now c.args.other_reads.now in
     let other = c.args.other.now in
     let none : 32 * g.P.BitPacker.lanes * 0 ≡ 0 = omega arith in
-    let few : blocks_of other < c.new.result.number = omega (arith, c.new.ensures, few_blocks g.Q.BitPacker.lanes other.count g.met.Q.BitPacker.some_lanes other.begins.few) in
+    let few : blocks_of other < c.new.result.number = omega (arith, c.new.ensures, few_blocks g.Q.BitPacker.lanes other.count g.met.Q.BitPacker.some_lanes other.few) in
     record {
       walking = record {
         ordered = c.requires.ordered;
@@ -39,7 +39,7 @@ returns-then-walk-clause-walking g c =
     let before = c.loop-number.invariant.walking.walking in
     let whole : c.BLOCK_LEN.result ≡ n = c.BLOCK_LEN.ensures ∙ g.met.P.BitPacker.block_len in
     let lt : c.loop-number.number < list.count / n = rw whole at c.loop-number-test.true in
-    let room = block_room g.P.BitPacker.lanes list.count list.kind list.bytes.now g.met.P.BitPacker.some_lanes list.begins list.sound list.are_bytes c.requires.ordered
+    let room = block_room list g.met.P.BitPacker.some_lanes c.requires.ordered
     c.loop-number.number lt in (
       c.loop-number.walk,
       record {
@@ -51,7 +51,7 @@ returns-then-walk-clause-walking g c =
               walked_upto g.Q.BitPacker.lanes (values_in list) (values_in c.args.other.now) begun (n * c.loop-number.number) c.loop-number.walk.want
               c.loop-number.walk.kept.number c.loop-number.out.items (vec_capacity c.loop-number.out) c.loop-number.reads.blocks c.loop-number.other_reads 0 before.walked
               list.count (omega (arith, room)) (λ k within.
-              let word = opened_words g.P.BitPacker.lanes list.count list.kind list.bytes.now g.met.P.BitPacker.some_lanes list.begins list.sound list.are_bytes
+              let word = opened_words list g.met.P.BitPacker.some_lanes
               c.requires.ordered k within in
               omega (arith, word, c.if-walk.true));
         };

@@ -16,7 +16,7 @@ walk_values-requires g c =
     let read = c.read_tail-tail.new.values in
     let long : length (take c.read_tail-tail.result read) ≡ c.read_tail-tail.result = omega (arith, length-take c.read_tail-tail.result read, c.read_tail-tail.ensures.len, few_in_tail g.P.BitPacker.lanes list.count g.met.P.BitPacker.some_lanes g.met.P.BitPacker.few_lanes) in (
       stage_of (values_in list) begun (n * blocks_of list) blocks 0,
-      next_tail g.P.BitPacker.lanes list.count list.kind list.bytes.now g.met.P.BitPacker.some_lanes list.begins list.sound list.are_bytes before.ordered begun blocks 0
+      next_tail list g.met.P.BitPacker.some_lanes before.ordered begun blocks 0
           (take c.read_tail-tail.result read) (long ∙ c.read_tail-tail.ensures.len)
           (λ k lt. get_or-take c.read_tail-tail.result read k 0 (rw long at lt) ∙ c.read_tail-tail.ensures.values k (rw long at lt)),
       before.walking,
@@ -34,7 +34,7 @@ returns g c = record {
       record {
         ordered = before.ordered;
         walking = rw end at (c.walk_values.ensures.walking (stage_of (values_in list) begun (n * blocks_of list) blocks 0)
-            (next_tail g.P.BitPacker.lanes list.count list.kind list.bytes.now g.met.P.BitPacker.some_lanes list.begins list.sound list.are_bytes before.ordered begun blocks 0
+            (next_tail list g.met.P.BitPacker.some_lanes before.ordered begun blocks 0
             (take c.read_tail-tail.result read) (long ∙ c.read_tail-tail.ensures.len)
             (λ k lt. get_or-take c.read_tail-tail.result read k 0 (rw long at lt) ∙ c.read_tail-tail.ensures.values k (rw long at lt))) before.walking);
       };

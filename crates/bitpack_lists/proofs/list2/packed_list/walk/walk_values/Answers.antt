@@ -1,7 +1,7 @@
 -- A value is passed over, or searched.
 use Rattle.std.proofs.Common.{◌≡◌, length, sym, vec_capacity, vec_len, arith}
 use Rattle.bitpack_lists.specs.inner.Walks.{values_in}
-use Rattle.bitpack_lists.proofs.OpenedLists.{opened_sound}
+use Rattle.bitpack_lists.proofs.OpenedLists.{opened_ordered}
 use Rattle.bitpack_lists.proofs.walking.Sharing.{InOrder}
 use Rattle.bitpack_lists.proofs.SearchLemmas.{in_order}
 use Rattle.bitpack_lists.proofs.walking.WalkSteps.{step_passed, step_room, step_searched}
@@ -19,8 +19,7 @@ append_found-requires g c = record {
       let (stage, next, walking) = c.requires in
       let before = c.loop-index.invariant.walking stage next walking in
       let list = c.args.other.now in
-      let sound = opened_sound g.Q.BitPacker.lanes list.count list.kind list.bytes.now g.met.Q.BitPacker.some_lanes list.begins list.sound in
-      let order : InOrder (values_in list) = in_order list.kind (values_in list).value list.count before.ordered sound.ordered in
+      let order : InOrder (values_in list) = in_order list.kind (values_in list).value list.count before.ordered (opened_ordered list g.met.Q.BitPacker.some_lanes) in
       step_room g.Q.BitPacker.lanes (values_in list) stage c.args.values.now c.loop-index.index c.loop-index.walk.want c.loop-index.walk.kept.number
       c.loop-index.out.items (vec_capacity c.loop-index.out) c.loop-index.other_reads order next c.loop-index-test.true before.walked (vec_len c.loop-index.out)
       c.seek_kept-found.result (omega (arith, c.loop-index.out.ok)) c.if-value-walk.true (sym c.seek_kept-found.ensures.found);
@@ -31,8 +30,7 @@ loop-index-preserved g c = record {
   walking = λ stage next walking.
       let before = c.loop-index.invariant.walking stage next walking in
       let list = c.args.other.now in
-      let sound = opened_sound g.Q.BitPacker.lanes list.count list.kind list.bytes.now g.met.Q.BitPacker.some_lanes list.begins list.sound in
-      let order : InOrder (values_in list) = in_order list.kind (values_in list).value list.count before.ordered sound.ordered in
+      let order : InOrder (values_in list) = in_order list.kind (values_in list).value list.count before.ordered (opened_ordered list g.met.Q.BitPacker.some_lanes) in
       elim c.if-value-walk.branch [
         | then-value-walk w ↦ rw (w.walk-is, w.out-is, w.other_reads-is) (record {
           ordered = before.ordered;

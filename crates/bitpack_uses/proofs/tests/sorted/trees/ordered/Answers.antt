@@ -2,4 +2,4 @@
 use Rattle.bitpack_uses.proofs.tests.sorted.trees.ordered.Goals as goal
 
 pub new-requires : goal.new-requires
-new-requires g c = c.is_sorted.ensures.sorted c.if-is_sorted.true
+new-requires g c = c.is_in_order.ensures.sorted c.if-is_in_order.true

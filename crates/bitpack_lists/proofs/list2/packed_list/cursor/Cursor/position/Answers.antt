@@ -1,9 +1,13 @@
--- No block after the place was unpacked.
+-- The place is one of the list, and no block after it was unpacked.
 use Rattle.std.proofs.Common.{◌/◌, ◌*◌, ap, arith}
 use Rattle.bitpack_lists.specs.inner.Searching.{value_of}
-use Rattle.bitpack_lists.proofs.CursorPlaces.{unpacked_before}
+use Rattle.bitpack_lists.proofs.CursorPlaces.{position_within, unpacked_before}
 use Rattle.bitpack_lists.proofs.CursorSteps.{length-first_of}
 use Rattle.bitpack_lists.proofs.list2.packed_list.cursor.Cursor.position.Goals as goal
+
+pub returns-clause-within : goal.returns-clause-within
+returns-clause-within g c =
+    rw (c.BLOCK_LEN.ensures, g.met.P.BitPacker.block_len) (position_within c.args.self.now g.met.P.BitPacker.some_lanes)
 
 pub returns-clause-once : goal.returns-clause-once
 returns-clause-once g c =
