@@ -63,15 +63,20 @@ def places():
             leave_out(f"the C programs at the level {level}", "which this processor does not have")
 
 
-def compiled_and_run(archive, source, command, **given):
+def given(program):
+    """What a program reads."""
+    return {"input": "".join(source(f"vectors/{table}.tsv") for table in VECTORS)} if program == TABLES else {}
+
+
+def compiled_and_run(archive, path, command, **more):
     """What is wrong with a program over an archive, or None. The command is that of the compiler."""
     with tempfile.TemporaryDirectory(prefix="c-") as folder:
         program = f"{folder}/program"
-        right, text = works([*command, f"{ROOT}/{source}", "-x", "none", archive, "-o", program])
+        right, text = works([*command, f"{ROOT}/{path}", "-x", "none", archive, "-o", program])
         if not right:
             return text
-        right, text = works([program], **given)
-        return None if right and text == PROGRAMS[source] else f"it failed, and printed {text[:2000]}"
+        right, text = works([program], **given(path), **more)
+        return None if right and text == PROGRAMS[path] else f"it failed, and printed {text[:2000]}"
 
 
 def macros_not_named():
@@ -94,10 +99,9 @@ def checks():
         leave_out(f"{CALLS} as C++", "since there is no c++")
     for level, archive in places():
         for program in PROGRAMS:
-            given = {"input": "".join(source(f"vectors/{table}.tsv") for table in VECTORS)} if program == TABLES else {}
-            yield f"{program} at {level}", compiled_and_run(archive, program, C99, preexec_fn=with_little_stack, **given)
+            yield f"{program} at {level}", compiled_and_run(archive, program, C99, preexec_fn=with_little_stack)
             if sanitizers:
-                yield f"{program} at {level}, sanitized", compiled_and_run(archive, program, [*C99, *SANITIZED], **given)
+                yield f"{program} at {level}, sanitized", compiled_and_run(archive, program, [*C99, *SANITIZED])
         for standard in ["c++11", "c++17"] if in_cpp else []:
             command = ["c++", f"-std={standard}", *STRICT, "-x", "c++"]
             yield f"{CALLS} as {standard} at {level}", compiled_and_run(archive, CALLS, command)
