@@ -1,13 +1,15 @@
 #!/usr/bin/env python3
 """Compiles and runs the C programs over the archive for all levels of the processor and that for each level: those of examples/, whose
 output is worked by hand, scripts/calls.c, and scripts/tables.c over the tables of vectors/. They are compiled as C99 with every warning an
-error and run with little stack, and once more with the address sanitizer where the compiler has it; scripts/calls.c also as C++11 and C++17.
+error and run with little stack, and once more with the address sanitizer where the compiler has it; scripts/calls.c also as C++11 and C++17,
+and over the archive for all levels on a processor of each level that qemu gives.
 It has to name every macro of the header. The archives are those that scripts/archives.py wrote, which is called where they are not there.
 The last line is 'N passed, M failed'; a part that is left out for want of a tool is named.
 """
 import re
 import resource
 import shutil
+import subprocess
 import sys
 import tempfile
 
@@ -79,6 +81,20 @@ def compiled_and_run(archive, path, command, **more):
         return None if right and text == PROGRAMS[path] else f"it failed, and printed {text[:2000]}"
 
 
+def on_other_processors():
+    """scripts/calls.c over the archive for all levels, on a processor of each level: each as a name and what is wrong, or None."""
+    if not shutil.which(levels.OTHERS):
+        leave_out(f"{CALLS} on other processors", f"since there is no {levels.OTHERS} (Debian: qemu-user-static)")
+        return
+    with tempfile.TemporaryDirectory(prefix="c-") as folder:
+        program = f"{folder}/program"
+        right, text = works([*C99, "-static", f"{ROOT}/{CALLS}", f"{archives.OUT}/{archives.ALL}", "-o", program])
+        for processor in levels.ONE_OF_EACH:
+            done = run(levels.OTHERS, "-cpu", processor, program, stderr=subprocess.DEVNULL) if right else None
+            wrong = f"it ended with {done.returncode}, and printed {done.stdout[:2000]}" if right and done.returncode else None
+            yield f"{CALLS} on {processor}", wrong if right else text
+
+
 def macros_not_named():
     """What is wrong with the use of the header's macros, or None. Its guard is its own."""
     text, used = source("include/bitpacking.h"), set(re.findall(r"\w+", source(CALLS)))
@@ -105,6 +121,7 @@ def checks():
         for standard in ["c++11", "c++17"] if in_cpp else []:
             command = ["c++", f"-std={standard}", *STRICT, "-x", "c++"]
             yield f"{CALLS} as {standard} at {level}", compiled_and_run(archive, CALLS, command)
+    yield from on_other_processors()
 
 
 def main():

@@ -19,6 +19,10 @@ COMPILED = ["-O2", "-fPIC", "-ffunction-sections", "-fdata-sections", "-fno-asyn
 V2 = ["cx16", "lahf-lm", "popcnt", "pni", "ssse3", "sse4.1", "sse4.2"]
 V3 = ["avx", "avx2", "bmi1", "bmi2", "f16c", "fma", "abm", "movbe", "xsave"]
 
+# A processor of each level, as qemu names it. It does not run an instruction that the processor lacks.
+ONE_OF_EACH = {"core2duo,-cx16": "1", "Nehalem": "2", "Haswell": "3"}
+OTHERS = "qemu-x86_64-static"
+
 HEAD = """/* Each function of bitpacking.h chooses the level of the processor. scripts/levels.py writes this file from that header. */
 #include <cpuid.h>
 
@@ -177,9 +181,7 @@ def program(folder):
 
 def processors():
     """Copies of processors, as qemu names them, and the level of each."""
-    yield "core2duo,-cx16", "1"
-    yield "Nehalem", "2"
-    yield "Haswell", "3"
+    yield from ONE_OF_EACH.items()
     for feature in V2:
         yield f"Haswell,-{feature}", "1"
     for feature in V3:
@@ -196,13 +198,11 @@ def checks():
         calls = 2 * len(prototypes())
         best = max(number for number, level in enumerate(LEVELS.values(), 1) if number == 1 or supports(level))
         yield "this processor", other_than(f"{best} {calls}", run(test).stdout)
-        if not shutil.which("qemu-x86_64-static"):
-            leave_out("the levels of other processors", "since there is no qemu-x86_64-static (Debian: qemu-user-static)")
+        if not shutil.which(OTHERS):
+            leave_out("the levels of other processors", f"since there is no {OTHERS} (Debian: qemu-user-static)")
             return
         for processor, level in processors():
-            yield processor, other_than(
-                f"{level} {calls}", run("qemu-x86_64-static", "-cpu", processor, test, stderr=subprocess.DEVNULL).stdout
-            )
+            yield processor, other_than(f"{level} {calls}", run(OTHERS, "-cpu", processor, test, stderr=subprocess.DEVNULL).stdout)
 
 
 def other_than(wanted, said):
