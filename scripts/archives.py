@@ -151,12 +151,14 @@ def fresh(stamp, numbers):
 
 def made(kept, whole):
     """Each archive as a name and what is wrong with it, or None. Those for C are built if they are not kept, and all others if they are not
-    whole."""
+    whole. Nothing is built after one that fails."""
     for build in BUILDS:
-        there = kept or proved_and_built(build)
-        yield f"the archive for {build}", "; ".join(faults(archive(build)) if there else ["it was not built"]) or None
+        if not kept and not proved_and_built(build):
+            yield f"the archive for {build}", "it was not built, and no archive after it"
+            return
+        yield f"the archive for {build}", "; ".join(faults(archive(build))) or None
     for prefix, level in LEVELS.items():
-        wrong = None if whole or not os.path.isfile(archive(level)) else prefixed(prefix, level)
+        wrong = None if whole else prefixed(prefix, level)
         if not wrong and exported(f"{OUT}/libbitpacking_{prefix}.a") != {f"{prefix}_{name}" for name in exported(archive(level))}:
             wrong = "the prefix is not that of each name"
         yield f"the archive for {level} and Rust", wrong
