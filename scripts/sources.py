@@ -59,7 +59,7 @@ CHOICE = {
         "&LEVELS[..1 + usize::from(v2) + usize::from(v3)]",
         "BEST.get_or_init(|| &levels()[levels().len() - 1])",
     ],
-    "rust/src/packers.rs": ["$name(&best().$calls)"],
+    "rust/src/packers.rs": ["fn calls() -> &'static Calls { &best().$calls }"],
 }
 LISTS = "crates/bitpack_lists/src"
 GROUPS = (f"{LISTS}/list3/group.rt", "BitPacker1x")
@@ -223,8 +223,9 @@ def packers():
 
 def levels():
     text = text_of(CALLS_OF_RUST)
-    right = [(name, f"v{level}_bitpacking_{lanes}x_") for level in [1, 2, 3] for name, lanes in [("one", 1), ("four", 4), ("eight", 8)]]
-    if re.findall(r'\b(\w+): calls!\("(\w+)"\)', text) != right:
+    packers = [("one", "calls", "1x_"), ("four", "calls", "4x_"), ("eight", "calls", "8x_"), ("lists", "lists", "")]
+    right = [(name, macro, f"v{level}_bitpacking_{lanes}") for level in [1, 2, 3] for name, macro, lanes in packers]
+    if re.findall(r'\b(\w+): (\w+)!\("(\w+)"\)', text) != right:
         yield f"{CALLS_OF_RUST}: the tables are not {right}"
     for level, features in FEATURES.items():
         asked = re.findall(rf"fn added_by_{level}\(\)[^{{]*{{\s*detected!\(([^)]*)\)", text)
