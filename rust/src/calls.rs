@@ -1,6 +1,6 @@
 //! The functions of the archives: one table for each packer and one for lists at each level of the processor, and the choice of a level.
 
-mod lists;
+pub(crate) mod lists;
 
 use std::sync::OnceLock;
 

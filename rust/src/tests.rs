@@ -1,6 +1,7 @@
 //! Every block of `vectors/` at each level that this processor has, with canaries around the buffers; each panic; two threads; little stack.
 
 mod chains;
+mod layouts;
 mod levels;
 mod lists;
 mod sets;

@@ -33,7 +33,8 @@ impl ListView<'_> {
     }
 }
 
-/// A place in an opened list, as the functions see it: the number of the block at hand, an index in it, and its values.
+/// A place in an opened list, as the functions see it: the number of the block at hand, an index in it, how many values it has, and
+/// these values; and whether the list is not plain.
 #[repr(C)]
 #[derive(Clone)]
 pub(crate) struct ListCursor<'a> {
@@ -42,6 +43,7 @@ pub(crate) struct ListCursor<'a> {
     index: usize,
     len: usize,
     values: [u32; LONGEST_BLOCK],
+    ordered: u8,
 }
 
 impl ListCursor<'_> {
@@ -56,6 +58,29 @@ impl ListCursor<'_> {
     pub(crate) fn value(&self) -> Option<u32> {
         self.at_hand().first().copied()
     }
+}
+
+/// A struct: its name in C, its size, and the name, offset and size of each field.
+#[cfg(test)]
+pub(crate) type Layout = (&'static str, usize, Vec<(&'static str, usize, usize)>);
+
+#[cfg(test)]
+pub(crate) fn layouts() -> [Layout; 2] {
+    use std::mem::{offset_of, size_of};
+
+    fn size_of_field<T, F>(_: fn(T) -> F) -> usize {
+        size_of::<F>()
+    }
+    macro_rules! layout {
+        ($name:literal, $type:ty: $($field:ident)*) => {{
+            let fields = vec![$((stringify!($field), offset_of!($type, $field), size_of_field(|it: $type| it.$field))),*];
+            ($name, size_of::<$type>(), fields)
+        }};
+    }
+    [
+        layout!("bitpacking_list", ListView<'static>: bytes bytes_len lanes),
+        layout!("bitpacking_cursor", ListCursor<'static>: list block index len values ordered),
+    ]
 }
 
 /// The functions of lists.
@@ -139,7 +164,7 @@ impl Lists {
     }
 
     pub(crate) fn start<'a>(&self, view: &ListView<'a>) -> ListCursor<'a> {
-        let mut cursor = ListCursor { list: ListView::EMPTY, block: 0, index: 0, len: 0, values: [0; LONGEST_BLOCK] };
+        let mut cursor = ListCursor { list: ListView::EMPTY, block: 0, index: 0, len: 0, values: [0; LONGEST_BLOCK], ordered: 0 };
         // SAFETY: a view that was opened, and a cursor of our own at the end of an empty list.
         unsafe { (self.start)(&mut cursor, view) };
         cursor
