@@ -56,7 +56,7 @@ impl ListCursor<'_> {
     /// The value at the place.
     #[inline]
     pub(crate) fn value(&self) -> Option<u32> {
-        self.at_hand().first().copied()
+        self.values[..self.len].get(self.index).copied()
     }
 }
 
