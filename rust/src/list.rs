@@ -19,8 +19,8 @@
 //! # Ok::<(), bitpacking::list::Error>(())
 //! ```
 //!
-//! The bytes are those of `docs/FORMAT.md`, so that programs in other languages read them. The text of a list, its kind, packer
-//! and version never changes.
+//! The page `docs/FORMAT.md` of the repository describes the bytes, so that programs in other languages read them too. A later
+//! release of this crate writes the same bytes of a list, in the same packer and version, and reads them.
 
 mod cursor;
 mod encoder;
@@ -59,7 +59,7 @@ pub struct PackedList<'a> {
 impl<'a> PackedList<'a> {
     /// Opens a list of version 2 or 3, of any packer. Tests all bytes, which may be untrusted, and allocates nothing.
     ///
-    /// The bytes have to be those of one list, without any after them.
+    /// The caller keeps where a list begins and ends: a byte that is missing or left over is a fault.
     ///
     /// # Errors
     ///

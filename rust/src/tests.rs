@@ -144,7 +144,7 @@ fn agrees<P: Pack>(packer: &P, block: &Block) {
     }
 }
 
-/// The same by the packer of the block, at each level.
+/// Each block by its packer, at each level.
 fn agrees_at_each_level(blocks: &[Block]) {
     at_each_level(|| {
         for block in blocks {

@@ -18,9 +18,9 @@ pub(crate) struct ListView<'a> {
     borrowed: PhantomData<&'a [u8]>,
 }
 
-// SAFETY: a view is a shared borrow of its bytes, which may go to another thread and be read by two at once.
+// SAFETY: a view is a shared borrow of its bytes, as `&[u8]` is.
 unsafe impl Send for ListView<'_> {}
-// SAFETY: the same.
+// SAFETY: nothing writes through a view, so that threads may share one.
 unsafe impl Sync for ListView<'_> {}
 
 impl ListView<'_> {
@@ -206,7 +206,8 @@ pub(crate) fn combine(function: Combine, lists: &[PackedList<'_>], out: &mut [u3
 }
 
 impl Calls {
-    /// The number of bytes of a list of values, or what is wrong with them. The position is that of the first one out of order.
+    /// The number of bytes of a list of values, or what is wrong with them and, if they are out of order, at which
+    /// position.
     pub(crate) fn list_size(&self, version: u8, kind: u8, values: &[u32]) -> Result<usize, (i32, usize)> {
         let mut position = 0;
         // SAFETY: the pointer and the length of a slice, and a number of our own.

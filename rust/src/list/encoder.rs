@@ -14,7 +14,7 @@ pub enum Version {
     Three,
 }
 
-/// Writes lists of one packer and one version. That of [`encode`] is `Encoder::default()`: [`BitPacker4x`] and version 3.
+/// Writes lists of one packer and one version. [`encode`] takes `Encoder::default()`, which has [`BitPacker4x`] and version 3.
 ///
 /// ```
 /// use bitpacking::list::{Encoder, Kind, Version};

@@ -10,7 +10,7 @@ pub enum Error {
     Short,
     /// The text is of another version than 2 and 3.
     BadVersion,
-    /// The kind of the text is none. Or a plain list was searched or combined, which has no order.
+    /// The kind of the text is not one of the three. Or a plain list, which has no order, was searched or combined with others.
     BadKind,
     /// The text was packed by none of the three packers.
     WrongLanes,
@@ -26,8 +26,7 @@ pub enum Error {
     BadLast,
     /// The values are not in the order of the kind.
     NotSorted {
-        /// The position of the first value out of order, from 0 on. If the values were to be written it is there; if they are
-        /// those of bytes that were to be opened it is `None`.
+        /// The position of the first value out of order, from 0 on. Writing a list gives it; opening bytes does not.
         position: Option<usize>,
     },
     /// Bytes are left over.

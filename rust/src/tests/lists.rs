@@ -11,7 +11,7 @@ pub(super) const FORMS: [(u8, Version); 6] =
     [(1, Version::Two), (4, Version::Two), (8, Version::Two), (1, Version::Three), (4, Version::Three), (8, Version::Three)];
 pub(super) const LENGTHS: [usize; 11] = [0, 1, 2, 31, 32, 33, 127, 128, 255, 256, 1000];
 
-/// The text of values, by the packer of so many lanes. Also tries the other two calls of the encoder.
+/// The text of values, by a packer and a version. Also tries the other calls of the encoder.
 pub(super) fn encoded((lanes, version): (u8, Version), kind: Kind, values: &[u32]) -> Result<Vec<u8>, Error> {
     macro_rules! by {
         ($packer:expr) => {{
@@ -196,7 +196,7 @@ fn the_lists_of_the_vectors() {
     });
 }
 
-/// Each row but those of another packer or version, which `open` reads.
+/// Each row, unless it is of another packer or version, which `open` reads.
 #[test]
 fn the_refused_texts_of_the_vectors() {
     at_each_level(|| {

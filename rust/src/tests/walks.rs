@@ -1,4 +1,4 @@
-//! Iterators and cursors of lists against those of plain vectors.
+//! Iterators and cursors of lists against plain vectors.
 
 use super::at_each_level;
 use super::lists::{encoded, values, Numbers, FORMS, KINDS, LENGTHS};
