@@ -1,9 +1,9 @@
 #!/usr/bin/env python3
-"""Compiles and runs the C programs over the archive for each level of the processor: those of examples/, whose output is worked by hand,
-scripts/calls.c, and scripts/tables.c over the tables of vectors/. They are compiled as C99 with every warning an error and run with
-little stack, and once more with the address sanitizer where the compiler has it; scripts/calls.c also as C++11 and C++17. It has to name
-every macro of the header. The archives are those that scripts/archives.py wrote, which is called where they are not there. The last line
-is 'N passed, M failed'; a part that is left out for want of a tool is named.
+"""Compiles and runs the C programs over the archive for all levels of the processor and that for each level: those of examples/, whose
+output is worked by hand, scripts/calls.c, and scripts/tables.c over the tables of vectors/. They are compiled as C99 with every warning an
+error and run with little stack, and once more with the address sanitizer where the compiler has it; scripts/calls.c also as C++11 and C++17.
+It has to name every macro of the header. The archives are those that scripts/archives.py wrote, which is called where they are not there.
+The last line is 'N passed, M failed'; a part that is left out for want of a tool is named.
 """
 import re
 import resource
@@ -12,6 +12,7 @@ import sys
 import tempfile
 
 import archives
+import levels
 from common import ROOT, leave_out, report, run, source
 
 STRICT = ["-Wall", "-Wextra", "-Werror", "-pedantic", f"-I{ROOT}/include"]
@@ -53,17 +54,6 @@ def works(command, **given):
     return done.returncode == 0, done.stdout
 
 
-def runs_here(level):
-    """Whether this processor has a level, as the C compiler's own test says."""
-    if level == "x86-64":
-        return True
-    with tempfile.TemporaryDirectory(prefix="c-") as folder:
-        source, program = f"{folder}/level.c", f"{folder}/level"
-        with open(source, "w", encoding="ascii") as file:
-            file.write(f'int main(void) {{ __builtin_cpu_init(); return !__builtin_cpu_supports("{level}"); }}\n')
-        return works(["cc", source, "-o", program])[0] and works([program])[0]
-
-
 def has_sanitizers():
     with tempfile.TemporaryDirectory(prefix="c-") as folder:
         source, program = f"{folder}/empty.c", f"{folder}/empty"
@@ -76,16 +66,30 @@ def with_little_stack():
     resource.setrlimit(resource.RLIMIT_STACK, (STACK, STACK))
 
 
-def compiled_and_run(level, source, command, **given):
-    """What is wrong with a program at a level, or None. The command is that of the compiler."""
-    archive = f"{archives.OUT}/{level}/libbitpacking_c.a"
+def places():
+    """The archives that this processor runs: a name and a path of each."""
+    yield "all levels", f"{archives.OUT}/{archives.ALL}"
+    for level in archives.LEVELS.values():
+        if level == "x86-64" or levels.supports(level):
+            yield level, archives.archive(level)
+        else:
+            leave_out(f"the C programs at the level {level}", "which this processor does not have")
+
+
+def given(program):
+    """What a program reads."""
+    return {"input": "".join(source(f"vectors/{table}.tsv") for table in VECTORS)} if program == TABLES else {}
+
+
+def compiled_and_run(archive, path, command, **more):
+    """What is wrong with a program over an archive, or None. The command is that of the compiler."""
     with tempfile.TemporaryDirectory(prefix="c-") as folder:
         program = f"{folder}/program"
-        right, text = works([*command, f"{ROOT}/{source}", "-x", "none", archive, "-o", program])
+        right, text = works([*command, f"{ROOT}/{path}", "-x", "none", archive, "-o", program])
         if not right:
             return text
-        right, text = works([program], **given)
-        return None if right and text == PROGRAMS[source] else f"it failed, and printed {text[:2000]}"
+        right, text = works([program], **given(path), **more)
+        return None if right and text == PROGRAMS[path] else f"it failed, and printed {text[:2000]}"
 
 
 def macros_not_named():
@@ -106,18 +110,14 @@ def checks():
         leave_out("the C programs under the address sanitizer", "which cc does not have here")
     if not in_cpp:
         leave_out(f"{CALLS} as C++", "since there is no c++")
-    for level in archives.LEVELS.values():
-        if not runs_here(level):
-            leave_out(f"the C programs at the level {level}", "which this processor does not have")
-            continue
+    for level, archive in places():
         for program in PROGRAMS:
-            given = {"input": "".join(source(f"vectors/{table}.tsv") for table in VECTORS)} if program == TABLES else {}
-            yield f"{program} at {level}", compiled_and_run(level, program, C99, preexec_fn=with_little_stack, **given)
+            yield f"{program} at {level}", compiled_and_run(archive, program, C99, preexec_fn=with_little_stack)
             if sanitizers:
-                yield f"{program} at {level}, sanitized", compiled_and_run(level, program, [*C99, *SANITIZED], **given)
+                yield f"{program} at {level}, sanitized", compiled_and_run(archive, program, [*C99, *SANITIZED])
         for standard in ["c++11", "c++17"] if in_cpp else []:
             command = ["c++", f"-std={standard}", *STRICT, "-x", "c++"]
-            yield f"{CALLS} as {standard} at {level}", compiled_and_run(level, CALLS, command)
+            yield f"{CALLS} as {standard} at {level}", compiled_and_run(archive, CALLS, command)
 
 
 def main():
