@@ -23,6 +23,18 @@ CALLS = "scripts/calls.c"
 TABLES = "scripts/tables.c"
 STACK = 256 << 10  # bytes; the sanitizer needs more
 SANITIZED = ["-fsanitize=address,undefined", "-fno-sanitize-recover=all"]
+# The index of the documents 1 to 1000, by hand: 500, 333 and 200 numbers. The codes of the lists are gaps less one: 1 of even (of its
+# first block up to 2), 2 of fizz, 4 of buzz, 29 of the multiples of 30; and up to 2, 3 and 5 of the others. With the widths 2, 1 and 1,
+# the text of even has a header of 3 bytes, 3 entries of 9, 16 * 4 bytes of blocks, and 116 codes in 4 groups of 5, 5, 5 and 4: 113 bytes.
+# In this way fizz has 108 bytes, and buzz 90.
+INDEX = """\
+3 words in 311 bytes
+fizz AND buzz AND even: 33 documents in 24 bytes, [30, 60, 90, 120] ..
+fizz OR buzz: 467 documents in 150 bytes, [3, 5, 6, 9] ..
+even NOT fizz: 334 documents in 108 bytes, [2, 4, 8, 10] ..
+(fizz OR buzz) NOT even: 234 documents in 104 bytes, [3, 5, 9, 15] ..
+fizz AND odd: 0 documents in 1 bytes, [] ..
+"""
 # Gaps of 2 and 4 in turn: one less are 1 and 3, two bits each, and so 2 * 16 bytes for each block of 128.
 PROGRAMS = {
     # Gaps of 3: two bits each, and so 2 * 16 bytes.
@@ -30,6 +42,7 @@ PROGRAMS = {
     "examples/posting_list.c": "300 numbers: 2 and 2 bits, 64 bytes, 44 numbers as they are\n",
     # A header of 7 bytes, 2 entries of 9, those blocks, and 44 numbers of 4 bytes; the last number is 3 * 299 + 1.
     "examples/packed_list.c": "300 numbers in 265 bytes, the last 898\nthe first from 500 on is 502, at position 167\n",
+    "examples/index.c": INDEX,
     CALLS: "",
     # Each row of the tables that it is given.
     TABLES: "532 lists, 725 refusals\n",

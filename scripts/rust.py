@@ -10,6 +10,7 @@ import subprocess
 import sys
 
 import archives
+import c
 from common import ROOT, report, run
 
 # The programs of rust/examples/ and what they print, worked by hand.
@@ -18,6 +19,7 @@ EXAMPLES = {
     "block": "128 ids in 32 bytes\n",
     # Gaps of 2 and 4 in turn: one less are 1 and 3, two bits each, and so 2 * 16 bytes for each block of 128.
     "posting_list": "300 numbers: [2, 2] bits, 64 bytes, 44 numbers as they are\n",
+    "index": c.INDEX,
 }
 
 

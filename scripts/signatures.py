@@ -13,6 +13,7 @@ import sys
 from texts import code, paths, results, text_of
 
 C_TYPES = {"u8": "uint8_t", "u32": "uint32_t", "i32": "int32_t", "usize": "size_t", "isize": "ptrdiff_t", "ListView": "bitpacking_list"}
+C_TYPES["ListCursor"] = "bitpacking_cursor"
 HEADER = "include/bitpacking.h"
 CALLS = "rust/src/calls.rs"
 LIMITS = "crates/bitpacking/src/limits.rt"
@@ -57,7 +58,8 @@ def declared():
 
 
 def called():
-    """The same of the calls from Rust: of each packer and kind, of which all but the first have an initial value."""
+    """The same of the calls from Rust: of each packer and kind, of which all but the first have an initial value; and of the functions of
+    lists, of which those in the macro `calls` are of each packer."""
     text = text_of(CALLS)
     functions = re.findall(r'concat!\(\$prefix, "(\w+)", \$kind\)\]\s*fn \w+\(([^;]*)\) -> (\w+);', text)
     kinds = re.findall(r'foreign!\(\w+, \$prefix, "(\w*)"(, initial)?\)', text)
@@ -67,6 +69,10 @@ def called():
             for name, given, returned in functions:
                 given = given.replace("$($initial: u32,)?", "initial: u32," if initial else "")
                 found[f"{packer}{name}{kind}"] = in_c(returned) + parameters(given)
+    of_packers, of_lists = text[text.index("macro_rules! calls ") :].split("macro_rules! lists ")
+    for part, prefixes in [(of_packers, re.findall(r'calls!\("v1_(bitpacking_\dx_)"\)', text)), (of_lists, ["bitpacking_"])]:
+        for name, given, returned in re.findall(r'concat!\(\$prefix, "(\w+)"\)\]\s*fn \w+(?:<[^>]*>)?\(([^;]*)\)(?: -> (\w+))?;', part):
+            found.update({f"{prefix}{name}": (in_c(returned) if returned else ["void"]) + parameters(given) for prefix in prefixes})
     return found
 
 

@@ -60,7 +60,7 @@ CHOICE = {
         "&LEVELS[..1 + usize::from(v2) + usize::from(v3)]",
         "BEST.get_or_init(|| &levels()[levels().len() - 1])",
     ],
-    "rust/src/packers.rs": ["$name(&best().$calls)"],
+    "rust/src/packers.rs": ["fn calls() -> &'static Calls { &best().$calls }"],
 }
 LISTS = "crates/bitpack_lists/src"
 GROUPS = (f"{LISTS}/list3/group.rt", "BitPacker1x")
@@ -224,9 +224,10 @@ def packers():
 
 def levels():
     text = text_of(CALLS_OF_RUST)
-    packers = {"one": 1, "four": 4, "eight": 8}
-    right = [(name, f"{level}bitpacking_{lanes}x_") for level in ["v1_", "v2_", "v3_", ""] for name, lanes in packers.items()]
-    if re.findall(r'\b(\w+): calls!\("(\w+)"\)', text) != right:
+    packers = [("one", "calls", "1x_"), ("four", "calls", "4x_"), ("eight", "calls", "8x_"), ("lists", "lists", "")]
+    levels = ["v1_", "v2_", "v3_", ""]
+    right = [(name, macro, f"{level}bitpacking_{lanes}") for level in levels for name, macro, lanes in packers]
+    if re.findall(r'\b(\w+): (\w+)!\("(\w+)"\)', text) != right:
         yield f"{CALLS_OF_RUST}: the tables are not {right}"
     for level, features in FEATURES.items():
         asked = re.findall(rf"fn added_by_{level}\(\)[^{{]*{{\s*detected!\(([^)]*)\)", text)
