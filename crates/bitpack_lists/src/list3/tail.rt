@@ -89,11 +89,7 @@ fn before_groups(blocks: usize) -> usize
     ensures before { result ≡ Rattle.bitpack_lists.specs.inner.CodeSteps.before_groups blocks }
     ensures few { result ≤ 1 }
 {
-    if blocks == 0 {
-        1
-    } else {
-        0
-    }
+    if blocks == 0 { 1 } else { 0 }
 }
 
 /// How many bytes the tail of these codes has, after so many blocks.
