@@ -1,5 +1,5 @@
 -- The end of the group, or of the tail.
-use Rattle.std.proofs.Common.{◌≡◌, ◌+◌, ◌-◌, ◌*◌, ◌/◌, ◌<◌, ℕ, min, ◌∙◌, ap, arith, inl, inr}
+use Rattle.std.proofs.Common.{◌≡◌, ◌+◌, ◌*◌, ℕ, min, arith, inl, inr}
 use Rattle.std.proofs.lemmas.Bool.{cases_lt}
 use Rattle.bitpack_lists.specs.inner.CodeSteps.{EndsGroup, before_groups}
 use Rattle.bitpack_lists.proofs.list3.tail.end_of_group.Goals as goal

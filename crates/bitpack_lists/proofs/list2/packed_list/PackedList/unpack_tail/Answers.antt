@@ -1,7 +1,6 @@
 -- A fault of the first groups would be one of the text, and their values are those of its tail.
-use Rattle.std.proofs.Common.{◌≡◌, ◌*◌, ◌/◌, Some, None, ℕ, List, length, take, sym, subst, ◌∙◌, ap}
+use Rattle.std.proofs.Common.{◌≡◌, ◌*◌, Some, None, length, sym, ◌∙◌, ap}
 use Rattle.bitpacking.specs.Codes.{values_of}
-use Rattle.bitpack_lists.specs.Version3.{tail_codes3}
 use Rattle.bitpack_lists.proofs.OpenedLists.{front_right, front_values}
 use Rattle.bitpack_lists.proofs.list2.packed_list.PackedList.unpack_tail.Goals as goal
 

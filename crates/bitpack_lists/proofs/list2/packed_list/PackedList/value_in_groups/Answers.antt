@@ -1,5 +1,5 @@
 -- The value is one of those that are read.
-use Rattle.std.proofs.Common.{◌≡◌, ◌+◌, ◌*◌, ◌/◌, ◌%◌, ◌<◌, ◌≤◌, ℕ, List, length, replicate, take, get_or, ◌++◌, sym, ◌∙◌, ap, arith}
+use Rattle.std.proofs.Common.{◌≡◌, ◌*◌, ◌%◌, ◌<◌, ◌≤◌, ℕ, List, length, replicate, take, get_or, ◌++◌, sym, ◌∙◌, ap, arith}
 use Rattle.std.proofs.lemmas.List.{get_or-take, get_or_append_left, length-replicate, length-take-le}
 use Rattle.bitpack_lists.specs.Version3.{tail_values3}
 use Rattle.bitpack_lists.specs.inner.Searching.{blocks_of, rest_of}
