@@ -48,11 +48,13 @@ mod SliceSteps
 mod Soundness1
 mod Soundness2
 mod Soundness3
+mod TailFronts
 mod TailLaws
 mod TailOrder
 mod TailSteps
 mod TailTexts
 mod TextSizes
+mod TextsOfKind
 mod Upgraded
 mod UpgradeSteps
 mod UpgradeSteps3

@@ -165,7 +165,7 @@ impl<'a, P: BitPacker> PackedList<'a, P> {
         self.kind
     }
 
-    /// The value at a position, or `None` from the length on. One block is unpacked at most, and none for a value of the tail.
+    /// The value at a position, or `None` from the length on. Unpacks at most one block, or the groups of the tail up to the value.
     // Reads bytes: value_in_block, value_in_tail.
     pub fn get(&self, position: usize) -> Option<u32>
         ensures { result ≡ slice_get (values self.now) position }
