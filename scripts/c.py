@@ -1,6 +1,6 @@
 #!/usr/bin/env python3
 """Compiles and runs the C programs over the archive for each level of the processor: those of examples/, whose output is worked by hand,
-scripts/calls.c, and scripts/tables.c over the tables of vectors/. They are compiled as C99 with every warning an error and run with
+scripts/calls.c, scripts/cursor.c, and scripts/tables.c over the tables of vectors/. They are compiled as C99 with every warning an error and run with
 little stack, and once more with the address sanitizer where the compiler has it; scripts/calls.c also as C++11 and C++17. It has to name
 every macro of the header. The archives are those that scripts/archives.py wrote, which is called where they are not there. The last line
 is 'N passed, M failed'; a part that is left out for want of a tool is named.
@@ -28,6 +28,7 @@ PROGRAMS = {
     # A header of 7 bytes, 2 entries of 9, those blocks, and 44 numbers of 4 bytes; the last number is 3 * 299 + 1.
     "examples/packed_list.c": "300 numbers in 265 bytes, the last 898\nthe first from 500 on is 502, at position 167\n",
     CALLS: "",
+    "scripts/cursor.c": "",
     # Each row of the tables that it is given.
     TABLES: "532 lists, 725 refusals\n",
 }
