@@ -1,6 +1,6 @@
 #!/usr/bin/env python3
 """Compiles and runs the C programs over the archive for all levels of the processor and that for each level: those of examples/, whose
-output is worked by hand, scripts/calls.c, and scripts/tables.c over the tables of vectors/. They are compiled as C99 with every warning an
+output is worked by hand, scripts/calls.c, scripts/cursor.c, and scripts/tables.c over the tables of vectors/. They are compiled as C99 with every warning an
 error and run with little stack, and once more with the address sanitizer where the compiler has it; scripts/calls.c also as C++11 and C++17,
 and over the archive for all levels on a processor of each level that qemu gives.
 It has to name every macro of the header. The archives are those that scripts/archives.py wrote, which is called where they are not there.
@@ -44,6 +44,7 @@ PROGRAMS = {
     "examples/packed_list.c": "300 numbers in 265 bytes, the last 898\nthe first from 500 on is 502, at position 167\n",
     "examples/index.c": INDEX,
     CALLS: "",
+    "scripts/cursor.c": "",
     # Each row of the tables that it is given.
     TABLES: "532 lists, 725 refusals\n",
 }

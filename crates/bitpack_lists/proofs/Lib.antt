@@ -1,9 +1,11 @@
 -- Lemmas of this crate. Other crates cite those of ForCallers alone.
 mod BlockLemmas
+mod BlockPlaces
 mod BlockValues
 mod ChainLemmas
 mod CodeLemmas
 mod Combining
+mod CopyBlocks
 mod CopySteps
 mod CursorPlaces
 mod CursorSteps
