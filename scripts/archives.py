@@ -36,8 +36,10 @@ def sources():
 
 
 def declared():
-    """The names that the header declares, as the C preprocessor reads it."""
-    return set(re.findall(r"\b(bitpacking_\w+)\s*\(", run("cc", "-E", "-P", f"{ROOT}/include/bitpacking.h").stdout))
+    """The names that the header declares, as the C preprocessor reads it, without those that it defines itself."""
+    text = run("cc", "-E", "-P", f"{ROOT}/include/bitpacking.h").stdout
+    own = re.findall(r"\bstatic inline [\w *]*?\b(bitpacking_\w+)\(", text)
+    return set(re.findall(r"\b(bitpacking_\w+)\s*\(", text)) - set(own)
 
 
 def built(prefix, level):

@@ -1,5 +1,5 @@
 -- Chains of blocks: each begins at the last value of the one before it.
-use Rattle.std.specs.Prelude.{◌≡◌, ℕ, ◌-◌, ◌*◌, ◌≤◌, List, [], ◌∷◌, take, drop, slice_index, Some, ⊤}
+use Rattle.std.specs.Prelude.{◌≡◌, ℕ, ◌-◌, ◌*◌, ◌≤◌, List, [], ◌∷◌, length, take, drop, sum, slice_index, Some, ⊤}
 use Rattle.bitpacking.specs.declared.kind.Kind.{Kind}
 use Rattle.bitpacking.specs.declared.kind.Kind.TheVariants.{Plain, Sorted, StrictlySorted}
 use Rattle.bitpacking.specs.Width.{IsWidth}
@@ -29,6 +29,11 @@ LeastWidths lanes kind values [] = ⊤
 LeastWidths lanes kind values (width ∷ widths) =
     IsWidth kind (take (32 * lanes) values) width
     × LeastWidths lanes (second_kind lanes kind values) (drop (32 * lanes) values) widths
+
+-- the chain of so many blocks of the values has so many bytes
+abbrev pub IsChainSize : ℕ → Kind → List ℕ → ℕ → ℕ → Type 0
+IsChainSize lanes kind values blocks size =
+    (widths : List ℕ) × (length widths ≡ blocks) × LeastWidths lanes kind values widths × (size ≡ 4 * lanes * sum widths)
 
 -- the same, with each width the least
 pub record Chained (lanes : ℕ) (kind : Kind) (values widths bytes : List ℕ) : Type 0 where

@@ -10,8 +10,10 @@ mod bitpacker8x;
 mod block;
 mod call_error;
 mod chain;
+mod list_packing;
 mod list_view;
 mod no_initial;
+mod version;
 
 pub use call_error::CallError;
 pub use list_view::ListView;
