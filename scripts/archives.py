@@ -5,7 +5,7 @@
     rust/out/libbitpacking_vN.a          for the crate in rust/, each name with the prefix vN_
 
 It proves the crate `bitpacking_c` where a source is newer than what earlier checks left, and looks at each archive: it exports the
-functions of the header and no other name, needs no other functions than memcpy and memset, and has neither data nor unwinding.
+functions of the header and no other name, needs no other functions than memcpy, memmove and memset, and has neither data nor unwinding.
 `archives.py --kept` takes the archives of an earlier run where no source changed since. It needs rt, nm, objcopy and objdump.
 The last line is 'N passed, M failed'.
 """
@@ -73,7 +73,7 @@ def faults(prefix, level):
     if exported(prefixed) != {f"{prefix}_{name}" for name in exported(plain)}:
         yield "the prefix is not that of each name"
     needed = {line.split()[-1] for line in run("nm", "-u", plain).stdout.split("\n") if line.strip().startswith("U ")}
-    if not needed <= {"memcpy", "memset"}:
+    if not needed <= {"memcpy", "memmove", "memset"}:
         yield f"it needs {sorted(needed)}"
     for section in re.findall(r"^\s*\d+ (\S+)\s+([0-9a-f]+)", run("objdump", "-h", plain).stdout, re.M):
         if int(section[1], 16) > 0 and re.match(r"\.(data(?!\.rel\.ro)|bss|tdata|tbss|eh_frame|gcc_except_table)", section[0]):

@@ -4,7 +4,7 @@ ghost use Rattle.std.specs.Prelude.{◌≡◌, ◌*◌, ◌/◌, ◌≤◌, ℕ,
 ghost use Rattle.bitpacking.specs.Width.{IsWidth};
 ghost use Rattle.bitpacking.specs.Layout.{size};
 ghost use Rattle.bitpacking.specs.Calls.{CanPack, CanUnpack, IsPacked, IsUnpacked};
-ghost use Rattle.bitpack_lists.specs.Chains.{Chained, IsChainSize, Loose};
+ghost use Rattle.bitpack_lists.specs.Chains.{Chained, IsChainSize, Loose, PacksChain};
 
 use bitpacking::{BitPacker, Kind};
 
@@ -46,12 +46,9 @@ pub fn pack_measured<P: BitPacker>(
     out: &mut [u8],
 ) -> usize
     requires blocks { length values.now ≡ P.BLOCK_LEN * length widths.old }
-    requires room { (size : ℕ) × IsChainSize P.lanes kind values.now (length widths.old) size × (size ≤ length out.old) }
-    ensures size { result ≡ 4 * P.lanes * sum widths.new }
-    ensures few { result ≤ 4 * length values.now }
-    ensures narrow { All (λ width. width ≤ 32) widths.new }
-    ensures chain { Chained P.lanes kind values.now widths.new (take result out.new) }
-    ensures rest { drop result out.new ≡ drop result out.old }
+    requires room { (size : ℕ) × IsChainSize P.lanes kind values.now (length widths.old) size
+        × (size ≤ length out.old) }
+    ensures { PacksChain P.lanes kind values.now widths.new out.old out.new result }
 {
     let len = P::BLOCK_LEN;
     let blocks = widths.len();
@@ -69,8 +66,7 @@ pub fn pack_measured<P: BitPacker>(
 
 /// The number of bytes that [`pack_all`] and [`pack_measured`] write for the whole blocks of these values.
 pub fn packed_len<P: BitPacker>(packer: &P, kind: Kind, values: &[u32]) -> usize
-    ensures size { IsChainSize P.lanes kind values.now (length values.now / P.BLOCK_LEN) result }
-    ensures few { result ≤ 4 * length values.now }
+    ensures { IsChainSize P.lanes kind values.now (length values.now / P.BLOCK_LEN) result }
 {
     let len = P::BLOCK_LEN;
     let mut block_kind = kind;

@@ -94,34 +94,26 @@ loop-index-preserved g c =
       rest = rest ∙ drop-further written added out c.args.out.now before.rest;
     }
 
-pub returns-clause-few : goal.returns-clause-few
-returns-clause-few g c =
-    let blocks : ℕ = length c.args.widths.now in
-    let end : c.loop-index.index ≡ blocks = omega arith in
-    let all : length c.args.values.now ≡ 32 * g.P.BitPacker.lanes * blocks =
-    c.requires.blocks ∙ ap (λ n. n * blocks) g.met.P.BitPacker.block_len in
-    rw (all, ← end) c.loop-index.invariant.bound
-
-pub returns-clause-narrow : goal.returns-clause-narrow
-returns-clause-narrow g c =
-    let widths : List ℕ = c.loop-index.widths in
-    let all : take c.loop-index.index widths ≡ widths = take_all c.loop-index.index widths (omega arith) in
-    rw all at c.loop-index.invariant.narrow
-
-pub returns-clause-chain : goal.returns-clause-chain
-returns-clause-chain g c =
+pub returns : goal.returns
+returns g c =
     let lanes : ℕ = g.P.BitPacker.lanes in
     let values : List ℕ = c.args.values.now in
+    let blocks : ℕ = length c.args.widths.now in
     let i : ℕ = c.loop-index.index in
     let before = c.loop-index.invariant in
-    let end : i ≡ length c.args.widths.now = omega arith in
-    let all : length values ≡ 32 * lanes * length c.args.widths.now =
-    c.requires.blocks ∙ ap (λ n. n * length c.args.widths.now) g.met.P.BitPacker.block_len in
-    let blocks : take (32 * lanes * i) values ≡ values = take_all (32 * lanes * i) values (rw end (omega arith)) in
+    let end : i ≡ blocks = omega arith in
+    let all : length values ≡ 32 * lanes * blocks = c.requires.blocks ∙ ap (λ n. n * blocks) g.met.P.BitPacker.block_len in
+    let whole : take (32 * lanes * i) values ≡ values = take_all (32 * lanes * i) values (rw end (omega arith)) in
     let widths : take i c.loop-index.widths ≡ c.loop-index.widths = take_all i c.loop-index.widths (omega arith) in
     record {
-      loose = rw (blocks, widths) at (Loose_done lanes c.args.kind c.loop-index.block_kind (take (32 * lanes * i) values)
-          (take i c.loop-index.widths) (take c.loop-index.written c.loop-index.out) before.loose);
-      least = rw (blocks, widths) at (LeastWidths_done lanes c.args.kind c.loop-index.block_kind (take (32 * lanes * i) values)
-          (take i c.loop-index.widths) before.least);
+      size = rw widths at before.written;
+      few = rw (all, ← end) before.bound;
+      narrow = rw widths at before.narrow;
+      chain = record {
+        loose = rw (whole, widths) at (Loose_done lanes c.args.kind c.loop-index.block_kind (take (32 * lanes * i) values)
+            (take i c.loop-index.widths) (take c.loop-index.written c.loop-index.out) before.loose);
+        least = rw (whole, widths) at (LeastWidths_done lanes c.args.kind c.loop-index.block_kind (take (32 * lanes * i) values)
+            (take i c.loop-index.widths) before.least);
+      };
+      rest = before.rest;
     }

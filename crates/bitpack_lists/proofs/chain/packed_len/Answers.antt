@@ -53,8 +53,8 @@ loop-preserved g c =
           (before.measured all long are));
     }
 
-pub returns-clause-size : goal.returns-clause-size
-returns-clause-size g c =
+pub returns : goal.returns
+returns g c =
     let lanes : ℕ = g.P.BitPacker.lanes in
     let len : ℕ = c.BLOCK_LEN-len.result in
     let values : List ℕ = c.args.values.now in
@@ -64,7 +64,3 @@ returns-clause-size g c =
     let measured = rw end at (c.loop.invariant.measured all long are).1 in
     let none : sum (drop blocks all) ≡ 0 = ap sum (drop_all blocks all (omega (arith, long))) in
     (all, long ∙ ap (λ n. length values / n) c.BLOCK_LEN-len.ensures, are, omega (arith, rw none at measured))
-
-pub returns-clause-few : goal.returns-clause-few
-returns-clause-few g c =
-    omega (arith, c.loop.invariant.left, c.loop.invariant.bound)
