@@ -22,7 +22,10 @@ pub extern "C" fn bitpacking_1x_list_pack(
 ) -> isize
     ensures { AnswersSize result position.old position.new (PacksList 1 version kind values.now bytes.old bytes.new) }
 {
-    answer(pack(&BitPacker1x::new(), version, kind, values, bytes), position)
+    answer(
+        pack(&BitPacker1x::new(), version, kind, values, bytes),
+        position,
+    )
 }
 
 /// Writes the text of the values, packed in four lanes, as [`bitpacking_1x_list_pack`] does.
@@ -36,7 +39,10 @@ pub extern "C" fn bitpacking_4x_list_pack(
 ) -> isize
     ensures { AnswersSize result position.old position.new (PacksList 4 version kind values.now bytes.old bytes.new) }
 {
-    answer(pack(&BitPacker4x::new(), version, kind, values, bytes), position)
+    answer(
+        pack(&BitPacker4x::new(), version, kind, values, bytes),
+        position,
+    )
 }
 
 /// Writes the text of the values, packed in eight lanes, as [`bitpacking_1x_list_pack`] does.
@@ -50,7 +56,10 @@ pub extern "C" fn bitpacking_8x_list_pack(
 ) -> isize
     ensures { AnswersSize result position.old position.new (PacksList 8 version kind values.now bytes.old bytes.new) }
 {
-    answer(pack(&BitPacker8x::new(), version, kind, values, bytes), position)
+    answer(
+        pack(&BitPacker8x::new(), version, kind, values, bytes),
+        position,
+    )
 }
 
 /// The number of bytes that [`bitpacking_1x_list_pack`] writes for the values. It answers the same faults.
@@ -131,12 +140,7 @@ fn pack<P: BitPacker>(
 
 /// The length of the text of the values.
 #[inline(always)]
-fn size<P: BitPacker>(
-    packer: &P,
-    version: u8,
-    kind: u8,
-    values: &[u32],
-) -> Result<usize, ListError>
+fn size<P: BitPacker>(packer: &P, version: u8, kind: u8, values: &[u32]) -> Result<usize, ListError>
     ensures size { GivesSize P.lanes version kind values.now result }
     ensures small { IfOk result (λ size. size < 2 ^ 63) }
 {
