@@ -8,7 +8,7 @@
 
 It proves the crate `bitpacking_c` once, where a source is newer than what earlier checks left; the other levels and targets take that proof
 from crates/bitpacking_c/out/, and only compile. Then it looks at each archive: it exports the functions of the header and no other name,
-needs no other functions than memcpy and memset, and has neither data nor unwinding; the archive for all levels has one number of data, the
+needs no other functions than memcpy, memmove and memset, and has neither data nor unwinding; the archive for all levels has one number of data, the
 level. Where no source changed since the last run nothing is built; `archives.py --anew` builds all the same. It needs rt, cc, ld and nm,
 objcopy, objdump and ar of binutils. The last line is 'N passed, M failed'.
 """
@@ -128,7 +128,7 @@ def faults(path, data=0):
     if exported(path) != set(levels.prototypes()):
         yield f"it exports {sorted(exported(path) ^ set(levels.prototypes()))[:4]}, or the header declares them"
     needed = {line.split()[-1] for line in run("nm", "-u", path).stdout.split("\n") if line.strip().startswith("U ")}
-    if not needed <= {"memcpy", "memset"}:
+    if not needed <= {"memcpy", "memmove", "memset"}:
         yield f"it needs {sorted(needed)}"
     found = 0
     for name, size in re.findall(r"^\s*\d+ (\S+)\s+([0-9a-f]+)", run("objdump", "-h", path).stdout, re.M):

@@ -1,10 +1,11 @@
 #!/usr/bin/env python3
-"""Compiles and runs the C programs over the archive for all levels of the processor and that for each level: those of examples/, whose
-output is worked by hand, scripts/calls.c, scripts/cursor.c, and scripts/tables.c over the tables of vectors/. They are compiled as C99 with every warning an
-error and run with little stack, and once more with the address sanitizer where the compiler has it; scripts/calls.c also as C++11 and C++17,
-and over the archive for all levels on a processor of each level that qemu gives.
-It has to name every macro of the header. The archives are those that scripts/archives.py wrote, which is called where they are not there.
-The last line is 'N passed, M failed'; a part that is left out for want of a tool is named.
+"""Compiles and runs the C programs over the archive for all levels of the processor and the archive of each level: those of examples/,
+whose output is worked by hand, scripts/calls.c, list_calls.c and cursor.c, and scripts/tables.c over the tables of vectors/. They are
+compiled as C99 with every warning an error and run with little stack, and once more with the address sanitizer if the compiler has it. The
+two programs of calls are also compiled as C++11 and C++17, without a cast of C in the header; scripts/calls.c also runs over the archive for
+all levels on a processor of each level that qemu gives. It has to name every macro of the header. The archives are those that
+scripts/archives.py wrote, which is called if they are not there. The last line is 'N passed, M failed'; a part that is left out because a
+tool is missing is named.
 """
 import re
 import resource
@@ -20,6 +21,7 @@ from common import ROOT, leave_out, report, run, source
 STRICT = ["-Wall", "-Wextra", "-Werror", "-pedantic", f"-I{ROOT}/include"]
 C99 = ["cc", "-std=c99", *STRICT]
 CALLS = "scripts/calls.c"
+LIST_CALLS = "scripts/list_calls.c"
 TABLES = "scripts/tables.c"
 STACK = 256 << 10  # bytes; the sanitizer needs more
 SANITIZED = ["-fsanitize=address,undefined", "-fno-sanitize-recover=all"]
@@ -45,6 +47,7 @@ PROGRAMS = {
     "examples/index.c": INDEX,
     CALLS: "",
     "scripts/cursor.c": "",
+    LIST_CALLS: "",
     # Each row of the tables that it is given.
     TABLES: "532 lists, 725 refusals\n",
 }
@@ -119,14 +122,26 @@ def macros_not_named():
     return f"it does not name {' '.join(sorted(macros - used))}" if macros - used else None
 
 
+def casts_in_the_header():
+    """What a C++ compiler says of casts of C in the header and its macros, or None."""
+    macros = re.findall(r"^#define (BITPACKING_\w+)(\(num_bits\))? ", source("include/bitpacking.h"), re.M)
+    uses = [f"used({name}{'(1)' if given else ''});" for name, given in macros if name != "BITPACKING_LIST_EMPTY"]
+    lines = ["template <typename Item> static void used(Item) {}", "int main() { bitpacking_list list = BITPACKING_LIST_EMPTY; used(list);"]
+    text = "\n".join(['#include "bitpacking.h"', *lines, *uses, "used(bitpacking_list_empty()); }", ""])
+    right, said = works(["c++", *STRICT, "-Wold-style-cast", "-x", "c++", "-fsyntax-only", "-"], input=text)
+    return None if right else said or "it is refused"
+
+
 def checks():
     """Each check as a name and what is wrong, or None."""
     yield f"the macros in {CALLS}", macros_not_named()
     sanitizers, in_cpp = has_sanitizers(), shutil.which("c++")
     if not sanitizers:
         leave_out("the C programs under the address sanitizer", "which cc does not have here")
-    if not in_cpp:
-        leave_out(f"{CALLS} as C++", "since there is no c++")
+    if in_cpp:
+        yield "the header without casts of C", casts_in_the_header()
+    else:
+        leave_out(f"{CALLS} and {LIST_CALLS} as C++", "since there is no c++")
     for level, archive in places():
         for program in PROGRAMS:
             yield f"{program} at {level}", compiled_and_run(archive, program, C99, preexec_fn=with_little_stack)
@@ -134,7 +149,8 @@ def checks():
                 yield f"{program} at {level}, sanitized", compiled_and_run(archive, program, [*C99, *SANITIZED])
         for standard in ["c++11", "c++17"] if in_cpp else []:
             command = ["c++", f"-std={standard}", *STRICT, "-x", "c++"]
-            yield f"{CALLS} as {standard} at {level}", compiled_and_run(archive, CALLS, command)
+            for program in [CALLS, LIST_CALLS]:
+                yield f"{program} as {standard} at {level}", compiled_and_run(archive, program, command)
     yield from on_other_processors()
 
 

@@ -1,2 +1,3 @@
 pub mod ChainLengths
 pub mod CursorPlaces
+pub mod PackLemmas

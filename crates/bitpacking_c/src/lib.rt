@@ -13,8 +13,10 @@ mod chain;
 mod cursor_calls;
 mod list_blocks;
 mod list_cursor;
+mod list_packing;
 mod list_view;
 mod no_initial;
+mod version;
 
 pub use call_error::CallError;
 pub use list_cursor::ListCursor;

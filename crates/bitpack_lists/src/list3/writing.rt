@@ -131,6 +131,7 @@ pub fn encoded_len<P: BitPacker>(
     values: &[u32],
 ) -> Result<usize, ListError>
     ensures len { IfOk result (λ len. (text : List ℕ) → List3 P.lanes kind values.now text → len ≡ length text) }
+    ensures few { IfOk result (λ len. len ≤ 2 ^ 40) }
     // Values with a fault are refused for the first.
     ensures fault { MatchOption (values_fault kind values.now) (IsOk result) (λ fault. result ≡ Err fault) }
 {
@@ -153,6 +154,7 @@ fn measure<P: BitPacker>(
     requires tail { length codes.old ≡ tail_values P.lanes (length values.now) }
     ensures fault { FindsFault result (values_fault kind values.now) }
     ensures size { IfOk result (IsSize3 P.lanes kind values.now codes.new) }
+    ensures few { IfOk result (λ size. size ≤ 2 ^ 40) }
     ensures ready { OnOk result (AreReady P.lanes kind values.now widths.new) }
     ensures codes { OnOk result (AreTailCodes P.lanes kind values.now codes.new) }
 {
