@@ -1,9 +1,9 @@
 -- Values of a slice that are combined with a cursor in their place: what is done is in front, and what is to come begins at an index.
-use Rattle.std.proofs.Common.{◌≡◌, ◌⊎◌, ℕ, zero, suc, ◌+◌, ◌-◌, ◌<◌, ◌≤◌, List, [], ◌∷◌, ◌++◌, length, drop, take, get_or, set, Option, Some, None, refl, sym, ◌∙◌, ap, arith, inl, inr, leb, append-nil}
+use Rattle.std.proofs.Common.{◌≡◌, ℕ, suc, ◌+◌, ◌-◌, ◌<◌, ◌≤◌, List, [], ◌∷◌, ◌++◌, length, drop, take, get_or, set, Some, None, refl, sym, ◌∙◌, ap, arith, inl, inr, append-nil}
 use Rattle.std.specs.List.Sorted.{IsStrictlyIncreasing}
 use Rattle.std.proofs.lemmas.Bool.{cases_lt, lt-leb}
 use Rattle.std.proofs.lemmas.List.{append_assoc, drop-drop, drop-set-lt, drop_more, length-drop, take_more_set}
-use Rattle.bitpack_lists.specs.Increasing.{IsIncreasing, after_first, at_least, first, shared}
+use Rattle.bitpack_lists.specs.Increasing.{IsIncreasing, at_least, first, shared}
 use Rattle.bitpack_lists.specs.inner.Combined.{IsLater, IsShared}
 use Rattle.bitpack_lists.specs.inner.InPlace.{IsNextShared}
 use Rattle.bitpack_lists.proofs.Combining.{at_least-first, shared-cons}

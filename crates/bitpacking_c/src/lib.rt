@@ -10,6 +10,7 @@ mod bitpacker8x;
 mod block;
 mod call_error;
 mod chain;
+mod list_sets;
 mod list_view;
 mod no_initial;
 

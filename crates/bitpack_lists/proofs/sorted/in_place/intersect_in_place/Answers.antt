@@ -1,6 +1,5 @@
 -- Each turn moves one value to the front, which is behind the values to come.
-use Rattle.std.proofs.Common.{◌≡◌, ◌+◌, ◌<◌, ℕ, List, [], ◌++◌, drop, length, set, slice_index, take, refl, sym, ◌∙◌, ap, arith}
-use Rattle.std.specs.List.Sorted.{IsStrictlyIncreasing}
+use Rattle.std.proofs.Common.{◌+◌, ◌<◌, ℕ, List, ◌++◌, drop, length, set, slice_index, take, refl, sym, ◌∙◌, ap, arith}
 use Rattle.std.proofs.lemmas.List.{length-set}
 use Rattle.bitpack_lists.specs.Increasing.{shared}
 use Rattle.bitpack_lists.specs.IncreasingLaws.{IsIncreasing-from, increasing_shared}

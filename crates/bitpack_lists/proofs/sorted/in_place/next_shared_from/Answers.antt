@@ -1,7 +1,7 @@
 -- The values from the index on are those of a slice, which moves on to its end.
-use Rattle.std.proofs.Common.{◌≡◌, ◌-◌, List, ℕ, None, Some, drop, length, sym, ◌∙◌, ap}
+use Rattle.std.proofs.Common.{◌≡◌, ◌-◌, Some, drop, length, ◌∙◌, ap}
 use Rattle.bitpack_lists.specs.inner.Combined.{IsShared}
-use Rattle.bitpack_lists.proofs.InPlaceSteps.{next_none, next_some}
+use Rattle.bitpack_lists.proofs.InPlaceSteps.{next_some}
 use Rattle.bitpack_lists.proofs.SliceSteps.{from_index}
 use Rattle.bitpack_lists.proofs.sorted.in_place.next_shared_from.Goals as goal
 

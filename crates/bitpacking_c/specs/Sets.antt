@@ -1,0 +1,71 @@
+-- What the calls on many packed lists answer: the values that all have, that any has, or that the first has and no other.
+use Rattle.std.specs.Prelude.{◌≡◌, ◌≢◌, ℕ, ◌<◌, ◌≤◌, ℤ, pos, negsuc, min, Bool, true, false, ◌||◌, List, [], ◌∷◌, length, map, take}
+use Rattle.std.specs.List.{AllZip, slice_index_or}
+use Rattle.bitpack_lists.specs.declared.list_kind.ListKind.{ListKind}
+use Rattle.bitpack_lists.specs.declared.list_kind.ListKind.TheVariants.{Plain, Sorted, StrictlySorted}
+use Rattle.bitpack_lists.specs.Distinct.{distinct}
+use Rattle.bitpack_lists.specs.Many.{shared_by_all}
+use Rattle.bitpacking_c.specs.declared.list_view.ListView.{ListView}
+use Rattle.bitpacking_c.specs.Views.{IsListOf}
+
+-- ---- lists of a kind and values each
+
+abbrev pub Lists : Type 0
+Lists = List (ListKind × List ℕ)
+
+-- the views are of these lists, one of each
+abbrev pub AreListsOf : List ListView → Lists → Type 0
+AreListsOf views lists = AllZip (λ view list. IsListOf view.lanes view.bytes.now list.0 list.1) views lists
+
+-- the list of a view is in order
+abbrev pub IsInOrder : ListView → Type 0
+IsInOrder view = (kind : ListKind) (values : List ℕ) → IsListOf view.lanes view.bytes.now kind values → kind ≢ Plain
+
+-- the list of a view has so many values
+abbrev pub HasLength : ℕ → ListView → Type 0
+HasLength count view = (kind : ListKind) (values : List ℕ) → IsListOf view.lanes view.bytes.now kind values → length values ≡ count
+
+-- and no more than there is room for
+abbrev pub FitsIn : ℕ → ListView → Type 0
+FitsIn room view = (kind : ListKind) (values : List ℕ) → IsListOf view.lanes view.bytes.now kind values → length values ≤ room
+
+abbrev pub is_plain : ListKind → Bool
+is_plain Plain = true
+is_plain Sorted = false
+is_plain StrictlySorted = false
+
+-- one of them is plain
+abbrev pub any_plain : Lists → Bool
+any_plain [] = false
+any_plain (list ∷ lists) = is_plain list.0 || any_plain lists
+
+-- the values of each
+abbrev pub all_values : Lists → List (List ℕ)
+all_values lists = map (λ list. list.1) lists
+
+abbrev pub values_at : Lists → ℕ → List ℕ
+values_at lists index = slice_index_or (all_values lists) index []
+
+-- the values of each, without those that are there again
+abbrev pub all_distinct : Lists → List (List ℕ)
+all_distinct lists = map (λ list. distinct list.1) lists
+
+-- the length of the shortest
+abbrev pub shortest_len : Lists → ℕ
+shortest_len [] = 0
+shortest_len (list ∷ []) = length list.1
+shortest_len (list ∷ next ∷ lists) = min (length list.1) (shortest_len (next ∷ lists))
+
+-- ---- answers
+
+-- the values were written to the front, and their number is the answer; or a list is plain and the answer is -23, or there is less room
+-- than is always enough and the answer is -3, and nothing was written
+abbrev pub Writes : Bool → ℕ → List ℕ → List ℕ → List ℕ → ℤ → Type 0
+Writes true room values before after answer = (answer ≡ negsuc 22) × (after ≡ before)
+Writes false room values before after answer =
+    (length before < room → (answer ≡ negsuc 2) × (after ≡ before))
+    × (room ≤ length before → (answer ≡ pos (length values)) × (take (length values) after ≡ values))
+
+-- the values that all lists have, each once
+abbrev pub Intersects : Lists → List ℕ → List ℕ → ℤ → Type 0
+Intersects lists = Writes (any_plain lists) (shortest_len lists) (shared_by_all (all_distinct lists))
