@@ -259,6 +259,16 @@ ptrdiff_t bitpacking_list_unpack(const bitpacking_list *view, uint32_t *values, 
  * written. It reads at most as many entries as the count of whole blocks has binary digits, and unpacks one block at most. */
 int32_t bitpacking_list_seek(const bitpacking_list *view, uint32_t target, size_t *position, uint32_t *item);
 
+/* The values of any number of views, of any packers and versions, each value once and in increasing order. They go to the front of
+ * out, and their number is returned; without views it is 0. A view may be there twice. The lists have to be sorted or strictly sorted.
+ *
+ * BITPACKING_LIST_BAD_KIND: one of the lists is plain, or is BITPACKING_LIST_EMPTY or all zero, which is plain too.
+ * BITPACKING_SHORT: there is less room than is always enough, even if the values themselves would fit.
+ * Then nothing is written. Else any value of out may have changed, as out is also the work space: keep nothing there. */
+
+/* The values that all lists have. Room that is always enough: the length of the shortest list. */
+ptrdiff_t bitpacking_list_intersect(const bitpacking_list *views, size_t views_len, uint32_t *out, size_t out_len);
+
 #ifdef __cplusplus
 }
 #endif

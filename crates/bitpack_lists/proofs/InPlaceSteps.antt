@@ -1,14 +1,16 @@
 -- Values of a slice that are combined with a cursor in their place: what is done is in front, and what is to come begins at an index.
-use Rattle.std.proofs.Common.{◌≡◌, ℕ, suc, ◌+◌, ◌-◌, ◌<◌, ◌≤◌, List, [], ◌∷◌, ◌++◌, length, drop, take, get_or, set, Some, None, refl, sym, ◌∙◌, ap, arith, inl, inr, append-nil}
+use Rattle.std.proofs.Common.{◌≡◌, ℕ, suc, ◌+◌, ◌-◌, ◌<◌, ◌≤◌, true, false, List, [], ◌∷◌, ◌++◌, length, drop, take, get_or, set, Some, None, refl, sym, ◌∙◌, ap, arith, inl, inr, append-nil}
 use Rattle.std.specs.List.Sorted.{IsStrictlyIncreasing}
 use Rattle.std.proofs.lemmas.Bool.{cases_lt, lt-leb}
 use Rattle.std.proofs.lemmas.List.{append_assoc, drop-drop, drop-set-lt, drop_more, length-drop, take_more_set}
-use Rattle.bitpack_lists.specs.Increasing.{IsIncreasing, at_least, first, shared}
+use Rattle.bitpack_lists.specs.Increasing.{IsIncreasing, after_first, at_least, first, has, shared, without}
+use Rattle.bitpack_lists.specs.IncreasingLaws.{IsIncreasing-from}
 use Rattle.bitpack_lists.specs.inner.Combined.{IsLater, IsShared}
 use Rattle.bitpack_lists.specs.inner.InPlace.{IsNextShared}
-use Rattle.bitpack_lists.proofs.Combining.{at_least-first, shared-cons}
+use Rattle.bitpack_lists.proofs.Combining.{at_least-first, part_other, shared-cons, without-dropped, without-kept}
 use Rattle.bitpack_lists.proofs.Membership.{first_has, first_head, first_none}
 use Rattle.bitpack_lists.proofs.MembersOfSorted.{strictly_from_increasing}
+use Rattle.bitpack_lists.proofs.RetainSteps.{has_here}
 use Rattle.bitpack_lists.proofs.SliceSteps.{IsStrictlyIncreasing-drop}
 
 -- ---- what is left
@@ -84,9 +86,33 @@ increasing_done done all increasing is = rw is (strictly_from_increasing all inc
 pub still_ahead : (values : List ℕ) (kept x index : ℕ) → kept < index → drop index (set values kept x) ≡ drop index values
 still_ahead values kept x index lt = drop-set-lt index values kept x lt
 
-pub increasing_ahead : (values : List ℕ) (from kept x index : ℕ) → IsStrictlyIncreasing (drop from values) → from ≤ index → kept < index
-    → IsStrictlyIncreasing (drop index (set values kept x))
-increasing_ahead values from kept x index increasing le lt =
+pub increasing_rest : (values : List ℕ) (from index : ℕ) → IsStrictlyIncreasing (drop from values) → from ≤ index → IsStrictlyIncreasing (drop index values)
+increasing_rest values from index increasing le =
     let e : from + (index - from) ≡ index = omega arith in
     let apart : drop (index - from) (drop from values) ≡ drop index values = drop-drop (index - from) from values ∙ ap (λ i. drop i values) e in
-    rw (still_ahead values kept x index lt, ← apart) (IsStrictlyIncreasing-drop (index - from) (drop from values) increasing)
+    rw (← apart) (IsStrictlyIncreasing-drop (index - from) (drop from values) increasing)
+
+pub increasing_ahead : (values : List ℕ) (from kept x index : ℕ) → IsStrictlyIncreasing (drop from values) → from ≤ index → kept < index
+    → IsStrictlyIncreasing (drop index (set values kept x))
+increasing_ahead values from kept x index increasing le lt = rw (still_ahead values kept x index lt) (increasing_rest values from index increasing le)
+
+-- ---- one value that others have, or lack
+
+module _ (values : List ℕ) (index x : ℕ) (ys ys' : List ℕ) (lt : index < length values) (here : x ≡ get_or values index 0)
+    (increasing : IsStrictlyIncreasing (drop index values)) (sought : ys' ≡ at_least x ys) where
+  parts : drop index values ≡ x ∷ drop (index + 1) values
+  parts = drop_more values index 0 lt ∙ ap (λ x. x ∷ drop (index + 1) values) (sym here)
+
+  moved : without (drop index values) ys ≡ without (x ∷ drop (index + 1) values) ys'
+  moved =
+      sym (part_other (drop index values) ys ys' x (IsIncreasing-from (drop index values) increasing) (sym (ap first parts)) sought)
+      ∙ ap (λ xs. without xs ys') parts
+
+  same : has ys' x ≡ has ys x
+  same = ap (λ ys. has ys x) sought ∙ has_here x ys
+
+  pub value_taken : true ≡ has ys x → without (drop index values) ys ≡ without (drop (index + 1) values) ys'
+  value_taken is = moved ∙ without-dropped x (drop (index + 1) values) ys' (same ∙ sym is)
+
+  pub value_kept : false ≡ has ys x → without (drop index values) ys ≡ x ∷ without (drop (index + 1) values) ys'
+  value_kept is = moved ∙ without-kept x (drop (index + 1) values) ys' (same ∙ sym is)

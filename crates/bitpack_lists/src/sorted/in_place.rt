@@ -2,11 +2,12 @@
 
 ghost use Rattle.std.specs.Prelude.{◌≡◌, ◌≤◌, IfSome, List, None, [], drop, length, take};
 ghost use Rattle.std.specs.List.Sorted.{IsStrictlyIncreasing};
-ghost use Rattle.bitpack_lists.specs.Increasing.{shared};
+ghost use Rattle.bitpack_lists.specs.Increasing.{shared, without};
 ghost use Rattle.bitpack_lists.specs.inner.InPlace.{IsNextShared};
 
 use super::and::next_shared;
 use super::increasing_slice::IncreasingSlice;
+use super::retaining::finds_next;
 use super::sorted_cursor::SortedCursor;
 
 /// Keeps the values of a slice that a cursor has too: moves them to the front, in their order. Returns how many these are.
@@ -31,6 +32,32 @@ pub fn intersect_in_place<C: SortedCursor>(values: &mut [u32], cursor: &mut C) -
         values[kept] = values[index];
         kept += 1;
         from = index + 1;
+    }
+    kept
+}
+
+/// Keeps the values of a slice that a cursor lacks: moves them to the front, in their order. Returns how many these are.
+///
+/// The values increase. What is after those that are kept is of no use. The cursor seeks each value. Allocates nothing.
+///
+/// ```text
+/// let mut ids = [3, 5, 9, 12];
+/// let kept = subtract_in_place(&mut ids, &mut cursor);         // at 5, 7, 12
+/// ids[..kept]                                                  // 3, 9
+/// ```
+pub fn subtract_in_place<C: SortedCursor>(values: &mut [u32], cursor: &mut C) -> usize
+    requires { IsStrictlyIncreasing values.old }
+    ensures few { result ≤ length values.old }
+    ensures without { take result values.new ≡ without values.old (C.rest cursor.old) }
+    ensures increasing { IsStrictlyIncreasing (take result values.new) }
+{
+    let mut kept = 0;
+    for index in 0..values.len() {
+        let value = values[index];
+        if !finds_next(cursor, value) {
+            values[kept] = value;
+            kept += 1;
+        }
     }
     kept
 }
