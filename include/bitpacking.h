@@ -269,6 +269,9 @@ int32_t bitpacking_list_seek(const bitpacking_list *view, uint32_t target, size_
 /* The values that all lists have. Room that is always enough: the length of the shortest list. */
 ptrdiff_t bitpacking_list_intersect(const bitpacking_list *views, size_t views_len, uint32_t *out, size_t out_len);
 
+/* The values of the first list that no other has. Room that is always enough: the length of the first list. */
+ptrdiff_t bitpacking_list_subtract(const bitpacking_list *views, size_t views_len, uint32_t *out, size_t out_len);
+
 #ifdef __cplusplus
 }
 #endif

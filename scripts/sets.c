@@ -68,21 +68,31 @@ static void compare(const char *what, ptrdiff_t (*call)(const bitpacking_list *,
     combined++;
 }
 
+/* Expects the values of the first list that each of the others has, or that none has. Returns how many these are. */
+static size_t expect_values(const size_t *which, size_t len, int wanted)
+{
+    const uint32_t *first = lists[which[0]].values;
+    size_t found = 0, i, j;
+
+    for (i = 0; i < lists[which[0]].len; i++) {
+        for (j = 1; j < len && has(which[j], first[i]) == wanted; j++)
+            continue;
+        if (j == len && (found == 0 || expected[found - 1] != first[i]))
+            expected[found++] = first[i];
+    }
+    return found;
+}
+
 static void combine(size_t a, size_t b, size_t c, size_t len)
 {
-    size_t which[3], shortest = lists[a].len, found = 0, i, j;
+    size_t which[3], shortest = lists[a].len, i;
 
     which[0] = a, which[1] = b, which[2] = c;
     for (i = 1; i < len; i++)
         if (lists[which[i]].len < shortest)
             shortest = lists[which[i]].len;
-    for (i = 0; i < lists[a].len; i++) {
-        for (j = 1; j < len && has(which[j], lists[a].values[i]); j++)
-            continue;
-        if (j == len && (found == 0 || expected[found - 1] != lists[a].values[i]))
-            expected[found++] = lists[a].values[i];
-    }
-    compare("what all have", bitpacking_list_intersect, which, len, found, shortest);
+    compare("what all have", bitpacking_list_intersect, which, len, expect_values(which, len, 1), shortest);
+    compare("what the first has and no other", bitpacking_list_subtract, which, len, expect_values(which, len, 0), lists[a].len);
 }
 
 /* The bytes of hexadecimal digits. */
@@ -149,7 +159,7 @@ int main(void)
         for (b = 0; b < count; b += count / FEW)
             for (c = 0; c < count; c += count / FEW)
                 combine(a, b, c, 3);
-    expect(bitpacking_list_intersect(NULL, 0, NULL, 0) == 0, "no list", 0, 0, 0);
+    expect(bitpacking_list_intersect(NULL, 0, NULL, 0) == 0 && bitpacking_list_subtract(NULL, 0, NULL, 0) == 0, "no list", 0, 0, 0);
     printf("%lu lists, %lu combined\n", (unsigned long)count, combined);
     return failed;
 }

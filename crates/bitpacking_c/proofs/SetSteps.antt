@@ -1,8 +1,8 @@
 -- Steps of the calls on many lists.
-use Rattle.std.proofs.Common.{◌≡◌, ◌≢◌, inl, inr, ℕ, zero, suc, ◌+◌, ◌<◌, ◌≤◌, ◌&&◌, Bool, true, false, add-one, List, [], ◌∷◌, ◌++◌, None, append-nil, get_or, length, take, ℤ, pos, All, refl, sym, subst, ◌∙◌, ap, arith}
-use Rattle.std.specs.List.{HoldsAt}
+use Rattle.std.proofs.Common.{◌≡◌, ◌≢◌, inl, inr, ℕ, zero, suc, ◌+◌, ◌<◌, ◌≤◌, ◌&&◌, Bool, not, ◌||◌, true, false, add-one, List, [], ◌∷◌, ◌++◌, None, append-nil, get_or, length, take, ℤ, pos, All, refl, sym, subst, ◌∙◌, ap, arith}
+use Rattle.std.specs.List.{HoldsAt, filter}
 use Rattle.std.specs.List.Sorted.{IsStrictlyIncreasing}
-use Rattle.std.proofs.lemmas.List.{length-take-le}
+use Rattle.std.proofs.lemmas.List.{length-take-le, take_all}
 use Rattle.std.proofs.lemmas.Bool.{cases_lt, cond_both, or_from, or_right}
 use Rattle.bitpack_lists.specs.declared.list_kind.ListKind.{ListKind}
 use Rattle.bitpack_lists.specs.declared.list_kind.ListKind.TheVariants.{Plain, Sorted, StrictlySorted}
@@ -10,14 +10,14 @@ use Rattle.bitpack_lists.specs.declared.version.Version.{Version}
 use Rattle.bitpack_lists.specs.declared.version.Version.TheVariants as versions
 use Rattle.bitpack_lists.specs.Distinct.{distinct}
 use Rattle.bitpack_lists.specs.DistinctLaws.{IsOrdered-from, increasing_distinct}
-use Rattle.bitpack_lists.specs.Increasing.{IsIncreasing, has, shared}
+use Rattle.bitpack_lists.specs.Increasing.{IsIncreasing, has, shared, without}
 use Rattle.bitpack_lists.specs.IncreasingLaws.{IsIncreasing-filter, IsIncreasing-from}
-use Rattle.bitpack_lists.specs.Many.{all_have, shared_by_all}
+use Rattle.bitpack_lists.specs.Many.{all_have, any_has, shared_by_all}
 use Rattle.bitpack_lists.specs.Texts.{IsText, version_in}
 use Rattle.bitpack_lists.specs.Version2.{first_out}
-use Rattle.bitpack_lists.proofs.ForCallers.{has-distinct, has-shared, has-shared_by_all, neither_falls, same_numbers, strict_is_order}
+use Rattle.bitpack_lists.proofs.ForCallers.{has-distinct, has-filter, has-shared, has-shared_by_all, has-without, neither_falls, same_numbers, strict_is_order}
 use Rattle.bitpacking_c.specs.declared.list_view.ListView.{ListView}
-use Rattle.bitpacking_c.specs.Sets.{AreListsOf, HasLength, Intersects, IsInOrder, Lists, Writes, all_distinct, all_values, any_plain, is_plain, shortest_len, values_at}
+use Rattle.bitpacking_c.specs.Sets.{AreListsOf, HasLength, Intersects, IsInOrder, Lists, Subtracts, Writes, all_distinct, all_values, any_plain, first_len, is_plain, others_have, shortest_len, values_at, without_others}
 use Rattle.bitpacking_c.specs.Views.{IsListOf}
 
 -- ---- one list
@@ -253,3 +253,82 @@ unfolding shared_by_all
 intersects_none [] [] out are e = (λ short. absurd (omega (arith, short)), λ _. (refl, refl))
 intersects_none [] (list ∷ lists) out are e = absurd are
 intersects_none (view ∷ views) lists out are e = absurd (omega (arith, e))
+
+-- ---- what the first list has and no other
+
+pub left_members : (kept old rest all : List ℕ) → kept ≡ without old rest → rest ≡ distinct all → (v : ℕ) → has kept v ≡ (has old v && not (has all v))
+left_members kept old rest all is left v =
+    ap (λ xs. has xs v) is ∙ has-without old rest v ∙ ap (λ xs. has old v && not (has xs v)) left ∙ ap (λ b. has old v && not b) (has-distinct all v)
+
+and_not : (a b c : Bool) → ((a && not b) && not c) ≡ (a && not (b || c))
+and_not true true c = refl
+and_not true false c = refl
+and_not false b c = refl
+
+or_assoc : (a b c : Bool) → ((a || b) || c) ≡ (a || (b || c))
+or_assoc true b c = refl
+or_assoc false b c = refl
+
+or_false : (a : Bool) → (a || false) ≡ a
+or_false true = refl
+or_false false = refl
+
+any_has-more : (lists : List (List ℕ)) (i v : ℕ) → i < length lists
+    → any_has (take (suc i) lists) v ≡ (any_has (take i lists) v || has (get_or lists i []) v)
+any_has-more [] i v lt = absurd (omega (arith, lt))
+any_has-more (xs ∷ lists) zero v lt = or_false (has xs v)
+any_has-more (xs ∷ lists) (suc i) v lt =
+    ap (λ b. has xs v || b) (any_has-more lists i v (omega arith)) ∙ sym (or_assoc (has xs v) (any_has (take i lists) v) (has (get_or lists i []) v))
+
+others_have-more : (lists : List (List ℕ)) (i v : ℕ) → 1 ≤ i → i < length lists
+    → others_have (suc i) lists v ≡ (others_have i lists v || has (get_or lists i []) v)
+others_have-more lists zero v some lt = absurd (omega (arith, some))
+others_have-more [] (suc i) v some lt = absurd (omega (arith, lt))
+others_have-more (xs ∷ lists) (suc i) v some lt = any_has-more lists i v (omega arith)
+
+-- one list more
+pub left_more : (now before first : Bool) (lists : Lists) (i v : ℕ) → 1 ≤ i → i < length (all_values lists)
+    → now ≡ (before && not (has (values_at lists i) v)) → before ≡ (first && not (others_have i (all_values lists) v))
+    → now ≡ (first && not (others_have (i + 1) (all_values lists) v))
+left_more now before first lists i v some lt one so_far =
+    rw add-one
+    (one ∙ ap (λ b. b && not (has (values_at lists i) v)) so_far ∙ and_not first (others_have i (all_values lists) v) (has (values_at lists i) v)
+    ∙ ap (λ b. first && not b) (sym (others_have-more (all_values lists) i v some lt)))
+
+pub left_begin : (now first : Bool) (lists : List (List ℕ)) (v : ℕ) → now ≡ first → now ≡ (first && not (others_have 1 lists v))
+left_begin now true [] v e = e
+left_begin now false [] v e = e
+left_begin now true (xs ∷ lists) v e = e
+left_begin now false (xs ∷ lists) v e = e
+
+has-any_distinct : (lists : Lists) (v : ℕ) → any_has (all_distinct lists) v ≡ any_has (all_values lists) v
+has-any_distinct [] v = refl
+has-any_distinct (list ∷ lists) v = rw (has-distinct list.1 v, has-any_distinct lists v) refl
+
+pub all_left : (done : List ℕ) (views : List ListView) (lists : Lists) → AreListsOf views lists → All IsInOrder views → 0 < length views
+    → IsStrictlyIncreasing done
+    → ((v : ℕ) → has done v ≡ (has (values_at lists 0) v && not (others_have (length views) (all_values lists) v)))
+    → done ≡ without_others (all_distinct lists)
+unfolding without_others
+all_left done [] lists are ordered some increasing members = absurd (omega (arith, some))
+all_left done (view ∷ views) [] are ordered some increasing members = absurd are
+all_left done (view ∷ views) (list ∷ lists) are ordered some increasing members =
+    let rises = rising view.lanes view.bytes.now list.0 list.1 (ordered 0 view (omega arith) list.0 list.1 are.0) are.0 in
+    let whole : take (length views) (all_values lists) ≡ all_values lists = take_all (length views) (all_values lists) (omega (arith, count_of_values views lists are.1)) in
+    same_numbers done (filter (λ v. not (any_has (all_distinct lists) v)) (distinct list.1)) (IsIncreasing-from done increasing)
+    (IsIncreasing-filter (λ v. not (any_has (all_distinct lists) v)) (distinct list.1) rises)
+    (λ v. members v ∙ ap (λ xs. has list.1 v && not (any_has xs v)) whole
+    ∙ sym (has-filter (λ v. not (any_has (all_distinct lists) v)) (distinct list.1) v ∙ ap (λ b. b && not (any_has (all_distinct lists) v)) (has-distinct list.1 v)
+    ∙ ap (λ b. has list.1 v && not b) (has-any_distinct lists v)))
+
+pub first_length : (views : List ListView) (lists : Lists) (count : ℕ) → AreListsOf views lists → 0 < length views → HoldsAt (HasLength count) views 0
+    → first_len lists ≡ count
+first_length [] lists count are some long = absurd (omega (arith, some))
+first_length (view ∷ views) [] count are some long = absurd are
+first_length (view ∷ views) (list ∷ lists) count are some long = long view list.0 list.1 are.0
+
+pub subtracts_none : (views : List ListView) (lists : Lists) (out : List ℕ) → AreListsOf views lists → length views ≡ 0 → Subtracts lists out out (pos 0)
+unfolding without_others
+subtracts_none [] [] out are e = (λ short. absurd (omega (arith, short)), λ _. (refl, refl))
+subtracts_none [] (list ∷ lists) out are e = absurd are
+subtracts_none (view ∷ views) lists out are e = absurd (omega (arith, e))

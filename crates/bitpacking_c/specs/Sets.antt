@@ -1,10 +1,10 @@
 -- What the calls on many packed lists answer: the values that all have, that any has, or that the first has and no other.
-use Rattle.std.specs.Prelude.{◌≡◌, ◌≢◌, ℕ, ◌<◌, ◌≤◌, ℤ, pos, negsuc, min, Bool, true, false, ◌||◌, List, [], ◌∷◌, length, map, take}
-use Rattle.std.specs.List.{AllZip, slice_index_or}
+use Rattle.std.specs.Prelude.{◌≡◌, ◌≢◌, ℕ, zero, suc, not, ◌<◌, ◌≤◌, ℤ, pos, negsuc, min, Bool, true, false, ◌||◌, List, [], ◌∷◌, length, map, take}
+use Rattle.std.specs.List.{AllZip, filter, slice_index_or}
 use Rattle.bitpack_lists.specs.declared.list_kind.ListKind.{ListKind}
 use Rattle.bitpack_lists.specs.declared.list_kind.ListKind.TheVariants.{Plain, Sorted, StrictlySorted}
 use Rattle.bitpack_lists.specs.Distinct.{distinct}
-use Rattle.bitpack_lists.specs.Many.{shared_by_all}
+use Rattle.bitpack_lists.specs.Many.{any_has, shared_by_all}
 use Rattle.bitpacking_c.specs.declared.list_view.ListView.{ListView}
 use Rattle.bitpacking_c.specs.Views.{IsListOf}
 
@@ -56,6 +56,22 @@ shortest_len [] = 0
 shortest_len (list ∷ []) = length list.1
 shortest_len (list ∷ next ∷ lists) = min (length list.1) (shortest_len (next ∷ lists))
 
+-- the length of the first
+abbrev pub first_len : Lists → ℕ
+first_len [] = 0
+first_len (list ∷ lists) = length list.1
+
+-- whether one of so many lists has a number, but for the first
+abbrev pub others_have : ℕ → List (List ℕ) → ℕ → Bool
+others_have zero lists v = false
+others_have (suc others) [] v = false
+others_have (suc others) (xs ∷ lists) v = any_has (take others lists) v
+
+-- the numbers of the first that no other has
+unfoldable pub without_others : List (List ℕ) → List ℕ
+without_others [] = []
+without_others (xs ∷ lists) = filter (λ v. not (any_has lists v)) xs
+
 -- ---- answers
 
 -- the values were written to the front, and their number is the answer; or a list is plain and the answer is -23, or there is less room
@@ -69,3 +85,7 @@ Writes false room values before after answer =
 -- the values that all lists have, each once
 abbrev pub Intersects : Lists → List ℕ → List ℕ → ℤ → Type 0
 Intersects lists = Writes (any_plain lists) (shortest_len lists) (shared_by_all (all_distinct lists))
+
+-- the values that the first list has and no other, each once
+abbrev pub Subtracts : Lists → List ℕ → List ℕ → ℤ → Type 0
+Subtracts lists = Writes (any_plain lists) (first_len lists) (without_others (all_distinct lists))

@@ -3,7 +3,7 @@
 //! The caller's room is the work space. The values of one list are written to it, and each further list takes some away, or adds some,
 //! in their place.
 
-ghost use Rattle.std.specs.Prelude.{◌≡◌, ◌≢◌, ℕ, ◌<◌, ◌≤◌, ◌&&◌, false, true, List, None, All, length, slice_index, take};
+ghost use Rattle.std.specs.Prelude.{◌≡◌, ◌≢◌, ℕ, ◌<◌, ◌≤◌, ◌&&◌, not, false, true, List, None, All, length, slice_index, take};
 ghost use Rattle.std.specs.List.{HoldsAt};
 ghost use Rattle.std.specs.List.Sorted.{IsStrictlyIncreasing};
 ghost use Rattle.bitpack_lists.specs.declared.list_kind.ListKind.{ListKind};
@@ -12,13 +12,13 @@ ghost use Rattle.bitpack_lists.specs.Increasing.{has};
 ghost use Rattle.bitpack_lists.specs.Many.{all_have};
 ghost use Rattle.bitpack_lists.specs.Remaining.{remaining};
 ghost use Rattle.bitpack_lists.specs.Texts.{IsText, fault_of_either, version_in};
-ghost use Rattle.bitpacking_c.specs.Sets.{AreListsOf, FitsIn, HasLength, Intersects, IsInOrder, Lists, all_values, any_plain, shortest_len};
+ghost use Rattle.bitpacking_c.specs.Sets.{AreListsOf, FitsIn, HasLength, Intersects, IsInOrder, Lists, Subtracts, all_values, any_plain, others_have, shortest_len, values_at};
 ghost use Rattle.bitpacking_c.specs.Views.{IsListOf};
 
 use super::list_view::{ListView, bitpacking_list_len, kind};
 use bitpack_lists::ListKind;
 use bitpack_lists::list2::PackedList;
-use bitpack_lists::sorted::{DistinctValues, collect_to, intersect_in_place};
+use bitpack_lists::sorted::{DistinctValues, collect_to, intersect_in_place, subtract_in_place};
 use bitpacking::{BitPacker, BitPacker1x, BitPacker4x, BitPacker8x};
 
 /// Writes the values that all of the lists have to the front of `out`, each once and in increasing order, and answers their number.
@@ -55,6 +55,41 @@ fn intersect(views: &[ListView<'_>], shortest: usize, out: &mut [u32]) -> usize
         if index != shortest {
             kept = keep_shared(&views[index], &mut out[..kept]);
         }
+    }
+    kept
+}
+
+/// Writes the values of the first list that no other has to the front of `out`, each once and in increasing order, and answers their
+/// number. If a list is plain it answers -23, and if there is less room than the length of the first -3; then it writes nothing.
+#[unsafe(no_mangle)]
+pub extern "C" fn bitpacking_list_subtract(views: &[ListView<'_>], out: &mut [u32]) -> isize
+    ensures { (lists : Lists) → AreListsOf views.now lists → Subtracts lists out.old out.new result }
+{
+    if has_plain(views) {
+        return -23;
+    }
+    if views.is_empty() {
+        return 0;
+    }
+    if out.len() < bitpacking_list_len(&views[0]) {
+        return -3;
+    }
+    subtract(views, out) as isize
+}
+
+/// Writes what the first list has and no other. Returns how many values this is.
+fn subtract(views: &[ListView<'_>], out: &mut [u32]) -> usize
+    requires some { 0 < length views.now }
+    requires ordered { All IsInOrder views.now }
+    requires room { HoldsAt (FitsIn (length out.old)) views.now 0 }
+    ensures few { result ≤ length out.old }
+    ensures increasing { IsStrictlyIncreasing (take result out.new) }
+    ensures members { (lists : Lists) → AreListsOf views.now lists → (v : ℕ) → has (take result out.new) v
+        ≡ (has (values_at lists 0) v && not (others_have (length views.now) (all_values lists) v)) }
+{
+    let mut kept = copy_distinct(&views[0], out);
+    for index in 1..views.len() {
+        kept = keep_others(&views[index], &mut out[..kept]);
     }
     kept
 }
@@ -151,6 +186,36 @@ fn keep_shared(view: &ListView<'_>, values: &mut [u32]) -> usize
         4 => keep_shared_of(BitPacker4x::new(), view, values),
         _ => keep_shared_of(BitPacker8x::new(), view, values),
     }
+}
+
+/// Keeps the values that a list lacks, and returns how many these are.
+fn keep_others(view: &ListView<'_>, values: &mut [u32]) -> usize
+    requires ordered { IsInOrder view.now }
+    requires increasing { IsStrictlyIncreasing values.old }
+    ensures few { result ≤ length values.old }
+    ensures increasing { IsStrictlyIncreasing (take result values.new) }
+    ensures members { (kind : ListKind) (all : List ℕ) → IsListOf view.now.lanes view.now.bytes.now kind all
+        → (v : ℕ) → has (take result values.new) v ≡ (has values.old v && not (has all v)) }
+{
+    match view.lanes {
+        0 => values.len(),
+        1 => keep_others_of(BitPacker1x::new(), view, values),
+        4 => keep_others_of(BitPacker4x::new(), view, values),
+        _ => keep_others_of(BitPacker8x::new(), view, values),
+    }
+}
+
+/// Keeps the values that a list of a packer lacks.
+fn keep_others_of<P: BitPacker>(packer: P, view: &ListView<'_>, values: &mut [u32]) -> usize
+    requires lanes { view.now.lanes ≡ P.lanes }
+    requires ordered { IsInOrder view.now }
+    requires increasing { IsStrictlyIncreasing values.old }
+    ensures few { result ≤ length values.old }
+    ensures increasing { IsStrictlyIncreasing (take result values.new) }
+    ensures members { (kind : ListKind) (all : List ℕ) → IsListOf view.now.lanes view.now.bytes.now kind all
+        → (v : ℕ) → has (take result values.new) v ≡ (has values.old v && not (has all v)) }
+{
+    subtract_in_place(values, &mut distinct_of(packer, view))
 }
 
 /// Keeps the values that a list of a packer has too.
