@@ -1,6 +1,6 @@
 #!/usr/bin/env python3
 """Compiles and runs the C programs over the archive for each level of the processor: those of examples/, whose output is worked by hand,
-scripts/calls.c, and scripts/tables.c over the tables of vectors/. They are compiled as C99 with every warning an error and run with
+scripts/calls.c, and scripts/tables.c and sets.c over the tables of vectors/. They are compiled as C99 with every warning an error and run with
 little stack, and once more with the address sanitizer where the compiler has it; scripts/calls.c also as C++11 and C++17. It has to name
 every macro of the header. The archives are those that scripts/archives.py wrote, which is called where they are not there. The last line
 is 'N passed, M failed'; a part that is left out for want of a tool is named.
@@ -18,6 +18,7 @@ STRICT = ["-Wall", "-Wextra", "-Werror", "-pedantic", f"-I{ROOT}/include"]
 C99 = ["cc", "-std=c99", *STRICT]
 CALLS = "scripts/calls.c"
 TABLES = "scripts/tables.c"
+SETS = "scripts/sets.c"
 STACK = 256 << 10  # bytes; the sanitizer needs more
 SANITIZED = ["-fsanitize=address,undefined", "-fno-sanitize-recover=all"]
 # Gaps of 2 and 4 in turn: one less are 1 and 3, two bits each, and so 2 * 16 bytes for each block of 128.
@@ -30,8 +31,10 @@ PROGRAMS = {
     CALLS: "",
     # Each row of the tables that it is given.
     TABLES: "532 lists, 725 refusals\n",
+    # The lists of the tables that are in order: each alone, n ^ 2 pairs, and as many triples of 17 of them, by two calls.
+    SETS: "370 lists, 284366 combined\n",
 }
-VECTORS = ["lists2", "lists3", "refused2", "refused3"]
+VECTORS = {TABLES: ["lists2", "lists3", "refused2", "refused3"], SETS: ["lists2", "lists3"]}
 
 
 def works(command, **given):
@@ -98,7 +101,7 @@ def checks():
             leave_out(f"the C programs at the level {level}", "which this processor does not have")
             continue
         for program in PROGRAMS:
-            given = {"input": "".join(source(f"vectors/{table}.tsv") for table in VECTORS)} if program == TABLES else {}
+            given = {"input": "".join(source(f"vectors/{table}.tsv") for table in VECTORS[program])} if program in VECTORS else {}
             yield f"{program} at {level}", compiled_and_run(level, program, C99, preexec_fn=with_little_stack, **given)
             if sanitizers:
                 yield f"{program} at {level}, sanitized", compiled_and_run(level, program, [*C99, *SANITIZED], **given)
