@@ -12,12 +12,13 @@ use Rattle.bitpack_lists.specs.Distinct.{distinct}
 use Rattle.bitpack_lists.specs.DistinctLaws.{IsOrdered-from, increasing_distinct}
 use Rattle.bitpack_lists.specs.Increasing.{IsIncreasing, has, shared, without}
 use Rattle.bitpack_lists.specs.IncreasingLaws.{IsIncreasing-filter, IsIncreasing-from}
+use Rattle.bitpack_lists.specs.InFront.{AreInFront}
 use Rattle.bitpack_lists.specs.Many.{all_have, any_has, shared_by_all}
 use Rattle.bitpack_lists.specs.Texts.{IsText, version_in}
 use Rattle.bitpack_lists.specs.Version2.{first_out}
 use Rattle.bitpack_lists.proofs.ForCallers.{has-distinct, has-filter, has-shared, has-shared_by_all, has-without, neither_falls, same_numbers, strict_is_order}
 use Rattle.bitpacking_c.specs.declared.list_view.ListView.{ListView}
-use Rattle.bitpacking_c.specs.Sets.{AreListsOf, HasLength, Intersects, IsInOrder, Lists, Subtracts, Writes, all_distinct, all_values, any_plain, first_len, is_plain, others_have, shortest_len, values_at, without_others}
+use Rattle.bitpacking_c.specs.Sets.{AreListsOf, HasLength, Intersects, IsInOrder, Leaves, Lists, Subtracts, Writes, all_distinct, all_values, any_plain, first_len, is_plain, others_have, shortest_len, values_at, without_others}
 use Rattle.bitpacking_c.specs.Views.{IsListOf}
 
 -- ---- one list
@@ -39,9 +40,19 @@ length-distinct (x ∷ xs) =
     let rest = length-distinct xs in
     cond_both (has xs x) (distinct xs) (x ∷ distinct xs) (λ (ys : List ℕ). length ys ≤ length (x ∷ xs)) (λ _. omega (arith, rest)) (λ _. omega (arith, rest))
 
-pub kept_members : (kept old rest all : List ℕ) → kept ≡ shared old rest → rest ≡ distinct all → (v : ℕ) → has kept v ≡ (has old v && has all v)
+kept_members : (kept old rest all : List ℕ) → kept ≡ shared old rest → rest ≡ distinct all → (v : ℕ) → has kept v ≡ (has old v && has all v)
 kept_members kept old rest all is left v =
     ap (λ xs. has xs v) is ∙ has-shared old rest v ∙ ap (λ xs. has old v && has xs v) left ∙ ap (λ b. has old v && b) (has-distinct all v)
+
+-- a list that keeps what it has too
+pub leaves_shared : (view : ListView) (old rest after : List ℕ) (count : ℕ) → AreInFront count (shared old rest) after
+    → ((kind : ListKind) (all : List ℕ) → IsListOf view.lanes view.bytes.now kind all → rest ≡ distinct all)
+    → Leaves view (λ all v. has old v && has all v) after count
+leaves_shared view old rest after count front is = record {
+  few = front.few;
+  increasing = front.increasing;
+  members = λ kind all of v. kept_members (take count after) old rest all front.are (is kind all of) v;
+}
 
 -- what was written is all, if there was room
 pub written_all : (done rest old all : List ℕ) (room : ℕ) → done ++ rest ≡ old → old ≡ distinct all → length all ≤ room
@@ -256,9 +267,19 @@ intersects_none (view ∷ views) lists out are e = absurd (omega (arith, e))
 
 -- ---- what the first list has and no other
 
-pub left_members : (kept old rest all : List ℕ) → kept ≡ without old rest → rest ≡ distinct all → (v : ℕ) → has kept v ≡ (has old v && not (has all v))
+left_members : (kept old rest all : List ℕ) → kept ≡ without old rest → rest ≡ distinct all → (v : ℕ) → has kept v ≡ (has old v && not (has all v))
 left_members kept old rest all is left v =
     ap (λ xs. has xs v) is ∙ has-without old rest v ∙ ap (λ xs. has old v && not (has xs v)) left ∙ ap (λ b. has old v && not b) (has-distinct all v)
+
+-- a list that keeps what it lacks
+pub leaves_others : (view : ListView) (old rest after : List ℕ) (count : ℕ) → AreInFront count (without old rest) after
+    → ((kind : ListKind) (all : List ℕ) → IsListOf view.lanes view.bytes.now kind all → rest ≡ distinct all)
+    → Leaves view (λ all v. has old v && not (has all v)) after count
+leaves_others view old rest after count front is = record {
+  few = front.few;
+  increasing = front.increasing;
+  members = λ kind all of v. left_members (take count after) old rest all front.are (is kind all of) v;
+}
 
 and_not : (a b c : Bool) → ((a && not b) && not c) ≡ (a && not (b || c))
 and_not true true c = refl

@@ -1,9 +1,11 @@
 -- What the calls on many packed lists answer: the values that all have, that any has, or that the first has and no other.
 use Rattle.std.specs.Prelude.{◌≡◌, ◌≢◌, ℕ, zero, suc, not, ◌<◌, ◌≤◌, ℤ, pos, negsuc, min, Bool, true, false, ◌||◌, List, [], ◌∷◌, length, map, take}
 use Rattle.std.specs.List.{AllZip, filter, slice_index_or}
+use Rattle.std.specs.List.Sorted.{IsStrictlyIncreasing}
 use Rattle.bitpack_lists.specs.declared.list_kind.ListKind.{ListKind}
 use Rattle.bitpack_lists.specs.declared.list_kind.ListKind.TheVariants.{Plain, Sorted, StrictlySorted}
 use Rattle.bitpack_lists.specs.Distinct.{distinct}
+use Rattle.bitpack_lists.specs.Increasing.{has}
 use Rattle.bitpack_lists.specs.Many.{any_has, shared_by_all}
 use Rattle.bitpacking_c.specs.declared.list_view.ListView.{ListView}
 use Rattle.bitpacking_c.specs.Views.{IsListOf}
@@ -71,6 +73,12 @@ others_have (suc others) (xs ∷ lists) v = any_has (take others lists) v
 unfoldable pub without_others : List (List ℕ) → List ℕ
 without_others [] = []
 without_others (xs ∷ lists) = filter (λ v. not (any_has lists v)) xs
+
+-- so many values are in front and increase: those for which a test of the values of the view's list is true
+pub record Leaves (view : ListView) (test : List ℕ → ℕ → Bool) (after : List ℕ) (count : ℕ) : Type 0 where
+  pub few : count ≤ length after
+  pub increasing : IsStrictlyIncreasing (take count after)
+  pub members : (kind : ListKind) (all : List ℕ) → IsListOf view.lanes view.bytes.now kind all → (v : ℕ) → has (take count after) v ≡ test all v
 
 -- ---- answers
 

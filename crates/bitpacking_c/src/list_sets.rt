@@ -12,7 +12,7 @@ ghost use Rattle.bitpack_lists.specs.Increasing.{has};
 ghost use Rattle.bitpack_lists.specs.Many.{all_have};
 ghost use Rattle.bitpack_lists.specs.Remaining.{remaining};
 ghost use Rattle.bitpack_lists.specs.Texts.{IsText, fault_of_either, version_in};
-ghost use Rattle.bitpacking_c.specs.Sets.{AreListsOf, FitsIn, HasLength, Intersects, IsInOrder, Lists, Subtracts, all_values, any_plain, others_have, shortest_len, values_at};
+ghost use Rattle.bitpacking_c.specs.Sets.{AreListsOf, FitsIn, HasLength, Intersects, IsInOrder, Leaves, Lists, Subtracts, all_values, any_plain, others_have, shortest_len, values_at};
 ghost use Rattle.bitpacking_c.specs.Views.{IsListOf};
 
 use super::list_view::{ListView, bitpacking_list_len, kind};
@@ -139,12 +139,8 @@ fn distinct_of<'a, P: BitPacker>(packer: P, view: &ListView<'a>) -> DistinctValu
 
 /// Writes the values of a list, each once, and returns how many these are.
 fn copy_distinct(view: &ListView<'_>, out: &mut [u32]) -> usize
-    requires ordered { IsInOrder view.now }
-    requires room { FitsIn (length out.old) view.now }
-    ensures few { result ≤ length out.old }
-    ensures increasing { IsStrictlyIncreasing (take result out.new) }
-    ensures members { (kind : ListKind) (all : List ℕ) → IsListOf view.now.lanes view.now.bytes.now kind all
-        → (v : ℕ) → has (take result out.new) v ≡ has all v }
+    requires { IsInOrder view.now × FitsIn (length out.old) view.now }
+    ensures { Leaves view.now has out.new result }
 {
     match view.lanes {
         0 => 0,
@@ -157,12 +153,8 @@ fn copy_distinct(view: &ListView<'_>, out: &mut [u32]) -> usize
 /// Writes the values of a list of a packer. Those of a list that is strictly sorted are unpacked straight into their place.
 fn copy_distinct_of<P: BitPacker>(packer: P, view: &ListView<'_>, out: &mut [u32]) -> usize
     requires lanes { view.now.lanes ≡ P.lanes }
-    requires ordered { IsInOrder view.now }
-    requires room { FitsIn (length out.old) view.now }
-    ensures few { result ≤ length out.old }
-    ensures increasing { IsStrictlyIncreasing (take result out.new) }
-    ensures members { (kind : ListKind) (all : List ℕ) → IsListOf view.now.lanes view.now.bytes.now kind all
-        → (v : ℕ) → has (take result out.new) v ≡ has all v }
+    requires room { IsInOrder view.now × FitsIn (length out.old) view.now }
+    ensures { Leaves view.now has out.new result }
 {
     let list = PackedList::from_validated_any(packer, view.bytes);
     if list.kind() == ListKind::StrictlySorted {
@@ -173,60 +165,26 @@ fn copy_distinct_of<P: BitPacker>(packer: P, view: &ListView<'_>, out: &mut [u32
 
 /// Keeps the values that a list has too, and returns how many these are.
 fn keep_shared(view: &ListView<'_>, values: &mut [u32]) -> usize
-    requires ordered { IsInOrder view.now }
-    requires increasing { IsStrictlyIncreasing values.old }
-    ensures few { result ≤ length values.old }
-    ensures increasing { IsStrictlyIncreasing (take result values.new) }
-    ensures members { (kind : ListKind) (all : List ℕ) → IsListOf view.now.lanes view.now.bytes.now kind all
-        → (v : ℕ) → has (take result values.new) v ≡ (has values.old v && has all v) }
+    requires { IsInOrder view.now × IsStrictlyIncreasing values.old }
+    ensures { Leaves view.now (λ all v. has values.old v && has all v) values.new result }
 {
     match view.lanes {
         0 => 0,
-        1 => keep_shared_of(BitPacker1x::new(), view, values),
-        4 => keep_shared_of(BitPacker4x::new(), view, values),
-        _ => keep_shared_of(BitPacker8x::new(), view, values),
+        1 => intersect_in_place(values, &mut distinct_of(BitPacker1x::new(), view)),
+        4 => intersect_in_place(values, &mut distinct_of(BitPacker4x::new(), view)),
+        _ => intersect_in_place(values, &mut distinct_of(BitPacker8x::new(), view)),
     }
 }
 
 /// Keeps the values that a list lacks, and returns how many these are.
 fn keep_others(view: &ListView<'_>, values: &mut [u32]) -> usize
-    requires ordered { IsInOrder view.now }
-    requires increasing { IsStrictlyIncreasing values.old }
-    ensures few { result ≤ length values.old }
-    ensures increasing { IsStrictlyIncreasing (take result values.new) }
-    ensures members { (kind : ListKind) (all : List ℕ) → IsListOf view.now.lanes view.now.bytes.now kind all
-        → (v : ℕ) → has (take result values.new) v ≡ (has values.old v && not (has all v)) }
+    requires { IsInOrder view.now × IsStrictlyIncreasing values.old }
+    ensures { Leaves view.now (λ all v. has values.old v && not (has all v)) values.new result }
 {
     match view.lanes {
         0 => values.len(),
-        1 => keep_others_of(BitPacker1x::new(), view, values),
-        4 => keep_others_of(BitPacker4x::new(), view, values),
-        _ => keep_others_of(BitPacker8x::new(), view, values),
+        1 => subtract_in_place(values, &mut distinct_of(BitPacker1x::new(), view)),
+        4 => subtract_in_place(values, &mut distinct_of(BitPacker4x::new(), view)),
+        _ => subtract_in_place(values, &mut distinct_of(BitPacker8x::new(), view)),
     }
-}
-
-/// Keeps the values that a list of a packer lacks.
-fn keep_others_of<P: BitPacker>(packer: P, view: &ListView<'_>, values: &mut [u32]) -> usize
-    requires lanes { view.now.lanes ≡ P.lanes }
-    requires ordered { IsInOrder view.now }
-    requires increasing { IsStrictlyIncreasing values.old }
-    ensures few { result ≤ length values.old }
-    ensures increasing { IsStrictlyIncreasing (take result values.new) }
-    ensures members { (kind : ListKind) (all : List ℕ) → IsListOf view.now.lanes view.now.bytes.now kind all
-        → (v : ℕ) → has (take result values.new) v ≡ (has values.old v && not (has all v)) }
-{
-    subtract_in_place(values, &mut distinct_of(packer, view))
-}
-
-/// Keeps the values that a list of a packer has too.
-fn keep_shared_of<P: BitPacker>(packer: P, view: &ListView<'_>, values: &mut [u32]) -> usize
-    requires lanes { view.now.lanes ≡ P.lanes }
-    requires ordered { IsInOrder view.now }
-    requires increasing { IsStrictlyIncreasing values.old }
-    ensures few { result ≤ length values.old }
-    ensures increasing { IsStrictlyIncreasing (take result values.new) }
-    ensures members { (kind : ListKind) (all : List ℕ) → IsListOf view.now.lanes view.now.bytes.now kind all
-        → (v : ℕ) → has (take result values.new) v ≡ (has values.old v && has all v) }
-{
-    intersect_in_place(values, &mut distinct_of(packer, view))
 }

@@ -95,8 +95,8 @@ fn meet<A: SortedCursor, B: SortedCursor>(one: &mut A, other: &mut B) -> Option<
 /// Moves past values at hand that the two do not share, if it pays to merge these.
 #[inline(always)]
 fn pass_at_hand<A: SortedCursor, B: SortedCursor>(one: &mut A, other: &mut B)
-    ensures rest { shared (A.rest one.new) (B.rest other.new) ≡ shared (A.rest one.old) (B.rest other.old) }
-    ensures later { IsLater (A.rest one.old) (A.rest one.new) }
+    ensures { (shared (A.rest one.new) (B.rest other.new) ≡ shared (A.rest one.old) (B.rest other.old))
+        × IsLater (A.rest one.old) (A.rest one.new) }
 {
     let (target, ahead, other_ahead) = merge(one.at_hand(), other.at_hand());
     one.seek_ahead(target, ahead);

@@ -29,9 +29,8 @@ pub fn collect_into<C: SortedCursor>(cursor: &mut C, out: &mut Vec<u32>) -> Resu
 /// collect_to(&mut cursor, &mut page)      // 3, if the cursor is at 2, 3, 5, 7; then it is at 7
 /// ```
 pub fn collect_to<C: SortedCursor>(cursor: &mut C, out: &mut [u32]) -> usize
-    ensures few { result ≤ length out.old }
     ensures all { take result out.new ++ C.rest cursor.new ≡ C.rest cursor.old }
-    ensures rest { drop result out.new ≡ drop result out.old }
+    ensures rest { (result ≤ length out.old) × (drop result out.new ≡ drop result out.old) }
     ensures whole { length (C.rest cursor.old) ≤ length out.old → C.rest cursor.new ≡ [] }
 {
     let mut written = 0;

@@ -1,8 +1,9 @@
 //! The increasing values of a slice, combined with a cursor in their place.
 
-ghost use Rattle.std.specs.Prelude.{◌≡◌, ◌≤◌, IfSome, List, None, [], drop, length, take};
+ghost use Rattle.std.specs.Prelude.{◌≡◌, ◌≤◌, IfSome, List, None, [], drop, length};
 ghost use Rattle.std.specs.List.Sorted.{IsStrictlyIncreasing};
 ghost use Rattle.bitpack_lists.specs.Increasing.{shared, without};
+ghost use Rattle.bitpack_lists.specs.InFront.{AreInFront};
 ghost use Rattle.bitpack_lists.specs.inner.InPlace.{IsNextShared};
 
 use super::and::next_shared;
@@ -22,9 +23,7 @@ use super::sorted_cursor::SortedCursor;
 /// ```
 pub fn intersect_in_place<C: SortedCursor>(values: &mut [u32], cursor: &mut C) -> usize
     requires { IsStrictlyIncreasing values.old }
-    ensures few { result ≤ length values.old }
-    ensures shared { take result values.new ≡ shared values.old (C.rest cursor.old) }
-    ensures increasing { IsStrictlyIncreasing (take result values.new) }
+    ensures { AreInFront result (shared values.old (C.rest cursor.old)) values.new }
 {
     let mut kept = 0;
     let mut from = 0;
@@ -47,9 +46,7 @@ pub fn intersect_in_place<C: SortedCursor>(values: &mut [u32], cursor: &mut C) -
 /// ```
 pub fn subtract_in_place<C: SortedCursor>(values: &mut [u32], cursor: &mut C) -> usize
     requires { IsStrictlyIncreasing values.old }
-    ensures few { result ≤ length values.old }
-    ensures without { take result values.new ≡ without values.old (C.rest cursor.old) }
-    ensures increasing { IsStrictlyIncreasing (take result values.new) }
+    ensures { AreInFront result (without values.old (C.rest cursor.old)) values.new }
 {
     let mut kept = 0;
     for index in 0..values.len() {
@@ -64,11 +61,7 @@ pub fn subtract_in_place<C: SortedCursor>(values: &mut [u32], cursor: &mut C) ->
 
 /// The first index from one on whose value a cursor has too. Moves the cursor there.
 #[inline(always)]
-fn next_shared_from<C: SortedCursor>(
-    values: &[u32],
-    from: usize,
-    cursor: &mut C,
-) -> Option<usize>
+fn next_shared_from<C: SortedCursor>(values: &[u32], from: usize, cursor: &mut C) -> Option<usize>
     requires within { from ≤ length values.now }
     requires increasing { IsStrictlyIncreasing (drop from values.now) }
     ensures none { result ≡ None → shared (drop from values.now) (C.rest cursor.old) ≡ [] }

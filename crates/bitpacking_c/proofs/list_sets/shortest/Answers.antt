@@ -15,7 +15,7 @@ loop-index-preserved c =
     let here : get_or views i view ≡ view = search rules in
     let there : (d : ListView) → get_or views i d ≡ view = λ d. get_or_default views i d view c.loop-index-test.true ∙ here in
     let len : (lists : Lists) → AreListsOf views lists → c.bitpacking_list_len-len.result ≡ length (values_at lists i) =
-        λ lists are. c.bitpacking_list_len-len.ensures (kind_at lists i) (values_at lists i) (list_at views lists i view are c.loop-index-test.true here) in
+    λ lists are. c.bitpacking_list_len-len.ensures (kind_at lists i) (values_at lists i) (list_at views lists i view are c.loop-index-test.true here) in
     elim c.if-len-least.branch [
       | then-len-least w ↦
           rw (w.shortest-is, w.least-is)

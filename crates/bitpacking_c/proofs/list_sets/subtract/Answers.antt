@@ -6,15 +6,15 @@ use Rattle.bitpacking_c.specs.Sets.{AreListsOf, Lists, all_values, others_have, 
 use Rattle.bitpacking_c.proofs.SetSteps.{count_of_values, kind_at, left_begin, left_more, list_at}
 use Rattle.bitpacking_c.proofs.list_sets.subtract.Goals as goal
 
-pub copy_distinct-kept-requires-clause-room : goal.copy_distinct-kept-requires-clause-room
-copy_distinct-kept-requires-clause-room c =
+pub copy_distinct-kept-requires : goal.copy_distinct-kept-requires
+copy_distinct-kept-requires c =
     let view = c.index-views-0.result in
     let here : get_or c.args.views.now 0 view ≡ view = search rules in
-    rw here at (c.requires.room view)
+    (rw here at (c.requires.ordered 0 view c.requires.some), rw here at (c.requires.room view))
 
 pub loop-index-init : goal.loop-index-init
 loop-index-init c = record {
-  few = omega (arith, c.copy_distinct-kept.ensures.few, c.copy_distinct-kept.auto.out);
+  few = c.copy_distinct-kept.ensures.few;
   increasing = c.copy_distinct-kept.ensures.increasing;
   members = λ lists are v.
       let view = c.index-views-0.result in
@@ -34,13 +34,13 @@ loop-index-preserved c =
     let view = c.index-views-index.result in
     let here : get_or views i view ≡ view = search rules in
     let front : take called.result (called.new.values ++ drop kept out) ≡ take called.result called.new.values =
-        take-append-le called.result called.new.values (drop kept out) (omega (arith, called.ensures.few, called.auto.values)) in
+    take-append-le called.result called.new.values (drop kept out) (omega (arith, called.ensures.few, called.auto.values)) in
     record {
       few = omega (arith, length-append called.new.values (drop kept out), called.ensures.few, called.auto.values);
       increasing = rw front called.ensures.increasing;
       members = λ lists are v.
           let within : i < length (all_values lists) =
-              let count = count_of_values views lists are in omega (arith, count, c.loop-index-test.true) in
+          let count = count_of_values views lists are in omega (arith, count, c.loop-index-test.true) in
           left_more _ (has (take kept out) v) (has (values_at lists 0) v) lists i v c.loop-index.auto.index within
           (ap (λ xs. has xs v) front
           ∙ called.ensures.members (kind_at lists i) (values_at lists i) (list_at views lists i view are c.loop-index-test.true here) v)

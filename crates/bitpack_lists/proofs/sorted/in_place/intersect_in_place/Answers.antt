@@ -1,5 +1,5 @@
 -- Each turn moves one value to the front, which is behind the values to come.
-use Rattle.std.proofs.Common.{◌+◌, ◌<◌, ℕ, List, ◌++◌, drop, length, set, slice_index, take, refl, sym, ◌∙◌, ap, arith}
+use Rattle.std.proofs.Common.{◌≡◌, ◌+◌, ◌<◌, ℕ, List, ◌++◌, drop, length, set, slice_index, take, refl, sym, ◌∙◌, ap, arith}
 use Rattle.std.proofs.lemmas.List.{length-set}
 use Rattle.bitpack_lists.specs.Increasing.{shared}
 use Rattle.bitpack_lists.specs.IncreasingLaws.{IsIncreasing-from, increasing_shared}
@@ -26,10 +26,16 @@ loop-index-preserved g c =
           ∙ c.loop-index.invariant.all;
     }
 
-pub returns-clause-increasing : goal.returns-clause-increasing
-returns-clause-increasing g c =
+pub returns : goal.returns
+returns g c =
     let values = c.args.values.now in
     let rest = g.C.SortedCursor.rest c.args.cursor.now in
-    increasing_done (take c.loop-index.kept c.loop-index.values) (shared values rest)
-    (increasing_shared values rest (IsIncreasing-from values c.requires))
-    (none_left (take c.loop-index.kept c.loop-index.values) _ (shared values rest) c.loop-index.invariant.all (c.in_default.ensures.none refl))
+    let left = c.loop-index.invariant in
+    let front : take c.loop-index.kept c.loop-index.values ≡ shared values rest =
+    none_left (take c.loop-index.kept c.loop-index.values) _ (shared values rest) left.all (c.in_default.ensures.none refl) in
+    record {
+      few = omega (arith, left.few, left.within);
+      are = front;
+      increasing = increasing_done (take c.loop-index.kept c.loop-index.values) (shared values rest)
+          (increasing_shared values rest (IsIncreasing-from values c.requires)) front;
+    }

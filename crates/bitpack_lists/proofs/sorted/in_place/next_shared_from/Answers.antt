@@ -10,7 +10,7 @@ returns-in-Some-clause-some g c =
     let values = c.args.values.now in
     let begun : c.new-ahead.result.values.now ≡ drop c.args.from values = c.new-ahead.ensures ∙ from_index c.args.from values in
     let place : IsShared (Some c.in-Some._value) c.next_shared.new.one.values.now (g.C.SortedCursor.rest c.next_shared.new.other) =
-        rw c.in-Some.is at c.next_shared.ensures.value in
+    rw c.in-Some.is at c.next_shared.ensures.value in
     next_some values c.args.from c.new-ahead.result.values.now (g.C.SortedCursor.rest c.args.cursor.now) c.next_shared.new.one.values.now
     (g.C.SortedCursor.rest c.next_shared.new.other) begun c.next_shared.ensures.rest c.next_shared.ensures.later c.in-Some._value place
     (length values - c.len.result) (ap (λ n. length values - n) c.len.ensures)

@@ -46,17 +46,16 @@ loop-index-preserved g c =
 ended : (values ys : List ℕ) (index : ℕ) → length values ≤ index → without (drop index values) ys ≡ []
 ended values ys index all = ap (λ xs. without xs ys) (drop_all index values all) ∙ without-nil ys
 
-pub returns-clause-without : goal.returns-clause-without
-returns-clause-without g c =
-    let values : List ℕ = c.loop-index.values in
-    none_left (take c.loop-index.kept values) _ (without c.args.values.now (g.C.SortedCursor.rest c.args.cursor.now)) c.loop-index.invariant.all
-    (ended values (g.C.SortedCursor.rest c.loop-index.cursor) c.loop-index.index (omega (arith, c.loop-index-test.false, c.loop-index.auto.values)))
-
-pub returns-clause-increasing : goal.returns-clause-increasing
-returns-clause-increasing g c =
+pub returns : goal.returns
+returns g c =
     let values : List ℕ = c.loop-index.values in
     let old = c.args.values.now in
     let others = g.C.SortedCursor.rest c.args.cursor.now in
-    increasing_done (take c.loop-index.kept values) (without old others) (increasing_without old others (IsIncreasing-from old c.requires))
-    (none_left (take c.loop-index.kept values) _ (without old others) c.loop-index.invariant.all
-    (ended values (g.C.SortedCursor.rest c.loop-index.cursor) c.loop-index.index (omega (arith, c.loop-index-test.false, c.loop-index.auto.values))))
+    let front : take c.loop-index.kept values ≡ without old others =
+    none_left (take c.loop-index.kept values) _ (without old others) c.loop-index.invariant.all
+    (ended values (g.C.SortedCursor.rest c.loop-index.cursor) c.loop-index.index (omega (arith, c.loop-index-test.false, c.loop-index.auto.values))) in
+    record {
+      few = omega (arith, c.loop-index.invariant.few, c.loop-index.auto.index-end, c.loop-index.auto.values);
+      are = front;
+      increasing = increasing_done (take c.loop-index.kept values) (without old others) (increasing_without old others (IsIncreasing-from old c.requires)) front;
+    }
