@@ -387,6 +387,19 @@ static inline const char *bitpacking_error_text(ptrdiff_t number)
     }
 }
 
+/* The values of any number of views, of any packers and versions, each value once and in increasing order. They go to the front of
+ * out, and their number is returned; without views it is 0. A view may be there twice. The lists have to be sorted or strictly sorted.
+ *
+ * BITPACKING_LIST_BAD_KIND: one of the lists is plain, or is BITPACKING_LIST_EMPTY or all zero, which is plain too.
+ * BITPACKING_SHORT: there is less room than is always enough, even if the values themselves would fit.
+ * Then nothing is written. Else any value of out may have changed, as out is also the work space: keep nothing there. */
+
+/* The values that all lists have. Room that is always enough: the length of the shortest list. */
+ptrdiff_t bitpacking_list_intersect(const bitpacking_list *views, size_t views_len, uint32_t *out, size_t out_len);
+
+/* The values of the first list that no other has. Room that is always enough: the length of the first list. */
+ptrdiff_t bitpacking_list_subtract(const bitpacking_list *views, size_t views_len, uint32_t *out, size_t out_len);
+
 #ifdef __cplusplus
 }
 #endif

@@ -1,6 +1,6 @@
 #!/usr/bin/env python3
 """Compiles and runs the C programs over the archive for all levels of the processor and the archive of each level: those of examples/,
-whose output is worked by hand, scripts/calls.c, list_calls.c and cursor.c, and scripts/tables.c over the tables of vectors/. They are
+whose output is worked by hand, scripts/calls.c, list_calls.c and cursor.c, and scripts/tables.c and sets.c over the tables of vectors/. They are
 compiled as C99 with every warning an error and run with little stack, and once more with the address sanitizer if the compiler has it. The
 two programs of calls are also compiled as C++11 and C++17, without a cast of C in the header; scripts/calls.c also runs over the archive for
 all levels on a processor of each level that qemu gives. It has to name every macro of the header. The archives are those that
@@ -23,6 +23,7 @@ C99 = ["cc", "-std=c99", *STRICT]
 CALLS = "scripts/calls.c"
 LIST_CALLS = "scripts/list_calls.c"
 TABLES = "scripts/tables.c"
+SETS = "scripts/sets.c"
 STACK = 256 << 10  # bytes; the sanitizer needs more
 SANITIZED = ["-fsanitize=address,undefined", "-fno-sanitize-recover=all"]
 # The index of the documents 1 to 1000, by hand: 500, 333 and 200 numbers. The codes of the lists are gaps less one: 1 of even (of its
@@ -50,8 +51,10 @@ PROGRAMS = {
     LIST_CALLS: "",
     # Each row of the tables that it is given.
     TABLES: "532 lists, 725 refusals\n",
+    # The lists of the tables that are in order: each alone, n ^ 2 pairs, and as many triples of 17 of them, by two calls.
+    SETS: "370 lists, 284366 combined\n",
 }
-VECTORS = ["lists2", "lists3", "refused2", "refused3"]
+VECTORS = {TABLES: ["lists2", "lists3", "refused2", "refused3"], SETS: ["lists2", "lists3"]}
 
 
 def works(command, **given):
@@ -84,7 +87,7 @@ def places():
 
 def given(program):
     """What a program reads."""
-    return {"input": "".join(source(f"vectors/{table}.tsv") for table in VECTORS)} if program == TABLES else {}
+    return {"input": "".join(source(f"vectors/{table}.tsv") for table in VECTORS[program])} if program in VECTORS else {}
 
 
 def compiled_and_run(archive, path, command, **more):

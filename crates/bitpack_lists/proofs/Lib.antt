@@ -20,6 +20,7 @@ mod GroupLaws
 mod GroupLemmas
 mod GroupSteps
 mod HeaderLemmas
+mod InPlaceSteps
 mod KindFaults
 mod ListLemmas
 mod LooseLemmas

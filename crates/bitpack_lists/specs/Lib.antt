@@ -8,6 +8,7 @@ pub mod Fronts
 pub mod Groups
 pub mod Increasing
 pub mod IncreasingLaws
+pub mod InFront
 pub mod inner
 pub mod Intersections
 pub mod Laws

@@ -1,3 +1,4 @@
 pub mod ChainLengths
 pub mod CursorPlaces
 pub mod PackLemmas
+pub mod SetSteps

@@ -14,6 +14,7 @@ mod cursor_calls;
 mod list_blocks;
 mod list_cursor;
 mod list_packing;
+mod list_sets;
 mod list_view;
 mod no_initial;
 mod version;
