@@ -254,10 +254,61 @@ int32_t bitpacking_list_get(const bitpacking_list *view, size_t position, uint32
  * writes nothing. Values after those of the list stay as they were. Each block is unpacked once. */
 ptrdiff_t bitpacking_list_unpack(const bitpacking_list *view, uint32_t *values, size_t values_len);
 
+/* Unpacks the values from position `from` on, as many as there are and as fit, and returns how many these are: 0 from the length on. Values
+ * after them stay as they were. Each block that has one of them is unpacked once, and no other. */
+ptrdiff_t bitpacking_list_range(const bitpacking_list *view, size_t from, uint32_t *values, size_t values_len);
+
 /* Searches a sorted or strictly sorted list for the first value that is at least target. Writes its position, the value, and
  * returns 1. If every value is below the target it returns 0, and for a plain list BITPACKING_LIST_BAD_KIND; then nothing is
  * written. It reads at most as many entries as the count of whole blocks has binary digits, and unpacks one block at most. */
 int32_t bitpacking_list_seek(const bitpacking_list *view, uint32_t target, size_t *position, uint32_t *item);
+
+/* A place in an opened list that only moves forward. It has the values of the block at hand, and no memory of its own.
+ *
+ * All of a cursor is set to zero before anything else: it is then at the end of an empty list. bitpacking_cursor_start sets it to the first
+ * value of a view, as often as one likes. The caller keeps the bytes of the list where they are, unchanged, for as long as the cursor is
+ * used; the view may go. A cursor may be copied, and the copy moves on its own. Only the functions below may write the fields. Each of them
+ * unpacks one block at most.
+ *
+ *     bitpacking_cursor cursor = {0};
+ *     uint32_t value;
+ *     for (bitpacking_cursor_start(&cursor, &list); bitpacking_cursor_value(&cursor, &value); bitpacking_cursor_advance(&cursor)) ...
+ */
+typedef struct bitpacking_cursor {
+    bitpacking_list list;
+    size_t block;
+    size_t index;
+    size_t len;
+    uint32_t values[BITPACKING_MAX_BLOCK_LEN];
+    uint8_t ordered;
+} bitpacking_cursor;
+
+/* Sets a cursor to the first value of an opened list. The view is not the one in the cursor. */
+void bitpacking_cursor_start(bitpacking_cursor *cursor, const bitpacking_list *view);
+
+/* Writes the value at a cursor, and returns 1. After the last value it returns 0 and writes nothing. */
+int32_t bitpacking_cursor_value(const bitpacking_cursor *cursor, uint32_t *item);
+
+/* How many values are before a cursor. */
+size_t bitpacking_cursor_position(const bitpacking_cursor *cursor);
+
+/* Moves to the next value. Returns 1 if there is a value at the new place, and else 0. After the last value it stays. */
+int32_t bitpacking_cursor_advance(bitpacking_cursor *cursor);
+
+/* Moves a cursor of a sorted or strictly sorted list to the first value from its place on that is at least target, and returns 1. If there
+ * is none it moves to the end and returns 0. In a plain list it stays, and returns BITPACKING_LIST_BAD_KIND. */
+int32_t bitpacking_cursor_seek(bitpacking_cursor *cursor, uint32_t target);
+
+/* Points *values at the values from here to the end of the block at hand, and returns how many these are: 0 only after the last value.
+ * They are in the cursor, and stay until it moves. It is the one function that the archive does not have. */
+static inline size_t bitpacking_cursor_block(const bitpacking_cursor *cursor, const uint32_t **values)
+{
+    *values = cursor->values + cursor->index;
+    return cursor->len - cursor->index;
+}
+
+/* Moves past the values of bitpacking_cursor_block, to the next block. */
+void bitpacking_cursor_skip_block(bitpacking_cursor *cursor);
 
 #ifdef __cplusplus
 }

@@ -1,17 +1,20 @@
 #!/usr/bin/env python3
-"""Compiles and runs the C programs over the archive for each level of the processor: those of examples/, whose output is worked by hand,
-scripts/calls.c, and scripts/tables.c over the tables of vectors/. They are compiled as C99 with every warning an error and run with
-little stack, and once more with the address sanitizer where the compiler has it; scripts/calls.c also as C++11 and C++17. It has to name
-every macro of the header. The archives are those that scripts/archives.py wrote, which is called where they are not there. The last line
-is 'N passed, M failed'; a part that is left out for want of a tool is named.
+"""Compiles and runs the C programs over the archive for all levels of the processor and that for each level: those of examples/, whose
+output is worked by hand, scripts/calls.c, scripts/cursor.c, and scripts/tables.c over the tables of vectors/. They are compiled as C99 with every warning an
+error and run with little stack, and once more with the address sanitizer where the compiler has it; scripts/calls.c also as C++11 and C++17,
+and over the archive for all levels on a processor of each level that qemu gives.
+It has to name every macro of the header. The archives are those that scripts/archives.py wrote, which is called where they are not there.
+The last line is 'N passed, M failed'; a part that is left out for want of a tool is named.
 """
 import re
 import resource
 import shutil
+import subprocess
 import sys
 import tempfile
 
 import archives
+import levels
 from common import ROOT, leave_out, report, run, source
 
 STRICT = ["-Wall", "-Wextra", "-Werror", "-pedantic", f"-I{ROOT}/include"]
@@ -20,6 +23,18 @@ CALLS = "scripts/calls.c"
 TABLES = "scripts/tables.c"
 STACK = 256 << 10  # bytes; the sanitizer needs more
 SANITIZED = ["-fsanitize=address,undefined", "-fno-sanitize-recover=all"]
+# The index of the documents 1 to 1000, by hand: 500, 333 and 200 numbers. The codes of the lists are gaps less one: 1 of even (of its
+# first block up to 2), 2 of fizz, 4 of buzz, 29 of the multiples of 30; and up to 2, 3 and 5 of the others. With the widths 2, 1 and 1,
+# the text of even has a header of 3 bytes, 3 entries of 9, 16 * 4 bytes of blocks, and 116 codes in 4 groups of 5, 5, 5 and 4: 113 bytes.
+# In this way fizz has 108 bytes, and buzz 90.
+INDEX = """\
+3 words in 311 bytes
+fizz AND buzz AND even: 33 documents in 24 bytes, [30, 60, 90, 120] ..
+fizz OR buzz: 467 documents in 150 bytes, [3, 5, 6, 9] ..
+even NOT fizz: 334 documents in 108 bytes, [2, 4, 8, 10] ..
+(fizz OR buzz) NOT even: 234 documents in 104 bytes, [3, 5, 9, 15] ..
+fizz AND odd: 0 documents in 1 bytes, [] ..
+"""
 # Gaps of 2 and 4 in turn: one less are 1 and 3, two bits each, and so 2 * 16 bytes for each block of 128.
 PROGRAMS = {
     # Gaps of 3: two bits each, and so 2 * 16 bytes.
@@ -27,7 +42,9 @@ PROGRAMS = {
     "examples/posting_list.c": "300 numbers: 2 and 2 bits, 64 bytes, 44 numbers as they are\n",
     # A header of 7 bytes, 2 entries of 9, those blocks, and 44 numbers of 4 bytes; the last number is 3 * 299 + 1.
     "examples/packed_list.c": "300 numbers in 265 bytes, the last 898\nthe first from 500 on is 502, at position 167\n",
+    "examples/index.c": INDEX,
     CALLS: "",
+    "scripts/cursor.c": "",
     # Each row of the tables that it is given.
     TABLES: "532 lists, 725 refusals\n",
 }
@@ -38,17 +55,6 @@ def works(command, **given):
     """Whether a command ends with status 0, and what it prints."""
     done = run(*command, **given)
     return done.returncode == 0, done.stdout
-
-
-def runs_here(level):
-    """Whether this processor has a level, as the C compiler's own test says."""
-    if level == "x86-64":
-        return True
-    with tempfile.TemporaryDirectory(prefix="c-") as folder:
-        source, program = f"{folder}/level.c", f"{folder}/level"
-        with open(source, "w", encoding="ascii") as file:
-            file.write(f'int main(void) {{ __builtin_cpu_init(); return !__builtin_cpu_supports("{level}"); }}\n')
-        return works(["cc", source, "-o", program])[0] and works([program])[0]
 
 
 def has_sanitizers():
@@ -63,16 +69,44 @@ def with_little_stack():
     resource.setrlimit(resource.RLIMIT_STACK, (STACK, STACK))
 
 
-def compiled_and_run(level, source, command, **given):
-    """What is wrong with a program at a level, or None. The command is that of the compiler."""
-    archive = f"{archives.OUT}/{level}/libbitpacking_c.a"
+def places():
+    """The archives that this processor runs: a name and a path of each."""
+    yield "all levels", f"{archives.OUT}/{archives.ALL}"
+    for level in archives.LEVELS.values():
+        if level == "x86-64" or levels.supports(level):
+            yield level, archives.archive(level)
+        else:
+            leave_out(f"the C programs at the level {level}", "which this processor does not have")
+
+
+def given(program):
+    """What a program reads."""
+    return {"input": "".join(source(f"vectors/{table}.tsv") for table in VECTORS)} if program == TABLES else {}
+
+
+def compiled_and_run(archive, path, command, **more):
+    """What is wrong with a program over an archive, or None. The command is that of the compiler."""
     with tempfile.TemporaryDirectory(prefix="c-") as folder:
         program = f"{folder}/program"
-        right, text = works([*command, f"{ROOT}/{source}", "-x", "none", archive, "-o", program])
+        right, text = works([*command, f"{ROOT}/{path}", "-x", "none", archive, "-o", program])
         if not right:
             return text
-        right, text = works([program], **given)
-        return None if right and text == PROGRAMS[source] else f"it failed, and printed {text[:2000]}"
+        right, text = works([program], **given(path), **more)
+        return None if right and text == PROGRAMS[path] else f"it failed, and printed {text[:2000]}"
+
+
+def on_other_processors():
+    """scripts/calls.c over the archive for all levels, on a processor of each level: each as a name and what is wrong, or None."""
+    if not shutil.which(levels.OTHERS):
+        leave_out(f"{CALLS} on other processors", f"since there is no {levels.OTHERS} (Debian: qemu-user-static)")
+        return
+    with tempfile.TemporaryDirectory(prefix="c-") as folder:
+        program = f"{folder}/program"
+        right, text = works([*C99, "-static", f"{ROOT}/{CALLS}", f"{archives.OUT}/{archives.ALL}", "-o", program])
+        for processor in levels.ONE_OF_EACH:
+            done = run(levels.OTHERS, "-cpu", processor, program, stderr=subprocess.DEVNULL) if right else None
+            wrong = f"it ended with {done.returncode}, and printed {done.stdout[:2000]}" if right and done.returncode else None
+            yield f"{CALLS} on {processor}", wrong if right else text
 
 
 def macros_not_named():
@@ -93,18 +127,15 @@ def checks():
         leave_out("the C programs under the address sanitizer", "which cc does not have here")
     if not in_cpp:
         leave_out(f"{CALLS} as C++", "since there is no c++")
-    for level in archives.LEVELS.values():
-        if not runs_here(level):
-            leave_out(f"the C programs at the level {level}", "which this processor does not have")
-            continue
+    for level, archive in places():
         for program in PROGRAMS:
-            given = {"input": "".join(source(f"vectors/{table}.tsv") for table in VECTORS)} if program == TABLES else {}
-            yield f"{program} at {level}", compiled_and_run(level, program, C99, preexec_fn=with_little_stack, **given)
+            yield f"{program} at {level}", compiled_and_run(archive, program, C99, preexec_fn=with_little_stack)
             if sanitizers:
-                yield f"{program} at {level}, sanitized", compiled_and_run(level, program, [*C99, *SANITIZED], **given)
+                yield f"{program} at {level}, sanitized", compiled_and_run(archive, program, [*C99, *SANITIZED])
         for standard in ["c++11", "c++17"] if in_cpp else []:
             command = ["c++", f"-std={standard}", *STRICT, "-x", "c++"]
-            yield f"{CALLS} as {standard} at {level}", compiled_and_run(level, CALLS, command)
+            yield f"{CALLS} as {standard} at {level}", compiled_and_run(archive, CALLS, command)
+    yield from on_other_processors()
 
 
 def main():

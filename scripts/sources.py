@@ -12,7 +12,8 @@
   width have one for each from 0 to 31.
 - The program's packers `4s` and `8s` are those that `scalar` gives; `bitpacking_c` names no `scalar`; `bitpack_lists` makes no packer but
   the one for groups, and else takes the one that it is given.
-- The Rust crate asks for the features of each level, has the functions of each level in its table, and takes the best level.
+- The Rust crate asks for the features of each level, has the functions of each level in its table, and those of the one level of another
+  processor, and takes the best level.
 - Of `bitpack_lists`, a function that makes a `Reads` has a mark, `// Reads bytes: ..`. So has a function below list2 that reads a number
   or unpacks a block from bytes, or tests a text, and one that sees the bytes or the packer of an opened list, or makes a cursor; and one
   that tests a text of version 3. The
@@ -59,7 +60,7 @@ CHOICE = {
         "&LEVELS[..1 + usize::from(v2) + usize::from(v3)]",
         "BEST.get_or_init(|| &levels()[levels().len() - 1])",
     ],
-    "rust/src/packers.rs": ["$name(&best().$calls)"],
+    "rust/src/packers.rs": ["fn calls() -> &'static Calls { &best().$calls }"],
 }
 LISTS = "crates/bitpack_lists/src"
 GROUPS = (f"{LISTS}/list3/group.rt", "BitPacker1x")
@@ -223,8 +224,10 @@ def packers():
 
 def levels():
     text = text_of(CALLS_OF_RUST)
-    right = [(name, f"v{level}_bitpacking_{lanes}x_") for level in [1, 2, 3] for name, lanes in [("one", 1), ("four", 4), ("eight", 8)]]
-    if re.findall(r'\b(\w+): calls!\("(\w+)"\)', text) != right:
+    packers = [("one", "calls", "1x_"), ("four", "calls", "4x_"), ("eight", "calls", "8x_"), ("lists", "lists", "")]
+    levels = ["v1_", "v2_", "v3_", ""]
+    right = [(name, macro, f"{level}bitpacking_{lanes}") for level in levels for name, macro, lanes in packers]
+    if re.findall(r'\b(\w+): (\w+)!\("(\w+)"\)', text) != right:
         yield f"{CALLS_OF_RUST}: the tables are not {right}"
     for level, features in FEATURES.items():
         asked = re.findall(rf"fn added_by_{level}\(\)[^{{]*{{\s*detected!\(([^)]*)\)", text)

@@ -14,10 +14,15 @@
 //! packer.decompress_sorted(0, &bytes, &mut unpacked, width);
 //! assert_eq!(unpacked, documents);
 //! ```
+//!
+//! 0.9.3 has neither lists nor chains. A list of any length is one text of bytes, in which values are found without unpacking all
+//! of it: the module [`list`]. Many blocks in one call are a [`chain`].
 #![deny(unsafe_op_in_unsafe_fn)]
 #![warn(missing_docs)]
 
 mod calls;
+pub mod chain;
+pub mod list;
 mod packers;
 #[cfg(test)]
 mod tests;
@@ -31,7 +36,7 @@ pub trait BitPacker: Sized + Clone + Copy {
     /// How many values a block has.
     const BLOCK_LEN: usize;
 
-    /// The packer with the fastest code that this processor can run. It takes no memory.
+    /// The packer. Its calls take the fastest code that this processor can run.
     fn new() -> Self;
 
     /// Packs a block at `num_bits` bits per value and returns the number of bytes written.
@@ -137,3 +142,6 @@ pub trait Pack: BitPacker {
     /// As `pack`.
     fn pack_strictly_sorted(&self, initial: Option<u32>, decompressed: &[u32], compressed: &mut [u8]) -> (usize, u8);
 }
+
+/// A packer of this crate, which packs chains and lists too. No other type can be one.
+pub trait Packer: Pack + packers::Table {}

@@ -1,10 +1,16 @@
-//! The packers: a table of functions each, and the panics of the calls.
+//! The packers: each call finds its function in the table of the best level, and panics as the Rust crate does.
 
 use crate::calls::{best, Answer, Calls, Fault};
-use crate::{BitPacker, Pack};
+use crate::{BitPacker, Pack, Packer};
+
+/// The functions of a packer. Users cannot name this trait, so that no other type is a `Packer`.
+pub trait Table {
+    /// The functions for this processor.
+    fn calls() -> &'static Calls;
+}
 
 /// The initial value that means none, by a law of the proved code.
-fn number(initial: Option<u32>) -> u32 {
+pub(crate) fn number(initial: Option<u32>) -> u32 {
     initial.unwrap_or(u32::MAX)
 }
 
@@ -69,26 +75,35 @@ fn packed_size(answer: Answer, compressed: usize, block_len: usize) -> usize {
 macro_rules! packer {
     ($name:ident, $block_len:literal, $calls:ident, $doc:literal) => {
         #[doc = $doc]
-        #[derive(Clone, Copy)]
-        pub struct $name(pub(crate) &'static Calls);
+        #[derive(Clone, Copy, Debug)]
+        pub struct $name;
+
+        impl Table for $name {
+            #[inline]
+            fn calls() -> &'static Calls {
+                &best().$calls
+            }
+        }
+
+        impl Packer for $name {}
 
         impl BitPacker for $name {
             const BLOCK_LEN: usize = $block_len;
 
             #[inline]
             fn new() -> Self {
-                $name(&best().$calls)
+                $name
             }
 
             #[inline]
             fn compress(&self, decompressed: &[u32], compressed: &mut [u8], num_bits: u8) -> usize {
-                let answer = self.0.plain.compress(decompressed, compressed, num_bits);
+                let answer = Self::calls().plain.compress(decompressed, compressed, num_bits);
                 compressed_size(answer, decompressed.len(), compressed.len(), num_bits, Self::BLOCK_LEN)
             }
 
             #[inline]
             fn compress_sorted(&self, initial: u32, decompressed: &[u32], compressed: &mut [u8], num_bits: u8) -> usize {
-                let answer = self.0.sorted.compress(initial, decompressed, compressed, num_bits);
+                let answer = Self::calls().sorted.compress(initial, decompressed, compressed, num_bits);
                 compressed_size(answer, decompressed.len(), compressed.len(), num_bits, Self::BLOCK_LEN)
             }
 
@@ -100,19 +115,19 @@ macro_rules! packer {
                 compressed: &mut [u8],
                 num_bits: u8,
             ) -> usize {
-                let answer = self.0.strictly_sorted.compress(number(initial), decompressed, compressed, num_bits);
+                let answer = Self::calls().strictly_sorted.compress(number(initial), decompressed, compressed, num_bits);
                 compressed_size(answer, decompressed.len(), compressed.len(), num_bits, Self::BLOCK_LEN)
             }
 
             #[inline]
             fn decompress(&self, compressed: &[u8], decompressed: &mut [u32], num_bits: u8) -> usize {
-                let answer = self.0.plain.decompress(compressed, decompressed, num_bits);
+                let answer = Self::calls().plain.decompress(compressed, decompressed, num_bits);
                 read_size(answer, compressed.len(), decompressed.len(), num_bits, Self::BLOCK_LEN)
             }
 
             #[inline]
             fn decompress_sorted(&self, initial: u32, compressed: &[u8], decompressed: &mut [u32], num_bits: u8) -> usize {
-                let answer = self.0.sorted.decompress(initial, compressed, decompressed, num_bits);
+                let answer = Self::calls().sorted.decompress(initial, compressed, decompressed, num_bits);
                 read_size(answer, compressed.len(), decompressed.len(), num_bits, Self::BLOCK_LEN)
             }
 
@@ -124,23 +139,23 @@ macro_rules! packer {
                 decompressed: &mut [u32],
                 num_bits: u8,
             ) -> usize {
-                let answer = self.0.strictly_sorted.decompress(number(initial), compressed, decompressed, num_bits);
+                let answer = Self::calls().strictly_sorted.decompress(number(initial), compressed, decompressed, num_bits);
                 read_size(answer, compressed.len(), decompressed.len(), num_bits, Self::BLOCK_LEN)
             }
 
             #[inline]
             fn num_bits(&self, decompressed: &[u32]) -> u8 {
-                width(self.0.plain.num_bits(decompressed), Self::BLOCK_LEN)
+                width(Self::calls().plain.num_bits(decompressed), Self::BLOCK_LEN)
             }
 
             #[inline]
             fn num_bits_sorted(&self, initial: u32, decompressed: &[u32]) -> u8 {
-                width(self.0.sorted.num_bits(initial, decompressed), Self::BLOCK_LEN)
+                width(Self::calls().sorted.num_bits(initial, decompressed), Self::BLOCK_LEN)
             }
 
             #[inline]
             fn num_bits_strictly_sorted(&self, initial: Option<u32>, decompressed: &[u32]) -> u8 {
-                width(self.0.strictly_sorted.num_bits(number(initial), decompressed), Self::BLOCK_LEN)
+                width(Self::calls().strictly_sorted.num_bits(number(initial), decompressed), Self::BLOCK_LEN)
             }
         }
 
@@ -148,21 +163,21 @@ macro_rules! packer {
             #[inline]
             fn pack(&self, decompressed: &[u32], compressed: &mut [u8]) -> (usize, u8) {
                 let mut num_bits = 0;
-                let answer = self.0.plain.pack(decompressed, compressed, &mut num_bits);
+                let answer = Self::calls().plain.pack(decompressed, compressed, &mut num_bits);
                 (packed_size(answer, compressed.len(), Self::BLOCK_LEN), num_bits)
             }
 
             #[inline]
             fn pack_sorted(&self, initial: u32, decompressed: &[u32], compressed: &mut [u8]) -> (usize, u8) {
                 let mut num_bits = 0;
-                let answer = self.0.sorted.pack(initial, decompressed, compressed, &mut num_bits);
+                let answer = Self::calls().sorted.pack(initial, decompressed, compressed, &mut num_bits);
                 (packed_size(answer, compressed.len(), Self::BLOCK_LEN), num_bits)
             }
 
             #[inline]
             fn pack_strictly_sorted(&self, initial: Option<u32>, decompressed: &[u32], compressed: &mut [u8]) -> (usize, u8) {
                 let mut num_bits = 0;
-                let answer = self.0.strictly_sorted.pack(number(initial), decompressed, compressed, &mut num_bits);
+                let answer = Self::calls().strictly_sorted.pack(number(initial), decompressed, compressed, &mut num_bits);
                 (packed_size(answer, compressed.len(), Self::BLOCK_LEN), num_bits)
             }
         }

@@ -1,17 +1,43 @@
 //! Every block of `vectors/` at each level that this processor has, with canaries around the buffers; each panic; two threads; little stack.
 
+mod chains;
+mod layouts;
+#[cfg(target_arch = "x86_64")]
 mod levels;
+mod lists;
+mod sets;
+mod walks;
 
+use std::cell::Cell;
 use std::fs;
 use std::panic::{catch_unwind, AssertUnwindSafe};
 use std::thread;
 
-use crate::calls::levels;
+use crate::calls::{levels, Level};
+use crate::{chain, list};
 use crate::{BitPacker, BitPacker1x, BitPacker4x, BitPacker8x, Pack};
 
 /// The byte and the value around what a call may write.
 const CANARY: u8 = 0xA5;
 const CANARY_VALUE: u32 = 0xA5A5_A5A5;
+
+thread_local! {
+    /// The level that the calls of this thread take, in place of the best.
+    static CHOSEN: Cell<Option<&'static Level>> = const { Cell::new(None) };
+}
+
+pub(crate) fn chosen_level() -> Option<&'static Level> {
+    CHOSEN.get()
+}
+
+/// Runs a test once at each level that this processor has.
+fn at_each_level(test: impl Fn()) {
+    for level in levels() {
+        CHOSEN.set(Some(level));
+        test();
+    }
+    CHOSEN.set(None);
+}
 
 #[derive(Clone, Copy, Debug)]
 enum Kind {
@@ -119,20 +145,20 @@ fn agrees<P: Pack>(packer: &P, block: &Block) {
     }
 }
 
-/// The same by the packer of the block, at each level.
+/// Each block by its packer, at each level.
 fn agrees_at_each_level(blocks: &[Block]) {
-    for level in levels() {
+    at_each_level(|| {
         for block in blocks {
             match &block.packer[..] {
-                "1x" => agrees(&BitPacker1x(&level.one), block),
-                "4x" => agrees(&BitPacker4x(&level.four), block),
+                "1x" => agrees(&BitPacker1x::new(), block),
+                "4x" => agrees(&BitPacker4x::new(), block),
                 packer => {
                     assert_eq!(packer, "8x");
-                    agrees(&BitPacker8x(&level.eight), block)
+                    agrees(&BitPacker8x::new(), block)
                 }
             }
         }
-    }
+    });
 }
 
 #[test]
@@ -213,13 +239,13 @@ fn panics<P: Pack>(packer: &P, kind: Kind) {
 
 #[test]
 fn each_panic_with_its_text() {
-    for kind in [Kind::Plain, Kind::Sorted(0), Kind::Strict(Some(0)), Kind::Strict(None)] {
-        for level in levels() {
-            panics(&BitPacker1x(&level.one), kind);
-            panics(&BitPacker4x(&level.four), kind);
-            panics(&BitPacker8x(&level.eight), kind);
+    at_each_level(|| {
+        for kind in [Kind::Plain, Kind::Sorted(0), Kind::Strict(Some(0)), Kind::Strict(None)] {
+            panics(&BitPacker1x, kind);
+            panics(&BitPacker4x, kind);
+            panics(&BitPacker8x, kind);
         }
-    }
+    });
 }
 
 /// By hand: 0 to 7 at three bits each, the lowest bit first, are `000 100 010 110 001 101 011 111`, which is `88 C6 FA`.
@@ -258,11 +284,27 @@ fn sorted_after_the_greatest_value<P: Pack>(packer: &P) {
 
 #[test]
 fn sorted_after_the_greatest_value_at_each_level() {
-    for level in levels() {
-        sorted_after_the_greatest_value(&BitPacker1x(&level.one));
-        sorted_after_the_greatest_value(&BitPacker4x(&level.four));
-        sorted_after_the_greatest_value(&BitPacker8x(&level.eight));
-    }
+    at_each_level(|| {
+        sorted_after_the_greatest_value(&BitPacker1x);
+        sorted_after_the_greatest_value(&BitPacker4x);
+        sorted_after_the_greatest_value(&BitPacker8x);
+    });
+}
+
+/// A packer is a constant, as in 0.9.3, and all types may be shared by threads.
+#[test]
+fn the_types_are_plain_values() {
+    const ONE: BitPacker1x = BitPacker1x;
+    fn shared<T: Send + Sync + Clone + std::fmt::Debug + Unpin + std::panic::UnwindSafe>() {}
+    fn copied<T: Copy>() {}
+    assert_eq!(ONE.num_bits(&[3; 32]), 2);
+    assert_eq!(format!("{ONE:?} {BitPacker4x:?} {BitPacker8x:?}"), "BitPacker1x BitPacker4x BitPacker8x");
+    let _packers = (shared::<BitPacker1x>(), shared::<BitPacker4x>(), shared::<BitPacker8x>());
+    let _copied = (copied::<BitPacker1x>(), copied::<BitPacker4x>(), copied::<BitPacker8x>());
+    let _lists = (shared::<list::PackedList>(), shared::<list::Iter>(), shared::<list::Cursor>(), shared::<list::Encoder>());
+    let _of_lists = (shared::<list::Error>(), shared::<list::Kind>(), shared::<list::Version>());
+    let _chains = (shared::<chain::Error>(), shared::<chain::Kind>());
+    let _copied = (copied::<list::PackedList>(), copied::<list::Error>(), copied::<chain::Error>());
 }
 
 #[test]

@@ -1,4 +1,5 @@
 -- The definitions of this crate.
+pub mod Blocks
 pub mod Chains
 pub mod Cursors
 pub mod Distinct

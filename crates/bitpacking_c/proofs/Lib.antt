@@ -1,1 +1,2 @@
 pub mod ChainLengths
+pub mod CursorPlaces

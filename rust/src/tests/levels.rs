@@ -3,8 +3,9 @@
 use std::collections::HashSet;
 use std::fs;
 
-use crate::calls::{added_by_v2, added_by_v3, best, levels, levels_with, Level};
-use crate::{BitPacker, BitPacker1x, BitPacker4x, BitPacker8x};
+use crate::calls::{added_by_v2, added_by_v3, best, levels, levels_with, Calls, Level, Lists};
+use crate::packers::Table;
+use crate::{BitPacker1x, BitPacker4x, BitPacker8x};
 
 /// The features that the ABI of x86-64 names for x86-64-v2 and x86-64-v3, as Rust and as Linux write them. `lahf_lm` of v2 and
 /// `xsave` of v3 are left out, since Rust cannot ask for them; it takes `avx` only where the system keeps its registers.
@@ -70,43 +71,83 @@ fn the_levels_are_those_of_this_processor() {
 }
 
 #[test]
-fn new_takes_the_best_level() {
+fn the_packers_take_the_best_level() {
     let last = levels().last().unwrap();
     assert!(std::ptr::eq(best(), last));
-    assert!(std::ptr::eq(BitPacker1x::new().0, &last.one));
-    assert!(std::ptr::eq(BitPacker4x::new().0, &last.four));
-    assert!(std::ptr::eq(BitPacker8x::new().0, &last.eight));
+    assert!(std::ptr::eq(BitPacker1x::calls(), &last.one));
+    assert!(std::ptr::eq(BitPacker4x::calls(), &last.four));
+    assert!(std::ptr::eq(BitPacker8x::calls(), &last.eight));
 }
 
-/// The address of a pack function of an archive.
-macro_rules! pack_of {
-    ($name:literal) => {{
+/// The address of a function of an archive. It is not called, so it has no parameters here.
+macro_rules! address {
+    ($name:expr) => {{
+        #[allow(clashing_extern_declarations)]
         extern "C" {
             #[link_name = $name]
-            fn pack(values: *const u32, len: usize, bytes: *mut u8, room: usize, num_bits: *mut u8) -> isize;
+            fn function();
         }
-        pack as *const () as usize
+        function as *const () as usize
     }};
+}
+
+/// The addresses of a function of each packer, and of one of lists, at a level.
+macro_rules! addresses {
+    ($level:literal) => {
+        [
+            [address!(concat!($level, "_bitpacking_1x_pack")), address!(concat!($level, "_bitpacking_1x_list_pack"))],
+            [address!(concat!($level, "_bitpacking_4x_pack")), address!(concat!($level, "_bitpacking_4x_list_pack"))],
+            [address!(concat!($level, "_bitpacking_8x_pack")), address!(concat!($level, "_bitpacking_8x_list_pack"))],
+            [address!(concat!($level, "_bitpacking_list_len")), address!(concat!($level, "_bitpacking_cursor_advance"))],
+        ]
+    };
+}
+
+/// The functions of a packer.
+fn of_packer(calls: &Calls) -> Vec<usize> {
+    let plain = &calls.plain;
+    let mut found = vec![calls.list_pack as usize, calls.list_size as usize, plain.pack as usize, plain.compress as usize];
+    found.extend([plain.decompress as usize, plain.num_bits as usize, plain.pack_all as usize, plain.unpack_all as usize]);
+    for kind in [&calls.sorted, &calls.strictly_sorted] {
+        found.extend([kind.pack as usize, kind.compress as usize, kind.decompress as usize, kind.num_bits as usize]);
+        found.extend([kind.pack_all as usize, kind.unpack_all as usize]);
+    }
+    found
+}
+
+/// The functions of lists.
+fn of_lists(lists: &Lists) -> [usize; 15] {
+    [
+        lists.open as usize,
+        lists.len as usize,
+        lists.kind as usize,
+        lists.get as usize,
+        lists.seek as usize,
+        lists.unpack as usize,
+        lists.range as usize,
+        lists.intersect as usize,
+        lists.unite as usize,
+        lists.subtract as usize,
+        lists.start as usize,
+        lists.position as usize,
+        lists.advance as usize,
+        lists.seek_from as usize,
+        lists.skip_block as usize,
+    ]
 }
 
 #[test]
 fn each_table_has_the_functions_of_its_level() {
-    let named = [
-        [pack_of!("v1_bitpacking_1x_pack"), pack_of!("v1_bitpacking_4x_pack"), pack_of!("v1_bitpacking_8x_pack")],
-        [pack_of!("v2_bitpacking_1x_pack"), pack_of!("v2_bitpacking_4x_pack"), pack_of!("v2_bitpacking_8x_pack")],
-        [pack_of!("v3_bitpacking_1x_pack"), pack_of!("v3_bitpacking_4x_pack"), pack_of!("v3_bitpacking_8x_pack")],
-    ];
+    let named = [addresses!("v1"), addresses!("v2"), addresses!("v3")];
     let mut found = HashSet::new();
     for (level, right) in all_levels().iter().zip(named) {
         for (calls, right) in [&level.one, &level.four, &level.eight].into_iter().zip(right) {
-            assert_eq!(calls.plain.pack as usize, right);
-            let plain = &calls.plain;
-            found.extend([plain.pack as usize, plain.compress as usize, plain.decompress as usize, plain.num_bits as usize]);
-            for kind in [&calls.sorted, &calls.strictly_sorted] {
-                found.extend([kind.pack as usize, kind.compress as usize, kind.decompress as usize, kind.num_bits as usize]);
-            }
+            assert_eq!([calls.plain.pack as usize, calls.list_pack as usize], right);
+            found.extend(of_packer(calls));
         }
+        assert_eq!([level.lists.len as usize, level.lists.advance as usize], right[3]);
+        found.extend(of_lists(&level.lists));
     }
-    // No function has two places: 4 calls, 3 kinds, 3 packers, 3 levels.
-    assert_eq!(found.len(), 4 * 3 * 3 * 3);
+    // No function has two places: 6 calls, 3 kinds, 3 packers and 2 more for each, and 15 for lists; at 3 levels.
+    assert_eq!(found.len(), ((6 * 3 + 2) * 3 + 15) * 3);
 }

@@ -1,0 +1,226 @@
+//! The functions of packed lists, and the calls of them. What is wrong is a negative number, as in `include/bitpacking.h`.
+
+use std::marker::PhantomData;
+
+use super::Calls;
+use crate::list::PackedList;
+
+/// The values of the longest block.
+pub(crate) const LONGEST_BLOCK: usize = 256;
+
+/// A packed list that was opened, as the functions see it.
+#[repr(C)]
+#[derive(Clone, Copy)]
+pub(crate) struct ListView<'a> {
+    bytes: *const u8,
+    bytes_len: usize,
+    lanes: u8,
+    borrowed: PhantomData<&'a [u8]>,
+}
+
+// SAFETY: a view is a shared borrow of its bytes, as `&[u8]` is.
+unsafe impl Send for ListView<'_> {}
+// SAFETY: nothing writes through a view, so that threads may share one.
+unsafe impl Sync for ListView<'_> {}
+
+impl ListView<'_> {
+    /// The empty list.
+    const EMPTY: Self = ListView { bytes: std::ptr::null(), bytes_len: 0, lanes: 0, borrowed: PhantomData };
+
+    /// How many values a block of an opened list has.
+    pub(crate) fn block_len(&self) -> usize {
+        32 * usize::from(self.lanes)
+    }
+}
+
+/// A place in an opened list, as the functions see it: the number of the block at hand, an index in it, how many values it has, and
+/// these values; and whether the list is not plain.
+#[repr(C)]
+#[derive(Clone)]
+pub(crate) struct ListCursor<'a> {
+    list: ListView<'a>,
+    block: usize,
+    index: usize,
+    len: usize,
+    values: [u32; LONGEST_BLOCK],
+    ordered: u8,
+}
+
+impl ListCursor<'_> {
+    /// The values from the place to the end of the block at hand.
+    #[inline]
+    pub(crate) fn at_hand(&self) -> &[u32] {
+        &self.values[self.index..self.len]
+    }
+
+    /// The value at the place.
+    #[inline]
+    pub(crate) fn value(&self) -> Option<u32> {
+        self.values[..self.len].get(self.index).copied()
+    }
+}
+
+/// A struct: its name in C, its size, and the name, offset and size of each field.
+#[cfg(test)]
+pub(crate) type Layout = (&'static str, usize, Vec<(&'static str, usize, usize)>);
+
+#[cfg(test)]
+pub(crate) fn layouts() -> [Layout; 2] {
+    use std::mem::{offset_of, size_of};
+
+    fn size_of_field<T, F>(_: fn(T) -> F) -> usize {
+        size_of::<F>()
+    }
+    macro_rules! layout {
+        ($name:literal, $type:ty: $($field:ident)*) => {{
+            let fields = vec![$((stringify!($field), offset_of!($type, $field), size_of_field(|it: $type| it.$field))),*];
+            ($name, size_of::<$type>(), fields)
+        }};
+    }
+    [
+        layout!("bitpacking_list", ListView<'static>: bytes bytes_len lanes),
+        layout!("bitpacking_cursor", ListCursor<'static>: list block index len values ordered),
+    ]
+}
+
+/// The functions of lists.
+pub(crate) struct Lists {
+    pub(crate) open: unsafe extern "C" fn(*const u8, usize, *mut ListView<'_>) -> isize,
+    pub(crate) len: unsafe extern "C" fn(*const ListView<'_>) -> usize,
+    pub(crate) kind: unsafe extern "C" fn(*const ListView<'_>) -> u8,
+    pub(crate) get: unsafe extern "C" fn(*const ListView<'_>, usize, *mut u32) -> i32,
+    pub(crate) seek: unsafe extern "C" fn(*const ListView<'_>, u32, *mut usize, *mut u32) -> i32,
+    pub(crate) unpack: unsafe extern "C" fn(*const ListView<'_>, *mut u32, usize) -> isize,
+    pub(crate) range: unsafe extern "C" fn(*const ListView<'_>, usize, *mut u32, usize) -> isize,
+    pub(crate) intersect: Combine,
+    pub(crate) unite: Combine,
+    pub(crate) subtract: Combine,
+    pub(crate) start: for<'a> unsafe extern "C" fn(*mut ListCursor<'a>, *const ListView<'a>),
+    pub(crate) position: unsafe extern "C" fn(*const ListCursor<'_>) -> usize,
+    pub(crate) advance: unsafe extern "C" fn(*mut ListCursor<'_>) -> i32,
+    pub(crate) seek_from: unsafe extern "C" fn(*mut ListCursor<'_>, u32) -> i32,
+    pub(crate) skip_block: unsafe extern "C" fn(*mut ListCursor<'_>),
+}
+
+/// A function that makes one list of values from many lists.
+pub(crate) type Combine = unsafe extern "C" fn(*const ListView<'_>, usize, *mut u32, usize) -> isize;
+
+/// A count, or the number of what is wrong.
+fn counted(number: isize) -> Result<usize, i32> {
+    usize::try_from(number).map_err(|_| number as i32)
+}
+
+/// Whether there is a value, or the number of what is wrong.
+fn found(number: i32) -> Result<bool, i32> {
+    counted(number as isize).map(|count| count > 0)
+}
+
+// The functions ask for what references and slices are, and for views and cursors that they made themselves. Nothing but these
+// functions writes a field of those, except for `advance` below.
+
+impl Lists {
+    pub(crate) fn open<'a>(&self, bytes: &'a [u8]) -> Result<ListView<'a>, i32> {
+        let mut view = ListView::EMPTY;
+        // SAFETY: the pointer and the length of a slice, which the view borrows, and an empty view of our own.
+        counted(unsafe { (self.open)(bytes.as_ptr(), bytes.len(), &mut view) }).map(|_| view)
+    }
+
+    #[inline]
+    pub(crate) fn len(&self, view: &ListView<'_>) -> usize {
+        // SAFETY: a view that was opened.
+        unsafe { (self.len)(view) }
+    }
+
+    #[inline]
+    pub(crate) fn kind(&self, view: &ListView<'_>) -> u8 {
+        // SAFETY: a view that was opened.
+        unsafe { (self.kind)(view) }
+    }
+
+    #[inline]
+    pub(crate) fn get(&self, view: &ListView<'_>, position: usize) -> Option<u32> {
+        let mut item = 0;
+        // SAFETY: a view that was opened, and a number of our own.
+        (unsafe { (self.get)(view, position, &mut item) } > 0).then_some(item)
+    }
+
+    #[inline]
+    pub(crate) fn seek(&self, view: &ListView<'_>, target: u32) -> Result<Option<(usize, u32)>, i32> {
+        let (mut position, mut item) = (0, 0);
+        // SAFETY: a view that was opened, and two numbers of our own.
+        let answer = found(unsafe { (self.seek)(view, target, &mut position, &mut item) })?;
+        Ok(answer.then_some((position, item)))
+    }
+
+    pub(crate) fn unpack(&self, view: &ListView<'_>, values: &mut [u32]) -> Result<usize, i32> {
+        // SAFETY: a view that was opened; the pointer and the length of a slice that is borrowed by `&mut`.
+        counted(unsafe { (self.unpack)(view, values.as_mut_ptr(), values.len()) })
+    }
+
+    pub(crate) fn range(&self, view: &ListView<'_>, from: usize, values: &mut [u32]) -> usize {
+        // SAFETY: a view that was opened; the pointer and the length of a slice that is borrowed by `&mut`.
+        let count = unsafe { (self.range)(view, from, values.as_mut_ptr(), values.len()) };
+        counted(count).unwrap_or(0)
+    }
+
+    pub(crate) fn start<'a>(&self, view: &ListView<'a>) -> ListCursor<'a> {
+        let mut cursor = ListCursor { list: ListView::EMPTY, block: 0, index: 0, len: 0, values: [0; LONGEST_BLOCK], ordered: 0 };
+        // SAFETY: a view that was opened, and a cursor of our own at the end of an empty list.
+        unsafe { (self.start)(&mut cursor, view) };
+        cursor
+    }
+
+    pub(crate) fn position(&self, cursor: &ListCursor<'_>) -> usize {
+        // SAFETY: a cursor that was started.
+        unsafe { (self.position)(cursor) }
+    }
+
+    /// Within a block this is one addition, which is done here: a call takes longer.
+    #[inline]
+    pub(crate) fn advance(&self, cursor: &mut ListCursor<'_>) {
+        if cursor.index + 1 < cursor.len {
+            cursor.index += 1;
+        } else {
+            // SAFETY: a cursor that was started.
+            unsafe { (self.advance)(cursor) };
+        }
+    }
+
+    #[inline]
+    pub(crate) fn seek_from(&self, cursor: &mut ListCursor<'_>, target: u32) -> Result<bool, i32> {
+        // SAFETY: a cursor that was started.
+        found(unsafe { (self.seek_from)(cursor, target) })
+    }
+
+    pub(crate) fn skip_block(&self, cursor: &mut ListCursor<'_>) {
+        // SAFETY: a cursor that was started.
+        unsafe { (self.skip_block)(cursor) }
+    }
+}
+
+/// Writes the values that a function makes of these lists, and returns how many they are.
+pub(crate) fn combine(function: Combine, lists: &[PackedList<'_>], out: &mut [u32]) -> Result<usize, i32> {
+    // SAFETY: pointers and lengths of slices: of views that were opened, since a `PackedList` is a view and nothing else; and of
+    // numbers, which are borrowed by `&mut`.
+    counted(unsafe { function(lists.as_ptr().cast(), lists.len(), out.as_mut_ptr(), out.len()) })
+}
+
+impl Calls {
+    /// The number of bytes of a list of values, or what is wrong with them and, if they are out of order, at which
+    /// position.
+    pub(crate) fn list_size(&self, version: u8, kind: u8, values: &[u32]) -> Result<usize, (i32, usize)> {
+        let mut position = 0;
+        // SAFETY: the pointer and the length of a slice, and a number of our own.
+        let size = unsafe { (self.list_size)(version, kind, values.as_ptr(), values.len(), &mut position) };
+        counted(size).map_err(|number| (number, position))
+    }
+
+    /// Writes a list of values into these bytes, and returns how many it wrote, or what is wrong.
+    pub(crate) fn list_pack(&self, version: u8, kind: u8, values: &[u32], bytes: &mut [u8]) -> Result<usize, (i32, usize)> {
+        let mut position = 0;
+        let (from, room) = (values.as_ptr(), bytes.len());
+        // SAFETY: pointers and lengths of slices, a number of our own; what is written is borrowed by `&mut`.
+        let size = unsafe { (self.list_pack)(version, kind, from, values.len(), bytes.as_mut_ptr(), room, &mut position) };
+        counted(size).map_err(|number| (number, position))
+    }
+}

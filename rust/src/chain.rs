@@ -1,0 +1,115 @@
+//! Chains: many blocks, packed in one call.
+//!
+//! Each block is packed at its own least width. The first block has the kind of the call; each one after it begins from the last
+//! value of the block before. The caller keeps the widths beside the bytes.
+//!
+//! ```
+//! use bitpacking::chain::{pack_all, unpack_all, Kind};
+//! use bitpacking::BitPacker4x;
+//!
+//! // Two blocks of 128 values, each 3 more than the one before it: two bits each, or 32 bytes a block.
+//! let values: Vec<u32> = (0..256).map(|k| 3 * k).collect();
+//! let (mut widths, mut bytes) = ([0; 2], [0; 4 * 256]);
+//! let size = pack_all(BitPacker4x, Kind::Sorted(0), &values, &mut widths, &mut bytes)?;
+//! assert_eq!((size, widths), (64, [2, 2]));
+//!
+//! let mut unpacked = [0; 256];
+//! unpack_all(BitPacker4x, Kind::Sorted(0), &widths, &bytes[..size], &mut unpacked)?;
+//! assert_eq!(unpacked[..], values[..]);
+//! # Ok::<(), bitpacking::chain::Error>(())
+//! ```
+
+use std::fmt;
+
+use crate::calls::{Answer, Fault};
+use crate::packers::number;
+use crate::Packer;
+
+/// What is packed, and the value before the first one.
+#[derive(Clone, Copy, PartialEq, Eq, Hash, Debug)]
+pub enum Kind {
+    /// The values.
+    Plain,
+    /// The differences of the values, modulo 2^32. The first one is from this value.
+    Sorted(u32),
+    /// One less than the differences, modulo 2^32. With `None` the values may begin with 0.
+    StrictlySorted(Option<u32>),
+}
+
+/// Why a chain was not packed or unpacked. Nothing was written then.
+#[derive(Clone, Copy, PartialEq, Eq, Hash, Debug)]
+pub enum Error {
+    /// The values are not as many as whole blocks of the widths have, or there is no room for them.
+    BadLength,
+    /// A width is above 32.
+    BadWidth,
+    /// There are too few bytes to write to, or to read from.
+    Short,
+}
+
+impl Error {
+    /// The number of the error in `include/bitpacking.h`: from -1 down to -3, in the order of the variants.
+    pub fn number(&self) -> i32 {
+        match self {
+            Error::BadLength => -1,
+            Error::BadWidth => -2,
+            Error::Short => -3,
+        }
+    }
+}
+
+impl fmt::Display for Error {
+    fn fmt(&self, f: &mut fmt::Formatter<'_>) -> fmt::Result {
+        f.write_str(match self {
+            Error::BadLength => "the values are not as many as blocks of the widths have",
+            Error::BadWidth => "a width is above 32",
+            Error::Short => "there are too few bytes",
+        })
+    }
+}
+
+impl std::error::Error for Error {}
+
+/// A count of bytes, or the error of a chain.
+fn size(answer: Answer) -> Result<usize, Error> {
+    answer.map_err(|fault| match fault {
+        Fault::BadLength => Error::BadLength,
+        Fault::BadWidth => Error::BadWidth,
+        Fault::Short => Error::Short,
+        Fault::Unfit => unreachable!("each block is packed at its own width"),
+    })
+}
+
+/// Packs whole blocks, one for each of `widths`, which get the width of each block. Returns the number of bytes written.
+///
+/// `4 * values.len()` bytes are always enough.
+///
+/// # Errors
+///
+/// The first of: `BadLength`, if `values` does not have as many values as `widths.len()` blocks; `Short`, if `bytes` has no room
+/// for the blocks.
+pub fn pack_all<P: Packer>(_packer: P, kind: Kind, values: &[u32], widths: &mut [u8], bytes: &mut [u8]) -> Result<usize, Error> {
+    let calls = P::calls();
+    size(match kind {
+        Kind::Plain => calls.plain.pack_all(values, widths, bytes),
+        Kind::Sorted(initial) => calls.sorted.pack_all(initial, values, widths, bytes),
+        Kind::StrictlySorted(initial) => calls.strictly_sorted.pack_all(number(initial), values, widths, bytes),
+    })
+}
+
+/// Unpacks blocks that were packed with the same packer, kind and widths. Returns the number of bytes read.
+///
+/// Any bytes are taken, and later ones are not read. Values after those of the blocks stay as they were.
+///
+/// # Errors
+///
+/// `BadWidth`, if a width is above 32; `Short`, if `bytes` is shorter than the blocks; and else `BadLength`, if `values` has no room
+/// for the blocks.
+pub fn unpack_all<P: Packer>(_packer: P, kind: Kind, widths: &[u8], bytes: &[u8], values: &mut [u32]) -> Result<usize, Error> {
+    let calls = P::calls();
+    size(match kind {
+        Kind::Plain => calls.plain.unpack_all(widths, bytes, values),
+        Kind::Sorted(initial) => calls.sorted.unpack_all(initial, widths, bytes, values),
+        Kind::StrictlySorted(initial) => calls.strictly_sorted.unpack_all(number(initial), widths, bytes, values),
+    })
+}

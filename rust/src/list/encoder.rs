@@ -1,0 +1,137 @@
+//! Writing lists.
+
+use super::{error, Error, Kind};
+use crate::{BitPacker4x, Packer};
+
+/// The layout of a list. Lists of both are opened by the same call.
+#[derive(Clone, Copy, PartialEq, Eq, Hash, Debug, Default)]
+#[non_exhaustive]
+pub enum Version {
+    /// Four bytes for each of the values after the last block, in which they are found faster.
+    Two,
+    /// A short header, and the values after the last block packed: shorter for lists of few values.
+    #[default]
+    Three,
+}
+
+/// Writes lists of one packer and one version. [`encode`] takes `Encoder::default()`, which has [`BitPacker4x`] and version 3.
+///
+/// ```
+/// use bitpacking::list::{Encoder, Kind, Version};
+/// use bitpacking::BitPacker1x;
+///
+/// let encoder = Encoder::new(BitPacker1x, Version::Two);
+/// let bytes = encoder.encode(Kind::Plain, &[3, 1])?;
+/// assert_eq!(bytes, [2, 0, 1, 2, 0, 0, 0, 3, 0, 0, 0, 1, 0, 0, 0]);
+/// # Ok::<(), bitpacking::list::Error>(())
+/// ```
+#[derive(Clone, Copy, Debug)]
+pub struct Encoder<P = BitPacker4x> {
+    packer: P,
+    version: Version,
+}
+
+impl Default for Encoder {
+    fn default() -> Self {
+        Encoder::new(BitPacker4x, Version::default())
+    }
+}
+
+impl<P: Packer> Encoder<P> {
+    /// An encoder of lists of this packer and version.
+    pub const fn new(packer: P, version: Version) -> Self {
+        Encoder { packer, version }
+    }
+
+    /// The packer.
+    pub const fn packer(&self) -> P {
+        self.packer
+    }
+
+    /// The version.
+    pub const fn version(&self) -> Version {
+        self.version
+    }
+
+    /// The bytes of a list of these values.
+    ///
+    /// # Errors
+    ///
+    /// The first of: `TooLong`, if there are more than 268,435,456 values; `NotSorted`, with the position of the first value that is
+    /// not in the order of the kind.
+    pub fn encode(&self, kind: Kind, values: &[u32]) -> Result<Vec<u8>, Error> {
+        let mut bytes = Vec::new();
+        self.encode_into(kind, values, &mut bytes)?;
+        Ok(bytes)
+    }
+
+    /// Appends the bytes of a list of these values, and returns how many they are.
+    ///
+    /// # Errors
+    ///
+    /// As [`encode`](Encoder::encode). The vector is then as it was.
+    pub fn encode_into(&self, kind: Kind, values: &[u32], bytes: &mut Vec<u8>) -> Result<usize, Error> {
+        let (start, size) = (bytes.len(), self.encoded_len(kind, values)?);
+        bytes.resize(start + size, 0);
+        P::calls()
+            .list_pack(self.number(), kind as u8, values, &mut bytes[start..])
+            .map_err(|(number, position)| error::named(number, Some(position)))
+    }
+
+    /// How many bytes a list of these values has. Nothing is written.
+    ///
+    /// # Errors
+    ///
+    /// As [`encode`](Encoder::encode).
+    pub fn encoded_len(&self, kind: Kind, values: &[u32]) -> Result<usize, Error> {
+        P::calls().list_size(self.number(), kind as u8, values).map_err(|(number, position)| error::named(number, Some(position)))
+    }
+
+    /// The number of the version.
+    fn number(&self) -> u8 {
+        match self.version {
+            Version::Two => 2,
+            Version::Three => 3,
+        }
+    }
+}
+
+/// The bytes of a list of these values: in blocks of 128, by [`BitPacker4x`], and of version 3. An [`Encoder`] has the choice of
+/// others.
+///
+/// # Errors
+///
+/// The first of: `TooLong`, if there are more than 268,435,456 values; `NotSorted`, with the position of the first value that is not
+/// in the order of the kind.
+///
+/// ```
+/// use bitpacking::list::{encode, Error, Kind};
+///
+/// let bytes = encode(Kind::StrictlySorted, &[7, 9, 10, 300])?;
+/// assert_eq!(bytes, [0xA4, 7, 9, 1, 0, 0x84, 4]);
+/// assert_eq!(encode(Kind::StrictlySorted, &[7, 9, 9]), Err(Error::NotSorted { position: Some(2) }));
+/// # Ok::<(), Error>(())
+/// ```
+pub fn encode(kind: Kind, values: &[u32]) -> Result<Vec<u8>, Error> {
+    Encoder::default().encode(kind, values)
+}
+
+/// Appends the bytes that [`encode`] gives, and returns how many they are. Many lists can be put into one vector: the caller keeps
+/// where each begins and ends.
+///
+/// # Errors
+///
+/// As [`encode`]. The vector is then as it was.
+///
+/// ```
+/// use bitpacking::list::{encode_into, Kind, PackedList};
+///
+/// let mut bytes = Vec::new();
+/// let first = encode_into(Kind::Sorted, &[5, 5, 9], &mut bytes)?;
+/// encode_into(Kind::Sorted, &[2, 8], &mut bytes)?;
+/// assert_eq!(PackedList::open(&bytes[first..])?.to_vec(), [2, 8]);
+/// # Ok::<(), bitpacking::list::Error>(())
+/// ```
+pub fn encode_into(kind: Kind, values: &[u32], bytes: &mut Vec<u8>) -> Result<usize, Error> {
+    Encoder::default().encode_into(kind, values, bytes)
+}

@@ -1,0 +1,103 @@
+//! Why a list is not written or read.
+
+use std::fmt;
+
+/// Why a list could not be written, opened or searched.
+#[derive(Clone, Copy, PartialEq, Eq, Hash, Debug)]
+#[non_exhaustive]
+pub enum Error {
+    /// Bytes are missing.
+    Short,
+    /// The text is of another version than 2 and 3.
+    BadVersion,
+    /// The kind of the text is not one of the three. Or a plain list, which has no order, was searched or combined with others.
+    BadKind,
+    /// The text was packed by none of the three packers.
+    WrongLanes,
+    /// There are more than 268,435,456 values.
+    TooLong,
+    /// The width of a block is above 32.
+    BadWidth,
+    /// The width of a block is not the least.
+    LooseWidth,
+    /// The offset of a block is not the sum of the widths before it.
+    BadOffset,
+    /// The last value of a block is not the one that its entry gives.
+    BadLast,
+    /// The values are not in the order of the kind.
+    NotSorted {
+        /// The position of the first value out of order, from 0 on. Writing a list gives it; opening bytes does not.
+        position: Option<usize>,
+    },
+    /// Bytes are left over.
+    Trailing,
+    /// A number of version 3 is not written in its one form, or is too small or too large for its place.
+    BadNumber,
+    /// A bit is set after the last code of a group, in version 3.
+    Padding,
+}
+
+impl Error {
+    /// The number of the error in `include/bitpacking.h`, such as -21 for `Short`.
+    pub fn number(&self) -> i32 {
+        match self {
+            Error::Short => -21,
+            Error::BadVersion => -22,
+            Error::BadKind => -23,
+            Error::WrongLanes => -24,
+            Error::TooLong => -25,
+            Error::BadWidth => -26,
+            Error::LooseWidth => -27,
+            Error::BadOffset => -28,
+            Error::BadLast => -29,
+            Error::NotSorted { .. } => -30,
+            Error::Trailing => -31,
+            Error::BadNumber => -33,
+            Error::Padding => -34,
+        }
+    }
+}
+
+/// The error of a number, with the position if there is one.
+#[cold]
+pub(super) fn named(number: i32, position: Option<usize>) -> Error {
+    match number {
+        -21 => Error::Short,
+        -22 => Error::BadVersion,
+        -23 => Error::BadKind,
+        -24 => Error::WrongLanes,
+        -25 => Error::TooLong,
+        -26 => Error::BadWidth,
+        -27 => Error::LooseWidth,
+        -28 => Error::BadOffset,
+        -29 => Error::BadLast,
+        -30 => Error::NotSorted { position },
+        -31 => Error::Trailing,
+        -33 => Error::BadNumber,
+        -34 => Error::Padding,
+        _ => unreachable!("no function of lists answers {number} to this crate"),
+    }
+}
+
+impl fmt::Display for Error {
+    fn fmt(&self, f: &mut fmt::Formatter<'_>) -> fmt::Result {
+        match self {
+            Error::Short => f.write_str("bytes are missing"),
+            Error::BadVersion => f.write_str("the version is not read here"),
+            Error::BadKind => f.write_str("the kind does not serve here"),
+            Error::WrongLanes => f.write_str("no packer has as many lanes as the text"),
+            Error::TooLong => f.write_str("there are more than 268435456 values"),
+            Error::BadWidth => f.write_str("a block has a width above 32"),
+            Error::LooseWidth => f.write_str("a block has a width, and a smaller one holds it"),
+            Error::BadOffset => f.write_str("the offset of a block is not the sum of the widths before it"),
+            Error::BadLast => f.write_str("a block ends with another value than its entry says"),
+            Error::NotSorted { position: Some(position) } => write!(f, "the value at position {position} is out of order"),
+            Error::NotSorted { position: None } => f.write_str("a value is out of order"),
+            Error::Trailing => f.write_str("bytes are left over after the last value"),
+            Error::BadNumber => f.write_str("a number does not have its only form"),
+            Error::Padding => f.write_str("a bit is set after the last code of a group"),
+        }
+    }
+}
+
+impl std::error::Error for Error {}

@@ -1,0 +1,80 @@
+//! What lists have in common, together, and one without others, against plain sets.
+
+use std::collections::BTreeSet;
+
+use super::at_each_level;
+use super::lists::{encoded, values, Numbers, FORMS};
+use crate::list::{difference, encode, intersect, union, Error, Kind, PackedList};
+
+type Sets = Vec<BTreeSet<u32>>;
+
+fn plain_intersection(sets: &Sets) -> Vec<u32> {
+    let first = sets.first().cloned().unwrap_or_default();
+    first.into_iter().filter(|value| sets.iter().all(|set| set.contains(value))).collect()
+}
+
+fn plain_union(sets: &Sets) -> Vec<u32> {
+    sets.iter().flatten().copied().collect::<BTreeSet<u32>>().into_iter().collect()
+}
+
+fn plain_difference(sets: &Sets) -> Vec<u32> {
+    let first = sets.first().cloned().unwrap_or_default();
+    first.into_iter().filter(|value| sets[1..].iter().all(|set| !set.contains(value))).collect()
+}
+
+fn agree(texts: &[Vec<u8>], sets: &Sets) {
+    let lists: Vec<PackedList<'_>> = texts.iter().map(|text| PackedList::open(text).unwrap()).collect();
+    assert_eq!(intersect(&lists), Ok(plain_intersection(sets)));
+    assert_eq!(union(&lists), Ok(plain_union(sets)));
+    assert_eq!(difference(&lists), Ok(plain_difference(sets)));
+}
+
+/// Lists of every form and both kinds, some short and some long, up to six of them.
+#[test]
+fn any_number_of_lists() {
+    at_each_level(|| {
+        let mut numbers = Numbers(4);
+        for count in (0..=6).cycle().take(140) {
+            let (mut texts, mut sets) = (Vec::new(), Sets::new());
+            for _ in 0..count {
+                let kind = [Kind::Sorted, Kind::StrictlySorted][numbers.below(2) as usize];
+                let len = [0, 3, 40, 300, 900][numbers.below(5) as usize];
+                let (gap, to_the_end) = ([2, 5, 40][numbers.below(3) as usize], numbers.below(2) == 1);
+                let values = values(&mut numbers, kind, len, gap, to_the_end);
+                texts.push(encoded(FORMS[numbers.below(6) as usize], kind, &values).unwrap());
+                sets.push(values.into_iter().collect());
+            }
+            agree(&texts, &sets);
+        }
+    });
+}
+
+/// The list itself, twice; and the empty list beside others.
+#[test]
+fn equal_and_empty_lists() {
+    at_each_level(|| {
+        let values: Vec<u32> = (0..1000).map(|k| 3 * k).collect();
+        let text = encode(Kind::StrictlySorted, &values).unwrap();
+        let list = PackedList::open(&text).unwrap();
+        let empty = encode(Kind::Sorted, &[]).unwrap();
+        let empty = PackedList::open(&empty).unwrap();
+        assert_eq!((intersect(&[list, list]), union(&[list, list])), (Ok(values.clone()), Ok(values.clone())));
+        assert_eq!((difference(&[list, list]), difference(&[list, empty])), (Ok(vec![]), Ok(values.clone())));
+        assert_eq!((intersect(&[list, empty]), union(&[empty, list])), (Ok(vec![]), Ok(values)));
+    });
+}
+
+#[test]
+fn plain_lists_are_refused() {
+    at_each_level(|| {
+        for values in [&[][..], &[1, 2, 3]] {
+            let (plain, sorted) = (encode(Kind::Plain, values).unwrap(), encode(Kind::Sorted, values).unwrap());
+            let (plain, sorted) = (PackedList::open(&plain).unwrap(), PackedList::open(&sorted).unwrap());
+            for lists in [&[plain][..], &[plain, sorted], &[sorted, plain], &[sorted, sorted, plain]] {
+                for combined in [intersect(lists), union(lists), difference(lists)] {
+                    assert_eq!(combined, Err(Error::BadKind));
+                }
+            }
+        }
+    });
+}
