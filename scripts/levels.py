@@ -109,14 +109,17 @@ static void heard(const char *name)
 
 
 def prototypes():
-    """The functions that the header declares, as the C preprocessor reads it: the name, what it returns, and its parameters."""
+    """The functions that the header declares and does not define, as the C preprocessor reads it: the name, what it returns, and its
+    parameters."""
     text = run("cc", "-E", "-P", f"{ROOT}/include/bitpacking.h").stdout
     inner = None
     while inner != text:
-        inner, text = text, re.sub(r"\{[^{}]*\}", " ", text)
+        # A body ends what it belongs to, as the semicolon of a declaration does.
+        inner, text = text, re.sub(r"(\)?)\s*\{[^{}]*\}", lambda it: ") ;" if it[1] else " ", text)
     found = {}
     for returned, name, given in re.findall(r"(?:^|;)\s*([\w\s*]+?)\b(bitpacking_\w+)\s*\(([^()]*)\)\s*(?=;)", text):
-        found[name] = " ".join(returned.split()).removeprefix("extern "), " ".join(given.split())
+        if not returned.startswith("static "):
+            found[name] = " ".join(returned.split()).removeprefix("extern "), " ".join(given.split())
     return found
 
 
