@@ -40,6 +40,11 @@ pub record Chained (lanes : ℕ) (kind : Kind) (values widths bytes : List ℕ) 
   pub loose : Loose lanes kind values widths bytes
   pub least : LeastWidths lanes kind values widths
 
+-- the values are so many blocks of this length, and so many bytes are room for their chain
+pub record CanPackChain (lanes len : ℕ) (kind : Kind) (values : List ℕ) (count bytes : ℕ) : Type 0 where
+  pub blocks : length values ≡ len * count
+  pub room : (size : ℕ) × IsChainSize lanes kind values count size × (size ≤ bytes)
+
 -- the widths and bytes of a chain were written at the start of a buffer that had other bytes, and what is after them stays
 pub record PacksChain (lanes : ℕ) (kind : Kind) (values widths old new : List ℕ) (count : ℕ) : Type 0 where
   pub size : count ≡ 4 * lanes * sum widths

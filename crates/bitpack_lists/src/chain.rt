@@ -4,7 +4,7 @@ ghost use Rattle.std.specs.Prelude.{◌≡◌, ◌*◌, ◌/◌, ◌≤◌, ℕ,
 ghost use Rattle.bitpacking.specs.Width.{IsWidth};
 ghost use Rattle.bitpacking.specs.Layout.{size};
 ghost use Rattle.bitpacking.specs.Calls.{CanPack, CanUnpack, IsPacked, IsUnpacked};
-ghost use Rattle.bitpack_lists.specs.Chains.{Chained, IsChainSize, Loose, PacksChain};
+ghost use Rattle.bitpack_lists.specs.Chains.{CanPackChain, Chained, IsChainSize, Loose, PacksChain};
 
 use bitpacking::{BitPacker, Kind};
 
@@ -45,9 +45,7 @@ pub fn pack_measured<P: BitPacker>(
     widths: &mut [u8],
     out: &mut [u8],
 ) -> usize
-    requires blocks { length values.now ≡ P.BLOCK_LEN * length widths.old }
-    requires room { (size : ℕ) × IsChainSize P.lanes kind values.now (length widths.old) size
-        × (size ≤ length out.old) }
+    requires { CanPackChain P.lanes P.BLOCK_LEN kind values.now (length widths.old) (length out.old) }
     ensures { PacksChain P.lanes kind values.now widths.new out.old out.new result }
 {
     let len = P::BLOCK_LEN;
