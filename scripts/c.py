@@ -51,8 +51,8 @@ PROGRAMS = {
     LIST_CALLS: "",
     # Each row of the tables that it is given.
     TABLES: "532 lists, 725 refusals\n",
-    # The lists of the tables that are in order: each alone, n ^ 2 pairs, and as many triples of 17 of them, by two calls.
-    SETS: "370 lists, 284366 combined\n",
+    # The lists of the tables that are in order: each alone, n ^ 2 pairs, and as many triples of 17 of them, by three calls.
+    SETS: "370 lists, 426549 combined\n",
 }
 VECTORS = {TABLES: ["lists2", "lists3", "refused2", "refused3"], SETS: ["lists2", "lists3"]}
 

@@ -83,16 +83,39 @@ static size_t expect_values(const size_t *which, size_t len, int wanted)
     return found;
 }
 
+/* Expects the values that any of the lists has. Returns how many these are. */
+static size_t expect_all(const size_t *which, size_t len)
+{
+    size_t at[3] = {0, 0, 0}, found = 0, i;
+
+    for (;; found++) {
+        const uint32_t *least = NULL;
+
+        for (i = 0; i < len; i++)
+            if (at[i] < lists[which[i]].len && (least == NULL || lists[which[i]].values[at[i]] < *least))
+                least = lists[which[i]].values + at[i];
+        if (least == NULL)
+            return found;
+        expected[found] = *least;
+        for (i = 0; i < len; i++)
+            while (at[i] < lists[which[i]].len && lists[which[i]].values[at[i]] == expected[found])
+                at[i]++;
+    }
+}
+
 static void combine(size_t a, size_t b, size_t c, size_t len)
 {
-    size_t which[3], shortest = lists[a].len, i;
+    size_t which[3], shortest = lists[a].len, total = 0, i;
 
     which[0] = a, which[1] = b, which[2] = c;
-    for (i = 1; i < len; i++)
+    for (i = 0; i < len; i++) {
+        total += lists[which[i]].len;
         if (lists[which[i]].len < shortest)
             shortest = lists[which[i]].len;
+    }
     compare("what all have", bitpacking_list_intersect, which, len, expect_values(which, len, 1), shortest);
     compare("what the first has and no other", bitpacking_list_subtract, which, len, expect_values(which, len, 0), lists[a].len);
+    compare("what any has", bitpacking_list_unite, which, len, expect_all(which, len), total);
 }
 
 /* The bytes of hexadecimal digits. */
@@ -159,7 +182,9 @@ int main(void)
         for (b = 0; b < count; b += count / FEW)
             for (c = 0; c < count; c += count / FEW)
                 combine(a, b, c, 3);
-    expect(bitpacking_list_intersect(NULL, 0, NULL, 0) == 0 && bitpacking_list_subtract(NULL, 0, NULL, 0) == 0, "no list", 0, 0, 0);
+    expect(bitpacking_list_intersect(NULL, 0, NULL, 0) == 0 && bitpacking_list_unite(NULL, 0, NULL, 0) == 0
+               && bitpacking_list_subtract(NULL, 0, NULL, 0) == 0,
+           "no list", 0, 0, 0);
     printf("%lu lists, %lu combined\n", (unsigned long)count, combined);
     return failed;
 }

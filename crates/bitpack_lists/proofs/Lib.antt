@@ -58,6 +58,7 @@ mod TailSteps
 mod TailTexts
 mod TextSizes
 mod TextsOfKind
+mod UniteSteps
 mod Upgraded
 mod UpgradeSteps
 mod UpgradeSteps3

@@ -30,7 +30,7 @@ pub use and_all::AndAll;
 pub use and_not::AndNot;
 pub use collecting::{collect_into, collect_to, count};
 pub use distinct_values::DistinctValues;
-pub use in_place::{intersect_in_place, subtract_in_place};
+pub use in_place::{intersect_in_place, subtract_in_place, unite_in_place};
 pub use increasing_slice::IncreasingSlice;
 pub use or::Or;
 pub use or_all::OrAll;

@@ -2,3 +2,4 @@ pub mod ChainLengths
 pub mod CursorPlaces
 pub mod PackLemmas
 pub mod SetSteps
+pub mod UnionSteps

@@ -294,7 +294,7 @@ or_false : (a : Bool) → (a || false) ≡ a
 or_false true = refl
 or_false false = refl
 
-any_has-more : (lists : List (List ℕ)) (i v : ℕ) → i < length lists
+pub any_has-more : (lists : List (List ℕ)) (i v : ℕ) → i < length lists
     → any_has (take (suc i) lists) v ≡ (any_has (take i lists) v || has (get_or lists i []) v)
 any_has-more [] i v lt = absurd (omega (arith, lt))
 any_has-more (xs ∷ lists) zero v lt = or_false (has xs v)
@@ -322,7 +322,7 @@ left_begin now false [] v e = e
 left_begin now true (xs ∷ lists) v e = e
 left_begin now false (xs ∷ lists) v e = e
 
-has-any_distinct : (lists : Lists) (v : ℕ) → any_has (all_distinct lists) v ≡ any_has (all_values lists) v
+pub has-any_distinct : (lists : Lists) (v : ℕ) → any_has (all_distinct lists) v ≡ any_has (all_values lists) v
 has-any_distinct [] v = refl
 has-any_distinct (list ∷ lists) v = rw (has-distinct list.1 v, has-any_distinct lists v) refl
 

@@ -1,12 +1,12 @@
 -- What the calls on many packed lists answer: the values that all have, that any has, or that the first has and no other.
-use Rattle.std.specs.Prelude.{◌≡◌, ◌≢◌, ℕ, zero, suc, not, ◌<◌, ◌≤◌, ℤ, pos, negsuc, min, Bool, true, false, ◌||◌, List, [], ◌∷◌, length, map, take}
+use Rattle.std.specs.Prelude.{◌≡◌, ◌≢◌, ℕ, zero, suc, not, ◌<◌, ◌≤◌, ℤ, pos, negsuc, min, Bool, true, false, ◌||◌, List, [], ◌∷◌, length, map, take, ◌+◌, ◌-◌, ⊤}
 use Rattle.std.specs.List.{AllZip, filter, slice_index_or}
 use Rattle.std.specs.List.Sorted.{IsStrictlyIncreasing}
 use Rattle.bitpack_lists.specs.declared.list_kind.ListKind.{ListKind}
 use Rattle.bitpack_lists.specs.declared.list_kind.ListKind.TheVariants.{Plain, Sorted, StrictlySorted}
 use Rattle.bitpack_lists.specs.Distinct.{distinct}
 use Rattle.bitpack_lists.specs.Increasing.{has}
-use Rattle.bitpack_lists.specs.Many.{any_has, shared_by_all}
+use Rattle.bitpack_lists.specs.Many.{any_has, shared_by_all, united_all}
 use Rattle.bitpacking_c.specs.declared.list_view.ListView.{ListView}
 use Rattle.bitpacking_c.specs.Views.{IsListOf}
 
@@ -63,6 +63,16 @@ abbrev pub first_len : Lists → ℕ
 first_len [] = 0
 first_len (list ∷ lists) = length list.1
 
+-- the sum of the lengths
+abbrev pub total_len : Lists → ℕ
+total_len [] = 0
+total_len (list ∷ lists) = length list.1 + total_len lists
+
+-- there is room for the values of the lists of views, one list after the other
+abbrev pub HasRoom : List ListView → ℕ → Type 0
+HasRoom [] room = ⊤
+HasRoom (view ∷ views) room = (len : ℕ) × HasLength len view × (len ≤ room) × HasRoom views (room - len)
+
 -- whether one of so many lists has a number, but for the first
 abbrev pub others_have : ℕ → List (List ℕ) → ℕ → Bool
 others_have zero lists v = false
@@ -80,6 +90,18 @@ pub record Leaves (view : ListView) (test : List ℕ → ℕ → Bool) (after : 
   pub increasing : IsStrictlyIncreasing (take count after)
   pub members : (kind : ListKind) (all : List ℕ) → IsListOf view.lanes view.bytes.now kind all → (v : ℕ) → has (take count after) v ≡ test all v
 
+-- so many values are in front and increase, and there is room for those of the view's list after them
+pub record CanAdd (view : ListView) (count : ℕ) (values : List ℕ) : Type 0 where
+  pub ordered : IsInOrder view
+  pub within : count ≤ length values
+  pub increasing : IsStrictlyIncreasing (take count values)
+  pub room : FitsIn (length values - count) view
+
+-- so many values are in front: those that were there before, and those of the view's list; no more are added than the list has
+pub record Adds (view : ListView) (before after : List ℕ) (count : ℕ) : Type 0 where
+  pub leaves : Leaves view (λ all v. has before v || has all v) after count
+  pub few : (room : ℕ) → FitsIn room view → count ≤ length before + room
+
 -- ---- answers
 
 -- the values were written to the front, and their number is the answer; or a list is plain and the answer is -23, or there is less room
@@ -93,6 +115,10 @@ Writes false room values before after answer =
 -- the values that all lists have, each once
 abbrev pub Intersects : Lists → List ℕ → List ℕ → ℤ → Type 0
 Intersects lists = Writes (any_plain lists) (shortest_len lists) (shared_by_all (all_distinct lists))
+
+-- the values that any list has, each once
+abbrev pub Unites : Lists → List ℕ → List ℕ → ℤ → Type 0
+Unites lists = Writes (any_plain lists) (total_len lists) (united_all (all_distinct lists))
 
 -- the values that the first list has and no other, each once
 abbrev pub Subtracts : Lists → List ℕ → List ℕ → ℤ → Type 0

@@ -9,16 +9,17 @@ ghost use Rattle.std.specs.List.Sorted.{IsStrictlyIncreasing};
 ghost use Rattle.bitpack_lists.specs.declared.list_kind.ListKind.{ListKind};
 ghost use Rattle.bitpack_lists.specs.Distinct.{distinct};
 ghost use Rattle.bitpack_lists.specs.Increasing.{has};
-ghost use Rattle.bitpack_lists.specs.Many.{all_have};
+ghost use Rattle.bitpack_lists.specs.InFront.{AreInFront};
+ghost use Rattle.bitpack_lists.specs.Many.{all_have, united_all};
 ghost use Rattle.bitpack_lists.specs.Remaining.{remaining};
 ghost use Rattle.bitpack_lists.specs.Texts.{IsText, fault_of_either, version_in};
-ghost use Rattle.bitpacking_c.specs.Sets.{AreListsOf, FitsIn, HasLength, Intersects, IsInOrder, Leaves, Lists, Subtracts, all_values, any_plain, others_have, shortest_len, values_at};
+ghost use Rattle.bitpacking_c.specs.Sets.{Adds, AreListsOf, CanAdd, FitsIn, HasLength, HasRoom, Intersects, IsInOrder, Leaves, Lists, Subtracts, Unites, all_distinct, all_values, any_plain, others_have, shortest_len, total_len, values_at};
 ghost use Rattle.bitpacking_c.specs.Views.{IsListOf};
 
 use super::list_view::{ListView, bitpacking_list_len, kind};
 use bitpack_lists::ListKind;
 use bitpack_lists::list2::PackedList;
-use bitpack_lists::sorted::{DistinctValues, collect_to, intersect_in_place, subtract_in_place};
+use bitpack_lists::sorted::{DistinctValues, collect_to, intersect_in_place, subtract_in_place, unite_in_place};
 use bitpacking::{BitPacker, BitPacker1x, BitPacker4x, BitPacker8x};
 
 /// Writes the values that all of the lists have to the front of `out`, each once and in increasing order, and answers their number.
@@ -57,6 +58,35 @@ fn intersect(views: &[ListView<'_>], shortest: usize, out: &mut [u32]) -> usize
         }
     }
     kept
+}
+
+/// Writes the values that any of the lists has to the front of `out`, each once and in increasing order, and answers their number.
+/// If a list is plain it answers -23, and if there is less room than the sum of the lengths -3; then it writes nothing.
+#[unsafe(no_mangle)]
+pub extern "C" fn bitpacking_list_unite(views: &[ListView<'_>], out: &mut [u32]) -> isize
+    ensures { (lists : Lists) → AreListsOf views.now lists → Unites lists out.old out.new result }
+{
+    if has_plain(views) {
+        return -23;
+    }
+    if !has_room(views, out.len()) {
+        return -3;
+    }
+    unite(views, out) as isize
+}
+
+/// Writes what any of the lists has. Returns how many values this is.
+fn unite(views: &[ListView<'_>], out: &mut [u32]) -> usize
+    requires { All IsInOrder views.now × HasRoom views.now (length out.old) }
+    ensures few { result ≤ length out.old }
+    ensures united { (lists : Lists) → AreListsOf views.now lists
+        → AreInFront result (united_all (all_distinct lists)) out.new }
+{
+    let mut written = 0;
+    for index in 0..views.len() {
+        written = add_distinct(&views[index], written, out);
+    }
+    written
 }
 
 /// Writes the values of the first list that no other has to the front of `out`, each once and in increasing order, and answers their
@@ -113,6 +143,22 @@ fn shortest(views: &[ListView<'_>]) -> (usize, usize)
     (shortest, least)
 }
 
+/// Whether there is room for the values of all lists, one list after the other.
+fn has_room(views: &[ListView<'_>], room: usize) -> bool
+    ensures room { result ≡ true → HasRoom views.now room }
+    ensures short { result ≡ false → (lists : Lists) → AreListsOf views.now lists → room < total_len lists }
+{
+    let mut left = room;
+    for view in views {
+        let len = bitpacking_list_len(view);
+        if left < len {
+            return false;
+        }
+        left -= len;
+    }
+    true
+}
+
 /// Whether a list is plain.
 fn has_plain(views: &[ListView<'_>]) -> bool
     ensures plain { (lists : Lists) → AreListsOf views.now lists → result ≡ any_plain lists }
@@ -131,8 +177,9 @@ fn has_plain(views: &[ListView<'_>]) -> bool
 fn distinct_of<'a, P: BitPacker>(packer: P, view: &ListView<'a>) -> DistinctValues<'a, P>
     requires lanes { view.now.lanes ≡ P.lanes }
     requires ordered { IsInOrder view.now }
-    ensures { (kind : ListKind) (all : List ℕ) → IsListOf view.now.lanes view.now.bytes.now kind all
+    ensures values { (kind : ListKind) (all : List ℕ) → IsListOf view.now.lanes view.now.bytes.now kind all
         → remaining result ≡ distinct all }
+    ensures some { (kind : ListKind) × (all : List ℕ) × IsListOf view.now.lanes view.now.bytes.now kind all }
 {
     DistinctValues::new(PackedList::from_validated_any(packer, view.bytes).cursor())
 }
@@ -187,4 +234,30 @@ fn keep_others(view: &ListView<'_>, values: &mut [u32]) -> usize
         4 => subtract_in_place(values, &mut distinct_of(BitPacker4x::new(), view)),
         _ => subtract_in_place(values, &mut distinct_of(BitPacker8x::new(), view)),
     }
+}
+
+/// Adds the values of a list to the first `count` of a slice, and returns how many these are together.
+fn add_distinct(view: &ListView<'_>, count: usize, values: &mut [u32]) -> usize
+    requires { CanAdd view.now count values.old }
+    ensures { Adds view.now (take count values.old) values.new result }
+{
+    match view.lanes {
+        0 => count,
+        1 => add_distinct_of(BitPacker1x::new(), view, count, values),
+        4 => add_distinct_of(BitPacker4x::new(), view, count, values),
+        _ => add_distinct_of(BitPacker8x::new(), view, count, values),
+    }
+}
+
+/// Adds the values of a list of a packer.
+fn add_distinct_of<P: BitPacker>(
+    packer: P,
+    view: &ListView<'_>,
+    count: usize,
+    values: &mut [u32],
+) -> usize
+    requires { (view.now.lanes ≡ P.lanes) × CanAdd view.now count values.old }
+    ensures { Adds view.now (take count values.old) values.new result }
+{
+    unite_in_place(values, count, &mut distinct_of(packer, view))
 }

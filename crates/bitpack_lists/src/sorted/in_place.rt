@@ -1,13 +1,14 @@
 //! The increasing values of a slice, combined with a cursor in their place.
 
-ghost use Rattle.std.specs.Prelude.{◌≡◌, ◌≤◌, IfSome, List, None, [], drop, length};
+ghost use Rattle.std.specs.Prelude.{◌≡◌, ◌+◌, ◌≤◌, IfSome, List, None, [], drop, length, take};
 ghost use Rattle.std.specs.List.Sorted.{IsStrictlyIncreasing};
-ghost use Rattle.bitpack_lists.specs.Increasing.{shared, without};
+ghost use Rattle.bitpack_lists.specs.Increasing.{shared, united, without};
 ghost use Rattle.bitpack_lists.specs.InFront.{AreInFront};
-ghost use Rattle.bitpack_lists.specs.inner.InPlace.{IsNextShared};
+ghost use Rattle.bitpack_lists.specs.inner.InPlace.{IsNextShared, IsNextUnited, IsRoomBefore};
 
 use super::and::next_shared;
 use super::increasing_slice::IncreasingSlice;
+use super::or::{least, pass};
 use super::retaining::finds_next;
 use super::sorted_cursor::SortedCursor;
 
@@ -59,6 +60,42 @@ pub fn subtract_in_place<C: SortedCursor>(values: &mut [u32], cursor: &mut C) ->
     kept
 }
 
+/// Adds the values of a cursor to the first `count` values of a slice, which increase. Then the values of both are at the front, in
+/// increasing order and each once. Returns how many these are.
+///
+/// The slice needs room for all: as many values as the cursor has left, after the first `count`. What is after the values that are
+/// returned is of no use. The cursor moves to its end. Allocates nothing.
+///
+/// ```text
+/// let mut ids = [3, 5, 9, 0, 0];
+/// let all = unite_in_place(&mut ids, 3, &mut cursor);          // at 5, 7
+/// ids[..all]                                                   // 3, 5, 7, 9
+/// ```
+pub fn unite_in_place<C: SortedCursor>(values: &mut [u32], count: usize, cursor: &mut C) -> usize
+    requires increasing { IsStrictlyIncreasing (take count values.old) }
+    requires room { count + length (C.rest cursor.old) ≤ length values.old }
+    ensures { AreInFront result (united (take count values.old) (C.rest cursor.old)) values.new }
+{
+    let start = values.len() - count;
+    values.copy_within(0..count, start);
+    merge_to_front(values, start, cursor)
+}
+
+/// Merges the values from an index on with a cursor, and writes them to the front. Returns how many these are.
+fn merge_to_front<C: SortedCursor>(values: &mut [u32], start: usize, cursor: &mut C) -> usize
+    requires { IsRoomBefore start values.old (C.rest cursor.old) }
+    ensures { AreInFront result (united (drop start values.old) (C.rest cursor.old)) values.new }
+{
+    let mut written = 0;
+    let mut from = start;
+    while let Some((value, next)) = next_united_from(values, from, cursor) {
+        values[written] = value;
+        written += 1;
+        from = next;
+    }
+    written
+}
+
 /// The first index from one on whose value a cursor has too. Moves the cursor there.
 #[inline(always)]
 fn next_shared_from<C: SortedCursor>(values: &[u32], from: usize, cursor: &mut C) -> Option<usize>
@@ -72,4 +109,24 @@ fn next_shared_from<C: SortedCursor>(values: &[u32], from: usize, cursor: &mut C
         None => None,
         Some(_value) => Some(values.len() - ahead.len()),
     }
+}
+
+/// The first value that is left from an index on or in a cursor, and the index of the values after it. Moves the cursor past it.
+#[inline(always)]
+fn next_united_from<C: SortedCursor>(
+    values: &[u32],
+    from: usize,
+    cursor: &mut C,
+) -> Option<(u32, usize)>
+    requires { (from ≤ length values.now) × IsStrictlyIncreasing (drop from values.now) }
+    ensures none { result ≡ None → united (drop from values.now) (C.rest cursor.old) ≡ [] }
+    ensures some { IfSome result (IsNextUnited values.now from (C.rest cursor.old) (C.rest cursor.new)) }
+{
+    let mut ahead = IncreasingSlice::new(&values[from..]);
+    let Some(value) = least(&ahead, cursor) else {
+        return None;
+    };
+    pass(&mut ahead, value);
+    pass(cursor, value);
+    Some((value, values.len() - ahead.len()))
 }

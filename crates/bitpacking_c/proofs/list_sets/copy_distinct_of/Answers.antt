@@ -48,11 +48,11 @@ returns g c =
     let old = remaining c.distinct_of.result in
     let done : take c.collect_to.result c.collect_to.new.out ≡ old =
     written_all (take c.collect_to.result c.collect_to.new.out) (remaining c.collect_to.new.cursor) old (values list) (length c.args.out.now)
-    c.collect_to.ensures.all (c.distinct_of.ensures (kind_of list) (values list) is) (c.requires.room.1 (kind_of list) (values list) is)
+    c.collect_to.ensures.all (c.distinct_of.ensures.values (kind_of list) (values list) is) (c.requires.room.1 (kind_of list) (values list) is)
     c.collect_to.ensures.whole in
     let cursor = c.distinct_of.result.cursor in
     record {
       few = omega (arith, c.collect_to.ensures.rest.0, c.collect_to.auto.out);
       increasing = rw done (strictly_from_increasing old (increasing_rest (values_of_cursor cursor) (position cursor) c.distinct_of.result.ordered));
-      members = λ kind all is v. ap (λ xs. has xs v) (done ∙ c.distinct_of.ensures kind all is) ∙ has-distinct all v;
+      members = λ kind all is v. ap (λ xs. has xs v) (done ∙ c.distinct_of.ensures.values kind all is) ∙ has-distinct all v;
     }
