@@ -1,5 +1,6 @@
 /* Reads the tables vectors/lists2.tsv, lists3.tsv, refused2.tsv and refused3.tsv, one after the other. Packs the values of each list, which
-   has to give its bytes, and opens each text with bitpacking_list_open. Prints what is wrong, and last how many lists and refusals it read. */
+   has to give its bytes, and opens each text with bitpacking_list_open. Prints what is wrong, and last how many lists and
+   refusals it read. */
 #include "bitpacking.h"
 #include "tables.h"
 
