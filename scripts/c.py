@@ -1,11 +1,11 @@
 #!/usr/bin/env python3
 """Compiles and runs the C programs over the archive for all levels of the processor and the archive of each level: those of examples/,
-whose output is worked by hand, scripts/calls.c, list_calls.c and cursor.c, and scripts/tables.c and sets.c over the tables of vectors/. They are
-compiled as C99 with every warning an error and run with little stack, and once more with the address sanitizer if the compiler has it. The
-two programs of calls are also compiled as C++11 and C++17, without a cast of C in the header; scripts/calls.c also runs over the archive for
-all levels on a processor of each level that qemu gives. It has to name every macro of the header. The archives are those that
-scripts/archives.py wrote, which is called if they are not there. The last line is 'N passed, M failed'; a part that is left out because a
-tool is missing is named.
+whose output is worked by hand, scripts/calls.c, list_calls.c and cursor.c, and scripts/tables.c, sets.c and damaged.c over the tables of
+vectors/. They are compiled as C99 with every warning an error and run with little stack, and once more with the address sanitizer if the
+compiler has it. The two programs of calls are also compiled as C++11 and C++17, without a cast of C in the header; scripts/calls.c also
+runs over the archive for all levels on a processor of each level that qemu gives, and has to name every macro of the header. Over that
+archive scripts/damaged.c opens a million damaged lists once more. The archives are those that scripts/archives.py wrote, which is called
+if they are not there. The last line is 'N passed, M failed'; a part that is left out because a tool is missing is named.
 """
 import re
 import resource
@@ -24,6 +24,7 @@ CALLS = "scripts/calls.c"
 LIST_CALLS = "scripts/list_calls.c"
 TABLES = "scripts/tables.c"
 SETS = "scripts/sets.c"
+DAMAGED = "scripts/damaged.c"
 STACK = 256 << 10  # bytes; the sanitizer needs more
 SANITIZED = ["-fsanitize=address,undefined", "-fno-sanitize-recover=all"]
 # The index of the documents 1 to 1000, by hand: 500, 333 and 200 numbers. The codes of the lists are gaps less one: 1 of even (of its
@@ -51,10 +52,23 @@ PROGRAMS = {
     LIST_CALLS: "",
     # Each row of the tables that it is given.
     TABLES: "532 lists, 725 refusals\n",
+    # Of a fixed seed and these tables: other rows give other numbers.
+    DAMAGED: "50000 damaged lists: "
+    "10461 opened, 12631 Short, 2021 BadVersion, 2088 BadKind, 1223 WrongLanes, "
+    "1314 TooLong, 2467 BadWidth, 1027 LooseWidth, 2411 BadOffset, 2795 BadLast, "
+    "2465 NotSorted, 5519 Trailing, 2679 BadNumber, 899 Padding\n",
     # The lists of the tables that are in order: each alone, n ^ 2 pairs, and as many triples of 17 of them, by three calls.
     SETS: "370 lists, 426549 combined\n",
 }
 VECTORS = {TABLES: ["lists2", "lists3", "refused2", "refused3"], SETS: ["lists2", "lists3"]}
+VECTORS[DAMAGED] = VECTORS[TABLES]
+# The same of a million damaged lists.
+MILLION = (
+    "1000000 damaged lists: "
+    "208357 opened, 250530 Short, 40476 BadVersion, 41856 BadKind, 24996 WrongLanes, "
+    "27305 TooLong, 48691 BadWidth, 19743 LooseWidth, 48075 BadOffset, 56156 BadLast, "
+    "49931 NotSorted, 110783 Trailing, 54726 BadNumber, 18375 Padding\n"
+)
 
 
 def works(command, **given):
@@ -90,15 +104,16 @@ def given(program):
     return {"input": "".join(source(f"vectors/{table}.tsv") for table in VECTORS[program])} if program in VECTORS else {}
 
 
-def compiled_and_run(archive, path, command, **more):
-    """What is wrong with a program over an archive, or None. The command is that of the compiler."""
+def compiled_and_run(archive, path, command, arguments=(), printed=None, **more):
+    """What is wrong with a program over an archive, or None. The command is that of the compiler. It prints what PROGRAMS says, or with
+    arguments what is given here."""
     with tempfile.TemporaryDirectory(prefix="c-") as folder:
         program = f"{folder}/program"
         right, text = works([*command, f"{ROOT}/{path}", "-x", "none", archive, "-o", program])
         if not right:
             return text
-        right, text = works([program], **given(path), **more)
-        return None if right and text == PROGRAMS[path] else f"it failed, and printed {text[:2000]}"
+        right, text = works([program, *arguments], **given(path), **more)
+        return None if right and text == (printed or PROGRAMS[path]) else f"it failed, and printed {text[:2000]}"
 
 
 def on_other_processors():
@@ -154,6 +169,8 @@ def checks():
             command = ["c++", f"-std={standard}", *STRICT, "-x", "c++"]
             for program in [CALLS, LIST_CALLS]:
                 yield f"{program} as {standard} at {level}", compiled_and_run(archive, program, command)
+    command = [*C99, "-O2"]
+    yield f"{DAMAGED} with a million lists", compiled_and_run(f"{archives.OUT}/{archives.ALL}", DAMAGED, command, ["1000000"], MILLION)
     yield from on_other_processors()
 
 

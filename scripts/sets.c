@@ -2,14 +2,10 @@
    alone, with each other, and with each two of a few, and compares what the calls on many lists write with the tables' values. Prints
    what is wrong, and last how many lists it read and how often it combined some. */
 #include "bitpacking.h"
+#include "tables.h"
 
-#include <stdio.h>
-#include <stdlib.h>
-#include <string.h>
+enum { MOST = 1000, FEW = 16, LONGEST = 1 << 15, BYTES = 1 << 22, VALUES = 1 << 20, GUARD = 0x5A5A5A5A };
 
-enum { LINE = 1 << 16, MOST = 1000, FEW = 16, LONGEST = 1 << 15, BYTES = 1 << 22, VALUES = 1 << 20, GUARD = 0x5A5A5A5A };
-
-static char line[LINE];
 static uint8_t bytes[BYTES];
 static uint32_t values[VALUES], expected[LONGEST], out[LONGEST + 1];
 static size_t bytes_used, values_used, count;
@@ -118,41 +114,19 @@ static void combine(size_t a, size_t b, size_t c, size_t len)
     compare("what any has", bitpacking_list_unite, which, len, expect_all(which, len), total);
 }
 
-/* The bytes of hexadecimal digits. */
-static size_t read_bytes(const char *digits)
-{
-    size_t len = 0;
-    unsigned byte;
-
-    for (; sscanf(digits, "%2x", &byte) == 1; digits += 2)
-        bytes[bytes_used + len++] = (uint8_t)byte;
-    return len;
-}
-
-/* The values between commas, or none of "-". */
-static size_t read_values(char *text)
-{
-    size_t len = 0;
-    char *end;
-
-    for (; *text != '-' && *text != 0; text = *end == ',' ? end + 1 : end)
-        values[values_used + len++] = (uint32_t)strtoul(text, &end, 10);
-    return len;
-}
-
 static void read_list(char *column[4])
 {
-    size_t size = read_bytes(column[3]);
+    size_t size = read_bytes(column[3], bytes + bytes_used);
     bitpacking_list view = BITPACKING_LIST_EMPTY;
 
     expect(bitpacking_list_open(bytes + bytes_used, size, &view) == 0, "it is refused", count, 0, 0);
     bytes_used += size;
-    if (*column[0] == 'p') {
+    if (kind_of(column[0]) == 0) {
         plain = view;
         return;
     }
     lists[count].values = values + values_used;
-    lists[count].len = read_values(column[2]);
+    lists[count].len = read_values(column[2], values + values_used);
     values_used += lists[count].len;
     lists[count++].view = view;
 }
@@ -160,19 +134,10 @@ static void read_list(char *column[4])
 int main(void)
 {
     size_t a, b, c;
+    char *column[4];
 
-    while (fgets(line, sizeof line, stdin)) {
-        char *column[4] = {line, NULL, NULL, NULL};
-        int i;
-
-        for (i = 1; i < 4 && column[i - 1]; i++) {
-            column[i] = strchr(column[i - 1], '\t');
-            if (column[i])
-                *column[i]++ = 0;
-        }
-        if (column[3] && strcmp(column[3], "bytes\n") != 0)
-            read_list(column);
-    }
+    while (next_row(column))
+        read_list(column);
     for (a = 0; a < count; a++) {
         combine(a, 0, 0, 1);
         for (b = 0; b < count; b++)

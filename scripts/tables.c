@@ -1,15 +1,11 @@
 /* Reads the tables vectors/lists2.tsv, lists3.tsv, refused2.tsv and refused3.tsv, one after the other. Packs the values of each list, which
-   has to give its bytes, and opens each text with bitpacking_list_open. A row is "kind, lanes, values, bytes" of a list, or "lanes, number, fault, bytes" of a text that is refused. Prints
-   what is wrong, and last how many lists and refusals it read. */
+   has to give its bytes, and opens each text with bitpacking_list_open. Prints what is wrong, and last how many lists and
+   refusals it read. */
 #include "bitpacking.h"
+#include "tables.h"
 
-#include <stdio.h>
-#include <stdlib.h>
-#include <string.h>
+enum { LONGEST = 1 << 15 };
 
-enum { LINE = 1 << 16, LONGEST = 1 << 15 };
-
-static char line[LINE];
 static uint8_t bytes[LINE / 2], packed[LINE / 2 + 1];
 static uint32_t values[LONGEST], found[LONGEST + 1];
 static int failed;
@@ -22,35 +18,8 @@ static void expect(int right, const char *what)
     }
 }
 
-/* The bytes of hexadecimal digits, or none of "-". */
-static size_t read_bytes(const char *digits)
-{
-    size_t len = 0;
-    unsigned byte;
-
-    for (; sscanf(digits, "%2x", &byte) == 1; digits += 2)
-        bytes[len++] = (uint8_t)byte;
-    return len;
-}
-
-/* The values between commas, or none of "-". */
-static size_t read_values(char *text)
-{
-    size_t len = 0;
-    char *end;
-
-    for (; *text != '-' && *text != 0; text = *end == ',' ? end + 1 : end)
-        values[len++] = (uint32_t)strtoul(text, &end, 10);
-    return len;
-}
-
 typedef ptrdiff_t (*list_pack)(uint8_t, uint8_t, const uint32_t *, size_t, uint8_t *, size_t, size_t *);
 typedef ptrdiff_t (*list_size)(uint8_t, uint8_t, const uint32_t *, size_t, size_t *);
-
-static uint8_t kind_of(const char *name)
-{
-    return *name == 'p' ? 0 : name[1] == 'o' ? 1 : 2;
-}
 
 static int all_are(const uint8_t *text, size_t len, uint8_t byte)
 {
@@ -115,26 +84,17 @@ static void refuses(int number, size_t size)
 int main(void)
 {
     size_t lists = 0, refusals = 0;
+    char *column[4];
 
-    while (fgets(line, sizeof line, stdin)) {
-        char *column[4] = {line, NULL, NULL, NULL};
-        int i;
-
-        for (i = 1; i < 4 && column[i - 1]; i++) {
-            column[i] = strchr(column[i - 1], '\t');
-            if (column[i])
-                *column[i]++ = 0;
-        }
-        if (!column[3] || strcmp(column[3], "bytes\n") == 0)
-            continue;
-        if (*line >= '0' && *line <= '9') {
-            refuses(atoi(column[1]), read_bytes(column[3]));
+    while (next_row(column)) {
+        if (is_refusal(column)) {
+            refuses(atoi(column[1]), read_bytes(column[3], bytes));
             refusals++;
         } else {
-            size_t count = read_values(column[2]), size = read_bytes(column[3]);
+            size_t count = read_values(column[2], values), size = read_bytes(column[3], bytes);
 
-            packs(kind_of(line), atoi(column[1]), count, size);
-            accepts(line, count, size);
+            packs(kind_of(column[0]), atoi(column[1]), count, size);
+            accepts(column[0], count, size);
             lists++;
         }
     }

@@ -1,0 +1,358 @@
+/* Opens damaged lists of versions 2 and 3 between pages that nothing may read or write, and compares each answer with plain_reader.h, which
+   is written from docs/FORMAT.md. The lists are the texts of the tables lists2, lists3, refused2 and refused3 of vectors/, read one after
+   the other, and others that the library packs. Its argument is how many lists to open, 50,000 without one; the seed is fixed. Prints what
+   is wrong, and last one line of how many lists were opened and how many were refused by each fault. */
+#define _DEFAULT_SOURCE
+#include "bitpacking.h"
+#include "plain_reader.h"
+#include "tables.h"
+
+#include <signal.h>
+#include <sys/mman.h>
+#include <unistd.h>
+
+enum { ROWS = 2000, POOL = 1 << 20, LONGEST = 1 << 15, MANY = 32 * LONGEST, PACKED = 700, UNSET = 0x5A5A5A5A };
+
+static const char *const names[FAULTS] = {
+    "opened",     "Short",     "BadVersion", "BadKind",   "WrongLanes", "TooLong", "BadWidth",
+    "LooseWidth", "BadOffset", "BadLast",    "NotSorted", "Trailing",   "",        "BadNumber", "Padding"};
+static uint8_t pool[POOL], text[LONGEST], other[LONGEST], *bytes_room;
+static uint32_t values[MANY + 1], *values_room;
+static bitpacking_cursor *cursor;
+static size_t row_at[ROWS], row_len[ROWS], rows, pool_len, text_len;
+static unsigned long number, by_fault[FAULTS], by_rule[2][RULES];
+static int at_end, failed;
+
+static void expect(int right, const char *what)
+{
+    size_t i;
+
+    if (right || failed++ > 10)
+        return;
+    printf("%s: list %lu, ", what, number);
+    for (i = 0; i < text_len && i < 100; i++)
+        printf("%02x", text[i]);
+    printf(" of %lu bytes\n", (unsigned long)text_len);
+}
+
+static void outside(int signal_number)
+{
+    expect(0, "it reads or writes outside");
+    fflush(stdout);
+    _exit(signal_number);
+}
+
+static uint32_t random_number(void)
+{
+    static uint64_t state = 1;
+
+    state = state * 6364136223846793005u + 1442695040888963407u;
+    return (uint32_t)(state >> 32);
+}
+
+static uint32_t below(size_t limit)
+{
+    return (uint32_t)((uint64_t)random_number() * limit >> 32);
+}
+
+/* Room of so many bytes, which are whole pages, with a page before and one after it that nothing may read or write. */
+static void *guarded(size_t size)
+{
+    size_t page = (size_t)sysconf(_SC_PAGESIZE);
+    uint8_t *it = mmap(NULL, size + 2 * page, PROT_NONE, MAP_PRIVATE | MAP_ANONYMOUS, -1, 0);
+
+    if (it == MAP_FAILED || size % page != 0 || mprotect(it + page, size, PROT_READ | PROT_WRITE) != 0) {
+        printf("no room between pages\n");
+        exit(EXIT_FAILURE);
+    }
+    return it + page;
+}
+
+/* Room for some values, beside a guard: nothing is written there yet. */
+static uint32_t *unset(size_t count)
+{
+    uint32_t *room = at_end ? values_room + MANY - count : values_room;
+    size_t i;
+
+    for (i = 0; i < count + !at_end; i++)
+        room[i] = UNSET;
+    return room;
+}
+
+static int is_unset(const uint32_t *room, size_t count)
+{
+    size_t i;
+
+    for (i = 0; i < count + !at_end && room[i] == UNSET; i++)
+        continue;
+    return i == count + !at_end;
+}
+
+/* Packs a list of random values, and returns its length. The whole text has to be the one of these values. */
+static size_t pack(uint8_t *bytes)
+{
+    ptrdiff_t (*const packers[3])(uint8_t, uint8_t, const uint32_t *, size_t, uint8_t *, size_t, size_t *) = {
+        bitpacking_1x_list_pack, bitpacking_4x_list_pack, bitpacking_8x_list_pack};
+    uint32_t packed[PACKED], value = 0, width = 0;
+    size_t most = below(8) < 5 ? below(40) : below(4) ? below(300) : below(PACKED), count = 0, position;
+    uint8_t kind = (uint8_t)below(3);
+    plain_list right = {0};
+    ptrdiff_t size;
+
+    for (; count < most; count++) {
+        uint32_t code;
+
+        if (count % 32 == 0)
+            width = below(kind == 0 || most < 20 ? 33 : 20);
+        code = width == 0 ? 0 : random_number() >> (32 - width);
+        if (kind > 0 && count > 0 && (code >= UINT32_MAX - value || below(500) == 0))
+            code = UINT32_MAX - value, most = 0; /* the greatest value is the last */
+        else if (kind == 2 && count > 0)
+            code++;
+        if (kind == 2 && count > 0 && code == 0)
+            break;
+        packed[count] = value = kind == 0 ? code : value + code;
+    }
+    size = packers[below(3)]((uint8_t)(2 + below(2)), kind, packed, count, bytes, LONGEST, &position);
+    right.values = values;
+    expect(size > 0 && plain_read(&right, bytes, (size_t)size, 0) == NONE && right.kind == kind && right.count == count
+           && memcmp(values, packed, 4 * count) == 0, "another list is packed");
+    return size > 0 ? (size_t)size : 0;
+}
+
+/* A text that is not damaged: of a list that is packed, or of a row. Long rows are rare. */
+static size_t whole(uint8_t *bytes)
+{
+    size_t row = below(rows);
+
+    if (below(2))
+        return pack(bytes);
+    while (row_len[row] > 400 && below(16))
+        row = below(rows);
+    memcpy(bytes, pool + row_at[row], row_len[row]);
+    return row_len[row];
+}
+
+/* Puts some bytes in the place of others, if there is room. */
+static void replace(size_t from, size_t len, const uint8_t *bytes, size_t bytes_len)
+{
+    if (text_len - len + bytes_len > LONGEST)
+        return;
+    memmove(text + from + bytes_len, text + from + len, text_len - from - len);
+    memcpy(text + from, bytes, bytes_len);
+    text_len += bytes_len - len;
+}
+
+static uint8_t odd_byte(void)
+{
+    static const uint8_t odd[12] = {0, 1, 2, 3, 4, 8, 31, 32, 33, 127, 128, 255};
+
+    return below(3) ? odd[below(12)] : (uint8_t)below(256);
+}
+
+/* Sets the count, or another word or number of the text, to an extreme or to a form that it must not have. */
+static void damage_number(void)
+{
+    static const uint8_t words[8][4] = {{0}, {31}, {32}, {0, 1}, {0, 0, 0, 16}, {1, 0, 0, 16}, {255, 255, 255, 127}, {255, 255, 255, 255}};
+    static const uint8_t numbers[9][5] = {{14}, {15}, {143, 0}, {128, 2}, {128, 128, 128, 128, 1}, {129, 128, 128, 128, 1},
+                                          {255, 255, 255, 255, 15}, {128, 128, 128, 128, 16}, {128, 128, 128, 128, 128}};
+    const uint8_t *of = numbers[below(9)];
+    size_t at = text[0] == 2 ? 3 : 1, len = 0, new_len = 1;
+
+    if (text[0] == 2 || below(4) == 0) {
+        at = below(4) ? at : below(4) ? 8 + 4 * below(2) + 9 * below(3) : below(text_len);
+        if (at + 4 <= text_len)
+            memcpy(text + at, words[below(8)], 4);
+        return;
+    }
+    while (at + len < text_len && len < 4 && text[at + len] > 127)
+        len++;
+    while (new_len < 5 && of[new_len - 1] > 127)
+        new_len++;
+    if (at + len < text_len)
+        replace(at, len + 1, of, new_len);
+}
+
+/* Damages the text once. One of twelve is left whole. */
+static void damage(void)
+{
+    size_t kind = below(12), at = below(2) ? below(text_len) : below(text_len < 24 ? text_len : 24), len = below(10), i;
+    uint8_t more[10];
+
+    for (i = 0; i < 10; i++)
+        more[i] = below(2) ? 0 : odd_byte();
+    if (kind <= 3 && text_len > 0)
+        text[at] ^= (uint8_t)(1 << below(8));
+    else if (kind == 4 && text_len > 0)
+        text[at] = odd_byte();
+    else if (kind == 5 && text_len > 0)
+        text_len -= 1 + (below(2) ? below(text_len) : below(text_len < 8 ? text_len : 8));
+    else if (kind == 6)
+        replace(text_len, 0, more, 1 + below(9));
+    else if (kind == 7)
+        replace(at, len < text_len - at ? len : text_len - at, more, below(10));
+    else if (kind == 8) {
+        size_t other_len = whole(other), from = below(other_len + 1);
+
+        len = below(text_len - at + 1);
+        replace(at, len, other + from, below(2) && len < other_len - from ? len : below(other_len - from + 1));
+    } else if (kind == 9 && text_len > 0)
+        text[below(text_len < 3 ? text_len : 3)] = odd_byte();
+    else if (kind == 10 && text_len > 0)
+        damage_number();
+}
+
+/* Unpacks, gets and searches. */
+static void reads(const bitpacking_list *view, const plain_list *right)
+{
+    size_t n = right->count, i, wanted, from = below(n + 3), len = below(n + 3);
+    uint32_t *room = unset(n);
+
+    expect(bitpacking_list_len(view) == n && bitpacking_list_kind(view) == right->kind, "another length or kind");
+    expect(bitpacking_list_unpack(view, room, n) == (ptrdiff_t)n && memcmp(room, values, 4 * n) == 0, "other values");
+    expect(at_end || room[n] == UNSET, "it writes after the values");
+    if (n > 0) {
+        room = unset(n - 1);
+        expect(bitpacking_list_unpack(view, room, n - 1) == BITPACKING_SHORT && is_unset(room, n - 1), "it has too little room");
+    }
+    room = unset(len);
+    wanted = from >= n ? 0 : n - from < len ? n - from : len;
+    expect(bitpacking_list_range(view, from, room, len) == (ptrdiff_t)wanted, "another number of values in a range");
+    expect(memcmp(room, values + (wanted ? from : 0), 4 * wanted) == 0 && is_unset(room + wanted, len - wanted), "another range");
+    for (i = 0; i < 4; i++) {
+        size_t at = i == 0 ? n : i == 1 && n > 0 ? n - 1 : below(n + 1), position = 77;
+        uint32_t value = UNSET, target = i == 0 ? UINT32_MAX : n > 0 ? values[below(n)] + (uint32_t)i - 1 : 0;
+        int32_t found = at < n;
+
+        expect(bitpacking_list_get(view, at, &value) == found && value == (found ? values[at] : UNSET), "another value");
+        for (at = 0; at < n && values[at] < target; at++)
+            continue;
+        found = right->kind == 0 ? BITPACKING_LIST_BAD_KIND : at < n;
+        value = UNSET;
+        expect(bitpacking_list_seek(view, target, &position, &value) == found, "another answer of a search");
+        expect(found == 1 ? position == at && value == values[at] : position == 77 && value == UNSET, "it finds another value");
+    }
+}
+
+static void walks(const bitpacking_list *view, const plain_list *right)
+{
+    size_t n = right->count, at, len, i;
+    const uint32_t *block;
+    uint32_t value = UNSET;
+
+    bitpacking_cursor_start(cursor, view);
+    for (at = 0; at < n; at++) {
+        expect(bitpacking_cursor_value(cursor, &value) == 1 && value == values[at], "another value at a cursor");
+        expect(bitpacking_cursor_position(cursor) == at && bitpacking_cursor_advance(cursor) == (at + 1 < n), "a cursor is elsewhere");
+    }
+    value = UNSET;
+    expect(bitpacking_cursor_value(cursor, &value) == 0 && value == UNSET, "a value after the last");
+    expect(bitpacking_cursor_advance(cursor) == 0, "a cursor goes on after the last value");
+    bitpacking_cursor_start(cursor, view);
+    for (at = 0; (len = bitpacking_cursor_block(cursor, &block)) > 0 && len <= n - at; at += len) {
+        expect(memcmp(block, values + at, 4 * len) == 0, "another block at a cursor");
+        bitpacking_cursor_skip_block(cursor);
+    }
+    expect(at == n && bitpacking_cursor_position(cursor) == n, "the blocks of a cursor end elsewhere");
+    bitpacking_cursor_start(cursor, view);
+    for (at = i = 0; i < 3; i++) {
+        uint32_t target = n > 0 ? values[below(n)] + (uint32_t)i : 0;
+
+        for (; right->kind > 0 && at < n && values[at] < target; at++)
+            continue;
+        expect(bitpacking_cursor_seek(cursor, target) == (right->kind == 0 ? BITPACKING_LIST_BAD_KIND : at < n), "a cursor seeks another");
+        expect(bitpacking_cursor_position(cursor) == at, "a cursor goes elsewhere");
+    }
+}
+
+/* Opens a damaged text, as one of any packer and as one of a packer, and compares. */
+static void compare(void)
+{
+    static ptrdiff_t (*const opens[3])(const uint8_t *, size_t, bitpacking_list *) = {bitpacking_1x_list_open, bitpacking_4x_list_open,
+                                                                                      bitpacking_8x_list_open};
+    uint8_t *bytes = at_end ? bytes_room + LONGEST - text_len : bytes_room;
+    bitpacking_list view = BITPACKING_LIST_EMPTY, one = BITPACKING_LIST_EMPTY;
+    plain_list right = {0};
+    size_t packer = below(3);
+    enum fault fault;
+
+    right.values = values;
+    memcpy(bytes, text, text_len);
+    fault = plain_read(&right, text, text_len, packer == 0 ? 1 : 4 * (uint32_t)packer);
+    expect(opens[packer](bytes, text_len, &one) == (fault ? -20 - (ptrdiff_t)fault : 0), "a packer gives another answer");
+    expect(one.bytes == (fault ? NULL : bytes) && one.bytes_len == (fault ? 0 : text_len), "a packer opens another list");
+    fault = plain_read(&right, text, text_len, 0);
+    expect(bitpacking_list_open(bytes, text_len, &view) == (fault ? -20 - (ptrdiff_t)fault : 0), "another answer");
+    expect(view.bytes == (fault ? NULL : bytes) && view.lanes == (fault ? 0 : right.lanes), "another list is opened");
+    by_fault[fault]++;
+    if (fault)
+        by_rule[text_len > 0 && text[0] >= 64][right.rule]++;
+    else if (!failed) {
+        reads(&view, &right);
+        walks(&view, &right);
+    }
+    expect(memcmp(bytes, text, text_len) == 0, "the text is changed");
+}
+
+/* Keeps the text of a row. The plain reader has to give what the row says, but for faults of one packer or one version. */
+static void keep(char *column[4])
+{
+    static uint32_t wanted[MANY];
+    plain_list right = {0};
+    enum fault fault;
+
+    text_len = read_bytes(column[3], text);
+    right.values = values;
+    fault = plain_read(&right, text, text_len, 0);
+    if (is_refusal(column)) {
+        int said = atoi(column[1]);
+
+        expect(said == BAD_VERSION || said == WRONG_LANES || (int)fault == said, "the plain reader refuses a row otherwise");
+    } else {
+        size_t count = read_values(column[2], wanted);
+
+        expect(fault == NONE && right.kind == kind_of(column[0]) && right.count == count && memcmp(values, wanted, 4 * count) == 0,
+               "the plain reader reads a row otherwise");
+    }
+    if (rows < ROWS && pool_len + text_len <= POOL) {
+        memcpy(pool + pool_len, text, text_len);
+        row_at[rows] = pool_len, row_len[rows++] = text_len, pool_len += text_len;
+    } else
+        expect(0, "no room for a row");
+}
+
+int main(int arguments, char **argument)
+{
+    unsigned long all = arguments > 1 ? strtoul(argument[1], NULL, 10) : 50000, i;
+    char *column[4];
+
+    bytes_room = guarded(LONGEST);
+    values_room = guarded(4 * MANY);
+    cursor = (bitpacking_cursor *)((uint8_t *)guarded(LONGEST) + LONGEST) - 1;
+    memset(cursor, 0, sizeof *cursor);
+    while (next_row(column))
+        keep(column);
+    signal(SIGSEGV, outside);
+    signal(SIGBUS, outside);
+    for (number = 0; number < all && rows > 0; number++) {
+        text_len = whole(text);
+        damage();
+        while (below(4) == 0)
+            damage();
+        at_end = number % 2 == 0;
+        compare();
+    }
+    text_len = 0;
+    for (i = 0; i < 2 * RULES; i++)
+        if (rule_names[i / RULES][i % RULES] && by_rule[i / RULES][i % RULES] == 0) {
+            printf("no list is refused by rule %s of version %lu\n", rule_names[i / RULES][i % RULES], 2 + i / RULES);
+            failed++;
+        }
+    expect(by_fault[NONE] > all / 8 && by_fault[NONE] < all / 2, "few lists are opened, or few refused");
+    printf("%lu damaged lists", all);
+    for (i = 0; i < FAULTS; i++)
+        if (*names[i])
+            printf("%s %lu %s", i ? "," : ":", by_fault[i], names[i]);
+    printf("\n");
+    return failed > 0;
+}

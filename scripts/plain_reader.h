@@ -1,0 +1,226 @@
+/* A plain reader of packed lists of versions 2 and 3, written from docs/FORMAT.md alone: bit by bit, and rule by rule in the order of its
+   tables. It shares nothing with the library. */
+#ifndef PLAIN_READER_H
+#define PLAIN_READER_H
+
+#include <stddef.h>
+#include <stdint.h>
+#include <string.h>
+
+/* The faults by their numbers, which the page gives, and the rules by which a text is refused. */
+enum fault {
+    NONE, SHORT, BAD_VERSION, BAD_KIND, WRONG_LANES, TOO_LONG, BAD_WIDTH, LOOSE_WIDTH, BAD_OFFSET, BAD_LAST, NOT_SORTED, TRAILING,
+    BAD_NUMBER = 13, PADDING, FAULTS
+};
+enum rule {
+    HEADER, VERSION, KIND, LANES, COUNT_CUT, COUNT_FORM, COUNT, ENTRIES_CUT, ENTRY_WIDTH, ENTRY_OFFSET, BODIES_CUT, BODY_LOOSE, BODY_LAST,
+    FIRST_CUT, FIRST_FORM, GROUP_CUT, GROUP_WIDTH, CODES_CUT, GROUP_LOOSE, GROUP_PADDING, ORDER, END, RULES
+};
+/* What the tables of versions 2 and 3 call them: nothing if a text whose first byte is of the version is never refused by it. */
+static const char *const rule_names[2][RULES] = {
+    {"1", "2", "3", "4", NULL, NULL, "5", "6", "7a", "7b", "8", "9a", "9b", NULL, NULL, NULL, NULL, NULL, NULL, NULL, "10", "11"},
+    {NULL, NULL, "3",   NULL,  "5a",  "5b",  "5c",  "6",   "7a",  "7b", "8",
+     "9a", "9b", "10a", "10b", "11a", "11b", "11c", "11d", "11e", "12", "13"},
+};
+
+/* A text, how far it is read, and what it gave. The values have room for 32 for each byte of the text. */
+typedef struct plain_list {
+    const uint8_t *text;
+    size_t len, at, count;
+    uint32_t lanes, kind, start, *values;
+    enum rule rule;
+} plain_list;
+
+#define NEED(holds, broken, fault) \
+    do { \
+        if (!(holds)) { \
+            list->rule = broken; \
+            return fault; \
+        } \
+    } while (0)
+
+static size_t left(const plain_list *list)
+{
+    return list->len - list->at;
+}
+
+static uint32_t word_at(const uint8_t *bytes)
+{
+    return bytes[0] | (uint32_t)bytes[1] << 8 | (uint32_t)bytes[2] << 16 | (uint32_t)bytes[3] << 24;
+}
+
+static void read_codes(const uint8_t *body, uint32_t lanes, uint32_t width, uint32_t *codes)
+{
+    uint32_t k, j;
+
+    for (k = 0; k < 32 * lanes; k++) {
+        uint32_t row = k / lanes, lane = k % lanes;
+
+        codes[k] = 0;
+        for (j = 0; j < width; j++) {
+            uint32_t p = row * width + j, index = 4 * (lanes * (p / 32) + lane) + p % 32 / 8;
+
+            codes[k] |= (uint32_t)(body[index] >> p % 8 & 1) << j;
+        }
+    }
+}
+
+/* The least width that codes fit. */
+static uint32_t least_width(const uint32_t *codes, size_t count)
+{
+    uint32_t all = 0, width = 0;
+    size_t k;
+
+    for (k = 0; k < count; k++)
+        all |= codes[k];
+    for (; all > 0; all /= 2)
+        width++;
+    return width;
+}
+
+/* Adds the values of some codes after the ones that were read. */
+static void add_values(plain_list *list, const uint32_t *codes, size_t count)
+{
+    size_t k;
+
+    for (k = 0; k < count; k++) {
+        list->start = list->kind == 0 ? codes[k] : list->kind == 1 ? list->start + codes[k] : list->start + codes[k] + 1;
+        list->values[list->count++] = list->start;
+    }
+}
+
+static enum fault read_blocks(plain_list *list, size_t blocks, size_t tail_len)
+{
+    const uint8_t *entries = list->text + list->at;
+    uint32_t codes[256], total = 0;
+    size_t m;
+
+    NEED(left(list) >= 9 * blocks + tail_len, ENTRIES_CUT, SHORT);
+    for (m = 0; m < blocks; m++) {
+        NEED(entries[9 * m] <= 32, ENTRY_WIDTH, BAD_WIDTH);
+        NEED(word_at(entries + 9 * m + 1) == total, ENTRY_OFFSET, BAD_OFFSET);
+        total += entries[9 * m];
+    }
+    list->at += 9 * blocks;
+    NEED(left(list) >= (size_t)4 * list->lanes * total + tail_len, BODIES_CUT, SHORT);
+    list->start = list->kind == 2 ? UINT32_MAX : 0;
+    for (m = 0; m < blocks; m++) {
+        uint32_t width = entries[9 * m];
+
+        read_codes(list->text + list->at, list->lanes, width, codes);
+        NEED(width == least_width(codes, 32 * list->lanes), BODY_LOOSE, LOOSE_WIDTH);
+        add_values(list, codes, 32 * list->lanes);
+        NEED(list->start == word_at(entries + 9 * m + 5), BODY_LAST, BAD_LAST);
+        list->at += 4 * list->lanes * width;
+    }
+    return NONE;
+}
+
+static enum fault in_order(plain_list *list)
+{
+    size_t p;
+
+    for (p = 1; p < list->count && list->kind > 0; p++)
+        NEED(list->values[p - 1] < list->values[p] || (list->kind == 1 && list->values[p - 1] == list->values[p]), ORDER, NOT_SORTED);
+    NEED(left(list) == 0, END, TRAILING);
+    return NONE;
+}
+
+/* Reads a text of version 2. Lanes of 0 are those that the text names. */
+static enum fault read2(plain_list *list, uint32_t lanes)
+{
+    uint32_t named, count;
+    size_t tail;
+    enum fault fault;
+
+    NEED(list->len >= 7, HEADER, SHORT);
+    NEED(list->text[0] == 2, VERSION, BAD_VERSION);
+    NEED(list->text[1] <= 2, KIND, BAD_KIND);
+    named = list->text[2];
+    NEED(lanes ? named == lanes : named == 1 || named == 4 || named == 8, LANES, WRONG_LANES);
+    count = word_at(list->text + 3);
+    NEED(count <= 268435456, COUNT, TOO_LONG);
+    list->kind = list->text[1], list->lanes = named, list->at = 7;
+    tail = count % (32 * named);
+    fault = read_blocks(list, count / (32 * named), 4 * tail);
+    if (fault)
+        return fault;
+    for (; tail > 0; tail--, list->at += 4)
+        list->values[list->count++] = word_at(list->text + list->at);
+    return in_order(list);
+}
+
+static enum fault read_number(plain_list *list, uint32_t *number, enum rule cut, enum rule form)
+{
+    uint64_t value = 0;
+    int j;
+
+    for (j = 0; j < 5; j++) {
+        uint8_t byte;
+
+        NEED(left(list) > 0, cut, SHORT);
+        byte = list->text[list->at++];
+        value += (uint64_t)(byte % 128) << 7 * j;
+        if (byte < 128) {
+            NEED((j == 0 || byte > 0) && value <= UINT32_MAX, form, BAD_NUMBER);
+            *number = (uint32_t)value;
+            return NONE;
+        }
+    }
+    NEED(0, form, BAD_NUMBER);
+}
+
+static enum fault read_group(plain_list *list, size_t count)
+{
+    uint8_t body[128] = {0};
+    uint32_t codes[32], width;
+    size_t size;
+
+    NEED(left(list) > 0, GROUP_CUT, SHORT);
+    width = list->text[list->at++];
+    NEED(width <= 32, GROUP_WIDTH, BAD_WIDTH);
+    size = (count * width + 7) / 8;
+    NEED(left(list) >= size, CODES_CUT, SHORT);
+    memcpy(body, list->text + list->at, size);
+    list->at += size;
+    read_codes(body, 1, width, codes);
+    NEED(width == least_width(codes, count), GROUP_LOOSE, LOOSE_WIDTH);
+    NEED(least_width(codes + count, 32 - count) == 0, GROUP_PADDING, PADDING);
+    add_values(list, codes, count);
+    return NONE;
+}
+
+/* Reads a text of version 3, whose first byte is 64 or more. */
+static enum fault read3(plain_list *list)
+{
+    static const uint32_t lanes[4] = {0, 1, 4, 8};
+    uint32_t count = list->text[0] % 16;
+    enum fault fault = NONE;
+
+    list->kind = list->text[0] / 16 % 4, list->lanes = lanes[list->text[0] / 64], list->at = 1;
+    NEED(list->kind < 3, KIND, BAD_KIND);
+    if (count == 15) {
+        fault = read_number(list, &count, COUNT_CUT, COUNT_FORM);
+        if (fault)
+            return fault;
+        NEED(count >= 15, COUNT_FORM, BAD_NUMBER);
+        NEED(count <= 268435456, COUNT, TOO_LONG);
+    }
+    fault = read_blocks(list, count / (32 * list->lanes), 0);
+    if (!fault && list->count == 0 && count > 0) {
+        fault = read_number(list, &list->start, FIRST_CUT, FIRST_FORM);
+        list->values[list->count++] = list->start;
+    }
+    while (!fault && list->count < count)
+        fault = read_group(list, count - list->count < 32 ? count - list->count : 32);
+    return fault ? fault : in_order(list);
+}
+
+/* Reads a text of version 2 of so many lanes; or if they are 0, of version 2 or 3, of the lanes that it names. */
+static enum fault plain_read(plain_list *list, const uint8_t *text, size_t len, uint32_t lanes)
+{
+    list->text = text, list->len = len, list->at = list->count = 0;
+    return lanes == 0 && len > 0 && text[0] >= 64 ? read3(list) : read2(list, lanes);
+}
+
+#endif
