@@ -341,64 +341,77 @@ static void explain(const struct search *s)
                    (int)word_len(&s->index, i), word_at(&s->index, i));
 }
 
-/* The command `find`. Returns whether a document was found. */
-static int find(char **arguments, int len)
+struct options { int count, explain; size_t best; };
+
+/* Reads the options of `find`, and returns how many arguments they are. */
+static int read_options(char **arguments, int len, struct options *options)
 {
-    struct search search;
-    int count = 0, explained = 0, i;
-    size_t best = 10, found_len;
-    struct ranked *ranked;
-    struct found found;
-    char *end = NULL;
+    char *end;
+    int i;
 
     for (i = 0; i < len; i++) {
         if (strcmp(arguments[i], "--count") == 0) {
-            count = 1;
+            options->count = 1;
         } else if (strcmp(arguments[i], "--explain") == 0) {
-            explained = 1;
+            options->explain = 1;
         } else if (strcmp(arguments[i], "--best") == 0 && i + 1 < len) {
-            best = strtoul(arguments[++i], &end, 10);
+            options->best = strtoul(arguments[++i], &end, 10);
             if (end == arguments[i] || *end)
                 fail("a number is wanted after --best");
         } else {
             break;
         }
     }
-    if (len - i != 2)
-        fail("options, FILE and one QUERY in quotes are wanted: search --help");
+    return i;
+}
+
+/* Answers a query. Returns whether a document was found. */
+static int find(const char *file, const char *query, const struct options *options)
+{
+    struct ranked *ranked = NULL;
+    struct search search;
+    struct found found;
+    size_t len, i;
+
     memset(&search, 0, sizeof search);
-    search.query = arguments[i + 1];
-    open_index(&search.index, arguments[i]);
+    search.query = query;
+    open_index(&search.index, file);
     search.used = checked(calloc(search.index.words + 1, sizeof *search.used));
     found = read_either(&search);
-    if (search.query[search.at])
+    if (query[search.at])
         wrong(&search, search.at, "no bracket is open here");
     note(&search, &found, 1, SIZE_MAX);
-    found_len = bitpacking_list_len(&found.list);
-    ranked = count ? NULL : rank(&search, &found.list);
-    if (explained)
+    if (!options->count)
+        ranked = rank(&search, &found.list);
+    if (options->explain)
         explain(&search);
-    printf("%lu of %lu documents\n", (unsigned long)found_len, (unsigned long)search.index.documents);
-    for (i = 0; ranked && (size_t)i < found_len && (size_t)i < best; i++)
+    len = bitpacking_list_len(&found.list);
+    printf("%lu of %lu documents\n", (unsigned long)len, (unsigned long)search.index.documents);
+    for (i = 0; ranked && i < len && i < options->best; i++)
         print_ranked(&search.index, &ranked[i]);
-    return found_len > 0;
+    return len > 0;
 }
 
 int main(int len, char **arguments)
 {
     const char *command = len > 1 ? arguments[1] : "";
-    int paragraphs = len > 2 && strcmp(arguments[2], "--paragraphs") == 0, found = 1;
+    int paragraphs = len > 2 && strcmp(arguments[2], "--paragraphs") == 0, first, found = 1;
+    struct options options = {0, 0, 10};
 
-    if (strcmp(command, "index") == 0 && len - paragraphs == 4)
+    if (strcmp(command, "index") == 0) {
+        if (len - paragraphs != 4)
+            fail("FOLDER and FILE are wanted: search --help");
         make_index(arguments[len - 2], arguments[len - 1], paragraphs);
-    else if (strcmp(command, "index") == 0)
-        fail("FOLDER and FILE are wanted: search --help");
-    else if (strcmp(command, "find") == 0)
-        found = find(arguments + 2, len - 2);
-    else if (strcmp(command, "--help") == 0)
+    } else if (strcmp(command, "find") == 0) {
+        first = 2 + read_options(arguments + 2, len - 2, &options);
+        if (len - first != 2)
+            fail("options, FILE and one QUERY in quotes are wanted: search --help");
+        found = find(arguments[first], arguments[first + 1], &options);
+    } else if (strcmp(command, "--help") == 0) {
         fputs(help, stdout);
-    else
+    } else {
         fail("the first argument is index or find: search --help");
+    }
     if (fflush(stdout) != 0)
         fail("standard output: %s", strerror(errno));
     return found ? 0 : 1;
