@@ -41,15 +41,21 @@
 extern "C" {
 #endif
 
+/* The version of this header: 1000000 times the major number, 1000 times the minor one, and the number of the patch.
+ * bitpacking_version() returns the one of the archive, which is the same if both are of one version. */
+#define BITPACKING_VERSION 1000
+
+uint32_t bitpacking_version(void);
+
 /* The values of a block. */
 #define BITPACKING_1X_BLOCK_LEN 32
 #define BITPACKING_4X_BLOCK_LEN 128
 #define BITPACKING_8X_BLOCK_LEN 256
 
 /* The bytes of a block at a width. */
-#define BITPACKING_1X_BLOCK_SIZE(num_bits) (4 * (size_t)(num_bits))
-#define BITPACKING_4X_BLOCK_SIZE(num_bits) (16 * (size_t)(num_bits))
-#define BITPACKING_8X_BLOCK_SIZE(num_bits) (32 * (size_t)(num_bits))
+#define BITPACKING_1X_BLOCK_SIZE(num_bits) (4 * sizeof(uint8_t) * (num_bits))
+#define BITPACKING_4X_BLOCK_SIZE(num_bits) (16 * sizeof(uint8_t) * (num_bits))
+#define BITPACKING_8X_BLOCK_SIZE(num_bits) (32 * sizeof(uint8_t) * (num_bits))
 
 /* Limits of blocks, for room that serves every packer. */
 #define BITPACKING_LANE_LEN 32         /* the values of a block in each of its 1, 4 or 8 lanes */
@@ -152,8 +158,8 @@ ptrdiff_t bitpacking_8x_num_bits_strictly_sorted(uint32_t initial, const uint32_
 /* pack_all: packs a chain of widths_len blocks, each at its least width, which goes into widths. The first has the kind and the
  * initial value of the call; each one after it has the last value of the block before as its initial value. Returns the number of
  * bytes written.
- * The first of: BAD_LENGTH: values_len is not that number of blocks; SHORT: out_len is below 4 * values_len, even if the chain
- * would fit. */
+ * The first of: BAD_LENGTH: values_len is not that number of blocks; SHORT: out_len is below the bytes of the chain, which
+ * 4 * values_len never is. With that much room the widths are measured once, and with less twice. */
 ptrdiff_t bitpacking_1x_pack_all(const uint32_t *values, size_t values_len,
                                  uint8_t *widths, size_t widths_len, uint8_t *out, size_t out_len);
 ptrdiff_t bitpacking_1x_pack_all_sorted(uint32_t initial, const uint32_t *values, size_t values_len,
@@ -200,9 +206,10 @@ ptrdiff_t bitpacking_8x_unpack_all_strictly_sorted(uint32_t initial, const uint8
 /* A packed list of version 2 or 3, read in place: a text of a header, an entry for each whole block, the blocks, and the values after
  * them. docs/FORMAT.md of the repository has every byte.
  *
- * A view is set to BITPACKING_LIST_EMPTY before anything else, or all of it to zero, which is an empty list too. Then it is opened, as
- * often as one likes. It has a pointer to the bytes, and no memory of its own. The caller keeps the bytes where they are, unchanged, for as long as the view is used. A view may be
- * copied, and the same is true of the copy. Only the open functions may write the fields.
+ * A view is set to BITPACKING_LIST_EMPTY or bitpacking_list_empty() before anything else, or all of it to zero: each is the empty list.
+ * Then it is opened, as often as one likes. It has a pointer to the bytes, and no memory of its own. The caller keeps the bytes where
+ * they are, unchanged, for as long as the view is used. A view may be copied, and the same is true of the copy. Only the open functions
+ * may write the fields.
  *
  *     bitpacking_list list = BITPACKING_LIST_EMPTY;
  *     uint32_t value;
@@ -215,7 +222,15 @@ typedef struct bitpacking_list {
     uint8_t lanes;
 } bitpacking_list;
 
-#define BITPACKING_LIST_EMPTY {(const uint8_t *)"\2\0\1\0\0\0\0", 7, 1}
+#define BITPACKING_LIST_EMPTY {NULL, 0, 0}
+
+/* A view that is the empty list, for an assignment. */
+static inline bitpacking_list bitpacking_list_empty(void)
+{
+    bitpacking_list list = BITPACKING_LIST_EMPTY;
+
+    return list;
+}
 
 /* Opens a text of version 2 or 3, of the packer that it names. Accepts any bytes, and tests all of them. Returns 0; or the first of the
  * faults below, in the order of docs/FORMAT.md, and then the view is as it was. */
@@ -254,10 +269,139 @@ int32_t bitpacking_list_get(const bitpacking_list *view, size_t position, uint32
  * writes nothing. Values after those of the list stay as they were. Each block is unpacked once. */
 ptrdiff_t bitpacking_list_unpack(const bitpacking_list *view, uint32_t *values, size_t values_len);
 
+/* Unpacks the values from position `from` on, as many as there are and as fit, and returns how many these are: 0 from the length on. Values
+ * after them stay as they were. Each block that has one of them is unpacked once, and no other. */
+ptrdiff_t bitpacking_list_range(const bitpacking_list *view, size_t from, uint32_t *values, size_t values_len);
+
 /* Searches a sorted or strictly sorted list for the first value that is at least target. Writes its position, the value, and
  * returns 1. If every value is below the target it returns 0, and for a plain list BITPACKING_LIST_BAD_KIND; then nothing is
  * written. It reads at most as many entries as the count of whole blocks has binary digits, and unpacks one block at most. */
 int32_t bitpacking_list_seek(const bitpacking_list *view, uint32_t target, size_t *position, uint32_t *item);
+
+/* A place in an opened list that only moves forward. It has the values of the block at hand, and no memory of its own.
+ *
+ * All of a cursor is set to zero before anything else: it is then at the end of an empty list. bitpacking_cursor_start sets it to the first
+ * value of a view, as often as one likes. The caller keeps the bytes of the list where they are, unchanged, for as long as the cursor is
+ * used; the view may go. A cursor may be copied, and the copy moves on its own. Only the functions below may write the fields. Each of them
+ * unpacks one block at most.
+ *
+ *     bitpacking_cursor cursor = {0};
+ *     uint32_t value;
+ *     for (bitpacking_cursor_start(&cursor, &list); bitpacking_cursor_value(&cursor, &value); bitpacking_cursor_advance(&cursor)) ...
+ */
+typedef struct bitpacking_cursor {
+    bitpacking_list list;
+    size_t block;
+    size_t index;
+    size_t len;
+    uint32_t values[BITPACKING_MAX_BLOCK_LEN];
+    uint8_t ordered;
+} bitpacking_cursor;
+
+/* Sets a cursor to the first value of an opened list. The view is not the one in the cursor. */
+void bitpacking_cursor_start(bitpacking_cursor *cursor, const bitpacking_list *view);
+
+/* Writes the value at a cursor, and returns 1. After the last value it returns 0 and writes nothing. */
+int32_t bitpacking_cursor_value(const bitpacking_cursor *cursor, uint32_t *item);
+
+/* How many values are before a cursor. */
+size_t bitpacking_cursor_position(const bitpacking_cursor *cursor);
+
+/* Moves to the next value. Returns 1 if there is a value at the new place, and else 0. After the last value it stays. */
+int32_t bitpacking_cursor_advance(bitpacking_cursor *cursor);
+
+/* Moves a cursor of a sorted or strictly sorted list to the first value from its place on that is at least target, and returns 1. If there
+ * is none it moves to the end and returns 0. In a plain list it stays, and returns BITPACKING_LIST_BAD_KIND. */
+int32_t bitpacking_cursor_seek(bitpacking_cursor *cursor, uint32_t target);
+
+/* Points *values at the values from here to the end of the block at hand, and returns how many these are: 0 only after the last value.
+ * They are in the cursor, and stay until it moves. It is the one function that the archive does not have. */
+static inline size_t bitpacking_cursor_block(const bitpacking_cursor *cursor, const uint32_t **values)
+{
+    *values = cursor->values + cursor->index;
+    return cursor->len - cursor->index;
+}
+
+/* Moves past the values of bitpacking_cursor_block, to the next block. */
+void bitpacking_cursor_skip_block(bitpacking_cursor *cursor);
+
+/* list_pack: writes a packed list of the values at the start of bytes, and returns its number of bytes. Bytes after those stay as they
+ * were. version is 2 or 3. kind is 0 for plain, 1 for sorted and 2 for strictly sorted: the values of a sorted list do not decrease,
+ * and those of a strictly sorted one increase.
+ * The first of: LIST_BAD_VERSION; LIST_BAD_KIND; LIST_TOO_LONG; LIST_NOT_SORTED, and then *position is the position of the first value
+ * out of order; SHORT: bytes_len is below the number of bytes of the list. Nothing else is written then, and *position only if the
+ * answer is LIST_NOT_SORTED. */
+ptrdiff_t bitpacking_1x_list_pack(uint8_t version, uint8_t kind, const uint32_t *values, size_t values_len,
+                                  uint8_t *bytes, size_t bytes_len, size_t *position);
+ptrdiff_t bitpacking_4x_list_pack(uint8_t version, uint8_t kind, const uint32_t *values, size_t values_len,
+                                  uint8_t *bytes, size_t bytes_len, size_t *position);
+ptrdiff_t bitpacking_8x_list_pack(uint8_t version, uint8_t kind, const uint32_t *values, size_t values_len,
+                                  uint8_t *bytes, size_t bytes_len, size_t *position);
+
+/* list_size: returns the number of bytes that list_pack writes for the values, and writes none. The errors are those of list_pack, without
+ * SHORT. */
+ptrdiff_t bitpacking_1x_list_size(uint8_t version, uint8_t kind, const uint32_t *values, size_t values_len, size_t *position);
+ptrdiff_t bitpacking_4x_list_size(uint8_t version, uint8_t kind, const uint32_t *values, size_t values_len, size_t *position);
+ptrdiff_t bitpacking_8x_list_size(uint8_t version, uint8_t kind, const uint32_t *values, size_t values_len, size_t *position);
+
+/* What a negative number means, in a sentence. The text is a constant. Other numbers have a text of their own. */
+static inline const char *bitpacking_error_text(ptrdiff_t number)
+{
+    switch (number) {
+    case BITPACKING_BAD_LENGTH:
+        return "The number of values is wrong, or there is no room for them.";
+    case BITPACKING_BAD_WIDTH:
+        return "A width is above 32.";
+    case BITPACKING_SHORT:
+        return "The buffer is too short.";
+    case BITPACKING_UNFIT:
+        return "A value does not fit the width.";
+    case BITPACKING_LIST_SHORT:
+        return "Bytes of the list are missing.";
+    case BITPACKING_LIST_BAD_VERSION:
+        return "The version of the list is not supported.";
+    case BITPACKING_LIST_BAD_KIND:
+        return "The kind of the list is wrong.";
+    case BITPACKING_LIST_WRONG_LANES:
+        return "The list is of another packer.";
+    case BITPACKING_LIST_TOO_LONG:
+        return "A list has at most 268435456 values.";
+    case BITPACKING_LIST_BAD_WIDTH:
+        return "A width in the list is above 32.";
+    case BITPACKING_LIST_LOOSE_WIDTH:
+        return "A width in the list is not the least of its block.";
+    case BITPACKING_LIST_BAD_OFFSET:
+        return "An offset in the list is not the sum of the widths before it.";
+    case BITPACKING_LIST_BAD_LAST:
+        return "A last value in the list is not the one of its block.";
+    case BITPACKING_LIST_NOT_SORTED:
+        return "The values are not in order.";
+    case BITPACKING_LIST_TRAILING:
+        return "Bytes are left over after the list.";
+    case BITPACKING_LIST_BAD_NUMBER:
+        return "A number in the list does not have its only form.";
+    case BITPACKING_LIST_PADDING:
+        return "A bit after the codes of a group is set.";
+    default:
+        return "No error has this number.";
+    }
+}
+
+/* The values of any number of views, of any packers and versions, each value once and in increasing order. They go to the front of
+ * out, and their number is returned; without views it is 0. A view may be there twice. The lists have to be sorted or strictly sorted.
+ *
+ * BITPACKING_LIST_BAD_KIND: one of the lists is plain, or is BITPACKING_LIST_EMPTY or all zero, which is plain too.
+ * BITPACKING_SHORT: there is less room than is always enough, even if the values themselves would fit.
+ * Then nothing is written. Else any value of out may have changed, as out is also the work space: keep nothing there. */
+
+/* The values that all lists have. Room that is always enough: the length of the shortest list. */
+ptrdiff_t bitpacking_list_intersect(const bitpacking_list *views, size_t views_len, uint32_t *out, size_t out_len);
+
+/* The values that any list has. Room that is always enough: the sum of the lengths. */
+ptrdiff_t bitpacking_list_unite(const bitpacking_list *views, size_t views_len, uint32_t *out, size_t out_len);
+
+/* The values of the first list that no other has. Room that is always enough: the length of the first list. */
+ptrdiff_t bitpacking_list_subtract(const bitpacking_list *views, size_t views_len, uint32_t *out, size_t out_len);
 
 #ifdef __cplusplus
 }

@@ -1,99 +1,188 @@
 #!/usr/bin/env python3
-"""Builds the archives of proved code that C and Rust programs link, into rust/out/: for each level of x86-64
+"""Builds the archives of proved code that C and Rust programs link, into rust/out/:
 
-    rust/out/LEVEL/libbitpacking_c.a     for C, with the names of include/bitpacking.h
-    rust/out/libbitpacking_vN.a          for the crate in rust/, each name with the prefix vN_
+    rust/out/libbitpacking.a                     for C on x86-64: each function chooses its level when it is called
+    rust/out/LEVEL/libbitpacking_c.a             for C, of one level of x86-64
+    rust/out/libbitpacking_vN.a                  the same for the crate in rust/, each name with the prefix vN_
+    rust/out/TARGET/libbitpacking_c.a            for C and Rust on aarch64, which has one level
 
-It proves the crate `bitpacking_c` where a source is newer than what earlier checks left, and looks at each archive: it exports the
-functions of the header and no other name, needs no other functions than memcpy and memset, and has neither data nor unwinding.
-`archives.py --kept` takes the archives of an earlier run where no source changed since. It needs rt, nm, objcopy and objdump.
-The last line is 'N passed, M failed'.
+It proves the crate `bitpacking_c` once, where a source is newer than what earlier checks left; the other levels and targets take that proof
+from crates/bitpacking_c/out/, and only compile. Then it looks at each archive: it exports the functions of the header and no other name,
+needs no other functions than memcpy, memmove and memset, and has neither data nor unwinding; the archive for all levels has one number of data, the
+level. Where no source changed since the last run nothing is built; `archives.py --anew` builds all the same. It needs rt, cc, ld and nm,
+objcopy, objdump and ar of binutils. The last line is 'N passed, M failed'.
 """
 import glob
 import hashlib
 import os
 import re
 import shutil
+import subprocess
 import sys
+import time
 
-from common import ROOT, ended, left_out_without, run, words
+import levels
+from common import ROOT, ended, left_out_without, missing, run, words
 
 OUT = f"{ROOT}/rust/out"
 CRATES = ["bitpacking_register", "bitpacking", "bitpack_lists", "bitpacking_c"]
-TOOLS = ["rt", "nm", "objcopy", "objdump"]
-LEVELS = {"v1": "x86-64", "v2": "x86-64-v2", "v3": "x86-64-v3"}
+TOOLS = ["rt", "cc", "ld", "ar", "nm", "objcopy", "objdump"]
+LEVELS = levels.LEVELS
+ARM = "aarch64-unknown-linux-gnu"
+# The archives for C, by their folders in rust/out/, and what rt lib is told for each.
+BUILDS = {level: ["--cpu", level] for level in LEVELS.values()} | {ARM: ["--target", ARM]}
+ALL = "libbitpacking.a"
+TIME = """Proving and building the archives. From nothing, on an Intel Xeon at 2.50 GHz, three levels took 21 minutes of processor time and
+1.4 GB of memory: 16 minutes on four cores and 44 minutes on two, both busy with other checks. After a change only what changed is proved."""
 
 
 def sources():
-    """A number that changes with each source of the archives and with the toolchain."""
+    """Two numbers: one that changes with each source of what is proved and with the toolchain, and one with the choice of a level."""
     found = hashlib.sha256(run("rt", "version").stdout.encode())
-    for crate in CRATES:
-        for path in sorted(glob.glob(f"{ROOT}/crates/{crate}/[sp]*/**", recursive=True)):
-            if os.path.isfile(path):
-                with open(path, "rb") as file:
-                    found.update(f"{os.path.relpath(path, ROOT)}\n".encode() + file.read())
-    return found.hexdigest()
+    folders = [f"{ROOT}/crates/{crate}/[sp]*/**" for crate in CRATES]
+    for path in [f"{ROOT}/crates.txt"] + sorted(path for folder in folders for path in glob.glob(folder, recursive=True)):
+        if os.path.isfile(path):
+            with open(path, "rb") as file:
+                found.update(f"{os.path.relpath(path, ROOT)}\n".encode() + file.read())
+    return [found.hexdigest(), hashlib.sha256(levels.chooser().encode()).hexdigest()]
 
 
-def declared():
-    """The names that the header declares, as the C preprocessor reads it."""
-    return set(re.findall(r"\b(bitpacking_\w+)\s*\(", run("cc", "-E", "-P", f"{ROOT}/include/bitpacking.h").stdout))
+def archive(build):
+    """The archive for C of a level or a target."""
+    return f"{OUT}/{build}/libbitpacking_c.a"
 
 
-def built(prefix, level):
-    """Builds the archives of a level, and returns whether that worked."""
-    done = run("rt", "lib", "--cpu", level, folder=f"{ROOT}/crates/bitpacking_c")
+def proved_and_built(build):
+    """Builds the archive for C of a level or a target. Prints each crate as it is proved. Returns whether that worked."""
+    start, said, crate = time.time(), [], None
+    command = ["rt", "lib", *BUILDS[build]]
+    with subprocess.Popen(
+        command,
+        cwd=f"{ROOT}/crates/bitpacking_c",
+        stdin=subprocess.DEVNULL,
+        stdout=subprocess.PIPE,
+        stderr=subprocess.STDOUT,
+        text=True,
+        errors="replace",
+    ) as ran:
+        for line in ran.stdout:
+            said.append(line)
+            named = re.match(r"rt: chose --jobs \d+ for (\w+)", line)
+            counts = re.match(r"so far: .*", line)
+            proved = re.match(r"logic=proved functions=(\d+)", line)
+            if named:
+                crate = named[1]
+            if counts:
+                print(f"{crate}: {counts[0]}", flush=True)
+            if proved and crate:
+                print(f"{crate}: {proved[1]} functions proved, {time.time() - start:.0f} s", flush=True)
     made = f"{ROOT}/crates/bitpacking_c/out/libbitpacking_c.a"
-    if done.returncode != 0 or not os.path.isfile(made):
-        print("\n".join(done.stdout.split("\n")[-12:]))
+    if ran.returncode != 0 or not os.path.isfile(made):
+        print("".join(said[-12:]))
         return False
-    os.makedirs(f"{OUT}/{level}", exist_ok=True)
-    plain = f"{OUT}/{level}/libbitpacking_c.a"
-    shutil.copyfile(made, plain)
+    os.makedirs(f"{OUT}/{build}", exist_ok=True)
+    shutil.copyfile(made, archive(build))
+    print(f"built rust/out/{build}/libbitpacking_c.a, {time.time() - start:.0f} s", flush=True)
+    return True
+
+
+def prefixed(prefix, level):
+    """Writes the archive of a level for the Rust crate. Returns why that failed, or None."""
     names = f"{OUT}/{level}/names"
     with open(names, "w", encoding="ascii") as file:
-        file.writelines(f"{name} {prefix}_{name}\n" for name in sorted(exported(plain)))
-    return run("objcopy", f"--redefine-syms={names}", plain, f"{OUT}/libbitpacking_{prefix}.a").returncode == 0
+        file.writelines(f"{name} {prefix}_{name}\n" for name in sorted(exported(archive(level))))
+    done = run("objcopy", f"--redefine-syms={names}", archive(level), f"{OUT}/libbitpacking_{prefix}.a")
+    return None if done.returncode == 0 else done.stdout
 
 
-def exported(archive):
-    lines = run("nm", "-g", "--defined-only", archive).stdout.split("\n")
+def joined():
+    """Writes the archive for all levels of x86-64: one object, of which only the names of the header can be seen. Returns why that failed,
+    or None."""
+    chooser, whole, names = f"{OUT}/levels.o", f"{OUT}/bitpacking.o", f"{OUT}/names"
+    why = levels.compiled(chooser)
+    if why:
+        return why
+    with open(names, "w", encoding="ascii") as file:
+        file.writelines(f"{name}\n" for name in sorted(levels.prototypes()))
+    for file in [f"{OUT}/{ALL}", whole]:
+        if os.path.exists(file):
+            os.remove(file)
+    for command in [
+        ["ld", "-r", "--whole-archive", chooser, *(f"{OUT}/libbitpacking_{prefix}.a" for prefix in LEVELS), "-o", whole],
+        ["objcopy", f"--keep-global-symbols={names}", whole],
+        ["ar", "rcsD", f"{OUT}/{ALL}", whole],
+    ]:
+        done = run(*command)
+        if done.returncode != 0:
+            return done.stdout
+    return None
+
+
+def exported(path):
+    lines = run("nm", "-g", "--defined-only", path).stdout.split("\n")
     return {parts[2] for parts in map(str.split, lines) if len(parts) == 3}
 
 
-def faults(prefix, level):
-    """What is wrong with the archives of a level."""
-    plain, prefixed = f"{OUT}/{level}/libbitpacking_c.a", f"{OUT}/libbitpacking_{prefix}.a"
-    if shutil.which("cc"):
-        names = declared()
-        if exported(plain) != names:
-            yield f"it exports {sorted(exported(plain) ^ names)[:4]}, or the header declares them"
-    if exported(prefixed) != {f"{prefix}_{name}" for name in exported(plain)}:
-        yield "the prefix is not that of each name"
-    needed = {line.split()[-1] for line in run("nm", "-u", plain).stdout.split("\n") if line.strip().startswith("U ")}
-    if not needed <= {"memcpy", "memset"}:
+def faults(path, data=0):
+    """What is wrong with an archive for C, which has that many bytes of data."""
+    if exported(path) != set(levels.prototypes()):
+        yield f"it exports {sorted(exported(path) ^ set(levels.prototypes()))[:4]}, or the header declares them"
+    needed = {line.split()[-1] for line in run("nm", "-u", path).stdout.split("\n") if line.strip().startswith("U ")}
+    if not needed <= {"memcpy", "memmove", "memset"}:
         yield f"it needs {sorted(needed)}"
-    for section in re.findall(r"^\s*\d+ (\S+)\s+([0-9a-f]+)", run("objdump", "-h", plain).stdout, re.M):
-        if int(section[1], 16) > 0 and re.match(r"\.(data(?!\.rel\.ro)|bss|tdata|tbss|eh_frame|gcc_except_table)", section[0]):
-            yield f"it has a section {section[0]}"
+    found = 0
+    for name, size in re.findall(r"^\s*\d+ (\S+)\s+([0-9a-f]+)", run("objdump", "-h", path).stdout, re.M):
+        if re.match(r"\.(data(?!\.rel\.ro)|bss|tdata|tbss|t?common)", name):
+            found += int(size, 16)
+        elif int(size, 16) > 0 and re.match(r"\.(eh_frame|gcc_except_table)", name):
+            yield f"it has a section {name}"
+    if found != data:
+        yield f"it has {found} bytes of data, and not {data}"
 
 
-def build(kept):
-    """Builds what is not there, and returns how many levels are right and how many are not."""
-    stamp, number = f"{OUT}/sources", sources()
-    os.makedirs(OUT, exist_ok=True)
-    fresh = kept and os.path.isfile(stamp) and open(stamp, encoding="ascii").read() == number
-    passed = failed = 0
+def fresh(stamp, numbers):
+    """Whether the archives for C are there, of these sources, and whether all archives are."""
+    proved = [archive(build) for build in BUILDS]
+    more = [f"{OUT}/libbitpacking_{prefix}.a" for prefix in LEVELS] + [f"{OUT}/{ALL}"]
+    were = open(stamp, encoding="ascii").read().split() if os.path.isfile(stamp) else []
+    kept = all(map(os.path.isfile, proved)) and were[:1] == numbers[:1]
+    return kept, kept and all(map(os.path.isfile, more)) and were == numbers
+
+
+def made(kept, whole):
+    """Each archive as a name and what is wrong with it, or None. Those for C are built if they are not kept, and all others if they are not
+    whole. Nothing is built after one that fails."""
+    for build in BUILDS:
+        if not kept and not proved_and_built(build):
+            yield f"the archive for {build}", "it was not built, and no archive after it"
+            return
+        yield f"the archive for {build}", "; ".join(faults(archive(build))) or None
     for prefix, level in LEVELS.items():
-        wrong = ["it was not built"] if not fresh and not built(prefix, level) else list(faults(prefix, level))
-        for fault in wrong:
-            print(f"FAILED: the archive for {level}: {fault}")
+        wrong = None if whole else prefixed(prefix, level)
+        if not wrong and exported(f"{OUT}/libbitpacking_{prefix}.a") != {f"{prefix}_{name}" for name in exported(archive(level))}:
+            wrong = "the prefix is not that of each name"
+        yield f"the archive for {level} and Rust", wrong
+    wrong = None if whole else joined()
+    yield "the archive for all levels", wrong or "; ".join(faults(f"{OUT}/{ALL}", data=4)) or None
+
+
+def build(anew=False):
+    """Builds what is not there, and returns how many archives are right and how many are not."""
+    stamp, numbers = f"{OUT}/sources", sources()
+    os.makedirs(OUT, exist_ok=True)
+    kept, whole = (False, False) if anew else fresh(stamp, numbers)
+    if not kept:
+        print(TIME, flush=True)
+    if os.path.isfile(stamp):
+        os.remove(stamp)
+    passed = failed = 0
+    for name, wrong in made(kept, whole):
+        if wrong:
+            print(f"FAILED: {name}: {wrong}")
         passed, failed = passed + (not wrong), failed + bool(wrong)
     if failed == 0:
         with open(stamp, "w", encoding="ascii") as file:
-            file.write(number)
-    elif os.path.isfile(stamp):
-        os.remove(stamp)
+            file.write("\n".join(numbers))
     return passed, failed
 
 
@@ -102,12 +191,15 @@ def status_without(part, *tools):
     right. None if it can run."""
     if left_out_without(part, *TOOLS, *tools):
         return 0
-    return ended(0, 1) if build(kept=True)[1] > 0 else None
+    return ended(0, 1) if build()[1] > 0 else None
 
 
 def main():
-    kept = "--kept" in words("--kept")
-    return 0 if left_out_without("the archives for C and Rust", *TOOLS) else ended(*build(kept))
+    given, lacking = words("--kept", "--anew", "--in-check"), missing(*TOOLS)
+    if lacking and "--in-check" not in given:
+        print(f"archives.py: there is no {' and no '.join(lacking)}, and nothing was built", file=sys.stderr)
+        return 2
+    return 0 if left_out_without("the archives for C and Rust", *TOOLS) else ended(*build("--anew" in given))
 
 
 if __name__ == "__main__":

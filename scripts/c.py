@@ -1,23 +1,29 @@
 #!/usr/bin/env python3
-"""Compiles and runs the C programs over the archive for each level of the processor: those of examples/, whose output is worked by hand,
-scripts/calls.c, and scripts/tables.c over the tables of vectors/. They are compiled as C99 with every warning an error and run with
-little stack, and once more with the address sanitizer where the compiler has it; scripts/calls.c also as C++11 and C++17. It has to name
-every macro of the header. The archives are those that scripts/archives.py wrote, which is called where they are not there. The last line
-is 'N passed, M failed'; a part that is left out for want of a tool is named.
+"""Compiles and runs the C programs over the archive for all levels of the processor and the archive of each level: those of examples/,
+whose output is worked by hand, scripts/calls.c, list_calls.c and cursor.c, and scripts/tables.c and sets.c over the tables of vectors/. They are
+compiled as C99 with every warning an error and run with little stack, and once more with the address sanitizer if the compiler has it. The
+two programs of calls are also compiled as C++11 and C++17, without a cast of C in the header; scripts/calls.c also runs over the archive for
+all levels on a processor of each level that qemu gives. It has to name every macro of the header. The archives are those that
+scripts/archives.py wrote, which is called if they are not there. The last line is 'N passed, M failed'; a part that is left out because a
+tool is missing is named.
 """
 import re
 import resource
 import shutil
+import subprocess
 import sys
 import tempfile
 
 import archives
+import levels
 from common import ROOT, leave_out, report, run, source
 
 STRICT = ["-Wall", "-Wextra", "-Werror", "-pedantic", f"-I{ROOT}/include"]
 C99 = ["cc", "-std=c99", *STRICT]
 CALLS = "scripts/calls.c"
+LIST_CALLS = "scripts/list_calls.c"
 TABLES = "scripts/tables.c"
+SETS = "scripts/sets.c"
 STACK = 256 << 10  # bytes; the sanitizer needs more
 SANITIZED = ["-fsanitize=address,undefined", "-fno-sanitize-recover=all"]
 # The index of the documents 1 to 1000, by hand: 500, 333 and 200 numbers. The codes of the lists are gaps less one: 1 of even (of its
@@ -41,27 +47,20 @@ PROGRAMS = {
     "examples/packed_list.c": "300 numbers in 265 bytes, the last 898\nthe first from 500 on is 502, at position 167\n",
     "examples/index.c": INDEX,
     CALLS: "",
+    "scripts/cursor.c": "",
+    LIST_CALLS: "",
     # Each row of the tables that it is given.
     TABLES: "532 lists, 725 refusals\n",
+    # The lists of the tables that are in order: each alone, n ^ 2 pairs, and as many triples of 17 of them, by three calls.
+    SETS: "370 lists, 426549 combined\n",
 }
-VECTORS = ["lists2", "lists3", "refused2", "refused3"]
+VECTORS = {TABLES: ["lists2", "lists3", "refused2", "refused3"], SETS: ["lists2", "lists3"]}
 
 
 def works(command, **given):
     """Whether a command ends with status 0, and what it prints."""
     done = run(*command, **given)
     return done.returncode == 0, done.stdout
-
-
-def runs_here(level):
-    """Whether this processor has a level, as the C compiler's own test says."""
-    if level == "x86-64":
-        return True
-    with tempfile.TemporaryDirectory(prefix="c-") as folder:
-        source, program = f"{folder}/level.c", f"{folder}/level"
-        with open(source, "w", encoding="ascii") as file:
-            file.write(f'int main(void) {{ __builtin_cpu_init(); return !__builtin_cpu_supports("{level}"); }}\n')
-        return works(["cc", source, "-o", program])[0] and works([program])[0]
 
 
 def has_sanitizers():
@@ -76,16 +75,44 @@ def with_little_stack():
     resource.setrlimit(resource.RLIMIT_STACK, (STACK, STACK))
 
 
-def compiled_and_run(level, source, command, **given):
-    """What is wrong with a program at a level, or None. The command is that of the compiler."""
-    archive = f"{archives.OUT}/{level}/libbitpacking_c.a"
+def places():
+    """The archives that this processor runs: a name and a path of each."""
+    yield "all levels", f"{archives.OUT}/{archives.ALL}"
+    for level in archives.LEVELS.values():
+        if level == "x86-64" or levels.supports(level):
+            yield level, archives.archive(level)
+        else:
+            leave_out(f"the C programs at the level {level}", "which this processor does not have")
+
+
+def given(program):
+    """What a program reads."""
+    return {"input": "".join(source(f"vectors/{table}.tsv") for table in VECTORS[program])} if program in VECTORS else {}
+
+
+def compiled_and_run(archive, path, command, **more):
+    """What is wrong with a program over an archive, or None. The command is that of the compiler."""
     with tempfile.TemporaryDirectory(prefix="c-") as folder:
         program = f"{folder}/program"
-        right, text = works([*command, f"{ROOT}/{source}", "-x", "none", archive, "-o", program])
+        right, text = works([*command, f"{ROOT}/{path}", "-x", "none", archive, "-o", program])
         if not right:
             return text
-        right, text = works([program], **given)
-        return None if right and text == PROGRAMS[source] else f"it failed, and printed {text[:2000]}"
+        right, text = works([program], **given(path), **more)
+        return None if right and text == PROGRAMS[path] else f"it failed, and printed {text[:2000]}"
+
+
+def on_other_processors():
+    """scripts/calls.c over the archive for all levels, on a processor of each level: each as a name and what is wrong, or None."""
+    if not shutil.which(levels.OTHERS):
+        leave_out(f"{CALLS} on other processors", f"since there is no {levels.OTHERS} (Debian: qemu-user-static)")
+        return
+    with tempfile.TemporaryDirectory(prefix="c-") as folder:
+        program = f"{folder}/program"
+        right, text = works([*C99, "-static", f"{ROOT}/{CALLS}", f"{archives.OUT}/{archives.ALL}", "-o", program])
+        for processor in levels.ONE_OF_EACH:
+            done = run(levels.OTHERS, "-cpu", processor, program, stderr=subprocess.DEVNULL) if right else None
+            wrong = f"it ended with {done.returncode}, and printed {done.stdout[:2000]}" if right and done.returncode else None
+            yield f"{CALLS} on {processor}", wrong if right else text
 
 
 def macros_not_named():
@@ -98,26 +125,36 @@ def macros_not_named():
     return f"it does not name {' '.join(sorted(macros - used))}" if macros - used else None
 
 
+def casts_in_the_header():
+    """What a C++ compiler says of casts of C in the header and its macros, or None."""
+    macros = re.findall(r"^#define (BITPACKING_\w+)(\(num_bits\))? ", source("include/bitpacking.h"), re.M)
+    uses = [f"used({name}{'(1)' if given else ''});" for name, given in macros if name != "BITPACKING_LIST_EMPTY"]
+    lines = ["template <typename Item> static void used(Item) {}", "int main() { bitpacking_list list = BITPACKING_LIST_EMPTY; used(list);"]
+    text = "\n".join(['#include "bitpacking.h"', *lines, *uses, "used(bitpacking_list_empty()); }", ""])
+    right, said = works(["c++", *STRICT, "-Wold-style-cast", "-x", "c++", "-fsyntax-only", "-"], input=text)
+    return None if right else said or "it is refused"
+
+
 def checks():
     """Each check as a name and what is wrong, or None."""
     yield f"the macros in {CALLS}", macros_not_named()
     sanitizers, in_cpp = has_sanitizers(), shutil.which("c++")
     if not sanitizers:
         leave_out("the C programs under the address sanitizer", "which cc does not have here")
-    if not in_cpp:
-        leave_out(f"{CALLS} as C++", "since there is no c++")
-    for level in archives.LEVELS.values():
-        if not runs_here(level):
-            leave_out(f"the C programs at the level {level}", "which this processor does not have")
-            continue
+    if in_cpp:
+        yield "the header without casts of C", casts_in_the_header()
+    else:
+        leave_out(f"{CALLS} and {LIST_CALLS} as C++", "since there is no c++")
+    for level, archive in places():
         for program in PROGRAMS:
-            given = {"input": "".join(source(f"vectors/{table}.tsv") for table in VECTORS)} if program == TABLES else {}
-            yield f"{program} at {level}", compiled_and_run(level, program, C99, preexec_fn=with_little_stack, **given)
+            yield f"{program} at {level}", compiled_and_run(archive, program, C99, preexec_fn=with_little_stack)
             if sanitizers:
-                yield f"{program} at {level}, sanitized", compiled_and_run(level, program, [*C99, *SANITIZED], **given)
+                yield f"{program} at {level}, sanitized", compiled_and_run(archive, program, [*C99, *SANITIZED])
         for standard in ["c++11", "c++17"] if in_cpp else []:
             command = ["c++", f"-std={standard}", *STRICT, "-x", "c++"]
-            yield f"{CALLS} as {standard} at {level}", compiled_and_run(level, CALLS, command)
+            for program in [CALLS, LIST_CALLS]:
+                yield f"{program} as {standard} at {level}", compiled_and_run(archive, program, command)
+    yield from on_other_processors()
 
 
 def main():

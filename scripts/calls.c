@@ -50,6 +50,7 @@ static void none(void)
     for (i = 0; i < 128; i++)
         values[i] = (uint32_t)i;
     EXPECT(bitpacking_no_initial() == BITPACKING_NO_INITIAL, 1);
+    EXPECT(bitpacking_version(), BITPACKING_VERSION);
     EXPECT(bitpacking_4x_pack_strictly_sorted(BITPACKING_NO_INITIAL, values, 128, NULL, 0, &width), 0);
     EXPECT(width, 0);
     EXPECT(bitpacking_4x_decompress_strictly_sorted(BITPACKING_NO_INITIAL, NULL, 0, back, 128, 0), 0);
@@ -99,8 +100,16 @@ static void chains(void)
     memset(bytes, 9, sizeof bytes);
     EXPECT(bitpacking_1x_pack_all_sorted(0, values, 63, widths, 2, bytes, 256), BITPACKING_BAD_LENGTH);
     EXPECT(bitpacking_1x_pack_all_sorted(0, values, 64, widths, 1, bytes, 256), BITPACKING_BAD_LENGTH);
-    EXPECT(bitpacking_1x_pack_all_sorted(0, values, 64, widths, 2, bytes, 255), BITPACKING_SHORT);
-    EXPECT(widths[0] + widths[1] + bytes[0], 27);
+    EXPECT(bitpacking_1x_pack_all_sorted(0, values, 64, widths, 2, bytes, 11), BITPACKING_SHORT);
+    for (i = 0; i < 256; i++)
+        EXPECT(bytes[i], 9);
+    EXPECT(widths[0] + widths[1], 18);
+    EXPECT(bitpacking_1x_pack_all_sorted(0, values, 64, widths, 2, bytes, 12), 12); /* room for this chain and no other */
+    EXPECT(widths[0], 1);
+    EXPECT(widths[1], 2);
+    EXPECT(memcmp(bytes, right, sizeof right), 0);
+    EXPECT(bytes[12], 9);
+    memset(bytes, 9, sizeof bytes);
     EXPECT(bitpacking_1x_pack_all_sorted(0, values, 64, widths, 2, bytes, 256), 12);
     EXPECT(widths[0], 1);
     EXPECT(widths[1], 2);

@@ -1,7 +1,7 @@
 #!/usr/bin/env python3
 """Builds the crate in rust/ with warnings as errors, and runs its tests, the example of its page and the programs of rust/examples/. It
-takes the archives that scripts/archives.py wrote, and builds them where they are not there; nothing is fetched. Builds without archives
-and for another processor have to fail and say why. The last line is 'N passed, M failed', one for each test; a part that is left out
+takes the archives that scripts/archives.py wrote, and builds them where they are not there; nothing is fetched. Without archives
+`cargo check` and `cargo doc` have to work, and a build has to fail and say why. The last line is 'N passed, M failed', one for each test; a part that is left out
 for want of a tool is named.
 """
 import os
@@ -29,12 +29,17 @@ def cargo(*arguments, package="rust", **variables):
     return run(*command, stderr=subprocess.PIPE, env=env)
 
 
-def refused():
-    """Builds that have to fail, as a name, what cargo says, and what it has to say."""
-    processor = cargo("check", "--target", "aarch64-unknown-linux-gnu")
-    yield "a build for another processor", processor, "there are none for aarch64 linux (little-endian)"
-    nowhere = cargo("check", BITPACKING_ARCHIVES="/nowhere")
-    yield "a build without archives", nowhere, "there is no /nowhere/libbitpacking_v1.a: scripts/archives.py of the repository writes it"
+def without_archives():
+    """Builds that lack archives, as a name, what cargo says, whether it has to work, and what it has to say."""
+    nowhere = {"BITPACKING_ARCHIVES": "/nowhere"}
+    missing = "there is no /nowhere/libbitpacking_v1.a: scripts/archives.py of the repository writes it"
+    yield "cargo check without archives", cargo("check", **nowhere), True, missing
+    yield "cargo doc without archives", cargo("doc", **nowhere), True, missing
+    yield "cargo build without archives", cargo("build", **nowhere), False, missing
+    relative = cargo("check", BITPACKING_ARCHIVES="out")
+    yield "archives by a relative path", relative, True, "BITPACKING_ARCHIVES is out, and has to be the full path of a folder"
+    other = "riscv64gc-unknown-linux-gnu"
+    yield "a build for another processor", cargo("build", "--target", other), False, f"there are none for {other}"
 
 
 def checks():
@@ -48,8 +53,8 @@ def checks():
     for name, wanted in EXAMPLES.items():
         example = cargo("run", "--quiet", "--release", "--example", name)
         yield f"rust/examples/{name}.rs", None if example.stdout == wanted else f"printed {example.stdout!r} {example.stderr[-2000:]}"
-    for name, done, text in refused():
-        right = done.returncode != 0 and text in done.stderr
+    for name, done, works, text in without_archives():
+        right = (done.returncode == 0) == works and text in done.stderr
         yield name, None if right else f"ended with {done.returncode} and said {done.stderr[-2000:]}"
 
 

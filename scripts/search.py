@@ -98,7 +98,7 @@ class Programs:
             leave_out("damaged indexes under the address sanitizer", "which cc does not have here")
         for name, flags in [("c", [])] + [("sanitized", c.SANITIZED)] * sanitizers:
             self.paths[name] = f"{folder}/{name}"
-            command = [*c.C99, "-O1", *flags, *SOURCES, f"{archives.OUT}/x86-64/libbitpacking_c.a", "-lm", "-o", self.paths[name]]
+            command = [*c.C99, "-O1", *flags, *SOURCES, f"{archives.OUT}/{archives.ALL}", "-lm", "-o", self.paths[name]]
             self.add("the program in C", run(*command))
         self.add("the program in Rust", rust.cargo("build", "--release", package=f"{FOLDER}/rust"))
         self.paths["rust"] = f"{archives.OUT}/target/release/search"

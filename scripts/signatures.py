@@ -12,8 +12,16 @@ import sys
 
 from texts import code, paths, results, text_of
 
-C_TYPES = {"u8": "uint8_t", "u32": "uint32_t", "i32": "int32_t", "usize": "size_t", "isize": "ptrdiff_t", "ListView": "bitpacking_list"}
-C_TYPES["ListCursor"] = "bitpacking_cursor"
+C_TYPES = {
+    "u8": "uint8_t",
+    "u32": "uint32_t",
+    "i32": "int32_t",
+    "usize": "size_t",
+    "isize": "ptrdiff_t",
+    "ListView": "bitpacking_list",
+    "ListCursor": "bitpacking_cursor",
+}
+STRUCTS = {"ListView": "crates/bitpacking_c/src/list_view.rt", "ListCursor": "crates/bitpacking_c/src/list_cursor.rt"}
 HEADER = "include/bitpacking.h"
 CALLS = "rust/src/calls.rs"
 LIMITS = "crates/bitpacking/src/limits.rt"
@@ -22,6 +30,9 @@ LIMITS = "crates/bitpacking/src/limits.rt"
 def in_c(written, name=""):
     """A parameter in C, as Rattle or Rust writes its type; of no name, what a function returns."""
     written = re.sub(r"<'\w+>|'\w+ ", "", written)
+    array = re.fullmatch(r"\[(\w+); (\w+)\]", written)
+    if array:
+        return [f"{C_TYPES[array[1]]} {name}[BITPACKING_{array[2]}]"]
     items = re.fullmatch(r"&(mut )?\[(\w+)\]", written)
     if items:
         return [f"{'' if items[1] else 'const '}{C_TYPES[items[2]]} *{name}", f"size_t {name}_len"]
@@ -39,11 +50,13 @@ def parameters(text):
 
 def exported():
     """Of each function of the crate what it returns and its parameters, in C; and the fields of a view."""
-    view = re.search(r"\bstruct ListView<'a> \{([^}]*)\}", code("crates/bitpacking_c/src/list_view.rt"))
-    found = {"bitpacking_list": parameters(view[1])}
+    found = {}
+    for name, path in STRUCTS.items():
+        fields = re.search(rf"\bstruct {name}<'a> \{{(.*?)(?:pub ghost|\}})", code(path), re.S)
+        found[C_TYPES[name]] = parameters(fields[1])
     for path in paths("crates/bitpacking_c/src/*.rt"):
-        functions = re.findall(r'extern "C" fn (\w+)(?:<[^>]*>)?\(([^)]*)\) -> (\w+)', text_of(path))
-        found.update({name: in_c(returned) + parameters(given) for name, given, returned in functions})
+        functions = re.findall(r'extern "C" fn (\w+)(?:<[^>]*>)?\(([^)]*)\)(?: -> (\w+))?', text_of(path))
+        found.update({name: (in_c(returned) if returned else ["void"]) + parameters(given) for name, given, returned in functions})
     return found
 
 

@@ -12,7 +12,8 @@
   width have one for each from 0 to 31.
 - The program's packers `4s` and `8s` are those that `scalar` gives; `bitpacking_c` names no `scalar`; `bitpack_lists` makes no packer but
   the one for groups, and else takes the one that it is given.
-- The Rust crate asks for the features of each level, has the functions of each level in its table, and takes the best level.
+- The Rust crate asks for the features of each level, has the functions of each level in its table, and those of the one level of another
+  processor, and takes the best level.
 - Of `bitpack_lists`, a function that makes a `Reads` has a mark, `// Reads bytes: ..`. So has a function below list2 that reads a number
   or unpacks a block from bytes, or tests a text, and one that sees the bytes or the packer of an opened list, or makes a cursor; and one
   that tests a text of version 3. The
@@ -224,7 +225,8 @@ def packers():
 def levels():
     text = text_of(CALLS_OF_RUST)
     packers = [("one", "calls", "1x_"), ("four", "calls", "4x_"), ("eight", "calls", "8x_"), ("lists", "lists", "")]
-    right = [(name, macro, f"v{level}_bitpacking_{lanes}") for level in [1, 2, 3] for name, macro, lanes in packers]
+    levels = ["v1_", "v2_", "v3_", ""]
+    right = [(name, macro, f"{level}bitpacking_{lanes}") for level in levels for name, macro, lanes in packers]
     if re.findall(r'\b(\w+): (\w+)!\("(\w+)"\)', text) != right:
         yield f"{CALLS_OF_RUST}: the tables are not {right}"
     for level, features in FEATURES.items():

@@ -81,24 +81,20 @@ def run(*command, folder, **more):
     return done.stdout
 
 
-def copied(folder):
-    """The repository with a crate more, in a folder."""
+def copied(folder, name, text):
+    """The repository with a crate more, in a folder: a static library with this source."""
     for crate in CRATES:
         for part in ["src", "specs", "proofs", "out/rlib"]:
             shutil.rmtree(f"{folder}/crates/{crate}/{part}", ignore_errors=True)
             if os.path.isdir(f"{ROOT}/crates/{crate}/{part}"):
                 shutil.copytree(f"{ROOT}/crates/{crate}/{part}", f"{folder}/crates/{crate}/{part}")
-    os.makedirs(f"{folder}/crates/speed/src", exist_ok=True)
-    with open(f"{HERE}/exports.txt", encoding="utf-8") as file:
-        text = file.read()
-    with open(f"{folder}/crates/speed/src/lib.rt", "w", encoding="utf-8") as file:
-        file.write(exports(text))
-    with open(f"{folder}/calls.rs", "w", encoding="utf-8") as file:
-        file.write(calls(text))
+    os.makedirs(f"{folder}/crates/{name}/src", exist_ok=True)
+    with open(f"{folder}/crates/{name}/src/lib.rt", "w", encoding="utf-8") as file:
+        file.write(text)
     with open(f"{ROOT}/crates.txt", encoding="utf-8") as file:
         lines = [line for line in file if line.split(":")[0].strip() in CRATES]
     with open(f"{folder}/crates.txt", "w", encoding="utf-8") as file:
-        file.writelines([*lines, "speed staticlib: bitpacking bitpack_lists\n"])
+        file.writelines([*lines, f"{name} staticlib: bitpacking bitpack_lists\n"])
     shutil.copyfile(f"{ROOT}/HANDLES", f"{folder}/HANDLES")
 
 
@@ -126,7 +122,11 @@ def main():
 
 
 def build(folder, cpu):
-    copied(folder)
+    with open(f"{HERE}/exports.txt", encoding="utf-8") as file:
+        text = file.read()
+    copied(folder, "speed", exports(text))
+    with open(f"{folder}/calls.rs", "w", encoding="utf-8") as file:
+        file.write(calls(text))
     run("rt", "lib", "--cpu", cpu, folder=f"{folder}/crates/speed")
     shutil.copyfile(f"{kit()}/c/liblibc_c.a", f"{folder}/liblibc_c.a")
     shutil.copyfile(f"{folder}/crates/speed/out/libspeed.a", f"{folder}/libspeed.a")

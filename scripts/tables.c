@@ -1,5 +1,5 @@
-/* Reads the tables vectors/lists2.tsv, lists3.tsv, refused2.tsv and refused3.tsv, one after the other, and opens each text with
-   bitpacking_list_open. A row is "kind, lanes, values, bytes" of a list, or "lanes, number, fault, bytes" of a text that is refused. Prints
+/* Reads the tables vectors/lists2.tsv, lists3.tsv, refused2.tsv and refused3.tsv, one after the other. Packs the values of each list, which
+   has to give its bytes, and opens each text with bitpacking_list_open. A row is "kind, lanes, values, bytes" of a list, or "lanes, number, fault, bytes" of a text that is refused. Prints
    what is wrong, and last how many lists and refusals it read. */
 #include "bitpacking.h"
 
@@ -10,7 +10,7 @@
 enum { LINE = 1 << 16, LONGEST = 1 << 15 };
 
 static char line[LINE];
-static uint8_t bytes[LINE / 2];
+static uint8_t bytes[LINE / 2], packed[LINE / 2 + 1];
 static uint32_t values[LONGEST], found[LONGEST + 1];
 static int failed;
 
@@ -44,6 +44,43 @@ static size_t read_values(char *text)
     return len;
 }
 
+typedef ptrdiff_t (*list_pack)(uint8_t, uint8_t, const uint32_t *, size_t, uint8_t *, size_t, size_t *);
+typedef ptrdiff_t (*list_size)(uint8_t, uint8_t, const uint32_t *, size_t, size_t *);
+
+static uint8_t kind_of(const char *name)
+{
+    return *name == 'p' ? 0 : name[1] == 'o' ? 1 : 2;
+}
+
+static int all_are(const uint8_t *text, size_t len, uint8_t byte)
+{
+    size_t i;
+
+    for (i = 0; i < len && text[i] == byte; i++)
+        ;
+    return i == len;
+}
+
+/* The values are packed into the bytes of the row, which are as many as the size tells. Nothing is written into less room, nor after it. */
+static void packs(uint8_t kind, int lanes, size_t count, size_t size)
+{
+    const list_pack pack = lanes == 1 ? bitpacking_1x_list_pack : lanes == 4 ? bitpacking_4x_list_pack : bitpacking_8x_list_pack;
+    const list_size measure = lanes == 1 ? bitpacking_1x_list_size : lanes == 4 ? bitpacking_4x_list_size : bitpacking_8x_list_size;
+    uint8_t version = bytes[0] < 64 ? 2 : 3;
+    size_t position = 77;
+
+    memset(packed, 0xA5, sizeof packed);
+    expect(measure(version, kind, values, count, &position) == (ptrdiff_t)size, "another size");
+    expect(pack(version, kind, values, count, packed, size - 1, &position) == BITPACKING_SHORT, "it has too much room");
+    expect(all_are(packed, sizeof packed, 0xA5), "it is written without room");
+    expect(pack(version, kind, values, count, packed, sizeof packed, &position) == (ptrdiff_t)size, "another answer of list_pack");
+    expect(memcmp(packed, bytes, size) == 0, "other bytes");
+    expect(all_are(packed + size, sizeof packed - size, 0xA5), "bytes are written after it");
+    memset(packed, 0xA5, sizeof packed);
+    expect(pack(version, kind, values, count, packed, size, &position) == (ptrdiff_t)size, "no room in its own length");
+    expect(memcmp(packed, bytes, size) == 0 && packed[size] == 0xA5 && position == 77, "other bytes in their own length");
+}
+
 static void accepts(const char *kind, size_t count, size_t size)
 {
     bitpacking_list list = BITPACKING_LIST_EMPTY;
@@ -52,7 +89,7 @@ static void accepts(const char *kind, size_t count, size_t size)
 
     expect(bitpacking_list_open(bytes, size, &list) == 0, "it is refused");
     expect(bitpacking_list_len(&list) == count, "another length");
-    expect(bitpacking_list_kind(&list) == (*kind == 'p' ? 0 : kind[1] == 'o' ? 1 : 2), "another kind");
+    expect(bitpacking_list_kind(&list) == kind_of(kind), "another kind");
     for (i = 0; i < count; i++)
         expect(bitpacking_list_get(&list, i, &value) == 1 && value == values[i], "another value");
     expect(bitpacking_list_get(&list, count, &value) == 0, "a value after the last");
@@ -94,7 +131,10 @@ int main(void)
             refuses(atoi(column[1]), read_bytes(column[3]));
             refusals++;
         } else {
-            accepts(line, read_values(column[2]), read_bytes(column[3]));
+            size_t count = read_values(column[2]), size = read_bytes(column[3]);
+
+            packs(kind_of(line), atoi(column[1]), count, size);
+            accepts(line, count, size);
             lists++;
         }
     }

@@ -285,6 +285,7 @@ macro_rules! lists {
 }
 
 /// The levels of x86-64, the least first: x86-64, x86-64-v2 and x86-64-v3.
+#[cfg(target_arch = "x86_64")]
 static LEVELS: [Level; 3] = [
     Level {
         one: calls!("v1_bitpacking_1x_"),
@@ -306,7 +307,17 @@ static LEVELS: [Level; 3] = [
     },
 ];
 
+/// The one level of any other processor.
+#[cfg(not(target_arch = "x86_64"))]
+static LEVELS: [Level; 1] = [Level {
+    one: calls!("bitpacking_1x_"),
+    four: calls!("bitpacking_4x_"),
+    eight: calls!("bitpacking_8x_"),
+    lists: lists!("bitpacking_"),
+}];
+
 /// Features of processors by their names, and whether this one has each.
+#[cfg(target_arch = "x86_64")]
 macro_rules! detected {
     ($($feature:tt)*) => {
         [$(($feature, is_x86_feature_detected!($feature))),*]
@@ -314,16 +325,19 @@ macro_rules! detected {
 }
 
 /// What x86-64-v2 adds, but for what Rust cannot ask for.
+#[cfg(target_arch = "x86_64")]
 pub(crate) fn added_by_v2() -> [(&'static str, bool); 6] {
     detected!("cmpxchg16b" "popcnt" "sse3" "ssse3" "sse4.1" "sse4.2")
 }
 
 /// What x86-64-v3 adds, but for what Rust cannot ask for.
+#[cfg(target_arch = "x86_64")]
 pub(crate) fn added_by_v3() -> [(&'static str, bool); 8] {
     detected!("avx" "avx2" "bmi1" "bmi2" "f16c" "fma" "lzcnt" "movbe")
 }
 
 /// The levels of a processor: each one that has all its features and those of the levels below.
+#[cfg(target_arch = "x86_64")]
 pub(crate) fn levels_with(v2: [(&str, bool); 6], v3: [(&str, bool); 8]) -> &'static [Level] {
     let v2 = v2.iter().all(|(_, has)| *has);
     let v3 = v2 && v3.iter().all(|(_, has)| *has);
@@ -331,8 +345,15 @@ pub(crate) fn levels_with(v2: [(&str, bool); 6], v3: [(&str, bool); 8]) -> &'sta
 }
 
 /// The levels that this processor has.
+#[cfg(target_arch = "x86_64")]
 pub(crate) fn levels() -> &'static [Level] {
     levels_with(added_by_v2(), added_by_v3())
+}
+
+/// The levels that this processor has.
+#[cfg(not(target_arch = "x86_64"))]
+pub(crate) fn levels() -> &'static [Level] {
+    &LEVELS
 }
 
 /// The best of them.

@@ -2,6 +2,7 @@
 
 mod chains;
 mod layouts;
+#[cfg(target_arch = "x86_64")]
 mod levels;
 mod lists;
 mod sets;

@@ -1,18 +1,18 @@
 -- A chain grows by a block at its end, and is read back.
-use Rattle.std.proofs.Common.{◌≡◌, ℕ, ◌+◌, ◌-◌, ◌*◌, ◌^◌, ◌<◌, ◌≤◌, List, [], ◌∷◌, ◌++◌, length, take, drop, get_or, sum, refl, sym, ◌∙◌, ap, arith, append_assoc}
+use Rattle.std.proofs.Common.{◌≡◌, ℕ, zero, suc, ◌+◌, ◌-◌, ◌*◌, ◌^◌, ◌<◌, ◌≤◌, List, [], ◌∷◌, ◌++◌, length, take, drop, get_or, sum, refl, sym, ◌∙◌, ap, arith, append_assoc}
 use Rattle.std.proofs.lemmas.List.{take_at, drop_at, get_or_append_left, get_or-take, append-nil, take-append-drop, length-take, length-drop, drop-drop, take_all, drop_all}
-use Rattle.std.proofs.lemmas.List.Sums.{sum_by-append, sum_by-take-drop}
+use Rattle.std.proofs.lemmas.List.Sums.{sum_by-append, sum_by-cons, sum_by-take-drop}
 use Rattle.std.proofs.lemmas.Nat.{mul-le}
 use Rattle.std.proofs.lemmas.Slice.{take-put_mid, drop-put_mid}
 use Rattle.std.proofs.Math.Seq.{take-add}
 use borrow.Rule.Slice.PartMut.{put_mid}
 use Rattle.std.proofs.lemmas.List.Elements.{All-take, All-drop}
 use Rattle.bitpacking.specs.declared.kind.Kind.{Kind}
-use Rattle.bitpacking.specs.Codes.{AreWords}
-use Rattle.bitpacking.proofs.ForCallers.{bytes_hold_one_block}
+use Rattle.bitpacking.specs.Codes.{AreWords, codes}
+use Rattle.bitpacking.proofs.ForCallers.{bytes_hold_one_block, codes_are_words, one_least_width}
 use Rattle.bitpacking.specs.Width.{IsWidth}
 use Rattle.bitpacking.specs.Layout.{Holds, size}
-use Rattle.bitpack_lists.specs.Chains.{next_kind, second_kind, Loose, LeastWidths}
+use Rattle.bitpack_lists.specs.Chains.{next_kind, second_kind, IsChainSize, Loose, LeastWidths}
 use Rattle.bitpack_lists.specs.Laws.{ChainsReadBack}
 
 -- A block before a chain that goes on from its last value.
@@ -133,6 +133,38 @@ length-block n len i count xs e lt room =
     let from : i * len ≡ n * i = rw e (omega arith) in
     let span : i * len + len - i * len ≡ n = rw e (omega arith) in
     rw (span, from) (simp (length-take, length-drop) (omega arith))
+
+-- A block is the first one of what is left, and what is after it is left then.
+pub block-from : (lanes len i : ℕ) (values : List ℕ) → len ≡ 32 * lanes
+    → take (i * len + len - i * len) (drop (i * len) values) ≡ take (32 * lanes) (drop (32 * lanes * i) values)
+block-from lanes len i values e =
+    let span : i * len + len - i * len ≡ 32 * lanes = rw e (omega arith) in
+    let from : i * len ≡ 32 * lanes * i = rw e (omega arith) in
+    rw (span, from) refl
+
+pub drop-block : (lanes i : ℕ) (values : List ℕ) → drop (32 * lanes) (drop (32 * lanes * i) values) ≡ drop (32 * lanes * (i + 1)) values
+drop-block lanes i values =
+    let end : 32 * lanes * i + 32 * lanes ≡ 32 * lanes * (i + 1) = omega arith in
+    drop-drop (32 * lanes) (32 * lanes * i) values ∙ ap (λ k. drop k values) end
+
+-- Words have a least width for each block, and at most 32.
+pub least_widths : (lanes count : ℕ) (kind : Kind) (values : List ℕ) → AreWords values
+    → (all : List ℕ) × (length all ≡ count) × LeastWidths lanes kind values all × (sum all ≤ 32 * count)
+least_widths lanes zero kind values words = ([], refl, tt, omega arith)
+least_widths lanes (suc count) kind values words =
+    let n : ℕ = 32 * lanes in
+    let Word : ℕ → Type 0 = λ v. v < 2 ^ 32 in
+    let (width, narrow, least, one) = one_least_width (codes kind (take n values)) (codes_are_words kind (take n values) (All-take Word n values words)) in
+    let (later, long, are, few) = least_widths lanes count (second_kind lanes kind values) (drop n values) (All-drop Word n values words) in
+    (width ∷ later, ap suc long, (least, are), omega (arith, narrow, few, sum_by-cons (λ (n : ℕ). n) width later))
+
+-- Their chain has at most four bytes for each value.
+pub chain_fits : (lanes count room : ℕ) (kind : Kind) (values : List ℕ) → AreWords values → length values ≡ 32 * lanes * count
+    → 4 * length values ≤ room → (size_of : ℕ) × IsChainSize lanes kind values count size_of × (size_of ≤ room)
+chain_fits lanes count room kind values words long le =
+    let (all, as_many, least, few) = least_widths lanes count kind values words in
+    let most : lanes * sum all ≤ lanes * (32 * count) = mul-le lanes (sum all) lanes (32 * count) (omega arith) few in
+    (4 * lanes * sum all, (all, as_many, least, refl), omega (arith, most, long, le))
 
 -- A list whose block was written anew.
 pub take-put_block : (n len i : ℕ) (xs part : List ℕ) → len ≡ n → n * i ≤ length xs → length part ≡ n

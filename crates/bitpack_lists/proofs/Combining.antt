@@ -139,15 +139,15 @@ shared-seek target xs ys increasing =
 
 -- ---- what the first has and the second lacks
 
-without-nil : (ys : List ℕ) → without [] ys ≡ []
+pub without-nil : (ys : List ℕ) → without [] ys ≡ []
 unfolding without
 without-nil ys = refl
 
-without-kept : (x : ℕ) (xs ys : List ℕ) → has ys x ≡ false → without (x ∷ xs) ys ≡ x ∷ without xs ys
+pub without-kept : (x : ℕ) (xs ys : List ℕ) → has ys x ≡ false → without (x ∷ xs) ys ≡ x ∷ without xs ys
 unfolding without
 without-kept x xs ys e = rw e refl
 
-without-dropped : (x : ℕ) (xs ys : List ℕ) → has ys x ≡ true → without (x ∷ xs) ys ≡ without xs ys
+pub without-dropped : (x : ℕ) (xs ys : List ℕ) → has ys x ≡ true → without (x ∷ xs) ys ≡ without xs ys
 unfolding without
 without-dropped x xs ys e = rw e refl
 

@@ -68,7 +68,7 @@ module _ {P : Type 0} {members : Ghosts P} (list : PackedList P members) (some :
   }
 
   -- Those before a block are below the target where the last of them is.
-  before_part : InOrder (values list) → (target number : ℕ) → EndsBelow list target number → number ≤ blocks → (k : ℕ) → k < n * number
+  pub before_part : InOrder (values list) → (target number : ℕ) → EndsBelow list target number → number ≤ blocks → (k : ℕ) → k < n * number
       → value_of list k < target
   before_part ordered target number ends le =
       before_block n number target list.count (value_of list) (values_order ordered) (omega arith)

@@ -5,8 +5,11 @@ use Rattle.std.proofs.lemmas.List.Sums.{sum_by_more, sum_by_more_le}
 use Rattle.std.proofs.lemmas.Nat.{mul-le}
 pub use Rattle.bitpack_lists.proofs.CursorPlaces.{position_within}
 pub use Rattle.bitpack_lists.proofs.Distinct.{common_is_short, one_common}
+pub use Rattle.bitpack_lists.proofs.DistinctLemmas.{has-distinct}
 pub use Rattle.bitpack_lists.proofs.HeaderLemmas.{header_bytes}
 pub use Rattle.bitpack_lists.proofs.ListLemmas.{text_of}
+pub use Rattle.bitpack_lists.proofs.ManyLemmas.{has-shared_by_all, has-united_all}
+pub use Rattle.bitpack_lists.proofs.Membership.{has-filter, has-shared, has-united, has-without, same_numbers}
 pub use Rattle.bitpack_lists.proofs.MembersOfSorted.{contains-distinct, contains-shared, contains-shared_by_all, contains-united, contains-united_all, contains-without, distinct-increasing, has_contains, same_members, strictly_from_increasing}
 pub use Rattle.bitpack_lists.proofs.Soundness1.{one_list1, one_text1, text_from_none}
 pub use Rattle.bitpack_lists.proofs.OneText2.{no_fault2, one_list2, one_text2}

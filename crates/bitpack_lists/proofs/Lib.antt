@@ -1,9 +1,11 @@
 -- Lemmas of this crate. Other crates cite those of ForCallers alone.
 mod BlockLemmas
+mod BlockPlaces
 mod BlockValues
 mod ChainLemmas
 mod CodeLemmas
 mod Combining
+mod CopyBlocks
 mod CopySteps
 mod CursorPlaces
 mod CursorSteps
@@ -18,6 +20,7 @@ mod GroupLaws
 mod GroupLemmas
 mod GroupSteps
 mod HeaderLemmas
+mod InPlaceSteps
 mod KindFaults
 mod ListLemmas
 mod LooseLemmas
@@ -48,11 +51,14 @@ mod SliceSteps
 mod Soundness1
 mod Soundness2
 mod Soundness3
+mod TailFronts
 mod TailLaws
 mod TailOrder
 mod TailSteps
 mod TailTexts
 mod TextSizes
+mod TextsOfKind
+mod UniteSteps
 mod Upgraded
 mod UpgradeSteps
 mod UpgradeSteps3

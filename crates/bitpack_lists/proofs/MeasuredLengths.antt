@@ -38,6 +38,19 @@ measured_step lanes entry i width size_of kind rest all lt least before =
     ap sum parts ∙ sum_by-cons (λ (n : ℕ). n) (get_or all i 0) (drop (i + 1) all) ∙ ap (λ w. w + sum (drop (i + 1) all)) same in
     (first.1, omega (arith, rw total at before.1))
 
+-- In a chain, which has no entries. A block has room among its bytes.
+pub chained_step : (lanes i width size_of added : ℕ) (kind : Kind) (rest all : List ℕ) → i < length all → IsWidth kind (take (32 * lanes) rest) width
+    → added ≡ size lanes width → Measured lanes 0 i kind rest size_of all
+    → Measured lanes 0 (i + 1) (second_kind lanes kind rest) (drop (32 * lanes) rest) (size_of + added) all
+chained_step lanes i width size_of added kind rest all lt least e before =
+    let next = measured_step lanes 0 i width size_of kind rest all lt least before in
+    (next.0, omega (arith, e, next.1))
+
+pub chained_room : (lanes i width size_of room : ℕ) (kind : Kind) (rest all : List ℕ) → i < length all → IsWidth kind (take (32 * lanes) rest) width
+    → Measured lanes 0 i kind rest size_of all → 4 * lanes * sum all ≤ room → size_of + size lanes width ≤ room
+chained_room lanes i width size_of room kind rest all lt least before within =
+    omega (arith, within, (measured_step lanes 0 i width size_of kind rest all lt least before).1)
+
 -- ---- version 1
 
 widths_of_blocks : (lanes count : ℕ) (kind : Kind) (values bytes : List ℕ) → Blocks1 lanes count kind values bytes

@@ -1,10 +1,11 @@
 -- What an opened list says of its blocks, its values and its tail: its text has no fault.
-use Rattle.std.proofs.Common.{◌≡◌, ◌≢◌, ℕ, suc, ◌+◌, ◌-◌, ◌*◌, ◌/◌, ◌%◌, ◌<◌, ◌≤◌, true, List, length, drop, get_or, Option, None, sym, subst, ◌∙◌, ap, arith}
+use Rattle.std.proofs.Common.{◌≡◌, ◌≢◌, ℕ, suc, ◌+◌, ◌-◌, ◌*◌, ◌/◌, ◌%◌, ◌<◌, ◌≤◌, true, List, length, take, drop, get_or, Option, None, sym, subst, ◌∙◌, ap, arith}
 use Rattle.std.proofs.Math.Nat.{div-add-mod}
 use Rattle.std.proofs.lemmas.Bool.{lt-ltb}
 use Rattle.std.proofs.lemmas.List.{length-drop}
 use Rattle.std.proofs.lemmas.Nat.{mul-le}
 use Rattle.bitpacking.specs.Bits.{AreBytes}
+use Rattle.bitpacking.specs.Codes.{values_of}
 use Rattle.bitpacking.specs.Words.{word}
 use Rattle.bitpacking.specs.declared.bit_packer.BitPacker.{Ghosts}
 use Rattle.bitpack_lists.specs.declared.list2.packed_list.PackedList.{PackedList}
@@ -16,7 +17,8 @@ use Rattle.bitpack_lists.specs.Parts.{count_of, kind_of_byte, tail_values, whole
 use Rattle.bitpack_lists.specs.Search.{first_reaching, in_whole_block}
 use Rattle.bitpack_lists.specs.Texts.{States, fault_in, stated_count, stated_end, stated_kind, tail_value, value_in}
 use Rattle.bitpack_lists.specs.inner.Searching.{block_of_list, blocks_of, rest_of, value_of}
-use Rattle.bitpack_lists.specs.Version3.{tail_fault3, tail_values3}
+use Rattle.bitpack_lists.specs.inner.CodeSteps.{EndsGroup}
+use Rattle.bitpack_lists.specs.Version3.{tail_codes3, tail_fault3, tail_values3}
 use Rattle.bitpack_lists.specs.Version2.{body_at, body_fault2, is_out, kind_at, last_at, least_below, tail_start, width_at}
 use Rattle.bitpack_lists.proofs.PartLemmas.{AreBytes-drop}
 use Rattle.bitpack_lists.proofs.RestFaults.{body_right, first_fault-none}
@@ -24,6 +26,7 @@ use Rattle.bitpack_lists.proofs.RestValues.{length-block_at, value_with-block, v
 use Rattle.bitpack_lists.proofs.SearchLemmas.{before_block, first_further, first_within, in_order}
 use Rattle.bitpack_lists.proofs.Soundness2.{sound_from_none2, whole_of}
 use Rattle.bitpack_lists.proofs.Soundness3.{sound_from_none3}
+use Rattle.bitpack_lists.proofs.TailFronts.{front_of_tail, values_of-take}
 use Rattle.bitpack_lists.proofs.WholeBlocks.{AreSound}
 
 -- ---- what the header and the test of a text say, in either version
@@ -179,6 +182,23 @@ module _ {P : Type 0} {members : Ghosts P} (list : PackedList P members) (some :
         ap (tail_fault3 blocks (tail_values lanes list.count)) list.tail_is
         ∙ fault_of_tail lanes list.bytes.now list.kind list.count rest some list.are_bytes
         (subst (λ version. States version lanes list.bytes.now list.kind list.count rest) three list.states)
+
+    -- Its first groups have none either, and their values are the first of its values.
+    module _ (count : ℕ) (ends : EndsGroup blocks (tail_values lanes list.count) count) where
+      front : (tail_fault3 blocks count list.tail.now ≡ None) × (tail_codes3 blocks count list.tail.now ≡ take count (tail_codes3 blocks (tail_values lanes list.count) list.tail.now))
+      front =
+          let start : ℕ = tail_start lanes blocks rest in
+          front_of_tail blocks (tail_values lanes list.count) count list.tail.now (rw list.tail_is (AreBytes-drop start rest opened_small)) tail_right ends
+
+      pub front_right : tail_fault3 blocks count list.tail.now ≡ None
+      front_right = front.0
+
+      pub front_values : values_of list.tail_kind (tail_codes3 blocks count list.tail.now) ≡ take count (tail_values3 lanes blocks (tail_values lanes list.count) list.kind rest)
+      front_values =
+          let tail : ℕ = tail_values lanes list.count in
+          ap (values_of list.tail_kind) front.1 ∙ values_of-take list.tail_kind count (tail_codes3 blocks tail list.tail.now)
+          ∙ ap (λ kind. take count (values_of kind (tail_codes3 blocks tail list.tail.now))) (list.tail_kind_is three)
+          ∙ ap (λ zs. take count (values_of (kind_at list.kind rest blocks) (tail_codes3 blocks tail zs))) list.tail_is
 
     pub tail_at : (k : ℕ) → value_of list (32 * lanes * blocks + k) ≡ get_or (tail_values3 lanes blocks (tail_values lanes list.count) list.kind rest) k 0
     tail_at k = opened_tail k ∙ ap (λ version. tail_value version lanes list.count list.kind rest k) three

@@ -16,7 +16,7 @@ and_true true = refl
 and_true false = refl
 
 -- what is sought is there if the first value from there on is it
-has_here : (item : ℕ) (xs : List ℕ) → has (at_least item xs) item ≡ has xs item
+pub has_here : (item : ℕ) (xs : List ℕ) → has (at_least item xs) item ≡ has xs item
 has_here item xs = has-at_least item xs item ∙ rw (le-leb item item (omega arith)) (and_true (has xs item))
 
 module _ (item : ℕ) (xs ys : List ℕ) (increasing : IsIncreasing xs) (sought : ys ≡ at_least item xs) where

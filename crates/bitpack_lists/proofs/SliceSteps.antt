@@ -12,7 +12,7 @@ use Rattle.bitpack_lists.proofs.DistinctLemmas.{distinct-increasing, sought_rest
 pub from_index : (n : ℕ) (xs : List ℕ) → take (length xs - n) (drop n xs) ≡ drop n xs
 from_index n xs = take_all (length xs - n) (drop n xs) (omega (arith, length-drop n xs))
 
-IsStrictlyIncreasing-drop : (n : ℕ) (xs : List ℕ) → IsStrictlyIncreasing xs → IsStrictlyIncreasing (drop n xs)
+pub IsStrictlyIncreasing-drop : (n : ℕ) (xs : List ℕ) → IsStrictlyIncreasing xs → IsStrictlyIncreasing (drop n xs)
 IsStrictlyIncreasing-drop n xs increasing k lt =
     let here = get_or-drop n xs k 0 in
     let next = get_or-drop n xs (k + 1) 0 in

@@ -1,5 +1,5 @@
 -- Writing a text of version 3: the codes of its tail, how long it is, and its parts one after the other.
-use Rattle.std.proofs.Common.{◌≡◌, ℕ, zero, suc, ◌+◌, ◌-◌, ◌*◌, ◌%◌, ◌^◌, ◌<◌, ◌≤◌, List, ◌++◌, length, take, drop, get_or, sum, None, refl, sym, ◌∙◌, ap, arith}
+use Rattle.std.proofs.Common.{◌≡◌, ℕ, zero, suc, ◌+◌, ◌-◌, ◌*◌, ◌%◌, ◌^◌, ◌<◌, ◌≤◌, List, ◌++◌, length, take, drop, get_or, None, refl, sym, ◌∙◌, ap, arith}
 use Rattle.std.proofs.Math.Nat.{mul-div-le}
 use Rattle.std.proofs.lemmas.List.{get_or-take, length-append, length-drop, length-take-le}
 use Rattle.std.proofs.lemmas.List.Elements.{All-drop}
@@ -7,14 +7,13 @@ use Rattle.bitpacking.specs.declared.kind.Kind.{Kind}
 use Rattle.bitpacking.specs.Codes.{AreWords, codes}
 use Rattle.bitpacking.proofs.ForCallers.{codes_are_words}
 use Rattle.bitpack_lists.specs.declared.list_kind.ListKind.{ListKind}
-use Rattle.bitpack_lists.specs.Chains.{LeastWidths, next_kind}
+use Rattle.bitpack_lists.specs.Chains.{next_kind}
 use Rattle.bitpack_lists.specs.inner.Opening.{AreEntries, HasBodies}
 use Rattle.bitpack_lists.specs.inner.Sizes.{AreTailCodes}
 use Rattle.bitpack_lists.specs.Parts.{first_kind, whole_blocks}
 use Rattle.bitpack_lists.specs.Version2.{first_out, kind_at, last_at, tail_start}
 use Rattle.bitpack_lists.specs.Version3.{IsTail3, List3, header3}
 use Rattle.bitpack_lists.proofs.BlockLemmas.{get_or-block_of}
-use Rattle.bitpack_lists.proofs.MeasuredLengths.{blocks_long}
 use Rattle.bitpack_lists.proofs.RestLemmas.{after_done, blocks_done}
 use Rattle.bitpack_lists.proofs.WriteSteps.{whole_end}
 

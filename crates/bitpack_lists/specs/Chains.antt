@@ -1,5 +1,5 @@
 -- Chains of blocks: each begins at the last value of the one before it.
-use Rattle.std.specs.Prelude.{◌≡◌, ℕ, ◌-◌, ◌*◌, ◌≤◌, List, [], ◌∷◌, take, drop, slice_index, Some, ⊤}
+use Rattle.std.specs.Prelude.{◌≡◌, ℕ, ◌-◌, ◌*◌, ◌≤◌, List, [], ◌∷◌, length, take, drop, sum, slice_index, All, Some, ⊤}
 use Rattle.bitpacking.specs.declared.kind.Kind.{Kind}
 use Rattle.bitpacking.specs.declared.kind.Kind.TheVariants.{Plain, Sorted, StrictlySorted}
 use Rattle.bitpacking.specs.Width.{IsWidth}
@@ -30,7 +30,25 @@ LeastWidths lanes kind values (width ∷ widths) =
     IsWidth kind (take (32 * lanes) values) width
     × LeastWidths lanes (second_kind lanes kind values) (drop (32 * lanes) values) widths
 
--- the same, with each width the least
+-- the chain of so many blocks of the values has so many bytes
+abbrev pub IsChainSize : ℕ → Kind → List ℕ → ℕ → ℕ → Type 0
+IsChainSize lanes kind values blocks size =
+    (widths : List ℕ) × (length widths ≡ blocks) × LeastWidths lanes kind values widths × (size ≡ 4 * lanes * sum widths)
+
+-- values whose widths are each the least
 pub record Chained (lanes : ℕ) (kind : Kind) (values widths bytes : List ℕ) : Type 0 where
   pub loose : Loose lanes kind values widths bytes
   pub least : LeastWidths lanes kind values widths
+
+-- the values are so many blocks of this length, and so many bytes are room for their chain
+pub record CanPackChain (lanes len : ℕ) (kind : Kind) (values : List ℕ) (count bytes : ℕ) : Type 0 where
+  pub blocks : length values ≡ len * count
+  pub room : (size : ℕ) × IsChainSize lanes kind values count size × (size ≤ bytes)
+
+-- the widths and bytes of a chain were written at the start of a buffer that had other bytes, and what is after them stays
+pub record PacksChain (lanes : ℕ) (kind : Kind) (values widths old new : List ℕ) (count : ℕ) : Type 0 where
+  pub size : count ≡ 4 * lanes * sum widths
+  pub few : count ≤ 4 * length values
+  pub narrow : All (λ width. width ≤ 32) widths
+  pub chain : Chained lanes kind values widths (take count new)
+  pub rest : drop count new ≡ drop count old

@@ -1,4 +1,5 @@
 -- The definitions of this crate.
+pub mod Blocks
 pub mod Chains
 pub mod Cursors
 pub mod Distinct
@@ -7,6 +8,7 @@ pub mod Fronts
 pub mod Groups
 pub mod Increasing
 pub mod IncreasingLaws
+pub mod InFront
 pub mod inner
 pub mod Intersections
 pub mod Laws

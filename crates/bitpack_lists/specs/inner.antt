@@ -2,6 +2,7 @@
 pub mod Appending
 pub mod CodeSteps
 pub mod Combined
+pub mod InPlace
 pub mod Leaping
 pub mod Opening
 pub mod Opening3

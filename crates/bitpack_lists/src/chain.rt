@@ -1,10 +1,10 @@
 //! Chains: many blocks of one kind, each of which goes on from the last value of the one before.
 
-ghost use Rattle.std.specs.Prelude.{◌≡◌, ◌*◌, ◌≤◌, All, length, take, drop, sum};
+ghost use Rattle.std.specs.Prelude.{◌≡◌, ◌*◌, ◌/◌, ◌≤◌, ℕ, All, length, take, drop, sum};
 ghost use Rattle.bitpacking.specs.Width.{IsWidth};
 ghost use Rattle.bitpacking.specs.Layout.{size};
 ghost use Rattle.bitpacking.specs.Calls.{CanPack, CanUnpack, IsPacked, IsUnpacked};
-ghost use Rattle.bitpack_lists.specs.Chains.{Chained, Loose};
+ghost use Rattle.bitpack_lists.specs.Chains.{CanPackChain, Chained, IsChainSize, Loose, PacksChain};
 
 use bitpacking::{BitPacker, Kind};
 
@@ -33,6 +33,21 @@ pub fn pack_all<P: BitPacker>(
     ensures chain { Chained P.lanes kind values.now widths.new (take result out.new) }
     ensures rest { drop result out.new ≡ drop result out.old }
 {
+    pack_measured(packer, kind, values, widths, out)
+}
+
+/// Packs blocks as [`pack_all`] does, into a slice that has room for their chain and may have no more. [`packed_len`] returns how
+/// many bytes that is.
+pub fn pack_measured<P: BitPacker>(
+    packer: &P,
+    kind: Kind,
+    values: &[u32],
+    widths: &mut [u8],
+    out: &mut [u8],
+) -> usize
+    requires { CanPackChain P.lanes P.BLOCK_LEN kind values.now (length widths.old) (length out.old) }
+    ensures { PacksChain P.lanes kind values.now widths.new out.old out.new result }
+{
     let len = P::BLOCK_LEN;
     let blocks = widths.len();
     let mut block_kind = kind;
@@ -45,6 +60,24 @@ pub fn pack_all<P: BitPacker>(
         block_kind = next_kind(block_kind, block[len - 1]);
     }
     written
+}
+
+/// The number of bytes that [`pack_all`] and [`pack_measured`] write for the whole blocks of these values.
+pub fn packed_len<P: BitPacker>(packer: &P, kind: Kind, values: &[u32]) -> usize
+    ensures { IsChainSize P.lanes kind values.now (length values.now / P.BLOCK_LEN) result }
+{
+    let len = P::BLOCK_LEN;
+    let mut block_kind = kind;
+    let mut rest = values;
+    let mut size = 0;
+    for _ in 0..values.len() / len {
+        let (first, after) = rest.split_at(len);
+        let least = packer.num_bits_kind(block_kind, first);
+        size += P::compressed_block_size(least);
+        block_kind = next_kind(block_kind, first[len - 1]);
+        rest = after;
+    }
+    size
 }
 
 /// Unpacks blocks that were packed as a chain and returns the number of bytes read.

@@ -16,8 +16,8 @@ pub(crate) mod upgrading;
 pub(crate) mod writing;
 
 pub use list_buf::ListBuf;
-pub(crate) use packed_list::{first_ahead, first_from};
-pub use packed_list::{Cursor, PackedList, append_common, intersect};
+pub(crate) use packed_list::first_ahead;
+pub use packed_list::{Cursor, PackedList, append_common, first_from, intersect};
 pub use reads::Reads;
 pub use upgrading::upgrade;
 pub use writing::{encode, encode_to, encoded_len};

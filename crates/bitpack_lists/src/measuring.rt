@@ -26,6 +26,7 @@ pub(crate) fn text_len<P: BitPacker>(
     requires entry { entry_len ≤ 9 }
     ensures room { HEADER_LEN + entry_len * whole_blocks P.lanes (length values.now)
         + 4 * tail_values P.lanes (length values.now) ≤ result }
+    ensures few { result ≤ 2 ^ 40 }
     ensures len { (all : List ℕ) → length all ≡ whole_blocks P.lanes (length values.now)
         → LeastWidths P.lanes (first_kind kind) values.now all
         → result ≡ HEADER_LEN + entry_len * whole_blocks P.lanes (length values.now) + 4 * P.lanes * sum all

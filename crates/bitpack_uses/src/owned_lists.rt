@@ -3,30 +3,31 @@
 ghost use Rattle.std.specs.Prelude.{◌≡◌, ℕ, List, IfErr, IfOk, IfSome, slice_get, sum, take};
 ghost use Rattle.bitpack_lists.specs.declared.list_error.ListError.{ListError};
 ghost use Rattle.bitpack_lists.specs.declared.list_kind.ListKind.{ListKind};
+ghost use Rattle.bitpack_lists.specs.declared.version.Version.{Version};
 ghost use Rattle.bitpack_lists.specs.Intersections.{IsCommon};
 ghost use Rattle.bitpack_lists.specs.Opened.{values};
 ghost use Rattle.bitpack_lists.specs.Owned.{bytes_of_buf, values_of_buf};
-ghost use Rattle.bitpack_lists.specs.Version2.{List2};
+ghost use Rattle.bitpack_lists.specs.Texts.{IsText};
 
 use bitpack::list2::{ListBuf, PackedList, append_common};
 use bitpack::{ListError, ListKind};
 use bitpacking::BitPacker;
 use std::alloc::Global;
 
-/// The ids that two packed sets share. The texts may be untrusted.
+/// The ids that two packed sets share. The texts may be untrusted, and each of version 2 or 3.
 pub fn shared_ids<P: BitPacker>(
     alloc: Global,
     packer: P,
     first: &[u8],
     second: &[u8],
 ) -> Result<Vec<u32>, ListError>
-    ensures { IfOk result (λ shared. (ours : List ℕ) × (theirs : List ℕ)
-        × List2 P.lanes ListKind.StrictlySorted ours first.now
-        × List2 P.lanes ListKind.StrictlySorted theirs second.now
+    ensures { IfOk result (λ shared. (one : Version) × (other : Version) × (ours : List ℕ) × (theirs : List ℕ)
+        × IsText one P.lanes ListKind.StrictlySorted ours first.now
+        × IsText other P.lanes ListKind.StrictlySorted theirs second.now
         × IsCommon ours theirs shared.items) }
 {
-    let first = PackedList::open_as(packer, ListKind::StrictlySorted, first)?;
-    let second = PackedList::open_as(packer, ListKind::StrictlySorted, second)?;
+    let first = PackedList::open_any_as(packer, ListKind::StrictlySorted, first)?;
+    let second = PackedList::open_any_as(packer, ListKind::StrictlySorted, second)?;
     let mut shared = Vec::new(alloc);
     append_common(&first, &second, &mut shared)?;
     Ok(shared)

@@ -1,1 +1,5 @@
 pub mod ChainLengths
+pub mod CursorPlaces
+pub mod PackLemmas
+pub mod SetSteps
+pub mod UnionSteps

@@ -5,7 +5,7 @@ use Rattle.bitpacking.specs.Codes.{codes}
 use Rattle.bitpacking.specs.Width.{Fits, IsWidth}
 use Rattle.bitpacking.specs.Layout.{size}
 use Rattle.bitpacking.specs.Calls.{IsPacked, IsUnpacked}
-use Rattle.bitpack_lists.specs.Chains.{Chained, Loose}
+use Rattle.bitpack_lists.specs.Chains.{Chained, IsChainSize, Loose}
 use Rattle.bitpacking_c.specs.declared.call_error.CallError.{CallError}
 use Rattle.bitpacking_c.specs.declared.call_error.CallError.TheVariants.{BadLength, BadWidth, Short, Unfit}
 
@@ -73,10 +73,11 @@ PacksLeast lanes before least kind block old new (Err error) =
 -- ---- chains
 
 -- why values cannot be packed as a chain with so many widths: the first that applies, in the order length, room
-abbrev pub CannotPackAll : ℕ → List ℕ → ℕ → ℕ → CallError → Type 0
-CannotPackAll lanes values widths room BadLength = length values ≢ 32 * lanes * widths
-CannotPackAll lanes values widths room Short = (length values ≡ 32 * lanes * widths) × (room < 4 * length values)
-CannotPackAll lanes values widths room error = ⊥
+abbrev pub CannotPackAll : ℕ → Kind → List ℕ → ℕ → ℕ → CallError → Type 0
+CannotPackAll lanes kind values widths room BadLength = length values ≢ 32 * lanes * widths
+CannotPackAll lanes kind values widths room Short =
+    (length values ≡ 32 * lanes * widths) × ((size : ℕ) × IsChainSize lanes kind values widths size × (room < size))
+CannotPackAll lanes kind values widths room error = ⊥
 
 -- the widths and bytes of the chain were written, or both buffers are as they were
 abbrev pub PacksAll : ℕ → Kind → List ℕ → List ℕ → List ℕ → List ℕ → List ℕ → Result ℕ CallError → Type 0
@@ -84,7 +85,7 @@ PacksAll lanes kind values before widths old new (Ok count) =
     (count ≡ 4 * lanes * sum widths) × (count ≤ 4 * length values)
     × Chained lanes kind values widths (take count new) × (drop count new ≡ drop count old)
 PacksAll lanes kind values before widths old new (Err error) =
-    (new ≡ old) × (widths ≡ before) × CannotPackAll lanes values (length before) (length old) error
+    (new ≡ old) × (widths ≡ before) × CannotPackAll lanes kind values (length before) (length old) error
 
 -- no width is above 32
 abbrev pub AreNarrow : List ℕ → Type 0

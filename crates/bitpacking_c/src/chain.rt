@@ -7,7 +7,7 @@ use crate::CallError;
 use bitpack_lists::chain;
 use bitpacking::{BitPacker, Kind, MAX_WIDTH};
 
-/// Packs blocks, each at its least width.
+/// Packs blocks, each at its least width. If there is no room for any chain of these values, this one is measured first.
 #[inline(always)]
 pub(crate) fn pack_all<P: BitPacker>(
     packer: &P,
@@ -26,10 +26,13 @@ pub(crate) fn pack_all<P: BitPacker>(
     if values.len() / len != widths.len() {
         return Err(CallError::BadLength);
     }
-    if values.len() > out.len() / 4 {
+    if values.len() <= out.len() / 4 {
+        return Ok(chain::pack_all(packer, kind, values, widths, out));
+    }
+    if out.len() < chain::packed_len(packer, kind, values) {
         return Err(CallError::Short);
     }
-    Ok(chain::pack_all(packer, kind, values, widths, out))
+    Ok(chain::pack_measured(packer, kind, values, widths, out))
 }
 
 /// Unpacks blocks that were packed as a chain.

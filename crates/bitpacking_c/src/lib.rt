@@ -10,8 +10,15 @@ mod bitpacker8x;
 mod block;
 mod call_error;
 mod chain;
+mod cursor_calls;
+mod list_blocks;
+mod list_cursor;
+mod list_packing;
+mod list_sets;
 mod list_view;
 mod no_initial;
+mod version;
 
 pub use call_error::CallError;
+pub use list_cursor::ListCursor;
 pub use list_view::ListView;

@@ -21,8 +21,8 @@ const FIRST_OF_3: u8 = 64;
 #[repr(C)]
 #[derive(Drop)]
 pub struct ListView<'a> {
-    bytes: &'a [u8],
-    lanes: u8,
+    pub(crate) bytes: &'a [u8],
+    pub(crate) lanes: u8,
     // The bytes have no fault for the packer of this many lanes.
     pub ghost sound: { lanes ≢ 0 → fault_of_either lanes bytes.now ≡ None },
     pub ghost known: { lanes ≢ 0 → lanes ≢ 1 → lanes ≢ 4 → lanes ≡ 8 },
@@ -163,7 +163,7 @@ pub extern "C" fn bitpacking_list_len(view: &ListView<'_>) -> usize
 }
 
 /// The kind of the list.
-fn kind(view: &ListView<'_>) -> ListKind
+pub(crate) fn kind(view: &ListView<'_>) -> ListKind
     ensures { (kind : ListKind) (values : List ℕ) → IsListOf view.now.lanes view.now.bytes.now kind values
         → result ≡ kind }
 {

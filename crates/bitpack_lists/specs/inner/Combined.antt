@@ -1,5 +1,5 @@
 -- What a combined cursor keeps of the values that its parts have left.
-use Rattle.std.specs.Prelude.{◌≡◌, ℕ, List, Option, Some}
+use Rattle.std.specs.Prelude.{◌≡◌, ℕ, List, drop, Option, Some}
 use Rattle.bitpack_lists.specs.Increasing.{first, shared, without}
 
 -- the value is the first that both have left, and both are at it
@@ -12,3 +12,7 @@ pub record IsShared (value : Option ℕ) (xs ys : List ℕ) : Type 0 where
 pub record IsKept (value : Option ℕ) (xs ys : List ℕ) : Type 0 where
   pub is : value ≡ first (without xs ys)
   pub one : (v : ℕ) → value ≡ Some v → first xs ≡ Some v
+
+-- what is left after some of what was left
+abbrev pub IsLater : List ℕ → List ℕ → Type 0
+IsLater old new = (passed : ℕ) × (new ≡ drop passed old)

@@ -137,7 +137,7 @@ fn test_entries(rest: &[u8], blocks: usize) -> Result<usize, ListError>
 
 /// Tests the bodies of the blocks, whose entries were tested. Returns the last value of the last block, the first position out of
 /// order in the blocks, and the kind of what follows.
-// Reads bytes: new, first, for, entry, unpack, body, test_block, first_out, next_kind.
+// Reads bytes: first, new, for, entry, unpack, body, test_block, first_out, next_kind.
 fn test_bodies<P: BitPacker>(
     packer: &P,
     header: Header,
@@ -160,8 +160,11 @@ fn test_bodies<P: BitPacker>(
 {
     let len = P::BLOCK_LEN;
     let blocks = header.count / len;
-    let mut reads = Reads::new();
     let mut kind = header.kind.first();
+    if blocks == 0 {
+        return Ok((0, None, kind));
+    }
+    let mut reads = Reads::new();
     let mut last = 0;
     let mut out = None;
     let mut room = [0; LONGEST_BLOCK];

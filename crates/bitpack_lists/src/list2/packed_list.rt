@@ -1,5 +1,6 @@
 //! A packed list of version 2 or 3, read in place: it borrows its text.
 
+mod blocks;
 mod common;
 mod copying;
 mod cursor;
@@ -27,8 +28,8 @@ use crate::list_kind::ListKind;
 use crate::version::Version;
 use bitpacking::{BitPacker, Kind};
 pub use common::append_common;
-pub use cursor::Cursor;
-pub(crate) use cursor::{first_ahead, first_from};
+pub(crate) use cursor::first_ahead;
+pub use cursor::{Cursor, first_from};
 pub use intersection::intersect;
 use std::alloc::AllocError;
 
@@ -165,7 +166,7 @@ impl<'a, P: BitPacker> PackedList<'a, P> {
         self.kind
     }
 
-    /// The value at a position, or `None` from the length on. One block is unpacked at most, and none for a value of the tail.
+    /// The value at a position, or `None` from the length on. Unpacks at most one block, or the groups of the tail up to the value.
     // Reads bytes: value_in_block, value_in_tail.
     pub fn get(&self, position: usize) -> Option<u32>
         ensures { result ≡ slice_get (values self.now) position }
@@ -212,6 +213,7 @@ impl<'a, P: BitPacker> PackedList<'a, P> {
         requires { block < blocks_of self.now }
         ensures kind { result ≡ kind_at self.now.kind (rest_of self.now) block }
         ensures reads { ReadsEntries reads.old reads.new }
+        ensures one { reads.new.entries ≤ reads.old.entries + 1 }
     {
         let first = self.kind.first();
         if block == 0 {

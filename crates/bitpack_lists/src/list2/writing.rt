@@ -94,6 +94,7 @@ pub fn encoded_len<P: BitPacker>(
     values: &[u32],
 ) -> Result<usize, ListError>
     ensures len { IfOk result (λ len. (text : List ℕ) → List2 P.lanes kind values.now text → len ≡ length text) }
+    ensures few { IfOk result (λ len. len ≤ 2 ^ 40) }
     // Values with a fault are refused for the first.
     ensures fault { MatchOption (values_fault kind values.now) (IsOk result) (λ fault. result ≡ Err fault) }
 {

@@ -1,8 +1,9 @@
 //! The tail of a list: its codes in groups, after the first one as a number if the list has no whole block.
 
-ghost use Rattle.std.specs.Prelude.{◌≡◌, ℕ, List, ◌+◌, ◌^◌, ◌≤◌, OnOk, IfOk, min, length, take};
+ghost use Rattle.std.specs.Prelude.{◌≡◌, ℕ, List, ◌+◌, ◌^◌, ◌<◌, ◌≤◌, OnOk, IfOk, min, length, take};
 ghost use Rattle.bitpack_lists.specs.Groups.{AreGroups, after_groups, groups_codes, groups_fault, groups_of};
 ghost use Rattle.bitpack_lists.specs.Parts.{FindsFault};
+ghost use Rattle.bitpack_lists.specs.inner.CodeSteps.{EndsGroup};
 ghost use Rattle.bitpack_lists.specs.Version3.{IsTail3, after_tail3, tail_codes3, tail_fault3};
 
 use super::group::{LONGEST_GROUP, group_len, read_group, write_group};
@@ -67,6 +68,28 @@ fn next_len(left: usize) -> usize
     } else {
         LONGEST_GROUP
     }
+}
+
+/// How many of the first codes of a tail have to be read for the one at an index: up to the end of its group.
+pub(crate) fn end_of_group(blocks: usize, tail: usize, index: usize) -> usize
+    requires index { index < tail }
+    requires few { tail ≤ 2 ^ 28 }
+    ensures within { index < result }
+    ensures near { result ≤ index + 32 }
+    ensures tail { result ≤ tail }
+    ensures groups { EndsGroup blocks tail result }
+{
+    let first = before_groups(blocks);
+    let groups = (index + LONGEST_GROUP - first) / LONGEST_GROUP;
+    tail.min(first + LONGEST_GROUP * groups)
+}
+
+/// How many codes of a tail are before its groups.
+fn before_groups(blocks: usize) -> usize
+    ensures before { result ≡ Rattle.bitpack_lists.specs.inner.CodeSteps.before_groups blocks }
+    ensures few { result ≤ 1 }
+{
+    if blocks == 0 { 1 } else { 0 }
 }
 
 /// How many bytes the tail of these codes has, after so many blocks.

@@ -6,9 +6,11 @@ ghost use Rattle.bitpack_lists.specs.Chains;
 ghost use Rattle.bitpack_lists.specs.Parts.{FindsFault, first_kind, tail_values};
 ghost use Rattle.bitpack_lists.specs.Version2.{first_out, values_fault};
 ghost use Rattle.bitpack_lists.specs.Version3.{List3};
+ghost use Rattle.bitpack_lists.specs.inner.Appending.{AppendsText3};
 ghost use Rattle.bitpack_lists.specs.inner.Sizes.{AreReady, AreTailCodes, IsSize3};
 
 use super::codes::to_codes;
+use super::group::LONGEST_GROUP;
 use super::header::{header_len, write_header};
 use super::tail::{tail_len, write_tail};
 use crate::chain::{LONGEST_BLOCK, next_kind};
@@ -45,16 +47,48 @@ pub fn encode<P: BitPacker>(
     ensures unchanged { OnErr result (out.new.items ≡ out.old.items) }
     ensures kept { OnErr result (vec_capacity out.new ≡ vec_capacity out.old) }
 {
+    if values.len() < LONGEST_GROUP {
+        return append_text(
+            packer,
+            kind,
+            values,
+            &mut [0; 0],
+            &mut [0; LONGEST_GROUP],
+            out,
+        );
+    }
     let mut widths = [0; KEPT_WIDTHS];
-    let mut room = [0; LONGEST_BLOCK];
+    append_text(
+        packer,
+        kind,
+        values,
+        &mut widths,
+        &mut [0; LONGEST_BLOCK],
+        out,
+    )
+}
+
+/// Appends the text as `encode` does, with room for the widths that are kept, and for the codes of the tail. For a short list little
+/// room is enough, which takes less time to clear.
+fn append_text<P: BitPacker>(
+    packer: &P,
+    kind: ListKind,
+    values: &[u32],
+    widths: &mut [u8],
+    room: &mut [u32],
+    out: &mut Vec<u8>,
+) -> Result<(), ListError>
+    requires room { tail_values P.lanes (length values.now) ≤ length room.old }
+    ensures { AppendsText3 P.lanes kind values.now result out.old out.new }
+{
     let codes = &mut room[..values.len() % P::BLOCK_LEN];
-    let size = measure(packer, kind, values, &mut widths, codes)?;
+    let size = measure(packer, kind, values, widths, codes)?;
     if out.reserve(size).is_err() {
         return Err(ListError::Memory);
     }
     let start = out.len();
     append_zeros(out, 0, size);
-    write_text(packer, kind, values, &widths, codes, out.slice_mut(start..));
+    write_text(packer, kind, values, widths, codes, out.slice_mut(start..));
     Ok(())
 }
 
@@ -97,6 +131,7 @@ pub fn encoded_len<P: BitPacker>(
     values: &[u32],
 ) -> Result<usize, ListError>
     ensures len { IfOk result (λ len. (text : List ℕ) → List3 P.lanes kind values.now text → len ≡ length text) }
+    ensures few { IfOk result (λ len. len ≤ 2 ^ 40) }
     // Values with a fault are refused for the first.
     ensures fault { MatchOption (values_fault kind values.now) (IsOk result) (λ fault. result ≡ Err fault) }
 {
@@ -119,6 +154,7 @@ fn measure<P: BitPacker>(
     requires tail { length codes.old ≡ tail_values P.lanes (length values.now) }
     ensures fault { FindsFault result (values_fault kind values.now) }
     ensures size { IfOk result (IsSize3 P.lanes kind values.now codes.new) }
+    ensures few { IfOk result (λ size. size ≤ 2 ^ 40) }
     ensures ready { OnOk result (AreReady P.lanes kind values.now widths.new) }
     ensures codes { OnOk result (AreTailCodes P.lanes kind values.now codes.new) }
 {

@@ -2,7 +2,7 @@
 
 ghost use Rattle.std.specs.Prelude.{◌≡◌, ℕ, List};
 ghost use Rattle.bitpack_lists.specs.Increasing.{shared};
-ghost use Rattle.bitpack_lists.specs.inner.Combined.{IsShared};
+ghost use Rattle.bitpack_lists.specs.inner.Combined.{IsLater, IsShared};
 ghost use Rattle.bitpack_lists.specs.Fronts.{IsFront, NoneBelow};
 ghost use Rattle.bitpack_lists.specs.IncreasingLaws.{increasing_shared};
 
@@ -59,9 +59,13 @@ impl<A: SortedCursor, B: SortedCursor> SortedCursor for And<A, B> {
 }
 
 /// Moves both to the first value that they share, and returns it.
-fn next_shared<A: SortedCursor, B: SortedCursor>(one: &mut A, other: &mut B) -> Option<u32>
+pub(super) fn next_shared<A: SortedCursor, B: SortedCursor>(
+    one: &mut A,
+    other: &mut B,
+) -> Option<u32>
     ensures rest { shared (A.rest one.new) (B.rest other.new) ≡ shared (A.rest one.old) (B.rest other.old) }
     ensures value { IsShared result (A.rest one.new) (B.rest other.new) }
+    ensures later { IsLater (A.rest one.old) (A.rest one.new) }
 {
     pass_at_hand(one, other);
     meet(one, other)
@@ -71,6 +75,7 @@ fn next_shared<A: SortedCursor, B: SortedCursor>(one: &mut A, other: &mut B) -> 
 fn meet<A: SortedCursor, B: SortedCursor>(one: &mut A, other: &mut B) -> Option<u32>
     ensures rest { shared (A.rest one.new) (B.rest other.new) ≡ shared (A.rest one.old) (B.rest other.old) }
     ensures value { IsShared result (A.rest one.new) (B.rest other.new) }
+    ensures later { IsLater (A.rest one.old) (A.rest one.new) }
 {
     while let Some(wanted) = one.value() {
         other.seek(wanted);
@@ -90,7 +95,8 @@ fn meet<A: SortedCursor, B: SortedCursor>(one: &mut A, other: &mut B) -> Option<
 /// Moves past values at hand that the two do not share, if it pays to merge these.
 #[inline(always)]
 fn pass_at_hand<A: SortedCursor, B: SortedCursor>(one: &mut A, other: &mut B)
-    ensures { shared (A.rest one.new) (B.rest other.new) ≡ shared (A.rest one.old) (B.rest other.old) }
+    ensures { (shared (A.rest one.new) (B.rest other.new) ≡ shared (A.rest one.old) (B.rest other.old))
+        × IsLater (A.rest one.old) (A.rest one.new) }
 {
     let (target, ahead, other_ahead) = merge(one.at_hand(), other.at_hand());
     one.seek_ahead(target, ahead);

@@ -1,6 +1,6 @@
-//! All values of a cursor, in a vector; and how many these are.
+//! All values of a cursor, in a vector or a slice; and how many these are.
 
-ghost use Rattle.std.specs.Prelude.{◌≡◌, ◌++◌, [], length, OnOk};
+ghost use Rattle.std.specs.Prelude.{◌≡◌, ◌≤◌, ◌++◌, [], drop, length, take, OnOk};
 
 use super::sorted_cursor::SortedCursor;
 use std::alloc::AllocError;
@@ -18,6 +18,31 @@ pub fn collect_into<C: SortedCursor>(cursor: &mut C, out: &mut Vec<u32>) -> Resu
         cursor.advance();
     }
     Ok(())
+}
+
+/// Writes the values from the place of a cursor on to the front of a slice, as many as it has room for, and returns their number.
+///
+/// The cursor moves past these values. The rest of the slice stays as it was.
+///
+/// ```text
+/// let mut page = [0; 3];
+/// collect_to(&mut cursor, &mut page)      // 3, if the cursor is at 2, 3, 5, 7; then it is at 7
+/// ```
+pub fn collect_to<C: SortedCursor>(cursor: &mut C, out: &mut [u32]) -> usize
+    ensures all { take result out.new ++ C.rest cursor.new ≡ C.rest cursor.old }
+    ensures rest { (result ≤ length out.old) × (drop result out.new ≡ drop result out.old) }
+    ensures whole { length (C.rest cursor.old) ≤ length out.old → C.rest cursor.new ≡ [] }
+{
+    let mut written = 0;
+    while written < out.len() {
+        let Some(value) = cursor.value() else {
+            return written;
+        };
+        out[written] = value;
+        written += 1;
+        cursor.advance();
+    }
+    written
 }
 
 /// Counts the values from the place of a cursor on, which moves to the end.

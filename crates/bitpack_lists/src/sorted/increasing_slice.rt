@@ -1,6 +1,6 @@
 //! A sorted cursor over a slice.
 
-ghost use Rattle.std.specs.Prelude.{◌≡◌};
+ghost use Rattle.std.specs.Prelude.{◌≡◌, length};
 ghost use Rattle.std.specs.List.Sorted.{IsStrictlyIncreasing};
 ghost use Rattle.bitpack_lists.specs.IncreasingLaws.{IsIncreasing-from};
 
@@ -21,6 +21,14 @@ impl<'a> IncreasingSlice<'a> {
         ensures { result.values.now ≡ values.now }
     {
         IncreasingSlice { values }
+    }
+
+    /// How many values are left.
+    #[inline(always)]
+    pub(super) fn len(&self) -> usize
+        ensures { result ≡ length self.now.values.now }
+    {
+        self.values.len()
     }
 }
 

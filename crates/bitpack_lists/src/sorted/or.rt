@@ -58,7 +58,7 @@ impl<A: SortedCursor, B: SortedCursor> SortedCursor for Or<A, B> {
 
 /// The first value that either has.
 #[inline(always)]
-fn least<A: SortedCursor, B: SortedCursor>(one: &A, other: &B) -> Option<u32>
+pub(super) fn least<A: SortedCursor, B: SortedCursor>(one: &A, other: &B) -> Option<u32>
     ensures { result ≡ first (united (A.rest one.now) (B.rest other.now)) }
 {
     match (one.value(), other.value()) {
@@ -70,7 +70,7 @@ fn least<A: SortedCursor, B: SortedCursor>(one: &A, other: &B) -> Option<u32>
 
 /// Moves past a value if the cursor is at it. The cursor has no value below it.
 #[inline(always)]
-fn pass<C: SortedCursor>(cursor: &mut C, value: u32)
+pub(super) fn pass<C: SortedCursor>(cursor: &mut C, value: u32)
     requires { (v : ℕ) → v < value → has (C.rest cursor.old) v ≡ false }
     ensures { C.rest cursor.new ≡ at_least (value + 1) (C.rest cursor.old) }
 {

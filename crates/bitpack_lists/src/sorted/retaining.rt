@@ -66,7 +66,7 @@ fn finds<'a, P: BitPacker>(
 }
 
 /// Whether an item is among the values from the place of a cursor on. Moves there.
-fn finds_next<C: SortedCursor>(cursor: &mut C, item: u32) -> bool
+pub(super) fn finds_next<C: SortedCursor>(cursor: &mut C, item: u32) -> bool
     ensures found { result ≡ has (C.rest cursor.old) item }
     ensures rest { C.rest cursor.new ≡ at_least item (C.rest cursor.old) }
 {

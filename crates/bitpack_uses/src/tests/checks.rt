@@ -28,6 +28,16 @@ pub(super) fn succeeds(rt: &impl Abort, found: Result<(), ListError>, text: &[u8
     returns(rt, found, Ok(()), text);
 }
 
+/// The error that was found in this text, or none.
+pub(super) fn same_fault(
+    rt: &impl Abort,
+    found: Option<ListError>,
+    expected: Option<ListError>,
+    text: &[u8],
+) {
+    assert_eq!(rt; found, expected, "{text:?}");
+}
+
 /// The same bytes.
 pub(super) fn same_bytes(rt: &impl Abort, found: &[u8], expected: &[u8]) {
     assert_eq!(rt; found, expected);
@@ -146,7 +156,12 @@ pub(super) fn steps(
 
 /// The error has this number, and says this.
 pub(super) fn says(rt: &impl Abort, alloc: Global, error: ListError, number: u8, text: &str) {
-    assert_eq!(rt; error.number(), number, "{text}");
+    same_number(rt, error.number() as usize, number as usize, text);
+    is_said(rt, alloc, error, text);
+}
+
+/// The error says this.
+fn is_said(rt: &impl Abort, alloc: Global, error: ListError, text: &str) {
     let said = format!(in alloc; "{error}").expect(rt, "memory");
     same_words(rt, said.as_str(), text);
 }

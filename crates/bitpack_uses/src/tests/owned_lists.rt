@@ -75,6 +75,36 @@ fn lists_of_one_kind(rt: HostRuntime) {
     opens_as(&rt, strict, &[], Err(ListError::Short));
 }
 
+/// The text of version 2 or 3 is opened as a list of this kind, or refused for this.
+fn opens_any_as(rt: &impl Abort, kind: ListKind, text: &[u8], expected: Result<(), ListError>) {
+    let found = match PackedList::open_any_as(BitPacker1x::new(), kind, text) {
+        Ok(list) => {
+            holds(rt, list.kind() == kind, "the kind that was asked for");
+            Ok(())
+        }
+        Err(error) => Err(error),
+    };
+    returns(rt, found, expected, text);
+}
+
+#[test]
+fn lists_of_one_kind_of_either_version(rt: HostRuntime) {
+    let (plain, sorted, strict) = (ListKind::Plain, ListKind::Sorted, ListKind::StrictlySorted);
+    opens_any_as(&rt, strict, &STRICT, Ok(()));
+    opens_any_as(&rt, strict, &STRICT3, Ok(()));
+    // In version 3, sorted 5, 8; plain 5; and plain 5 with a byte after it.
+    opens_any_as(&rt, sorted, &[0x52, 5, 2, 3], Ok(()));
+    opens_any_as(&rt, plain, &[0x41, 5], Ok(()));
+    opens_any_as(&rt, strict, &[0x41, 5, 0], Err(ListError::Trailing));
+    let other = Err(ListError::WrongKind(strict, sorted));
+    opens_any_as(&rt, sorted, &STRICT, other);
+    let other = Err(ListError::WrongKind(strict, sorted));
+    opens_any_as(&rt, sorted, &STRICT3, other);
+    let other = Err(ListError::WrongKind(plain, strict));
+    opens_any_as(&rt, strict, &[0x41, 5], other);
+    opens_any_as(&rt, strict, &[], Err(ListError::Short));
+}
+
 #[test]
 fn a_wrong_kind_is_said(rt: HostRuntime) {
     let (plain, sorted, strict) = (ListKind::Plain, ListKind::Sorted, ListKind::StrictlySorted);

@@ -1,112 +1,14 @@
--- One block more is packed at its least width, after those before it.
-use Rattle.std.proofs.Common.{◌≡◌, ℕ, ◌+◌, ◌-◌, ◌*◌, ◌≤◌, List, ◌∷◌, [], ◌++◌, length, take, drop, get_or, set, add-one, refl, sym, ◌∙◌, ap, arith}
-use Rattle.std.proofs.Math.Seq.{take-suc-set}
-use Rattle.std.proofs.lemmas.List.{take_all, length-take, length-drop}
-use Rattle.std.proofs.lemmas.List.Elements.{All-append, All-cons, All-nil}
-use Rattle.std.proofs.lemmas.Nat.{mul-le}
-use Rattle.bitpacking.specs.Layout.{size}
-use Rattle.bitpack_lists.specs.Chains.{next_kind}
-use Rattle.bitpack_lists.proofs.ChainLemmas.{Loose_step, LeastWidths_step, Loose_done, LeastWidths_done, take-block, length-block, take-put_end, drop-put_end, drop-further, sum-more, bound-more}
+-- Four bytes for each value are room for any chain.
+use Rattle.std.proofs.Common.{◌*◌, ◌∙◌, ap, length}
+use Rattle.bitpacking.proofs.ForCallers.{AreWords-from_slice}
+use Rattle.bitpack_lists.proofs.ChainLemmas.{chain_fits}
 use Rattle.bitpack_lists.proofs.chain.pack_all.Goals as goal
 
-pub compress_kind-written-requires : goal.compress_kind-written-requires
-compress_kind-written-requires g c =
-    let lanes : ℕ = g.P.BitPacker.lanes in
-    let width : ℕ = c.num_bits_kind-width.result in
-    let i : ℕ = c.loop-index.index in
-    let blocks : ℕ = length c.args.widths.now in
-    let all : length c.args.values.now ≡ 32 * lanes * blocks =
-    c.requires.blocks ∙ ap (λ n. n * blocks) g.met.P.BitPacker.block_len in
-    let reach : 32 * lanes * (i + 1) ≤ 32 * lanes * blocks = mul-le (32 * lanes) (i + 1) (32 * lanes) blocks (omega arith) (omega arith) in
-    let more = bound-more lanes c.loop-index.written (size lanes width) width i c.loop-index.invariant.bound refl
-    c.num_bits_kind-width.ensures.narrow in
-    record {
-      whole =
-          length-block (32 * lanes) c.BLOCK_LEN-len.result i blocks c.args.values.now (c.BLOCK_LEN-len.ensures ∙ g.met.P.BitPacker.block_len)
-          (omega arith) (omega arith);
-      narrow = c.num_bits_kind-width.ensures.narrow;
-      room = simp (length-take, length-drop) (omega arith);
-      fits = c.num_bits_kind-width.ensures.width.fits;
-    }
-
-pub loop-index-preserved : goal.loop-index-preserved
-loop-index-preserved g c =
-    let lanes : ℕ = g.P.BitPacker.lanes in
-    let len : ℕ = c.BLOCK_LEN-len.result in
-    let i : ℕ = c.loop-index.index in
-    let values : List ℕ = c.args.values.now in
-    let widths : List ℕ = c.loop-index.widths in
-    let width : ℕ = c.num_bits_kind-width.result in
-    let out : List ℕ = c.loop-index.out in
-    let written : ℕ = c.loop-index.written in
-    let added : ℕ = c.compress_kind-written.result in
-    let part : List ℕ = c.compress_kind-written.new.compressed in
-    let block : List ℕ = take (i * len + len - i * len) (drop (i * len) values) in
-    let before = c.loop-index.invariant in
-    let Narrow : ℕ → Type 0 = λ width. width ≤ 32 in
-    let some = g.met.P.BitPacker.some_lanes in
-    let whole : len ≡ 32 * lanes = c.BLOCK_LEN-len.ensures ∙ g.met.P.BitPacker.block_len in
-    let all : length values ≡ 32 * lanes * length c.args.widths.now =
-    c.requires.blocks ∙ ap (λ n. n * length c.args.widths.now) g.met.P.BitPacker.block_len in
-    let reach : 32 * lanes * i ≤ 32 * lanes * length c.args.widths.now =
-    mul-le (32 * lanes) i (32 * lanes) (length c.args.widths.now) (omega arith) (omega arith) in
-    let long : length block ≡ 32 * lanes =
-    length-block (32 * lanes) len i (length c.args.widths.now) values whole (omega arith) (omega arith) in
-    let within : written ≤ length out = omega arith in
-    let room : length part ≡ length out - written =
-    c.compress_kind-written.auto.compressed ∙ simp (length-take, length-drop) (omega arith) in
-    let kind : c.next_kind-block_kind.result ≡ next_kind c.loop-index.block_kind (get_or block (32 * lanes - 1) 0) =
-    c.next_kind-block_kind.ensures ∙ ap (λ n. next_kind c.loop-index.block_kind (get_or block (n - 1) 0)) whole in
-    let more : take (i + 1) (set widths i width) ≡ take i widths ++ width ∷ [] =
-    rw add-one (take-suc-set widths i width (omega arith)) in
-    let bytes = take-put_end written added out part within room in
-    let holds = rw (sym c.compress_kind-written.ensures.size) at c.compress_kind-written.ensures.packed.bytes in
-    let rest = drop-put_end written added out part within room
-    (rw c.compress_kind-written.ensures.size c.compress_kind-written.ensures.packed.rest) in
-    record {
-      written = rw more (sum-more lanes written added width (take i widths) before.written c.compress_kind-written.ensures.size);
-      bound = bound-more lanes written added width i before.bound c.compress_kind-written.ensures.size c.num_bits_kind-width.ensures.narrow;
-      narrow = rw more (All-append Narrow (take i widths) (width ∷ []) before.narrow
-          (All-cons Narrow width [] c.num_bits_kind-width.ensures.narrow (All-nil Narrow)));
-      loose =
-          rw (kind, more, bytes, take-block (32 * lanes) len i values whole)
-          (Loose_step lanes width c.args.kind c.loop-index.block_kind (take (32 * lanes * i) values) (take i widths) block some long
-          (take written out) (take added part) c.num_bits_kind-width.ensures.narrow holds before.loose);
-      least =
-          rw (kind, more, take-block (32 * lanes) len i values whole)
-          (LeastWidths_step lanes width c.args.kind c.loop-index.block_kind (take (32 * lanes * i) values) (take i widths) block some long
-          c.num_bits_kind-width.ensures.width before.least);
-      rest = rest ∙ drop-further written added out c.args.out.now before.rest;
-    }
-
-pub returns-clause-few : goal.returns-clause-few
-returns-clause-few g c =
-    let blocks : ℕ = length c.args.widths.now in
-    let end : c.loop-index.index ≡ blocks = omega arith in
-    let all : length c.args.values.now ≡ 32 * g.P.BitPacker.lanes * blocks =
-    c.requires.blocks ∙ ap (λ n. n * blocks) g.met.P.BitPacker.block_len in
-    rw (all, ← end) c.loop-index.invariant.bound
-
-pub returns-clause-narrow : goal.returns-clause-narrow
-returns-clause-narrow g c =
-    let widths : List ℕ = c.loop-index.widths in
-    let all : take c.loop-index.index widths ≡ widths = take_all c.loop-index.index widths (omega arith) in
-    rw all at c.loop-index.invariant.narrow
-
-pub returns-clause-chain : goal.returns-clause-chain
-returns-clause-chain g c =
-    let lanes : ℕ = g.P.BitPacker.lanes in
-    let values : List ℕ = c.args.values.now in
-    let i : ℕ = c.loop-index.index in
-    let before = c.loop-index.invariant in
-    let end : i ≡ length c.args.widths.now = omega arith in
-    let all : length values ≡ 32 * lanes * length c.args.widths.now =
-    c.requires.blocks ∙ ap (λ n. n * length c.args.widths.now) g.met.P.BitPacker.block_len in
-    let blocks : take (32 * lanes * i) values ≡ values = take_all (32 * lanes * i) values (rw end (omega arith)) in
-    let widths : take i c.loop-index.widths ≡ c.loop-index.widths = take_all i c.loop-index.widths (omega arith) in
-    record {
-      loose = rw (blocks, widths) at (Loose_done lanes c.args.kind c.loop-index.block_kind (take (32 * lanes * i) values)
-          (take i c.loop-index.widths) (take c.loop-index.written c.loop-index.out) before.loose);
-      least = rw (blocks, widths) at (LeastWidths_done lanes c.args.kind c.loop-index.block_kind (take (32 * lanes * i) values)
-          (take i c.loop-index.widths) before.least);
-    }
+pub pack_measured-requires : goal.pack_measured-requires
+pack_measured-requires g c = record {
+  blocks = c.requires.blocks;
+  room =
+      chain_fits g.P.BitPacker.lanes (length c.args.widths.now) (length c.args.out.now) c.args.kind c.args.values.now
+      (AreWords-from_slice c.args.values.now c.type_inv.values)
+      (c.requires.blocks ∙ ap (λ n. n * length c.args.widths.now) g.met.P.BitPacker.block_len) c.requires.room;
+}

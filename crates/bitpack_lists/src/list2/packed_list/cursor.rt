@@ -324,8 +324,12 @@ const NEAR: usize = 8;
 
 /// The first index from one on whose value is at least the target, or the count of values. Tries the nearest one by one, then
 /// values at growing distances, and then halves.
+///
+/// ```text
+/// first_from(&[3, 5, 9, 12], 1, 6)             // 2
+/// ```
 #[inline(always)]
-pub(crate) fn first_from(values: &[u32], from: usize, target: u32) -> usize
+pub fn first_from(values: &[u32], from: usize, target: u32) -> usize
     requires from { from ≤ length values.now }
     requires order { InOrder values.now }
     ensures { IsSoughtFrom values.now target from result }

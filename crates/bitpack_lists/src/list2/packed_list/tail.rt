@@ -7,17 +7,19 @@ ghost use Rattle.bitpack_lists.specs.inner.Searching.{blocks_of, rest_of, value_
 use super::PackedList;
 use crate::chain::LONGEST_BLOCK;
 use crate::list3::codes::to_values;
-use crate::list3::tail::read_tail;
+use crate::list3::tail::{end_of_group, read_tail};
 use crate::little_endian::{read_one, read_words};
 use crate::version::Version;
 use bitpacking::BitPacker;
 
 impl<'a, P: BitPacker> PackedList<'a, P> {
     ghost use Rattle.bitpack_lists.specs.declared.version.Version.{Version};
+    ghost use Rattle.std.specs.Prelude.{take};
+    ghost use Rattle.bitpack_lists.specs.inner.CodeSteps.{EndsGroup};
     ghost use Rattle.bitpack_lists.specs.Version3.{tail_values3};
 
     /// The value at a position of the tail.
-    // Reads bytes: read_one, tail, read_tail.
+    // Reads bytes: read_one, tail, value_in_groups.
     pub(crate) fn value_in_tail(&self, position: usize) -> u32
         requires tail { 32 * P.lanes * blocks_of self.now ≤ position }
         requires within { position < self.now.count }
@@ -26,12 +28,21 @@ impl<'a, P: BitPacker> PackedList<'a, P> {
         let index = position - P::BLOCK_LEN * (self.count / P::BLOCK_LEN);
         match self.version {
             Version::Two => read_one(self.tail, 4 * index),
-            Version::Three => {
-                let mut values = [0; LONGEST_BLOCK];
-                self.read_tail(&mut values);
-                values[index]
-            }
+            Version::Three => self.value_in_groups(index),
         }
+    }
+
+    /// The value at an index of a tail of version 3. Unpacks the groups up to that of the value.
+    fn value_in_groups(&self, index: usize) -> u32
+        requires version { self.now.version ≡ Version.Three }
+        requires index { index < tail_values P.lanes self.now.count }
+        ensures { result ≡ value_of self.now (32 * P.lanes * blocks_of self.now + index) }
+    {
+        let len = P::BLOCK_LEN;
+        let end = end_of_group(self.count / len, self.count % len, index);
+        let mut values = [0; LONGEST_BLOCK];
+        self.unpack_tail(&mut values[..end]);
+        values[index]
     }
 
     /// Reads the values of the tail, and returns how many these are.
@@ -50,13 +61,13 @@ impl<'a, P: BitPacker> PackedList<'a, P> {
         len
     }
 
-    // Reads the values of a tail of version 3.
+    // Reads the first values of a tail of version 3, up to the end of a group.
     // Reads bytes: read_tail, tail, to_values.
     fn unpack_tail(&self, values: &mut [u32])
         requires version { self.now.version ≡ Version.Three }
-        requires len { length values.old ≡ tail_values P.lanes self.now.count }
-        ensures { values.new
-            ≡ tail_values3 P.lanes (blocks_of self.now) (length values.old) self.now.kind (rest_of self.now) }
+        requires len { EndsGroup (blocks_of self.now) (tail_values P.lanes self.now.count) (length values.old) }
+        ensures { values.new ≡ take (length values.old) (tail_values3 P.lanes (blocks_of self.now)
+            (tail_values P.lanes self.now.count) self.now.kind (rest_of self.now)) }
     {
         match read_tail(self.count / P::BLOCK_LEN, self.tail, values) {
             Ok(_) => to_values(self.tail_kind, values),

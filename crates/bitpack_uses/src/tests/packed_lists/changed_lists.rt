@@ -3,18 +3,33 @@
 //!
 //! The texts were worked by hand from the format.
 
-use super::lists::{decodes, is_written};
+use super::lists::is_written;
 use super::walk::first_fault;
 use crate::tests::calls::decode1;
-use crate::tests::checks::{holds, kept_values, one_value, push_bytes, returns};
-use bitpack::ListError;
+use crate::tests::checks::{holds, kept_values, one_value, push_bytes, same_fault};
+use bitpack::{ListError, ListKind};
 use bitpacking::{BitPacker, BitPacker1x, BitPacker4x, BitPacker8x};
 use std::alloc::Global;
 use std::process::Abort;
 
 /// The walk over the text finds this fault first, or none.
 fn has_fault<P: BitPacker>(rt: &impl Abort, text: &[u8], fault: Option<ListError>) {
-    assert_eq!(rt; first_fault::<P>(text), fault, "{text:?}");
+    same_fault(rt, first_fault::<P>(text), fault, text);
+}
+
+/// The walk finds no fault in the text, which is that of the values after the 7.
+fn is_of_values<P: BitPacker>(
+    rt: &impl Abort,
+    alloc: Global,
+    packer: &P,
+    kind: ListKind,
+    values: &[u32],
+    text: &[u8],
+) {
+    has_fault::<P>(rt, text, None);
+    holds(rt, values.first() == Some(&7), "the first value stays");
+    let values = values.get(1..).unwrap_or(&[]);
+    is_written(rt, alloc, packer, kind, values, text);
 }
 
 /// The text opens, and is that of the values that come out; or it is refused with its first fault, and the vector is as it was.
@@ -22,12 +37,7 @@ fn opens_or_is_refused<P: BitPacker>(rt: &impl Abort, alloc: Global, packer: &P,
     let mut values = one_value(rt, alloc, 7);
     let room = values.capacity();
     match decode1(packer, text, &mut values) {
-        Ok(kind) => {
-            has_fault::<P>(rt, text, None);
-            holds(rt, values.first() == Some(&7), "the first value stays");
-            let values = values.get(1..).unwrap_or(&[]);
-            is_written(rt, alloc, packer, kind, values, text);
-        }
+        Ok(kind) => is_of_values(rt, alloc, packer, kind, &values, text),
         Err(error) => {
             has_fault::<P>(rt, text, Some(error));
             kept_values(rt, &values, 7, room);

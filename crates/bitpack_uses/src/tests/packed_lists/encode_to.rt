@@ -82,7 +82,37 @@ fn increasing(rt: &impl Abort, alloc: Global, count: usize) -> Vec<u32> {
     values
 }
 
-/// Each length, as `encode` appends it, and with a byte less of room.
+/// The values have this text in a slice, and with a byte less of room or none they are refused.
+fn is_written_or_refused<P: BitPacker>(
+    rt: &impl Abort,
+    alloc: Global,
+    version: Version,
+    packer: &P,
+    list: (ListKind, &[u32]),
+    text: &[u8],
+) {
+    is_written_to(rt, alloc, version, packer, list, text);
+    let short = text.len().saturating_sub(1);
+    is_refused(rt, alloc, version, packer, list, short, ListError::Short);
+    is_refused(rt, alloc, version, packer, list, 0, ListError::Short);
+}
+
+/// The values in a slice are as `encode` appends them.
+fn is_as_appended<P: BitPacker>(
+    rt: &impl Abort,
+    alloc: Global,
+    version: Version,
+    packer: &P,
+    list: (ListKind, &[u32]),
+) {
+    let (kind, values) = list;
+    let mut text = Vec::new(alloc);
+    let encoded = encode_as(version, packer, kind, values, &mut text);
+    succeeds(rt, encoded, &[]);
+    is_written_or_refused(rt, alloc, version, packer, list, &text);
+}
+
+/// Values of each length.
 fn each_length<P: BitPacker>(
     rt: &impl Abort,
     alloc: Global,
@@ -92,17 +122,7 @@ fn each_length<P: BitPacker>(
 ) {
     for count in LENGTHS {
         let values = increasing(rt, alloc, count);
-        let mut text = Vec::new(alloc);
-        succeeds(
-            rt,
-            encode_as(version, packer, kind, &values, &mut text),
-            &[],
-        );
-        is_written_to(rt, alloc, version, packer, (kind, &values), &text);
-        let short = text.len().saturating_sub(1);
-        let error = ListError::Short;
-        is_refused(rt, alloc, version, packer, (kind, &values), short, error);
-        is_refused(rt, alloc, version, packer, (kind, &values), 0, error);
+        is_as_appended(rt, alloc, version, packer, (kind, &values));
     }
 }
 
@@ -123,7 +143,23 @@ fn each_list_in_a_slice(rt: HostRuntime) {
     each_kind(&rt, rt.alloc(), &BitPacker8x::scalar());
 }
 
-/// The values are refused at this position, for slices that are long enough and for one without a byte.
+/// The values are refused with this error in a version, for a slice that is long enough and for one without a byte.
+fn is_out_in<P: BitPacker>(
+    rt: &impl Abort,
+    alloc: Global,
+    version: Version,
+    packer: &P,
+    list: (ListKind, &[u32]),
+    error: ListError,
+) {
+    let (kind, values) = list;
+    let measured = encoded_len(version, packer, kind, values);
+    holds(rt, measured == Err(error), "no length");
+    is_refused(rt, alloc, version, packer, list, 1000, error);
+    is_refused(rt, alloc, version, packer, list, 0, error);
+}
+
+/// The values are refused at this position in both versions.
 fn is_out<P: BitPacker>(
     rt: &impl Abort,
     alloc: Global,
@@ -133,12 +169,15 @@ fn is_out<P: BitPacker>(
     position: usize,
 ) {
     let error = ListError::NotSorted(position);
-    for version in [Version::Two, Version::Three] {
-        let measured = encoded_len(version, packer, kind, values);
-        holds(rt, measured == Err(error), "no length");
-        is_refused(rt, alloc, version, packer, (kind, values), 1000, error);
-        is_refused(rt, alloc, version, packer, (kind, values), 0, error);
-    }
+    is_out_in(rt, alloc, Version::Two, packer, (kind, values), error);
+    is_out_in(rt, alloc, Version::Three, packer, (kind, values), error);
+}
+
+/// A value is out of order in the tail after a block of one packer, and in the tail of a list without a block of the other.
+fn tails_out_of_order(rt: &impl Abort, alloc: Global, values: &[u32]) {
+    is_out(rt, alloc, &BitPacker1x::new(), ListKind::Sorted, values, 40);
+    let strict = ListKind::StrictlySorted;
+    is_out(rt, alloc, &BitPacker4x::new(), strict, values, 40);
 }
 
 #[test]
@@ -148,9 +187,7 @@ fn values_out_of_order_for_a_slice(rt: HostRuntime) {
     is_out(&rt, alloc, &packer, ListKind::Sorted, &[5, 4], 1);
     let strict = ListKind::StrictlySorted;
     is_out(&rt, alloc, &packer, strict, &[5, 6, 6, 7], 2);
-    // In the tail after a block.
     let mut values = increasing(&rt, alloc, 40);
     push(&rt, &mut values, 0);
-    is_out(&rt, alloc, &packer, ListKind::Sorted, &values, 40);
-    is_out(&rt, alloc, &BitPacker4x::new(), strict, &values, 40);
+    tails_out_of_order(&rt, alloc, &values);
 }

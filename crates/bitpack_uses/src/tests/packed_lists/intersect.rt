@@ -225,16 +225,28 @@ fn random_pairs<P: BitPacker, Q: BitPacker>(
     }
 }
 
+fn pairs_of_1x(rt: &impl Abort, alloc: Global) {
+    let one = BitPacker1x::new();
+    random_pairs(rt, alloc, &one, &one, 1);
+    random_pairs(rt, alloc, &one, &BitPacker4x::new(), 2);
+}
+
+fn pairs_of_8x(rt: &impl Abort, alloc: Global) {
+    let eight = BitPacker8x::new();
+    random_pairs(rt, alloc, &BitPacker4x::new(), &eight, 3);
+    random_pairs(rt, alloc, &eight, &BitPacker1x::new(), 4);
+}
+
+fn pairs_of_scalar_8x(rt: &impl Abort, alloc: Global) {
+    let (eight, four) = (BitPacker8x::scalar(), BitPacker4x::new());
+    random_pairs(rt, alloc, &eight, &four, 5);
+}
+
 #[test]
 fn a_thousand_random_pairs(rt: HostRuntime) {
-    let one = BitPacker1x::new();
-    let four = BitPacker4x::new();
-    let eight = BitPacker8x::new();
-    random_pairs(&rt, rt.alloc(), &one, &one, 1);
-    random_pairs(&rt, rt.alloc(), &one, &four, 2);
-    random_pairs(&rt, rt.alloc(), &four, &eight, 3);
-    random_pairs(&rt, rt.alloc(), &eight, &one, 4);
-    random_pairs(&rt, rt.alloc(), &BitPacker8x::scalar(), &four, 5);
+    pairs_of_1x(&rt, rt.alloc());
+    pairs_of_8x(&rt, rt.alloc());
+    pairs_of_scalar_8x(&rt, rt.alloc());
 }
 
 #[test]

@@ -9,6 +9,23 @@ use bitpacking::{BitPacker, BitPacker1x, BitPacker4x, BitPacker8x};
 use std::alloc::Global;
 use std::process::Abort;
 
+/// The list has these values at their positions, and none after them.
+fn has_values<P: BitPacker>(rt: &impl Abort, list: &PackedList<'_, P>, values: &[u32]) {
+    for position in 0..values.len() {
+        let value = values.get(position).copied();
+        holds(rt, value_at(list, position) == value, "a value");
+    }
+    let after = value_at(list, values.len());
+    holds(rt, after.is_none(), "after the last value");
+}
+
+/// The list gives these values all together.
+fn has_all<P: BitPacker>(rt: &impl Abort, alloc: Global, list: &PackedList<'_, P>, values: &[u32]) {
+    let mut all = Vec::new(alloc);
+    holds(rt, list.append_to(&mut all).is_ok(), "room for all values");
+    same_values(rt, &all, values);
+}
+
 /// The list has this kind and these values, at each position and all together.
 fn is_list<P: BitPacker>(
     rt: &impl Abort,
@@ -18,18 +35,8 @@ fn is_list<P: BitPacker>(
     values: &[u32],
 ) {
     holds(rt, list.kind() == kind, "the kind");
-    let mut all = Vec::new(alloc);
-    holds(rt, list.append_to(&mut all).is_ok(), "room for all values");
-    same_values(rt, &all, values);
-    for position in 0..values.len() {
-        let value = values.get(position).copied();
-        holds(rt, value_at(list, position) == value, "a value");
-    }
-    holds(
-        rt,
-        value_at(list, values.len()).is_none(),
-        "after the last value",
-    );
+    has_all(rt, alloc, list, values);
+    has_values(rt, list, values);
 }
 
 /// `open3` and `open_any` read this list from the text, and `open` refuses it.

@@ -2,7 +2,7 @@
 //! what opens is the text of the values that come out.
 
 use crate::tests::calls::{encode3, open_any, open3};
-use crate::tests::checks::{holds, push_bytes, same_bytes, succeeds};
+use crate::tests::checks::{holds, push_bytes, same_bytes, same_fault, succeeds};
 use bitpack::ListError;
 use bitpacking::{BitPacker, BitPacker1x, BitPacker4x};
 use std::alloc::Global;
@@ -10,11 +10,10 @@ use std::process::Abort;
 
 /// The text is refused with this error.
 fn is_refused(rt: &impl Abort, text: &[u8], error: ListError) {
-    let found = open3(&BitPacker1x::new(), text).err();
-    assert_eq!(rt; found, Some(error), "{text:?}");
+    let packer = BitPacker1x::new();
+    same_fault(rt, open3(&packer, text).err(), Some(error), text);
     if text.first().is_some_and(|first| *first >= 64) {
-        let either = open_any(&BitPacker1x::new(), text).err();
-        assert_eq!(rt; either, Some(error), "{text:?}");
+        same_fault(rt, open_any(&packer, text).err(), Some(error), text);
     }
 }
 
@@ -157,17 +156,21 @@ fn bits_of_byte<P: BitPacker>(
     }
 }
 
+/// The text opens, and no proper beginning of it does.
+fn opens_whole<P: BitPacker>(rt: &impl Abort, packer: &P, text: &[u8]) {
+    holds(rt, open3(packer, text).is_ok(), "the text opens");
+    for end in 0..text.len() {
+        let beginning = open3(packer, &text[..end]);
+        holds(rt, beginning.is_err(), "a beginning of it");
+    }
+}
+
 /// Each bit of the text is changed in turn, and no proper beginning of it opens.
 fn every_bit<P: BitPacker>(rt: &impl Abort, alloc: Global, packer: &P, text: &[u8]) {
-    holds(rt, open3(packer, text).is_ok(), "the text opens");
+    opens_whole(rt, packer, text);
     let mut changed = Vec::new(alloc);
     push_bytes(rt, &mut changed, text);
     for index in 0..text.len() {
-        holds(
-            rt,
-            open3(packer, &text[..index]).is_err(),
-            "a beginning of it",
-        );
         bits_of_byte(rt, alloc, packer, &mut changed, index);
     }
 }

@@ -138,14 +138,6 @@ fn least(set: &Set) -> Option<u32> {
     None
 }
 
-type OfTwo<'a> = Joined<AnyList<'a>, AnyList<'a>>;
-
-type OfFour<'a> = Joined<OfTwo<'a>, OfTwo<'a>>;
-
-type OfEight<'a> = Joined<OfFour<'a>, OfFour<'a>>;
-
-type OfSixteen<'a> = Joined<OfEight<'a>, OfEight<'a>>;
-
 fn ordered<P: BitPacker>(cursor: Cursor<'_, P>) -> Option<DistinctValues<'_, P>> {
     if cursor.is_in_order() {
         Some(DistinctValues::new(cursor))
@@ -184,29 +176,25 @@ fn join<A: SortedCursor, B: SortedCursor>(
     (cursor, joined_set(rule, one, other))
 }
 
-fn of_two<'a>(rt: &impl Abort, lists: &'a [Leaves], numbers: &mut Numbers) -> (OfTwo<'a>, Set) {
-    let (a, b) = (leaf(rt, lists, numbers), leaf(rt, lists, numbers));
-    join(numbers, a, b)
+/// A tree over some lists: one of them, or two trees as one. Each function below names one level of a tree's type: a proof that sees
+/// the whole type of sixteen leaves takes minutes.
+trait Tree<'a>: SortedCursor {
+    /// A random tree of this type, and its set.
+    fn random<R: Abort>(rt: &R, lists: &'a [Leaves], numbers: &mut Numbers) -> (Self, Set);
 }
 
-fn of_four<'a>(rt: &impl Abort, lists: &'a [Leaves], numbers: &mut Numbers) -> (OfFour<'a>, Set) {
-    let (a, b) = (of_two(rt, lists, numbers), of_two(rt, lists, numbers));
-    join(numbers, a, b)
+impl<'a> Tree<'a> for AnyList<'a> {
+    fn random<R: Abort>(rt: &R, lists: &'a [Leaves], numbers: &mut Numbers) -> (AnyList<'a>, Set) {
+        leaf(rt, lists, numbers)
+    }
 }
 
-fn of_eight<'a>(rt: &impl Abort, lists: &'a [Leaves], numbers: &mut Numbers) -> (OfEight<'a>, Set) {
-    let (a, b) = (of_four(rt, lists, numbers), of_four(rt, lists, numbers));
-    join(numbers, a, b)
-}
-
-fn of_sixteen<'a>(
-    rt: &impl Abort,
-    lists: &'a [Leaves],
-    numbers: &mut Numbers,
-) -> (OfSixteen<'a>, Set) {
-    let a = of_eight(rt, lists, numbers);
-    let b = of_eight(rt, lists, numbers);
-    join(numbers, a, b)
+impl<'a, A: Tree<'a>, B: Tree<'a>> Tree<'a> for Joined<A, B> {
+    fn random<R: Abort>(rt: &R, lists: &'a [Leaves], numbers: &mut Numbers) -> (Joined<A, B>, Set) {
+        let a = A::random(rt, lists, numbers);
+        let b = B::random(rt, lists, numbers);
+        join(numbers, a, b)
+    }
 }
 
 /// Moves a cursor by `advance` or `seek`. Returns the set of what it has left.
@@ -227,8 +215,13 @@ fn moved<C: SortedCursor>(rt: &impl Abort, cursor: &mut C, set: Set, numbers: &m
 }
 
 /// A tree is moved a few times. Then it has the numbers that are left of its set, in order.
-fn tree(rt: &impl Abort, alloc: Global, lists: &[Leaves], numbers: &mut Numbers) {
-    let (mut cursor, mut set) = of_sixteen(rt, lists, numbers);
+fn moved_tree<'a, T: Tree<'a>>(
+    rt: &impl Abort,
+    alloc: Global,
+    lists: &'a [Leaves],
+    numbers: &mut Numbers,
+) {
+    let (mut cursor, mut set) = T::random(rt, lists, numbers);
     for _ in 0..numbers.below(8) {
         let left = moved(rt, &mut cursor, set, numbers);
         set = left;
@@ -236,6 +229,41 @@ fn tree(rt: &impl Abort, alloc: Global, lists: &[Leaves], numbers: &mut Numbers)
     let found = collect(alloc, cursor).expect(rt, "memory");
     holds(rt, is_increasing(&found), "numbers in order, each once");
     holds(rt, set_of(&found) == Some(set), "the numbers of the set");
+}
+
+/// A tree of two trees of a type.
+fn of_two<'a, T: Tree<'a>>(
+    rt: &impl Abort,
+    alloc: Global,
+    lists: &'a [Leaves],
+    numbers: &mut Numbers,
+) {
+    moved_tree::<Joined<T, T>>(rt, alloc, lists, numbers);
+}
+
+/// A tree of four trees of a type.
+fn of_four<'a, T: Tree<'a>>(
+    rt: &impl Abort,
+    alloc: Global,
+    lists: &'a [Leaves],
+    numbers: &mut Numbers,
+) {
+    of_two::<Joined<T, T>>(rt, alloc, lists, numbers);
+}
+
+/// A tree of eight trees of a type.
+fn of_eight<'a, T: Tree<'a>>(
+    rt: &impl Abort,
+    alloc: Global,
+    lists: &'a [Leaves],
+    numbers: &mut Numbers,
+) {
+    of_four::<Joined<T, T>>(rt, alloc, lists, numbers);
+}
+
+/// A tree of sixteen leaves.
+fn of_sixteen(rt: &impl Abort, alloc: Global, lists: &[Leaves], numbers: &mut Numbers) {
+    of_eight::<Joined<AnyList<'_>, AnyList<'_>>>(rt, alloc, lists, numbers);
 }
 
 /// 5,000 trees that follow from a seed: 50 over each of 100 sets of leaves.
@@ -248,7 +276,7 @@ fn five_thousand(rt: &impl Abort, alloc: Global, seed: u32) {
             lists.push(leaves).expect(rt, "memory");
         }
         for _ in 0..50 {
-            tree(rt, alloc, &lists, &mut numbers);
+            of_sixteen(rt, alloc, &lists, &mut numbers);
         }
     }
 }

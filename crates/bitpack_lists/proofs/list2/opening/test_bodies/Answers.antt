@@ -1,5 +1,5 @@
 -- Each block is the one that its body gives: the first with a fault is found, and the first value out of order.
-use Rattle.std.proofs.Common.{◌≡◌, ◌+◌, ◌-◌, ◌*◌, ◌/◌, ◌<◌, ◌≤◌, ℕ, List, length, take, drop, get_or, Option, Some, None, refl, sym, ◌∙◌, ap, arith}
+use Rattle.std.proofs.Common.{◌≡◌, ◌+◌, ◌-◌, ◌*◌, ◌/◌, ◌<◌, ◌≤◌, ℕ, List, length, take, drop, get_or, Bool, Option, Some, None, refl, sym, ◌∙◌, ap, arith}
 use Rattle.std.proofs.lemmas.Result.{err_from_is_err_and}
 use Rattle.bitpacking.specs.declared.kind.Kind.{Kind}
 use Rattle.bitpacking.specs.Codes.{values_of}
@@ -156,3 +156,23 @@ loop-block-preserved g c =
           (before.out later) (out_is lanes c.BLOCK_LEN-len.result blocks block c.loop-block.last kind rest (take c.BLOCK_LEN-len.result c.unpack.new.values)
           c.first_out.result later some whole lt unpacked size_of (before.last later) c.first_out.ensures);
     }
+
+-- ---- no blocks
+
+no_fault : (fault : ℕ → Option ListError) (blocks : ℕ) → blocks ≡ 0 → first_fault fault blocks ≡ None
+unfolding first_fault
+no_fault fault blocks none = rw none refl
+
+none_out : (is_out : ℕ → Bool) (lanes blocks : ℕ) → blocks ≡ 0 → None ≡ least_below is_out (32 * lanes * blocks)
+unfolding least_below
+none_out is_out lanes blocks none = let end : 32 * lanes * blocks ≡ 0 = rw none (omega arith) in rw end refl
+
+pub returns-then-blocks-eq0-clause-fault : goal.returns-then-blocks-eq0-clause-fault
+returns-then-blocks-eq0-clause-fault g c =
+    let whole : c.BLOCK_LEN-len.result ≡ 32 * g.P.BitPacker.lanes = c.BLOCK_LEN-len.ensures ∙ g.met.P.BitPacker.block_len in
+    no_fault _ _ (ap (λ n. c.args.header.count / n) (sym whole) ∙ c.if-blocks-eq0.true)
+
+pub returns-then-blocks-eq0-clause-out : goal.returns-then-blocks-eq0-clause-out
+returns-then-blocks-eq0-clause-out g c = λ later.
+    let whole : c.BLOCK_LEN-len.result ≡ 32 * g.P.BitPacker.lanes = c.BLOCK_LEN-len.ensures ∙ g.met.P.BitPacker.block_len in
+    none_out _ g.P.BitPacker.lanes _ (ap (λ n. c.args.header.count / n) (sym whole) ∙ c.if-blocks-eq0.true)

@@ -1,6 +1,6 @@
 -- The values that are read are those of the tail, in either version.
-use Rattle.std.proofs.Common.{◌≡◌, ◌*◌, ◌%◌, ℕ, length, take, get_or, sym, ◌∙◌, ap, arith}
-use Rattle.std.proofs.lemmas.List.{get_or_append_left, length-take}
+use Rattle.std.proofs.Common.{◌≡◌, ◌*◌, ◌%◌, ◌≤◌, ℕ, List, length, take, get_or, sym, ◌∙◌, ap, arith, inl}
+use Rattle.std.proofs.lemmas.List.{get_or-take, get_or_append_left, length-take, length-take-le}
 use Rattle.bitpack_lists.specs.Version3.{tail_values3}
 use Rattle.bitpack_lists.specs.inner.Searching.{blocks_of, rest_of}
 use Rattle.bitpack_lists.proofs.OpenedLists.{tail_at, tail_length, tail_word}
@@ -24,14 +24,25 @@ returns-in-Two-clause-values g c = λ k lt.
     get_or_append_left c.read_words.new.values _ 0 k (omega (arith, long, lt)) ∙ c.read_words.ensures k (omega (arith, long, lt))
     ∙ sym (tail_word list g.met.P.BitPacker.some_lanes c.in-Two.is k)
 
+-- The whole tail is lent.
+lent : (count n m : ℕ) (values : List ℕ) → m ≡ n → count % n ≤ length values → length (take (count % m) values) ≡ count % n
+lent count n m values same room = rw same (length-take-le (count % n) values room)
+
+pub unpack_tail-requires-clause-len : goal.unpack_tail-requires-clause-len
+unpack_tail-requires-clause-len g c =
+    let whole : c.BLOCK_LEN.result ≡ 32 * g.P.BitPacker.lanes = c.BLOCK_LEN.ensures ∙ g.met.P.BitPacker.block_len in
+    inl (lent c.args.self.now.count (32 * g.P.BitPacker.lanes) c.BLOCK_LEN.result c.args.values.now whole c.requires.room)
+
 pub returns-in-Three-clause-values : goal.returns-in-Three-clause-values
 returns-in-Three-clause-values g c = λ k lt.
     let list = c.args.self.now in
+    let n : ℕ = 32 * g.P.BitPacker.lanes in
+    let whole : c.BLOCK_LEN.result ≡ n = c.BLOCK_LEN.ensures ∙ g.met.P.BitPacker.block_len in
     let len : ℕ = list.count % c.BLOCK_LEN.result in
-    let whole : c.BLOCK_LEN.result ≡ 32 * g.P.BitPacker.lanes = c.BLOCK_LEN.ensures ∙ g.met.P.BitPacker.block_len in
     let same = ap (λ len. list.count % len) whole in
-    let given : length (take len c.args.values.now) ≡ list.count % (32 * g.P.BitPacker.lanes) = omega (arith, length-take len c.args.values.now, c.requires.room, same) in
+    let given : length (take len c.args.values.now) ≡ list.count % n = lent list.count n c.BLOCK_LEN.result c.args.values.now whole c.requires.room in
     let long : length c.unpack_tail.new.values ≡ len = c.unpack_tail.auto.values ∙ omega (arith, given, same) in
+    let all : List ℕ = tail_values3 g.P.BitPacker.lanes (blocks_of list) (list.count % n) list.kind (rest_of list) in
     get_or_append_left c.unpack_tail.new.values _ 0 k (omega (arith, long, lt)) ∙ ap (λ zs. get_or zs k 0) c.unpack_tail.ensures
-    ∙ ap (λ m. get_or (tail_values3 g.P.BitPacker.lanes (blocks_of list) m list.kind (rest_of list)) k 0) given
+    ∙ get_or-take (length (take len c.args.values.now)) all k 0 (omega (arith, given, same, lt))
     ∙ sym (tail_at list g.met.P.BitPacker.some_lanes c.in-Three.is k)

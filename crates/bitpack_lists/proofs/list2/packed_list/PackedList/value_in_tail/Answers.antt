@@ -33,6 +33,13 @@ returns-in-Two g c =
     c.read_one.ensures ∙ ap (λ i. word (drop (4 * i) list.tail.now) 0) index ∙ word-drop list.tail.now k
     ∙ sym (tail_word list g.met.P.BitPacker.some_lanes c.in-Two.is k) ∙ ap (value_of list) here
 
+pub value_in_groups-requires-clause-index : goal.value_in_groups-requires-clause-index
+value_in_groups-requires-clause-index g c =
+    let list = c.args.self.now in
+    let n : ℕ = 32 * g.P.BitPacker.lanes in
+    let index = index_is n c.BLOCK_LEN.result c.BLOCK_LEN-2.result list.count c.args.position (c.BLOCK_LEN.ensures ∙ g.met.P.BitPacker.block_len) (c.BLOCK_LEN-2.ensures ∙ g.met.P.BitPacker.block_len) in
+    rw index (index_lt n list.count c.args.position c.requires.tail c.requires.within)
+
 pub returns-in-Three : goal.returns-in-Three
 returns-in-Three g c =
     let list = c.args.self.now in
@@ -40,5 +47,4 @@ returns-in-Three g c =
     let k : ℕ = c.args.position - n * (list.count / n) in
     let index = index_is n c.BLOCK_LEN.result c.BLOCK_LEN-2.result list.count c.args.position (c.BLOCK_LEN.ensures ∙ g.met.P.BitPacker.block_len) (c.BLOCK_LEN-2.ensures ∙ g.met.P.BitPacker.block_len) in
     let here : n * (list.count / n) + k ≡ c.args.position = omega (arith, c.requires.tail) in
-    let lt = index_lt n list.count c.args.position c.requires.tail c.requires.within in
-    rw index (c.read_tail.ensures.values k (omega (arith, lt, c.read_tail.ensures.len)) ∙ ap (value_of list) here)
+    c.value_in_groups.ensures ∙ ap (λ i. value_of list (n * (list.count / n) + i)) index ∙ ap (value_of list) here

@@ -1,0 +1,71 @@
+-- What the calls that write packed lists answer, and what they leave in the caller's buffer.
+use Rattle.std.specs.Prelude.{◌≡◌, ℕ, ◌<◌, ℤ, pos, negsuc, not, ◌&&◌, ◌==◌, nat_lt, if◌then◌else◌, List, ◌++◌, length, drop, Option, Some, None, MatchOption, Result, Ok, Err}
+use Rattle.std.specs.Option.{option_or}
+use Rattle.bitpack_lists.specs.declared.list_error.ListError.{ListError}
+use Rattle.bitpack_lists.specs.declared.list_error.ListError.TheVariants.{BadKind, BadVersion, NotSorted, Short}
+use Rattle.bitpack_lists.specs.declared.list_kind.ListKind.{ListKind}
+use Rattle.bitpack_lists.specs.declared.version.Version.{Version}
+use Rattle.bitpack_lists.specs.declared.version.Version.TheVariants.{Two, Three}
+use Rattle.bitpack_lists.specs.Parts.{kind_of_byte}
+use Rattle.bitpack_lists.specs.Texts.{IsText}
+use Rattle.bitpack_lists.specs.Version2.{values_fault}
+use Rattle.bitpacking_c.specs.Views.{fault_number}
+
+-- ---- what is asked for
+
+-- the version with a number that is 2 or 3
+abbrev pub version_of : ℕ → Version
+version_of number = if number == 2 then Two else Three
+
+-- the first fault of the number of a version, and that of a kind
+abbrev pub numbers_fault : ℕ → ℕ → Option ListError
+numbers_fault version kind =
+    if not (version == 2) && not (version == 3) then Some (BadVersion version)
+    else if nat_lt 2 kind then Some (BadKind kind)
+    else None
+
+-- the first fault of these and the values: they are too many, or out of order
+abbrev pub refusal : ℕ → ℕ → List ℕ → Option ListError
+refusal version kind values = option_or (numbers_fault version kind) (values_fault (kind_of_byte kind) values)
+
+-- ---- what is written
+
+-- the text was written, what is after it stays, and the answer is its length; or the buffer is short for it and is as it was
+abbrev pub WritesText : Version → ℕ → ListKind → List ℕ → List ℕ → List ℕ → Result ℕ ListError → Type 0
+WritesText version lanes kind values before after (Ok count) =
+    (text : List ℕ) × IsText version lanes kind values text × (count ≡ length text) × (after ≡ text ++ drop count before)
+WritesText version lanes kind values before after (Err error) =
+    (error ≡ Short) × (after ≡ before) × ((text : List ℕ) → IsText version lanes kind values text → length before < length text)
+
+-- the text of the values was written if it has room; for a fault, the answer is the first and the buffer is as it was
+abbrev pub PacksList : ℕ → ℕ → ℕ → List ℕ → List ℕ → List ℕ → Result ℕ ListError → Type 0
+PacksList lanes version kind values before after answer =
+    MatchOption (refusal version kind values)
+    (WritesText (version_of version) lanes (kind_of_byte kind) values before after answer)
+    (λ fault. (answer ≡ Err fault) × (after ≡ before))
+
+-- the answer is the length of the text of the values, or the first fault
+abbrev pub GivesSize : ℕ → ℕ → ℕ → List ℕ → Result ℕ ListError → Type 0
+GivesSize lanes version kind values answer =
+    MatchOption (refusal version kind values)
+    ((size : ℕ) × (answer ≡ Ok size)
+    × ((text : List ℕ) → IsText (version_of version) lanes (kind_of_byte kind) values text → size ≡ length text))
+    (λ fault. answer ≡ Err fault)
+
+-- ---- numbers
+
+-- the number of an answer: the length, -3 for a short buffer, or the number of the fault
+abbrev pub number_of_size : Result ℕ ListError → ℤ
+number_of_size (Ok size) = pos size
+number_of_size (Err Short) = negsuc 2
+number_of_size (Err fault) = fault_number (Some fault)
+
+-- the position that is given: that of a value out of order, and else the one before
+abbrev pub position_after : ℕ → Result ℕ ListError → ℕ
+position_after before (Err (NotSorted position)) = position
+position_after before answer = before
+
+-- the number and the position are those of an answer with this meaning
+abbrev pub AnswersSize : ℤ → ℕ → ℕ → (Result ℕ ListError → Type 0) → Type 0
+AnswersSize number before after Means =
+    (answer : Result ℕ ListError) × (number ≡ number_of_size answer) × (after ≡ position_after before answer) × Means answer

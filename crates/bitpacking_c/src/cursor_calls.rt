@@ -1,0 +1,106 @@
+//! The calls on cursors, and the values of a list from a position on.
+
+ghost use Rattle.std.specs.Prelude.{◌≡◌, ◌+◌, ◌-◌, ℕ, ℤ, List, None, length, slice_get};
+ghost use Rattle.bitpack_lists.specs.declared.list_kind.ListKind.{ListKind};
+ghost use Rattle.bitpack_lists.specs.Texts.{IsText, fault_of_either, version_in};
+ghost use Rattle.bitpacking_c.specs.Cursors.{Advances, IsListOfCursor, SeeksOn, UnpacksFrom, left_at_hand, position};
+ghost use Rattle.bitpacking_c.specs.Views.{Gets, IsListOf};
+
+use crate::list_cursor::ListCursor;
+use crate::list_view::ListView;
+use bitpack_lists::list2::{PackedList, Reads};
+use bitpacking::{BitPacker, BitPacker1x, BitPacker4x, BitPacker8x};
+
+/// Sets a cursor to the first value of a list. One block is unpacked at most.
+#[unsafe(no_mangle)]
+pub extern "C" fn bitpacking_cursor_start<'a>(cursor: &mut ListCursor<'a>, view: &ListView<'a>)
+    ensures list { (cursor.new.list.bytes.now ≡ view.now.bytes.now) × (cursor.new.list.lanes ≡ view.now.lanes) }
+    ensures first { position cursor.new ≡ 0 }
+{
+    cursor.start(view, &mut Reads::new());
+}
+
+/// Writes the value at a cursor and answers 1. After the last value it answers 0 and writes nothing.
+#[unsafe(no_mangle)]
+pub extern "C" fn bitpacking_cursor_value(cursor: &ListCursor<'_>, item: &mut u32) -> i32
+    ensures { (kind : ListKind) (all : List ℕ) → IsListOfCursor cursor.now kind all
+        → Gets all (position cursor.now) item.old item.new result }
+{
+    match cursor.value() {
+        Some(found) => {
+            *item = found;
+            1
+        }
+        None => 0,
+    }
+}
+
+/// The number of values before a cursor.
+#[unsafe(no_mangle)]
+pub extern "C" fn bitpacking_cursor_position(cursor: &ListCursor<'_>) -> usize
+    ensures { result ≡ position cursor.now }
+{
+    cursor.position()
+}
+
+/// Moves a cursor to the next value. Answers 1 if there is a value at the new place, and else 0. After the last value it stays. One block is
+/// unpacked at most.
+#[unsafe(no_mangle)]
+pub extern "C" fn bitpacking_cursor_advance(cursor: &mut ListCursor<'_>) -> i32
+    ensures list { cursor.new.list ≡ cursor.old.list }
+    ensures moved { (kind : ListKind) (all : List ℕ) → IsListOfCursor cursor.old kind all
+        → Advances all (position cursor.old) (position cursor.new) result }
+{
+    cursor.advance(&mut Reads::new())
+}
+
+/// Moves a cursor to the first value from its place on that is at least the target. Answers 1; 0 where there is none and it is at the end;
+/// or -23 for a plain list, where it stays. One block is unpacked at most, and none if the value is in the block at hand.
+#[unsafe(no_mangle)]
+pub extern "C" fn bitpacking_cursor_seek(cursor: &mut ListCursor<'_>, target: u32) -> i32
+    ensures list { cursor.new.list ≡ cursor.old.list }
+    ensures moved { (kind : ListKind) (all : List ℕ) → IsListOfCursor cursor.old kind all
+        → SeeksOn kind all target (position cursor.old) (position cursor.new) result }
+{
+    cursor.seek(target, &mut Reads::new())
+}
+
+/// Moves a cursor past the values of the block at hand, to the next one. One block is unpacked at most.
+#[unsafe(no_mangle)]
+pub extern "C" fn bitpacking_cursor_skip_block(cursor: &mut ListCursor<'_>)
+    ensures list { cursor.new.list ≡ cursor.old.list }
+    ensures moved { (kind : ListKind) (all : List ℕ) → IsListOfCursor cursor.old kind all
+        → position cursor.new ≡ position cursor.old + left_at_hand cursor.old }
+{
+    cursor.skip_block(&mut Reads::new());
+}
+
+/// Writes the values of a list from a position on to the front of `values`, as many as there are and as fit, and answers their number. The
+/// rest of `values` stays as it was. Each block that has one of them is unpacked once, and no other.
+#[unsafe(no_mangle)]
+pub extern "C" fn bitpacking_list_range(
+    view: &ListView<'_>,
+    from: usize,
+    values: &mut [u32],
+) -> isize
+    ensures { (kind : ListKind) (all : List ℕ) → IsListOf view.now.lanes view.now.bytes.now kind all
+        → UnpacksFrom from all values.old values.new result }
+{
+    match view.lanes {
+        0 => 0,
+        1 => unpack_from(BitPacker1x::new(), view.bytes, from, values),
+        4 => unpack_from(BitPacker4x::new(), view.bytes, from, values),
+        _ => unpack_from(BitPacker8x::new(), view.bytes, from, values),
+    }
+}
+
+/// Unpacks a text of a packer from a position on.
+#[inline(always)]
+fn unpack_from<P: BitPacker>(packer: P, bytes: &[u8], from: usize, values: &mut [u32]) -> isize
+    requires { fault_of_either P.lanes bytes.now ≡ None }
+    ensures { (kind : ListKind) (all : List ℕ) → IsText (version_in bytes.now) P.lanes kind all bytes.now
+        → UnpacksFrom from all values.old values.new result }
+{
+    let list = PackedList::from_validated_any(packer, bytes);
+    list.copy_from(from, values, &mut Reads::new()) as isize
+}

@@ -1,0 +1,263 @@
+//! What packed lists have in common, or together, or one without others: any number of views, without memory of ours.
+//!
+//! The caller's room is the work space. The values of one list are written to it, and each further list takes some away, or adds some,
+//! in their place.
+
+ghost use Rattle.std.specs.Prelude.{◌≡◌, ◌≢◌, ℕ, ◌<◌, ◌≤◌, ◌&&◌, not, false, true, List, None, All, length, slice_index, take};
+ghost use Rattle.std.specs.List.{HoldsAt};
+ghost use Rattle.std.specs.List.Sorted.{IsStrictlyIncreasing};
+ghost use Rattle.bitpack_lists.specs.declared.list_kind.ListKind.{ListKind};
+ghost use Rattle.bitpack_lists.specs.Distinct.{distinct};
+ghost use Rattle.bitpack_lists.specs.Increasing.{has};
+ghost use Rattle.bitpack_lists.specs.InFront.{AreInFront};
+ghost use Rattle.bitpack_lists.specs.Many.{all_have, united_all};
+ghost use Rattle.bitpack_lists.specs.Remaining.{remaining};
+ghost use Rattle.bitpack_lists.specs.Texts.{IsText, fault_of_either, version_in};
+ghost use Rattle.bitpacking_c.specs.Sets.{Adds, AreListsOf, CanAdd, FitsIn, HasLength, HasRoom, Intersects, IsInOrder, Leaves, Lists, Subtracts, Unites, all_distinct, all_values, any_plain, others_have, shortest_len, total_len, values_at};
+ghost use Rattle.bitpacking_c.specs.Views.{IsListOf};
+
+use super::list_view::{ListView, bitpacking_list_len, kind};
+use bitpack_lists::ListKind;
+use bitpack_lists::list2::PackedList;
+use bitpack_lists::sorted::{DistinctValues, collect_to, intersect_in_place, subtract_in_place, unite_in_place};
+use bitpacking::{BitPacker, BitPacker1x, BitPacker4x, BitPacker8x};
+
+/// Writes the values that all of the lists have to the front of `out`, each once and in increasing order, and answers their number.
+/// If a list is plain it answers -23, and if there is less room than the length of the shortest list -3; then it writes nothing.
+#[unsafe(no_mangle)]
+pub extern "C" fn bitpacking_list_intersect(views: &[ListView<'_>], out: &mut [u32]) -> isize
+    ensures { (lists : Lists) → AreListsOf views.now lists → Intersects lists out.old out.new result }
+{
+    if has_plain(views) {
+        return -23;
+    }
+    if views.is_empty() {
+        return 0;
+    }
+    let (shortest, len) = shortest(views);
+    if out.len() < len {
+        return -3;
+    }
+    intersect(views, shortest, out) as isize
+}
+
+/// Writes what all of the lists have, of which the one at an index is the shortest. Returns how many values this is.
+fn intersect(views: &[ListView<'_>], shortest: usize, out: &mut [u32]) -> usize
+    requires shortest { shortest < length views.now }
+    requires ordered { All IsInOrder views.now }
+    requires room { HoldsAt (FitsIn (length out.old)) views.now shortest }
+    ensures few { result ≤ length out.old }
+    ensures increasing { IsStrictlyIncreasing (take result out.new) }
+    ensures members { (lists : Lists) → AreListsOf views.now lists
+        → (v : ℕ) → has (take result out.new) v ≡ all_have (all_values lists) v }
+{
+    let mut kept = copy_distinct(&views[shortest], out);
+    for index in 0..views.len() {
+        if index != shortest {
+            kept = keep_shared(&views[index], &mut out[..kept]);
+        }
+    }
+    kept
+}
+
+/// Writes the values that any of the lists has to the front of `out`, each once and in increasing order, and answers their number.
+/// If a list is plain it answers -23, and if there is less room than the sum of the lengths -3; then it writes nothing.
+#[unsafe(no_mangle)]
+pub extern "C" fn bitpacking_list_unite(views: &[ListView<'_>], out: &mut [u32]) -> isize
+    ensures { (lists : Lists) → AreListsOf views.now lists → Unites lists out.old out.new result }
+{
+    if has_plain(views) {
+        return -23;
+    }
+    if !has_room(views, out.len()) {
+        return -3;
+    }
+    unite(views, out) as isize
+}
+
+/// Writes what any of the lists has. Returns how many values this is.
+fn unite(views: &[ListView<'_>], out: &mut [u32]) -> usize
+    requires { All IsInOrder views.now × HasRoom views.now (length out.old) }
+    ensures few { result ≤ length out.old }
+    ensures united { (lists : Lists) → AreListsOf views.now lists
+        → AreInFront result (united_all (all_distinct lists)) out.new }
+{
+    let mut written = 0;
+    for index in 0..views.len() {
+        written = add_distinct(&views[index], written, out);
+    }
+    written
+}
+
+/// Writes the values of the first list that no other has to the front of `out`, each once and in increasing order, and answers their
+/// number. If a list is plain it answers -23, and if there is less room than the length of the first -3; then it writes nothing.
+#[unsafe(no_mangle)]
+pub extern "C" fn bitpacking_list_subtract(views: &[ListView<'_>], out: &mut [u32]) -> isize
+    ensures { (lists : Lists) → AreListsOf views.now lists → Subtracts lists out.old out.new result }
+{
+    if has_plain(views) {
+        return -23;
+    }
+    if views.is_empty() {
+        return 0;
+    }
+    if out.len() < bitpacking_list_len(&views[0]) {
+        return -3;
+    }
+    subtract(views, out) as isize
+}
+
+/// Writes what the first list has and no other. Returns how many values this is.
+fn subtract(views: &[ListView<'_>], out: &mut [u32]) -> usize
+    requires some { 0 < length views.now }
+    requires ordered { All IsInOrder views.now }
+    requires room { HoldsAt (FitsIn (length out.old)) views.now 0 }
+    ensures few { result ≤ length out.old }
+    ensures increasing { IsStrictlyIncreasing (take result out.new) }
+    ensures members { (lists : Lists) → AreListsOf views.now lists → (v : ℕ) → has (take result out.new) v
+        ≡ (has (values_at lists 0) v && not (others_have (length views.now) (all_values lists) v)) }
+{
+    let mut kept = copy_distinct(&views[0], out);
+    for index in 1..views.len() {
+        kept = keep_others(&views[index], &mut out[..kept]);
+    }
+    kept
+}
+
+/// The index and the length of the first list that is not longer than another.
+fn shortest(views: &[ListView<'_>]) -> (usize, usize)
+    requires { 0 < length views.now }
+    ensures within { result.0 < length views.now }
+    ensures at { HoldsAt (HasLength result.1) views.now result.0 }
+    ensures least { (lists : Lists) → AreListsOf views.now lists → shortest_len lists ≡ result.1 }
+{
+    let mut shortest = 0;
+    let mut least = bitpacking_list_len(&views[0]);
+    for index in 1..views.len() {
+        let len = bitpacking_list_len(&views[index]);
+        if len < least {
+            shortest = index;
+            least = len;
+        }
+    }
+    (shortest, least)
+}
+
+/// Whether there is room for the values of all lists, one list after the other.
+fn has_room(views: &[ListView<'_>], room: usize) -> bool
+    ensures room { result ≡ true → HasRoom views.now room }
+    ensures short { result ≡ false → (lists : Lists) → AreListsOf views.now lists → room < total_len lists }
+{
+    let mut left = room;
+    for view in views {
+        let len = bitpacking_list_len(view);
+        if left < len {
+            return false;
+        }
+        left -= len;
+    }
+    true
+}
+
+/// Whether a list is plain.
+fn has_plain(views: &[ListView<'_>]) -> bool
+    ensures plain { (lists : Lists) → AreListsOf views.now lists → result ≡ any_plain lists }
+    ensures ordered { result ≡ false → All IsInOrder views.now }
+{
+    for view in views {
+        if kind(view) == ListKind::Plain {
+            return true;
+        }
+    }
+    false
+}
+
+/// The values of a list of a packer, each once.
+#[inline(always)]
+fn distinct_of<'a, P: BitPacker>(packer: P, view: &ListView<'a>) -> DistinctValues<'a, P>
+    requires lanes { view.now.lanes ≡ P.lanes }
+    requires ordered { IsInOrder view.now }
+    ensures values { (kind : ListKind) (all : List ℕ) → IsListOf view.now.lanes view.now.bytes.now kind all
+        → remaining result ≡ distinct all }
+    ensures some { (kind : ListKind) × (all : List ℕ) × IsListOf view.now.lanes view.now.bytes.now kind all }
+{
+    DistinctValues::new(PackedList::from_validated_any(packer, view.bytes).cursor())
+}
+
+/// Writes the values of a list, each once, and returns how many these are.
+fn copy_distinct(view: &ListView<'_>, out: &mut [u32]) -> usize
+    requires { IsInOrder view.now × FitsIn (length out.old) view.now }
+    ensures { Leaves view.now has out.new result }
+{
+    match view.lanes {
+        0 => 0,
+        1 => copy_distinct_of(BitPacker1x::new(), view, out),
+        4 => copy_distinct_of(BitPacker4x::new(), view, out),
+        _ => copy_distinct_of(BitPacker8x::new(), view, out),
+    }
+}
+
+/// Writes the values of a list of a packer. Those of a list that is strictly sorted are unpacked straight into their place.
+fn copy_distinct_of<P: BitPacker>(packer: P, view: &ListView<'_>, out: &mut [u32]) -> usize
+    requires lanes { view.now.lanes ≡ P.lanes }
+    requires room { IsInOrder view.now × FitsIn (length out.old) view.now }
+    ensures { Leaves view.now has out.new result }
+{
+    let list = PackedList::from_validated_any(packer, view.bytes);
+    if list.kind() == ListKind::StrictlySorted {
+        return list.copy_to(out);
+    }
+    collect_to(&mut distinct_of(packer, view), out)
+}
+
+/// Keeps the values that a list has too, and returns how many these are.
+fn keep_shared(view: &ListView<'_>, values: &mut [u32]) -> usize
+    requires { IsInOrder view.now × IsStrictlyIncreasing values.old }
+    ensures { Leaves view.now (λ all v. has values.old v && has all v) values.new result }
+{
+    match view.lanes {
+        0 => 0,
+        1 => intersect_in_place(values, &mut distinct_of(BitPacker1x::new(), view)),
+        4 => intersect_in_place(values, &mut distinct_of(BitPacker4x::new(), view)),
+        _ => intersect_in_place(values, &mut distinct_of(BitPacker8x::new(), view)),
+    }
+}
+
+/// Keeps the values that a list lacks, and returns how many these are.
+fn keep_others(view: &ListView<'_>, values: &mut [u32]) -> usize
+    requires { IsInOrder view.now × IsStrictlyIncreasing values.old }
+    ensures { Leaves view.now (λ all v. has values.old v && not (has all v)) values.new result }
+{
+    match view.lanes {
+        0 => values.len(),
+        1 => subtract_in_place(values, &mut distinct_of(BitPacker1x::new(), view)),
+        4 => subtract_in_place(values, &mut distinct_of(BitPacker4x::new(), view)),
+        _ => subtract_in_place(values, &mut distinct_of(BitPacker8x::new(), view)),
+    }
+}
+
+/// Adds the values of a list to the first `count` of a slice, and returns how many these are together.
+fn add_distinct(view: &ListView<'_>, count: usize, values: &mut [u32]) -> usize
+    requires { CanAdd view.now count values.old }
+    ensures { Adds view.now (take count values.old) values.new result }
+{
+    match view.lanes {
+        0 => count,
+        1 => add_distinct_of(BitPacker1x::new(), view, count, values),
+        4 => add_distinct_of(BitPacker4x::new(), view, count, values),
+        _ => add_distinct_of(BitPacker8x::new(), view, count, values),
+    }
+}
+
+/// Adds the values of a list of a packer.
+fn add_distinct_of<P: BitPacker>(
+    packer: P,
+    view: &ListView<'_>,
+    count: usize,
+    values: &mut [u32],
+) -> usize
+    requires { (view.now.lanes ≡ P.lanes) × CanAdd view.now count values.old }
+    ensures { Adds view.now (take count values.old) values.new result }
+{
+    unite_in_place(values, count, &mut distinct_of(packer, view))
+}

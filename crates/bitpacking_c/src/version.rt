@@ -1,0 +1,12 @@
+//! The version of the archive.
+
+ghost use Rattle.std.specs.Prelude.{◌≡◌};
+
+/// The version of the archive, which the header that goes with it has as `BITPACKING_VERSION`: a million times the major number, a
+/// thousand times the minor one, and the number of the patch.
+#[unsafe(no_mangle)]
+pub extern "C" fn bitpacking_version() -> u32
+    ensures { result ≡ 1000 }
+{
+    1000
+}

@@ -1,0 +1,190 @@
+/* Reads the tables vectors/lists2.tsv and lists3.tsv, one after the other: rows "kind, lanes, values, bytes". Combines each list in order
+   alone, with each other, and with each two of a few, and compares what the calls on many lists write with the tables' values. Prints
+   what is wrong, and last how many lists it read and how often it combined some. */
+#include "bitpacking.h"
+
+#include <stdio.h>
+#include <stdlib.h>
+#include <string.h>
+
+enum { LINE = 1 << 16, MOST = 1000, FEW = 16, LONGEST = 1 << 15, BYTES = 1 << 22, VALUES = 1 << 20, GUARD = 0x5A5A5A5A };
+
+static char line[LINE];
+static uint8_t bytes[BYTES];
+static uint32_t values[VALUES], expected[LONGEST], out[LONGEST + 1];
+static size_t bytes_used, values_used, count;
+static struct {
+    const uint32_t *values;
+    size_t len;
+    bitpacking_list view;
+} lists[MOST];
+static bitpacking_list plain;
+static unsigned long combined;
+static int failed;
+
+static void expect(int right, const char *what, size_t a, size_t b, size_t c)
+{
+    if (!right) {
+        printf("%s: lists %lu, %lu, %lu\n", what, (unsigned long)a, (unsigned long)b, (unsigned long)c);
+        failed = 1;
+    }
+}
+
+static int has(size_t list, uint32_t value)
+{
+    size_t low = 0, high = lists[list].len;
+
+    while (low < high) {
+        size_t middle = low + (high - low) / 2;
+        if (lists[list].values[middle] < value)
+            low = middle + 1;
+        else
+            high = middle;
+    }
+    return low < lists[list].len && lists[list].values[low] == value;
+}
+
+/* Whether the values are in front, with as much room as is always enough; and what is written with less, and beside a plain list. */
+static void compare(const char *what, ptrdiff_t (*call)(const bitpacking_list *, size_t, uint32_t *, size_t), const size_t *which,
+                    size_t len, size_t found, size_t room)
+{
+    bitpacking_list views[4];
+    size_t i;
+
+    for (i = 0; i < len; i++)
+        views[i] = lists[which[i]].view;
+    out[room] = GUARD;
+    expect(call(views, len, out, room) == (ptrdiff_t)found && memcmp(out, expected, found * sizeof *out) == 0, what, which[0], which[1],
+           which[2]);
+    expect(out[room] == GUARD, "written after the room", which[0], which[1], which[2]);
+    for (i = 0; i < room; i++)
+        out[i] = GUARD;
+    if (room > 0)
+        expect(call(views, len, out, room - 1) == BITPACKING_SHORT, "too little room", which[0], which[1], which[2]);
+    views[len] = plain;
+    expect(call(views, len + 1, out, room) == BITPACKING_LIST_BAD_KIND, "a plain list", which[0], which[1], which[2]);
+    for (i = 0; i < room; i++)
+        expect(out[i] == GUARD, "written with an error", which[0], which[1], which[2]);
+    combined++;
+}
+
+/* Expects the values of the first list that each of the others has, or that none has. Returns how many these are. */
+static size_t expect_values(const size_t *which, size_t len, int wanted)
+{
+    const uint32_t *first = lists[which[0]].values;
+    size_t found = 0, i, j;
+
+    for (i = 0; i < lists[which[0]].len; i++) {
+        for (j = 1; j < len && has(which[j], first[i]) == wanted; j++)
+            continue;
+        if (j == len && (found == 0 || expected[found - 1] != first[i]))
+            expected[found++] = first[i];
+    }
+    return found;
+}
+
+/* Expects the values that any of the lists has. Returns how many these are. */
+static size_t expect_all(const size_t *which, size_t len)
+{
+    size_t at[3] = {0, 0, 0}, found = 0, i;
+
+    for (;; found++) {
+        const uint32_t *least = NULL;
+
+        for (i = 0; i < len; i++)
+            if (at[i] < lists[which[i]].len && (least == NULL || lists[which[i]].values[at[i]] < *least))
+                least = lists[which[i]].values + at[i];
+        if (least == NULL)
+            return found;
+        expected[found] = *least;
+        for (i = 0; i < len; i++)
+            while (at[i] < lists[which[i]].len && lists[which[i]].values[at[i]] == expected[found])
+                at[i]++;
+    }
+}
+
+static void combine(size_t a, size_t b, size_t c, size_t len)
+{
+    size_t which[3], shortest = lists[a].len, total = 0, i;
+
+    which[0] = a, which[1] = b, which[2] = c;
+    for (i = 0; i < len; i++) {
+        total += lists[which[i]].len;
+        if (lists[which[i]].len < shortest)
+            shortest = lists[which[i]].len;
+    }
+    compare("what all have", bitpacking_list_intersect, which, len, expect_values(which, len, 1), shortest);
+    compare("what the first has and no other", bitpacking_list_subtract, which, len, expect_values(which, len, 0), lists[a].len);
+    compare("what any has", bitpacking_list_unite, which, len, expect_all(which, len), total);
+}
+
+/* The bytes of hexadecimal digits. */
+static size_t read_bytes(const char *digits)
+{
+    size_t len = 0;
+    unsigned byte;
+
+    for (; sscanf(digits, "%2x", &byte) == 1; digits += 2)
+        bytes[bytes_used + len++] = (uint8_t)byte;
+    return len;
+}
+
+/* The values between commas, or none of "-". */
+static size_t read_values(char *text)
+{
+    size_t len = 0;
+    char *end;
+
+    for (; *text != '-' && *text != 0; text = *end == ',' ? end + 1 : end)
+        values[values_used + len++] = (uint32_t)strtoul(text, &end, 10);
+    return len;
+}
+
+static void read_list(char *column[4])
+{
+    size_t size = read_bytes(column[3]);
+    bitpacking_list view = BITPACKING_LIST_EMPTY;
+
+    expect(bitpacking_list_open(bytes + bytes_used, size, &view) == 0, "it is refused", count, 0, 0);
+    bytes_used += size;
+    if (*column[0] == 'p') {
+        plain = view;
+        return;
+    }
+    lists[count].values = values + values_used;
+    lists[count].len = read_values(column[2]);
+    values_used += lists[count].len;
+    lists[count++].view = view;
+}
+
+int main(void)
+{
+    size_t a, b, c;
+
+    while (fgets(line, sizeof line, stdin)) {
+        char *column[4] = {line, NULL, NULL, NULL};
+        int i;
+
+        for (i = 1; i < 4 && column[i - 1]; i++) {
+            column[i] = strchr(column[i - 1], '\t');
+            if (column[i])
+                *column[i]++ = 0;
+        }
+        if (column[3] && strcmp(column[3], "bytes\n") != 0)
+            read_list(column);
+    }
+    for (a = 0; a < count; a++) {
+        combine(a, 0, 0, 1);
+        for (b = 0; b < count; b++)
+            combine(a, b, 0, 2);
+    }
+    for (a = 0; a < count; a += count / FEW)
+        for (b = 0; b < count; b += count / FEW)
+            for (c = 0; c < count; c += count / FEW)
+                combine(a, b, c, 3);
+    expect(bitpacking_list_intersect(NULL, 0, NULL, 0) == 0 && bitpacking_list_unite(NULL, 0, NULL, 0) == 0
+               && bitpacking_list_subtract(NULL, 0, NULL, 0) == 0,
+           "no list", 0, 0, 0);
+    printf("%lu lists, %lu combined\n", (unsigned long)count, combined);
+    return failed;
+}
