@@ -7,6 +7,7 @@ It takes the archives that scripts/archives.py wrote, which is called where they
 import os
 import random
 import re
+import struct
 import subprocess
 import sys
 import tempfile
@@ -239,14 +240,17 @@ def refusals(programs):
 
 
 def damaged(number, whole):
-    """A damaged file, and whether it has to be refused: it is cut, or its header is changed."""
-    chance = random.Random(number)
+    """A damaged file, and whether it has to be refused: it is cut, or bytes of the header, of the table of words, or anywhere are
+    changed."""
+    chance, header = random.Random(number), 8 + 8 * 6
     if number % 4 == 0:
         return whole[: chance.randrange(len(whole))], True
-    changed, places = bytearray(whole), chance.sample(range(len(whole) if number % 4 > 1 else 56), chance.randrange(1, 5))
-    for place in places:
-        changed[place] ^= chance.randrange(1, 256)
-    return bytes(changed), number % 4 == 1
+    lengths = struct.unpack("<6Q", whole[8:header])
+    start, end = {1: (0, header), 2: (header + sum(lengths[:3]), header + sum(lengths[:4])), 3: (0, len(whole))}[number % 4]
+    changed = bytearray(whole)
+    for _ in range(chance.randrange(1, 5)):
+        changed[chance.randrange(start, end)] = chance.choice([0, 1, 127, 128, 255, chance.randrange(256)])
+    return bytes(changed), number % 4 == 1 and changed != whole
 
 
 def fault_of_damaged(programs, must_fail, query):

@@ -5,12 +5,10 @@
 
 #include <dirent.h>
 #include <errno.h>
-#include <fcntl.h>
 #include <stdarg.h>
 #include <stdio.h>
 #include <stdlib.h>
 #include <string.h>
-#include <sys/mman.h>
 #include <sys/stat.h>
 #include <unistd.h>
 
@@ -314,25 +312,23 @@ static void find_files(const char *folder, struct paths *paths)
     closedir(dir);
 }
 
-const uint8_t *map(const char *path, size_t *len)
+uint8_t *read_file(const char *path, size_t *len)
 {
+    FILE *file = fopen(path, "rb");
     struct stat status;
-    int file = open(path, O_RDONLY);
-    void *bytes = MAP_FAILED;
+    uint8_t *bytes = NULL;
 
-    if (file >= 0 && fstat(file, &status) == 0) {
-        *len = (size_t)status.st_size; /* no file has an empty map, and so an empty one has an address of ours */
-        bytes = *len > 0 ? mmap(NULL, *len, PROT_READ, MAP_PRIVATE, file, 0) : (void *)MAGIC;
+    if (file && fstat(fileno(file), &status) == 0) {
+        bytes = checked(malloc(status.st_size > 0 ? (size_t)status.st_size : 1));
+        *len = fread(bytes, 1, (size_t)status.st_size, file);
     }
-    if (file >= 0)
-        close(file);
-    return bytes == MAP_FAILED ? NULL : bytes;
-}
-
-void unmap(const uint8_t *bytes, size_t len)
-{
-    if (len > 0)
-        munmap((void *)bytes, len);
+    if (bytes && ferror(file)) {
+        free(bytes);
+        bytes = NULL;
+    }
+    if (file)
+        fclose(file);
+    return bytes;
 }
 
 static int compare_paths(const void *a, const void *b)
@@ -352,10 +348,10 @@ static void build(struct builder *builder, const char *folder, int paragraphs)
     if (paths.len > 0)
         qsort(paths.items, paths.len, sizeof *paths.items, compare_paths);
     for (i = 0; i < paths.len; i++) {
-        const uint8_t *text = map(paths.items[i], &len);
+        uint8_t *text = read_file(paths.items[i], &len);
         if (text) {
             add_file(builder, paths.items[i], text, len, paragraphs);
-            unmap(text, len);
+            free(text);
         } else {
             fprintf(stderr, "search: %s: left out: %s\n", paths.items[i], strerror(errno));
         }

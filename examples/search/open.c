@@ -132,7 +132,7 @@ static void open_table(struct index *index)
 void open_index(struct index *index, const char *file)
 {
     size_t len = 0;
-    const uint8_t *bytes = map(file, &len);
+    const uint8_t *bytes = read_file(file, &len);
 
     if (!bytes)
         fail("%s: %s", file, strerror(errno));

@@ -44,9 +44,8 @@ void make_index(const char *folder, const char *file, int paragraphs);
 /* index.c: appends a list, and returns how many bytes it has. */
 size_t append_list(struct bytes *bytes, uint8_t kind, const uint32_t *values, size_t count);
 
-/* index.c: all bytes of a file, or NULL if it can't be read. */
-const uint8_t *map(const char *path, size_t *len);
-void unmap(const uint8_t *bytes, size_t len);
+/* index.c: all bytes of a file, which the caller frees, or NULL if it can't be read. */
+uint8_t *read_file(const char *path, size_t *len);
 
 /* index.c: the lower case of a letter, a digit, or 0 for any other byte; and whether a byte is a space. */
 uint8_t letter(uint8_t byte);
