@@ -209,6 +209,21 @@ def by_hand(programs):
     yield "a word of 64 letters and one of 65", programs.same("find", "--count", index, "x* -y*")[3]
 
 
+def on_terminal(programs):
+    """What a terminal shows while an index is made: how many of the eight files were read."""
+    try:
+        ours, theirs = os.openpty()
+    except OSError as error:
+        leave_out("the line of progress", f"since there is no terminal: {error}")
+        return
+    for name, path in programs.paths.items():
+        run(path, "index", "files", "shown", folder=programs.folder, env=ENVIRONMENT, stderr=theirs)
+        shown = os.read(ours, 1000)
+        yield f"the line of progress in {name}", None if shown == b"\r8 of 8 files\r\n" else f"the terminal shows {shown}"
+    os.close(ours)
+    os.close(theirs)
+
+
 def refusals(programs):
     """Calls that are refused: with a message, and with nothing printed or left over."""
     index, _ = programs.index("files")
@@ -290,7 +305,7 @@ def checks():
         programs = Programs(folder)
         yield from programs.faults
         if all(why is None for _, why in programs.faults):
-            for part in against_grep, by_hand, refusals, damages:
+            for part in against_grep, by_hand, on_terminal, refusals, damages:
                 yield from part(programs)
 
 
