@@ -71,7 +71,12 @@ FILES = {
 # ln(1 + 1.5/1.5) * 2.2 / (1 + 1.2 * (0.25 + 0.75 * 2/2.5)) = 0.693 * 1.089, and ln(1 + 0.5/2.5) * 1.089 = 0.182 * 1.089. The second
 # has `a` three times: 0.182 * 3 * 2.2 / (3 + 1.2 * (0.25 + 0.75 * 3/2.5)) = 0.182 * 1.507.
 SCORED = {"1": b"a b", "2": b"a, a; A!"}
-SCORES = {"b": "1 of 2 documents\n  0.755  F/1:1  a b\n", "a": "2 of 2 documents\n  0.275  F/2:1  a, a; A!\n  0.199  F/1:1  a b\n"}
+SCORES = {
+    "b": "1 of 2 documents\n  0.755  F/1:1  a b\n",
+    "a": "2 of 2 documents\n  0.275  F/2:1  a, a; A!\n  0.199  F/1:1  a b\n",
+    # The first document has b, which comes after a minus, and so does not count.
+    "a -(b c)": "2 of 2 documents\n  0.275  F/2:1  a, a; A!\n  0.199  F/1:1  a b\n",
+}
 # Queries that are refused, at which sign, and why.
 REFUSED = {
     "a (b": (3, "this bracket is not closed"),
@@ -254,6 +259,61 @@ def refusals(programs):
         yield f"--help in {name}", None if status == 0 and text.startswith("A small search engine") else f"{status} {messages}"
 
 
+def parts_of(programs, folder):
+    """The sections of the index of a folder, and the four lists of its words a and b: documents and counts of each."""
+    index, _ = programs.index(folder)
+    with open(f"{programs.folder}/{index}", "rb") as file:
+        whole = file.read()
+    ends = [56 + sum(struct.unpack("<6Q", whole[8:56])[:k]) for k in range(7)]
+    sections = [whole[start:end] for start, end in zip(ends, ends[1:])]
+    _, first_len, _, _, second_len, second, _, _, end = struct.unpack("<IIQIIQIIQ", sections[3])
+    places = [0, first_len, second, second + second_len, end]
+    return sections, [sections[5][start:end] for start, end in zip(places, places[1:])]
+
+
+def assembled(sections, lists):
+    """An index of these sections, in which the table of words is right for these lists."""
+    first_len, second, second_len, end = len(lists[0]), len(lists[0] + lists[1]), len(lists[2]), len(b"".join(lists))
+    table = struct.pack("<IIQIIQIIQ", 0, first_len, 0, 1, second_len, second, 2, 0, end)
+    parts = [*sections[:3], table, sections[4], b"".join(lists)]
+    return b"search 1" + struct.pack("<6Q", *map(len, parts)) + b"".join(parts)
+
+
+def forged(programs):
+    """Indexes whose lists are lists, and say what can't be: each with what is wrong."""
+    (bounds, names, lengths, table, words, _), lists = parts_of(programs, "F")
+    write(f"{programs.folder}/G", {"1": SCORED["1"]})
+    fewer = parts_of(programs, "G")[0]
+    sections, documents, counts = [bounds, names, lengths, table, words], lists[2], lists[3]
+    yield "counts of 'a' has another length", assembled(sections, [lists[0], counts, *lists[2:]])
+    yield "counts of 'a' is of another kind", assembled(sections, [lists[0], lists[0], *lists[2:]])
+    yield "documents of 'b' is of another kind", assembled(sections, [*lists[:2], counts, counts])
+    yield "is in no document, or in one that is not there", assembled(fewer, lists)
+    yield "is in no document, or in one that is not there ", assembled(sections, [*lists[:2], b"\xA0", counts])
+    yield "the list of names has another length", assembled([bounds, names, fewer[2], table, words], lists)
+    yield "the list of lengths is of another kind", assembled([bounds, names, documents, table, words], lists)
+    yield "the names do not end where their list says", assembled([bounds, names[:-1], lengths, table, words], lists)
+    yield "the words are not in order", assembled([bounds, names, lengths, table, b"ba"], lists)
+    yield "a word has a sign that is in no word", assembled([bounds, names, lengths, table, b"aB"], lists)
+    yield "a place in the table of words is wrong", assembled([bounds, names, lengths, table, b"abc"], lists)
+
+
+def forgeries(programs):
+    """Searches in forged indexes. One that is assembled and not forged is the index itself."""
+    sections, lists = parts_of(programs, "F")
+    with open(f"{programs.folder}/index.c", "rb") as file:
+        whole = file.read()
+    yield "an index that is assembled", None if assembled(sections, lists) == whole else "it is another than the programs write"
+    for what, text in forged(programs):
+        write(programs.folder, {"damaged": text})
+        for name in programs.paths:
+            status, printed, messages = programs.run(name, "find", "damaged", "a b")
+            right = (
+                (status, printed) == (2, "") and messages.startswith("search: damaged: the index is damaged") and what.strip() in messages
+            )
+            yield f"{what} in {name}", None if right else f"answered {status} {printed} {messages}"
+
+
 def damaged(number, whole):
     """A damaged file, and whether it has to be refused: it is cut, or bytes of the header, of the table of words, or anywhere are
     changed."""
@@ -305,7 +365,7 @@ def checks():
         programs = Programs(folder)
         yield from programs.faults
         if all(why is None for _, why in programs.faults):
-            for part in against_grep, by_hand, on_terminal, refusals, damages:
+            for part in against_grep, by_hand, on_terminal, refusals, forgeries, damages:
                 yield from part(programs)
 
 

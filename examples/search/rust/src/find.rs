@@ -64,11 +64,16 @@ struct Index<'a> {
 /// The sections of a file, whose lengths are in its header.
 fn sections(bytes: &[u8]) -> Result<[&[u8]; SECTIONS]> {
     let Some(after) = bytes.strip_prefix(MAGIC) else { return Err("this is no index: it does not begin with 'search 1'".into()) };
-    let Some((lengths, mut rest)) = after.split_at_checked(8 * SECTIONS) else { return damaged("the header is cut") };
+    if after.len() < 8 * SECTIONS {
+        return damaged("the header is cut");
+    }
+    let (lengths, mut rest) = after.split_at(8 * SECTIONS);
     let mut sections = [rest; SECTIONS];
-    for (section, len) in sections.iter_mut().zip(lengths.chunks_exact(8)) {
-        let Some((first, others)) = rest.split_at_checked(number(len)) else { return damaged("a section is cut") };
-        (*section, rest) = (first, others);
+    for (section, len) in sections.iter_mut().zip(lengths.chunks_exact(8).map(number)) {
+        if len > rest.len() {
+            return damaged("a section is cut");
+        }
+        (*section, rest) = rest.split_at(len);
     }
     if rest.is_empty() {
         Ok(sections)

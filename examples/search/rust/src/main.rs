@@ -74,10 +74,11 @@ impl Builder {
         let text = text.strip_prefix(b"\xEF\xBB\xBF").unwrap_or(text);
         let (mut begun, mut at) = (None, 0);
         for (number, line) in (1..).zip(text.split_inclusive(|&byte| byte == b'\n')) {
-            if !line.trim_ascii().is_empty() {
+            if !without_spaces(line).is_empty() {
                 begun = begun.or(Some((number, at)));
-            } else if let Some((number, start)) = begun.take_if(|_| paragraphs) {
+            } else if let (true, Some((number, start))) = (paragraphs, begun) {
                 self.add_document(path, number, &text[start..at])?;
+                begun = None;
             }
             at += line.len();
         }
@@ -154,12 +155,19 @@ fn small(number: usize) -> Result<u32> {
 
 /// The first line of a document, without spaces around it. If it is too long it is cut, but not within a character of UTF-8.
 fn first_line(text: &[u8]) -> &[u8] {
-    let line = text.split(|&byte| byte == b'\n').next().unwrap_or_default().trim_ascii();
+    let line = without_spaces(text.split(|&byte| byte == b'\n').next().unwrap_or_default());
     let mut len = line.len().min(LONGEST_LINE);
     while 0 < len && len < line.len() && line[len] & 0xC0 == 0x80 {
         len -= 1;
     }
     &line[..len]
+}
+
+/// A line without the spaces at its start and its end.
+fn without_spaces(line: &[u8]) -> &[u8] {
+    let start = line.iter().position(|byte| !byte.is_ascii_whitespace()).unwrap_or(line.len());
+    let end = line.iter().rposition(|byte| !byte.is_ascii_whitespace()).map_or(start, |last| last + 1);
+    &line[start..end]
 }
 
 /// A message about a file.
