@@ -19,7 +19,9 @@ ghost use Rattle.bitpacking_c.specs.Views.{IsListOf};
 use super::list_view::{ListView, bitpacking_list_len, kind};
 use bitpack_lists::ListKind;
 use bitpack_lists::list2::PackedList;
-use bitpack_lists::sorted::{DistinctValues, collect_to, intersect_in_place, subtract_in_place, unite_in_place};
+use bitpack_lists::sorted::{
+    DistinctValues, collect_to, intersect_in_place, subtract_in_place, unite_in_place,
+};
 use bitpacking::{BitPacker, BitPacker1x, BitPacker4x, BitPacker8x};
 
 /// Writes the values that all of the lists have to the front of `out`, each once and in increasing order, and answers their number.

@@ -1,10 +1,10 @@
 -- The values in front are those that the first list has and no other.
-use Rattle.std.proofs.Common.{◌≡◌, ◌<◌, ◌≤◌, false, get_or, length, take, pos, to_z, w64, sym, ◌∙◌, ap, arith, rules}
+use Rattle.std.proofs.Common.{◌≡◌, ◌<◌, ◌≤◌, false, get_or, length, take, pos, to_z, w64, sym, ◌∙◌, arith, rules}
 use Rattle.std.specs.List.{HoldsAt}
 use Rattle.std.proofs.lemmas.List.{get_or_default}
 use Rattle.bitpacking_c.specs.declared.list_view.ListView.{ListView}
 use Rattle.bitpacking_c.specs.Sets.{HasLength, all_distinct, any_plain, first_len, without_others}
-use Rattle.bitpacking_c.proofs.SetSteps.{all_left, count_of_lists, first_length, subtracts_none, writes}
+use Rattle.bitpacking_c.proofs.SetSteps.{all_left, first_length, subtracts_none, writes}
 use Rattle.bitpacking_c.proofs.list_sets.bitpacking_list_subtract.Goals as goal
 
 pub returns-then-is_empty : goal.returns-then-is_empty

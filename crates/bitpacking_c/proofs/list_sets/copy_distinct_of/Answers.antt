@@ -1,5 +1,5 @@
 -- The values of a strictly sorted list increase; those of a cursor do too.
-use Rattle.std.proofs.Common.{◌≡◌, ◌≤◌, List, ℕ, length, take, ◌∙◌, ap, arith, rules}
+use Rattle.std.proofs.Common.{◌≡◌, length, take, ◌∙◌, ap, arith, rules}
 use Rattle.bitpack_lists.specs.declared.list_kind.ListKind.TheVariants.{StrictlySorted}
 use Rattle.bitpack_lists.specs.Cursors.{position, values_of_cursor}
 use Rattle.bitpack_lists.specs.DistinctLaws.{increasing_rest}

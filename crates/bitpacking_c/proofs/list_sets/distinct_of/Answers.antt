@@ -14,7 +14,9 @@ new-requires g c =
 pub returns-clause-some : goal.returns-clause-some
 returns-clause-some g c =
     let list = c.from_validated_any.result in
-    let view = c.args.view.now in
-    (kind_of list, values list,
-    list_of_text view.lanes g.P.BitPacker.lanes view.bytes.now (kind_of list) (values list) c.requires.lanes g.met.P.BitPacker.some_lanes
-    c.from_validated_any.ensures.list)
+    let view = c.args.view.now in (
+      kind_of list,
+      values list,
+      list_of_text view.lanes g.P.BitPacker.lanes view.bytes.now (kind_of list) (values list) c.requires.lanes g.met.P.BitPacker.some_lanes
+          c.from_validated_any.ensures.list,
+    )
