@@ -23,9 +23,9 @@ EXAMPLES = {
 }
 
 
-def cargo(*arguments, **variables):
+def cargo(*arguments, package="rust", **variables):
     env = dict(os.environ, CARGO_TARGET_DIR=f"{archives.OUT}/target", RUSTFLAGS="-D warnings", **variables)
-    command = ["cargo", arguments[0], "--offline", "--locked", "--manifest-path", f"{ROOT}/rust/Cargo.toml", *arguments[1:]]
+    command = ["cargo", arguments[0], "--offline", "--locked", "--manifest-path", f"{ROOT}/{package}/Cargo.toml", *arguments[1:]]
     return run(*command, stderr=subprocess.PIPE, env=env)
 
 

@@ -1,0 +1,389 @@
+#!/usr/bin/env python3
+"""Builds the search engine of examples/search/ in Rust and in C, with warnings as errors, and tries both on the same files: their indexes
+have to be the same bytes, and their answers the same text. The answers on examples/search/corpus/ are compared with `grep`, others with
+numbers worked by hand. Last it searches in a thousand damaged indexes, in C with the address sanitizer where the compiler has it.
+It takes the archives that scripts/archives.py wrote, which is called where they are not there. The last line is 'N passed, M failed'.
+"""
+import os
+import random
+import re
+import struct
+import subprocess
+import sys
+import tempfile
+
+import archives
+import c
+import rust
+from common import ROOT, leave_out, report, run
+
+FOLDER = "examples/search"
+CORPUS = f"{ROOT}/{FOLDER}/corpus"
+SOURCES = [f"{ROOT}/{FOLDER}/{name}.c" for name in ("search", "index", "open")]
+# The status of a program that the sanitizer ends.
+STOPPED = 99
+ENVIRONMENT = dict(os.environ, ASAN_OPTIONS=f"detect_leaks=0:exitcode={STOPPED}", UBSAN_OPTIONS=f"exitcode={STOPPED}", LC_ALL="C")
+# Seconds for one search, which takes far below one.
+PATIENCE = 30
+DAMAGES = 1000
+
+# Queries, and what they mean by the sets of documents in which grep finds a word.
+QUERIES = {
+    "water": lambda has: has("water"),
+    "WARM water": lambda has: has("water") & has("warm"),
+    "water -warm": lambda has: has("water") - has("warm"),
+    "oven|clock": lambda has: has("oven") | has("clock"),
+    "warm (oven | hive) -bread": lambda has: (has("warm") & (has("oven") | has("hive"))) - has("bread"),
+    "warm oven | winter -bees": lambda has: (has("warm") & has("oven")) | (has("winter") - has("bees")),
+    "water -(warm | cold) -(sea moon)": lambda has: has("water") - (has("warm") | has("cold")) - (has("sea") & has("moon")),
+    "mo*": lambda has: has("mo[a-z0-9]*"),
+    "mo* -moon* night": lambda has: (has("mo[a-z0-9]*") & has("night")) - has("moon[a-z0-9]*"),
+    "t* water | 2*": lambda has: (has("t[a-z0-9]*") & has("water")) | has("2[a-z0-9]*"),
+    "caf": lambda has: has("caf"),
+    "((water))": lambda has: has("water"),
+    "water zebra": lambda has: set(),
+    "zebra | water -zeb*": lambda has: has("water"),
+    "zebra": lambda has: set(),
+}
+# A thousand paragraphs: each has its number, and one word more for each of these that divides the number.
+NUMBERS = {"even": 2, "fizz": 3, "buzz": 5}
+# How many of them answer a query, by hand: 1000/2 = 500, 333, 200, and 33 multiples of 30; 333 + 200 - 66; 500 - 166; 467 - 233. With 1
+# begin 1, 10 to 19, 100 to 199 and 1000, and with 10 begin 10, 100 to 109 and 1000.
+COUNTS = {
+    "number": 1000,
+    "n*": 1000,
+    "n1*": 112,
+    "n1* -n10*": 100,
+    "fizz buzz even": 33,
+    "fizz | buzz": 467,
+    "even -fizz": 334,
+    "(fizz | buzz) -even": 234,
+    "n7 even": 0,
+}
+# The most blocks that a query unpacks of each list, by hand: a list of 1000 values has 8, and an AND with one value reads 3 of them.
+EXPLAINED = """\
+documents    blocks  unpacked at most  word
+        1         1                 1  n30
+     1000         8                 3  number
+1 of 1000 documents
+"""
+# Files, and the names that their documents get, in the order of their bytes. None is there for a file that is left out.
+FILES = {
+    "b-x": (b"word at the end", "b-x:1  word at the end"),
+    "b/mark": (b"\xEF\xBB\xBF\r\n  First line \r\nword\r\n", "b/mark:2  First line"),
+    "binary": (b"word\0", None),
+    "empty": (b"", None),
+    "escape": (b"word \x1b[31m\x7f", "escape:1  word ?[31m?"),
+    "long": (b"word " + b"x" * 64 + b" " + b"y" * 65, "long:1  word " + "x" * 64 + " " + "y" * 30),
+    "signs": (b"--- !\n", None),
+    "utf8": (b"x" * 98 + b" \xC3\xA9 word", "utf8:1  " + "x" * 98 + " "),
+}
+# Two documents of two and three words, and their scores for `b` and `a`: with 2.5 words on average, those of the first are
+# ln(1 + 1.5/1.5) * 2.2 / (1 + 1.2 * (0.25 + 0.75 * 2/2.5)) = 0.693 * 1.089, and ln(1 + 0.5/2.5) * 1.089 = 0.182 * 1.089. The second
+# has `a` three times: 0.182 * 3 * 2.2 / (3 + 1.2 * (0.25 + 0.75 * 3/2.5)) = 0.182 * 1.507.
+SCORED = {"1": b"a b", "2": b"a, a; A!"}
+SCORES = {
+    "b": "1 of 2 documents\n  0.755  F/1:1  a b\n",
+    "a": "2 of 2 documents\n  0.275  F/2:1  a, a; A!\n  0.199  F/1:1  a b\n",
+    # The first document has b, which comes after a minus, and so does not count.
+    "a -(b c)": "2 of 2 documents\n  0.275  F/2:1  a, a; A!\n  0.199  F/1:1  a b\n",
+}
+# Queries that are refused, at which sign, and why.
+REFUSED = {
+    "a (b": (3, "this bracket is not closed"),
+    "a)": (2, "no bracket is open here"),
+    "": (1, "a word is missing here"),
+    "a |": (4, "a word is missing here"),
+    "a ()": (4, "a word is missing here"),
+    "a 'b'": (3, "a word is missing here"),
+    "*": (1, "a word is missing here"),
+    "a | -b": (7, "a word without a minus is missing before this"),
+    "a-b": (2, "this can't follow a word directly"),
+    "na\u00EFve": (3, "this can't follow a word directly"),
+    "caf\u00E9 (": (4, "this can't follow a word directly"),
+    "(" * 101 + "a": (101, "too many brackets are open"),
+}
+
+
+class Programs:
+    """The programs, by their names, and what they print."""
+
+    def __init__(self, folder):
+        self.folder, self.paths, self.faults = folder, {}, []
+        sanitizers = c.has_sanitizers()
+        if not sanitizers:
+            leave_out("damaged indexes under the address sanitizer", "which cc does not have here")
+        for name, flags in [("c", [])] + [("sanitized", c.SANITIZED)] * sanitizers:
+            self.paths[name] = f"{folder}/{name}"
+            command = [*c.C99, "-O1", *flags, *SOURCES, f"{archives.OUT}/{archives.ALL}", "-lm", "-o", self.paths[name]]
+            self.add("the program in C", run(*command))
+        self.add("the program in Rust", rust.cargo("build", "--release", package=f"{FOLDER}/rust"))
+        self.paths["rust"] = f"{archives.OUT}/target/release/search"
+
+    def add(self, name, built):
+        self.faults.append((name, None if built.returncode == 0 else f"{built.stdout[-2000:]} {(built.stderr or '')[-2000:]}"))
+
+    def run(self, name, *arguments):
+        """The status of a program, what it prints, and its messages."""
+        command, given = [self.paths[name], *arguments], {"stderr": subprocess.PIPE, "env": ENVIRONMENT, "timeout": PATIENCE}
+        done = run(*command, folder=self.folder, **given)
+        return done.returncode, done.stdout, done.stderr
+
+    def same(self, *arguments):
+        """What all of the programs answer, and what is wrong if they differ. In the messages the system's own differ."""
+        answers = {name: self.run(name, *arguments) for name in self.paths}
+        status, text, messages = answers["c"]
+        differ = [name for name, answer in answers.items() if answer[:2] != (status, text)]
+        return status, text, messages, f"{differ} answers otherwise than c: {answers}" if differ else None
+
+    def index(self, *arguments):
+        """Writes an index with each of the programs. Returns its name, and what is wrong if the bytes differ or a program says more."""
+        written = {}
+        for name in self.paths:
+            status, _, messages = self.run(name, "index", *arguments, f"index.{name}")
+            if status != 0 or messages:
+                return None, f"{name} ends with {status}, and says {messages}"
+            with open(f"{self.folder}/index.{name}", "rb") as file:
+                written[name] = file.read()
+        return "index.c", None if len(set(written.values())) == 1 else "the programs write other bytes"
+
+
+def write(folder, files):
+    for path, text in files.items():
+        os.makedirs(os.path.dirname(f"{folder}/{path}"), exist_ok=True)
+        with open(f"{folder}/{path}", "wb") as file:
+            file.write(text)
+
+
+def paragraphs_of_corpus():
+    """The paragraphs of the corpus, by their paths and lines."""
+    found = {}
+    for parent, _, names in os.walk(CORPUS):
+        for name in names:
+            path = os.path.relpath(f"{parent}/{name}", CORPUS)
+            with open(f"{CORPUS}/{path}", "rb") as file:
+                lines = file.read().split(b"\n")
+            begins = [k for k, line in enumerate(lines) if line.strip() and (k == 0 or not lines[k - 1].strip())]
+            for begin, end in zip(begins, begins[1:] + [len(lines)]):
+                found[f"{path}:{begin + 1}"] = b"\n".join(lines[begin:end])
+    return found
+
+
+def names(text):
+    return set(re.findall(r"^ *[\d.]+  [^/]+/(\S+:\d+)  ", text, re.M))
+
+
+def against_grep(programs):
+    """The answers on the corpus, in which a document is a file and then a paragraph."""
+    folder = programs.folder
+    os.symlink(CORPUS, f"{folder}/corpus")
+    write(f"{folder}/split", paragraphs_of_corpus())
+    for option, searched in ((), "corpus/"), (("--paragraphs",), "split"):
+        index, wrong = programs.index(*option, "corpus/")
+        yield f"an index of {searched}", wrong
+
+        def has(word, searched=searched):
+            found = run("grep", "-rliwE", word, searched, folder=folder, env=ENVIRONMENT).stdout.split()
+            paths = {path.partition("/")[2] for path in found}
+            return paths if searched == "split" else {f"{path}:1" for path in paths}
+
+        for query, meaning in QUERIES.items():
+            status, text, messages, wrong = programs.same("find", "--best", "1000", index, query)
+            wanted = meaning(has)
+            if names(text) != wanted or status != (0 if wanted else 1) or messages:
+                wrong = wrong or f"wanted {sorted(wanted)}, and got {status} {text} {messages}"
+            yield f"{query} in {searched}", wrong
+
+
+def by_hand(programs):
+    """Answers that were worked by hand."""
+    text = "\n\n".join(f"number n{k}" + "".join(f" {word}" for word, by in NUMBERS.items() if k % by == 0) for k in range(1, 1001))
+    write(f"{programs.folder}/numbers", {"numbers.txt": text.encode()})
+    index, wrong = programs.index("--paragraphs", "numbers")
+    yield "an index of numbers", wrong
+    for query, count in COUNTS.items():
+        status, text, _, wrong = programs.same("find", "--count", index, query)
+        right = (status, text) == (0 if count else 1, f"{count} of 1000 documents\n")
+        yield f"how many have {query}", wrong or (None if right else f"printed {text}")
+    _, text, _, wrong = programs.same("find", "--count", "--explain", index, "number n30")
+    yield "what is explained", wrong or (None if text == EXPLAINED else f"printed {text}")
+
+    write(f"{programs.folder}/F", SCORED)
+    index, wrong = programs.index("F//")
+    yield "an index of two files", wrong
+    for query, wanted in SCORES.items():
+        _, text, _, wrong = programs.same("find", index, query)
+        yield f"the scores for {query}", wrong or (None if text == wanted else f"printed {text}")
+
+    write(f"{programs.folder}/files", {path: text for path, (text, _) in FILES.items()})
+    index, wrong = programs.index("files")
+    yield "an index of files", wrong
+    _, text, _, wrong = programs.same("find", index, "word")
+    found = sorted(re.findall(r"^ *[\d.]+  files/(.*)$", text, re.M))
+    wanted = sorted(name for _, name in FILES.values() if name)
+    yield "the names of documents", wrong or (None if found == wanted else f"printed {text}")
+    yield "a word of 64 letters and one of 65", programs.same("find", "--count", index, "x* -y*")[3]
+
+
+def on_terminal(programs):
+    """What a terminal shows while an index is made: how many of the eight files were read."""
+    try:
+        ours, theirs = os.openpty()
+    except OSError as error:
+        leave_out("the line of progress", f"since there is no terminal: {error}")
+        return
+    for name, path in programs.paths.items():
+        run(path, "index", "files", "shown", folder=programs.folder, env=ENVIRONMENT, stderr=theirs)
+        shown = os.read(ours, 1000)
+        yield f"the line of progress in {name}", None if shown == b"\r8 of 8 files\r\n" else f"the terminal shows {shown}"
+    os.close(ours)
+    os.close(theirs)
+
+
+def refusals(programs):
+    """Calls that are refused: with a message, and with nothing printed or left over."""
+    index, _ = programs.index("files")
+    for query, (place, why) in REFUSED.items():
+        wanted = f"search: {index}: the query, at {place}: {why}\n    {query}\n    {' ' * (place - 1)}^\n"
+        for name in programs.paths:
+            answer = programs.run(name, "find", index, query)
+            yield f"the query {query[:20]} in {name}", None if answer == (2, "", wanted) else f"answered {answer}"
+    calls = {
+        "no command": ([], "index or find"),
+        "no FILE": (["index", "files"], "FOLDER and FILE are wanted"),
+        "an unknown option": (["find", "--all", index, "a"], "options, FILE and one QUERY"),
+        "no number": (["find", "--best", "x", index, "a"], "a number is wanted after --best"),
+        "no folder": (["index", "nowhere", "new"], "nowhere: No such file or directory"),
+        "no place for the index": (["index", "files", "nowhere/new"], "nowhere/new: No such file or directory"),
+        "a folder in the place of the index": (["index", "files", "split"], "split: Is a directory"),
+        "no index": (["find", "nowhere", "a"], "nowhere: No such file or directory"),
+        "text for an index": (["find", "files/b-x", "a"], "files/b-x: this is no index: it does not begin with 'search 1'"),
+    }
+    before = sorted(os.listdir(programs.folder))
+    for what, (arguments, message) in calls.items():
+        for name in programs.paths:
+            status, text, messages = programs.run(name, *arguments)
+            right = (status, text) == (2, "") and message in messages and sorted(os.listdir(programs.folder)) == before
+            yield f"{what} in {name}", None if right else f"answered {status} {text} {messages}"
+    for name in programs.paths:
+        status, text, messages = programs.run(name, "--help")
+        yield f"--help in {name}", None if status == 0 and text.startswith("A small search engine") else f"{status} {messages}"
+
+
+def parts_of(programs, folder):
+    """The sections of the index of a folder, and the four lists of its words a and b: documents and counts of each."""
+    index, _ = programs.index(folder)
+    with open(f"{programs.folder}/{index}", "rb") as file:
+        whole = file.read()
+    ends = [56 + sum(struct.unpack("<6Q", whole[8:56])[:k]) for k in range(7)]
+    sections = [whole[start:end] for start, end in zip(ends, ends[1:])]
+    _, first_len, _, _, second_len, second, _, _, end = struct.unpack("<IIQIIQIIQ", sections[3])
+    places = [0, first_len, second, second + second_len, end]
+    return sections, [sections[5][start:end] for start, end in zip(places, places[1:])]
+
+
+def assembled(sections, lists):
+    """An index of these sections, in which the table of words is right for these lists."""
+    first_len, second, second_len, end = len(lists[0]), len(lists[0] + lists[1]), len(lists[2]), len(b"".join(lists))
+    table = struct.pack("<IIQIIQIIQ", 0, first_len, 0, 1, second_len, second, 2, 0, end)
+    parts = [*sections[:3], table, sections[4], b"".join(lists)]
+    return b"search 1" + struct.pack("<6Q", *map(len, parts)) + b"".join(parts)
+
+
+def forged(programs):
+    """Indexes whose lists are lists, and say what can't be: each with what is wrong."""
+    (bounds, names, lengths, table, words, _), lists = parts_of(programs, "F")
+    write(f"{programs.folder}/G", {"1": SCORED["1"]})
+    fewer = parts_of(programs, "G")[0]
+    sections, documents, counts = [bounds, names, lengths, table, words], lists[2], lists[3]
+    yield "counts of 'a' has another length", assembled(sections, [lists[0], counts, *lists[2:]])
+    yield "counts of 'a' is of another kind", assembled(sections, [lists[0], lists[0], *lists[2:]])
+    yield "documents of 'b' is of another kind", assembled(sections, [*lists[:2], counts, counts])
+    yield "is in no document, or in one that is not there", assembled(fewer, lists)
+    yield "is in no document, or in one that is not there ", assembled(sections, [*lists[:2], b"\xA0", counts])
+    yield "the list of names has another length", assembled([bounds, names, fewer[2], table, words], lists)
+    yield "the list of lengths is of another kind", assembled([bounds, names, documents, table, words], lists)
+    yield "the names do not end where their list says", assembled([bounds, names[:-1], lengths, table, words], lists)
+    yield "the words are not in order", assembled([bounds, names, lengths, table, b"ba"], lists)
+    yield "a word has a sign that is in no word", assembled([bounds, names, lengths, table, b"aB"], lists)
+    yield "a place in the table of words is wrong", assembled([bounds, names, lengths, table, b"abc"], lists)
+
+
+def forgeries(programs):
+    """Searches in forged indexes. One that is assembled and not forged is the index itself."""
+    sections, lists = parts_of(programs, "F")
+    with open(f"{programs.folder}/index.c", "rb") as file:
+        whole = file.read()
+    yield "an index that is assembled", None if assembled(sections, lists) == whole else "it is another than the programs write"
+    for what, text in forged(programs):
+        write(programs.folder, {"damaged": text})
+        for name in programs.paths:
+            status, printed, messages = programs.run(name, "find", "damaged", "a b")
+            right = (
+                (status, printed) == (2, "") and messages.startswith("search: damaged: the index is damaged") and what.strip() in messages
+            )
+            yield f"{what} in {name}", None if right else f"answered {status} {printed} {messages}"
+
+
+def damaged(number, whole):
+    """A damaged file, and whether it has to be refused: it is cut, or bytes of the header, of the table of words, or anywhere are
+    changed."""
+    chance, header = random.Random(number), 8 + 8 * 6
+    if number % 4 == 0:
+        return whole[: chance.randrange(len(whole))], True
+    lengths = struct.unpack("<6Q", whole[8:header])
+    start, end = {1: (0, header), 2: (header + sum(lengths[:3]), header + sum(lengths[:4])), 3: (0, len(whole))}[number % 4]
+    changed = bytearray(whole)
+    for _ in range(chance.randrange(1, 5)):
+        changed[chance.randrange(start, end)] = chance.choice([0, 1, 127, 128, 255, chance.randrange(256)])
+    return bytes(changed), number % 4 == 1 and changed != whole
+
+
+def fault_of_damaged(programs, must_fail, query):
+    """What is wrong with the answers from a damaged file, or None. The programs answer alike, and where they refuse it they name it."""
+    status, text, messages, wrong = programs.same("find", "--best", "3", "damaged", query)
+    if wrong or status not in (0, 1, 2):
+        return wrong or f"answered {status} {text} {messages}"
+    if must_fail and status != 2:
+        return f"it is not refused: {text}"
+    return f"said {messages}" if status == 2 and not messages.startswith("search: damaged: ") else None
+
+
+def damages(programs):
+    """Searches in damaged indexes, by queries that read all lists of the index."""
+    refused = 0
+    every = " | ".join(f"{sign}*" for sign in "0123456789abcdefghijklmnopqrstuvwxyz")
+    for first, arguments in (0, ("corpus",)), (DAMAGES // 2, ("--paragraphs", "numbers")):
+        index, _ = programs.index(*arguments)
+        with open(f"{programs.folder}/{index}", "rb") as file:
+            whole = file.read()
+        for number in range(first, first + DAMAGES // 2):
+            text, must_fail = damaged(number, whole)
+            with open(f"{programs.folder}/damaged", "wb") as file:
+                file.write(text)
+            try:
+                wrong = fault_of_damaged(programs, must_fail, every)
+            except subprocess.TimeoutExpired:
+                wrong = "it does not end"
+            if wrong:
+                yield f"the damaged index {number}", wrong
+            refused += must_fail
+    yield f"{DAMAGES} damaged indexes", None if refused > DAMAGES // 4 else "too few of them had to be refused"
+
+
+def checks():
+    with tempfile.TemporaryDirectory(prefix="search-") as folder:
+        programs = Programs(folder)
+        yield from programs.faults
+        if all(why is None for _, why in programs.faults):
+            for part in against_grep, by_hand, on_terminal, refusals, forgeries, damages:
+                yield from part(programs)
+
+
+def main():
+    status = archives.status_without("the search engine", "cc", "cargo")
+    return report(checks()) if status is None else status
+
+
+if __name__ == "__main__":
+    sys.exit(main())
