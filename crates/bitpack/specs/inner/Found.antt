@@ -24,12 +24,12 @@ Parses view Spelled (Err Memory) = Unit {0}
 abbrev pub SpellsItem : List ℕ → Item → Type 0
 SpellsItem string item = (string ≡ item_string item) × IsItem item
 
--- the string begins with a digit, and with `0` only where that is all
+-- the string begins with a digit, and with `0` only if that is all
 pub record BeginsNumber (string : List ℕ) : Type 0 where
   pub digit : IsInRange 48 57 (slice_index string 0)
   pub zero : slice_index string 0 ≡ 48 → length string ≡ 1
 
--- the new values are the old and those of the item that the string spells, and not too many
+-- the new values are the old ones and then the item that the string spells, and not too many
 pub record AddsItem (string old new : List ℕ) : Type 0 where
   pub item : Item
   pub spelled : SpellsItem string item
