@@ -9,7 +9,7 @@ use Rattle.bitpack_lists.specs.Version2.{least_below}
 abbrev pub first_reaching : (ℕ → ℕ) → ℕ → ℕ → Option (ℕ × ℕ)
 first_reaching value count target = option_map (λ position. (position, value position)) (least_below (λ position. nat_le target (value position)) count)
 
--- the same of the values of a list
+-- as above, of the values of a list
 abbrev pub first_at_least : List ℕ → ℕ → Option (ℕ × ℕ)
 first_at_least values target = first_reaching (slice_index values) (length values) target
 

@@ -36,7 +36,7 @@ unfoldable pub values_fault : ListKind → List ℕ → Option ListError
 values_fault kind values =
     if nat_lt (2 ^ 28) (length values) then Some (TooLong (length values)) else option_map NotSorted (first_out kind values)
 
--- ---- where what is in the rest of a text
+-- ---- the parts of the rest of a text, and their places
 
 -- the entry of a block: its width, the sum of the widths before it, and its last value
 abbrev pub width_at : List ℕ → ℕ → ℕ

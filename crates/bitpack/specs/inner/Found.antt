@@ -15,7 +15,7 @@ abbrev pub Finds : {Y : Type 0} → (Y → Type 0) → Option Y → Type 0
 Finds Spelled (Some found) = Spelled found
 Finds Spelled None = (found : _) → ¬ Spelled found
 
--- the same for a step that can run out of memory
+-- as above, for a step that can run out of memory
 abbrev pub Parses : {X Y : Type 0} → (X → Y) → (Y → Type 0) → Result X ParseError → Type 0
 Parses view Spelled (Ok found) = Spelled (view found)
 Parses view Spelled (Err Spelling) = (found : _) → ¬ Spelled found
