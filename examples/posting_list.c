@@ -16,7 +16,7 @@ struct posting_list {
     uint32_t tail[BLOCK];
 };
 
-/* Packs increasing document numbers. Returns 0, or -1 where there is no memory. */
+/* Packs increasing document numbers. Returns 0, or -1 if there is no memory. */
 static int pack(const uint32_t *documents, size_t count, struct posting_list *list)
 {
     size_t blocks = count / BLOCK, packed = blocks * BLOCK;
@@ -37,7 +37,7 @@ static int pack(const uint32_t *documents, size_t count, struct posting_list *li
     return 0;
 }
 
-/* Unpacks them into room for list->count numbers. Returns 0, or a negative error where the widths or bytes are damaged. */
+/* Unpacks them into room for list->count numbers. Returns 0, or a negative error if the widths or bytes are damaged. */
 static ptrdiff_t unpack(const struct posting_list *list, uint32_t *documents)
 {
     size_t blocks = list->count / BLOCK, packed = blocks * BLOCK;

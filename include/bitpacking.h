@@ -76,7 +76,7 @@ uint32_t bitpacking_version(void);
 uint32_t bitpacking_no_initial(void);
 
 /* The calls on blocks and chains: of each, one function for each packer and kind. The kinds sorted and strictly_sorted have the
- * initial value as their first argument. Bytes after those written, and values after those of a block, stay as they were. */
+ * initial value as their first argument. Bytes after the ones written, and values after the block, stay as they were. */
 
 /* pack: packs a block at its least width, which goes into *num_bits. Returns the number of bytes written. Prefer it to num_bits and
  * then compress: it is as fast as num_bits and then a compress that tests nothing.
@@ -182,7 +182,7 @@ ptrdiff_t bitpacking_8x_pack_all_strictly_sorted(uint32_t initial, const uint32_
 /* unpack_all: unpacks a chain with the kind, the initial value and the widths that it was packed with. Any bytes are accepted;
  * later ones are not read. Returns the number of bytes read.
  * BAD_WIDTH: one of the widths. SHORT: bytes_len is below the bytes of the blocks. BAD_LENGTH: values_len is below the values of the
- * blocks; it is tested last. If both other errors apply, either may be returned. Values after those of the blocks stay as they
+ * blocks; it is tested last. If both other errors apply, either may be returned. Values after the blocks stay as they
  * were. */
 ptrdiff_t bitpacking_1x_unpack_all(const uint8_t *widths, size_t widths_len,
                                    const uint8_t *bytes, size_t bytes_len, uint32_t *values, size_t values_len);
@@ -249,7 +249,7 @@ ptrdiff_t bitpacking_8x_list_open(const uint8_t *bytes, size_t bytes_len, bitpac
 #define BITPACKING_LIST_BAD_WIDTH (-26)   /* a width is above BITPACKING_MAX_WIDTH */
 #define BITPACKING_LIST_LOOSE_WIDTH (-27) /* a width is not the least of its block */
 #define BITPACKING_LIST_BAD_OFFSET (-28)  /* an offset is not the sum of the widths before it */
-#define BITPACKING_LIST_BAD_LAST (-29)    /* a last value is not that of its block */
+#define BITPACKING_LIST_BAD_LAST (-29)    /* a last value is not its block's */
 #define BITPACKING_LIST_NOT_SORTED (-30)  /* the values are not in the order of the kind */
 #define BITPACKING_LIST_TRAILING (-31)    /* bytes are left over */
 #define BITPACKING_LIST_BAD_NUMBER (-33)  /* of version 3: a number is not as it has to be */
@@ -266,7 +266,7 @@ uint8_t bitpacking_list_kind(const bitpacking_list *view);
 int32_t bitpacking_list_get(const bitpacking_list *view, size_t position, uint32_t *item);
 
 /* Unpacks the whole list into values, and returns the number of values. If there is no room for them it returns BITPACKING_SHORT and
- * writes nothing. Values after those of the list stay as they were. Each block is unpacked once. */
+ * writes nothing. Values after the list stay as they were. Each block is unpacked once. */
 ptrdiff_t bitpacking_list_unpack(const bitpacking_list *view, uint32_t *values, size_t values_len);
 
 /* Unpacks the values from position `from` on, as many as there are and as fit, and returns how many these are: 0 from the length on. Values
@@ -327,7 +327,7 @@ void bitpacking_cursor_skip_block(bitpacking_cursor *cursor);
 
 /* list_pack: writes a packed list of the values at the start of bytes, and returns its number of bytes. Bytes after those stay as they
  * were. version is 2 or 3. kind is 0 for plain, 1 for sorted and 2 for strictly sorted: the values of a sorted list do not decrease,
- * and those of a strictly sorted one increase.
+ * and the values of a strictly sorted one increase.
  * The first of: LIST_BAD_VERSION; LIST_BAD_KIND; LIST_TOO_LONG; LIST_NOT_SORTED, and then *position is the position of the first value
  * out of order; SHORT: bytes_len is below the number of bytes of the list. Nothing else is written then, and *position only if the
  * answer is LIST_NOT_SORTED. */
@@ -338,7 +338,7 @@ ptrdiff_t bitpacking_4x_list_pack(uint8_t version, uint8_t kind, const uint32_t 
 ptrdiff_t bitpacking_8x_list_pack(uint8_t version, uint8_t kind, const uint32_t *values, size_t values_len,
                                   uint8_t *bytes, size_t bytes_len, size_t *position);
 
-/* list_size: returns the number of bytes that list_pack writes for the values, and writes none. The errors are those of list_pack, without
+/* list_size: returns the number of bytes that list_pack writes for the values, and writes none. It has the errors of list_pack, without
  * SHORT. */
 ptrdiff_t bitpacking_1x_list_size(uint8_t version, uint8_t kind, const uint32_t *values, size_t values_len, size_t *position);
 ptrdiff_t bitpacking_4x_list_size(uint8_t version, uint8_t kind, const uint32_t *values, size_t values_len, size_t *position);

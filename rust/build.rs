@@ -6,7 +6,7 @@
 use std::env;
 use std::path::PathBuf;
 
-/// The folder of a target's archives, below that of all archives, and their names. `src/calls.rs` has the functions of each.
+/// The folder of a target's archives, below the folder of all archives, and their names. `src/calls.rs` has the functions of each.
 fn archives() -> Option<(&'static str, &'static [&'static str])> {
     let target = |name: &str| env::var(format!("CARGO_CFG_TARGET_{name}")).unwrap_or_default();
     match (target("ARCH").as_str(), target("OS").as_str(), target("ENDIAN").as_str()) {

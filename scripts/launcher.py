@@ -19,6 +19,9 @@ cat > /dev/null
 echo "$PWD $*" >> "$RT_CALLS"
 [ -x out/bitpack_main ] && exit
 echo "output of a check"
+echo "rt: chose --jobs 2 for low"
+echo "so far: 0 of 7 functions checked; the verdict comes last"
+echo "so far: 5 of 7 functions checked"
 echo "crate low: modules loaded=1 checked=1"
 echo "logic=proved functions=7 sum=1"
 echo "crate low: modules loaded=1 checked=1"
@@ -124,13 +127,18 @@ def builds(copy):
 
 
 def terminal(copy):
-    """What it says where its input is a terminal."""
+    """What it says if its input is a terminal, and if its standard error is one."""
     main, other = pty.openpty()
     os.write(main, b"\x04")
     status, out, error = copy.run(stdin=other)
+    yield "on a terminal it says that it reads lines", (status, out, error.count("\n")) == (0, "program:\n", 1) and "docs/LINES.md" in error
+    os.remove(f"{copy.top}/crates/bitpack_main/out/bitpack_main")
+    subprocess.run([f"{copy.top}/bitpack"], env=copy.environment(RT_FAILS="1"), stdin=subprocess.DEVNULL, stderr=other, check=False)
+    said = os.read(main, 1 << 16).decode()
     os.close(main)
     os.close(other)
-    yield "on a terminal it says that it reads lines", (status, out, error.count("\n")) == (0, "program:\n", 1) and "docs/LINES.md" in error
+    yield "on a terminal it shows how many functions are proved", "\r\033[Kbitpack: proving low, 5 of 7 functions\r\033[K" in said
+    yield "and the lines after that are whole", f"\r\033[K{LOW.strip()}\r\n" in said and "\r\033[Kbitpack: the build failed" in said
 
 
 def checks():

@@ -336,7 +336,7 @@ pub(crate) fn added_by_v3() -> [(&'static str, bool); 8] {
     detected!("avx" "avx2" "bmi1" "bmi2" "f16c" "fma" "lzcnt" "movbe")
 }
 
-/// The levels of a processor: each one that has all its features and those of the levels below.
+/// The levels of a processor: each one that has all its features and the features of the levels below.
 #[cfg(target_arch = "x86_64")]
 pub(crate) fn levels_with(v2: [(&str, bool); 6], v3: [(&str, bool); 8]) -> &'static [Level] {
     let v2 = v2.iter().all(|(_, has)| *has);

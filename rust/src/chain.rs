@@ -99,7 +99,7 @@ pub fn pack_all<P: Packer>(_packer: P, kind: Kind, values: &[u32], widths: &mut 
 
 /// Unpacks blocks that were packed with the same packer, kind and widths. Returns the number of bytes read.
 ///
-/// Any bytes are taken, and later ones are not read. Values after those of the blocks stay as they were.
+/// Any bytes are taken, and later ones are not read. Values after the blocks stay as they were.
 ///
 /// # Errors
 ///

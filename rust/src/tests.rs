@@ -113,7 +113,7 @@ fn block(line: &str) -> Block {
     }
 }
 
-/// Each call gives what 0.9.3 gave, and writes nothing else: neither beside the bytes that it is handed nor after those of the block.
+/// Each call gives what 0.9.3 gave, and writes nothing else: neither beside the bytes that it is handed nor after the block.
 fn agrees<P: Pack>(packer: &P, block: &Block) {
     let (kind, len, size) = (block.kind, P::BLOCK_LEN, block.bytes.len());
     assert_eq!(P::compressed_block_size(block.width), size);
@@ -183,7 +183,7 @@ fn panic_of<R>(call: impl FnOnce() -> R) -> String {
     payload.downcast_ref::<String>().cloned().unwrap_or_else(|| payload.downcast_ref::<&str>().unwrap().to_string())
 }
 
-/// Calls with one fault each, or with several where the first counts. None of them writes.
+/// Calls with one fault each, or with several: then the first counts. None of them writes.
 fn panics<P: Pack>(packer: &P, kind: Kind) {
     let len = P::BLOCK_LEN;
     // 3 more than the value before it: a width of 2 in each kind, but for the plain one.

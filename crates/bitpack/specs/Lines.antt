@@ -81,7 +81,7 @@ AnswersFirst left rest old new = (input : List ℕ) × Consumes left rest input 
 abbrev pub AppendsBut : Option (List ℕ) → Option (List ℕ) → List ℕ → List ℕ → Type 0
 AppendsBut old new all held = (some : List ℕ) × (all ≡ some ++ held) × Appends old new some
 
--- a failed write leaves a beginning of `all`; where memory ran out, the known bytes grow by `whole`; and no read failed
+-- a failed write leaves a beginning of `all`; if memory ran out, the known bytes grow by `whole`; and no read failed
 abbrev pub StopsAfter : RunError → Option (List ℕ) → Option (List ℕ) → List ℕ → List ℕ → Type 0
 StopsAfter Write old new whole all = AppendsBeginning old new all
 StopsAfter Memory old new whole all = Appends old new whole
@@ -91,7 +91,7 @@ StopsAfter Read old new whole all = ⊥
 abbrev pub AppendsAnswer : Option (List ℕ) → Option (List ℕ) → List ℕ → List ℕ → List ℕ → Type 0
 AppendsAnswer old new before after line = (answer : List ℕ) × IsAnswer line answer × AppendsBut old new (before ++ (answer ++ 10 ∷ [])) after
 
--- the same, stopped by a fault: where memory ran out, no part of the answer is put
+-- as above, stopped by a fault: if memory ran out, no part of the answer is put
 abbrev pub StopsAtAnswer : RunError → Option (List ℕ) → Option (List ℕ) → List ℕ → List ℕ → Type 0
 StopsAtAnswer fault old new before line = (answer : List ℕ) × IsAnswer line answer × StopsAfter fault old new before (before ++ (answer ++ 10 ∷ []))
 

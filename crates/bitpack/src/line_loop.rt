@@ -103,7 +103,7 @@ pub fn run<R: Read, W: Write>(alloc: Global, reader: &mut R, writer: &mut W) -> 
     // The reader gave an input to its end, and all its lines were answered.
     ensures ok { OnOk result
         (AnswersAll (R.remaining reader.old) (R.remaining reader.new) (W.contents writer.old) (W.contents writer.new)) }
-    // The same for a reader whose bytes are known.
+    // For a reader whose bytes are known.
     ensures whole { OnOk result (IfSome (R.remaining reader.old)
         (λ input. AppendsAnswers (W.contents writer.old) (W.contents writer.new) (lines input))) }
     // The lines that ended in what was read were answered, and nothing else was written.
@@ -112,7 +112,7 @@ pub fn run<R: Read, W: Write>(alloc: Global, reader: &mut R, writer: &mut W) -> 
     // What was written is a beginning of the answers to what was read.
     ensures stopped { IfErr result (λ e. e ≢ RunError.Read → AnswersInPart (R.remaining reader.old)
         (R.remaining reader.new) (W.contents writer.old) (W.contents writer.new)) }
-    // Where memory ran out it is whole answers.
+    // If memory ran out, it is whole answers.
     ensures memory { IsErrOf result RunError.Memory → AnswersFirst (R.remaining reader.old) (R.remaining reader.new)
         (W.contents writer.old) (W.contents writer.new) }
 {

@@ -60,7 +60,7 @@ impl Output {
         }
     }
 
-    /// Puts bytes after those that are held. All are written first where there is no room.
+    /// Puts bytes after the ones that are held. If there is no room, all held bytes are written first.
     pub(crate) fn put<W: Write>(&mut self, writer: &mut W, bytes: &[u8]) -> Result<(), RunError>
         ensures ok { OnOk result
             (AppendsBut (W.contents writer.old) (W.contents writer.new) (self.old ++ bytes.now) self.new) }

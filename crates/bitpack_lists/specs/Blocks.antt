@@ -26,6 +26,6 @@ module _ (lanes : ℕ) (values : List ℕ) where
     pub before : AreBelow target found
     pub enough : found < whole_blocks lanes (length values) → target ≤ slice_index values (32 * lanes * found + (32 * lanes - 1))
 
--- how many blocks so many values from a position on are in
+-- how many blocks hold the `count` values from a position on
 abbrev pub blocks_over : ℕ → ℕ → ℕ → ℕ
 blocks_over lanes from count = (from + count - 1) / (32 * lanes) + 1 - from / (32 * lanes)

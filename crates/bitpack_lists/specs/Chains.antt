@@ -30,7 +30,7 @@ LeastWidths lanes kind values (width ∷ widths) =
     IsWidth kind (take (32 * lanes) values) width
     × LeastWidths lanes (second_kind lanes kind values) (drop (32 * lanes) values) widths
 
--- the chain of so many blocks of the values has so many bytes
+-- the chain of the first `blocks` blocks of the values has `size` bytes
 abbrev pub IsChainSize : ℕ → Kind → List ℕ → ℕ → ℕ → Type 0
 IsChainSize lanes kind values blocks size =
     (widths : List ℕ) × (length widths ≡ blocks) × LeastWidths lanes kind values widths × (size ≡ 4 * lanes * sum widths)
@@ -40,7 +40,7 @@ pub record Chained (lanes : ℕ) (kind : Kind) (values widths bytes : List ℕ) 
   pub loose : Loose lanes kind values widths bytes
   pub least : LeastWidths lanes kind values widths
 
--- the values are so many blocks of this length, and so many bytes are room for their chain
+-- the values are `count` blocks of this length, and `bytes` bytes are room for their chain
 pub record CanPackChain (lanes len : ℕ) (kind : Kind) (values : List ℕ) (count bytes : ℕ) : Type 0 where
   pub blocks : length values ≡ len * count
   pub room : (size : ℕ) × IsChainSize lanes kind values count size × (size ≤ bytes)

@@ -8,7 +8,7 @@ use Rattle.bitpacking.specs.Layout.{codes_of, Layout}
 use Rattle.bitpack_lists.specs.declared.list_error.ListError.{ListError}
 use Rattle.bitpack_lists.specs.declared.list_error.ListError.TheVariants.{Short, BadWidth, LooseWidth, Padding}
 
--- how many bytes hold so many codes of a width
+-- how many bytes hold `count` codes of a width
 abbrev pub group_size : ℕ → ℕ → ℕ
 group_size count width = (count * width + 7) / 8
 
@@ -41,7 +41,7 @@ are_loose width codes = nat_lt 0 width && list_all (λ code. nat_lt code (2 ^ (w
 abbrev pub are_zeros : List ℕ → Bool
 are_zeros codes = list_all (λ code. code == 0) codes
 
--- the first fault of the group of so many codes at the front of the bytes, which is block number `block`
+-- the first fault of the group of `count` codes at the front of the bytes, which is block number `block`
 unfoldable pub group_fault : ℕ → ℕ → List ℕ → Option ListError
 group_fault block count [] = Some Short
 group_fault block count (width ∷ bytes) =
@@ -60,17 +60,17 @@ group_codes count bytes = take count (all_codes count (slice_index bytes 0) (dro
 
 -- ---- the groups of a tail
 
--- how many groups hold so many codes
+-- how many groups hold `count` codes
 abbrev pub groups_of : ℕ → ℕ
 groups_of count = (count + 31) / 32
 
--- the codes in so many groups: 32 in each, and the others in the last
+-- the codes in a number of groups: 32 in each, and the others in the last
 abbrev pub AreGroups : ℕ → List ℕ → List ℕ → Type 0
 AreGroups zero codes bytes = (codes ≡ []) × (bytes ≡ [])
 AreGroups (suc groups) codes bytes =
     (part : List ℕ) × (rest : List ℕ) × (bytes ≡ part ++ rest) × IsGroup (take 32 codes) part × AreGroups groups (drop 32 codes) rest
 
--- the first fault of so many groups of so many codes at the front of the bytes, of which the first is block number `block`
+-- the first fault of some groups with `count` codes at the front of the bytes; the first group is block number `block`
 unfoldable pub groups_fault : ℕ → ℕ → ℕ → List ℕ → Option ListError
 groups_fault zero block count bytes = None
 groups_fault (suc groups) block count bytes =

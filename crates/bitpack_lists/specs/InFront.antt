@@ -2,7 +2,7 @@
 use Rattle.std.specs.Prelude.{◌≡◌, ℕ, ◌≤◌, List, length, take}
 use Rattle.std.specs.List.Sorted.{IsStrictlyIncreasing}
 
--- so many values of a slice are these, which increase
+-- the first `count` values of a slice are these, which increase
 pub record AreInFront (count : ℕ) (values slice : List ℕ) : Type 0 where
   pub few : count ≤ length slice
   pub are : take count slice ≡ values

@@ -43,7 +43,7 @@ abbrev pub insert : ℕ → List ℕ → List ℕ
 insert x [] = x ∷ []
 insert x (y ∷ ys) = if nat_lt x y then x ∷ y ∷ ys else if x == y then y ∷ ys else y ∷ insert x ys
 
--- those of either list
+-- the values of both lists together
 unfoldable pub united : List ℕ → List ℕ → List ℕ
 united [] ys = ys
 united (x ∷ xs) ys = insert x (united xs ys)

@@ -22,7 +22,7 @@ ChainsReadBack = (lanes : ℕ) (kind : Kind) (values others widths bytes : List 
     → AreWords values → AreWords others
     → Chained lanes kind values widths bytes → Loose lanes kind others widths bytes → others ≡ values
 
--- a width is loose exactly where the codes of the bytes fit a smaller one
+-- a width is loose exactly if the codes of the bytes fit a smaller one
 abbrev pub LooseFitsSmaller : Type 0
 LooseFitsSmaller = (lanes width : ℕ) (codes bytes : List ℕ) → Layout lanes width codes bytes
     → IsTrue (is_loose lanes width bytes) ↔ ((smaller : ℕ) × (smaller < width) × Fits codes smaller)
@@ -32,12 +32,12 @@ abbrev pub OneText1 : Type 0
 OneText1 = (lanes : ℕ) (kind : ListKind) (values text other : List ℕ) → 0 < lanes → AreBytes text → AreBytes other
     → List1 lanes kind values text → List1 lanes kind values other → other ≡ text
 
--- a text of version 1 is that of one kind and one list
+-- a text of version 1 belongs to one kind and one list
 abbrev pub OneList1 : Type 0
 OneList1 = (lanes : ℕ) (kind kind' : ListKind) (values others text : List ℕ) → 0 < lanes
     → List1 lanes kind values text → List1 lanes kind' others text → (kind' ≡ kind) × (others ≡ values)
 
--- bytes have no fault exactly where they are the text of some list
+-- bytes have no fault exactly if they are the text of some list
 abbrev pub NoFault1 : Type 0
 NoFault1 = (lanes : ℕ) (bytes : List ℕ) → 0 < lanes → AreBytes bytes
     → (fault1 lanes bytes ≡ None) ↔ ((kind : ListKind) × (values : List ℕ) × List1 lanes kind values bytes)
@@ -47,12 +47,12 @@ abbrev pub OneText2 : Type 0
 OneText2 = (lanes : ℕ) (kind : ListKind) (values text other : List ℕ) → 0 < lanes → AreBytes text → AreBytes other
     → List2 lanes kind values text → List2 lanes kind values other → other ≡ text
 
--- a text of version 2 is that of one kind and one list
+-- a text of version 2 belongs to one kind and one list
 abbrev pub OneList2 : Type 0
 OneList2 = (lanes : ℕ) (kind kind' : ListKind) (values others text : List ℕ) → 0 < lanes → AreBytes text
     → List2 lanes kind values text → List2 lanes kind' others text → (kind' ≡ kind) × (others ≡ values)
 
--- bytes have no fault exactly where they are the text of some list
+-- bytes have no fault exactly if they are the text of some list
 abbrev pub NoFault2 : Type 0
 NoFault2 = (lanes : ℕ) (bytes : List ℕ) → 0 < lanes → AreBytes bytes
     → (fault2 lanes bytes ≡ None) ↔ ((kind : ListKind) × (values : List ℕ) × List2 lanes kind values bytes)
@@ -64,17 +64,17 @@ SameBodies = (lanes : ℕ) (kind : ListKind) (values text other : List ℕ) → 
     → drop 7 text ≡ parts_before lanes (whole_blocks lanes (length values)) (drop 7 other) (whole_blocks lanes (length values))
     ++ drop (tail_start lanes (whole_blocks lanes (length values)) (drop 7 other)) (drop 7 other)
 
--- what a search finds: a value that reaches the target, after values that are all below it; or, where it finds none, all are below
+-- what a search finds: a value that reaches the target, after values that are all below it; or, if it finds none, all are below
 abbrev pub FirstIsFound : Type 0
 FirstIsFound = (values : List ℕ) (target : ℕ) → MatchOption (first_at_least values target)
     (All (λ value. value < target) values)
     (λ found. (slice_get values found.0 ≡ Some found.1) × (target ≤ found.1) × All (λ value. value < target) (take found.0 values))
 
--- no position of a sorted list is out of order exactly where its values do not fall
+-- no position of a sorted list is out of order exactly if its values do not fall
 abbrev pub SortedIsOrder : Type 0
 SortedIsOrder = (values : List ℕ) → (first_out lists.Sorted values ≡ None) ↔ IsNonDecreasing values
 
--- and none of a strictly sorted list exactly where they increase
+-- and none of a strictly sorted list exactly if they increase
 abbrev pub StrictIsOrder : Type 0
 StrictIsOrder = (values : List ℕ) → (first_out lists.StrictlySorted values ≡ None) ↔ IsStrictlyIncreasing values
 

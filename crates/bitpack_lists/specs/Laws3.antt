@@ -18,7 +18,7 @@ abbrev pub OneText3 : Type 0
 OneText3 = (lanes : ℕ) (kind : ListKind) (values text other : List ℕ) → 0 < lanes → AreBytes text → AreBytes other
     → List3 lanes kind values text → List3 lanes kind values other → other ≡ text
 
--- a text of version 3 is that of one kind and one list
+-- a text of version 3 belongs to one kind and one list
 abbrev pub OneList3 : Type 0
 OneList3 = (lanes : ℕ) (kind kind' : ListKind) (values others text : List ℕ) → 0 < lanes → AreBytes text
     → List3 lanes kind values text → List3 lanes kind' others text → (kind' ≡ kind) × (others ≡ values)
@@ -45,18 +45,18 @@ OneVersion = (lanes other : ℕ) (bytes : List ℕ)
 
 -- ---- numbers and groups
 
--- bytes without a fault begin with the bytes of the number that is read from them, and with those of no other number
+-- bytes without a fault begin with the bytes of the number that is read from them, and of no other number
 abbrev pub OneNumber : Type 0
 OneNumber = (bytes : List ℕ) → AreBytes bytes → number_fault bytes ≡ None
     → (number_value bytes < 2 ^ 32) × (take (number_end bytes) bytes ≡ number (number_value bytes))
     × ((other : ℕ) (rest : List ℕ) → other < 2 ^ 32 → bytes ≡ number other ++ rest → other ≡ number_value bytes)
 
--- bytes that begin with those of a number have no fault, and the number is read from them
+-- bytes that begin with the bytes of a number have no fault, and the number is read from them
 abbrev pub NumberReadsBack : Type 0
 NumberReadsBack = (x : ℕ) (rest : List ℕ) → x < 2 ^ 32
     → (number_fault (number x ++ rest) ≡ None) × (number_value (number x ++ rest) ≡ x) × (number_end (number x ++ rest) ≡ length (number x))
 
--- bytes without a fault begin with the group of the codes that are read from them, and with that of no other so many codes
+-- bytes without a fault begin with the group of the codes that are read from them, and of no other list of `count` codes
 abbrev pub OneGroup : Type 0
 OneGroup = (block count : ℕ) (bytes : List ℕ) → 1 ≤ count → count ≤ 32 → AreBytes bytes → group_fault block count bytes ≡ None
     → (length (group_codes count bytes) ≡ count) × AreWords (group_codes count bytes) × IsGroup (group_codes count bytes) (take (group_end count bytes) bytes)

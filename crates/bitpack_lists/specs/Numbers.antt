@@ -4,7 +4,7 @@ use Rattle.bitpacking.specs.Words.{joined}
 use Rattle.bitpack_lists.specs.declared.list_error.ListError.{ListError}
 use Rattle.bitpack_lists.specs.declared.list_error.ListError.TheVariants.{Short, BadNumber}
 
--- the bytes of a number, at most so many
+-- the bytes of a number, at most the given number of them
 unfoldable pub number_in : ℕ → ℕ → List ℕ
 number_in zero x = []
 number_in (suc more) x = if nat_lt x 128 then x ∷ [] else (x % 128 + 128) ∷ number_in more (x / 128)
@@ -13,7 +13,7 @@ number_in (suc more) x = if nat_lt x 128 then x ∷ [] else (x % 128 + 128) ∷ 
 abbrev pub number : ℕ → List ℕ
 number x = number_in 5 x
 
--- how many of the first so many bytes say that another follows, before one that does not
+-- how many of the first `most` bytes say that another follows, before one that does not
 unfoldable pub going_on : ℕ → List ℕ → ℕ
 going_on zero bytes = 0
 going_on (suc most) [] = 0

@@ -8,7 +8,7 @@ use Rattle.bitpack_lists.specs.Parts.{kind_byte, kind_of_byte}
 use Rattle.bitpack_lists.specs.Texts.{fault_of_either, stated_kind, version_in}
 use Rattle.bitpack_lists.specs.Version2.{fault2}
 
--- the fault of a list of one kind where another is wanted
+-- the fault of a list of one kind if another is wanted
 abbrev pub kind_fault : ListKind → ListKind → Option ListError
 kind_fault found wanted = if kind_byte found == kind_byte wanted then None else Some (WrongKind found wanted)
 

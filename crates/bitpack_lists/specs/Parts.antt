@@ -64,14 +64,14 @@ header_fault version lanes bytes =
     else if nat_lt (2 ^ 28) (count_of bytes) then Some (TooLong (count_of bytes))
     else None
 
--- the bytes begin with the header of so many values of a kind
+-- the bytes begin with the header of `count` values of a kind
 pub record BeginsWithHeader (version lanes : ℕ) (kind : ListKind) (count : ℕ) (bytes : List ℕ) : Type 0 where
   pub few : count ≤ 2 ^ 28
   pub front : take 7 bytes ≡ header version kind lanes count
 
 -- ---- blocks and tail
 
--- how many whole blocks so many values have, and how many values follow them
+-- how many whole blocks `count` values have, and how many values follow them
 abbrev pub whole_blocks : ℕ → ℕ → ℕ
 whole_blocks lanes count = count / (32 * lanes)
 
@@ -90,6 +90,6 @@ pub record IsBody (lane_count bits : ℕ) (bytes : List ℕ) : Type 0 where
   pub width : bits ≤ 32
   pub body : length bytes ≡ size lane_count bits
 
--- a width is loose where the codes of the bytes fit a smaller one
+-- a width is loose if the codes of the bytes fit a smaller one
 unfoldable pub is_loose : ℕ → ℕ → List ℕ → Bool
 is_loose lanes width bytes = nat_lt 0 width && list_all (λ code. nat_lt code (2 ^ (width - 1))) (codes_of lanes width bytes)

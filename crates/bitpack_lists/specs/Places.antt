@@ -5,13 +5,13 @@ use Rattle.bitpack_lists.specs.declared.list2.packed_list.PackedList.{PackedList
 use Rattle.bitpack_lists.specs.inner.Searching.{blocks_of, value_of}
 
 module _ {P : Type 0} {members : Ghosts P} (list : PackedList P members) where
-  -- the values at hand are those of a block, or after all blocks those of the tail
+  -- the values at hand are the values of a block, or after all blocks the tail
   pub record HasPart (block len : ℕ) (at_hand : List ℕ) : Type 0 where
     pub within : block ≤ blocks_of list
     pub len_is : len ≡ min (32 * members.lanes) (list.count - 32 * members.lanes * block)
     pub values_are : (k : ℕ) → k < len → slice_index at_hand k ≡ value_of list (32 * members.lanes * block + k)
 
-  -- the index is that of a value at hand, or the end of the tail; of the blocks up to the one at hand each was unpacked at most once
+  -- the index is of a value at hand, or the end of the tail; each block up to the one at hand was unpacked at most once
   pub record IsPlace (block index len : ℕ) (at_hand : List ℕ) (unpacked : ℕ) : Type 0 where
     pub part : HasPart block len at_hand
     pub inside : index ≤ len

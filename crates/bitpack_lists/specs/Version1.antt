@@ -22,7 +22,7 @@ pub record IsPart1 (lanes : ℕ) (kind : Kind) (block part : List ℕ) : Type 0 
   pub holds : Holds lanes width kind block body
   pub parts : part ≡ width ∷ body
 
--- the parts of so many whole blocks, and the tail's values
+-- the parts of a number of whole blocks, and the tail's values
 abbrev pub Blocks1 : ℕ → ℕ → Kind → List ℕ → List ℕ → Type 0
 Blocks1 lanes zero kind values bytes = bytes ≡ bytes_of_words values
 Blocks1 lanes (suc count) kind values bytes =
@@ -64,7 +64,7 @@ abbrev pub after_block1 : ℕ → List ℕ → List ℕ
 after_block1 lanes [] = []
 after_block1 lanes (width ∷ bytes) = drop (size lanes width) bytes
 
--- of so many blocks, the first of them with this number, and of the tail that has so many bytes
+-- of a number of blocks, the first of them with the number `block`, and of the tail, which has `tail` bytes
 unfoldable pub blocks_fault1 : ℕ → ℕ → ℕ → ℕ → List ℕ → Option ListError
 blocks_fault1 lanes tail block zero bytes =
     if nat_lt (length bytes) tail then Some Short
@@ -73,11 +73,11 @@ blocks_fault1 lanes tail block zero bytes =
 blocks_fault1 lanes tail block (suc count) bytes =
     option_or (block_fault1 lanes block bytes) (blocks_fault1 lanes tail (block + 1) count (after_block1 lanes bytes))
 
--- the blocks of so many values and their tail have no fault
+-- the blocks of `count` values and their tail have no fault
 abbrev pub IsSound1 : ℕ → ℕ → List ℕ → Type 0
 IsSound1 lanes count bytes = blocks_fault1 lanes (4 * tail_values lanes count) 0 (whole_blocks lanes count) bytes ≡ None
 
--- of what comes after the header of so many values: a byte for each block and the tail are there, and each block is right
+-- of what comes after the header of `count` values: a byte for each block and the tail are there, and each block is right
 unfoldable pub body_fault1 : ℕ → ℕ → List ℕ → Option ListError
 body_fault1 lanes count bytes =
     let blocks = whole_blocks lanes count in

@@ -36,7 +36,7 @@ unfoldable pub values_fault : ListKind → List ℕ → Option ListError
 values_fault kind values =
     if nat_lt (2 ^ 28) (length values) then Some (TooLong (length values)) else option_map NotSorted (first_out kind values)
 
--- ---- where what is in the rest of a text
+-- ---- the parts of the rest of a text, and their places
 
 -- the entry of a block: its width, the sum of the widths before it, and its last value
 abbrev pub width_at : List ℕ → ℕ → ℕ
@@ -48,7 +48,7 @@ offset_at rest block = word (drop (9 * block + 1) rest) 0
 abbrev pub last_at : List ℕ → ℕ → ℕ
 last_at rest block = word (drop (9 * block + 5) rest) 0
 
--- the sum of the widths of so many blocks
+-- the sum of the widths of the blocks before one
 abbrev pub widths_before : List ℕ → ℕ → ℕ
 widths_before rest zero = 0
 widths_before rest (suc block) = widths_before rest block + width_at rest block
@@ -58,14 +58,14 @@ abbrev pub kind_at : ListKind → List ℕ → ℕ → Kind
 kind_at kind rest zero = first_kind kind
 kind_at kind rest (suc block) = next_kind (first_kind kind) (last_at rest block)
 
--- the body of a block, of so many
+-- the body of a block, in a text of `blocks` blocks
 abbrev pub body_start : ℕ → ℕ → List ℕ → ℕ → ℕ
 body_start lanes blocks rest block = 9 * blocks + 4 * lanes * offset_at rest block
 
 abbrev pub body_at : ℕ → ℕ → List ℕ → ℕ → List ℕ
 body_at lanes blocks rest block = take (size lanes (width_at rest block)) (drop (body_start lanes blocks rest block) rest)
 
--- so many widths and bodies, each body after its width, as version 1 has them
+-- the widths and bodies before a block, each body after its width, as version 1 has them
 abbrev pub parts_before : ℕ → ℕ → List ℕ → ℕ → List ℕ
 parts_before lanes blocks rest zero = []
 parts_before lanes blocks rest (suc block) = parts_before lanes blocks rest block ++ width_at rest block ∷ body_at lanes blocks rest block
@@ -91,13 +91,13 @@ abbrev pub IsBody2 : ℕ → ℕ → ListKind → List ℕ → List ℕ → ℕ 
 IsBody2 lanes blocks kind values rest block =
     Holds lanes (width_at rest block) (kind_at kind rest block) (block_of lanes values block) (body_at lanes blocks rest block)
 
--- so many whole blocks of the values are in the rest of a text, as versions 2 and 3 have them
+-- `blocks` whole blocks of the values are in the rest of a text, as versions 2 and 3 have them
 pub record HasBlocks (lanes blocks : ℕ) (kind : ListKind) (values rest : List ℕ) : Type 0 where
   pub entries : (block : ℕ) → block < blocks → IsEntry2 lanes kind values rest block
   pub bodies : (block : ℕ) → block < blocks → IsBody2 lanes blocks kind values rest block
   pub room : tail_start lanes blocks rest ≤ length rest
 
--- the rest of the text of values that have so many whole blocks
+-- the rest of the text of values that have `blocks` whole blocks
 pub record IsRest2 (lanes blocks : ℕ) (kind : ListKind) (values rest : List ℕ) : Type 0 where
   pub whole : HasBlocks lanes blocks kind values rest
   pub tail : drop (tail_start lanes blocks rest) rest ≡ bytes_of_words (drop (32 * lanes * blocks) values)
@@ -115,11 +115,11 @@ OfNoOther lanes kind values bytes = (kind' : ListKind) (others : List ℕ) → L
 
 -- ---- the values that the rest of a text gives
 
--- a block, of so many
+-- a block, in a text of `blocks` blocks
 abbrev pub block_at : ℕ → ℕ → ListKind → List ℕ → ℕ → List ℕ
 block_at lanes blocks kind rest block = values_of (kind_at kind rest block) (codes_of lanes (width_at rest block) (body_at lanes blocks rest block))
 
--- the value at a position, of so many blocks and a tail
+-- the value at a position, of `blocks` blocks and a tail
 unfoldable pub value_with : ℕ → ℕ → ListKind → List ℕ → (ℕ → ℕ) → ℕ → ℕ
 value_with lanes blocks kind rest tail position =
     if nat_lt (position / (32 * lanes)) blocks
@@ -132,7 +132,7 @@ value_at lanes blocks kind rest = value_with lanes blocks kind rest (word (drop 
 
 -- ---- the first fault of bytes
 
--- of the first of so many blocks that has one
+-- of the first block that has one
 unfoldable pub first_fault : (ℕ → Option ListError) → ℕ → Option ListError
 first_fault fault zero = None
 first_fault fault (suc blocks) = option_or (first_fault fault blocks) (fault blocks)
@@ -151,7 +151,7 @@ block_fault2 lanes kind block width last body =
     else if not (slice_index (values_of kind (codes_of lanes width body)) (32 * lanes - 1) == last) then Some (BadLast block)
     else None
 
--- of the body of a block, of so many
+-- of the body of a block, in a text of `blocks` blocks
 abbrev pub body_fault2 : ℕ → ℕ → ListKind → List ℕ → ℕ → Option ListError
 body_fault2 lanes blocks kind rest block =
     block_fault2 lanes (kind_at kind rest block) block (width_at rest block) (last_at rest block) (body_at lanes blocks rest block)
@@ -163,7 +163,7 @@ short_of end bytes = if nat_lt (length bytes) end then Some Short else None
 abbrev pub trailing_after : ℕ → List ℕ → Option ListError
 trailing_after end bytes = if nat_lt end (length bytes) then Some Trailing else None
 
--- of so many blocks, after which a tail has so many bytes at least
+-- of `blocks` blocks, after which a tail has at least `tail` bytes
 abbrev pub blocks_fault : ℕ → ℕ → ℕ → ListKind → List ℕ → Option ListError
 blocks_fault lanes blocks tail kind rest =
     option_or (short_of (9 * blocks + tail) rest)
@@ -175,7 +175,7 @@ blocks_fault lanes blocks tail kind rest =
 abbrev pub order_fault : ListKind → (ℕ → ℕ) → ℕ → Option ListError
 order_fault kind value count = option_map NotSorted (least_below (is_out kind value) count)
 
--- of what is after the header of so many values
+-- of what is after the header of `count` values
 unfoldable pub rest_fault2 : ℕ → ListKind → ℕ → List ℕ → Option ListError
 rest_fault2 lanes kind count rest =
     let blocks = whole_blocks lanes count in

@@ -20,7 +20,7 @@ lanes_of code = if code == 1 then 1 else if code == 2 then 4 else 8
 abbrev pub lanes_code : ℕ → ℕ
 lanes_code lanes = if lanes == 1 then 1 else if lanes == 4 then 2 else 3
 
--- a text can say so many lanes
+-- a text can state this number of lanes
 abbrev pub HasCode : ℕ → Type 0
 HasCode lanes = lanes_of (lanes_code lanes) ≡ lanes
 
@@ -61,7 +61,7 @@ header_fault3 lanes bytes =
 
 -- ---- the tail
 
--- whether the first code of a tail is a number: that of a list without a block
+-- whether the first code of a tail is a number: only in a list without a block
 abbrev pub has_first : ℕ → ℕ → Bool
 has_first blocks tail = blocks == 0 && nat_lt 0 tail
 
@@ -71,7 +71,7 @@ IsTail3 blocks [] bytes = bytes ≡ []
 IsTail3 zero (code ∷ codes) bytes = (groups : List ℕ) × (bytes ≡ number code ++ groups) × AreGroups (groups_of (length codes)) codes groups
 IsTail3 (suc block) (code ∷ codes) bytes = AreGroups (groups_of (length (code ∷ codes))) (code ∷ codes) bytes
 
--- of a tail of so many codes, after so many blocks: the first fault, the codes, and the bytes after it
+-- of a tail of `tail` codes, after `blocks` blocks: the first fault, the codes, and the bytes after it
 unfoldable pub tail_fault3 : ℕ → ℕ → List ℕ → Option ListError
 tail_fault3 blocks tail bytes =
     if has_first blocks tail
@@ -92,7 +92,7 @@ after_tail3 blocks tail bytes =
 
 -- ---- the text of a list
 
--- the rest of the text of values that have so many whole blocks
+-- the rest of the text of values that have `blocks` whole blocks
 pub record IsRest3 (lanes blocks : ℕ) (kind : ListKind) (values rest : List ℕ) : Type 0 where
   pub whole : HasBlocks lanes blocks kind values rest
   pub tail : IsTail3 blocks (codes (kind_at kind rest blocks) (drop (32 * lanes * blocks) values)) (drop (tail_start lanes blocks rest) rest)
@@ -108,16 +108,16 @@ pub record List3 (lanes : ℕ) (kind : ListKind) (values bytes : List ℕ) : Typ
 
 -- ---- the first fault of bytes
 
--- the values of a tail of so many, after so many blocks
+-- the values of a tail of `tail` values, after `blocks` blocks
 abbrev pub tail_values3 : ℕ → ℕ → ℕ → ListKind → List ℕ → List ℕ
 tail_values3 lanes blocks tail kind rest =
     values_of (kind_at kind rest blocks) (tail_codes3 blocks tail (drop (tail_start lanes blocks rest) rest))
 
--- the value at a position, of so many blocks and a tail of so many values
+-- the value at a position, of `blocks` blocks and a tail of `tail` values
 abbrev pub value_at3 : ℕ → ℕ → ℕ → ListKind → List ℕ → ℕ → ℕ
 value_at3 lanes blocks tail kind rest = value_with lanes blocks kind rest (slice_index (tail_values3 lanes blocks tail kind rest))
 
--- of what is after the header of so many values
+-- of what is after the header of `count` values
 unfoldable pub rest_fault3 : ℕ → ListKind → ℕ → List ℕ → Option ListError
 rest_fault3 lanes kind count rest =
     let blocks = whole_blocks lanes count in

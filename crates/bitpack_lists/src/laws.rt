@@ -19,7 +19,7 @@ pub fn chains_read_back()
     ensures { ChainsReadBack }
 {}
 
-/// Values have at most one text of each version, and a text is that of one kind and one list. Bytes have no fault exactly where
+/// Values have at most one text of each version, and a text belongs to one kind and one list. Bytes have no fault exactly if
 /// they are a text; a fault in a width says that a smaller one holds the same codes.
 pub fn one_text()
     ensures text { OneText1 }
@@ -74,7 +74,7 @@ pub fn one_common()
     ensures short { CommonIsShort }
 {}
 
-/// Bytes without a fault begin with the bytes of one number, the one that is read from them. Bytes that begin with those of a number
+/// Bytes without a fault begin with the bytes of one number, the one that is read from them. Bytes that begin with the bytes of a number
 /// are read as it.
 pub fn one_number()
     ensures one { OneNumber }

@@ -30,7 +30,7 @@ pub(crate) fn read_words(bytes: &[u8], values: &mut [u32])
     }
 }
 
-/// Appends the values whose bytes these are, where there is room for them.
+/// Appends the values whose bytes these are. There is room for them.
 pub(crate) fn read_all(bytes: &[u8], out: &mut Vec<u32>)
     requires room { vec_len out.old + length bytes.now / 4 ≤ vec_capacity out.old }
     ensures items { (values : List ℕ) → AreWords values → bytes.now ≡ bytes_of_words values
@@ -51,7 +51,7 @@ pub(crate) fn write_words(values: &[u32], bytes: &mut [u8])
     }
 }
 
-/// Appends the bytes of the values, where there is room for them.
+/// Appends the bytes of the values. There is room for them.
 pub(crate) fn write_all(values: &[u32], out: &mut Vec<u8>)
     requires room { vec_len out.old + 4 * length values.now ≤ vec_capacity out.old }
     ensures items { out.new.items ≡ out.old.items ++ bytes_of_words values.now }

@@ -11,7 +11,7 @@ pub(crate) fn append<T: Copy>(out: &mut Vec<T>, part: &[T])
     out.extend_from_slice(part).unwrap();
 }
 
-/// Appends so many zeros to a vector that has the room.
+/// Appends `count` zeros to a vector that has the room.
 pub(crate) fn append_zeros<T: Copy>(out: &mut Vec<T>, zero: T, count: usize)
     requires room { vec_len out.old + count ≤ vec_capacity out.old }
     ensures { HasAppended out.old out.new (replicate count zero) }

@@ -65,7 +65,7 @@ fn small_steps_change_nothing(rt: HostRuntime) {
     }
 }
 
-/// A line of so many letters, and what follows it, have these answers.
+/// A line of a number of letters, and what follows it, have these answers.
 fn letters_are_answered(
     rt: &impl Abort,
     alloc: Global,

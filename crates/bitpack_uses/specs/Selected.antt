@@ -1,4 +1,4 @@
--- Queries: the ids that three lists have; and those of a, and of b or c, and not of d.
+-- Queries: the ids that three lists have; and the ids in a, in b or c, and not in d.
 use Rattle.std.specs.Prelude.{◌≢◌, ◌⊎◌, ◌↔◌, ℕ, List, Contains}
 use Rattle.std.specs.List.Sorted.{IsStrictlyIncreasing}
 use Rattle.bitpack_lists.specs.declared.list_kind.ListKind.{ListKind}
@@ -15,7 +15,7 @@ pub record IsInAll (a b c ids : List ℕ) : Type 0 where
   pub increasing : IsStrictlyIncreasing ids
   pub same : (id : ℕ) → Contains ids id ↔ (Contains a id × Contains b id × Contains c id)
 
--- the same of the lists whose bytes these are
+-- as above, of the lists whose bytes these are
 abbrev pub AreInAll : List ℕ → List ℕ → List ℕ → List ℕ → Type 0
 AreInAll first second third ids = (ka kb kc : ListKind) (a b c : List ℕ) → List2 4 ka a first → List2 4 kb b second → List2 4 kc c third → IsInAll a b c ids
 

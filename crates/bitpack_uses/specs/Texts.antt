@@ -7,6 +7,6 @@ use Rattle.bitpack_lists.specs.Version2.{List2}
 abbrev pub IsText : ℕ → List ℕ → Type 0
 IsText lanes bytes = (kind : ListKind) × (values : List ℕ) × List1 lanes kind values bytes
 
--- the same of version 2
+-- as above, of version 2
 abbrev pub IsText2 : ℕ → List ℕ → Type 0
 IsText2 lanes bytes = (kind : ListKind) × (values : List ℕ) × List2 lanes kind values bytes

@@ -1,4 +1,4 @@
--- The definitions of this crate, and those of the registers that they rest on.
+-- The definitions of this crate, and the ones of the registers that they rest on.
 pub use Rattle.bitpacking_register.specs.Deltas
 pub mod Bits
 pub mod Codes

@@ -70,7 +70,7 @@ pub fn round_trips()
 {}
 
 /// Calls with equal arguments and equal buffers leave equal buffers, whichever kernel runs: two that meet the clauses of a
-/// compress call, and two that meet those of a decompress call.
+/// compress call, and two that meet the clauses of a decompress call.
 pub fn equal_calls_leave_equal_buffers()
     ensures packed { EqualPackedBuffers }
     ensures unpacked { EqualUnpackedValues }

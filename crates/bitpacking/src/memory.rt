@@ -57,7 +57,7 @@ impl Steps {
         }
     }
 
-    // So many registers were loaded, with so many bits of a lane, and so many stored.
+    // How many registers were loaded, how many bits of a lane with them, and how many were stored.
     #[inline(always)]
     fn record(&mut self, loads: u32, bits_in: u32, stores: u32, bits_out: u32)
         requires { bits_out ≤ self.old.inside + bits_in }
@@ -85,7 +85,7 @@ impl Steps {
     }
 }
 
-/// Values that are loaded a register at a time, each counted as so many bits of a lane.
+/// Values that are loaded a register at a time. Each register counts as the number of bits of a lane given to `new`.
 #[derive(Drop)]
 pub(crate) struct ValueSource<'a> {
     words: &'a [u32],
@@ -115,7 +115,7 @@ impl<'a> ValueSource<'a> {
     }
 }
 
-/// Places into which values are stored a register at a time, each counted as so many bits of a lane.
+/// Places into which values are stored a register at a time. Each register counts as the number of bits of a lane given to `new`.
 #[derive(Drop)]
 pub(crate) struct ValueTarget<'a> {
     words: &'a mut [u32],

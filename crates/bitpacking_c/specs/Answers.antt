@@ -17,7 +17,7 @@ number_of (Err BadWidth) = negsuc 1
 number_of (Err Short) = negsuc 2
 number_of (Err Unfit) = negsuc 3
 
--- the number is that of an answer with this meaning
+-- the number stands for an answer with this meaning
 abbrev pub Answers : ℤ → (Result ℕ CallError → Type 0) → Type 0
 Answers number Means = (answer : Result ℕ CallError) × (number ≡ number_of answer) × Means answer
 
@@ -72,7 +72,7 @@ PacksLeast lanes before least kind block old new (Err error) =
 
 -- ---- chains
 
--- why values cannot be packed as a chain with so many widths: the first that applies, in the order length, room
+-- why values cannot be packed as a chain into this room: the first that applies, in the order length, room
 abbrev pub CannotPackAll : ℕ → Kind → List ℕ → ℕ → ℕ → CallError → Type 0
 CannotPackAll lanes kind values widths room BadLength = length values ≢ 32 * lanes * widths
 CannotPackAll lanes kind values widths room Short =
@@ -91,7 +91,7 @@ PacksAll lanes kind values before widths old new (Err error) =
 abbrev pub AreNarrow : List ℕ → Type 0
 AreNarrow widths = All (λ width. width ≤ 32) widths
 
--- why so many bytes do not hold blocks of these widths
+-- why `bytes` bytes do not hold blocks of these widths
 abbrev pub CannotHold : ℕ → List ℕ → ℕ → CallError → Type 0
 CannotHold lanes widths bytes BadWidth = ¬ (AreNarrow widths)
 CannotHold lanes widths bytes Short = bytes < 4 * lanes * sum widths

@@ -17,7 +17,7 @@ use Rattle.bitpacking_c.specs.Views.{fault_number}
 abbrev pub version_of : ℕ → Version
 version_of number = if number == 2 then Two else Three
 
--- the first fault of the number of a version, and that of a kind
+-- the first fault of the number of a version, and of a kind
 abbrev pub numbers_fault : ℕ → ℕ → Option ListError
 numbers_fault version kind =
     if not (version == 2) && not (version == 3) then Some (BadVersion version)
@@ -60,12 +60,12 @@ number_of_size (Ok size) = pos size
 number_of_size (Err Short) = negsuc 2
 number_of_size (Err fault) = fault_number (Some fault)
 
--- the position that is given: that of a value out of order, and else the one before
+-- the position after the call: the position of a value out of order, and else the one before the call
 abbrev pub position_after : ℕ → Result ℕ ListError → ℕ
 position_after before (Err (NotSorted position)) = position
 position_after before answer = before
 
--- the number and the position are those of an answer with this meaning
+-- the number and the position stand for an answer with this meaning
 abbrev pub AnswersSize : ℤ → ℕ → ℕ → (Result ℕ ListError → Type 0) → Type 0
 AnswersSize number before after Means =
     (answer : Result ℕ ListError) × (number ≡ number_of_size answer) × (after ≡ position_after before answer) × Means answer

@@ -23,7 +23,7 @@ AreListsOf views lists = AllZip (λ view list. IsListOf view.lanes view.bytes.no
 abbrev pub IsInOrder : ListView → Type 0
 IsInOrder view = (kind : ListKind) (values : List ℕ) → IsListOf view.lanes view.bytes.now kind values → kind ≢ Plain
 
--- the list of a view has so many values
+-- the list of a view has `count` values
 abbrev pub HasLength : ℕ → ListView → Type 0
 HasLength count view = (kind : ListKind) (values : List ℕ) → IsListOf view.lanes view.bytes.now kind values → length values ≡ count
 
@@ -73,7 +73,7 @@ abbrev pub HasRoom : List ListView → ℕ → Type 0
 HasRoom [] room = ⊤
 HasRoom (view ∷ views) room = (len : ℕ) × HasLength len view × (len ≤ room) × HasRoom views (room - len)
 
--- whether one of so many lists has a number, but for the first
+-- whether one of the first `count` lists has a number, but for the first
 abbrev pub others_have : ℕ → List (List ℕ) → ℕ → Bool
 others_have zero lists v = false
 others_have (suc others) [] v = false
@@ -84,20 +84,20 @@ unfoldable pub without_others : List (List ℕ) → List ℕ
 without_others [] = []
 without_others (xs ∷ lists) = filter (λ v. not (any_has lists v)) xs
 
--- so many values are in front and increase: those for which a test of the values of the view's list is true
+-- the values in front increase: the ones for which a test of the values of the view's list is true
 pub record Leaves (view : ListView) (test : List ℕ → ℕ → Bool) (after : List ℕ) (count : ℕ) : Type 0 where
   pub few : count ≤ length after
   pub increasing : IsStrictlyIncreasing (take count after)
   pub members : (kind : ListKind) (all : List ℕ) → IsListOf view.lanes view.bytes.now kind all → (v : ℕ) → has (take count after) v ≡ test all v
 
--- so many values are in front and increase, and there is room for those of the view's list after them
+-- the values in front increase, and there is room for the view's list after them
 pub record CanAdd (view : ListView) (count : ℕ) (values : List ℕ) : Type 0 where
   pub ordered : IsInOrder view
   pub within : count ≤ length values
   pub increasing : IsStrictlyIncreasing (take count values)
   pub room : FitsIn (length values - count) view
 
--- so many values are in front: those that were there before, and those of the view's list; no more are added than the list has
+-- the values in front are the ones that were there before, and the view's list; no more are added than the list has
 pub record Adds (view : ListView) (before after : List ℕ) (count : ℕ) : Type 0 where
   pub leaves : Leaves view (λ all v. has before v || has all v) after count
   pub few : (room : ℕ) → FitsIn room view → count ≤ length before + room

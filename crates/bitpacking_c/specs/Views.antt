@@ -10,7 +10,7 @@ use Rattle.bitpack_lists.specs.Version3.{lanes_of}
 
 -- ---- views
 
--- the bytes are the text of a list of so many lanes; of no lanes they are the empty list, whatever they are
+-- the bytes are the text of a list of `lanes` lanes; at 0 lanes they are the empty list, whatever they are
 abbrev pub IsListOf : ℕ → List ℕ → ListKind → List ℕ → Type 0
 IsListOf zero bytes kind values = (kind ≡ Plain) × (values ≡ [])
 IsListOf (suc lane) bytes kind values = IsText (version_in bytes) (suc lane) kind values bytes

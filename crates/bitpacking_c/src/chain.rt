@@ -54,7 +54,7 @@ pub(crate) fn unpack_all<P: BitPacker>(
     Ok(chain::unpack_all(packer, kind, widths, bytes, values))
 }
 
-/// Tests that so many bytes hold blocks of these widths.
+/// Tests that `bytes` bytes hold blocks of these widths.
 #[inline(always)]
 fn test_widths<P: BitPacker>(widths: &[u8], bytes: usize) -> Result<(), CallError>
     ensures narrow { OnOk result (AreNarrow widths.now) }

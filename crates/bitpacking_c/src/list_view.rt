@@ -28,7 +28,7 @@ pub struct ListView<'a> {
     pub ghost known: { lanes ≢ 0 → lanes ≢ 1 → lanes ≢ 4 → lanes ≡ 8 },
 }
 
-/// Opens a text of a packer of so many lanes.
+/// Opens a text of a packer of `lanes` lanes.
 #[inline(always)]
 fn open<'a, P: BitPacker>(packer: P, lanes: u8, bytes: &'a [u8], view: &mut ListView<'a>) -> isize
     requires lanes { lanes ≡ P.lanes }
@@ -286,7 +286,7 @@ fn seek(
     1
 }
 
-/// Writes the position and the value of the first value that is at least the target, and answers 1. Where every value is below it, it
+/// Writes the position and the value of the first value that is at least the target, and answers 1. If every value is below it, it
 /// answers 0, and for a plain list, which has no order, -23; both write nothing. One block is unpacked at most.
 #[unsafe(no_mangle)]
 pub extern "C" fn bitpacking_list_seek(

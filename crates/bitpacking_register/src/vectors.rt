@@ -75,7 +75,7 @@ impl Register for u32x4 {
         self.reduce_or()
     }
 
-    // `a b c d` less `z a b c`, where `z` is the last lane before.
+    // `a b c d` less `z a b c`. `z` is the last lane before.
     #[inline(always)]
     fn delta(current: u32x4, previous: u32x4) -> u32x4 {
         current - previous.shuffle::<4>(current, [3, 4, 5, 6])
@@ -166,13 +166,13 @@ impl Register for u32x8 {
         self.reduce_or()
     }
 
-    // `a b c d e f g h` less `z a b c d e f g`, where `z` is the last lane before.
+    // `a b c d e f g h` less `z a b c d e f g`. `z` is the last lane before.
     #[inline(always)]
     fn delta(current: u32x8, previous: u32x8) -> u32x8 {
         current - previous.shuffle::<8>(current, [7, 8, 9, 10, 11, 12, 13, 14])
     }
 
-    // The same in each half, `a ab abc abcd e ef efg efgh`; then `abcd` to the high half, and `z` to all.
+    // First in each half, `a ab abc abcd e ef efg efgh`; then `abcd` to the high half, and `z` to all.
     #[inline(always)]
     fn integrate(previous: u32x8, delta: u32x8) -> u32x8 {
         let zero = u32x8::splat(0);

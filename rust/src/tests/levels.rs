@@ -8,7 +8,7 @@ use crate::packers::Table;
 use crate::{BitPacker1x, BitPacker4x, BitPacker8x};
 
 /// The features that the ABI of x86-64 names for x86-64-v2 and x86-64-v3, as Rust and as Linux write them. `lahf_lm` of v2 and
-/// `xsave` of v3 are left out, since Rust cannot ask for them; it takes `avx` only where the system keeps its registers.
+/// `xsave` of v3 are left out, since Rust cannot ask for them; it takes `avx` only if the system keeps its registers.
 const V2: [(&str, &str); 6] = [
     ("cmpxchg16b", "cx16"),
     ("popcnt", "popcnt"),

@@ -15,7 +15,7 @@ abbrev pub Finds : {Y : Type 0} → (Y → Type 0) → Option Y → Type 0
 Finds Spelled (Some found) = Spelled found
 Finds Spelled None = (found : _) → ¬ Spelled found
 
--- the same for a step that can run out of memory
+-- as above, for a step that can run out of memory
 abbrev pub Parses : {X Y : Type 0} → (X → Y) → (Y → Type 0) → Result X ParseError → Type 0
 Parses view Spelled (Ok found) = Spelled (view found)
 Parses view Spelled (Err Spelling) = (found : _) → ¬ Spelled found
@@ -24,12 +24,12 @@ Parses view Spelled (Err Memory) = Unit {0}
 abbrev pub SpellsItem : List ℕ → Item → Type 0
 SpellsItem string item = (string ≡ item_string item) × IsItem item
 
--- the string begins with a digit, and with `0` only where that is all
+-- the string begins with a digit, and with `0` only if that is all
 pub record BeginsNumber (string : List ℕ) : Type 0 where
   pub digit : IsInRange 48 57 (slice_index string 0)
   pub zero : slice_index string 0 ≡ 48 → length string ≡ 1
 
--- the new values are the old and those of the item that the string spells, and not too many
+-- the new values are the old ones and then the item that the string spells, and not too many
 pub record AddsItem (string old new : List ℕ) : Type 0 where
   pub item : Item
   pub spelled : SpellsItem string item

@@ -16,6 +16,6 @@ abbrev pub before_groups : ℕ → ℕ
 before_groups zero = 1
 before_groups (suc block) = 0
 
--- so many codes of a tail, after so many blocks, end with a group, or are all of it
+-- the first `count` codes of a tail, after `blocks` blocks, end with a group, or are all of it
 abbrev pub EndsGroup : ℕ → ℕ → ℕ → Type 0
 EndsGroup blocks tail count = (count ≡ tail) ⊎ ((count ≤ tail) × ((groups : ℕ) × (count ≡ before_groups blocks + 32 * groups)))

@@ -23,7 +23,7 @@ pub record IsLeapt (target : ℕ) (value : Option ℕ) (old new : List (List ℕ
   pub forward : (found : ℕ) → value ≡ Some found → target ≤ found
   pub here : value ≡ Some target → all_have new target ≡ true
 
--- the same of the lists before index i, of which each has the target
+-- as above, of the lists before index i: each of these has the target
 pub record IsLeaping (target i : ℕ) (old new : List (List ℕ)) : Type 0 where
   pub count : length new ≡ length old
   pub same : (v : ℕ) → target ≤ v → all_have new v ≡ all_have old v

@@ -13,7 +13,7 @@ abbrev pub is_fall : Bool → ℕ → ℕ → Bool
 is_fall true before value = nat_le value before
 is_fall false before value = nat_lt value before
 
--- the entries of so many blocks are right
+-- the entries of the first `blocks` blocks are right
 abbrev pub AreEntries : ℕ → ℕ → ListKind → List ℕ → List ℕ → Type 0
 AreEntries lanes blocks kind values rest = (block : ℕ) → block < blocks → IsEntry2 lanes kind values rest block
 

@@ -16,7 +16,7 @@ pub record IsStated3 (lanes : ℕ) (bytes : List ℕ) (text : StatedText) : Type
   pub start : text.start ≡ tail_start lanes (whole_blocks lanes text.header.count) (drop (header_end bytes) bytes)
   pub tail_kind : text.tail_kind ≡ kind_at text.header.kind (drop (header_end bytes) bytes) (whole_blocks lanes text.header.count)
 
--- the entries of so many blocks have no fault, and the bytes go on to where the tail begins
+-- the entries of the first `blocks` blocks have no fault, and the bytes go on to where the tail begins
 pub record EntriesAreSound (lanes blocks : ℕ) (rest : List ℕ) : Type 0 where
   pub few : blocks ≤ 2 ^ 28
   pub entries : first_fault (entry_fault2 rest) blocks ≡ None

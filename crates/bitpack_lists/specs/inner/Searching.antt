@@ -72,7 +72,7 @@ module _ {P : Type 0} {members : Ghosts P} (list : PackedList P members) where
     pub before : EndsBelow target (number_or_all found)
     pub enough : number_or_all found < blocks_of → target ≤ last_at rest_of (number_or_all found)
 
-  -- what is kept is the block of its number, where the list has one
+  -- what is kept is the block of its number, if the list has one
   abbrev pub IsKept : KeptBlock → Type 0
   IsKept kept = kept.number < blocks_of → take (32 * members.lanes) kept.values ≡ block_of_list kept.number
 

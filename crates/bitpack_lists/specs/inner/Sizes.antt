@@ -13,13 +13,13 @@ pub record AreReady (lanes : ℕ) (kind : ListKind) (values widths : List ℕ) :
   pub right : values_fault kind values ≡ None
   pub least : LeastWidths lanes (first_kind kind) values (take (whole_blocks lanes (length values)) widths)
 
--- the entries and bodies of the whole blocks of the values have so many bytes
+-- the entries and bodies of the whole blocks of the values have `size` bytes
 pub record IsBlocksSize (lanes : ℕ) (kind : ListKind) (values : List ℕ) (size : ℕ) : Type 0 where
   pub room : 9 * whole_blocks lanes (length values) ≤ size
   pub long : (widths : List ℕ) → length widths ≡ whole_blocks lanes (length values) → LeastWidths lanes (first_kind kind) values widths
       → size ≡ 9 * whole_blocks lanes (length values) + 4 * lanes * sum widths
 
--- the text of version 2 of the values has so many bytes
+-- the text of version 2 of the values has `size` bytes
 pub record IsSize2 (lanes : ℕ) (kind : ListKind) (values : List ℕ) (size : ℕ) : Type 0 where
   pub room : 7 + 9 * whole_blocks lanes (length values) + 4 * tail_values lanes (length values) ≤ size
   pub long : (widths : List ℕ) → length widths ≡ whole_blocks lanes (length values) → LeastWidths lanes (first_kind kind) values widths
@@ -36,7 +36,7 @@ pub record AreTailCodes (lanes : ℕ) (kind : ListKind) (values found_codes : Li
   pub next : 0 < length front → found ≡ next_kind (first_kind kind) (slice_index front (length front - 1))
   pub codes_are : found_codes ≡ codes found left
 
--- the text of version 3 of the values has so many bytes, where these are the codes of the tail
+-- the text of version 3 of the values has `size` bytes, if these are the codes of the tail
 pub record IsSize3 (lanes : ℕ) (kind : ListKind) (values found_codes : List ℕ) (size : ℕ) : Type 0 where
   pub whole : ℕ
   pub tail : ℕ

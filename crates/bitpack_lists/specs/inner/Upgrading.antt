@@ -8,7 +8,7 @@ use Rattle.bitpack_lists.specs.Version1.{Blocks1, IsSound1}
 use Rattle.bitpack_lists.specs.Version2.{IsRest2, first_out, kind_at, tail_start}
 use Rattle.bitpack_lists.specs.inner.Opening.{AreEntries}
 
--- a header that gives so many values, and what is after it, were tested
+-- a header that states `count` values, and what is after it, were tested
 pub record IsTested1 (lanes count : ℕ) (rest : List ℕ) : Type 0 where
   pub few : count ≤ 2 ^ 28
   pub sound : IsSound1 lanes count rest
@@ -24,7 +24,7 @@ abbrev pub IsOlderRest : Bool → ℕ → ListKind → ℕ → List ℕ → List
 IsOlderRest true lanes kind count values rest = (length values ≡ count) × IsRest2 lanes (whole_blocks lanes count) kind values rest
 IsOlderRest false lanes kind count values rest = IsRest1 lanes kind count values rest
 
--- it was tested, and entries and bodies have so many bytes in version 3
+-- it was tested, and entries and bodies have `whole` bytes in version 3
 abbrev pub IsTestedRest : Bool → ℕ → ℕ → ℕ → List ℕ → Type 0
 IsTestedRest true lanes count whole rest = whole + 4 * tail_values lanes count ≡ length rest
 IsTestedRest false lanes count whole rest =

@@ -13,7 +13,7 @@ use Rattle.bitpack_lists.specs.inner.Searching.{IsKept, value_of}
 
 -- ---- one value
 
--- what is wanted next, once a value was searched: what was found, or one more where that is the value; 2 ^ 32 is never found
+-- what is wanted next, once a value was searched: what was found, or one more if that is the value; 2 ^ 32 is never found
 abbrev pub IsWantedNext : ℕ → Option (ℕ × ℕ) → ℕ → Type 0
 IsWantedNext value None want = want ≡ 2 ^ 32
 IsWantedNext value (Some found) want = (found.1 ≡ value → want ≡ value + 1) × (found.1 ≢ value → want ≡ found.1)
@@ -23,7 +23,7 @@ abbrev pub Appends : ℕ → Option (ℕ × ℕ) → List ℕ → List ℕ → T
 Appends value None before after = after ≡ before
 Appends value (Some found) before after = (found.1 ≡ value → after ≡ before ++ value ∷ []) × (found.1 ≢ value → after ≡ before)
 
--- ---- so many values
+-- ---- lists of values
 
 -- the values of a list, by their positions
 pub record Values : Type 0 where
@@ -38,14 +38,14 @@ IsOneOf values value = (k : ℕ) × (k < values.count) × (values.value k ≡ va
 abbrev pub Has : List ℕ → ℕ → Type 0
 Has values value = (k : ℕ) × (k < length values) × (slice_index values k ≡ value)
 
--- the values of both lists that are below what is wanted; the first so many of one list are
+-- the values of both lists that are below what is wanted; the first `done` of one list are
 pub record IsShared (one other : Values) (done want : ℕ) (shared : List ℕ) : Type 0 where
   pub below : (k : ℕ) → k < done → one.value k < want
   pub increasing : IsStrictlyIncreasing shared
   pub sound : (k : ℕ) → k < length shared → IsOneOf one (slice_index shared k) × IsOneOf other (slice_index shared k) × (slice_index shared k < want)
   pub complete : (value : ℕ) → IsOneOf one value → IsOneOf other value → value < want → Has shared value
 
--- how many searches a place in the other list allows: two for each value before it, and one more where its value is wanted, or where
+-- how many searches a place in the other list allows: two for each value before it, and one more if its value is wanted, or if
 -- nothing is
 abbrev pub Allows : Values → ℕ → ℕ → ℕ → Type 0
 Allows other want place searches =
@@ -76,8 +76,8 @@ pub record Begun : Type 0 where
 abbrev pub begun_with : List ℕ → Reads → Reads → Begun
 begun_with items reads other_reads = record { items = items; reads = reads; other_reads = other_reads }
 
--- how far a walk has come: so many values of one list were met, and this is the count of blocks of it that were unpacked. For each of
--- these a value was searched, but for one while what is wanted is below `due`.
+-- how far a walk has come: `done` values of one list were met, and `blocks` blocks of it were unpacked. For each of these blocks a
+-- value was searched, but for one while what is wanted is below `due`.
 pub record Stage : Type 0 where
   pub one : Values
   pub begun : Begun
@@ -101,7 +101,7 @@ pub record IsWalked (lanes : ℕ) (other : Values) (stage : Stage) (want last : 
   pub grown : HasGrown stage.begun.other_reads other_reads
   pub paid : (stage.blocks ≤ stage.begun.reads.blocks + searches) ⊎ ((stage.blocks ≤ stage.begun.reads.blocks + searches + 1) × (want < stage.due))
 
--- so many more values were met
+-- `more` more values were met
 abbrev pub further : Stage → ℕ → Stage
 further stage more = record { one = stage.one; begun = stage.begun; done = stage.done + more; blocks = stage.blocks; due = stage.due }
 
@@ -129,7 +129,7 @@ module _ {P : Type 0} {members : Ghosts P} (list : PackedList P members) where
     pub walked : IsWalked members.lanes values_in stage walk.want walk.kept.number out.items (vec_capacity out) reads
 
 module _ {P Q : Type 0} {members : Ghosts P} {others : Ghosts Q} (one : PackedList P members) (other : PackedList Q others) where
-  -- so many values of one list were met by a walk that searches them in the other
+  -- `done` values of one list were met by a walk that searches them in the other
   pub record IsWalkingOver {A : Type 0} (begun : Begun) (done blocks : ℕ) (walk : Walk) (out : Vec ℕ A) (reads : Reads) : Type 0 where
     pub ordered : one.kind ≢ lists.Plain
     pub walking : IsWalking other (stage_in one begun done blocks) walk out reads

@@ -30,7 +30,7 @@ pub fn decode<P: BitPacker>(
     // Bytes with a fault are refused for the first, and bytes without one only where memory runs out.
     ensures err { MatchOption (fault1 P.lanes bytes.now)
         (IfErr result (λ e. e ≡ ListError.Memory)) (λ fault. result ≡ Err fault) }
-    // Memory runs out only where the vector has no room for the values.
+    // Memory runs out only if the vector has no room for the values.
     ensures room { fault1 P.lanes bytes.now ≡ None
         → OnErr result (vec_capacity out.old < vec_len out.old + count_of bytes.now) }
     ensures unchanged { OnErr result (out.new.items ≡ out.old.items) }
@@ -112,7 +112,7 @@ fn test_block<'a, P: BitPacker>(
     Ok(rest)
 }
 
-/// Appends the values of blocks and tail that were tested, where there is room for them.
+/// Appends the values of blocks and tail that were tested. There is room for them.
 fn read_blocks<P: BitPacker>(packer: &P, header: Header, bytes: &[u8], out: &mut Vec<u32>)
     requires sound { IsSound1 P.lanes header.count bytes.now }
     requires room { vec_len out.old + header.count ≤ vec_capacity out.old }

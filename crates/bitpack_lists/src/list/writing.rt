@@ -33,7 +33,7 @@ pub fn encode<P: BitPacker>(
     // Too many values are refused as such, and others only where memory runs out.
     ensures long { 2 ^ 28 < length values.now → result ≡ Err (ListError.TooLong (length values.now)) }
     ensures memory { length values.now ≤ 2 ^ 28 → IfErr result (λ e. e ≡ ListError.Memory) }
-    // Memory runs out only where the vector has no room for the text.
+    // Memory runs out only if the vector has no room for the text.
     ensures room { length values.now ≤ 2 ^ 28 → OnErr result ((text : List ℕ) → List1 P.lanes kind values.now text
         → vec_capacity out.old < vec_len out.old + length text) }
     ensures unchanged { OnErr result (out.new.items ≡ out.old.items) }
@@ -55,7 +55,7 @@ pub fn encode<P: BitPacker>(
     Ok(())
 }
 
-/// Appends the blocks and the tail of the values, where there is room for them. The widths are those that were kept.
+/// Appends the blocks and the tail of the values. There is room for them. The widths are the ones that were kept.
 fn write_blocks<P: BitPacker>(
     packer: &P,
     kind: Kind,
@@ -86,7 +86,7 @@ fn write_blocks<P: BitPacker>(
     write_all(rest, out);
 }
 
-/// Appends the width of a block, which is its least, and the bytes that hold it, where there is room for them. They are packed
+/// Appends the width of a block, which is its least, and the bytes that hold it. There is room for them. They are packed
 /// in `body`.
 fn write_block<P: BitPacker>(
     packer: &P,

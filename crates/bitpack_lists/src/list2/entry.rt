@@ -19,7 +19,7 @@ pub(crate) struct Entry {
 }
 
 impl Entry {
-    /// The body of the block of the entry, which is one of so many. The bytes are those after a header.
+    /// The body of the entry's block, in a list of `blocks` blocks. The bytes are the ones after a header.
     pub(crate) fn body(self, lanes: usize, blocks: usize, rest: &[u8]) -> &[u8]
         requires lanes { lanes ≤ 8 }
         requires body { ENTRY_LEN * blocks + 4 * lanes * self.offset + size lanes self.width ≤ length rest.now }
@@ -40,7 +40,7 @@ impl Entry {
         [self.width, a, b, c, d, e, f, g, h]
     }
 
-    /// Appends the entry, where there is room for it.
+    /// Appends the entry. There is room for it.
     pub(crate) fn write(self, out: &mut Vec<u8>)
         requires { vec_len out.old + ENTRY_LEN ≤ vec_capacity out.old }
         ensures { HasAppended out.old out.new (self.width ∷ bytes_of_words (self.offset ∷ self.last ∷ [])) }

@@ -101,7 +101,7 @@ pub(crate) fn test_blocks<P: BitPacker>(
     })
 }
 
-/// Tests that there are so many bytes.
+/// Tests that there are at least `end` bytes.
 fn test_room(bytes: &[u8], end: usize) -> Result<(), ListError>
     ensures { FindsFault result (short_of end bytes.now) }
 {
@@ -111,7 +111,7 @@ fn test_room(bytes: &[u8], end: usize) -> Result<(), ListError>
     Ok(())
 }
 
-/// Tests the entries of so many blocks, and returns the sum of their widths.
+/// Tests the entries of all blocks, and returns the sum of their widths.
 // Reads bytes: new, for, entry.
 fn test_entries(rest: &[u8], blocks: usize) -> Result<usize, ListError>
     requires few { blocks ≤ 2 ^ 28 }

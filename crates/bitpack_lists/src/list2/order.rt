@@ -102,7 +102,7 @@ fn falls(strict: bool, values: &[u32]) -> bool
     falls
 }
 
-/// The same of so many values, whose bytes these are.
+/// As above, of `count` values, given as their bytes.
 // Reads bytes: for, read_one, is_out.
 pub(crate) fn first_out_of_words(
     kind: ListKind,

@@ -40,7 +40,7 @@ impl Reads {
         }
     }
 
-    // So many entries were read, and so many blocks unpacked.
+    // How many entries were read, and how many blocks unpacked.
     fn record(&mut self, entries: u32, blocks: u32)
         ensures entries { self.new.entries ≡ self.old.entries + entries }
         ensures blocks { self.new.blocks ≡ self.old.blocks + blocks }
@@ -65,7 +65,7 @@ impl Reads {
         }
     }
 
-    /// Unpacks the block of an entry, which is one of so many. The bytes are those after a header.
+    /// Unpacks the block of an entry, in a list of `blocks` blocks. The bytes are the ones after a header.
     // Reads bytes: record, body, decompress_kind.
     pub(crate) fn unpack<P: BitPacker>(
         &mut self,

@@ -1,4 +1,4 @@
-//! Texts of version 1 into those of version 2. The bytes are untrusted.
+//! Converts texts of version 1 to version 2. The bytes are untrusted.
 
 ghost use Rattle.std.specs.Prelude.{◌≡◌, ◌+◌, ◌*◌, ◌≤◌, ◌<◌, ◌++◌, ⊤, ℕ, List, length, drop, OnOk, OnErr, IsOk, IfOk, IfErr, MatchOption, vec_len, vec_capacity};
 ghost use Rattle.bitpacking.specs.Bits.{AreBytes};
@@ -39,7 +39,7 @@ pub fn upgrade<P: BitPacker>(packer: &P, bytes: &[u8], out: &mut Vec<u8>) -> Res
     ensures order { (kind : ListKind) (values : List ℕ) → List1 P.lanes kind values bytes.now
         → MatchOption (first_out kind values) (IfErr result (λ e. e ≡ ListError.Memory))
         (λ position. result ≡ Err (ListError.NotSorted position)) }
-    // Memory runs out only where the vector has no room for the text.
+    // Memory runs out only if the vector has no room for the text.
     ensures room { (kind : ListKind) (values text : List ℕ) → List1 P.lanes kind values bytes.now
         → List2 P.lanes kind values text → OnErr result (vec_capacity out.old < vec_len out.old + length text) }
     ensures unchanged { OnErr result (out.new.items ≡ out.old.items) }
@@ -98,7 +98,7 @@ pub(crate) fn test_order<P: BitPacker>(
     }
 }
 
-/// Appends an entry for each whole block, where there is room for them.
+/// Appends an entry for each whole block. There is room for them.
 pub(crate) fn write_entries<P: BitPacker>(
     packer: &P,
     header: Header,

@@ -1,6 +1,6 @@
-//! Blocks of every width, of every packer and kind: what no clause says is that the definitions are those of the format.
+//! Blocks of every width, of every packer and kind: what no clause says is that the definitions are the format's.
 //!
-//! The expected bytes are those of `oracle`, or were worked by hand.
+//! The expected bytes come from `oracle`, or were worked by hand.
 
 use super::oracle::{KINDS, LONGEST, block_of, bytes, codes_of, laid, least_width, numbers};
 use bitpacking::laws::one_least_width;

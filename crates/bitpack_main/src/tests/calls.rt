@@ -37,7 +37,7 @@ fn each_line_is_answered_before_the_next_read(rt: HostRuntime) -> Result<(), Fai
     Ok(())
 }
 
-/// So many bytes are written. What is known of the calls: how many reads, and how many writes at least and at most.
+/// How many bytes are written. What is known of the calls: how many reads, and how many writes at least and at most.
 fn calls_are(
     rt: &impl Abort,
     alloc: Global,

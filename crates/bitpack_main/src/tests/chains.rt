@@ -1,4 +1,4 @@
-//! Chains. The expected widths, bytes and values were worked by hand from the layout of the bits, and those of a block of each width
+//! Chains. The expected widths, bytes and values were worked by hand from the layout of the bits, and the ones of a block of each width
 //! are from `oracle`.
 
 ghost use Rattle.std.specs.Prelude.{◌*◌, ◌≤◌, All, length, sum};
@@ -9,7 +9,7 @@ use bitpack::chain::{pack_all, unpack_all};
 use bitpacking::{BitPacker, BitPacker1x, BitPacker4x, BitPacker8x, Kind};
 use std::process::Abort;
 
-/// Places of which the first go on from `previous` in steps, modulo 2 ^ 32. The others hold 9.
+/// Places: the first go on from `previous` in steps, modulo 2 ^ 32. The others hold 9.
 fn rising<const N: usize>(count: usize, previous: u32, step: u32) -> [u32; N] {
     let mut value = previous;
     let mut places = [9; N];
@@ -188,7 +188,7 @@ fn has_words_of_three_codes(rt: &impl Abort, out: &[u8], lanes: usize) {
     assert!(rt; all_bytes_are(rest, 9));
 }
 
-/// What follows so many times the word.
+/// What follows the repeated word.
 fn after_words<'a>(rt: &impl Abort, bytes: &'a [u8], word: &[u8], count: usize) -> &'a [u8] {
     let mut rest = bytes;
     for _ in 0..count {
@@ -230,7 +230,7 @@ fn going_on(kind: Kind, last: u32) -> Kind {
     }
 }
 
-/// Blocks of each width from 0 to 32, with numbers of so many bits as their codes, and their bytes. Returns the number of bytes.
+/// Blocks of each width from 0 to 32, with numbers of as many bits as their codes, and their bytes. Returns the number of bytes.
 fn put_blocks<P: BitPacker>(kind: Kind, values: &mut [u32], bytes: &mut [u8]) -> usize {
     let len = P::BLOCK_LEN;
     let mut block_kind = kind;

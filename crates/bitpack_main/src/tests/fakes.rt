@@ -8,7 +8,7 @@ use std::io::{Error, ErrorKind, Read, Write};
 /// No call is the one that fails.
 pub const NEVER: usize = usize::MAX;
 
-/// Gives bytes, then so many letters `a`, which need no memory, and then further bytes: at most `step` bytes a call. The call
+/// Gives bytes, then a number of letters `a`, which need no memory, and then further bytes: at most `step` bytes a call. The call
 /// numbered `fails_at` is interrupted, and so is each call after the last byte if `fails_at_end`; a further one would go on.
 #[derive(Drop)]
 pub struct Giver<'a> {

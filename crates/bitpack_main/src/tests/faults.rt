@@ -9,7 +9,7 @@ use bitpack::{RunError, ending};
 use std::alloc::Global;
 use std::process::Abort;
 
-/// A read fails after so many answers.
+/// A read fails after a number of answers.
 fn read_fails(rt: &impl Abort, alloc: Global, steps: (usize, usize), call: usize, answers: usize) {
     let mut reader = Giver::new(INPUT, steps.0);
     reader.fails_at = call;
@@ -26,7 +26,7 @@ fn read_fails(rt: &impl Abort, alloc: Global, steps: (usize, usize), call: usize
     assert!(rt; writer.flushes == 0);
 }
 
-/// Each read fails in turn, where so many lines have ended before it.
+/// Each read fails in turn, after the lines that ended before it.
 fn reads_fail(rt: &impl Abort, alloc: Global, steps: (usize, usize), ended: &[usize]) {
     for (call, lines) in ended.iter().enumerate() {
         read_fails(rt, alloc, steps, call, *lines);
@@ -35,7 +35,7 @@ fn reads_fail(rt: &impl Abort, alloc: Global, steps: (usize, usize), ended: &[us
 
 #[test]
 fn each_read_fails_in_turn(rt: HostRuntime) {
-    // How many lines have ended before each read, for so many bytes a read; the last read is the one that finds the end.
+    // How many lines have ended before each read, for a number of bytes in a read; the last read is the one that finds the end.
     for written in [1, 3, 100] {
         reads_fail(&rt, rt.alloc(), (1, written), &[0, 0, 1, 2, 2, 2]);
         reads_fail(&rt, rt.alloc(), (2, written), &[0, 1, 2, 2]);
@@ -43,7 +43,7 @@ fn each_read_fails_in_turn(rt: HostRuntime) {
     }
 }
 
-/// The read after so many letters and what follows them fails, and these answers were written before.
+/// The read after a number of letters and what follows them fails, and these answers were written before.
 fn fails_after(rt: &impl Abort, alloc: Global, letters: usize, then: &[u8], answers: &[u8]) {
     let mut reader = Giver::new(b"", 100_000);
     reader.letters = letters;
@@ -62,7 +62,7 @@ fn a_line_is_answered_at_its_end(rt: HostRuntime) {
     fails_after(&rt, rt.alloc(), 100_000, b"\na", b"refused 6\n");
 }
 
-/// A write fails after so many bytes.
+/// A write fails after a number of bytes.
 fn write_fails(rt: &impl Abort, alloc: Global, steps: (usize, usize), call: usize, written: usize) {
     let mut reader = Giver::new(INPUT, steps.0);
     let mut writer = Taker::new(alloc, steps.1);
@@ -81,7 +81,7 @@ fn write_fails(rt: &impl Abort, alloc: Global, steps: (usize, usize), call: usiz
     assert!(rt; writer.flushes == 0);
 }
 
-/// Each write fails in turn, where so many bytes are written before it.
+/// Each write fails in turn, after the bytes that were written before it.
 fn writes_fail(rt: &impl Abort, alloc: Global, steps: (usize, usize), before: &[usize]) {
     for (call, written) in before.iter().enumerate() {
         write_fails(rt, alloc, steps, call, *written);

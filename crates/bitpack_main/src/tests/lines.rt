@@ -183,7 +183,7 @@ fn add(
     Ok(())
 }
 
-/// The same of what is no line of the language.
+/// The answers to what is no line of the language.
 fn add_no_lines(
     rt: &impl Abort,
     alloc: Global,
@@ -250,7 +250,7 @@ fn refused_lines(rt: HostRuntime) -> Result<(), Fail> {
     Ok(())
 }
 
-/// So many times a character, with a line feed after them.
+/// A character, repeated `count` times, with a line feed after it.
 fn characters_are_answered(
     rt: &impl Abort,
     alloc: Global,
@@ -341,7 +341,7 @@ fn whole_blocks_of_more_lanes(rt: &impl Abort, alloc: Global) -> Result<(), Allo
     Ok(())
 }
 
-/// The answer to a line has so many bytes, and begins with these.
+/// The answer to a line has this length in bytes, and begins with these.
 fn begins(rt: &impl Abort, alloc: Global, line: &str, begin: &[u8], len: usize) {
     let mut reader = Giver::new(line.as_bytes(), 100_000);
     let mut writer = Taker::new(alloc, 100_000);

@@ -96,7 +96,7 @@ fn encode_both<P: BitPacker>(
     assert!(rt; list2::encode(packer, kind, values, new) == Ok(()));
 }
 
-/// The line `upgrade` makes the text of version 2 of that of version 1.
+/// The line `upgrade` converts a text of version 1 to version 2.
 fn is_upgraded(
     rt: &impl Abort,
     alloc: Global,

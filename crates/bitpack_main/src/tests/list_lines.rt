@@ -127,7 +127,7 @@ fn lists_of_version_2() -> [(&'static str, &'static str); 11] {
     ]
 }
 
-/// Faults of version 2, of which bytes that are missing come before a loose width.
+/// Faults of version 2: missing bytes come before a loose width.
 fn faults_of_version_2() -> [(&'static str, &'static str); 5] {
     [
         (
@@ -140,7 +140,7 @@ fn faults_of_version_2() -> [(&'static str, &'static str); 5] {
             "refused 28",
         ),
         ("dec 1x 02000120000000210100000000000000", "refused 26"),
-        // A loose width before a wrong last value, of which every byte counts.
+        // A loose width before a wrong last value. Every byte of the last value counts.
         (
             "dec 1x 0200012000000001000000000900000000000000",
             "refused 27",
@@ -202,7 +202,7 @@ fn more_no_lines() -> [&'static str; 10] {
     ]
 }
 
-/// Each line has its answer, with so many bytes a write.
+/// Each line has its answer, with at most this number of bytes in a write.
 fn each_list_is_answered(rt: &impl Abort, alloc: Global, step: usize) {
     each_is_answered(rt, alloc, &short_lists(), b"", step);
     each_is_answered(rt, alloc, &lists(), b"", step);

@@ -1,6 +1,6 @@
 //! The nine calls that have their kind in their name, at every width: each runs the call by kind of that name's kind, and of no other.
 //!
-//! The expected widths, bytes and blocks are those of `oracle`, which knows no packer.
+//! The expected widths, bytes and blocks come from `oracle`, which knows no packer.
 
 use super::oracle::{LONGEST, block_of, laid, least_width, numbers};
 use bitpacking::{BitPacker, BitPacker1x, BitPacker4x, BitPacker8x, Kind};
@@ -9,7 +9,7 @@ use std::process::Abort;
 /// The value before the block. That of a strictly sorted block is also `None`.
 const INITIAL: u32 = 4_000_000_000;
 
-/// The first bytes of the buffer are those of the codes.
+/// The buffer begins with the bytes of the codes.
 fn begins_with(rt: &impl Abort, out: &[u8], codes: &[u32], lanes: usize, width: u8) {
     let bytes = laid(codes, lanes, width);
     let size = lanes.wrapping_mul(4).wrapping_mul(width as usize);
@@ -31,7 +31,7 @@ fn plain<P: BitPacker>(rt: &impl Abort, packer: &P, codes: &[u32]) {
     assert!(rt; back.starts_with(block));
 }
 
-/// The same for the three sorted calls.
+/// As above, for the three sorted calls.
 fn sorted<P: BitPacker>(rt: &impl Abort, packer: &P, codes: &[u32]) {
     let block = block_of(Kind::Sorted(INITIAL), codes);
     let block = &block[..P::BLOCK_LEN];
@@ -46,7 +46,7 @@ fn sorted<P: BitPacker>(rt: &impl Abort, packer: &P, codes: &[u32]) {
     assert!(rt; back.starts_with(block));
 }
 
-/// The same for the three strictly sorted calls.
+/// As above, for the three strictly sorted calls.
 fn strictly_sorted<P: BitPacker>(rt: &impl Abort, packer: &P, initial: Option<u32>, codes: &[u32]) {
     let block = block_of(Kind::StrictlySorted(initial), codes);
     let block = &block[..P::BLOCK_LEN];

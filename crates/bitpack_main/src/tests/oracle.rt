@@ -24,7 +24,7 @@ pub(super) fn next(x: u32) -> u32 {
     x.wrapping_mul(1_664_525).wrapping_add(1_013_904_223)
 }
 
-/// The numbers from the first on, of each so many of its highest bits.
+/// The numbers from the first on, each cut to its highest bits.
 pub(super) fn numbers<const N: usize>(width: u8) -> [u32; N] {
     let mut x = 1;
     let mut places = [0; N];

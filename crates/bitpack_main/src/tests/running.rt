@@ -1,4 +1,4 @@
-//! The runs of the tests: each of these functions has one call of `run` and no contract, so that no test carries that of `run`.
+//! The runs of the tests: each of these functions has one call of `run` and no contract, so that no test carries the contract of `run`.
 
 use super::fakes::{Asker, Counter, Giver, Hearer, Taker};
 use bitpack::{RunError, run};
@@ -42,7 +42,7 @@ pub(super) fn run_counting(
     run(alloc, &mut Giver::new(input, usize::MAX), writer)
 }
 
-/// Runs over an input, with so many bytes a read and a write: the run ends well, and has written these answers.
+/// Runs over an input, with at most this number of bytes in a read and a write: the run ends well, and has written these answers.
 pub(super) fn writes(
     rt: &impl Abort,
     alloc: Global,

@@ -1,4 +1,4 @@
-//! Runs where memory ends: each growth is refused in turn, and what is answered before it is whole.
+//! Runs in which memory ends: each growth is refused in turn, and what is answered before it is whole.
 //!
 //! The expected text is worked by hand from the line language and the format.
 
@@ -45,7 +45,7 @@ pub(super) fn take_all(alloc: Global) -> Result<Vec<Vec<u8>>, AllocError> {
     Ok(blocks)
 }
 
-/// So many blocks of twice the bytes each, from 8 on: what vectors take as they grow.
+/// Blocks of twice the bytes each, from 8 on: what vectors take as they grow.
 fn growths(alloc: Global, count: u32) -> Result<Vec<Vec<u8>>, AllocError> {
     let mut blocks = Vec::with_capacity(alloc, 20)?;
     for power in 0..count.min(20) {
@@ -54,7 +54,7 @@ fn growths(alloc: Global, count: u32) -> Result<Vec<Vec<u8>>, AllocError> {
     Ok(blocks)
 }
 
-/// Runs where no more memory is left than so many growths. The writer has room for so many bytes before.
+/// Runs with memory for a number of growths, and no more. The writer has room for a number of bytes before.
 fn run_short_of_memory(
     alloc: Global,
     reader: &mut Giver,
@@ -88,7 +88,7 @@ fn are_in_part(
     assert!(rt; outcome == want);
 }
 
-/// The number of bytes that are written with memory for so many growths, and that was given before for one growth less.
+/// The number of bytes that are written with memory for this number of growths, and that was given before for one growth less.
 fn written_with(
     rt: &impl Abort,
     alloc: Global,
@@ -140,7 +140,7 @@ fn each_growth_is_refused_in_turn(rt: HostRuntime) -> Result<(), Fail> {
     Ok(())
 }
 
-/// Two lines and their answers, the first of which has so many bytes, with memory for more and more growths.
+/// Two lines and their answers, with memory for more and more growths. The first answer has the length that is given.
 fn both_are_answered(
     rt: &impl Abort,
     alloc: Global,
@@ -155,12 +155,12 @@ fn both_are_answered(
         let reader = Giver::new(lines.as_bytes(), steps.0);
         last = written_with(rt, alloc, reader, steps.1, answers.as_bytes(), count, last)?;
         first_alone = first_alone || last == first;
-        // The values of the first line take 65,536 bytes, and those of the second four times as many.
+        // The values of the first line take 65,536 bytes, and the values of the second four times as many.
         assert!(rt; last < first || count > 13, "{count} growths");
         assert!(rt; last != answers.len() || count > 15, "{count} growths");
     }
     assert!(rt; last == answers.len());
-    // Where memory was enough for the first line alone, its answer was written.
+    // If memory was enough for the first line alone, its answer was written.
     assert!(rt; first_alone);
     Ok(())
 }

@@ -8,13 +8,13 @@ use std::process::Abort;
 #[derive(Clone, Copy)]
 pub(super) enum Part<'a> {
     Text(&'a str),
-    /// So many times the same text.
+    /// A text, repeated.
     Repeated(&'a str, usize),
     /// The first number, the step to the next, and how many numbers: each is `step` more than the one before it, modulo 2 ^ 32.
     Counted(u32, u32, usize),
 }
 
-/// Appends so many times the same text.
+/// Appends a text, repeated.
 fn push_repeated(all: &mut String, text: &str, count: usize) -> Result<(), AllocError> {
     for _ in 0..count {
         all.push_str(text)?;
@@ -36,7 +36,7 @@ fn push_number(
     all.push_str(text.as_str())
 }
 
-/// Appends so many numbers.
+/// Appends `count` numbers.
 fn push_counted(
     alloc: Global,
     all: &mut String,

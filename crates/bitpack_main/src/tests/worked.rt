@@ -1,4 +1,4 @@
-//! Blocks whose bytes, values and widths were worked by hand from the layout, on both kernels where a packer has two.
+//! Blocks whose bytes, values and widths were worked by hand from the layout, on both kernels if a packer has two.
 
 use super::blocks::{all_bytes_are, measured, packed, packs_to, unpacks_to};
 use super::texts::{Part, parts_are_answered};
@@ -108,7 +108,7 @@ fn one_lane_unpacks_any_bytes(rt: HostRuntime) {
     one_lane_unpacks_sorted(&rt);
 }
 
-/// The same of the other kinds.
+/// The blocks of the other kinds.
 fn one_lane_unpacks_sorted(rt: &impl Abort) {
     let ones = [0xff; 128];
     let mut block = [0; 32];
@@ -157,7 +157,7 @@ fn zeros_after_a_block_stay(rt: HostRuntime) {
     each_width_into_zeros(&rt, &BitPacker8x::scalar());
 }
 
-/// Rows of four words, of which each byte is a number.
+/// Rows of four words. Each byte is a number.
 fn four_lanes_of_bytes(rt: &impl Abort, packer: &BitPacker4x) {
     let mut block = [0; 128];
     counting(&mut block, 128);

@@ -32,7 +32,7 @@ pub record PackedCodes (lanes width : ℕ) (codes old new : List ℕ) (written :
   pub rest : drop (size lanes width) new ≡ drop (size lanes width) old
   pub count : written ≡ size lanes width
 
--- the values begin with those of the codes whose layout was read, and go on as they were
+-- the values begin with the block whose codes were read, and go on as they were
 pub record UnpackedCodes (lanes width : ℕ) (values_of : List ℕ → List ℕ) (bytes old new : List ℕ) (read : ℕ) : Type 0 where
   pub block : (codes : List ℕ) × Layout lanes width codes (take (size lanes width) bytes)
       × (take (32 * lanes) new ≡ values_of codes)

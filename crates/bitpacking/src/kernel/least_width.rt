@@ -11,7 +11,7 @@ use crate::kinds::transformers::Transformer;
 use crate::memory::{Steps, ValueSource};
 use bitpacking_register::Register;
 
-/// The least width of a block's codes after the value `start`: that of the bits which are set in some code.
+/// The least width of a block's codes after the value `start`. No code has a bit above it.
 #[inline(always)]
 pub(crate) fn width<R: Register, T: Transformer<R>>(
     source: &ValueSource<'_>,

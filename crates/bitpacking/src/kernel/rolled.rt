@@ -40,7 +40,7 @@ impl Pack for Rolled {
 }
 
 impl Unpack for Rolled {
-    // A word is loaded only where bits are wanted, so that exactly `width` registers are.
+    // Loads a word only when its bits are wanted, so that exactly `width` registers are loaded.
     fn unpack<R: Register, S: Sink<R>>(
         source: &ByteSource<'_>,
         target: &mut ValueTarget<'_>,

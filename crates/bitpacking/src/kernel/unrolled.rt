@@ -20,8 +20,8 @@ use crate::kinds::transformers::Transformer;
 use crate::memory::{ByteSource, ByteTarget, Steps, ValueSource, ValueTarget};
 use bitpacking_register::Register;
 
-/// Four loops of eight rows each: they are short enough to be unrolled, and where the compiler knows the width, each shift and index
-/// is then a constant.
+/// Four loops of eight rows each. They are short enough to be unrolled. If the compiler knows the width, each shift and index is then a
+/// constant.
 pub(crate) struct Unrolled;
 
 /// Packs a block of codes of fewer than 32 bits, the first of them after the value `start`, and returns the number of bytes
@@ -145,8 +145,8 @@ impl Unpack for Unrolled {
     }
 }
 
-// Unpacks eight rows. Into and out of it go the bits of the last word loaded that are of no code yet. A word is loaded only where
-// bits are wanted, so that exactly `width` registers are.
+// Unpacks eight rows. Into and out of it go the bits of the last word loaded that are of no code yet. Loads a word only when
+// its bits are wanted, so that exactly `width` registers are loaded.
 #[inline(always)]
 fn unpack_rows<R: Register, S: Sink<R>, const FROM: u32>(
     source: &ByteSource<'_>,

@@ -36,7 +36,7 @@ impl<'a, P: BitPacker> PackedList<'a, P> {
     ghost use Rattle.bitpack_lists.specs.inner.Searching.{EndsBelow, IsFirstBlock, IsFirstFrom, IsInBlock, IsKept, IsListBlock, IsNear, KeepsBlock, KeepsOne, ReadsEntries, blocks_of, number_or_all, rest_of, value_of};
     ghost use Rattle.bitpack_lists.specs.Version2.{kind_at};
 
-    /// The first value that is at least the target, with its position, or `None` where every value is below it.
+    /// The first value that is at least the target, with its position, or `None` if every value is below it.
     ///
     /// The list has to be sorted or strictly sorted. Its entries are searched by halves, and one block is unpacked at most.
     pub fn seek(&self, target: u32, reads: &mut Reads) -> Option<(usize, u32)>
@@ -49,7 +49,7 @@ impl<'a, P: BitPacker> PackedList<'a, P> {
         self.seek_kept(target, &mut kept, reads)
     }
 
-    /// The same, with the block at hand that was unpacked last.
+    /// As `seek`, with the block that was unpacked last at hand.
     pub(crate) fn seek_kept(
         &self,
         target: u32,
@@ -115,7 +115,7 @@ impl<'a, P: BitPacker> PackedList<'a, P> {
         }
     }
 
-    /// The same as `seek_kept` where this is the first block whose last value is at least the target.
+    /// As `seek_kept`, if this is the first block whose last value is at least the target.
     fn seek_in_block(
         &self,
         block: ListBlock,

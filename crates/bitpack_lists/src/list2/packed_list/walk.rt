@@ -24,7 +24,7 @@ pub(crate) struct Walk {
     pub(crate) kept: KeptBlock,
 }
 
-/// Appends the values that both lists hold, where there is room for as many as the shorter list has.
+/// Appends the values that both lists hold. There is room for as many as the shorter list has.
 pub(crate) fn walk_list<P: BitPacker, Q: BitPacker>(
     one: &PackedList<'_, P>,
     other: &PackedList<'_, Q>,
@@ -65,7 +65,7 @@ pub(crate) fn walk_list<P: BitPacker, Q: BitPacker>(
     walk_tail(one, other, &mut walk, out, other_reads);
 }
 
-/// Meets the values of a block, which is unpacked for that, or passes over it where its last value is below what is wanted.
+/// Unpacks a block and visits its values, or skips it if its last value is below what is wanted.
 fn walk_block<P: BitPacker, Q: BitPacker>(
     one: &PackedList<'_, P>,
     other: &PackedList<'_, Q>,
@@ -113,7 +113,7 @@ fn walk_tail<P: BitPacker, Q: BitPacker>(
     walk_values(&values[..tail], other, walk, out, other_reads);
 }
 
-/// Meets values in order: searches each that is not below what is wanted, and appends it where it is found.
+/// Visits values in order: searches each that is not below what is wanted, and appends it if it is found.
 fn walk_values<Q: BitPacker>(
     values: &[u32],
     other: &PackedList<'_, Q>,
@@ -153,7 +153,7 @@ fn wanted_next(value: u32, found: Option<(usize, u32)>) -> u64
     }
 }
 
-/// Appends a value that was found, where there is room for it.
+/// Appends a value that was found. There is room for it.
 fn append_found(value: u32, found: Option<(usize, u32)>, out: &mut Vec<u32>)
     requires room { IfSome found (λ found. found.1 ≡ value → vec_len out.old < vec_capacity out.old) }
     ensures appends { Appends value found out.old.items out.new.items }
