@@ -1,6 +1,6 @@
 /* bitpacking.h: blocks of 32-bit integers packed in few bits per value, and chains and lists of such blocks.
  *
- * The functions are those of the static library libbitpacking_c.a; docs/RUST_AND_C.md of the repository says how to build it.
+ * The functions are those of the static library libbitpacking_c.a; docs/C.md of the repository says how to build it.
  * What each call returns and writes is proved for all arguments that meet these rules:
  *
  * - A pointer with a length after it is to that many items. It may be NULL if the length is 0.

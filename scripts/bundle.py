@@ -1,10 +1,10 @@
 #!/usr/bin/env python3
 """Writes one file, FILE, for those who have no rt: the header, the archives of all levels and targets, the crate in rust/ with its archives
-in place, the programs of examples/, the licence and the page docs/RUST_AND_C.md.
+in place, the programs of examples/, the licence, and the pages RUST.md, C.md and FORMAT.md of docs/.
 
     bundle.py FILE.tar.gz
 
-The files lie as in the repository, so that the commands of the page work in the folder bitpacking/ that the bundle unpacks to. The same files
+The files lie as in the repository, so that the commands of the pages work in the folder bitpacking/ that the bundle unpacks to. The same files
 give the same bytes. The archives are those that scripts/archives.py wrote, which is called where they are not there. The status is 0, 1 if it
 failed, or 2 if it was called wrongly or lacks a tool.
 """
@@ -18,7 +18,7 @@ import archives
 from common import ROOT, missing, words
 
 TOP = "bitpacking"
-FILES = ["LICENSE", "docs/RUST_AND_C.md", "docs/FORMAT.md", "include/*.h", "examples/*.c"]
+FILES = ["LICENSE", "docs/RUST.md", "docs/C.md", "docs/FORMAT.md", "include/*.h", "examples/*.c"]
 FILES += ["rust/Cargo.toml", "rust/Cargo.lock", "rust/build.rs", "rust/src/**/*.rs", "rust/examples/*.rs"]
 FILES += ["rust/out/*.a", "rust/out/x86-64*/*.a", "rust/out/aarch64*/*.a"]
 

@@ -43,6 +43,8 @@ fizz AND odd: 0 documents in 1 bytes, [] ..
 PROGRAMS = {
     # Gaps of 3: two bits each, and so 2 * 16 bytes.
     "examples/block.c": "128 ids in 32 bytes\n",
+    # Byte 0, the first id as a number, and a group of the three codes 1, 0 and 289: a byte with their width 9, and 27 bits.
+    "examples/list.c": "4 ids in 7 bytes\n",
     "examples/posting_list.c": "300 numbers: 2 and 2 bits, 64 bytes, 44 numbers as they are\n",
     # A header of 7 bytes, 2 entries of 9, those blocks, and 44 numbers of 4 bytes; the last number is 3 * 299 + 1.
     "examples/packed_list.c": "300 numbers in 265 bytes, the last 898\nthe first from 500 on is 502, at position 167\n",

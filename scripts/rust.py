@@ -19,6 +19,8 @@ EXAMPLES = {
     "block": "128 ids in 32 bytes\n",
     # Gaps of 2 and 4 in turn: one less are 1 and 3, two bits each, and so 2 * 16 bytes for each block of 128.
     "posting_list": "300 numbers: [2, 2] bits, 64 bytes, 44 numbers as they are\n",
+    # The bytes are those of examples/list.c; 300 is at position 3.
+    "list": "4 ids in 7 bytes, from 100 on: Some((3, 300))\n",
     "index": c.INDEX,
 }
 
