@@ -42,21 +42,26 @@ PATTERNS = {
     ),
 }
 THE_SAME = re.compile(r"the same\b", re.I)
-# What the patterns find in a text, and texts in which they find nothing.
-TRIED = {
-    "It has so\nmany values.": ["so many"],
-    "For whoever has two, of which one is new.": ["whoever", "of which"],
-    "Its width is that of a block, or those of two.": ["that of", "those of"],
-    "It is appended, where it fits.": ["where for if"],
-    "It fails. Where a list is plain, it stops.": ["where for if"],
-    "It stops where there is none.": ["where for if"],
-    "A width is loose exactly where a smaller one holds it.": ["where for if"],
-    "Returns `None` or -1 where a list is plain.": ["where for if"],
-    "Skipped where its last value is too low.": ["where for if"],
-    "The code `so many` is no phrase. The bytes stay where they are, and this says where it begins, and where the tail ends.": [],
-    "## Where expected values come from": [],
-    "```\nso many\n```\n\n    so many\n": [],
-}
+# What is found in a text of a file, and texts in which nothing is found.
+TRIED = [
+    ("a.md", "It has so\nmany values.", ["so many"]),
+    ("a.md", "For whoever has two, of which one is new.", ["of which", "whoever"]),
+    ("a.md", "| Its width is that of a block | or those of two |", ["that of", "those of"]),
+    ("a.md", "It is appended, where it fits.", ["where for if"]),
+    ("a.md", "It fails. Where a list is plain, it stops.", ["where for if"]),
+    ("a.md", "It stops where there is none.", ["where for if"]),
+    ("a.md", "A width is loose exactly where a smaller one holds it.", ["where for if"]),
+    ("a.md", "Returns `None` or -1 where a list is plain.", ["where for if"]),
+    ("a.md", "Skipped where its last value is too low.", ["where for if"]),
+    ("a.md", "The bytes stay where they are. This says where it begins, and where the tail ends.", []),
+    ("a.md", "## Where expected values come from", []),
+    ("a.md", "The code `so many`.\n\n```\nso many\n```\n\n    so many\n", []),
+    ("a.rt", "/// The same as `f`,\n/// for so many.\nfn g() {} // that of f", ["The same", "so many"]),
+    ("a.rt", 'write(out, "a width above that of f")', ["that of"]),
+    ("a.rt", 'let that_of = ["of", "which"]; // of which', []),
+    ("a.h", "/* Writes so\n * many. */\nint f(void); /* The same for g. */", ["The same", "so many"]),
+    ("a.antt", "-- ---- the same for a list\n-- the values of so many\nso many = 0 -- those of f", ["The same", "so many", "those of"]),
+]
 
 
 def blocks_of(lines):
@@ -130,9 +135,9 @@ def found_in(path, text):
 
 def checks():
     """The tries, and then each file, as its name and the phrases in it, or None."""
-    for text, names in TRIED.items():
-        found = [name for _, name in found_in("a.md", text)]
-        yield repr(text), None if sorted(found) == sorted(names) else f"finds {found}"
+    for path, text, names in TRIED:
+        found = sorted(name for _, name in found_in(path, text))
+        yield repr(text), None if found == names else f"finds {found}"
     for pattern in [*PAGES, *SOURCES, *HEADERS, *DEFINITIONS]:
         for path in sorted(glob.glob(pattern, root_dir=ROOT, recursive=True)):
             found = [f"\n    {path}:{line}: {name}" for line, name in sorted(set(found_in(path, source(path))))]
