@@ -71,8 +71,8 @@ impl fmt::Display for ListError {
     fn fmt<W: fmt::Write>(&self, f: &mut fmt::Formatter<W>) -> fmt::Result {
         match self {
             ListError::Short => write!(f, "bytes are missing"),
-            ListError::BadVersion(version) => write!(f, "version {version} is not read here"),
-            ListError::BadKind(kind) => write!(f, "kind {kind} does not serve here"),
+            ListError::BadVersion(version) => write!(f, "unsupported version {version}"),
+            ListError::BadKind(kind) => write!(f, "invalid kind {kind}"),
             ListError::WrongLanes(lanes) => {
                 write!(f, "the text has {lanes} lanes, unlike the packer")
             }

@@ -83,8 +83,8 @@ impl fmt::Display for Error {
     fn fmt(&self, f: &mut fmt::Formatter<'_>) -> fmt::Result {
         match self {
             Error::Short => f.write_str("bytes are missing"),
-            Error::BadVersion => f.write_str("the version is not read here"),
-            Error::BadKind => f.write_str("the kind does not serve here"),
+            Error::BadVersion => f.write_str("unsupported version"),
+            Error::BadKind => f.write_str("invalid kind"),
             Error::WrongLanes => f.write_str("no packer has as many lanes as the text"),
             Error::TooLong => f.write_str("there are more than 268435456 values"),
             Error::BadWidth => f.write_str("a block has a width above 32"),

@@ -260,8 +260,8 @@ fn damaged_bytes() {
 fn each_error_with_its_number_and_text() {
     let errors: [(Error, i32, &str); 14] = [
         (Error::Short, -21, "bytes are missing"),
-        (Error::BadVersion, -22, "the version is not read here"),
-        (Error::BadKind, -23, "the kind does not serve here"),
+        (Error::BadVersion, -22, "unsupported version"),
+        (Error::BadKind, -23, "invalid kind"),
         (Error::WrongLanes, -24, "no packer has as many lanes as the text"),
         (Error::TooLong, -25, "there are more than 268435456 values"),
         (Error::BadWidth, -26, "a block has a width above 32"),

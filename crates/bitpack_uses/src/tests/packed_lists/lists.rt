@@ -344,8 +344,8 @@ fn three_blocks_and_a_tail(rt: HostRuntime) {
 fn each_refusal_says_what_is_wrong(rt: HostRuntime) {
     let cases = [
         (ListError::Short, 1, "bytes are missing"),
-        (ListError::BadVersion(3), 2, "version 3 is not read here"),
-        (ListError::BadKind(3), 3, "kind 3 does not serve here"),
+        (ListError::BadVersion(3), 2, "unsupported version 3"),
+        (ListError::BadKind(3), 3, "invalid kind 3"),
         (
             ListError::WrongLanes(4),
             4,
