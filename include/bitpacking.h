@@ -1,6 +1,6 @@
 /* bitpacking.h: blocks of 32-bit integers packed in few bits per value, and chains and lists of such blocks.
  *
- * The functions are those of the static library libbitpacking_c.a; docs/C.md of the repository says how to build it.
+ * The functions are in the static library libbitpacking_c.a; docs/C.md of the repository says how to build it.
  * What each call returns and writes is proved for all arguments that meet these rules:
  *
  * - A pointer with a length after it is to that many items. It may be NULL if the length is 0.
@@ -236,7 +236,7 @@ static inline bitpacking_list bitpacking_list_empty(void)
  * faults below, in the order of docs/FORMAT.md, and then the view is as it was. */
 ptrdiff_t bitpacking_list_open(const uint8_t *bytes, size_t bytes_len, bitpacking_list *view);
 
-/* The same for a text of version 2 of the packer of 1, 4 or 8 lanes: any other version or packer is a fault. */
+/* As above, for a text of version 2 and the packer of 1, 4 or 8 lanes: any other version or packer is a fault. */
 ptrdiff_t bitpacking_1x_list_open(const uint8_t *bytes, size_t bytes_len, bitpacking_list *view);
 ptrdiff_t bitpacking_4x_list_open(const uint8_t *bytes, size_t bytes_len, bitpacking_list *view);
 ptrdiff_t bitpacking_8x_list_open(const uint8_t *bytes, size_t bytes_len, bitpacking_list *view);

@@ -18,7 +18,7 @@ module _ {P : Type 0} {members : Ghosts P} (list : PackedList P members) where
     pub ends : index ≡ len → block ≡ blocks_of list
     pub once : unpacked ≤ min (block + 1) (blocks_of list)
 
-  -- the same as `IsSoughtFrom` of the values of the list
+  -- `IsSoughtFrom` of the values of the list
   pub record IsSoughtIn (target old new : ℕ) : Type 0 where
     pub forward : old ≤ new
     pub within : new ≤ list.count

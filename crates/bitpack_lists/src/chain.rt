@@ -1,4 +1,4 @@
-//! Chains: many blocks of one kind, each of which goes on from the last value of the one before.
+//! Chains: many blocks of one kind. Each goes on from the last value of the one before.
 
 ghost use Rattle.std.specs.Prelude.{◌≡◌, ◌*◌, ◌/◌, ◌≤◌, ℕ, All, length, take, drop, sum};
 ghost use Rattle.bitpacking.specs.Width.{IsWidth};

@@ -156,7 +156,7 @@ pub fn codes_and_bytes_are_free()
     one_layout();
 }
 
-/// Packs two blocks at one width and compares their bytes: they differ exactly where the blocks do.
+/// Packs two blocks at one width and compares their bytes: they differ exactly if the blocks do.
 pub fn differ<P: BitPacker>(
     packer: &P,
     first: &[u32],

@@ -16,7 +16,7 @@ pub fn pack_at_0() -> usize {
     BitPacker1x::new().compress(&[0; 32], &mut [], 0)
 }
 
-/// Packs a block at width 1, of which 1 is the greatest value.
+/// Packs a block at width 1. Its greatest value is 1.
 pub fn pack_at_1() -> usize {
     BitPacker1x::new().compress(&[1; 32], &mut [0; 4], 1)
 }
@@ -52,7 +52,7 @@ pub fn seek(text: &[u8], target: u32) -> Option<(usize, u32)> {
     list.seek(target, &mut Reads::new())
 }
 
-/// Appends what the lists of two texts share, neither of which is plain. The texts may be untrusted.
+/// Appends what the lists of two texts share. Neither may be plain. The texts may be untrusted.
 pub fn intersect(first: &[u8], second: &[u8], out: &mut Vec<u32>) -> Option<()> {
     let a = PackedList::open(BitPacker1x::new(), first).ok()?;
     let b = PackedList::open(BitPacker1x::new(), second).ok()?;

@@ -46,7 +46,7 @@ pub fn short_first(
     intersect(short, long, out, short_reads, long_reads)
 }
 
-/// The same the other way round: walks the long list, and searches in the short one.
+/// The other way round: walks the long list, and searches in the short one.
 pub fn long_first(
     short: &PackedList<'_, BitPacker1x>,
     long: &PackedList<'_, BitPacker4x>,

@@ -30,7 +30,7 @@ pub fn encode<P: BitPacker>(
     // What is appended is the text of the values.
     ensures ok { OnOk result ((text : List ℕ) × AreBytes text × List1 P.lanes kind values.now text
         × (out.new.items ≡ out.old.items ++ text)) }
-    // Too many values are refused as such, and others only where memory runs out.
+    // Too many values are refused as such, and others only if memory runs out.
     ensures long { 2 ^ 28 < length values.now → result ≡ Err (ListError.TooLong (length values.now)) }
     ensures memory { length values.now ≤ 2 ^ 28 → IfErr result (λ e. e ≡ ListError.Memory) }
     // Memory runs out only if the vector has no room for the text.

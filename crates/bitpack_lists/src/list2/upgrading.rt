@@ -21,19 +21,19 @@ use crate::list_kind::ListKind;
 use crate::reserved::append;
 use bitpacking::{BitPacker, Kind};
 
-/// Appends the text of version 2 of a list whose text of version 1 these bytes are.
+/// Converts a version 1 list to version 2 and appends the result.
 ///
-/// Any bytes are taken, and they are tested whole before a byte is appended. Values out of order are refused: those of a sorted
-/// list may not decrease, and those of a strictly sorted one have to increase. The bodies of the blocks are copied, since they
-/// are the same bytes in both versions. The vector grows once at most, by the length of the new text, which has eight bytes more
-/// than the old one for each whole block.
+/// Accepts any bytes, and tests all of them before it appends a byte. Values out of order are refused: the values of a sorted list
+/// may not decrease, and the values of a strictly sorted one have to increase. The bodies of the blocks are copied, since they are
+/// the same bytes in both versions. The vector grows at most once, by the length of the new text, which has eight bytes more than
+/// the old one for each whole block.
 // Reads bytes: test, test_order, write, write_entries, copy_bodies, append.
 pub fn upgrade<P: BitPacker>(packer: &P, bytes: &[u8], out: &mut Vec<u8>) -> Result<(), ListError>
     // The bytes are the text of some values, and what is appended is the text of version 2 of the same.
     ensures ok { OnOk result ((kind : ListKind) × (values : List ℕ) × (text : List ℕ)
         × List1 P.lanes kind values bytes.now × AreBytes text × List2 P.lanes kind values text
         × (out.new.items ≡ out.old.items ++ text)) }
-    // Bytes with a fault of version 1 are refused for the first, values out of order at the first that is, and others only where
+    // Bytes with a fault of version 1 are refused for the first, values out of order at the first that is, and others only if
     // memory runs out.
     ensures fault { MatchOption (fault1 P.lanes bytes.now) ⊤ (λ fault. result ≡ Err fault) }
     ensures order { (kind : ListKind) (values : List ℕ) → List1 P.lanes kind values bytes.now

@@ -12,7 +12,7 @@ use std::alloc::{AllocError, Global};
 use std::process::Abort;
 use std::test::Fail;
 
-/// Makes the stack as large as the calls of a test need, since it cannot grow where memory was taken. Each test that takes all
+/// Makes the stack as large as the calls of a test need, since it cannot grow once memory was taken. Each test that takes all
 /// memory calls it first.
 #[inline(never)]
 pub(super) fn grow_stack(rt: &impl Abort) {

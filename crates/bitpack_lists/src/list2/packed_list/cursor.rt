@@ -95,7 +95,7 @@ impl<'a, P: BitPacker> PackedList<'a, P> {
         })
     }
 
-    /// Unpacks a block, or reads the values of the tail if there is none. Returns its number, or that of all blocks, and how many
+    /// Unpacks a block, or reads the values of the tail if there is none. Returns its number, or the count of all blocks, and how many
     /// values these are.
     fn read_part(
         &self,

@@ -13,9 +13,9 @@ use bitpacking::BitPacker;
 
 /// Appends the values that both lists have, in increasing order and each once. The lists may be of two packers.
 ///
-/// Both lists have to be sorted or strictly sorted. The vector grows once at most, by as many values as the shorter list has; where
-/// that is refused, nothing is read. The blocks of `a` are walked in order, and those that have no value of `b` are left packed where
-/// their last values say so. The values of `a` are searched in `b`, and the block of `b` that was unpacked last is kept.
+/// Both lists have to be sorted or strictly sorted. The vector grows at most once, by as many values as the shorter list has. If
+/// that allocation fails, nothing is read. The blocks of `a` are visited in order; a block whose last value is below the next value
+/// sought is skipped. The values of `a` are searched in `b`, and the block of `b` that was unpacked last is cached.
 ///
 /// Fails with `Memory` alone.
 pub fn intersect<P: BitPacker, Q: BitPacker>(
