@@ -315,15 +315,15 @@ ITEMS += [packed(STRICTLY_SORTED, [0, 1]), packed(PLAIN, [1, 3]), packed(STRICTL
 def forged():
     """Indexes that say what can't be, each with what is wrong."""
     changes = [
-        ("a word has another number of counts", {5: packed(PLAIN, [1])}),
-        ("a list of a: another kind", {5: packed(STRICTLY_SORTED, [1, 3])}),
-        ("a list of b: another kind", {6: packed(PLAIN, [0])}),
+        ("a word has more or fewer counts than documents", {5: packed(PLAIN, [1])}),
+        ("a list of a: wrong kind", {5: packed(STRICTLY_SORTED, [1, 3])}),
+        ("a list of b: wrong kind", {6: packed(PLAIN, [0])}),
         ("'b' is in no document, or in one that is not there", {6: packed(STRICTLY_SORTED, [2])}),
         ("'b' is in no document, or in one that is not there", {6: packed(STRICTLY_SORTED, [])}),
         ("a list of b: ", {7: b"?"}),
-        ("a list of lengths: another kind", {8: packed(STRICTLY_SORTED, [2, 3])}),
-        ("there are items of no word", {8: packed(PLAIN, [5])}),
-        ("there are items of no word", {8: packed(PLAIN, [0] * 11)}),
+        ("a list of lengths: wrong kind", {8: packed(STRICTLY_SORTED, [2, 3])}),
+        ("the number of items is wrong", {8: packed(PLAIN, [5])}),
+        ("the number of items is wrong", {8: packed(PLAIN, [0] * 11)}),
         ("word 1 has a wrong sign, or is not in order", {2: b"b\0", 3: b"a\0"}),
         ("word 1 has a wrong sign, or is not in order", {3: b"a\0"}),
         ("word 1 has a wrong sign, or is not in order", {3: b"b-\0"}),

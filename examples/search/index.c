@@ -6,9 +6,9 @@
 #include <fts.h>
 #include <unistd.h>
 
-enum { LONGEST_WORD = 64, LONGEST_LINE = 100, CHAINS = 1 << 20 }; /* in bytes, and chains of words by their hash */
+enum { LONGEST_WORD = 64, LONGEST_LINE = 100, CHAINS = 1 << 20 }; /* bytes of a word and of a line, and chains */
 
-/* A word, the documents that have it, and how often each of them has it. */
+/* A word, the documents that have it, and how often each has it. Words are in chains by their hash, and in a row. */
 struct word { struct word *next; struct numbers documents, counts; char text[]; };
 static struct word *chains[CHAINS];
 static struct { struct word **items; size_t len; } words;
@@ -128,8 +128,9 @@ static void add_folder(char *folder, int paragraphs)
             err(2, "%s", folder);
         if (errno)
             warn("%s: left out", entry->fts_path);
-        if (entry->fts_info == FTS_F && ++files)
+        if (entry->fts_info == FTS_F)
             add_file(entry->fts_path, paragraphs);
+        files += entry->fts_info == FTS_F;
         if (isatty(STDERR_FILENO) && (ends || files % 64 == 0))
             fprintf(stderr, "\r%zu files%s", files, ends ? "\n" : "");
     }

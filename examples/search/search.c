@@ -71,7 +71,7 @@ static bitpacking_list open_list(const struct search *s, size_t item, uint8_t ki
     bitpacking_list list = BITPACKING_LIST_EMPTY;
     ptrdiff_t opened = bitpacking_list_open(s->bytes + s->bounds[item], s->bounds[item + 1] - s->bounds[item], &list);
     if (opened < 0 || bitpacking_list_kind(&list) != kind)
-        errx(2, DAMAGED "a list of %s: %s", s->file, name, opened < 0 ? bitpacking_error_text(opened) : "another kind");
+        errx(2, DAMAGED "a list of %s: %s", s->file, name, opened < 0 ? bitpacking_error_text(opened) : "wrong kind");
     return list;
 }
 
@@ -105,7 +105,7 @@ static void open_index(struct search *s)
     s->documents = s->lengths.len;
     s->words = (bounds.len - 2 - s->documents) / 3;
     if (s->documents > bounds.len - 2 || s->documents + 3 * s->words != bounds.len - 2)
-        errx(2, DAMAGED "there are items of no word", s->file);
+        errx(2, DAMAGED "the number of items is wrong", s->file);
     for (size_t i = 0; i < s->words; i++) {
         const char *word = word_at(s, i);
         len = s->bounds[s->documents + i + 1] - s->bounds[s->documents + i] - 1;
@@ -119,7 +119,7 @@ static void add_scores(const struct search *s, bitpacking_list list, bitpacking_
 {
     struct numbers documents = unpack(list), counts = unpack(counted);
     if (counts.len != documents.len)
-        errx(2, DAMAGED "a word has another number of counts", s->file);
+        errx(2, DAMAGED "a word has more or fewer counts than documents", s->file);
     double all = (double)s->documents, have = (double)counts.len, rare = log(1 + (all - have + 0.5) / (have + 0.5));
     for (size_t i = 0; i < counts.len; i++) {
         double count = counts.items[i], length = s->lengths.items[documents.items[i]] / fmax(s->total / all, 1);

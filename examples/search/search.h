@@ -23,7 +23,7 @@ struct numbers { uint32_t *items; size_t len; };
 #define PUSH(array, item) \
     ((array).items = grown((array).items, (array).len, sizeof *(array).items), (array).items[(array).len++] = (item))
 
-/* Room for this many items and one more, which is doubled when it is full: when they are a power of two. */
+/* Room for one item more than these. It is full, and is doubled, when their number is a power of two. */
 void *grown(void *items, size_t len, size_t size);
 
 /* The bytes of a list of these values, and how many they are. */

@@ -23,12 +23,13 @@ fn damaged<T>(what: &str) -> Result<T> {
 fn open<'a>(bytes: &'a [u8], kind: Kind, name: &str) -> Result<PackedList<'a>> {
     match PackedList::open(bytes) {
         Err(error) => damaged(&format!("a list of {name}: {error}")),
-        Ok(list) if list.kind() != kind => damaged(&format!("a list of {name}: another kind")),
+        Ok(list) if list.kind() != kind => damaged(&format!("a list of {name}: wrong kind")),
         Ok(list) => Ok(list),
     }
 }
 
-/// An index file and where its items begin, the lengths of documents and their sum, and how many words there are.
+/// An index file and where its items begin: the names of documents, the words, two lists for each word, and the list of
+/// lengths of documents.
 struct Index<'a> {
     bytes: &'a [u8],
     bounds: Vec<u32>,
@@ -53,7 +54,7 @@ impl<'a> Index<'a> {
         let lengths = open(&bytes[last as usize..start], Kind::Plain, "lengths")?.to_vec();
         let lists = (bounds.len() - 2).wrapping_sub(lengths.len());
         if lists > bounds.len() || lists % 3 != 0 {
-            return damaged("there are items of no word");
+            return damaged("the number of items is wrong");
         }
         let total = lengths.iter().map(|&it| f64::from(it)).sum();
         let index = Index { bytes, bounds, lengths, total, words: lists / 3 };
@@ -100,7 +101,7 @@ enum Combine {
     Without,
 }
 
-/// A query, the place where it is read, and what is known so far.
+/// A query, and the place where it is read.
 struct Search<'a> {
     index: &'a Index<'a>,
     query: &'a [u8],
@@ -216,7 +217,7 @@ impl<'a> Search<'a> {
 /// Adds what a word is worth to the scores of its documents, by BM25 with the usual constants.
 fn add_scores(index: &Index, documents: &PackedList, counts: &PackedList, scores: &mut [f64]) -> Result<()> {
     if documents.len() != counts.len() {
-        return damaged("a word has another number of counts");
+        return damaged("a word has more or fewer counts than documents");
     }
     let (all, have) = (scores.len() as f64, counts.len() as f64);
     let rare = (1.0 + (all - have + 0.5) / (have + 0.5)).ln();
