@@ -26,8 +26,7 @@ ENVIRONMENT = dict(os.environ, ASAN_OPTIONS=f"detect_leaks=0:exitcode={STOPPED}"
 # Seconds for one search, which takes far below one.
 PATIENCE = 30
 DAMAGES = 1000
-# Kinds of lists.
-PLAIN, STRICTLY_SORTED = 0, 2
+PLAIN, STRICTLY_SORTED = 0, 2  # kinds of lists
 
 # Queries, and what they mean by the sets of documents in which grep finds a word.
 QUERIES = {
@@ -64,19 +63,12 @@ COUNTS = {
 }
 # What is read for a query, and how many answer it, by hand. A list of 1000 values has 8 blocks, and an AND with one value reads 3 of them.
 # With 3 begin 3, 30 to 39 and 300 to 399, whose 111 lists are united by sixteen; of these numbers 1 + 4 + 34 are multiples of 3.
-BEGIN_WITH_3 = sorted(str(k) for k in [3, *range(30, 40), *range(300, 400)])
+BEGIN_WITH_3 = [f"n{k}: 1 documents in 1 blocks" for k in sorted(map(str, [3, *range(30, 40), *range(300, 400)]))]
+UNITED = [f"unite of {count} lists: at most 1 blocks of each unpacked" for count in [16] * 6 + [15, 7]]
+TWO = "of 2 lists: at most 3 blocks of each unpacked"
 EXPLAINED = {
-    "number n30": (
-        "number: 1000 documents in 8 blocks\n" "n30: 1 documents in 1 blocks\n" "intersect of 2 lists: at most 3 blocks of each unpacked\n",
-        1,
-    ),
-    "fizz -n3*": (
-        "fizz: 333 documents in 3 blocks\n"
-        + "".join(f"n{k}: 1 documents in 1 blocks\n" for k in BEGIN_WITH_3)
-        + "".join(f"unite of {count} lists: at most 1 blocks of each unpacked\n" for count in [16] * 6 + [15, 7])
-        + "subtract of 2 lists: at most 3 blocks of each unpacked\n",
-        333 - 39,
-    ),
+    "number n30": (["number: 1000 documents in 8 blocks", "n30: 1 documents in 1 blocks", f"intersect {TWO}"], 1),
+    "fizz -n3*": (["fizz: 333 documents in 3 blocks", *BEGIN_WITH_3, *UNITED, f"subtract {TWO}"], 333 - 39),
 }
 # Files, and the names that their documents get, in the order of their bytes. None is there for a file that is left out.
 FILES = {
@@ -222,7 +214,7 @@ def by_hand(programs):
     for query, (explained, count) in EXPLAINED.items():
         for name in programs.paths:
             answer = programs.run(name, "find", "--count", "--explain", index, query)
-            right = answer == (0, f"{count} of 1000 documents\n", explained)
+            right = answer == (0, f"{count} of 1000 documents\n", "\n".join([*explained, ""]))
             yield f"{query} explained in {name}", None if right else f"answered {answer}"
 
     write(f"{programs.folder}/F", SCORED)
@@ -267,15 +259,10 @@ def refusals(programs):
         for name in programs.paths:
             answer, wanted = programs.run(name, "find", index, query), (2, "", f"search: {index}: {message}\n")
             yield f"the query {query[:20]} in {name}", None if answer == wanted else f"answered {answer}"
-    usage = "search --help says what is wanted"
-    calls = {
-        "no command": ([], usage),
-        "another command": (["seek", index, "a"], usage),
-        "no FILE": (["index", "files"], usage),
-        "an unknown option": (["find", "--all", index, "a"], usage),
-        "no number": (["find", "--best", "x", index, "a"], usage),
-        "a number below zero": (["find", "--best", "-1", index, "a"], usage),
-        "too great a number": (["find", "--best", "1000", index, "a"], usage),
+    options = [["--all"], ["--best", "x"], ["--best", "-1"], ["--best", "1000"]]
+    usages = [[], ["seek", index, "a"], ["index", "files"], *(["find", *option, index, "a"] for option in options)]
+    calls = {f"the arguments {arguments}": (arguments, "search --help says what is wanted") for arguments in usages}
+    calls |= {
         "no folder": (["index", "nowhere", "new"], "nowhere: No such file or directory"),
         "no place for the index": (["index", "files", "nowhere/new"], "nowhere/new: No such file or directory"),
         "a folder in the place of the index": (["index", "files", "split"], "split: Is a directory"),
@@ -294,7 +281,7 @@ def refusals(programs):
 
 
 def packed(kind, values):
-    """A list of version 3 of fewer than 15 values below 128, as docs/FORMAT.md has it."""
+    """A list of version 3 of fewer than 15 values, of which the first is below 128, as docs/FORMAT.md has it."""
     codes = [value - before - 1 for before, value in zip(values, values[1:])] if kind == STRICTLY_SORTED else values[1:]
     width = max(codes, default=0).bit_length()
     group = sum(code << width * k for k, code in enumerate(codes)).to_bytes((width * len(codes) + 7) // 8, "little")
@@ -302,7 +289,7 @@ def packed(kind, values):
 
 
 def assembled(items):
-    """An index of these items, the bounds of which take two lists of fewer than 15 values below 128."""
+    """An index of these items, which are fewer than 14."""
     bounds = [8 + sum(map(len, items[:k])) for k in range(len(items) + 1)]
     return b"search1\0" + b"".join(items) + packed(STRICTLY_SORTED, bounds) + struct.pack("<I", bounds[-1])
 
@@ -324,21 +311,16 @@ def forged():
         ("a list of lengths: wrong kind", {8: packed(STRICTLY_SORTED, [2, 3])}),
         ("the number of items is wrong", {8: packed(PLAIN, [5])}),
         ("the number of items is wrong", {8: packed(PLAIN, [0] * 11)}),
-        ("word 1 has a wrong sign, or is not in order", {2: b"b\0", 3: b"a\0"}),
-        ("word 1 has a wrong sign, or is not in order", {3: b"a\0"}),
-        ("word 1 has a wrong sign, or is not in order", {3: b"b-\0"}),
-        ("word 1 has a wrong sign, or is not in order", {3: b"b\0c\0"}),
-        ("word 1 has a wrong sign, or is not in order", {3: b"bc"}),
     ]
+    words = [{2: b"b\0", 3: b"a\0"}, {3: b"a\0"}, {3: b"b-\0"}, {3: b"b\0c\0"}, {3: b"bc"}]
+    changes += [("word 1 has a wrong sign, or is not in order", changed) for changed in words]
     for what, changed in changes:
         yield what, assembled([changed.get(place, item) for place, item in enumerate(ITEMS)])
-    whole = assembled(ITEMS)
-    start = struct.unpack("<I", whole[-4:])[0]
+    whole, start = assembled(ITEMS), 8 + sum(map(len, ITEMS))
     yield "it is cut", whole[:-4] + struct.pack("<I", len(whole) - 3)
     yield "a list of bounds: ", whole[:-5] + whole[-4:]
-    yield "the bounds are of other items", whole[:start] + packed(STRICTLY_SORTED, [9, start]) + whole[-4:]
-    yield "the bounds are of other items", whole[:start] + packed(STRICTLY_SORTED, [8, start - 1]) + whole[-4:]
-    yield "the bounds are of other items", whole[:start] + packed(STRICTLY_SORTED, [8]) + whole[-4:]
+    for bounds in [9, start], [8, start - 1], [8]:
+        yield "the bounds are of other items", whole[:start] + packed(STRICTLY_SORTED, bounds) + whole[-4:]
 
 
 def forgeries(programs):
@@ -355,8 +337,7 @@ def forgeries(programs):
 
 
 def damaged(number, whole):
-    """A damaged file, and whether it has to be refused: it is cut, or bytes of its first 8 and last 4, of its bounds, or anywhere are
-    changed."""
+    """A file that is cut, or has other bytes at its ends, in its bounds or anywhere; and whether it has to be refused."""
     chance, start = random.Random(number), struct.unpack("<I", whole[-4:])[0]
     if number % 4 == 0:
         return whole[: chance.randrange(len(whole))], True
