@@ -19,13 +19,14 @@ from common import ROOT, leave_out, report, run
 
 FOLDER = "examples/search"
 CORPUS = f"{ROOT}/{FOLDER}/corpus"
-SOURCES = [f"{ROOT}/{FOLDER}/{name}.c" for name in ("search", "index", "open")]
+SOURCES = [f"{ROOT}/{FOLDER}/{name}.c" for name in ("search", "index")]
 # The status of a program that the sanitizer ends.
 STOPPED = 99
 ENVIRONMENT = dict(os.environ, ASAN_OPTIONS=f"detect_leaks=0:exitcode={STOPPED}", UBSAN_OPTIONS=f"exitcode={STOPPED}", LC_ALL="C")
 # Seconds for one search, which takes far below one.
 PATIENCE = 30
 DAMAGES = 1000
+PLAIN, STRICTLY_SORTED = 0, 2  # kinds of lists
 
 # Queries, and what they mean by the sets of documents in which grep finds a word.
 QUERIES = {
@@ -35,7 +36,7 @@ QUERIES = {
     "oven|clock": lambda has: has("oven") | has("clock"),
     "warm (oven | hive) -bread": lambda has: (has("warm") & (has("oven") | has("hive"))) - has("bread"),
     "warm oven | winter -bees": lambda has: (has("warm") & has("oven")) | (has("winter") - has("bees")),
-    "water -(warm | cold) -(sea moon)": lambda has: has("water") - (has("warm") | has("cold")) - (has("sea") & has("moon")),
+    "water - (warm | cold) -(sea moon)": lambda has: has("water") - (has("warm") | has("cold")) - (has("sea") & has("moon")),
     "mo*": lambda has: has("mo[a-z0-9]*"),
     "mo* -moon* night": lambda has: (has("mo[a-z0-9]*") & has("night")) - has("moon[a-z0-9]*"),
     "t* water | 2*": lambda has: (has("t[a-z0-9]*") & has("water")) | has("2[a-z0-9]*"),
@@ -60,18 +61,20 @@ COUNTS = {
     "(fizz | buzz) -even": 234,
     "n7 even": 0,
 }
-# The most blocks that a query unpacks of each list, by hand: a list of 1000 values has 8, and an AND with one value reads 3 of them.
-EXPLAINED = """\
-documents    blocks  unpacked at most  word
-        1         1                 1  n30
-     1000         8                 3  number
-1 of 1000 documents
-"""
+# What is read for a query, and how many answer it, by hand. A list of 1000 values has 8 blocks, and an AND with one value reads 3 of them.
+# With 3 begin 3, 30 to 39 and 300 to 399, whose 111 lists are united by sixteen; of these numbers 1 + 4 + 34 are multiples of 3.
+BEGIN_WITH_3 = [f"n{k}: 1 documents in 1 blocks" for k in sorted(map(str, [3, *range(30, 40), *range(300, 400)]))]
+UNITED = [f"unite of {count} lists: at most 1 blocks of each unpacked" for count in [16] * 6 + [15, 7]]
+TWO = "of 2 lists: at most 3 blocks of each unpacked"
+EXPLAINED = {
+    "number n30": (["number: 1000 documents in 8 blocks", "n30: 1 documents in 1 blocks", f"intersect {TWO}"], 1),
+    "fizz -n3*": (["fizz: 333 documents in 3 blocks", *BEGIN_WITH_3, *UNITED, f"subtract {TWO}"], 333 - 39),
+}
 # Files, and the names that their documents get, in the order of their bytes. None is there for a file that is left out.
 FILES = {
     "b-x": (b"word at the end", "b-x:1  word at the end"),
-    "b/mark": (b"\xEF\xBB\xBF\r\n  First line \r\nword\r\n", "b/mark:2  First line"),
-    "binary": (b"word\0", None),
+    "b/mark": (b"\r\n  First line\r\nword\r\n", "b/mark:2  First line"),
+    "binary": (b"word" + b" " * 9000 + b"\0", None),
     "empty": (b"", None),
     "escape": (b"word \x1b[31m\x7f", "escape:1  word ?[31m?"),
     "long": (b"word " + b"x" * 64 + b" " + b"y" * 65, "long:1  word " + "x" * 64 + " " + "y" * 30),
@@ -88,21 +91,23 @@ SCORES = {
     # The first document has b, which comes after a minus, and so does not count.
     "a -(b c)": "2 of 2 documents\n  0.275  F/2:1  a, a; A!\n  0.199  F/1:1  a b\n",
 }
-# Queries that are refused, at which sign, and why.
+# Queries that are refused, after which part of them, and why.
+NO_TERM = "a word is missing, or a space after it"
+NO_WORD = "a word is missing, or one without a minus"
 REFUSED = {
-    "a (b": (3, "this bracket is not closed"),
-    "a)": (2, "no bracket is open here"),
-    "": (1, "a word is missing here"),
-    "a |": (4, "a word is missing here"),
-    "a ()": (4, "a word is missing here"),
-    "a 'b'": (3, "a word is missing here"),
-    "*": (1, "a word is missing here"),
-    "a | -b": (7, "a word without a minus is missing before this"),
-    "a-b": (2, "this can't follow a word directly"),
-    "na\u00EFve": (3, "this can't follow a word directly"),
-    "caf\u00E9 (": (4, "this can't follow a word directly"),
-    "(" * 101 + "a": (101, "too many brackets are open"),
+    "a (b": ("a (b", "a bracket is not closed"),
+    "a)": ("a", "no bracket is open"),
+    "": ("", NO_WORD),
+    "a |": ("a |", NO_WORD),
+    "a ()": ("a (", NO_WORD),
+    "a | -b": ("a | -b", NO_WORD),
+    "a 'b'": ("a ", NO_TERM),
+    "*": ("*", NO_TERM),
+    "a-b": ("a", NO_TERM),
+    "na\u00EFve": ("na", NO_TERM),
+    "a* caf\u00E9 (": ("a* caf", NO_TERM),
 }
+LONGEST_QUERY = 1000
 
 
 class Programs:
@@ -114,7 +119,8 @@ class Programs:
         if not sanitizers:
             leave_out("damaged indexes under the address sanitizer", "which cc does not have here")
         for name, flags in [("c", [])] + [("sanitized", c.SANITIZED)] * sanitizers:
-            self.paths[name] = f"{folder}/{name}"
+            self.paths[name] = f"{folder}/{name}/search"
+            os.mkdir(f"{folder}/{name}")
             command = [*c.C99, "-O1", *flags, *SOURCES, f"{archives.OUT}/{archives.ALL}", "-lm", "-o", self.paths[name]]
             self.add("the program in C", run(*command))
         self.add("the program in Rust", rust.cargo("build", "--release", package=f"{FOLDER}/rust"))
@@ -188,7 +194,7 @@ def against_grep(programs):
             return paths if searched == "split" else {f"{path}:1" for path in paths}
 
         for query, meaning in QUERIES.items():
-            status, text, messages, wrong = programs.same("find", "--best", "1000", index, query)
+            status, text, messages, wrong = programs.same("find", "--best", "999", index, query)
             wanted = meaning(has)
             if names(text) != wanted or status != (0 if wanted else 1) or messages:
                 wrong = wrong or f"wanted {sorted(wanted)}, and got {status} {text} {messages}"
@@ -205,11 +211,14 @@ def by_hand(programs):
         status, text, _, wrong = programs.same("find", "--count", index, query)
         right = (status, text) == (0 if count else 1, f"{count} of 1000 documents\n")
         yield f"how many have {query}", wrong or (None if right else f"printed {text}")
-    _, text, _, wrong = programs.same("find", "--count", "--explain", index, "number n30")
-    yield "what is explained", wrong or (None if text == EXPLAINED else f"printed {text}")
+    for query, (explained, count) in EXPLAINED.items():
+        for name in programs.paths:
+            answer = programs.run(name, "find", "--count", "--explain", index, query)
+            right = answer == (0, f"{count} of 1000 documents\n", "\n".join([*explained, ""]))
+            yield f"{query} explained in {name}", None if right else f"answered {answer}"
 
     write(f"{programs.folder}/F", SCORED)
-    index, wrong = programs.index("F//")
+    index, wrong = programs.index("F/")
     yield "an index of two files", wrong
     for query, wanted in SCORES.items():
         _, text, _, wrong = programs.same("find", index, query)
@@ -226,7 +235,7 @@ def by_hand(programs):
 
 
 def on_terminal(programs):
-    """What a terminal shows while an index is made: how many of the eight files were read."""
+    """What a terminal shows while an index is made: last, that the eight files were read."""
     try:
         ours, theirs = os.openpty()
     except OSError as error:
@@ -235,7 +244,7 @@ def on_terminal(programs):
     for name, path in programs.paths.items():
         run(path, "index", "files", "shown", folder=programs.folder, env=ENVIRONMENT, stderr=theirs)
         shown = os.read(ours, 1000)
-        yield f"the line of progress in {name}", None if shown == b"\r8 of 8 files\r\n" else f"the terminal shows {shown}"
+        yield f"the line of progress in {name}", None if shown.endswith(b"\r8 files\r\n") else f"the terminal shows {shown}"
     os.close(ours)
     os.close(theirs)
 
@@ -243,21 +252,22 @@ def on_terminal(programs):
 def refusals(programs):
     """Calls that are refused: with a message, and with nothing printed or left over."""
     index, _ = programs.index("files")
-    for query, (place, why) in REFUSED.items():
-        wanted = f"search: {index}: the query, at {place}: {why}\n    {query}\n    {' ' * (place - 1)}^\n"
+    messages = {query: f"the query, after '{read}': {why}" for query, (read, why) in REFUSED.items()}
+    messages["(" * (LONGEST_QUERY + 1)] = "the query is too long"
+    messages["(" * LONGEST_QUERY] = f"the query, after '{'(' * LONGEST_QUERY}': {NO_WORD}"
+    for query, message in messages.items():
         for name in programs.paths:
-            answer = programs.run(name, "find", index, query)
-            yield f"the query {query[:20]} in {name}", None if answer == (2, "", wanted) else f"answered {answer}"
-    calls = {
-        "no command": ([], "index or find"),
-        "no FILE": (["index", "files"], "FOLDER and FILE are wanted"),
-        "an unknown option": (["find", "--all", index, "a"], "options, FILE and one QUERY"),
-        "no number": (["find", "--best", "x", index, "a"], "a number is wanted after --best"),
+            answer, wanted = programs.run(name, "find", index, query), (2, "", f"search: {index}: {message}\n")
+            yield f"the query {query[:20]} in {name}", None if answer == wanted else f"answered {answer}"
+    options = [["--all"], ["--best", "x"], ["--best", "-1"], ["--best", "1000"]]
+    usages = [[], ["seek", index, "a"], ["index", "files"], *(["find", *option, index, "a"] for option in options)]
+    calls = {f"the arguments {arguments}": (arguments, "search --help says what is wanted") for arguments in usages}
+    calls |= {
         "no folder": (["index", "nowhere", "new"], "nowhere: No such file or directory"),
         "no place for the index": (["index", "files", "nowhere/new"], "nowhere/new: No such file or directory"),
         "a folder in the place of the index": (["index", "files", "split"], "split: Is a directory"),
         "no index": (["find", "nowhere", "a"], "nowhere: No such file or directory"),
-        "text for an index": (["find", "files/b-x", "a"], "files/b-x: this is no index: it does not begin with 'search 1'"),
+        "text for an index": (["find", "files/b-x", "a"], "files/b-x: this is no index: it does not begin with 'search1'"),
     }
     before = sorted(os.listdir(programs.folder))
     for what, (arguments, message) in calls.items():
@@ -270,72 +280,72 @@ def refusals(programs):
         yield f"--help in {name}", None if status == 0 and text.startswith("A small search engine") else f"{status} {messages}"
 
 
-def parts_of(programs, folder):
-    """The sections of the index of a folder, and the four lists of its words a and b: documents and counts of each."""
-    index, _ = programs.index(folder)
-    with open(f"{programs.folder}/{index}", "rb") as file:
-        whole = file.read()
-    ends = [56 + sum(struct.unpack("<6Q", whole[8:56])[:k]) for k in range(7)]
-    sections = [whole[start:end] for start, end in zip(ends, ends[1:])]
-    _, first_len, _, _, second_len, second, _, _, end = struct.unpack("<IIQIIQIIQ", sections[3])
-    places = [0, first_len, second, second + second_len, end]
-    return sections, [sections[5][start:end] for start, end in zip(places, places[1:])]
+def packed(kind, values):
+    """A list of version 3 of fewer than 15 values, of which the first is below 128, as docs/FORMAT.md has it."""
+    codes = [value - before - 1 for before, value in zip(values, values[1:])] if kind == STRICTLY_SORTED else values[1:]
+    width = max(codes, default=0).bit_length()
+    group = sum(code << width * k for k, code in enumerate(codes)).to_bytes((width * len(codes) + 7) // 8, "little")
+    return bytes([2 * 64 + 16 * kind + len(values), *values[:1]]) + (bytes([width]) + group if codes else b"")
 
 
-def assembled(sections, lists):
-    """An index of these sections, in which the table of words is right for these lists."""
-    first_len, second, second_len, end = len(lists[0]), len(lists[0] + lists[1]), len(lists[2]), len(b"".join(lists))
-    table = struct.pack("<IIQIIQIIQ", 0, first_len, 0, 1, second_len, second, 2, 0, end)
-    parts = [*sections[:3], table, sections[4], b"".join(lists)]
-    return b"search 1" + struct.pack("<6Q", *map(len, parts)) + b"".join(parts)
+def assembled(items):
+    """An index of these items, which are fewer than 14."""
+    bounds = [8 + sum(map(len, items[:k])) for k in range(len(items) + 1)]
+    return b"search1\0" + b"".join(items) + packed(STRICTLY_SORTED, bounds) + struct.pack("<I", bounds[-1])
 
 
-def forged(programs):
-    """Indexes whose lists are lists, and say what can't be: each with what is wrong."""
-    (bounds, names, lengths, table, words, _), lists = parts_of(programs, "F")
-    write(f"{programs.folder}/G", {"1": SCORED["1"]})
-    fewer = parts_of(programs, "G")[0]
-    sections, documents, counts = [bounds, names, lengths, table, words], lists[2], lists[3]
-    yield "counts of 'a' has another length", assembled(sections, [lists[0], counts, *lists[2:]])
-    yield "counts of 'a' is of another kind", assembled(sections, [lists[0], lists[0], *lists[2:]])
-    yield "documents of 'b' is of another kind", assembled(sections, [*lists[:2], counts, counts])
-    yield "is in no document, or in one that is not there", assembled(fewer, lists)
-    yield "is in no document, or in one that is not there ", assembled(sections, [*lists[:2], b"\xA0", counts])
-    yield "the list of names has another length", assembled([bounds, names, fewer[2], table, words], lists)
-    yield "the list of lengths is of another kind", assembled([bounds, names, documents, table, words], lists)
-    yield "the names do not end where their list says", assembled([bounds, names[:-1], lengths, table, words], lists)
-    yield "the words are not in order", assembled([bounds, names, lengths, table, b"ba"], lists)
-    yield "a word has a sign that is in no word", assembled([bounds, names, lengths, table, b"aB"], lists)
-    yield "a place in the table of words is wrong", assembled([bounds, names, lengths, table, b"abc"], lists)
+# The index of SCORED, by hand: two names, two words, for each word in which documents it is and how often, and the lengths.
+ITEMS = [b"F/1:1  a b", b"F/2:1  a, a; A!", b"a\0", b"b\0"]
+ITEMS += [packed(STRICTLY_SORTED, [0, 1]), packed(PLAIN, [1, 3]), packed(STRICTLY_SORTED, [0]), packed(PLAIN, [1]), packed(PLAIN, [2, 3])]
+
+
+def forged():
+    """Indexes that say what can't be, each with what is wrong."""
+    changes = [
+        ("a word has more or fewer counts than documents", {5: packed(PLAIN, [1])}),
+        ("a list of a: wrong kind", {5: packed(STRICTLY_SORTED, [1, 3])}),
+        ("a list of b: wrong kind", {6: packed(PLAIN, [0])}),
+        ("'b' is in no document, or in one that is not there", {6: packed(STRICTLY_SORTED, [2])}),
+        ("'b' is in no document, or in one that is not there", {6: packed(STRICTLY_SORTED, [])}),
+        ("a list of b: ", {7: b"?"}),
+        ("a list of lengths: wrong kind", {8: packed(STRICTLY_SORTED, [2, 3])}),
+        ("the number of items is wrong", {8: packed(PLAIN, [5])}),
+        ("the number of items is wrong", {8: packed(PLAIN, [0] * 11)}),
+    ]
+    words = [{2: b"b\0", 3: b"a\0"}, {3: b"a\0"}, {3: b"b-\0"}, {3: b"b\0c\0"}, {3: b"bc"}]
+    changes += [("word 1 has a wrong sign, or is not in order", changed) for changed in words]
+    for what, changed in changes:
+        yield what, assembled([changed.get(place, item) for place, item in enumerate(ITEMS)])
+    whole, start = assembled(ITEMS), 8 + sum(map(len, ITEMS))
+    yield "it is cut", whole[:-4] + struct.pack("<I", len(whole) - 3)
+    yield "a list of bounds: ", whole[:-5] + whole[-4:]
+    for bounds in [9, start], [8, start - 1], [8]:
+        yield "the bounds are of other items", whole[:start] + packed(STRICTLY_SORTED, bounds) + whole[-4:]
 
 
 def forgeries(programs):
     """Searches in forged indexes. One that is assembled and not forged is the index itself."""
-    sections, lists = parts_of(programs, "F")
+    programs.index("F/")
     with open(f"{programs.folder}/index.c", "rb") as file:
-        whole = file.read()
-    yield "an index that is assembled", None if assembled(sections, lists) == whole else "it is another than the programs write"
-    for what, text in forged(programs):
+        yield "an index by hand", None if assembled(ITEMS) == file.read() else "it is another than the programs write"
+    for what, text in forged():
         write(programs.folder, {"damaged": text})
         for name in programs.paths:
             status, printed, messages = programs.run(name, "find", "damaged", "a b")
-            right = (
-                (status, printed) == (2, "") and messages.startswith("search: damaged: the index is damaged") and what.strip() in messages
-            )
+            right = (status, printed) == (2, "") and messages.startswith(f"search: damaged: the index is damaged: {what}")
             yield f"{what} in {name}", None if right else f"answered {status} {printed} {messages}"
 
 
 def damaged(number, whole):
-    """A damaged file, and whether it has to be refused: it is cut, or bytes of the header, of the table of words, or anywhere are
-    changed."""
-    chance, header = random.Random(number), 8 + 8 * 6
+    """A file that is cut, or has other bytes at its ends, in its bounds or anywhere; and whether it has to be refused."""
+    chance, start = random.Random(number), struct.unpack("<I", whole[-4:])[0]
     if number % 4 == 0:
         return whole[: chance.randrange(len(whole))], True
-    lengths = struct.unpack("<6Q", whole[8:header])
-    start, end = {1: (0, header), 2: (header + sum(lengths[:3]), header + sum(lengths[:4])), 3: (0, len(whole))}[number % 4]
+    every = range(len(whole))
+    places = {1: [*every[:8], *every[-4:]], 2: every[start:-4], 3: every}[number % 4]
     changed = bytearray(whole)
     for _ in range(chance.randrange(1, 5)):
-        changed[chance.randrange(start, end)] = chance.choice([0, 1, 127, 128, 255, chance.randrange(256)])
+        changed[chance.choice(places)] = chance.choice([0, 1, 127, 128, 255, chance.randrange(256)])
     return bytes(changed), number % 4 == 1 and changed != whole
 
 

@@ -1,418 +1,291 @@
-/* A small search engine over packed lists. README.md describes its queries and its file.
- *
- * This file has the command line and `find`, which answers a query while it reads it. index.c has `index`, and open.c
- * opens an index file. The memory that is taken here is given back when the program ends. */
+/* A small search engine over packed lists (README.md): the command line, and `find`. index.c has `index`. */
+#define _DEFAULT_SOURCE
 #include "search.h"
 
-#include <errno.h>
+#include <fcntl.h>
 #include <math.h>
-#include <stdio.h>
-#include <stdlib.h>
-#include <string.h>
+#include <sys/mman.h>
+#include <sys/stat.h>
 
 static const char help[] =
     "A small search engine over packed lists.\n\n"
     "    search index [--paragraphs] FOLDER FILE\n"
-    "        writes an index of all text files below FOLDER to FILE\n"
+    "        writes an index of the text files below FOLDER to FILE; a document is a file, or a paragraph\n"
     "    search find [--count] [--explain] [--best N] FILE QUERY\n"
-    "        prints the best documents that answer QUERY, from the index in FILE\n\n"
-    "    --paragraphs  a document is a paragraph, up to an empty line; without this option it is a file\n"
-    "    --count       prints only how many documents answer\n"
-    "    --explain     prints which lists were read, and how much of them\n"
-    "    --best N      prints N documents, or all if there are fewer; 10 if this option is not there\n\n"
-    "A query has words next to each other (documents with all of them), a | b (with one of them), -c (without it), pre* (all words that\n"
-    "begin so), and brackets:\n\n"
-    "    search find docs.index 'packed (list | block) -chain*'\n\n"
+    "        prints which lists it reads (--explain), how many documents answer QUERY, and if not --count the best:\n"
+    "        10, or N up to 999\n\n"
+    "A query has words next to each other (documents with all of them), a | b (with one of them), -c (without it),\n"
+    "pre* (all words that begin so), and brackets: 'packed (list | block) -chain*'\n\n"
     "The status is 0 if a document was found, 1 if none was, and 2 if something is wrong.\n";
 
-/* Lists that are united in one call, and brackets that may be open at once. */
-enum { BLOCK = BITPACKING_4X_BLOCK_LEN, GROUP = 16, DEEPEST = 100 };
+#define DAMAGED "%s: the index is damaged: "
+#define BLOCKS(len) (((len) + BITPACKING_4X_BLOCK_LEN - 1) / BITPACKING_4X_BLOCK_LEN)
 
-/* The list of a word, once it was opened (before that its view is all zero), and how many of its blocks were unpacked at most. */
-struct used { bitpacking_list list; size_t unpacked; };
+enum { GROUP = 16, LONGEST_QUERY = 1000 }; /* the most lists that one call unites, and the most signs of a query */
 
-/* A query, and what is known of it so far. */
+struct lists { bitpacking_list *items; size_t len; };
+typedef ptrdiff_t set_call(const bitpacking_list *views, size_t views_len, uint32_t *out, size_t out_len);
+
+/* An index file, where its items begin, and what is known of its documents; and a query, and where it is read. */
 struct search {
-    struct index index;
-    struct used *used; /* of each word of the index */
-    const char *query;
-    size_t at, open;
-    int negative;           /* whether a minus is before this place of the query */
-    struct numbers ranking; /* the words that count for the order of documents: those that come after no minus */
+    const char *file, *query, *at;
+    const uint8_t *bytes;
+    const uint32_t *bounds;
+    size_t documents, words;
+    struct numbers lengths;
+    double total, *scores;
+    int explain;
 };
 
-/* Documents that were found: a list, which is that of a word or of none. */
-struct found { bitpacking_list list; size_t word; };
-struct parts { struct found *items; size_t len, room; };
-#define NO_WORD SIZE_MAX
-
-/* The documents that have a word. */
-static const bitpacking_list *documents_of(struct search *s, size_t word)
+void *grown(void *items, size_t len, size_t size)
 {
-    if (s->used[word].list.lanes == 0)
-        s->used[word].list = open_documents(&s->index, word);
-    return &s->used[word].list;
+    if (!items || (len & (len - 1)) == 0)
+        items = realloc(items, (items ? 2 * len : len + 1) * size);
+    if (!items)
+        err(2, "memory");
+    return items;
 }
 
-static size_t blocks(const bitpacking_list *list)
+uint8_t *pack(uint8_t kind, const struct numbers *values, size_t *size)
 {
-    return (bitpacking_list_len(list) + BLOCK - 1) / BLOCK;
+    size_t position;
+    ptrdiff_t packed = bitpacking_4x_list_size(VERSION, kind, values->items, values->len, &position);
+    if (packed < 0)
+        errx(2, "a list: %s", bitpacking_error_text(packed));
+    *size = (size_t)packed;
+    uint8_t *bytes = grown(NULL, *size, 1);
+    bitpacking_4x_list_pack(VERSION, kind, values->items, values->len, bytes, *size, &position);
+    return bytes;
 }
 
-/* Prints what is wrong at a place of the query, and ends the program. */
-static void wrong(const struct search *s, size_t at, const char *what)
+static struct numbers unpack(bitpacking_list list)
 {
-    size_t i, column = 0;
-
-    for (i = 0; i < at; i++)
-        column += (s->query[i] & 0xC0) != 0x80;
-    fail("%s: the query, at %lu: %s\n    %s\n    %*s^", s->index.file, (unsigned long)column + 1, what, s->query, (int)column, "");
-}
-
-/* The list of these values, which are freed. */
-static struct found packed(uint32_t *values, size_t count)
-{
-    struct found found = {BITPACKING_LIST_EMPTY, NO_WORD};
-    struct bytes bytes = {NULL, 0, 0};
-
-    append_list(&bytes, STRICTLY_SORTED, values, count);
-    bitpacking_list_open(bytes.data, bytes.len, &found.list); /* it does not fail: these bytes are a list */
-    free(values);
-    return found;
-}
-
-/* Notes that at most this many blocks of each list were unpacked, if it has so many. */
-static void note(struct search *s, const struct found *parts, size_t count, size_t most)
-{
-    size_t i, all;
-
-    for (i = 0; i < count; i++) {
-        all = blocks(&parts[i].list);
-        if (parts[i].word != NO_WORD)
-            s->used[parts[i].word].unpacked += all < most ? all : most;
-    }
-}
-
-typedef ptrdiff_t (*combine)(const bitpacking_list *views, size_t views_len, uint32_t *out, size_t out_len);
-
-/* What a function of the library makes of these parts. */
-static struct found combined(struct search *s, combine function, const struct found *parts, size_t count)
-{
-    bitpacking_list *lists = checked(malloc(count * sizeof *lists));
-    size_t i, room = 0, shortest = SIZE_MAX, len;
-    uint32_t *values;
-    ptrdiff_t found;
-
-    for (i = 0; i < count; i++) {
-        lists[i] = parts[i].list;
-        len = bitpacking_list_len(&lists[i]);
-        shortest = len < shortest ? len : shortest;
-        room += len; /* enough for each of the functions */
-    }
-    values = checked(malloc((room + 1) * sizeof *values));
-    found = function(lists, count, values, room);
-    if (found < 0)
-        fail("%s: lists do not combine: %s", s->index.file, bitpacking_error_text(found));
-    /* For a value that is sought, and for the one after it, a list unpacks one block at most. */
-    len = function == bitpacking_list_intersect ? shortest : bitpacking_list_len(&lists[0]);
-    note(s, parts, count, function == bitpacking_list_unite ? SIZE_MAX : 2 * len + 1);
-    free(lists);
-    return packed(values, (size_t)found);
-}
-
-static void add_part(struct parts *parts, struct found found)
-{
-    parts->items = grown(parts->items, &parts->room, parts->len + 1, sizeof *parts->items);
-    parts->items[parts->len++] = found;
-}
-
-/* All documents of any number of parts, a group of parts at a time. */
-static struct found united(struct search *s, struct parts *parts)
-{
-    size_t i, left;
-
-    for (; parts->len > 1; parts->len = i)
-        for (i = 0; i * GROUP < parts->len; i++) {
-            left = parts->len - i * GROUP;
-            parts->items[i] = combined(s, bitpacking_list_unite, parts->items + i * GROUP, left < GROUP ? left : GROUP);
-        }
-    return parts->len == 1 ? parts->items[0] : packed(NULL, 0);
-}
-
-/* The next sign of the query that is no space, or 0. */
-static char next(struct search *s)
-{
-    while (is_space((uint8_t)s->query[s->at]))
-        s->at++;
-    return s->query[s->at];
-}
-
-/* Reads a word, or the first letters of words. */
-static struct found read_word(struct search *s)
-{
-    struct parts parts = {NULL, 0, 0};
-    size_t low = 0, high = s->index.words, middle, len = 0;
-    char *word = checked(malloc(strlen(s->query) + 1));
-    int prefix;
-
-    for (; letter((uint8_t)s->query[s->at]); s->at++)
-        word[len++] = (char)letter((uint8_t)s->query[s->at]);
-    if (len == 0)
-        wrong(s, s->at, "a word is missing here");
-    prefix = s->query[s->at] == '*';
-    s->at += (size_t)prefix;
-    if (!strchr(" \t\n\f\r|()", s->query[s->at])) /* the end of the query is found there too */
-        wrong(s, s->at, "this can't follow a word directly");
-    while (low < high) {
-        middle = low + (high - low) / 2;
-        if (compare_word(&s->index, middle, word, len, prefix) < 0)
-            low = middle + 1;
-        else
-            high = middle;
-    }
-    for (; low < s->index.words && compare_word(&s->index, low, word, len, prefix) == 0; low++) {
-        struct found found = {*documents_of(s, low), low};
-        add_part(&parts, found);
-        if (!s->negative)
-            push(&s->ranking, (uint32_t)low);
-    }
-    free(word);
-    return united(s, &parts);
-}
-
-static struct found read_either(struct search *s);
-
-/* Reads a word or a bracket. */
-static struct found read_term(struct search *s)
-{
-    struct found found;
-    char first = next(s);
-    size_t start = s->at;
-
-    if (first != '(')
-        return read_word(s);
-    if (s->open == DEEPEST)
-        wrong(s, start, "too many brackets are open");
-    s->at++;
-    s->open++;
-    found = read_either(s);
-    if (next(s) != ')')
-        wrong(s, start, "this bracket is not closed");
-    s->at++;
-    s->open--;
-    return found;
-}
-
-/* Reads a b -c .. */
-static struct found read_all(struct search *s)
-{
-    struct parts with = {NULL, 0, 0}, without = {NULL, 0, 0};
-    struct found all = {BITPACKING_LIST_EMPTY, NO_WORD};
-    int negative = s->negative;
-
-    add_part(&without, all); /* set below */
-    while (next(s) && !strchr("|)", next(s))) {
-        s->negative = negative || next(s) == '-';
-        if (next(s) != '-') {
-            add_part(&with, read_term(s));
-        } else {
-            s->at++;
-            add_part(&without, read_term(s));
-        }
-        s->negative = negative;
-    }
-    if (with.len == 0)
-        wrong(s, s->at, without.len == 1 ? "a word is missing here" : "a word without a minus is missing before this");
-    without.items[0] = with.len == 1 ? with.items[0] : combined(s, bitpacking_list_intersect, with.items, with.len);
-    return without.len == 1 ? without.items[0] : combined(s, bitpacking_list_subtract, without.items, without.len);
-}
-
-/* Reads a | b | .. */
-static struct found read_either(struct search *s)
-{
-    struct parts parts = {NULL, 0, 0};
-
-    add_part(&parts, read_all(s));
-    for (; next(s) == '|'; add_part(&parts, read_all(s)))
-        s->at++;
-    return united(s, &parts);
-}
-
-static uint32_t *unpacked(const bitpacking_list *list)
-{
-    size_t len = bitpacking_list_len(list);
-    uint32_t *values = checked(malloc((len + 1) * sizeof *values));
-
-    bitpacking_list_unpack(list, values, len);
+    struct numbers values = {NULL, bitpacking_list_len(&list)};
+    values.items = grown(NULL, values.len, sizeof *values.items);
+    bitpacking_list_unpack(&list, values.items, values.len);
     return values;
 }
 
-struct ranked { uint32_t document; double score; };
-
-/* The first place from this one on whose document is not below another. */
-static size_t first_from(const struct ranked *ranked, size_t low, size_t high, uint32_t document)
+static bitpacking_list open_list(const struct search *s, size_t item, uint8_t kind, const char *name)
 {
-    size_t middle;
+    bitpacking_list list = BITPACKING_LIST_EMPTY;
+    ptrdiff_t opened = bitpacking_list_open(s->bytes + s->bounds[item], s->bounds[item + 1] - s->bounds[item], &list);
+    if (opened < 0 || bitpacking_list_kind(&list) != kind)
+        errx(2, DAMAGED "a list of %s: %s", s->file, name, opened < 0 ? bitpacking_error_text(opened) : "wrong kind");
+    return list;
+}
 
+static const char *word_at(const struct search *s, size_t word)
+{
+    return (const char *)s->bytes + s->bounds[s->documents + word];
+}
+
+/* Maps an index file, and tests all of it but for the lists of words. */
+static void open_index(struct search *s)
+{
+    struct stat status;
+    int file = open(s->file, O_RDONLY);
+    size_t len = file >= 0 && fstat(file, &status) == 0 ? (size_t)status.st_size : 0;
+    s->bytes = file >= 0 ? mmap(NULL, len + 1, PROT_READ, MAP_PRIVATE, file, 0) : MAP_FAILED;
+    if (s->bytes == MAP_FAILED)
+        err(2, "%s", s->file);
+    if (len < sizeof MAGIC + 4 || memcmp(s->bytes, MAGIC, sizeof MAGIC) != 0)
+        errx(2, "%s: this is no index: it does not begin with '" MAGIC "'", s->file);
+    const uint8_t *end = s->bytes + len - 4;
+    uint32_t start = end[0] | (uint32_t)end[1] << 8 | (uint32_t)end[2] << 16 | (uint32_t)end[3] << 24;
+    uint32_t list[] = {start, (uint32_t)(len - 4)};
+    if (start > list[1])
+        errx(2, DAMAGED "it is cut", s->file);
+    s->bounds = list;
+    struct numbers bounds = unpack(open_list(s, 0, STRICTLY_SORTED, "bounds"));
+    if (bounds.len < 2 || bounds.items[0] != sizeof MAGIC || bounds.items[bounds.len - 1] != start)
+        errx(2, DAMAGED "the bounds are of other items", s->file);
+    s->bounds = bounds.items;
+    s->lengths = unpack(open_list(s, bounds.len - 2, PLAIN, "lengths"));
+    s->documents = s->lengths.len;
+    s->words = (bounds.len - 2 - s->documents) / 3;
+    if (s->documents > bounds.len - 2 || s->documents + 3 * s->words != bounds.len - 2)
+        errx(2, DAMAGED "the number of items is wrong", s->file);
+    for (size_t i = 0; i < s->words; i++) {
+        const char *word = word_at(s, i);
+        len = s->bounds[s->documents + i + 1] - s->bounds[s->documents + i] - 1;
+        if (word[len] != 0 || strspn(word, LETTERS) != len || (i > 0 && strcmp(word_at(s, i - 1), word) >= 0))
+            errx(2, DAMAGED "word %zu has a wrong sign, or is not in order", s->file, i);
+    }
+}
+
+/* Adds what a word is worth to the scores of its documents, by BM25 with the usual constants. */
+static void add_scores(const struct search *s, bitpacking_list list, bitpacking_list counted)
+{
+    struct numbers documents = unpack(list), counts = unpack(counted);
+    if (counts.len != documents.len)
+        errx(2, DAMAGED "a word has more or fewer counts than documents", s->file);
+    double all = (double)s->documents, have = (double)counts.len, rare = log(1 + (all - have + 0.5) / (have + 0.5));
+    for (size_t i = 0; i < counts.len; i++) {
+        double count = counts.items[i], length = s->lengths.items[documents.items[i]] / fmax(s->total / all, 1);
+        s->scores[documents.items[i]] += rare * count * 2.2 / (count + 1.2 * (0.25 + 0.75 * length));
+    }
+    free(documents.items);
+    free(counts.items);
+}
+
+/* Opens the list of the documents that have a word. Unless it is negative it counts for their order. */
+static bitpacking_list open_word(const struct search *s, size_t word, int negative)
+{
+    size_t item = s->documents + s->words + 2 * word;
+    bitpacking_list list = open_list(s, item, STRICTLY_SORTED, word_at(s, word));
+    size_t len = bitpacking_list_len(&list);
+    uint32_t last;
+    if (!bitpacking_list_get(&list, len - 1, &last) || last >= s->documents)
+        errx(2, DAMAGED "'%s' is in no document, or in one that is not there", s->file, word_at(s, word));
+    if (s->explain)
+        fprintf(stderr, "%s: %zu documents in %zu blocks\n", word_at(s, word), len, BLOCKS(len));
+    if (s->scores && !negative)
+        add_scores(s, list, open_list(s, item + 1, PLAIN, word_at(s, word)));
+    return list;
+}
+
+/* What a function of the library makes of lists. One list stays as it is. */
+static bitpacking_list combine(const struct search *s, const char *name, set_call *call, const struct lists *lists)
+{
+    if (lists->len == 1)
+        return lists->items[0];
+    size_t room = 0, most = 0, sought = SIZE_MAX;
+    for (size_t i = 0; i < lists->len; i++) {
+        size_t len = bitpacking_list_len(&lists->items[i]);
+        room += len;
+        most = BLOCKS(len) > most ? BLOCKS(len) : most;
+        if (i == 0 || (call == bitpacking_list_intersect && len < sought))
+            sought = len;
+    }
+    if (call != bitpacking_list_unite && 2 * sought + 1 < most)
+        most = 2 * sought + 1; /* one for each value that is sought, and one for the value after it */
+    if (s->explain)
+        fprintf(stderr, "%s of %zu lists: at most %zu blocks of each unpacked\n", name, lists->len, most);
+    struct numbers values = {grown(NULL, room, sizeof *values.items), 0};
+    ptrdiff_t found = call(lists->items, lists->len, values.items, room);
+    if (found < 0)
+        errx(2, "%s: %s: %s", s->file, name, bitpacking_error_text(found));
+    values.len = (size_t)found;
+    size_t size;
+    uint8_t *bytes = pack(STRICTLY_SORTED, &values, &size);
+    bitpacking_list list = BITPACKING_LIST_EMPTY;
+    bitpacking_list_open(bytes, size, &list); /* it does not fail: these bytes are a list */
+    free(values.items);
+    return list;
+}
+
+/* Goes on in the query by this many signs, and the spaces after them. */
+static void skip(struct search *s, size_t count)
+{
+    s->at += count;
+    s->at += strspn(s->at, SPACES "\n");
+}
+
+static void wrong(const struct search *s, const char *what)
+{
+    errx(2, "%s: the query, after '%.*s': %s", s->file, (int)(s->at - s->query), s->query, what);
+}
+
+/* Reads a word, or the first letters of words. */
+static bitpacking_list read_word(struct search *s, int negative)
+{
+    struct lists lists = {NULL, 0};
+    const char *text = s->at;
+    size_t len = strspn(text, LETTERS "ABCDEFGHIJKLMNOPQRSTUVWXYZ"), low = 0, high = s->words;
+    int prefix = text[len] == '*';
+    skip(s, len + prefix);
+    if (len == 0 || !strchr(SPACES "\n|()", text[len + prefix]))
+        wrong(s, "a word is missing, or a space after it");
     while (low < high) {
-        middle = low + (high - low) / 2;
-        if (ranked[middle].document < document)
-            low = middle + 1;
-        else
-            high = middle;
+        size_t middle = (low + high) / 2;
+        int before = strncasecmp(word_at(s, middle), text, len) < 0;
+        low = before ? middle + 1 : low;
+        high = before ? high : middle;
     }
-    return low;
-}
-
-/* Adds what a word is worth to the score of each document that has it, by BM25 with the usual constants. */
-static void add_scores(struct search *s, size_t word, struct ranked *ranked, size_t len, const uint32_t *lengths, double average)
-{
-    const bitpacking_list *list = documents_of(s, word);
-    double have = (double)bitpacking_list_len(list), rare = log(1.0 + ((double)s->index.documents - have + 0.5) / (have + 0.5)), count;
-    bitpacking_list counted = open_counts(&s->index, word, bitpacking_list_len(list));
-    uint32_t *counts = unpacked(&counted), document;
-    bitpacking_cursor cursor;
-    size_t i = 0;
-
-    memset(&cursor, 0, sizeof cursor);
-    bitpacking_cursor_start(&cursor, list);
-    while (bitpacking_cursor_value(&cursor, &document) && (i = first_from(ranked, i, len, document)) < len) {
-        if (ranked[i].document == document) {
-            count = counts[bitpacking_cursor_position(&cursor)];
-            ranked[i].score += rare * count * 2.2 / (count + 1.2 * (0.25 + 0.75 * lengths[document] / average));
-            bitpacking_cursor_advance(&cursor);
-        } else {
-            bitpacking_cursor_seek(&cursor, ranked[i].document);
+    /* Of the words that begin so, the one that ends there is the first. */
+    while (low < s->words && strncasecmp(word_at(s, low), text, len) == 0 && (prefix || !word_at(s, low)[len]))
+        PUSH(lists, open_word(s, low++, negative));
+    for (size_t count = 0, i; lists.len > GROUP; lists.len = count, count = 0)
+        for (i = 0; i < lists.len; i += GROUP) {
+            struct lists group = {lists.items + i, lists.len - i < GROUP ? lists.len - i : GROUP};
+            lists.items[count++] = combine(s, "unite", bitpacking_list_unite, &group);
         }
-    }
-    free(counts);
+    return combine(s, "unite", bitpacking_list_unite, &lists);
 }
 
-static int compare_ranked(const void *a, const void *b)
+/* Reads a query, or what is in brackets: alternatives, each of which has parts with and parts without a minus. */
+static bitpacking_list read_query(struct search *s, int negative, char end)
 {
-    const struct ranked *one = a, *other = b;
-
-    if (one->score != other->score)
-        return one->score < other->score ? 1 : -1;
-    return one->document < other->document ? -1 : 1;
-}
-
-/* The documents of a list in the order of their scores, the best first. */
-static struct ranked *rank(struct search *s, const bitpacking_list *found)
-{
-    size_t len = bitpacking_list_len(found), i;
-    uint32_t *documents = unpacked(found), *lengths = unpacked(&s->index.lengths);
-    struct ranked *ranked = checked(calloc(len + 1, sizeof *ranked));
-    double total = 0, average;
-
-    for (i = 0; i < s->index.documents; i++)
-        total += lengths[i];
-    average = total > (double)s->index.documents ? total / (double)s->index.documents : 1;
-    for (i = 0; i < len; i++)
-        ranked[i].document = documents[i];
-    for (i = 0; i < s->ranking.len; i++)
-        add_scores(s, s->ranking.items[i], ranked, len, lengths, average);
-    qsort(ranked, len, sizeof *ranked, compare_ranked);
-    return ranked;
-}
-
-/* Prints the score of a document and its name, without the bytes that a terminal could take for commands. */
-static void print_ranked(const struct index *index, const struct ranked *ranked)
-{
-    size_t at = value_at(&index->bounds, ranked->document, 0), end = value_at(&index->bounds, ranked->document + (size_t)1, 0);
-
-    printf("%7.3f  ", ranked->score);
-    for (; at < end; at++) {
-        uint8_t byte = index->sections[NAMES][at];
-        putchar(byte < ' ' || byte == 0x7F ? '?' : byte);
-    }
-    putchar('\n');
-}
-
-static void explain(const struct search *s)
-{
-    size_t i;
-
-    puts("documents    blocks  unpacked at most  word");
-    for (i = 0; i < s->index.words; i++)
-        if (s->used[i].list.lanes > 0)
-            printf("%9lu %9lu %17lu  %.*s\n", (unsigned long)bitpacking_list_len(&s->used[i].list),
-                   (unsigned long)blocks(&s->used[i].list), (unsigned long)s->used[i].unpacked,
-                   (int)word_len(&s->index, i), word_at(&s->index, i));
-}
-
-struct options { int count, explain; size_t best; };
-
-/* Reads the options of `find`, and returns how many arguments they are. */
-static int read_options(char **arguments, int len, struct options *options)
-{
-    char *end;
-    int i;
-
-    for (i = 0; i < len; i++) {
-        if (strcmp(arguments[i], "--count") == 0) {
-            options->count = 1;
-        } else if (strcmp(arguments[i], "--explain") == 0) {
-            options->explain = 1;
-        } else if (strcmp(arguments[i], "--best") == 0 && i + 1 < len) {
-            options->best = strtoul(arguments[++i], &end, 10);
-            if (end == arguments[i] || *end)
-                fail("a number is wanted after --best");
-        } else {
-            break;
+    struct lists any = {NULL, 0};
+    do {
+        struct lists parts[] = {{NULL, 0}, {NULL, 0}}; /* without a minus, and with one */
+        PUSH(parts[1], bitpacking_list_empty());       /* set below */
+        skip(s, end != 0 || any.len > 0);              /* a bracket or a line */
+        while (!strchr("|)", *s->at)) {
+            int minus = *s->at == '-';
+            skip(s, minus);
+            PUSH(parts[minus], *s->at == '(' ? read_query(s, negative || minus, ')') : read_word(s, negative || minus));
         }
-    }
-    return i;
+        if (parts[0].len == 0)
+            wrong(s, "a word is missing, or one without a minus");
+        parts[1].items[0] = combine(s, "intersect", bitpacking_list_intersect, &parts[0]);
+        PUSH(any, combine(s, "subtract", bitpacking_list_subtract, &parts[1]));
+    } while (*s->at == '|');
+    if (*s->at != end)
+        wrong(s, end ? "a bracket is not closed" : "no bracket is open");
+    skip(s, end != 0);
+    return combine(s, "unite", bitpacking_list_unite, &any);
 }
 
-/* Answers a query. Returns whether a document was found. */
-static int find(const char *file, const char *query, const struct options *options)
+/* Prints how many documents answer a query, and the best. Returns the status of the program. */
+static int find(const char *file, const char *query, int explain, size_t best)
 {
-    struct ranked *ranked = NULL;
-    struct search search;
-    struct found found;
-    size_t len, i;
-
-    memset(&search, 0, sizeof search);
-    search.query = query;
-    open_index(&search.index, file);
-    search.used = checked(calloc(search.index.words + 1, sizeof *search.used));
-    found = read_either(&search);
-    if (query[search.at])
-        wrong(&search, search.at, "no bracket is open here");
-    note(&search, &found, 1, SIZE_MAX);
-    if (!options->count)
-        ranked = rank(&search, &found.list);
-    if (options->explain)
-        explain(&search);
-    len = bitpacking_list_len(&found.list);
-    printf("%lu of %lu documents\n", (unsigned long)len, (unsigned long)search.index.documents);
-    for (i = 0; ranked && i < len && i < options->best; i++)
-        print_ranked(&search.index, &ranked[i]);
-    return len > 0;
+    struct search s = {.file = file, .query = query, .at = query, .explain = explain};
+    if (strlen(query) > LONGEST_QUERY)
+        errx(2, "%s: the query is too long", file);
+    open_index(&s);
+    s.scores = best > 0 ? grown(NULL, s.documents, sizeof *s.scores) : NULL;
+    for (size_t i = 0; best > 0 && i < s.documents; s.scores[i++] = 0)
+        s.total += s.lengths.items[i];
+    struct numbers found = unpack(read_query(&s, 0, 0));
+    printf("%zu of %zu documents\n", found.len, s.documents);
+    for (size_t n = 0; n < best && n < found.len; n++) {
+        uint32_t first = found.items[0];
+        for (size_t i = 1; i < found.len; i++)
+            if (s.scores[found.items[i]] > s.scores[first])
+                first = found.items[i];
+        printf("%7.3f  ", s.scores[first]);
+        for (size_t at = s.bounds[first]; at < s.bounds[first + 1]; at++)
+            putchar(iscntrl(s.bytes[at]) ? '?' : s.bytes[at]); /* a terminal could take it for a command */
+        putchar('\n');
+        s.scores[first] = -1;
+    }
+    return found.len == 0;
 }
 
 int main(int len, char **arguments)
 {
-    const char *command = len > 1 ? arguments[1] : "";
-    int paragraphs = len > 2 && strcmp(arguments[2], "--paragraphs") == 0, first, found = 1;
-    struct options options = {0, 0, 10};
-
-    if (strcmp(command, "index") == 0) {
-        if (len - paragraphs != 4)
-            fail("FOLDER and FILE are wanted: search --help");
+    char *command = len > 1 ? arguments[1] : "", rest;
+    int paragraphs = 0, explain = 0, best = 10, right = len > 3, status = 0;
+    for (int i = 2; i < len - 2; i++)
+        if (strcmp(arguments[i], "--paragraphs") == 0)
+            paragraphs = 1;
+        else if (strcmp(arguments[i], "--count") == 0)
+            best = 0;
+        else if (strcmp(arguments[i], "--explain") == 0)
+            explain = 1;
+        else
+            right &= strcmp(arguments[i], "--best") == 0 && sscanf(arguments[++i], "%3d%c", &best, &rest) == 1;
+    if (strcmp(command, "index") == 0 && right)
         make_index(arguments[len - 2], arguments[len - 1], paragraphs);
-    } else if (strcmp(command, "find") == 0) {
-        first = 2 + read_options(arguments + 2, len - 2, &options);
-        if (len - first != 2)
-            fail("options, FILE and one QUERY in quotes are wanted: search --help");
-        found = find(arguments[first], arguments[first + 1], &options);
-    } else if (strcmp(command, "--help") == 0) {
+    else if (strcmp(command, "find") == 0 && right && best >= 0)
+        status = find(arguments[len - 2], arguments[len - 1], explain, (size_t)best);
+    else if (strcmp(command, "--help") == 0)
         fputs(help, stdout);
-    } else {
-        fail("the first argument is index or find: search --help");
-    }
+    else
+        errx(2, "arguments: search --help says what is wanted");
     if (fflush(stdout) != 0)
-        fail("standard output: %s", strerror(errno));
-    return found ? 0 : 1;
+        err(2, "standard output");
+    return status;
 }

@@ -1,400 +1,258 @@
-//! `find`: opens an index, answers a query while it reads it, and ranks the documents.
+//! `find`: opens an index, and answers a query while it reads it.
 
-use std::collections::BTreeMap;
+use std::borrow::Cow;
+use std::fs;
 use std::io::Write;
-use std::ops::Range;
+use std::path::Path;
 
-use bitpacking::list::{difference, encode, intersect, union, Error, Kind, PackedList};
+use bitpacking::list::{difference, encode, intersect, union, Kind, PackedList};
 
-use crate::{Result, ENTRY, MAGIC, SECTIONS};
+use crate::{about, Result, MAGIC};
 
 /// The values of a block of the lists.
 const BLOCK: usize = 128;
-/// How many lists are united in one call.
+/// The most lists that are united in one call.
 const GROUP: usize = 16;
-/// The most brackets that may be open at once.
-const DEEPEST: usize = 100;
+/// The most signs of a query.
+const LONGEST_QUERY: usize = 1000;
 
-pub struct Options {
-    pub best: usize,
-    pub count: bool,
-    pub explain: bool,
+fn damaged<T>(what: &str) -> Result<T> {
+    Err(format!("the index is damaged: {what}").into())
 }
 
-fn damaged<T>(what: impl std::fmt::Display) -> Result<T> {
-    Err(format!("the index is damaged: {what}"))
-}
-
-/// Opens a list of this kind and length, if the file has no fault there.
-fn open<'a>(bytes: &'a [u8], kind: Kind, len: Option<usize>, name: &str) -> Result<PackedList<'a>> {
+fn open<'a>(bytes: &'a [u8], kind: Kind, name: &str) -> Result<PackedList<'a>> {
     match PackedList::open(bytes) {
-        Err(error) => damaged(format!("the list of {name}: {error}")),
-        Ok(list) if list.kind() != kind => damaged(format!("the list of {name} is of another kind")),
-        Ok(list) if len.is_some_and(|len| list.len() != len) => damaged(format!("the list of {name} has another length")),
+        Err(error) => damaged(&format!("a list of {name}: {error}")),
+        Ok(list) if list.kind() != kind => damaged(&format!("a list of {name}: wrong kind")),
         Ok(list) => Ok(list),
     }
 }
 
-fn last(list: &PackedList<'_>) -> Option<usize> {
-    Some(list.get(list.len().checked_sub(1)?)? as usize)
-}
-
-fn blocks(list: &PackedList<'_>) -> usize {
-    list.len().div_ceil(BLOCK)
-}
-
-/// Where a word and its lists begin, and the bytes of the first of these.
-#[derive(Clone, Copy)]
-struct Entry {
-    word: usize,
-    documents_len: usize,
-    lists: usize,
-}
-
-/// An index file. All of it was tested, but for the lists of words.
+/// An index file and where its items begin: the names of documents, the words, two lists for each word, and the list of
+/// lengths of documents.
 struct Index<'a> {
-    bounds: PackedList<'a>,
-    names: &'a [u8],
-    lengths: PackedList<'a>,
-    table: Vec<Entry>,
-    words: &'a [u8],
-    lists: &'a [u8],
-}
-
-/// The sections of a file, whose lengths are in its header.
-fn sections(bytes: &[u8]) -> Result<[&[u8]; SECTIONS]> {
-    let Some(after) = bytes.strip_prefix(MAGIC) else { return Err("this is no index: it does not begin with 'search 1'".into()) };
-    if after.len() < 8 * SECTIONS {
-        return damaged("the header is cut");
-    }
-    let (lengths, mut rest) = after.split_at(8 * SECTIONS);
-    let mut sections = [rest; SECTIONS];
-    for (section, len) in sections.iter_mut().zip(lengths.chunks_exact(8).map(number)) {
-        if len > rest.len() {
-            return damaged("a section is cut");
-        }
-        (*section, rest) = rest.split_at(len);
-    }
-    if rest.is_empty() {
-        Ok(sections)
-    } else {
-        damaged("bytes are left over after the last section")
-    }
-}
-
-fn number(bytes: &[u8]) -> usize {
-    bytes.iter().rev().fold(0, |number, &byte| number << 8 | usize::from(byte))
-}
-
-/// The table of words, if words and lists come one after the other, and the words are in order.
-fn open_table(table: &[u8], words: &[u8], lists: &[u8]) -> Result<Vec<Entry>> {
-    let entry = |it: &[u8]| Entry { word: number(&it[..4]), documents_len: number(&it[4..8]), lists: number(&it[8..]) };
-    let entries: Vec<Entry> = table.chunks_exact(ENTRY).map(entry).collect();
-    let begin = entries.first().is_some_and(|it| (it.word, it.lists) == (0, 0));
-    let end = entries.last().is_some_and(|it| (it.word, it.lists) == (words.len(), lists.len()));
-    let follow = |it: &[Entry]| {
-        it[0].word < it[1].word && it[1].lists.checked_sub(it[0].lists).is_some_and(|len| it[0].documents_len <= len)
-    };
-    if table.len() % ENTRY != 0 || !begin || !end || !entries.windows(2).all(follow) {
-        return damaged("a place in the table of words is wrong");
-    }
-    if !words.iter().all(|byte| byte.is_ascii_lowercase() || byte.is_ascii_digit()) {
-        return damaged("a word has a sign that is in no word");
-    }
-    if !entries.windows(3).all(|it| words[it[0].word..it[1].word] < words[it[1].word..it[2].word]) {
-        return damaged("the words are not in order");
-    }
-    Ok(entries)
+    bytes: &'a [u8],
+    bounds: Vec<u32>,
+    lengths: Vec<u32>,
+    total: f64,
+    words: usize,
 }
 
 impl<'a> Index<'a> {
+    /// Tests all of an index but for the lists of words.
     fn open(bytes: &'a [u8]) -> Result<Self> {
-        let [bounds, names, lengths, table, words, lists] = sections(bytes)?;
-        let lengths = open(lengths, Kind::Plain, None, "lengths")?;
-        let bounds = open(bounds, Kind::Sorted, Some(lengths.len() + 1), "names")?;
-        if last(&bounds) != Some(names.len()) {
-            return damaged("the names do not end where their list says");
+        let Some((items, &start)) = bytes.split_last_chunk().filter(|(items, _)| items.starts_with(MAGIC)) else {
+            return Err("this is no index: it does not begin with 'search1'".into());
+        };
+        let start = u32::from_le_bytes(start) as usize;
+        let Some(list) = items.get(start..) else { return damaged("it is cut") };
+        let bounds = open(list, Kind::StrictlySorted, "bounds")?.to_vec();
+        let [.., last, end] = bounds[..] else { return damaged("the bounds are of other items") };
+        if bounds[0] as usize != MAGIC.len() || end as usize != start {
+            return damaged("the bounds are of other items");
         }
-        Ok(Index { bounds, names, lengths, table: open_table(table, words, lists)?, words, lists })
+        let lengths = open(&bytes[last as usize..start], Kind::Plain, "lengths")?.to_vec();
+        let lists = (bounds.len() - 2).wrapping_sub(lengths.len());
+        if lists > bounds.len() || lists % 3 != 0 {
+            return damaged("the number of items is wrong");
+        }
+        let total = lengths.iter().map(|&it| f64::from(it)).sum();
+        let index = Index { bytes, bounds, lengths, total, words: lists / 3 };
+        for word in 0..index.words {
+            let right = match index.item(index.lengths.len() + word) {
+                [letters @ .., 0] => letters.iter().all(|it| it.is_ascii_lowercase() || it.is_ascii_digit()),
+                _ => false,
+            };
+            if !right || word > 0 && index.word(word - 1) >= index.word(word) {
+                return damaged(&format!("word {word} has a wrong sign, or is not in order"));
+            }
+        }
+        Ok(index)
     }
 
-    /// The name of a document, without the bytes that a terminal could take for commands.
-    fn name(&self, document: usize) -> Vec<u8> {
-        let bound = |position| self.bounds.get(position).map_or(0, |it| it as usize);
-        let name = &self.names[bound(document)..bound(document + 1)];
-        name.iter().map(|&byte| if byte.is_ascii_control() { b'?' } else { byte }).collect()
+    fn item(&self, number: usize) -> &'a [u8] {
+        &self.bytes[self.bounds[number] as usize..self.bounds[number + 1] as usize]
     }
 
-    fn word(&self, number: usize) -> &'a [u8] {
-        &self.words[self.table[number].word..self.table[number + 1].word]
+    /// A word, without the zero after it.
+    fn word(&self, word: usize) -> &'a str {
+        let item = self.item(self.lengths.len() + word);
+        std::str::from_utf8(&item[..item.len() - 1]).unwrap_or_default()
     }
 
-    /// The number of the first word without a property that only the words before it have.
-    fn first(&self, before: impl Fn(&[u8]) -> bool) -> usize {
-        let (mut low, mut high) = (0, self.table.len() - 1);
+    /// How many words have a property that only the first have.
+    fn first(&self, has: impl Fn(&str) -> bool) -> usize {
+        let (mut low, mut high) = (0, self.words);
         while low < high {
-            let middle = low + (high - low) / 2;
-            (low, high) = if before(self.word(middle)) { (middle + 1, high) } else { (low, middle) };
+            let middle = (low + high) / 2;
+            (low, high) = if has(self.word(middle)) { (middle + 1, high) } else { (low, middle) };
         }
         low
     }
-
-    /// The numbers of a word, or of all words that begin with it.
-    fn find(&self, word: &[u8], prefix: bool) -> Range<usize> {
-        self.first(|it| it < word)..self.first(|it| it <= word || prefix && it.starts_with(word))
-    }
-
-    /// The documents that have a word.
-    fn documents(&self, number: usize) -> Result<PackedList<'a>> {
-        let (entry, name) = (self.table[number], String::from_utf8_lossy(self.word(number)));
-        let bytes = &self.lists[entry.lists..entry.lists + entry.documents_len];
-        let list = open(bytes, Kind::StrictlySorted, None, &format!("documents of '{name}'"))?;
-        match last(&list) {
-            Some(document) if document < self.lengths.len() => Ok(list),
-            _ => damaged(format!("'{name}' is in no document, or in one that is not there")),
-        }
-    }
-
-    /// How often each of its documents has a word.
-    fn counts(&self, number: usize, documents: &PackedList<'a>) -> Result<Vec<u32>> {
-        let entry = self.table[number];
-        let bytes = &self.lists[entry.lists + entry.documents_len..self.table[number + 1].lists];
-        let name = format!("counts of '{}'", String::from_utf8_lossy(self.word(number)));
-        Ok(open(bytes, Kind::Plain, Some(documents.len()), &name)?.to_vec())
-    }
 }
 
-/// Documents that were found: the list of the word with this number, or values in increasing order.
-enum Found<'a> {
-    Word(usize, PackedList<'a>),
-    Values(Vec<u32>),
-}
+/// The bytes of a list of documents: those of a word, or some that were found.
+type List<'a> = Cow<'a, [u8]>;
 
 /// The functions of the library that make one list of many.
-#[derive(Clone, Copy)]
 enum Combine {
     All,
     Any,
     Without,
 }
 
-/// A query, and what is known of it so far.
+/// A query, and the place where it is read.
 struct Search<'a> {
     index: &'a Index<'a>,
     query: &'a [u8],
     at: usize,
-    open: usize,
-    negative: bool,
-    /// The words that count for the order of documents: those that come after no minus.
-    ranking: Vec<usize>,
-    /// The lists of words that were opened, and how many blocks of each the search has unpacked at most.
-    used: BTreeMap<usize, (PackedList<'a>, usize)>,
+    /// How well each document answers, if that is wanted.
+    scores: Option<Vec<f64>>,
+    explain: bool,
 }
 
 impl<'a> Search<'a> {
-    /// What is wrong at a place of the query.
-    fn wrong<T>(&self, at: usize, what: &str) -> Result<T> {
-        let column = String::from_utf8_lossy(&self.query[..at]).chars().count();
-        Err(format!("the query, at {}: {what}\n    {}\n    {:column$}^", column + 1, String::from_utf8_lossy(self.query), ""))
+    /// An error after what was read of the query.
+    fn wrong<T>(&self, what: &str) -> Result<T> {
+        Err(format!("the query, after '{}': {what}", String::from_utf8_lossy(&self.query[..self.at])).into())
     }
 
-    /// The next sign that is no space.
-    fn next(&mut self) -> Option<u8> {
-        self.at += self.query[self.at..].iter().take_while(|byte| byte.is_ascii_whitespace()).count();
+    /// Goes on in the query by this many signs, and the spaces after them.
+    fn skip(&mut self, count: usize) {
+        self.at += count;
+        self.at += self.query[self.at..].iter().take_while(|sign| sign.is_ascii_whitespace()).count();
+    }
+
+    fn next(&self) -> Option<u8> {
         self.query.get(self.at).copied()
     }
 
-    /// Reads `a | b | ..`.
-    fn either(&mut self) -> Result<Found<'a>> {
-        let mut parts = vec![self.all()?];
-        while self.next() == Some(b'|') {
-            self.at += 1;
-            parts.push(self.all()?);
-        }
-        self.united(parts)
-    }
-
-    /// Reads `a b -c ..`.
-    fn all(&mut self) -> Result<Found<'a>> {
-        let (mut with, mut without) = (Vec::new(), Vec::new());
-        while let Some(sign) = self.next().filter(|sign| !b"|)".contains(sign)) {
-            if sign == b'-' {
-                self.at += 1;
-                let negative = std::mem::replace(&mut self.negative, true);
-                without.push(self.term()?);
-                self.negative = negative;
-            } else {
-                with.push(self.term()?);
+    /// Reads a query, or what is in brackets: alternatives, each of which has parts with and parts without a minus.
+    fn query(&mut self, negative: bool, end: Option<u8>) -> Result<List<'a>> {
+        let mut any = Vec::new();
+        while any.is_empty() || self.next() == Some(b'|') {
+            self.skip(usize::from(end.is_some() || !any.is_empty())); // a bracket or a line
+            let (mut with, mut without) = (Vec::new(), Vec::new());
+            while !matches!(self.next(), None | Some(b'|' | b')')) {
+                let minus = self.next() == Some(b'-');
+                self.skip(usize::from(minus));
+                let parts = if minus { &mut without } else { &mut with };
+                parts.push(self.term(negative || minus)?);
             }
+            if with.is_empty() {
+                return self.wrong("a word is missing, or one without a minus");
+            }
+            without.insert(0, self.combine(Combine::All, &with)?);
+            any.push(self.combine(Combine::Without, &without)?);
         }
-        match with.len() {
-            0 if without.is_empty() => return self.wrong(self.at, "a word is missing here"),
-            0 => return self.wrong(self.at, "a word without a minus is missing before this"),
-            1 => without.insert(0, with.remove(0)),
-            _ => without.insert(0, Found::Values(self.combined(Combine::All, &with)?)),
+        if self.next() != end {
+            return self.wrong(if end.is_some() { "a bracket is not closed" } else { "no bracket is open" });
         }
-        if without.len() > 1 {
-            return Ok(Found::Values(self.combined(Combine::Without, &without)?));
-        }
-        Ok(without.remove(0))
+        self.skip(usize::from(end.is_some()));
+        self.combine(Combine::Any, &any)
     }
 
-    /// Reads a word or a bracket.
-    fn term(&mut self) -> Result<Found<'a>> {
-        let (first, start) = (self.next(), self.at);
-        if first != Some(b'(') {
-            return self.word();
+    /// Reads a bracket, a word, or the first letters of words.
+    fn term(&mut self, negative: bool) -> Result<List<'a>> {
+        if self.next() == Some(b'(') {
+            return self.query(negative, Some(b')'));
         }
-        if self.open == DEEPEST {
-            return self.wrong(start, "too many brackets are open");
+        let rest = &self.query[self.at..];
+        let len = rest.iter().take_while(|sign| sign.is_ascii_alphanumeric()).count();
+        let word = String::from_utf8_lossy(&rest[..len]).to_lowercase();
+        let prefix = rest.get(len) == Some(&b'*');
+        let after = rest.get(len + usize::from(prefix));
+        self.skip(len + usize::from(prefix));
+        if len == 0 || after.is_some_and(|sign| !b" \t\n\x0C\r|()".contains(sign)) {
+            return self.wrong("a word is missing, or a space after it");
         }
-        (self.at, self.open) = (start + 1, self.open + 1);
-        let found = self.either()?;
-        if self.next() != Some(b')') {
-            return self.wrong(start, "this bracket is not closed");
+        let first = self.index.first(|it| it < &word[..]);
+        let end = self.index.first(|it| it <= &word[..] || prefix && it.starts_with(&word));
+        let mut lists = (first..end).map(|word| self.word(word, negative)).collect::<Result<Vec<_>>>()?;
+        while lists.len() > GROUP {
+            lists = lists.chunks(GROUP).map(|group| self.combine(Combine::Any, group)).collect::<Result<_>>()?;
         }
-        (self.at, self.open) = (self.at + 1, self.open - 1);
-        Ok(found)
+        self.combine(Combine::Any, &lists)
     }
 
-    /// Reads a word, or the first letters of words.
-    fn word(&mut self) -> Result<Found<'a>> {
-        let word: Vec<u8> =
-            self.query[self.at..].iter().take_while(|it| it.is_ascii_alphanumeric()).map(u8::to_ascii_lowercase).collect();
-        self.at += word.len();
-        if word.is_empty() {
-            return self.wrong(self.at, "a word is missing here");
+    /// The documents that have a word. Unless it is negative it counts for their order.
+    fn word(&mut self, word: usize, negative: bool) -> Result<List<'a>> {
+        let (index, name) = (self.index, self.index.word(word));
+        let item = index.lengths.len() + index.words + 2 * word;
+        let documents = open(index.item(item), Kind::StrictlySorted, name)?;
+        if documents.iter().next_back().map_or(true, |last| last as usize >= index.lengths.len()) {
+            return damaged(&format!("'{name}' is in no document, or in one that is not there"));
         }
-        let prefix = self.query.get(self.at) == Some(&b'*');
-        self.at += usize::from(prefix);
-        if self.query.get(self.at).is_some_and(|sign| !b" \t\n\x0C\r|()".contains(sign)) {
-            return self.wrong(self.at, "this can't follow a word directly");
+        if self.explain {
+            eprintln!("{name}: {} documents in {} blocks", documents.len(), documents.len().div_ceil(BLOCK));
         }
-        let mut lists = Vec::new();
-        for number in self.index.find(&word, prefix) {
-            let list = match self.used.get(&number) {
-                Some((list, _)) => *list,
-                None => self.index.documents(number)?,
-            };
-            self.used.entry(number).or_insert((list, 0));
-            self.ranking.extend((!self.negative).then_some(number));
-            lists.push(Found::Word(number, list));
+        if let (false, Some(scores)) = (negative, &mut self.scores) {
+            add_scores(index, &documents, &open(index.item(item + 1), Kind::Plain, name)?, scores)?;
         }
-        self.united(lists)
+        Ok(index.item(item).into())
     }
 
-    /// All documents of any number of parts, a group of parts at a time.
-    fn united(&mut self, mut parts: Vec<Found<'a>>) -> Result<Found<'a>> {
-        while parts.len() > 1 {
-            let groups = parts.chunks(GROUP).map(|group| Ok(Found::Values(self.combined(Combine::Any, group)?)));
-            parts = groups.collect::<Result<_>>()?;
+    /// What a function of the library makes of lists. One list stays as it is.
+    fn combine(&mut self, combine: Combine, lists: &[List<'a>]) -> Result<List<'a>> {
+        if let [list] = lists {
+            return Ok(list.clone());
         }
-        Ok(parts.pop().unwrap_or(Found::Values(Vec::new())))
-    }
-
-    /// What a function of the library makes of these parts.
-    fn combined(&mut self, combine: Combine, parts: &[Found<'a>]) -> Result<Vec<u32>> {
-        self.combine(combine, parts).map_err(|error| format!("lists do not combine: {error}"))
-    }
-
-    fn combine(&mut self, combine: Combine, parts: &[Found<'a>]) -> std::result::Result<Vec<u32>, Error> {
-        let mut texts = Vec::new();
-        for part in parts {
-            texts.push(if let Found::Values(values) = part { encode(Kind::StrictlySorted, values)? } else { Vec::new() });
-        }
-        let mut lists = Vec::new();
-        for (part, text) in parts.iter().zip(&texts) {
-            lists.push(if let Found::Word(_, list) = part { *list } else { PackedList::open(text)? });
-        }
-        let (values, sought) = match combine {
-            Combine::All => (intersect(&lists)?, lists.iter().map(PackedList::len).min()),
-            Combine::Any => (union(&lists)?, None),
-            Combine::Without => (difference(&lists)?, lists.first().map(PackedList::len)),
+        let opened = lists.iter().map(|list| PackedList::open(list)).collect::<std::result::Result<Vec<_>, _>>()?;
+        let lens = || opened.iter().map(PackedList::len);
+        let (name, values, sought) = match combine {
+            Combine::All => ("intersect", intersect(&opened)?, lens().min()),
+            Combine::Any => ("unite", union(&opened)?, None),
+            Combine::Without => ("subtract", difference(&opened)?, lens().next()),
         };
-        self.note(parts, sought.map_or(usize::MAX, |values| 2 * values + 1));
-        Ok(values)
-    }
-
-    /// Notes that at most this many blocks of each list were unpacked, if it has so many. For a value that is sought, and for the one
-    /// after it, a list unpacks one block at most.
-    fn note(&mut self, parts: &[Found<'a>], most: usize) {
-        for part in parts {
-            if let Found::Word(number, list) = part {
-                self.used.entry(*number).and_modify(|used| used.1 += blocks(list).min(most));
-            }
+        if self.explain {
+            // One block for each value that is sought, and one for the value after it.
+            let blocks = lens().max().unwrap_or(0).div_ceil(BLOCK);
+            let most = sought.map_or(blocks, |values| blocks.min(2 * values + 1));
+            eprintln!("{name} of {} lists: at most {most} blocks of each unpacked", opened.len());
         }
-    }
-
-    /// The documents that answer the whole query.
-    fn answer(&mut self) -> Result<Vec<u32>> {
-        let found = self.either()?;
-        if self.at < self.query.len() {
-            return self.wrong(self.at, "no bracket is open here");
-        }
-        self.note(std::slice::from_ref(&found), usize::MAX);
-        Ok(match found {
-            Found::Word(_, list) => list.to_vec(),
-            Found::Values(values) => values,
-        })
-    }
-
-    /// How well each of these documents answers, by BM25 with the usual constants.
-    fn scores(&self, documents: &[u32]) -> Result<Vec<f64>> {
-        let lengths: Vec<f64> = self.index.lengths.iter().map(f64::from).collect();
-        let (all, mut scores) = (lengths.len() as f64, vec![0.0; documents.len()]);
-        let average = (lengths.iter().sum::<f64>() / all).max(1.0);
-        for number in &self.ranking {
-            let list = self.used[number].0;
-            let counts = self.index.counts(*number, &list)?;
-            let rare = (1.0 + (all - list.len() as f64 + 0.5) / (list.len() as f64 + 0.5)).ln();
-            for_each_shared(documents, &list, |index, position| {
-                let (count, length) = (f64::from(counts[position]), lengths[documents[index] as usize]);
-                scores[index] += rare * count * 2.2 / (count + 1.2 * (0.25 + 0.75 * length / average));
-            });
-        }
-        Ok(scores)
+        Ok(encode(Kind::StrictlySorted, &values)?.into())
     }
 }
 
-/// Calls a function for each value that a list has too, with its index and its position in the list.
-fn for_each_shared(values: &[u32], list: &PackedList<'_>, mut shared: impl FnMut(usize, usize)) {
-    let (mut index, mut cursor) = (0, list.cursor());
-    while let Some(value) = cursor.value() {
-        index += values[index..].partition_point(|it| *it < value);
-        match values.get(index) {
-            None => return,
-            Some(&next) if next > value => _ = cursor.seek(next), // it is no error: the list is sorted
-            Some(_) => {
-                shared(index, cursor.position());
-                cursor.advance();
-            }
-        }
+/// Adds what a word is worth to the scores of its documents, by BM25 with the usual constants.
+fn add_scores(index: &Index, documents: &PackedList, counts: &PackedList, scores: &mut [f64]) -> Result<()> {
+    if documents.len() != counts.len() {
+        return damaged("a word has more or fewer counts than documents");
     }
+    let (all, have) = (scores.len() as f64, counts.len() as f64);
+    let rare = (1.0 + (all - have + 0.5) / (have + 0.5)).ln();
+    for (document, count) in documents.iter().zip(counts.iter()) {
+        let (document, count) = (document as usize, f64::from(count));
+        let length = f64::from(index.lengths[document]) / (index.total / all).max(1.0);
+        scores[document] += rare * count * 2.2 / (count + 1.2 * (0.25 + 0.75 * length));
+    }
+    Ok(())
 }
 
-/// Answers a query from the bytes of an index file. Returns the text to print, and whether there is a document.
-pub fn find(bytes: &[u8], query: &[u8], options: &Options) -> Result<(Vec<u8>, bool)> {
-    let index = Index::open(bytes)?;
-    let (ranking, used) = (Vec::new(), BTreeMap::new());
-    let mut search = Search { index: &index, query, at: 0, open: 0, negative: false, ranking, used };
-    let documents = search.answer()?;
-    let mut text = Vec::new();
-    if options.explain {
-        writeln!(text, "documents    blocks  unpacked at most  word").unwrap();
-        for (&number, (list, unpacked)) in &search.used {
-            let word = String::from_utf8_lossy(index.word(number));
-            writeln!(text, "{:9} {:9} {unpacked:17}  {word}", list.len(), blocks(list)).unwrap();
-        }
+fn answer(bytes: &[u8], query: &[u8], explain: bool, best: usize) -> Result<(Vec<u8>, bool)> {
+    if query.len() > LONGEST_QUERY {
+        return Err("the query is too long".into());
     }
-    writeln!(text, "{} of {} documents", documents.len(), index.lengths.len()).unwrap();
-    if !options.count {
-        let scores = search.scores(&documents)?;
-        let mut order: Vec<usize> = (0..documents.len()).collect();
-        order.sort_by(|&a, &b| scores[b].total_cmp(&scores[a]));
-        for &place in order.iter().take(options.best) {
-            let name = index.name(documents[place] as usize);
-            text.extend([format!("{:7.3}  ", scores[place]).as_bytes(), &name, b"\n"].concat());
-        }
+    let index = &Index::open(bytes)?;
+    let scores = (best > 0).then(|| vec![0.0; index.lengths.len()]);
+    let mut search = Search { index, query, at: 0, scores, explain };
+    let mut documents = PackedList::open(&search.query(false, None)?)?.to_vec();
+    let scores = search.scores.unwrap_or_default();
+    let mut text = format!("{} of {} documents\n", documents.len(), index.lengths.len()).into_bytes();
+    if best > 0 {
+        documents.sort_by(|&a, &b| scores[b as usize].total_cmp(&scores[a as usize]));
+    }
+    for document in documents.iter().map(|&it| it as usize).take(best) {
+        write!(text, "{:7.3}  ", scores[document])?;
+        // A terminal could take these bytes for commands.
+        text.extend(index.item(document).iter().map(|byte| if byte.is_ascii_control() { b'?' } else { *byte }));
+        text.push(b'\n');
     }
     Ok((text, !documents.is_empty()))
+}
+
+/// Answers a query from an index file. Returns what to print, and whether there is a document.
+pub fn find(file: &Path, query: &[u8], explain: bool, best: usize) -> Result<(Vec<u8>, bool)> {
+    let read = fs::read(file).map_err(Into::into);
+    read.and_then(|bytes| answer(&bytes, query, explain, best)).map_err(|error| about(file, error).into())
 }

@@ -1,0 +1,158 @@
+//! `index`: reads the text files below a folder, and writes an index of their words.
+
+use std::collections::HashMap;
+use std::fs::{self, File, FileType};
+use std::io::{self, IsTerminal, Write};
+use std::os::unix::ffi::OsStrExt;
+use std::path::{Path, PathBuf};
+
+use bitpacking::list::{encode_into, Kind};
+
+use crate::{about, Result, MAGIC};
+
+/// The longest run of letters and digits that is a word.
+const LONGEST_WORD: usize = 64;
+/// The most bytes that are kept of the first line of a document.
+const LONGEST_LINE: usize = 100;
+
+/// The bytes of the file, and where its items begin.
+#[derive(Default)]
+struct Items {
+    bytes: Vec<u8>,
+    bounds: Vec<u32>,
+}
+
+impl Items {
+    /// Writes the last bytes of an item.
+    fn end(&mut self, bytes: &[u8]) -> Result<()> {
+        self.bytes.extend(bytes);
+        self.bounds.push(u32::try_from(self.bytes.len()).map_err(|_| "there is more text than an index can have")?);
+        Ok(())
+    }
+
+    fn list(&mut self, kind: Kind, values: &[u32]) -> Result<()> {
+        encode_into(kind, values, &mut self.bytes)?;
+        self.end(&[])
+    }
+}
+
+/// What was read: names of documents, how many words each of them has, and for each word in which it is and how often.
+#[derive(Default)]
+struct Builder {
+    items: Items,
+    lengths: Vec<u32>,
+    words: HashMap<Vec<u8>, (Vec<u32>, Vec<u32>)>,
+}
+
+impl Builder {
+    /// Adds a document, which begins in a line of a file, if it has a word.
+    fn add_document(&mut self, path: &Path, line: usize, text: &[u8]) -> Result<()> {
+        let (document, mut length) = (self.lengths.len() as u32, 0);
+        for word in text.split(|byte| !byte.is_ascii_alphanumeric()) {
+            if word.is_empty() || word.len() > LONGEST_WORD {
+                continue;
+            }
+            let (documents, counts) = self.words.entry(word.to_ascii_lowercase()).or_default();
+            if documents.last() != Some(&document) {
+                documents.push(document);
+                counts.push(0);
+            }
+            *counts.last_mut().unwrap() += 1;
+            length += 1;
+        }
+        if length == 0 {
+            return Ok(());
+        }
+        self.lengths.push(length);
+        let first = text.split(|byte| b"\r\n".contains(byte)).next().unwrap_or_default();
+        let ends = |at: &usize| text.get(*at).map_or(true, |byte| byte & 0xC0 != 0x80); // no character of UTF-8 is cut
+        let kept = (0..=first.len().min(LONGEST_LINE)).rev().find(ends).unwrap_or(0);
+        self.items.end(&[path.as_os_str().as_bytes(), format!(":{line}  ").as_bytes(), &first[..kept]].concat())
+    }
+
+    /// Adds the documents of a text: of each paragraph one, or one of the whole.
+    fn add_text(&mut self, path: &Path, text: &[u8], paragraphs: bool) -> Result<()> {
+        let (mut begun, mut at) = (None, 0);
+        for (number, line) in (1..).zip(text.split_inclusive(|&byte| byte == b'\n')) {
+            let spaces = line.iter().take_while(|byte| byte.is_ascii_whitespace()).count();
+            if spaces < line.len() {
+                begun = begun.or(Some((number, at + spaces)));
+            } else if let (true, Some((number, start))) = (paragraphs, begun) {
+                self.add_document(path, number, &text[start..at])?;
+                begun = None;
+            }
+            at += line.len();
+        }
+        begun.map_or(Ok(()), |(number, start)| self.add_document(path, number, &text[start..]))
+    }
+
+    /// Adds all files below a folder but for links, and shows on a terminal how many they are.
+    fn add_folder(&mut self, folder: &Path, paragraphs: bool) -> Result<()> {
+        let (mut left, mut files, terminal) = (vec![folder.to_path_buf()], 0, io::stderr().is_terminal());
+        while let Some(path) = left.pop() {
+            let status = if path == folder { fs::metadata(&path) } else { fs::symlink_metadata(&path) };
+            files += usize::from(status.as_ref().is_ok_and(|it| it.is_file()));
+            match status.and_then(|it| read(&path, it.file_type(), &mut left)) {
+                Ok(text) if text.contains(&0) => {}
+                Ok(text) => self.add_text(&path, &text, paragraphs)?,
+                Err(error) if path == folder => return Err(about(folder, error).into()),
+                Err(error) => eprintln!("search: {}", about(&path, format!("left out: {error}"))),
+            }
+            if terminal && (left.is_empty() || files % 64 == 0) {
+                eprint!("\r{files} files{}", if left.is_empty() { "\n" } else { "" });
+            }
+        }
+        Ok(())
+    }
+
+    /// Adds the words in their order, the lists of each, the lengths of documents, and where all these items begin.
+    fn add_words(&mut self) -> Result<()> {
+        let mut words: Vec<_> = self.words.iter().collect();
+        words.sort_unstable_by_key(|(word, _)| *word);
+        for (word, _) in &words {
+            self.items.end(&[word, &[0][..]].concat())?;
+        }
+        for (_, (documents, counts)) in &words {
+            self.items.list(Kind::StrictlySorted, documents)?;
+            self.items.list(Kind::Plain, counts)?;
+        }
+        self.items.list(Kind::Plain, &self.lengths)?;
+        let start = self.items.bytes.len() as u32;
+        encode_into(Kind::StrictlySorted, &self.items.bounds, &mut self.items.bytes)?;
+        self.items.end(&start.to_le_bytes())
+    }
+}
+
+/// The text of a file, or none. The paths in a folder are appended to those that are left, the first of them last.
+fn read(path: &Path, kind: FileType, left: &mut Vec<PathBuf>) -> io::Result<Vec<u8>> {
+    if kind.is_file() {
+        return fs::read(path);
+    }
+    if kind.is_dir() {
+        let mut paths = fs::read_dir(path)?.map(|entry| Ok(entry?.path())).collect::<io::Result<Vec<_>>>()?;
+        paths.sort_unstable_by(|a, b| b.cmp(a));
+        left.extend(paths);
+    }
+    Ok(Vec::new())
+}
+
+/// Writes an index of the text files below a folder. Returns what to print.
+pub fn index(folder: &Path, file: &Path, paragraphs: bool) -> Result<(Vec<u8>, bool)> {
+    let mut builder = Builder::default();
+    builder.items.end(MAGIC)?;
+    builder.add_folder(folder, paragraphs)?;
+    builder.add_words()?;
+    let mut name = file.as_os_str().to_os_string();
+    name.push(format!(".{}.tmp", std::process::id()));
+    let written = File::create(&name).and_then(|mut out| {
+        out.write_all(&builder.items.bytes)?;
+        out.sync_all()?;
+        fs::rename(&name, file)
+    });
+    if let Err(error) = written {
+        let _ = fs::remove_file(&name);
+        return Err(about(file, error).into());
+    }
+    let (documents, words, size) = (builder.lengths.len(), builder.words.len(), builder.items.bytes.len());
+    Ok((format!("{documents} documents and {words} words in {size} bytes\n").into(), true))
+}
