@@ -1,5 +1,6 @@
 -- The definitions of the callers.
 pub mod Postings
+pub mod Query
 pub mod Selected
 pub mod Sets
 pub mod Stored

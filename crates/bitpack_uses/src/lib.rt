@@ -16,6 +16,7 @@ pub mod membership;
 pub mod owned_lists;
 pub mod posting_list;
 pub mod postings;
+pub mod query;
 pub mod reads;
 pub mod round_trips;
 pub mod selection;

@@ -8,6 +8,7 @@ mod members;
 mod owned_lists;
 mod packed_lists;
 mod postings;
+mod query;
 mod shared_values;
 mod sorted;
 
