@@ -57,6 +57,7 @@ pub(crate) fn test<P: BitPacker>(packer: &P, bytes: &[u8]) -> Result<StatedText,
 
 /// Tests what is after the header, with room for the values of the tail.
 // Reads bytes: test_blocks, read_tail, to_values, first_out.
+#[inline(always)]
 fn test_rest<P: BitPacker>(
     packer: &P,
     header: Header,
