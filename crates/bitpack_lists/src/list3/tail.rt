@@ -61,7 +61,7 @@ pub(crate) fn read_groups<'a>(
 }
 
 /// How many codes the next group has, where so many are left.
-fn next_len(left: usize) -> usize
+pub(crate) fn next_len(left: usize) -> usize
     ensures { result ≡ min 32 left }
 {
     if left < LONGEST_GROUP {
