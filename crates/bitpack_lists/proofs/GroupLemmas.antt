@@ -2,9 +2,11 @@
 use Rattle.std.proofs.Common.{◌≡◌, ℕ, zero, suc, ◌+◌, ◌-◌, ◌*◌, ◌%◌, ◌^◌, ◌<◌, ◌≤◌, true, false, ltb, Some, None, List, [], ◌∷◌, ◌++◌, length, take, drop, replicate, refl, sym, ◌∙◌, ap, arith}
 use Rattle.std.specs.List.{list_all}
 use Rattle.std.proofs.lemmas.Bool.{lt-ltb, le-ltb}
-use Rattle.std.proofs.lemmas.Nat.{mul-le, pow_pos, one_shl}
-use Rattle.std.proofs.lemmas.List.{drop-replicate, take-replicate, take-take, take_all, take_at, length-append, length-replicate, length-take-le}
-use Rattle.std.proofs.lemmas.List.Elements.{All-append, All-replicate, All-take}
+use Rattle.std.proofs.Math.Pow.{pow_mono}
+use Rattle.std.proofs.lemmas.Nat.{leading_length, mul-le, pow_pos, one_shl}
+use Rattle.std.proofs.lemmas.List.{drop-replicate, take-replicate, take-take, take_all, length-append, length-replicate, length-take-le}
+use Rattle.std.proofs.lemmas.List.Elements.{All-append, All-replicate}
+use lib.Count.{count_leading_zeros}
 use Rattle.bitpacking.specs.Bits.{AreBytes}
 use Rattle.bitpacking.specs.Width.{Fits, Least}
 use Rattle.bitpacking.specs.Layout.{codes_of, size, Layout}
@@ -96,19 +98,27 @@ pub Fits-more_zeros : (codes : List ℕ) (n width : ℕ) → Fits codes width �
 Fits-more_zeros codes n width fits =
     All-append (λ code. code < 2 ^ width) codes (replicate n 0) fits (All-replicate (λ code. code < 2 ^ width) n 0 (pow_pos width))
 
-pub Fits-front : (codes others : List ℕ) (width : ℕ) → Fits (codes ++ others) width → Fits codes width
-Fits-front codes others width fits = rw (take_at codes others (length codes) refl) at (All-take (λ code. code < 2 ^ width) (length codes) (codes ++ others) fits)
-
-pub Least-no_zeros : (codes : List ℕ) (n width : ℕ) → Least (codes ++ replicate n 0) width → Least codes width
-Least-no_zeros codes n width least = record {
-  fits = Fits-front codes (replicate n 0) width least.fits;
-  least = λ smaller lt fits. least.least smaller lt (Fits-more_zeros codes n smaller fits);
-}
+-- A number that fits the same widths as the codes tells their least width by its leading zeros.
+pub Least-bits : (codes : List ℕ) (bits width : ℕ) → bits < 2 ^ 32
+    → ((w : ℕ) → bits < 2 ^ w → Fits codes w) → ((w : ℕ) → Fits codes w → bits < 2 ^ w)
+    → count_leading_zeros 32 bits + width ≡ 32 → Least codes width
+Least-bits codes bits width small up down zeros =
+    let found = leading_length 32 bits small in
+    let same : found.0 ≡ width = omega (arith, zeros, found.1) in
+    let lt : bits < 2 ^ width = rw same at found.2 in
+    let le : 2 ^ width ≤ 2 * bits + 1 = rw same at found.3 in
+    record {
+      fits = up width lt;
+      least = λ smaller h fits.
+          let below : bits < 2 ^ smaller = down smaller fits in
+          let m : 2 ^ (suc smaller) ≤ 2 ^ width = pow_mono h in
+          omega arith;
+    }
 
 -- ---- writing
 
 -- The width and the first bytes that were packed are a group.
-pub written-is : (codes block body : List ℕ) (width : ℕ) → length codes ≤ 32 → block ≡ padded codes → AreBytes body → Least block width
+pub written-is : (codes block body : List ℕ) (width : ℕ) → length codes ≤ 32 → block ≡ padded codes → AreBytes body → Least codes width
     → Layout 1 width block (take (size 1 width) body) → IsGroup codes (width ∷ take (group_size (length codes) width) body)
 written-is codes block body width few is small least layout =
     let four : size 1 width ≡ 4 * width = omega arith in
@@ -116,19 +126,18 @@ written-is codes block body width few is small least layout =
     record {
       width = width;
       body = take (size 1 width) body;
-      least = Least-no_zeros codes (32 - length codes) width (rw (← is) least);
+      least = least;
       bytes = AreBytes-take body (size 1 width) small;
       layout = rw (← is) layout;
       parts = ap (λ zs. width ∷ zs) (sym (take-take (group_size (length codes) width) (size 1 width) body le));
     }
 
 -- The room for the group is room for the width and those bytes.
-pub written-room : (codes block : List ℕ) (width : ℕ) → length codes ≤ 32 → block ≡ padded codes → Least block width
+pub written-room : (codes : List ℕ) (width : ℕ) → length codes ≤ 32 → Least codes width
     → (part : List ℕ) × IsGroup codes part × (length part ≡ 1 + group_size (length codes) width)
-written-room codes block width few is least =
+written-room codes width few least =
     let whole : length (padded codes) ≡ 32 * 1 = simp (length-append, length-replicate) (omega arith) in
-    let least' : Least (padded codes) width = rw (← is) least in
-    let found = one_layout_bytes 1 width (padded codes) (omega arith) whole least'.fits in
+    let found = one_layout_bytes 1 width (padded codes) (omega arith) whole (Fits-more_zeros codes (32 - length codes) width least.fits) in
     let body : List ℕ = found.0 in
     let le : group_size (length codes) width ≤ 4 * width = group_size-le (length codes) width few in
     let long : length body ≡ size 1 width = found.2.byte_count in (
@@ -136,7 +145,7 @@ written-room codes block width few is least =
       record {
         width = width;
         body = body;
-        least = Least-no_zeros codes (32 - length codes) width least';
+        least = least;
         bytes = found.1;
         layout = found.2;
         parts = refl;
@@ -147,11 +156,11 @@ written-room codes block width few is least =
 pub padded-is : (codes : List ℕ) → length codes ≤ 32 → codes ++ drop (length codes) (replicate {A = ℕ} 32 0) ≡ padded codes
 padded-is codes few = ap (λ zs. codes ++ zs) (drop-replicate (length codes) 32 0)
 
--- How long a group is, by the least width of the block that its codes begin.
-pub length-group : (codes block part : List ℕ) (width : ℕ) → length codes ≤ 32 → block ≡ padded codes → Least block width → IsGroup codes part
+-- How long a group is, by the least width of its codes.
+pub length-group : (codes part : List ℕ) (width : ℕ) → length codes ≤ 32 → Least codes width → IsGroup codes part
     → length part ≡ 1 + group_size (length codes) width
-length-group codes block part width few is least group =
-    let same : group.width ≡ width = same_least_width codes width group.width (Least-no_zeros codes (32 - length codes) width (rw (← is) least)) group.least in
+length-group codes part width few least group =
+    let same : group.width ≡ width = same_least_width codes width group.width least group.least in
     let le : group_size (length codes) group.width ≤ 4 * group.width = group_size-le (length codes) group.width few in
     let long : length group.body ≡ 4 * group.width = group.layout.byte_count ∙ omega arith in
     ap length group.parts ∙ ap suc (length-take-le (group_size (length codes) group.width) group.body (omega (arith, le, long)))

@@ -1,11 +1,13 @@
 -- The groups of a tail, one after the other.
 use Rattle.std.proofs.Common.{◌≡◌, ℕ, suc, ◌+◌, ◌-◌, ◌*◌, ◌<◌, ◌≤◌, min, Some, None, set, List, [], ◌∷◌, ◌++◌, length, take, drop, refl, ◌∙◌, ap, arith, inl, inr}
-use Rattle.std.proofs.lemmas.Bool.{cases_lt}
+use Rattle.std.proofs.lemmas.Bool.{cases_lt, lt-ltb}
 use Rattle.std.proofs.lemmas.List.{take_all, append-nil, drop_all, length-take-le, length-append, length-drop}
 use Rattle.std.proofs.lemmas.Slice.{take-put_mid}
 use borrow.Rule.Slice.PartMut.{put_mid}
 use Rattle.bitpack_lists.specs.declared.list_error.ListError.{ListError}
-use Rattle.bitpack_lists.specs.Groups.{group_fault, group_codes, group_end, groups_fault, groups_codes, after_groups}
+use Rattle.bitpack_lists.specs.Groups.{group_fault, group_codes, group_end, groups_fault, groups_codes, groups_of, after_groups}
+use Rattle.bitpack_lists.specs.Numbers.{number_end, number_value}
+use Rattle.bitpack_lists.specs.Version3.{tail_codes3}
 
 -- group i of so many, of so many codes in all
 module _ (groups block total i count : ℕ) (rest : List ℕ) (lt : i < groups) (is : count ≡ min 32 (total - 32 * i)) where
@@ -79,3 +81,9 @@ after-first [] new first some = absurd (omega arith)
 after-first (code ∷ codes) new first some =
     let none : drop (suc (length codes) - 1) codes ≡ [] = drop_all (suc (length codes) - 1) codes (omega arith) in
     ap (λ zs. first ∷ (new ++ zs)) none ∙ ap (λ zs. first ∷ zs) (append-nil new)
+
+-- The codes of a list without a block: the first is a number.
+pub tail-first : (blocks tail : ℕ) (bytes : List ℕ) → blocks ≡ 0 → 0 < tail
+    → tail_codes3 blocks tail bytes ≡ number_value bytes ∷ groups_codes (groups_of (tail - 1)) (tail - 1) (drop (number_end bytes) bytes)
+unfolding tail_codes3
+tail-first blocks tail bytes none some = rw (none, lt-ltb 0 tail some) refl

@@ -54,6 +54,7 @@ mod Soundness3
 mod TailFronts
 mod TailLaws
 mod TailOrder
+mod TailSearch
 mod TailSteps
 mod TailTexts
 mod TextSizes

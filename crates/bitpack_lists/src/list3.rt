@@ -9,9 +9,9 @@
 //! ```
 
 pub(crate) mod codes;
-mod group;
+pub(crate) mod group;
 pub(crate) mod header;
-mod number;
+pub(crate) mod number;
 pub(crate) mod opening;
 pub(crate) mod tail;
 mod upgrading;

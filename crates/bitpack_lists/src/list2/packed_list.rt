@@ -8,6 +8,7 @@ mod intersection;
 mod of_kind;
 mod search;
 mod tail;
+mod tail_search;
 mod versions;
 mod walk;
 

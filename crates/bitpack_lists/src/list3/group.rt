@@ -2,8 +2,10 @@
 
 ghost use Rattle.std.specs.Prelude.{◌≡◌, ℕ, List, ◌+◌, ◌*◌, ◌/◌, ◌^◌, ◌≤◌, ◌∷◌, OnOk, IfOk, nat_lt, length, take};
 ghost use Rattle.std.specs.List.{list_all};
+ghost use lib.Count.{count_leading_zeros};
 ghost use Rattle.bitpacking.specs.Bits.{AreBytes};
 ghost use Rattle.bitpacking.specs.Layout.{codes_of};
+ghost use Rattle.bitpacking.specs.Width.{Least};
 ghost use Rattle.bitpack_lists.specs.Groups.{IsGroup, are_zeros, body_of, group_codes, group_end, group_fault};
 ghost use Rattle.bitpack_lists.specs.Parts.{FindsFault};
 
@@ -60,10 +62,7 @@ pub(crate) fn group_len(codes: &[u32]) -> usize
     ensures len { (part : List ℕ) → IsGroup codes.now part → length part ≡ result }
     ensures few { result ≤ 129 }
 {
-    let mut block = [0; LONGEST_GROUP];
-    block[..codes.len()].copy_from_slice(codes);
-    let width = BitPacker1x::new().num_bits(&block);
-    1 + group_size(codes.len(), width)
+    1 + group_size(codes.len(), least_width(codes))
 }
 
 /// Writes the group of the codes at the start of the slice, and returns its length.
@@ -75,13 +74,31 @@ pub(crate) fn write_group(codes: &[u32], bytes: &mut [u8]) -> usize
     ensures bytes { AreBytes (take result bytes.new) }
     ensures group { IsGroup codes.now (take result bytes.new) }
 {
+    let width = least_width(codes);
     let mut block = [0; LONGEST_GROUP];
     block[..codes.len()].copy_from_slice(codes);
-    let packer = BitPacker1x::new();
-    let width = packer.num_bits(&block);
     let mut body = [0; LONGEST_GROUP_BODY];
-    packer.compress(&block, &mut body, width);
+    BitPacker1x::new().compress(&block, &mut body, width);
     write_cut(width, group_size(codes.len(), width), &body, bytes)
+}
+
+/// The least width of the codes. There may be few: they are not put into a block to be measured.
+fn least_width(codes: &[u32]) -> u8
+    ensures width { Least codes.now result }
+    ensures narrow { result ≤ 32 }
+{
+    let mut joined: u32 = 0;
+    for index in 0..codes.len() {
+        joined |= codes[index];
+    }
+    most_significant_bit(joined)
+}
+
+/// The number of binary digits of a number, 0 for 0.
+fn most_significant_bit(word: u32) -> u8
+    ensures { count_leading_zeros 32 word + result ≡ 32 }
+{
+    (32 - word.leading_zeros()) as u8
 }
 
 /// Writes the width and the first bytes of the body, up to `size`, at the start of the slice, and returns how many they are.
@@ -137,9 +154,13 @@ fn all_below(bound: u32, codes: &[u32]) -> bool
     codes.iter().all(|code| *code < bound)
 }
 
-/// Whether all codes are 0.
+/// Whether all codes are 0. All are compared, since without a branch for each the compiler compares several at once.
 fn all_zeros(codes: &[u32]) -> bool
     ensures { result ≡ are_zeros codes.now }
 {
-    codes.iter().all(|code| *code == 0)
+    let mut zeros = true;
+    for index in 0..codes.len() {
+        zeros &= codes[index] == 0;
+    }
+    zeros
 }

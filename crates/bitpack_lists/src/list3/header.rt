@@ -25,6 +25,7 @@ pub(crate) struct ShortHeader {
 impl ShortHeader {
     /// Reads the header of a text, for a packer of `lanes` lanes.
     #[tactic(auto, unfolding(crate::specs::Version3::header_fault3))]
+    #[inline(always)]
     pub(crate) fn read(lanes: usize, bytes: &[u8]) -> Result<ShortHeader, ListError>
         ensures fault { FindsFault result (header_fault3 lanes bytes.now) }
         ensures kind { IfOk result (λ header. header.kind ≡ kind3 bytes.now) }

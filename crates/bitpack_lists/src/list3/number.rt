@@ -10,6 +10,7 @@ use crate::list_error::ListError;
 pub(crate) const LONGEST_NUMBER: usize = 5;
 
 /// Reads the number at the front of the bytes: its value and how many bytes it has.
+#[inline(always)]
 pub(crate) fn read_number(bytes: &[u8]) -> Result<(u32, usize), ListError>
     ensures fault { FindsFault result (number_fault bytes.now) }
     ensures value { IfOk result (λ found. found.0 ≡ number_value bytes.now) }

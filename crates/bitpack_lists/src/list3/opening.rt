@@ -1,12 +1,13 @@
 //! Tests of texts of version 3. The bytes are untrusted.
 
-ghost use Rattle.std.specs.Prelude.{◌≡◌, ◌^◌, ◌≤◌, IfOk, None};
-ghost use Rattle.bitpack_lists.specs.Parts.{FindsFault, whole_blocks};
+ghost use Rattle.std.specs.Prelude.{◌≡◌, ◌^◌, ◌≤◌, IfOk, None, length};
+ghost use Rattle.bitpack_lists.specs.Parts.{FindsFault, tail_values, whole_blocks};
 ghost use Rattle.bitpack_lists.specs.Version2.{kind_at, tail_start};
 ghost use Rattle.bitpack_lists.specs.Version3.{fault3, rest_fault3};
 ghost use Rattle.bitpack_lists.specs.inner.Opening3.{EntriesAreSound, IsStated3};
 
 use super::codes::to_values;
+use super::group::LONGEST_GROUP;
 use super::header::ShortHeader;
 use super::tail::read_tail;
 use crate::chain::{LONGEST_BLOCK, next_kind};
@@ -28,7 +29,7 @@ pub(crate) struct StatedText {
 }
 
 /// Tests the whole text.
-// Reads bytes: read, test_rest.
+// Reads bytes: read, test_rest, test_rest.
 #[tactic(auto, unfolding(crate::specs::Version3::fault3))]
 pub(crate) fn test<P: BitPacker>(packer: &P, bytes: &[u8]) -> Result<StatedText, ListError>
     ensures fault { FindsFault result (fault3 P.lanes bytes.now) }
@@ -39,7 +40,14 @@ pub(crate) fn test<P: BitPacker>(packer: &P, bytes: &[u8]) -> Result<StatedText,
         kind: header.kind,
         count: header.count,
     };
-    let blocks = test_rest(packer, list, &bytes[header.end..])?;
+    let rest = &bytes[header.end..];
+    // For a short tail little room is enough, which takes less time to clear.
+    let tested = if header.count % P::BLOCK_LEN < LONGEST_GROUP {
+        test_rest(packer, list, rest, &mut [0; LONGEST_GROUP])
+    } else {
+        test_rest(packer, list, rest, &mut [0; LONGEST_BLOCK])
+    };
+    let blocks = tested?;
     Ok(StatedText {
         header,
         start: blocks.end,
@@ -47,21 +55,23 @@ pub(crate) fn test<P: BitPacker>(packer: &P, bytes: &[u8]) -> Result<StatedText,
     })
 }
 
-/// Tests what is after the header.
+/// Tests what is after the header, with room for the values of the tail.
 // Reads bytes: test_blocks, read_tail, to_values, first_out.
+#[inline(always)]
 fn test_rest<P: BitPacker>(
     packer: &P,
     header: Header,
     rest: &[u8],
+    room: &mut [u32],
 ) -> Result<TestedBlocks, ListError>
-    requires { header.count ≤ 2 ^ 28 }
+    requires count { header.count ≤ 2 ^ 28 }
+    requires room { tail_values P.lanes header.count ≤ length room.old }
     ensures fault { FindsFault result (rest_fault3 P.lanes header.kind header.count rest.now) }
     ensures tail { IfOk result (λ tested. (tested.end ≡ tail_start P.lanes (whole_blocks P.lanes header.count) rest.now)
         × (tested.kind ≡ kind_at header.kind rest.now (whole_blocks P.lanes header.count))) }
 {
     let len = header.count % P::BLOCK_LEN;
     let blocks = test_blocks(packer, header, 0, rest)?;
-    let mut room = [0; LONGEST_BLOCK];
     let values = &mut room[..len];
     let later = read_tail(header.count / P::BLOCK_LEN, &rest[blocks.end..], values)?;
     to_values(blocks.kind, values);

@@ -13,6 +13,7 @@ use crate::list_error::ListError;
 /// Reads the tail of as many codes as the slice has, after so many blocks, and returns the bytes after it. After a refusal the codes
 /// may be any.
 #[tactic(auto, unfolding(crate::specs::Version3::tail_fault3, crate::specs::Version3::tail_codes3, crate::specs::Version3::after_tail3))]
+#[inline(always)]
 pub(crate) fn read_tail<'a>(
     blocks: usize,
     bytes: &'a [u8],
@@ -60,7 +61,7 @@ pub(crate) fn read_groups<'a>(
 }
 
 /// How many codes the next group has, where so many are left.
-fn next_len(left: usize) -> usize
+pub(crate) fn next_len(left: usize) -> usize
     ensures { result ≡ min 32 left }
 {
     if left < LONGEST_GROUP {

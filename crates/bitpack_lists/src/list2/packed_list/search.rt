@@ -6,6 +6,7 @@ ghost use Rattle.bitpack_lists.specs.Search.{first_reaching};
 use super::super::reads::Reads;
 use super::{KeptBlock, ListBlock, PackedList};
 use crate::chain::{LONGEST_BLOCK, next_kind};
+use crate::version::Version;
 use bitpacking::{BitPacker, Kind};
 
 /// The step of a search that halves all blocks, and of one that tries the nearest first.
@@ -38,7 +39,8 @@ impl<'a, P: BitPacker> PackedList<'a, P> {
 
     /// The first value that is at least the target, with its position, or `None` if every value is below it.
     ///
-    /// The list has to be sorted or strictly sorted. Its entries are searched by halves, and one block is unpacked at most.
+    /// The list has to be sorted or strictly sorted. Its entries are searched by halves. Unpacks at most one block, or the groups of the
+    /// tail up to the value.
     pub fn seek(&self, target: u32, reads: &mut Reads) -> Option<(usize, u32)>
         requires { kind_of self.now ≢ ListKind.Plain }
         ensures found { result ≡ first_at_least (values self.now) target }
@@ -154,6 +156,18 @@ impl<'a, P: BitPacker> PackedList<'a, P> {
             → result ≡ first_reaching (value_of self.now) self.now.count target }
         ensures outside { in_whole_block P.lanes self.now.count result ≡ false }
     {
+        match self.version {
+            Version::Two => self.seek_in_words(target),
+            Version::Three => self.seek_in_groups(target),
+        }
+    }
+
+    /// As `seek_in_tail` does, by reading the whole tail.
+    fn seek_in_words(&self, target: u32) -> Option<(usize, u32)>
+        ensures found { ((k : ℕ) → k < 32 * P.lanes * blocks_of self.now → value_of self.now k < target)
+            → result ≡ first_reaching (value_of self.now) self.now.count target }
+        ensures outside { in_whole_block P.lanes self.now.count result ≡ false }
+    {
         let mut values = [0; LONGEST_BLOCK];
         let len = self.read_tail(&mut values);
         first_at_least(&values[..len], self.count - len, target)
@@ -162,7 +176,7 @@ impl<'a, P: BitPacker> PackedList<'a, P> {
 
 /// The first of these values that is at least the target, with its position. They are those from a position on, and the values
 /// before them are below the target.
-fn first_at_least(values: &[u32], start: usize, target: u32) -> Option<(usize, u32)>
+pub(super) fn first_at_least(values: &[u32], start: usize, target: u32) -> Option<(usize, u32)>
     requires { start + length values.now < 2 ^ 64 }
     ensures within { IfSome result (λ found. (start ≤ found.0) × (found.0 < start + length values.now)) }
     ensures found { (value : ℕ → ℕ) → ((k : ℕ) → k < start → value k < target)

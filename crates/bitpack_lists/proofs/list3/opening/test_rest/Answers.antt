@@ -1,9 +1,9 @@
 -- The tests in their order find the first fault of what is after the header.
-use Rattle.std.proofs.Common.{◌≡◌, ◌+◌, ◌-◌, ◌*◌, ◌/◌, ◌%◌, ◌<◌, ◌≤◌, ℕ, List, length, take, drop, replicate, get_or, Option, Some, None, refl, sym, ◌∙◌, ap, arith}
+use Rattle.std.proofs.Common.{◌≡◌, ◌+◌, ◌-◌, ◌*◌, ◌/◌, ◌%◌, ◌<◌, ◌≤◌, ℕ, List, length, take, drop, get_or, Option, Some, None, refl, sym, ◌∙◌, ap, arith}
 use Rattle.std.specs.Option.{option_or}
 use Rattle.std.proofs.Math.Nat.{div-add-mod}
 use Rattle.std.proofs.lemmas.Bool.{lt-ltb, le-ltb}
-use Rattle.std.proofs.lemmas.List.{length-drop, length-replicate, length-take, take_all}
+use Rattle.std.proofs.lemmas.List.{length-drop, length-take-le, take_all}
 use Rattle.std.proofs.lemmas.Result.{err_from_is_err_and}
 use Rattle.bitpacking.specs.declared.kind.Kind.{Kind}
 use Rattle.bitpacking.specs.Codes.{values_of}
@@ -15,7 +15,6 @@ use Rattle.bitpack_lists.specs.Parts.{tail_values, whole_blocks}
 use Rattle.bitpack_lists.specs.Version2.{blocks_fault, is_out, kind_at, least_below, tail_start, value_with}
 use Rattle.bitpack_lists.specs.Version3.{after_tail3, rest_fault3, tail_codes3, tail_fault3, tail_values3, value_at3}
 use Rattle.bitpack_lists.proofs.TailOrder.{order_of_all}
-use Rattle.bitpack_lists.proofs.walking.OpenedWalks.{few_in_tail}
 use Rattle.bitpack_lists.proofs.list3.opening.test_rest.Goals as goal
 
 -- ---- the faults in their order
@@ -86,10 +85,11 @@ slice_is : (lanes count : ℕ) (rest : List ℕ) (end : ℕ) → end ≡ tail_st
     → take (length rest - end) (drop end rest) ≡ drop (tail_start lanes (whole_blocks lanes count) rest) rest
 slice_is lanes count rest end is = take_all (length rest - end) (drop end rest) (omega (arith, length-drop end rest)) ∙ ap (λ i. drop i rest) is
 
-room_is : (lanes len count : ℕ) → 1 ≤ lanes → lanes ≤ 8 → len ≡ 32 * lanes → length (take (count % len) (replicate {A = ℕ} 256 0)) ≡ tail_values lanes count
-room_is lanes len count some few whole =
+room_is : (lanes len count : ℕ) (room : List ℕ) → len ≡ 32 * lanes → tail_values lanes count ≤ length room
+    → length (take (count % len) room) ≡ tail_values lanes count
+room_is lanes len count room whole enough =
     let same : count % len ≡ tail_values lanes count = ap (λ n. count % n) whole in
-    omega (arith, same, few_in_tail lanes count some few, length-take (count % len) (replicate {A = ℕ} 256 0), length-replicate {A = ℕ} 256 0)
+    ap (λ n. length (take n room)) same ∙ length-take-le (tail_values lanes count) room enough
 
 pub returns-in_err-blocks-clause-fault : goal.returns-in_err-blocks-clause-fault
 returns-in_err-blocks-clause-fault g c =
@@ -106,7 +106,7 @@ returns-in_err-later-clause-fault g c =
     let tested = c.in_ok-blocks.blocks in
     let found = c.in_ok-blocks.ensures in
     let whole' : c.BLOCK_LEN-2.result ≡ 32 * lanes = c.BLOCK_LEN-2.ensures ∙ g.met.P.BitPacker.block_len in
-    let many = room_is lanes c.BLOCK_LEN.result count g.met.P.BitPacker.some_lanes g.met.P.BitPacker.few_lanes whole in
+    let many = room_is lanes c.BLOCK_LEN.result count c.args.room.now whole c.requires.room in
     let slice = slice_is lanes count rest tested.end found.end in
     let blocks_are : count / c.BLOCK_LEN-2.result ≡ whole_blocks lanes count = ap (λ n. count / n) whole' in
     let p = err_from_is_err_and c.from_residual-in_err-later.result c.from_residual-in_err-later.ensures.1 in
@@ -122,7 +122,7 @@ returns-in-Some-clause-fault g c =
     let tested = c.in_ok-blocks.blocks in
     let found = c.in_ok-blocks.ensures in
     let whole' : c.BLOCK_LEN-2.result ≡ 32 * lanes = c.BLOCK_LEN-2.ensures ∙ g.met.P.BitPacker.block_len in
-    let many = room_is lanes c.BLOCK_LEN.result count g.met.P.BitPacker.some_lanes g.met.P.BitPacker.few_lanes whole in
+    let many = room_is lanes c.BLOCK_LEN.result count c.args.room.now whole c.requires.room in
     let slice = slice_is lanes count rest tested.end found.end in
     let blocks_are : count / c.BLOCK_LEN-2.result ≡ whole_blocks lanes count = ap (λ n. count / n) whole' in
     let read = fault_is lanes count kind rest _ _ _ blocks_are many slice None c.in_ok-later.ensures.fault in
@@ -142,7 +142,7 @@ returns-then-later-gt0-clause-fault g c =
     let tested = c.in_ok-blocks.blocks in
     let found = c.in_ok-blocks.ensures in
     let whole' : c.BLOCK_LEN-2.result ≡ 32 * lanes = c.BLOCK_LEN-2.ensures ∙ g.met.P.BitPacker.block_len in
-    let many = room_is lanes c.BLOCK_LEN.result count g.met.P.BitPacker.some_lanes g.met.P.BitPacker.few_lanes whole in
+    let many = room_is lanes c.BLOCK_LEN.result count c.args.room.now whole c.requires.room in
     let slice = slice_is lanes count rest tested.end found.end in
     let blocks_are : count / c.BLOCK_LEN-2.result ≡ whole_blocks lanes count = ap (λ n. count / n) whole' in
     let read = fault_is lanes count kind rest _ _ _ blocks_are many slice None c.in_ok-later.ensures.fault in
@@ -163,7 +163,7 @@ returns-clause-fault g c =
     let tested = c.in_ok-blocks.blocks in
     let found = c.in_ok-blocks.ensures in
     let whole' : c.BLOCK_LEN-2.result ≡ 32 * lanes = c.BLOCK_LEN-2.ensures ∙ g.met.P.BitPacker.block_len in
-    let many = room_is lanes c.BLOCK_LEN.result count g.met.P.BitPacker.some_lanes g.met.P.BitPacker.few_lanes whole in
+    let many = room_is lanes c.BLOCK_LEN.result count c.args.room.now whole c.requires.room in
     let slice = slice_is lanes count rest tested.end found.end in
     let blocks_are : count / c.BLOCK_LEN-2.result ≡ whole_blocks lanes count = ap (λ n. count / n) whole' in
     let read = fault_is lanes count kind rest _ _ _ blocks_are many slice None c.in_ok-later.ensures.fault in

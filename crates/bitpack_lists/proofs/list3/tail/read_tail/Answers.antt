@@ -1,17 +1,10 @@
 -- The first code is a number, and the others are in groups.
-use Rattle.std.proofs.Common.{◌≡◌, ◌-◌, ◌<◌, ◌∷◌, ℕ, List, length, set, take, drop, refl, sym, ◌∙◌, ap, arith}
-use Rattle.std.proofs.lemmas.Bool.{lt-ltb}
+use Rattle.std.proofs.Common.{◌≡◌, ◌-◌, ◌∷◌, ℕ, List, length, set, take, drop, sym, ◌∙◌, ap, arith}
 use Rattle.std.proofs.lemmas.List.{take_rest, length-drop, length-set}
 use Rattle.bitpack_lists.specs.Groups.{groups_codes, groups_of}
-use Rattle.bitpack_lists.specs.Numbers.{number_end, number_value}
-use Rattle.bitpack_lists.specs.Version3.{tail_codes3}
-use Rattle.bitpack_lists.proofs.GroupSteps.{after-first}
+use Rattle.bitpack_lists.specs.Numbers.{number_end}
+use Rattle.bitpack_lists.proofs.GroupSteps.{after-first, tail-first}
 use Rattle.bitpack_lists.proofs.list3.tail.read_tail.Goals as goal
-
-tail-first : (blocks tail : ℕ) (bytes : List ℕ) → blocks ≡ 0 → 0 < tail
-    → tail_codes3 blocks tail bytes ≡ number_value bytes ∷ groups_codes (groups_of (tail - 1)) (tail - 1) (drop (number_end bytes) bytes)
-unfolding tail_codes3
-tail-first blocks tail bytes none some = rw (none, lt-ltb 0 tail some) refl
 
 pub returns-then-codes-gt0-clause-codes : goal.returns-then-codes-gt0-clause-codes
 returns-then-codes-gt0-clause-codes c =
