@@ -15,7 +15,7 @@ use crate::header::{HEADER_LEN, Header};
 use crate::list_error::ListError;
 use crate::list_kind::ListKind;
 use crate::little_endian::write_words;
-use crate::measuring::{KEPT_WIDTHS, text_len, width_of};
+use crate::measuring::{KEPT_WIDTHS, MANY_WIDTHS, text_len, width_of};
 use crate::reserved::append_zeros;
 use bitpacking::BitPacker;
 
@@ -78,12 +78,32 @@ pub fn encode_to<P: BitPacker>(
     ensures unchanged { OnErr result (bytes.new ≡ bytes.old) }
 {
     order::test_values(kind, values)?;
-    let mut widths = [0; KEPT_WIDTHS];
-    let size = text_len(packer, kind, values, ENTRY_LEN, &mut widths);
+    if values.len() <= KEPT_WIDTHS * P::BLOCK_LEN {
+        return write_to(packer, kind, values, &mut [0; KEPT_WIDTHS], bytes);
+    }
+    write_to(packer, kind, values, &mut [0; MANY_WIDTHS], bytes)
+}
+
+/// Writes the text of values without a fault as `encode_to` does, with room for the widths that are kept.
+fn write_to<P: BitPacker>(
+    packer: &P,
+    kind: ListKind,
+    values: &[u32],
+    widths: &mut [u8],
+    bytes: &mut [u8],
+) -> Result<usize, ListError>
+    requires right { values_fault kind values.now ≡ None }
+    ensures ok { IfOk result (λ len. (text : List ℕ) × AreBytes text × List2 P.lanes kind values.now text
+        × (len ≡ length text) × (bytes.new ≡ text ++ drop len bytes.old)) }
+    ensures err { IfErr result (λ e. e ≡ ListError.Short) }
+    ensures room { OnErr result ((text : List ℕ) → List2 P.lanes kind values.now text → length bytes.old < length text) }
+    ensures unchanged { OnErr result (bytes.new ≡ bytes.old) }
+{
+    let size = text_len(packer, kind, values, ENTRY_LEN, widths);
     if bytes.len() < size {
         return Err(ListError::Short);
     }
-    write_text(packer, kind, values, &widths, &mut bytes[..size]);
+    write_text(packer, kind, values, widths, &mut bytes[..size]);
     Ok(size)
 }
 
