@@ -4,6 +4,7 @@ ghost use Rattle.std.specs.Prelude.{◌≡◌, ◌+◌, ◌*◌, ◌^◌, ◌<�
 ghost use Rattle.bitpacking.specs.Bits.{AreBytes};
 ghost use Rattle.bitpack_lists.specs.Parts.{whole_blocks};
 ghost use Rattle.bitpack_lists.specs.Version2.{List2, first_out, tail_start, values_fault};
+ghost use Rattle.bitpack_lists.specs.inner.Appending.{WritesText2};
 ghost use Rattle.bitpack_lists.specs.inner.Opening.{HasBodies};
 ghost use Rattle.bitpack_lists.specs.inner.Sizes.{AreReady, IsBlocksSize, IsSize2};
 
@@ -93,11 +94,7 @@ fn write_to<P: BitPacker>(
     bytes: &mut [u8],
 ) -> Result<usize, ListError>
     requires right { values_fault kind values.now ≡ None }
-    ensures ok { IfOk result (λ len. (text : List ℕ) × AreBytes text × List2 P.lanes kind values.now text
-        × (len ≡ length text) × (bytes.new ≡ text ++ drop len bytes.old)) }
-    ensures err { IfErr result (λ e. e ≡ ListError.Short) }
-    ensures room { OnErr result ((text : List ℕ) → List2 P.lanes kind values.now text → length bytes.old < length text) }
-    ensures unchanged { OnErr result (bytes.new ≡ bytes.old) }
+    ensures { WritesText2 P.lanes kind values.now result bytes.old bytes.new }
 {
     let size = text_len(packer, kind, values, ENTRY_LEN, widths);
     if bytes.len() < size {
