@@ -1,7 +1,7 @@
 -- Values without a fault are written if the slice has room for their text.
-use Rattle.std.proofs.Common.{◌≡◌, Some, None, Err, refl, sym, ◌∙◌, ap, arith}
+use Rattle.std.proofs.Common.{◌≡◌, Some, None, Err, sym, ◌∙◌, ap}
 use Rattle.std.proofs.lemmas.Result.{err_from_is_err_and}
-use Rattle.bitpack_lists.proofs.ValueFaults.{fault_result, right_result}
+use Rattle.bitpack_lists.proofs.ValueFaults.{fault_result}
 use Rattle.bitpack_lists.proofs.list2.writing.encode_to.Goals as goal
 
 -- ---- a fault of the values

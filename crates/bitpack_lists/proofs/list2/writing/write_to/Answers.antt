@@ -1,5 +1,5 @@
 -- The text is written if the slice has room for it.
-use Rattle.std.proofs.Common.{◌≡◌, arith, rules}
+use Rattle.std.proofs.Common.{arith, rules}
 use Rattle.std.proofs.lemmas.List.{length-take-le}
 use Rattle.bitpack_lists.proofs.TextSizes.{size_is2}
 use Rattle.bitpack_lists.proofs.ValueFaults.{few_values}

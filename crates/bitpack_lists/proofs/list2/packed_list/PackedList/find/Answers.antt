@@ -1,6 +1,5 @@
 -- Each entry leaves the blocks before it, or those after it.
-use Rattle.std.proofs.Common.{◌≡◌, ◌+◌, ◌-◌, ◌*◌, ◌/◌, ◌<◌, ℕ, refl, sym, ◌∙◌, ap, arith}
-use Rattle.bitpack_lists.specs.Chains.{next_kind}
+use Rattle.std.proofs.Common.{◌≡◌, ◌+◌, ◌-◌, ◌*◌, ◌/◌, ◌<◌, ℕ, refl, sym, ◌∙◌, arith}
 use Rattle.bitpack_lists.specs.inner.Searching.{blocks_of, rest_of}
 use Rattle.bitpack_lists.proofs.BlockLemmas.{kind_at_after}
 use Rattle.bitpack_lists.proofs.SearchSteps.{halving_first, halving_second, nearing_begun, nearing_first, nearing_second}
