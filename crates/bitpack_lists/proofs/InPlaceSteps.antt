@@ -3,7 +3,7 @@ use Rattle.std.proofs.Common.{◌≡◌, ℕ, suc, ◌+◌, ◌-◌, ◌<◌, �
 use Rattle.std.specs.List.Sorted.{IsStrictlyIncreasing}
 use Rattle.std.proofs.lemmas.Bool.{cases_lt, lt-leb}
 use Rattle.std.proofs.lemmas.List.{append_assoc, drop-drop, drop-set-lt, drop_more, length-drop, take_more_set}
-use Rattle.bitpack_lists.specs.Increasing.{IsIncreasing, after_first, at_least, first, has, shared, without}
+use Rattle.bitpack_lists.specs.Increasing.{IsIncreasing, at_least, first, has, shared, without}
 use Rattle.bitpack_lists.specs.IncreasingLaws.{IsIncreasing-from}
 use Rattle.bitpack_lists.specs.inner.Combined.{IsLater, IsShared}
 use Rattle.bitpack_lists.specs.inner.InPlace.{IsNextShared}

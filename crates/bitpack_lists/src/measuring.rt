@@ -13,6 +13,9 @@ use bitpacking::{BitPacker, Kind};
 /// How many widths are kept from the measuring of a list to its writing. Blocks after those are measured twice.
 pub(crate) const KEPT_WIDTHS: usize = 1024;
 
+/// How many are kept of a list that has more blocks than that, and so takes much longer to write than this room to clear.
+pub(crate) const MANY_WIDTHS: usize = 8192;
+
 /// How many bytes a text of the values has in version 1 or 2, with so many for each whole block beside its body. The least widths
 /// of its first blocks are kept.
 pub(crate) fn text_len<P: BitPacker>(

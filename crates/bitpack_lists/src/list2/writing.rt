@@ -4,6 +4,7 @@ ghost use Rattle.std.specs.Prelude.{◌≡◌, ◌+◌, ◌*◌, ◌^◌, ◌<�
 ghost use Rattle.bitpacking.specs.Bits.{AreBytes};
 ghost use Rattle.bitpack_lists.specs.Parts.{whole_blocks};
 ghost use Rattle.bitpack_lists.specs.Version2.{List2, first_out, tail_start, values_fault};
+ghost use Rattle.bitpack_lists.specs.inner.Appending.{WritesText2};
 ghost use Rattle.bitpack_lists.specs.inner.Opening.{HasBodies};
 ghost use Rattle.bitpack_lists.specs.inner.Sizes.{AreReady, IsBlocksSize, IsSize2};
 
@@ -15,7 +16,7 @@ use crate::header::{HEADER_LEN, Header};
 use crate::list_error::ListError;
 use crate::list_kind::ListKind;
 use crate::little_endian::write_words;
-use crate::measuring::{KEPT_WIDTHS, text_len, width_of};
+use crate::measuring::{KEPT_WIDTHS, MANY_WIDTHS, text_len, width_of};
 use crate::reserved::append_zeros;
 use bitpacking::BitPacker;
 
@@ -78,12 +79,28 @@ pub fn encode_to<P: BitPacker>(
     ensures unchanged { OnErr result (bytes.new ≡ bytes.old) }
 {
     order::test_values(kind, values)?;
-    let mut widths = [0; KEPT_WIDTHS];
-    let size = text_len(packer, kind, values, ENTRY_LEN, &mut widths);
+    if values.len() <= KEPT_WIDTHS * P::BLOCK_LEN {
+        return write_to(packer, kind, values, &mut [0; KEPT_WIDTHS], bytes);
+    }
+    write_to(packer, kind, values, &mut [0; MANY_WIDTHS], bytes)
+}
+
+/// Writes the text of values without a fault as `encode_to` does, with room for the widths that are kept.
+fn write_to<P: BitPacker>(
+    packer: &P,
+    kind: ListKind,
+    values: &[u32],
+    widths: &mut [u8],
+    bytes: &mut [u8],
+) -> Result<usize, ListError>
+    requires right { values_fault kind values.now ≡ None }
+    ensures { WritesText2 P.lanes kind values.now result bytes.old bytes.new }
+{
+    let size = text_len(packer, kind, values, ENTRY_LEN, widths);
     if bytes.len() < size {
         return Err(ListError::Short);
     }
-    write_text(packer, kind, values, &widths, &mut bytes[..size]);
+    write_text(packer, kind, values, widths, &mut bytes[..size]);
     Ok(size)
 }
 

@@ -4,7 +4,6 @@ use Rattle.std.proofs.Math.Seq.{take-suc-set}
 use Rattle.std.proofs.lemmas.List.{take_all, length-take, length-drop}
 use Rattle.std.proofs.lemmas.List.Elements.{All-append, All-cons, All-nil}
 use Rattle.std.proofs.lemmas.Nat.{mul-le}
-use Rattle.bitpacking.specs.Layout.{size}
 use Rattle.bitpack_lists.specs.Chains.{next_kind}
 use Rattle.bitpack_lists.proofs.ChainLemmas.{Loose_step, LeastWidths_step, Loose_done, LeastWidths_done, take-block, length-block, take-put_end, drop-put_end, drop-further, sum-more, bound-more, block-from, drop-block}
 use Rattle.bitpack_lists.proofs.MeasuredLengths.{chained_room, chained_step}

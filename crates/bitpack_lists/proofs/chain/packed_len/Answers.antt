@@ -1,7 +1,6 @@
 -- The length of one block more is added.
-use Rattle.std.proofs.Common.{◌≡◌, ◌+◌, ◌*◌, ◌/◌, ◌%◌, ◌≤◌, ℕ, List, length, take, drop, sum, ◌∙◌, ap, arith}
+use Rattle.std.proofs.Common.{◌≡◌, ◌*◌, ◌/◌, ◌≤◌, ℕ, List, length, take, drop, sum, ◌∙◌, ap, arith}
 use Rattle.std.proofs.lemmas.List.{drop_all, length-drop}
-use Rattle.std.proofs.Math.Nat.{div-add-mod}
 use Rattle.bitpacking.proofs.ForCallers.{AreWords-from_slice}
 use Rattle.bitpack_lists.specs.Chains.{second_kind}
 use Rattle.bitpack_lists.proofs.ChainLemmas.{bound-more, least_widths}

@@ -284,7 +284,7 @@ impl<'a, P: BitPacker> Cursor<'a, P> {
             .read_part(found, &mut self.values, &mut self.reads);
         self.block = number;
         self.len = len;
-        self.index = first_from(&self.values[..len], 0, target);
+        self.index = count_below(&self.values[..len], target);
     }
 }
 
@@ -354,6 +354,22 @@ pub fn first_from(values: &[u32], from: usize, target: u32) -> usize
         }
     }
     low
+}
+
+/// How many values of a block are below the target: the first index whose value is not, as the values are in order. No branch depends on
+/// a value, so that the compiler compares several at once.
+#[inline(always)]
+fn count_below(values: &[u32], target: u32) -> usize
+    requires short { length values.now ≤ LONGEST_BLOCK }
+    requires order { InOrder values.now }
+    ensures { IsSoughtFrom values.now target 0 result }
+{
+    let mut below = 0u32;
+    for index in 0..values.len() {
+        let value = values[index];
+        below += if value < target { 1 } else { 0 };
+    }
+    below as usize
 }
 
 /// Finds what `first_from` finds, and tries the value some places ahead first.

@@ -1,6 +1,7 @@
 //! The first value of a packed list that is at least another, found by halves over the entries.
 
 ghost use Rattle.std.specs.Prelude.{◌≡◌, ◌+◌, ◌*◌, ◌^◌, ◌<◌, ◌≤◌, ℕ, length, slice_index, IfSome};
+ghost use Rattle.bitpack_lists.specs.Chains;
 ghost use Rattle.bitpack_lists.specs.Search.{first_reaching};
 
 use super::super::reads::Reads;
@@ -35,6 +36,7 @@ impl<'a, P: BitPacker> PackedList<'a, P> {
     ghost use Rattle.bitpack_lists.specs.Opened.{kind_of, values};
     ghost use Rattle.bitpack_lists.specs.Search.{IsSearched, first_at_least, in_whole_block};
     ghost use Rattle.bitpack_lists.specs.inner.Searching.{EndsBelow, IsFirstBlock, IsFirstFrom, IsInBlock, IsKept, IsListBlock, IsNear, KeepsBlock, KeepsOne, ReadsEntries, blocks_of, number_or_all, rest_of, value_of};
+    ghost use Rattle.bitpack_lists.specs.Parts.{first_kind};
     ghost use Rattle.bitpack_lists.specs.Version2.{kind_at};
 
     /// The first value that is at least the target, with its position, or `None` if every value is below it.
@@ -88,9 +90,8 @@ impl<'a, P: BitPacker> PackedList<'a, P> {
         ensures near { step ≡ 0 → IsNear from (number_or_all self.now result) reads.old.entries reads.new.entries }
         ensures reads { ReadsEntries reads.old reads.new }
     {
-        let first = self.kind.first();
         let mut low = from;
-        let mut low_kind = kind;
+        let mut before = 0;
         let mut high = self.count / P::BLOCK_LEN;
         let mut found = None;
         let mut reach = step;
@@ -100,7 +101,7 @@ impl<'a, P: BitPacker> PackedList<'a, P> {
             let entry = self.entry(middle, reads);
             if entry.last < target {
                 low = middle + 1;
-                low_kind = next_kind(first, entry.last);
+                before = entry.last;
                 reach = 2 * skip + 1;
             } else {
                 high = middle;
@@ -111,9 +112,25 @@ impl<'a, P: BitPacker> PackedList<'a, P> {
             Some(entry) => Some(ListBlock {
                 number: low,
                 entry,
-                kind: low_kind,
+                kind: self.kind_found(from, kind, low, before),
             }),
             None => None,
+        }
+    }
+
+    /// The kind of a block that was found from one on, which has this kind. If it is a later one, the block before it ends with this value.
+    #[inline(always)]
+    fn kind_found(&self, from: usize, kind: Kind, number: usize, before: u32) -> Kind
+        requires kind { kind ≡ kind_at self.now.kind (rest_of self.now) from }
+        requires from { from ≤ number }
+        requires before { from < number → kind_at self.now.kind (rest_of self.now) number
+            ≡ Chains.next_kind (first_kind self.now.kind) before }
+        ensures { result ≡ kind_at self.now.kind (rest_of self.now) number }
+    {
+        if number == from {
+            kind
+        } else {
+            next_kind(self.kind.first(), before)
         }
     }
 

@@ -1,6 +1,5 @@
 -- Each entry leaves the blocks before it, or those after it.
-use Rattle.std.proofs.Common.{◌≡◌, ◌+◌, ◌-◌, ◌*◌, ◌/◌, ◌<◌, ℕ, refl, ◌∙◌, ap, arith}
-use Rattle.bitpack_lists.specs.Chains.{next_kind}
+use Rattle.std.proofs.Common.{◌≡◌, ◌+◌, ◌-◌, ◌*◌, ◌/◌, ◌<◌, ℕ, refl, sym, ◌∙◌, arith}
 use Rattle.bitpack_lists.specs.inner.Searching.{blocks_of, rest_of}
 use Rattle.bitpack_lists.proofs.BlockLemmas.{kind_at_after}
 use Rattle.bitpack_lists.proofs.SearchSteps.{halving_first, halving_second, nearing_begun, nearing_first, nearing_second}
@@ -16,7 +15,7 @@ loop-low-init g c =
       within = omega (arith, blocks);
       found = blocks;
       before = c.requires.before;
-      kind_is = c.requires.kind;
+      kind_is = λ later. absurd (omega (arith, later));
       halves = λ reaches digits fits. rw blocks (record { digits = digits; span = fits; reaches = reaches; few = omega arith });
       near = λ none. rw none (nearing_begun c.args.from (c.args.self.now.count / c.BLOCK_LEN.result - c.args.from) c.args.reads.now.entries);
       blocks = refl;
@@ -38,8 +37,7 @@ loop-low-preserved-then-entry-target g c =
       before = λ block e.
           let same : block ≡ middle = omega (arith, e) in
           rw same (rw c.entry-entry.ensures.last at c.if-entry-target.true);
-      kind_is = c.next_kind-low_kind.ensures ∙ ap (λ kind. next_kind kind c.entry-entry.result.last) c.first-first.ensures
-          ∙ kind_at_after c.args.self.now.kind (rest_of c.args.self.now) middle c.entry-entry.result.last c.entry-entry.ensures.last;
+      kind_is = λ _. sym (kind_at_after c.args.self.now.kind (rest_of c.args.self.now) middle c.entry-entry.result.last c.entry-entry.ensures.last);
       halves = λ reaches digits fits.
           rw (read, skip) (halving_second low high c.loop-low.reach c.loop-low.reads.entries c.loop-low-test.true _ (c.loop-low.invariant.halves reaches digits fits));
       near = λ none.

@@ -21,8 +21,8 @@ find-found-requires-clause-before g c =
     ends_below self.list g.met.P.BitPacker.some_lanes self.block self.index self.len self.values self.reads.blocks self.place c.requires.ordered c.args.target
     c.requires.below lt
 
-pub first_from-self-requires-clause-order : goal.first_from-self-requires-clause-order
-first_from-self-requires-clause-order g c =
+pub count_below-self-requires-clause-order : goal.count_below-self-requires-clause-order
+count_below-self-requires-clause-order g c =
     let self = c.args.self.now in
     part_order self.list g.met.P.BitPacker.some_lanes c.read_part-number.result.0 c.read_part-number.result.1 c.read_part-number.new.values
     c.read_part-number.ensures.part c.requires.ordered
@@ -32,11 +32,11 @@ invariant_of-self-2 g c =
     let self = c.args.self.now in
     let part = c.read_part-number in
     let room : part.result.1 ≤ length part.new.values = omega (arith, part.ensures.part.len_is, g.met.P.BitPacker.few_lanes) in
-    let found = c.first_from-self.ensures in
+    let found = c.count_below-self.ensures in
     let next = sought_part self.list c.args.target (self.block + 1) part.result.0 c.find-found.result c.find-found.ensures.found part.ensures.number in
     record {
       place = place_later self.list g.met.P.BitPacker.some_lanes self.block self.index self.len self.values self.reads.blocks self.place c.requires.ordered
-          c.args.target part.result.0 part.result.1 c.first_from-self.result part.new.values part.ensures.part
+          c.args.target part.result.0 part.result.1 c.count_below-self.result part.new.values part.ensures.part
           next.0 next.1.0 next.1.1 room found.within found.before found.enough part.new.reads.blocks
           (λ lt. part.ensures.block lt ∙ ap (λ (blocks : ℕ). blocks + 1) c.find-found.ensures.reads.blocks)
           (λ past. part.ensures.tail past ∙ c.find-found.ensures.reads.blocks);
@@ -47,11 +47,11 @@ returns-clause-sought g c =
     let self = c.args.self.now in
     let part = c.read_part-number in
     let room : part.result.1 ≤ length part.new.values = omega (arith, part.ensures.part.len_is, g.met.P.BitPacker.few_lanes) in
-    let found = c.first_from-self.ensures in
+    let found = c.count_below-self.ensures in
     let next = sought_part self.list c.args.target (self.block + 1) part.result.0 c.find-found.result c.find-found.ensures.found part.ensures.number in
     sought_listed self.list g.met.P.BitPacker.some_lanes c.args.target _ _
     (sought_later self.list g.met.P.BitPacker.some_lanes self.block self.index self.len self.values self.reads.blocks self.place c.requires.ordered
-    c.args.target part.result.0 part.result.1 c.first_from-self.result part.new.values part.ensures.part
+    c.args.target part.result.0 part.result.1 c.count_below-self.result part.new.values part.ensures.part
     next.0 next.1.0 next.1.1 room found.within found.before found.enough)
 
 pub returns-clause-entries : goal.returns-clause-entries
