@@ -5,7 +5,8 @@ it names, or the crate not compiling. scripts/changes.py has their form.
 A check takes up to 24 edits that change different functions, and names each function that it refuses. No function may be refused but
 those that an edit names. If a function waits for the proof of a callee that another edit changed, its edit is tried again in a
 later check, without that one. If a check ends without a verdict, such as for want of memory, its edits are tried again, fewer at once.
-Edits of a crate below take the longest, and so are first.
+Edits of a crate below take the longest, since that crate is then proved again, and so are first. What a caller does with less from the
+crate below is tried in the caller's crate: a new function calls the one below, and has its contract without a clause.
 The crates are checked in a copy of what git tracks, over what earlier checks left in out/, and the edits in copies of that, one for
 each processor, up to four.
 
@@ -15,6 +16,7 @@ The last line is 'N passed, M failed'.
 """
 import collections
 import concurrent.futures
+import functools
 import os
 import queue
 import re
@@ -26,7 +28,7 @@ import time
 
 import changes
 import claims
-from common import ROOT, ended, run, words
+from common import ROOT, ended, run, source, words
 
 COPIES = min(4, len(os.sched_getaffinity(0)))
 # How many edits a check takes at most: the more it takes, the more memory it needs, and the longer the others wait for it at the end.
@@ -115,22 +117,31 @@ def why_not(edit, crate, status, said):
     return None
 
 
+@functools.lru_cache(maxsize=None)
+def text_of(path):
+    """The text of a file of the repository, or None if there is none."""
+    return source(path) if os.path.isfile(f"{ROOT}/{path}") else None
+
+
+def can_follow(edit, other):
+    """Whether the changes of the other fit after those of the edit."""
+    texts = {}
+    for path, old, new in [*edit.changes, *other.changes]:
+        texts[path], why = changes.changed(texts[path] if path in texts else text_of(path), path, old, new)
+        if why:
+            return False
+    return True
+
+
 def are_apart(edit, other):
-    """Whether one check can take both: they leave different functions unproved, and change no file of proofs twice. Two edits of which
-    the crate does not compile change different lines, and each has its own text."""
+    """Whether one check can take both, the other after the edit: they leave different functions unproved, change different lines, and no
+    file of proofs twice. Two edits of which the crate does not compile have each its own text."""
     shared = {path for path, _, _ in edit.changes} & {path for path, _, _ in other.changes}
     if not edit.unproved or not other.unproved:
         return not edit.unproved and not other.unproved and set(edit.refused).isdisjoint(other.refused)
-    return edit.unproved.keys().isdisjoint(other.unproved) and not any(path.endswith(".antt") for path in shared)
-
-
-def fitting(edits, most):
-    """The edits that the next check takes: the first, and others that are apart from those before them."""
-    taken = edits[:1]
-    for edit in edits[1:]:
-        if len(taken) < most and all(are_apart(edit, it) for it in taken):
-            taken.append(edit)
-    return taken
+    if not edit.unproved.keys().isdisjoint(other.unproved) or any(path.endswith(".antt") for path in shared):
+        return False
+    return not shared or can_follow(edit, other)
 
 
 def tried(room, crate, edits):
@@ -154,6 +165,18 @@ def tried(room, crate, edits):
     return whys, waiting, more
 
 
+def linked(one, other):
+    """Copies a file. What was proved gets a second name instead: a check writes such a file anew, and never into it."""
+    if one.endswith(".oantt"):
+        try:
+            os.link(one, other)
+            return
+        except OSError:
+            # Two disks, for instance.
+            pass
+    shutil.copy2(one, other, follow_symlinks=False)
+
+
 def copied(room):
     """Makes a copy of the tracked files, with what earlier checks left in out/, which git tracks there too."""
     listed = subprocess.run(["git", "ls-files", "-z"], cwd=ROOT, check=True, stdout=subprocess.PIPE).stdout
@@ -163,7 +186,7 @@ def copied(room):
             shutil.copy2(f"{ROOT}/{name}", f"{room}/{name}")
     for crate in os.listdir(f"{ROOT}/crates"):
         if os.path.isdir(f"{ROOT}/crates/{crate}/out"):
-            shutil.copytree(f"{ROOT}/crates/{crate}/out", f"{room}/crates/{crate}/out", symlinks=True)
+            shutil.copytree(f"{ROOT}/crates/{crate}/out", f"{room}/crates/{crate}/out", symlinks=True, copy_function=linked)
     subprocess.run(["git", "init", "-q", room], check=True)
     subprocess.run(["git", "add", "--all"], cwd=room, check=True)
 
@@ -177,11 +200,11 @@ def files_in(top):
 def mend(sound, folder):
     """Makes a copy of a folder what it was: the files that were written since are copied again, and those that are new are taken out."""
     wanted, found = files_in(sound), files_in(folder)
-    for path in found.keys() - wanted.keys():
+    for path in (path for path, state in found.items() if wanted.get(path) != state):
         os.remove(f"{folder}/{path}")
     for path in (path for path, state in wanted.items() if found.get(path) != state):
         os.makedirs(os.path.dirname(f"{folder}/{path}"), exist_ok=True)
-        shutil.copy2(f"{sound}/{path}", f"{folder}/{path}", follow_symlinks=False)
+        linked(f"{sound}/{path}", f"{folder}/{path}")
 
 
 def changes_below(crate, edits):
@@ -195,12 +218,19 @@ def weight(crate, edits):
 
 
 def checks_of(crate, edits, most):
-    """The checks that take these edits of a crate, each up to so many."""
-    left = sorted(edits, key=lambda it: (not changes_below(crate, [it]), it.name))
-    while left:
-        taken = fitting(left, most)
-        yield taken
-        left = [it for it in left if it not in taken]
+    """The checks that take these edits of a crate, each up to so many. The edits that are apart from the fewest others come first, so that
+    there are few checks. An edit of a crate below goes where there is one, and all others where there are fewest."""
+    checks = []
+    others = {edit.name: sum(not are_apart(it, edit) for it in edits) for edit in edits}
+    for edit in sorted(edits, key=lambda it: (not changes_below(crate, [it]), -others[it.name], it.name)):
+        able = [check for check in checks if len(check) < most and all(are_apart(it, edit) for it in check)]
+        if not able:
+            checks.append([edit])
+        elif changes_below(crate, [edit]):
+            max(able, key=lambda check: changes_below(crate, check)).append(edit)
+        else:
+            min(able, key=len).append(edit)
+    return checks
 
 
 class Rooms:
@@ -216,7 +246,7 @@ class Rooms:
     def open(self, number):
         """Makes so many copies, once the crates of `sound` are checked."""
         for at in range(number):
-            shutil.copytree(self.sound, f"{self.top}/room{at}", symlinks=True)
+            shutil.copytree(self.sound, f"{self.top}/room{at}", symlinks=True, copy_function=linked)
             self.free.put(f"{self.top}/room{at}")
 
     def try_in_one(self, crate, edits):
