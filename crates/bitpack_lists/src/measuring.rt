@@ -16,7 +16,7 @@ pub(crate) const KEPT_WIDTHS: usize = 1024;
 /// How many are kept of a list that has more blocks than that, and so takes much longer to write than this room to clear.
 pub(crate) const MANY_WIDTHS: usize = 8192;
 
-/// How many bytes a text of the values has in version 1 or 2, with so many for each whole block beside its body. The least widths
+/// How many bytes a text of the values has in version 1 or 2, with `entry_len` bytes for each whole block beside its body. The least widths
 /// of its first blocks are kept.
 pub(crate) fn text_len<P: BitPacker>(
     packer: &P,
@@ -41,7 +41,7 @@ pub(crate) fn text_len<P: BitPacker>(
     size + 4 * (values.len() % P::BLOCK_LEN)
 }
 
-/// How many bytes the whole blocks of the values have in a text, with so many for each beside its body. The least widths of the
+/// How many bytes the whole blocks of the values have in a text, with `entry_len` bytes for each beside its body. The least widths of the
 /// first blocks are kept.
 pub(crate) fn blocks_len<P: BitPacker>(
     packer: &P,
@@ -76,7 +76,7 @@ pub(crate) fn blocks_len<P: BitPacker>(
     size
 }
 
-/// Keeps the width of the block with this index, where there is a place for it.
+/// Keeps the width of the block with this index, if there is a place for it.
 fn keep(widths: &mut [u8], index: usize, width: u8)
     ensures kept { index < length widths.old → take (index + 1) widths.new ≡ take index widths.old ++ width ∷ [] }
     ensures past { length widths.old ≤ index → widths.new ≡ widths.old }

@@ -54,8 +54,8 @@ pub extern "C" fn bitpacking_cursor_advance(cursor: &mut ListCursor<'_>) -> i32
     cursor.advance(&mut Reads::new())
 }
 
-/// Moves a cursor to the first value from its place on that is at least the target. Answers 1; 0 where there is none and it is at the end;
-/// or -23 for a plain list, where it stays. One block is unpacked at most, and none if the value is in the block at hand.
+/// Moves a cursor to the first value from its place on that is at least the target. Answers 1; 0 if there is none, and then it is at the end;
+/// or -23 for a plain list, and then it stays. Unpacks at most one block, and none if the value is in the block at hand.
 #[unsafe(no_mangle)]
 pub extern "C" fn bitpacking_cursor_seek(cursor: &mut ListCursor<'_>, target: u32) -> i32
     ensures list { cursor.new.list ≡ cursor.old.list }

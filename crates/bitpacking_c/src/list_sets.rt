@@ -43,7 +43,7 @@ pub extern "C" fn bitpacking_list_intersect(views: &[ListView<'_>], out: &mut [u
     intersect(views, shortest, out) as isize
 }
 
-/// Writes what all of the lists have, of which the one at an index is the shortest. Returns how many values this is.
+/// Writes what all of the lists have. The one at the index is the shortest. Returns how many values this is.
 fn intersect(views: &[ListView<'_>], shortest: usize, out: &mut [u32]) -> usize
     requires shortest { shortest < length views.now }
     requires ordered { All IsInOrder views.now }

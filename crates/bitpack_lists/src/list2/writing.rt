@@ -20,8 +20,8 @@ use crate::measuring::{KEPT_WIDTHS, MANY_WIDTHS, text_len, width_of};
 use crate::reserved::append_zeros;
 use bitpacking::BitPacker;
 
-/// Appends the text of the values, which have to be in the order of their kind: those of a plain list may be in any, those of a
-/// sorted one do not decrease, and those of a strictly sorted one increase.
+/// Appends the text of the values, which have to be in the order of their kind: plain values may be in any order, sorted ones do not
+/// decrease, and strictly sorted ones increase.
 ///
 /// A list has at most 268,435,456 values. The vector grows once at most.
 pub fn encode<P: BitPacker>(

@@ -131,7 +131,7 @@ pub(crate) fn write_header(kind: ListKind, lanes: usize, count: usize, bytes: &m
     1 + write_number(count as u32, &mut bytes[1..])
 }
 
-/// The number of the first byte that means so many lanes.
+/// The number in the first byte that stands for `lanes` lanes.
 fn lanes_code(lanes: usize) -> u8
     ensures code { result ≡ Rattle.bitpack_lists.specs.Version3.lanes_code lanes }
     ensures few { result ≤ 3 }

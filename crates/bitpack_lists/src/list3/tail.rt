@@ -10,7 +10,7 @@ use super::group::{LONGEST_GROUP, group_len, read_group, write_group};
 use super::number::{number_len, read_number, write_number};
 use crate::list_error::ListError;
 
-/// Reads the tail of as many codes as the slice has, after so many blocks, and returns the bytes after it. After a refusal the codes
+/// Reads the tail of as many codes as the slice has, after `blocks` blocks, and returns the bytes after it. After a refusal the codes
 /// may be any.
 #[tactic(auto, unfolding(crate::specs::Version3::tail_fault3, crate::specs::Version3::tail_codes3, crate::specs::Version3::after_tail3))]
 #[inline(always)]
@@ -60,7 +60,7 @@ pub(crate) fn read_groups<'a>(
     Ok(rest)
 }
 
-/// How many codes the next group has, where so many are left.
+/// How many codes the next group has, if `left` codes are left.
 pub(crate) fn next_len(left: usize) -> usize
     ensures { result ≡ min 32 left }
 {
@@ -93,7 +93,7 @@ fn before_groups(blocks: usize) -> usize
     if blocks == 0 { 1 } else { 0 }
 }
 
-/// How many bytes the tail of these codes has, after so many blocks.
+/// How many bytes the tail of these codes has, after `blocks` blocks.
 pub(crate) fn tail_len(blocks: usize, codes: &[u32]) -> usize
     requires few { length codes.now ≤ 2 ^ 28 }
     ensures len { (bytes : List ℕ) → IsTail3 blocks codes.now bytes → length bytes ≡ result }

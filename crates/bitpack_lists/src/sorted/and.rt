@@ -125,7 +125,7 @@ fn merge(one: &[u32], other: &[u32]) -> (u32, usize, usize)
     }
 }
 
-/// The same. No branch depends on which of two values is less.
+/// As above. No branch depends on which of two values is less.
 #[inline(always)]
 fn merge_even(one: &[u32], other: &[u32]) -> (u32, usize, usize)
     ensures { (xs ys : List ℕ) → IsFront one.now xs → IsFront other.now ys → NoneBelow result.0 xs ys }

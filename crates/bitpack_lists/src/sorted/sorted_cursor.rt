@@ -32,7 +32,7 @@ pub trait SortedCursor: Drop {
         &[]
     }
 
-    /// The same as `seek`. It is faster if the value is so many values at hand ahead of this place.
+    /// As `seek`. It is faster if the value is `ahead` values at hand ahead of this place.
     #[inline(always)]
     fn seek_ahead(&mut self, target: u32, _ahead: usize)
         ensures { rest self.new ≡ at_least target (rest self.old) }

@@ -1,5 +1,5 @@
 //! The calls on packed lists, each once and with no contract. The proof of a test does not read what a call promises, so it is short
-//! where the test calls these.
+//! if the test calls these.
 
 use bitpack::list2::{Cursor, PackedList, Reads, intersect};
 use bitpack::{ListError, ListKind, list, list2, list3};
@@ -153,7 +153,7 @@ pub(super) fn seek<P: BitPacker>(
     list.seek(target, &mut Reads::new())
 }
 
-/// What `intersect` returns for the lists of two texts, or `None` where one of them is no text of a list in order.
+/// What `intersect` returns for the lists of two texts, or `None` if one of them is no text of a list in order.
 pub(super) fn intersect_texts<P: BitPacker, Q: BitPacker>(
     (packer, text): (&P, &[u8]),
     (other_packer, other_text): (&Q, &[u8]),

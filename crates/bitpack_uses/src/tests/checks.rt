@@ -1,5 +1,5 @@
 //! What the tests assert, each once, and the vectors that they begin with. A proof grows with the assertions and with the early
-//! returns of a function: so a test calls these, and where memory runs out they end it.
+//! returns of a function: so a test calls these, and if memory runs out they end it.
 
 ghost use Rattle.std.specs.Prelude.{◌↔◌, IsTrue};
 ghost use Rattle.std.specs.List.Sorted.{IsStrictlyIncreasing};
@@ -38,22 +38,22 @@ pub(super) fn same_fault(
     assert_eq!(rt; found, expected, "{text:?}");
 }
 
-/// The same bytes.
+/// The bytes are equal.
 pub(super) fn same_bytes(rt: &impl Abort, found: &[u8], expected: &[u8]) {
     assert_eq!(rt; found, expected);
 }
 
-/// The same values.
+/// The values are equal.
 pub(super) fn same_values(rt: &impl Abort, found: &[u32], expected: &[u32]) {
     assert_eq!(rt; found, expected);
 }
 
-/// The same number.
+/// The numbers are equal.
 pub(super) fn same_number(rt: &impl Abort, found: usize, expected: usize, what: &str) {
     assert_eq!(rt; found, expected, "{what}");
 }
 
-/// The same text to be read.
+/// The printed texts are equal.
 pub(super) fn same_words(rt: &impl Abort, found: &str, expected: &str) {
     assert_eq!(rt; found, expected);
 }
@@ -104,7 +104,7 @@ pub(super) fn one_value(rt: &impl Abort, alloc: Global, first: u32) -> Vec<u32> 
     vec![in alloc; first].expect(rt, "memory")
 }
 
-/// An empty vector with room for so many.
+/// An empty vector with room for `count` items.
 pub(super) fn room_for<T>(rt: &impl Abort, alloc: Global, count: usize) -> Vec<T> {
     Vec::with_capacity(alloc, count).expect(rt, "memory")
 }
@@ -126,7 +126,7 @@ pub(super) fn with_zero(rt: &impl Abort, alloc: Global, text: &[u8]) -> Vec<u8> 
     longer
 }
 
-/// Appends so many values: the first, and each further one so much greater, modulo 2 ^ 32.
+/// Appends `count` values: the first, and each further one a step greater, modulo 2 ^ 32.
 pub(super) fn push_steps(
     rt: &impl Abort,
     values: &mut Vec<u32>,

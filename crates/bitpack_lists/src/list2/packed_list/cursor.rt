@@ -360,8 +360,7 @@ pub fn first_from(values: &[u32], from: usize, target: u32) -> usize
 /// a value, so that the compiler compares several at once.
 #[inline(always)]
 fn count_below(values: &[u32], target: u32) -> usize
-    requires short { length values.now ≤ LONGEST_BLOCK }
-    requires order { InOrder values.now }
+    requires { (length values.now ≤ LONGEST_BLOCK) × InOrder values.now }
     ensures { IsSoughtFrom values.now target 0 result }
 {
     let mut below = 0u32;

@@ -121,8 +121,7 @@ impl<'a, P: BitPacker> PackedList<'a, P> {
     /// The kind of a block that was found from one on, which has this kind. If it is a later one, the block before it ends with this value.
     #[inline(always)]
     fn kind_found(&self, from: usize, kind: Kind, number: usize, before: u32) -> Kind
-        requires kind { kind ≡ kind_at self.now.kind (rest_of self.now) from }
-        requires from { from ≤ number }
+        requires kind { (from ≤ number) × (kind ≡ kind_at self.now.kind (rest_of self.now) from) }
         requires before { from < number → kind_at self.now.kind (rest_of self.now) number
             ≡ Chains.next_kind (first_kind self.now.kind) before }
         ensures { result ≡ kind_at self.now.kind (rest_of self.now) number }

@@ -1,4 +1,4 @@
-//! The first value of a tail of version 3 that is at least a target. Only the groups up to that of the value are unpacked.
+//! The first value of a tail of version 3 that is at least a target. Unpacks only the groups up to the value.
 
 ghost use Rattle.std.specs.Prelude.{◌≡◌, ◌+◌, ◌*◌, ◌^◌, ◌<◌, ◌≤◌, ℕ, length, slice_index, take, IfSome, None};
 ghost use Rattle.bitpacking.specs.Codes.{values_of};
@@ -18,7 +18,7 @@ use bitpacking::{BitPacker, Kind};
 impl<'a, P: BitPacker> PackedList<'a, P> {
     ghost use Rattle.bitpack_lists.specs.declared.version.Version.{Version};
 
-    /// The first value of the tail that is at least the target, with its position. Those of the whole blocks are below it.
+    /// The first value of the tail that is at least the target, with its position. The values of the whole blocks are below it.
     // Reads bytes: seek_after_first, seek_groups, tail.
     pub(super) fn seek_in_groups(&self, target: u32) -> Option<(usize, u32)>
         requires version { self.now.version ≡ Version.Three }
@@ -48,9 +48,7 @@ impl<'a, P: BitPacker> PackedList<'a, P> {
     /// The first value that is at least the target, with its position, in a list without a whole block.
     // Reads bytes: read_number, tail, to_values, next_kind, seek_groups.
     fn seek_after_first(&self, target: u32) -> Option<(usize, u32)>
-        requires version { self.now.version ≡ Version.Three }
-        requires some { 1 ≤ self.now.count }
-        requires few { self.now.count < 32 * P.lanes }
+        requires first { (self.now.version ≡ Version.Three) × (1 ≤ self.now.count) × (self.now.count < 32 * P.lanes) }
         ensures { result ≡ first_reaching (value_of self.now) self.now.count target }
     {
         match read_number(self.tail) {
@@ -79,9 +77,7 @@ fn seek_groups(
     count: usize,
     target: u32,
 ) -> Option<(usize, u32)>
-    requires block { block ≤ 2 ^ 28 }
-    requires start { start ≤ 2 ^ 28 }
-    requires few { count ≤ 2 ^ 28 }
+    requires few { (block ≤ 2 ^ 28) × (start ≤ 2 ^ 28) × (count ≤ 2 ^ 28) }
     requires sound { groups_fault (groups_of count) block count bytes.now ≡ None }
     ensures within { IfSome result (λ found. start ≤ found.0) }
     ensures found { (value : ℕ → ℕ) → ((k : ℕ) → k < start → value k < target)
@@ -109,8 +105,7 @@ fn seek_groups(
 /// Reads the values of a group without a fault, which are the first of `values`, and returns how many bytes it has.
 // Reads bytes: read_group, bytes, to_values.
 fn read_values(kind: Kind, block: usize, count: usize, bytes: &[u8], values: &mut [u32]) -> usize
-    requires some { 1 ≤ count }
-    requires count { count ≤ LONGEST_GROUP }
+    requires count { (1 ≤ count) × (count ≤ LONGEST_GROUP) }
     requires room { length values.old ≡ LONGEST_GROUP }
     requires sound { group_fault block count bytes.now ≡ None }
     ensures values { take count values.new ≡ values_of kind (group_codes count bytes.now) }

@@ -17,7 +17,7 @@ fn has_fault<P: BitPacker>(rt: &impl Abort, text: &[u8], fault: Option<ListError
     same_fault(rt, first_fault::<P>(text), fault, text);
 }
 
-/// The walk finds no fault in the text, which is that of the values after the 7.
+/// The walk finds no fault in the text of the values after the 7.
 fn is_of_values<P: BitPacker>(
     rt: &impl Abort,
     alloc: Global,
@@ -32,7 +32,7 @@ fn is_of_values<P: BitPacker>(
     is_written(rt, alloc, packer, kind, values, text);
 }
 
-/// The text opens, and is that of the values that come out; or it is refused with its first fault, and the vector is as it was.
+/// The text opens, and belongs to the values that come out; or it is refused with its first fault, and the vector is as it was.
 fn opens_or_is_refused<P: BitPacker>(rt: &impl Abort, alloc: Global, packer: &P, text: &[u8]) {
     let mut values = one_value(rt, alloc, 7);
     let room = values.capacity();
@@ -79,7 +79,7 @@ fn every_bit<P: BitPacker>(rt: &impl Abort, alloc: Global, packer: &P, text: &[u
     }
 }
 
-/// Appends a byte so many times.
+/// Appends a byte `count` times.
 fn push_byte(rt: &impl Abort, text: &mut Vec<u8>, byte: u8, count: usize) {
     for _ in 0..count {
         push_bytes(rt, text, &[byte]);

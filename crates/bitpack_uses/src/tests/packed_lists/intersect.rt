@@ -148,7 +148,7 @@ fn the_greatest_value_ends_a_walk(rt: HostRuntime) {
     lists_share(&rt, rt.alloc(), one, other, shared);
 }
 
-/// Up to so many values in order: some of them repeat in a sorted list, and now and then there is a gap that is longer than a block.
+/// Up to `count` values in order: some of them repeat in a sorted list, and now and then there is a gap that is longer than a block.
 fn random_values(
     rt: &impl Abort,
     alloc: Global,
@@ -181,7 +181,7 @@ fn has(values: &[u32], value: u32) -> bool {
     false
 }
 
-/// What two lists in order share: each value of the one that the other has, where it is not the one appended before.
+/// What two lists in order share: each value of the one that the other has, if it is not the one appended before.
 fn merge(rt: &impl Abort, alloc: Global, values: &[u32], others: &[u32]) -> Vec<u32> {
     let mut shared: Vec<u32> = Vec::new(alloc);
     for value in values {
@@ -192,7 +192,7 @@ fn merge(rt: &impl Abort, alloc: Global, values: &[u32], others: &[u32]) -> Vec<
     shared
 }
 
-/// A pair of lists with up to so many values.
+/// A pair of lists with up to this number of values.
 fn random_pair<P: BitPacker, Q: BitPacker>(
     rt: &impl Abort,
     alloc: Global,
@@ -267,7 +267,7 @@ fn a_million_values_and_a_hundred(rt: HostRuntime) {
     lists_share(&rt, alloc, few, many, &shared);
 }
 
-/// What `intersect` returns where so many values are all the memory that there is.
+/// What `intersect` returns with memory for this number of values, and no more.
 fn intersect_within(
     rt: &impl Abort,
     alloc: Global,
@@ -310,7 +310,7 @@ fn is_kept(rt: &impl Abort, alloc: Global, text: &[u8], other: &[u8]) {
     kept_values(rt, &out, 9, room);
 }
 
-/// With room for so many values, nothing is asked for.
+/// With enough room in the vector, nothing is allocated.
 fn asks_for_nothing(
     rt: &impl Abort,
     alloc: Global,

@@ -226,7 +226,7 @@ const WORDS: [[[u8; 4]; 3]; 3] = [
     ],
 ];
 
-/// Values of so many blocks, three at most, of the codes 1, 2 and 5, and two more where there is a tail.
+/// Values of up to three blocks, of the codes 1, 2 and 5, and two more if there is a tail.
 pub(super) fn blocks_of<P: BitPacker>(
     rt: &impl Abort,
     alloc: Global,
@@ -247,7 +247,7 @@ pub(super) fn blocks_of<P: BitPacker>(
     values
 }
 
-/// Appends the entries of so many blocks, which have these last values.
+/// Appends the entries of blocks that have these last values.
 fn push_entries(rt: &impl Abort, text: &mut Vec<u8>, blocks: usize, lasts: [u32; 3]) {
     for block in 0..blocks.min(3) {
         push_bytes(rt, text, &[block as u8 + 1, [0, 1, 3][block], 0, 0, 0]);
@@ -255,7 +255,7 @@ fn push_entries(rt: &impl Abort, text: &mut Vec<u8>, blocks: usize, lasts: [u32;
     }
 }
 
-/// Appends the bytes of so many blocks.
+/// Appends the bytes of the blocks.
 fn push_bodies(rt: &impl Abort, text: &mut Vec<u8>, blocks: usize, lanes: usize) {
     for block in 0..blocks.min(3) {
         push_words(rt, text, &WORDS[block][..block + 1], lanes);

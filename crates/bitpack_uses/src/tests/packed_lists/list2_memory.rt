@@ -1,5 +1,5 @@
 //! Packed lists of version 2 short of memory: `encode` grows its vector once, to the size that it ends with, and leaves it as it was
-//! where that is refused; all else takes no memory.
+//! if that fails; all else allocates nothing.
 
 use super::list2::{are_refused, is_list, is_refused, opened};
 use super::memory::{grow_stack, take_all};
@@ -12,7 +12,7 @@ use bitpacking::{BitPacker, BitPacker1x, BitPacker4x, BitPacker8x};
 use std::alloc::Global;
 use std::process::Abort;
 
-/// What `encode` answers where so many bytes are all the memory that there is.
+/// What `encode` answers with memory for this number of bytes, and no more.
 fn encode_within<P: BitPacker>(
     rt: &impl Abort,
     alloc: Global,

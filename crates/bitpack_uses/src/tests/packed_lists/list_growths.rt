@@ -1,4 +1,4 @@
-//! Packed lists in vectors with too little room: what is left where a growth is refused, how much room a call takes, and that many
+//! Packed lists in vectors with too little room: what is left if an allocation fails, how much room a call takes, and that many
 //! lists in one vector grow it seldom.
 
 use super::lists::{decodes, three_blocks, three_blocks_text};
@@ -33,7 +33,7 @@ fn take_everything(rt: &impl Abort, alloc: Global) -> Vec<Vec<u8>> {
     taken
 }
 
-/// A vector that holds one item, with room for so many.
+/// A vector that holds one item, with room for `room` items.
 fn one_item<T: Copy>(rt: &impl Abort, alloc: Global, item: T, room: usize) -> Vec<T> {
     let mut items = room_for(rt, alloc, room);
     holds(rt, items.push(item).is_ok(), "memory");
@@ -61,7 +61,7 @@ fn calls_refused<P: BitPacker>(
     decodes(rt, decoded, Err(ListError::Trailing), longer);
 }
 
-/// With room for so many bytes and values, and no more memory, the calls leave the vectors as they were.
+/// With room for a number of bytes and values, and no more memory, the calls leave the vectors as they were.
 fn growth_refused<P: BitPacker>(
     rt: &impl Abort,
     alloc: Global,
@@ -96,7 +96,7 @@ fn growths_refused<P: BitPacker>(
     growth_refused(rt, alloc, packer, list, halves);
 }
 
-/// From room for so many bytes `encode` grows to what the text takes, and no further.
+/// From room for a number of bytes `encode` grows to what the text takes, and no further.
 fn room_of_text<P: BitPacker>(
     rt: &impl Abort,
     alloc: Global,
@@ -111,7 +111,7 @@ fn room_of_text<P: BitPacker>(
     same_number(rt, written.capacity(), bytes, "room for bytes");
 }
 
-/// From room for so many values `decode` grows to what the values take, and no further.
+/// From room for a number of values `decode` grows to what the values take, and no further.
 fn room_of_values<P: BitPacker>(
     rt: &impl Abort,
     alloc: Global,
@@ -198,7 +198,7 @@ fn room_of_list<P: BitPacker>(
     values_of_a_thousand(rt, alloc, packer, list);
 }
 
-/// The headers of three blocks of each kind and a tail of five values, in so many lanes.
+/// The headers of three blocks of each kind and a tail of five values, in this number of lanes.
 fn headers(lanes: u8, low: u8, high: u8) -> [(ListKind, [u8; 7]); 3] {
     [
         (ListKind::Plain, [1, 0, lanes, low, high, 0, 0]),

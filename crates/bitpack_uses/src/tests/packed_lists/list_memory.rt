@@ -12,7 +12,7 @@ use bitpacking::{BitPacker, BitPacker1x, BitPacker4x, BitPacker8x};
 use std::alloc::Global;
 use std::process::Abort;
 
-/// Encodes where so many bytes are all the memory that there is.
+/// Encodes with memory for this number of bytes, and no more.
 fn encode_within<P: BitPacker>(
     rt: &impl Abort,
     alloc: Global,
@@ -29,7 +29,7 @@ fn encode_within<P: BitPacker>(
     outcome
 }
 
-/// Decodes where so many values are all the memory that there is.
+/// Decodes with memory for this number of values, and no more.
 fn decode_within<P: BitPacker>(
     rt: &impl Abort,
     alloc: Global,
@@ -96,7 +96,7 @@ fn decode_refused<P: BitPacker>(
     same_values(rt, &read, &[7]);
 }
 
-/// The growths of `decode`, which leaves so many values.
+/// The growths of `decode`, which leaves this number of values.
 fn growth_of_values<P: BitPacker>(
     rt: &impl Abort,
     alloc: Global,

@@ -266,7 +266,7 @@ pub(super) fn push_words(rt: &impl Abort, text: &mut Vec<u8>, words: &[[u8; 4]],
     }
 }
 
-/// Appends a word so many times.
+/// Appends a word `count` times.
 fn push_repeated(rt: &impl Abort, text: &mut Vec<u8>, word: &[u8], count: usize) {
     for _ in 0..count {
         push_bytes(rt, text, word);
@@ -301,7 +301,7 @@ pub(super) fn three_blocks_text<P: BitPacker>(
     text
 }
 
-/// Three blocks and a tail in a kind; the header is that of a plain list.
+/// Three blocks and a tail in a kind; the header says plain.
 fn of_kind<P: BitPacker>(
     rt: &impl Abort,
     alloc: Global,

@@ -4,7 +4,7 @@ use crate::tests::checks::room_for;
 use std::alloc::Global;
 use std::process::Abort;
 
-/// Makes the stack as large as the calls of a test need, since it cannot grow where memory was taken. Each test that takes all
+/// Makes the stack as large as the calls of a test need, since it cannot grow once memory was taken. Each test that takes all
 /// memory calls it first.
 #[inline(never)]
 pub(super) fn grow_stack(rt: &impl Abort) {

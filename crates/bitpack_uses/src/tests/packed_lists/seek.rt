@@ -87,7 +87,7 @@ fn walk(values: &[u32], target: u32) -> Option<(usize, u32)> {
     None
 }
 
-/// The list finds this value, and the ones before and after it, where a walk over its values finds them.
+/// The list finds this value, and the ones before and after it, at the places that a walk over its values finds.
 fn finds_near<P: BitPacker>(rt: &impl Abort, list: &PackedList<'_, P>, values: &[u32], value: u32) {
     for target in [value.saturating_sub(1), value, value.saturating_add(1)] {
         list_finds(rt, list, target, walk(values, target));
@@ -128,7 +128,7 @@ pub(super) fn rising(rt: &impl Abort, alloc: Global, step: u32, count: usize) ->
     steps(rt, alloc, 10, step, count)
 }
 
-/// A list of so many values, in both kinds.
+/// A list of this number of values, in both kinds.
 fn small_list<P: BitPacker>(rt: &impl Abort, alloc: Global, packer: &P, count: usize) {
     let values = rising(rt, alloc, 3, count);
     for kind in [ListKind::Sorted, ListKind::StrictlySorted] {
@@ -173,7 +173,7 @@ fn each_packer_searches(rt: HostRuntime) {
     small_lists(&rt, rt.alloc(), &BitPacker8x::scalar());
 }
 
-/// A million values, of which some are sought.
+/// A million values. Some of them are sought.
 fn a_million<P: BitPacker>(rt: &impl Abort, alloc: Global, packer: &P) {
     let values = rising(rt, alloc, 4, 1_000_000);
     let some = [0, 10, 14, 127 * 4 + 10, 1_999_998, 4_000_006, u32::MAX];

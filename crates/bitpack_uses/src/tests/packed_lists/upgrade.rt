@@ -1,4 +1,4 @@
-//! Texts of version 1 into those of version 2. The expected bytes and refusals were worked by hand from the format. None is the
+//! Texts of version 1, converted to version 2. The expected bytes and refusals were worked by hand from the format. None is the
 //! program's own output.
 
 use super::list2::{SHAPES, blocks_of, each_kind, is_list, is_written, text_of, thirty_three};
@@ -73,7 +73,7 @@ fn worked_texts(rt: HostRuntime) {
     }
 }
 
-/// Strictly sorted, 32 times 5: after the first every code is that of no step, which wraps.
+/// Strictly sorted, 32 times 5: after the first every code stands for no step, which wraps.
 fn wrapped_values_refused(rt: &impl Abort, alloc: Global) {
     let mut wrapped = [0xff; 136];
     wrapped[..12].copy_from_slice(&[1, 2, 1, 32, 0, 0, 0, 32, 5, 0, 0, 0]);

@@ -1,4 +1,4 @@
-//! `upgrade` short of memory: it grows its vector once, to the size that it ends with, and leaves it as it was where that is refused.
+//! `upgrade` short of memory: it grows its vector once, to the size that it ends with, and leaves it as it was if that fails.
 
 use super::list2_memory::turns;
 use super::memory::{grow_stack, take_all};
@@ -11,7 +11,7 @@ use bitpacking::{BitPacker, BitPacker1x, BitPacker4x, BitPacker8x};
 use std::alloc::Global;
 use std::process::Abort;
 
-/// What `upgrade` answers where so many bytes are all the memory that there is.
+/// What `upgrade` answers with memory for this number of bytes, and no more.
 fn upgrade_within<P: BitPacker>(
     rt: &impl Abort,
     alloc: Global,

@@ -9,7 +9,7 @@ loop-index-preserved c =
     let below = c.loop-index.below in
     let index = c.loop-index.index in
     let so_far = c.loop-index.invariant in
-    let order = c.requires.order below index so_far.few c.loop-index-test.true in
+    let order = c.requires.1 below index so_far.few c.loop-index-test.true in
     elim c.if-value-target.branch [
       | then-value-target w ↦
           let all : index ≤ below = elim (cases_lt below index) [
