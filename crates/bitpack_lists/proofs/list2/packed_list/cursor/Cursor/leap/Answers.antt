@@ -1,5 +1,5 @@
 -- The search goes on in the first block that ends with the target or more, or in the tail.
-use Rattle.std.proofs.Common.{◌≡◌, ◌+◌, ◌*◌, ◌/◌, ◌<◌, ◌≤◌, ℕ, length, refl, ◌∙◌, ap, arith}
+use Rattle.std.proofs.Common.{◌≡◌, ◌+◌, ◌*◌, ◌/◌, ◌<◌, ◌≤◌, ℕ, length, refl, ◌∙◌, ap, arith, rules}
 use Rattle.bitpack_lists.proofs.CursorPlaces.{ends_below, part_order, place_later, sought_later, sought_listed, sought_none, sought_part}
 use Rattle.bitpack_lists.proofs.SearchSteps.{near_few}
 use Rattle.bitpack_lists.proofs.list2.packed_list.cursor.Cursor.leap.Goals as goal
@@ -21,11 +21,13 @@ find-found-requires-clause-before g c =
     ends_below self.list g.met.P.BitPacker.some_lanes self.block self.index self.len self.values self.reads.blocks self.place c.requires.ordered c.args.target
     c.requires.below lt
 
-pub count_below-self-requires-clause-order : goal.count_below-self-requires-clause-order
-count_below-self-requires-clause-order g c =
-    let self = c.args.self.now in
-    part_order self.list g.met.P.BitPacker.some_lanes c.read_part-number.result.0 c.read_part-number.result.1 c.read_part-number.new.values
-    c.read_part-number.ensures.part c.requires.ordered
+pub count_below-self-requires : goal.count_below-self-requires
+count_below-self-requires g c =
+    let self = c.args.self.now in (
+      search rules,
+      part_order self.list g.met.P.BitPacker.some_lanes c.read_part-number.result.0 c.read_part-number.result.1
+          c.read_part-number.new.values c.read_part-number.ensures.part c.requires.ordered,
+    )
 
 pub invariant_of-self-2 : goal.invariant_of-self-2
 invariant_of-self-2 g c =
