@@ -13,6 +13,7 @@ WAYS = {
     "lists": ("packed lists", "#2563eb"),
     "arrays": ("plain arrays", "#8b93a1"),
     "roaring": ("Roaring", "#d97706"),
+    "roaring_here": ("Roaring, for this processor", "#f6ad55"),
     "xapian": ("Xapian", "#2f855a"),
 }
 SETS = {
@@ -26,11 +27,11 @@ SETS = {
     "dense-or": "OR of 2 frequent words",
 }
 # Of a picture, in pixels: its width, where bars begin and how long they are at most, and the height of a bar.
-WIDTH, LEFT, LONGEST, BAR = 720, 180, 400, 16
+WIDTH, LEFT, LONGEST, BAR = 760, 190, 450, 15
 
 
 def numbers():
-    """The measured numbers by measure, way, set and threads."""
+    """The measured numbers by measure, way, set of queries and threads."""
     rows = [line.split("\t") for line in source(f"{FOLDER}/search.tsv").split("\n") if line and not line.startswith("#")]
     return {tuple(row[:4]): float(row[4]) for row in rows[1:]}
 
@@ -63,6 +64,8 @@ def size(found):
     postings, parts, y = found["postings", "texts", "", ""], [], 48
     scale = LONGEST / 64
     for way, (name, colour) in WAYS.items():
+        if way == "roaring_here":
+            continue
         documents, counts = [8 * found[f"bytes of {what}", way, "", ""] / postings for what in ("documents", "counts")]
         counts = 0 if way == "roaring" else counts
         label = f"{documents:.1f}" + (f" + {counts:.1f}" if counts else ", with counts and words" if way == "xapian" else "")
@@ -78,14 +81,14 @@ def size(found):
 
 def queries(found):
     """Queries a second on one core. The longest bar of each set is the most."""
-    parts, x, y = [], LEFT, 44
+    parts, x, y = [], 20, 44
     for name, colour in WAYS.values():
-        parts += [bar(x, y, 13, colour), text(x + 20, y + 11, name)]
-        x += 125
+        parts += [bar(x, y, 13, colour), text(x + 18, y + 11, name)]
+        x += 44 + 7 * len(name)
     y += 30
     for key, name in SETS.items():
-        rates = {way: 1 / found["query: processor seconds a query", way, key, "1"] for way in WAYS}
-        parts.append(text(LEFT - 10, y + 2 * BAR + 2, name, "end"))
+        rates = {way: 1 / found["query: processor seconds", way, key, "1"] for way in WAYS}
+        parts.append(text(LEFT - 10, y + len(WAYS) * BAR // 2 + 4, name, "end"))
         for way, (_, colour) in WAYS.items():
             length = LONGEST * rates[way] / max(rates.values())
             parts += [bar(LEFT, y, length, colour), text(round(LEFT + max(length, 1) + 8), y + 11, f"{rates[way]:,.0f}")]

@@ -86,9 +86,9 @@ def stage(folders, folder):
                     shutil.copyfile(path, f"{folder}{path}")
 
 
-def commands(folder, ways, roaring):
-    """What builds each program."""
-    flags = ["-O3", "-march=native", "-Wall", "-Wextra", "-Werror"]
+def commands(folder, ways, roaring, level):
+    """What builds each program, at a level of optimization."""
+    flags = [level, "-march=native", "-Wall", "-Wextra", "-Werror"]
     cpp = ["g++", "-std=c++20", *flags, "-pthread", f"{HERE}/main.cpp"]
     archive, include = f"{archives.OUT}/{archives.ALL}", f"-I{ROOT}/include"
     yield "search", ["cc", "-std=c99", "-O2", include, *sorted(glob.glob(f"{ROOT}/examples/search/*.c")), archive, "-lm"]
@@ -107,9 +107,9 @@ def commands(folder, ways, roaring):
         yield "xapian", [*cpp, f"{HERE}/xapian.cpp", *run("xapian-config", "--cxxflags", "--libs").stdout.split()]
 
 
-def built(folder, ways, roaring):
+def built(folder, ways, roaring, level="-O3"):
     """Builds the programs. Each as its name and why it was not built, or None."""
-    for name, command in commands(folder, ways, roaring):
+    for name, command in commands(folder, ways, roaring, level):
         done = run(*command, "-o", f"{folder}/{name}", folder=folder)
         yield f"the program {name}", None if done.returncode == 0 else done.stdout[-3000:]
 
@@ -242,7 +242,7 @@ def table(ways, numbers):
     print("| | " + " | ".join(ways) + " |\n|---|" + "---|" * len(ways))
     row("index, s of the processor", number("index: processor seconds", "{:.1f}"))
     row("index, memory in MB", number("index: bytes of memory", "{:,.0f}", 1e-6))
-    row("bytes of documents", number("bytes of documents", "{:,}"))
+    row("bytes of documents", number("bytes of documents", "{:,.0f}"))
     row("bits a posting", number("bytes of documents", "{:.2f}", 8 / postings))
     row("bits of its count", number("bytes of counts", "{:.2f}", 8 / postings))
     row("queries, memory in MB", lambda way: f"{numbers.get('queries: bytes of memory', way, '', 1) / 1e6:,.0f}")
@@ -268,7 +268,7 @@ def tried():
             ways.remove(way)
     with tempfile.TemporaryDirectory(prefix="search-speed-") as folder:
         os.symlink(CORPUS, f"{folder}/texts")
-        done = list(built(folder, ways, None))
+        done = list(built(folder, ways, None, "-O1"))
         yield from done
         if any(why for _, why in done):
             return
