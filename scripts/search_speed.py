@@ -34,8 +34,9 @@ CORPUS = f"{ROOT}/examples/search/corpus"
 LEAST = {"bytes": 200_000_000, "paragraphs": 500_000}
 # A file is text if its first bytes have no zero.
 TESTED = 8000
-# The ways in the order of the table, and how many rounds each process makes of a set.
-WAYS = {"lists": 9, "arrays": 9, "roaring": 9, "roaring_here": 9, "xapian": 2}
+# The ways in the order of the table: how many rounds a process makes of a set, in how many passes at most, and of how many queries it takes
+# one. Xapian takes far longer.
+WAYS = {"lists": (3, 99, 1), "arrays": (3, 99, 1), "roaring": (3, 99, 1), "roaring_here": (3, 99, 1), "xapian": (1, 1, 4)}
 # What a way needs that may not be installed, and what comes with it.
 NEEDS = {"roaring": ("/usr/include/roaring/roaring.h", "libroaring-dev"), "xapian": ("/usr/bin/xapian-config", "libxapian-dev")}
 # The sets of queries: operation, the least and the most words, how many queries, and which words there may be.
@@ -55,10 +56,10 @@ DENSE, RARE = 16, 1000
 
 
 class Numbers:
-    """What was measured: the least of all passes."""
+    """What was measured: the least of all passes. It is written to a file, if there is one."""
 
-    def __init__(self):
-        self.best = {}
+    def __init__(self, path=None):
+        self.best, self.path = {}, path
 
     def add(self, measure, way, value, part="", threads=""):
         key = (measure, way, part, str(threads))
@@ -67,9 +68,14 @@ class Numbers:
     def get(self, measure, way, part="", threads=""):
         return self.best.get((measure, way, part, str(threads)))
 
-    def text(self):
-        rows = ["measure\tway\tset\tthreads\tvalue"]
-        return "\n".join(rows + ["\t".join([*key, f"{value:.9g}"]) for key, value in self.best.items()]) + "\n"
+    def save(self):
+        if not self.path:
+            return
+        with open(self.path, "w", encoding="ascii") as file:
+            file.write(
+                f"# {time.strftime('%Y-%m-%d')}, {machine_name()}, load {os.getloadavg()[0]:.1f}\nmeasure\tway\tset\tthreads\tvalue\n"
+            )
+            file.writelines("\t".join([*key, f"{value:.9g}"]) + "\n" for key, value in self.best.items())
 
 
 def stage(folders, folder):
@@ -135,8 +141,9 @@ class Machine:
         return said, usage.ru_utime + usage.ru_stime, time.time() - start, usage.ru_maxrss * 1024
 
     def answers(self, way):
+        """What a way answered, as a line for each query."""
         with open(f"{self.folder}/answers.{way}", encoding="ascii") as file:
-            return file.read()
+            return file.readlines()
 
 
 def read_sample(path):
@@ -188,12 +195,13 @@ def measure_index(machine, ways, numbers, one_of=200):
             said = machine.run("./lists", "index", "texts", "index.lists")[0]
         numbers.add("bytes of documents", way, int(said[0][1]))
         numbers.add("bytes of counts", way, int(said[0][2]))
+        numbers.save()
         print(f"{way}: indexed in {processor:.1f} s of the processor", flush=True)
 
 
-def measure_queries(machine, way, numbers, threads, rounds):
+def measure_queries(machine, way, numbers, threads, rounds, one_of):
     """Has a way answer the queries, and adds what that took."""
-    command = [f"./{way}", "queries", index_of(way), "queries", f"answers.{way}", str(rounds), str(threads)]
+    command = [f"./{way}", "queries", index_of(way), "queries", f"answers.{way}", str(rounds), str(threads), str(one_of)]
     for words in machine.run(*command, threads=threads)[0]:
         if words[0] == "memory":
             numbers.add("queries: bytes of memory", way, int(words[1]), "", threads)
@@ -208,14 +216,19 @@ def measure(machine, ways, numbers, passes):
     for number in range(passes):
         for threads in 1, 4:
             for way in ways:
-                measure_queries(machine, way, numbers, threads, WAYS[way])
-                if machine.answers(way) != machine.answers("lists"):
+                rounds, most, one_of = WAYS[way]
+                if number >= most:
+                    continue
+                measure_queries(machine, way, numbers, threads, rounds, one_of)
+                if machine.answers(way) != machine.answers("lists")[::one_of]:
                     sys.exit(f"{way} has other answers than the lists")
+        numbers.save()
         print(f"pass {number + 1} of {passes}: the answers are the same; load {os.getloadavg()[0]:.1f}", flush=True)
     for words in machine.run("./lists", "open", "index.lists", "5")[0]:
         if words[0] == "open":
             numbers.add("opening all: lists", "lists", int(words[1]))
             numbers.add("opening all: processor seconds", "lists", float(words[3]))
+    numbers.save()
 
 
 def table(ways, numbers):
@@ -277,8 +290,8 @@ def tried():
         write_queries(f"{folder}/queries", *read_sample(f"{folder}/sample"), numbers.get("paragraphs", "texts"))
         for threads in 1, 4:
             for way in ways:
-                measure_queries(machine, way, numbers, threads, 1)
-                right = machine.answers(way) == machine.answers("lists") and machine.answers(way).count("\n") > 1000
+                measure_queries(machine, way, numbers, threads, 1, 1)
+                right = machine.answers(way) == machine.answers("lists") and len(machine.answers(way)) > 1000
                 yield f"the answers of {way} with {threads} threads", None if right else "they are others than the lists have"
 
 
@@ -314,7 +327,7 @@ def measured(given):
     for name, why in built(folder, ways, given.roaring and os.path.realpath(given.roaring)):
         if why:
             sys.exit(f"{name} was not built: {why}")
-    machine, numbers = Machine(folder, given.core), Numbers()
+    machine, numbers = Machine(folder, given.core), Numbers(given.tsv)
     measure_index(machine, ways, numbers)
     for name, least in LEAST.items():
         if numbers.get(name, "texts") < least:
@@ -322,9 +335,6 @@ def measured(given):
     write_queries(f"{folder}/queries", *read_sample(f"{folder}/sample"), numbers.get("paragraphs", "texts"))
     measure(machine, ways, numbers, given.passes)
     table(ways, numbers)
-    if given.tsv:
-        with open(given.tsv, "w", encoding="ascii") as file:
-            file.write(f"# {time.strftime('%Y-%m-%d')}, {machine_name()}, load {os.getloadavg()[0]:.1f}\n{numbers.text()}")
     return 0
 
 

@@ -1,11 +1,11 @@
 // The program of each way to keep lists:
 //
 //     PROGRAM index FOLDER INDEX
-//     PROGRAM queries INDEX QUERIES ANSWERS ROUNDS THREADS
+//     PROGRAM queries INDEX QUERIES ANSWERS ROUNDS THREADS ONE_OF
 //     PROGRAM open INDEX ROUNDS
 //
-// It prints lines with tabs. `queries` reads lines SET OPERATION WORDS, with tabs, and writes for each query how many documents answer, and a
-// number that their numbers make. A round answers all queries of a set. Of the rounds that with the least processor time counts if there is
+// It prints lines with tabs. `queries` reads lines SET OPERATION WORDS, with tabs, and takes one of ONE_OF of them. It writes for each how
+// many documents answer, and a number that their numbers make. A round answers all queries of a set. Of the rounds that with the least processor time counts if there is
 // one thread, and else that with the least time.
 #include "engine.hpp"
 
@@ -44,11 +44,14 @@ void print_memory()
             printf("memory\t%ld\n", 1024 * atol(line.c_str() + 6));
 }
 
-std::vector<Query> read_queries(const char *path, const Engine &engine)
+std::vector<Query> read_queries(const char *path, const Engine &engine, size_t one_of)
 {
     std::vector<Query> queries;
     std::ifstream file(path);
-    for (std::string line; std::getline(file, line);) {
+    size_t number = 0;
+    for (std::string line; std::getline(file, line); number++) {
+        if (number % one_of != 0)
+            continue;
         std::istringstream parts(line);
         Query query;
         parts >> query.set >> query.operation;
@@ -126,9 +129,12 @@ void time_set(Engine &engine, const std::string &mode, const std::string &set, s
     fflush(stdout);
 }
 
-int run_queries(Engine &engine, const char *path, const char *answers, int rounds, size_t threads)
+int run_queries(Engine &engine, char **arguments)
 {
-    std::vector<Query> queries = read_queries(path, engine);
+    const char *answers = arguments[4];
+    int rounds = atoi(arguments[5]);
+    size_t threads = strtoul(arguments[6], nullptr, 10);
+    std::vector<Query> queries = read_queries(arguments[3], engine, strtoul(arguments[7], nullptr, 10));
     std::vector<std::string> order;
     std::map<std::string, std::vector<Query>> sets;
     for (const Query &query : queries) {
@@ -171,9 +177,8 @@ int main(int len, char **arguments)
     std::string command = len > 3 ? arguments[1] : "";
     if (command == "index") {
         build(arguments[2], arguments[3]);
-    } else if (command == "queries" && len == 7) {
-        std::unique_ptr<Engine> engine = open_engine(arguments[2]);
-        return run_queries(*engine, arguments[3], arguments[4], atoi(arguments[5]), strtoul(arguments[6], nullptr, 10));
+    } else if (command == "queries" && len == 8) {
+        return run_queries(*open_engine(arguments[2]), arguments);
     } else if (command == "open") {
         run_open(*open_engine(arguments[2]), atoi(arguments[3]));
     } else {
