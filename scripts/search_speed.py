@@ -50,8 +50,8 @@ SETS = {
     "dense-and": ("&", 2, 2, 300, "dense"),
     "dense-or": ("|", 2, 2, 300, "dense"),
 }
-# A word is dense if it is in one of so many documents or more, from where on Roaring has bitmaps; and rare if it is in fewer than one of
-# so many, but in two.
+# A word is dense if it is in one of 16 documents or more, which is when Roaring takes bitmaps. It is rare if it is in two documents or
+# more, and in fewer than one of 1,000.
 DENSE, RARE = 16, 1000
 
 

@@ -1,4 +1,5 @@
-// The packed lists of an index of examples/search/, by the functions of include/bitpacking.h. The file is mapped, and a list is opened once.
+// The packed lists of an index of examples/search/, by the functions of include/bitpacking.h. The file is mapped, and a list is opened
+// once.
 #include "engine.hpp"
 
 #include "bitpacking.h"
@@ -109,7 +110,7 @@ class Lists : public Engine {
         return values;
     }
 
-    // Prints how many bytes the lists of documents have, and those of counts.
+    // Prints how many bytes the lists of documents have, and the lists of counts.
     void print_bytes() const
     {
         size_t documents = 0;

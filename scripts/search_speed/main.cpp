@@ -5,8 +5,8 @@
 //     PROGRAM open INDEX ROUNDS
 //
 // It prints lines with tabs. `queries` reads lines SET OPERATION WORDS, with tabs, and takes one of ONE_OF of them. It writes for each how
-// many documents answer, and a number that their numbers make. A round answers all queries of a set. Of the rounds that with the least processor time counts if there is
-// one thread, and else that with the least time.
+// many documents answer, and a number that their numbers make. A round answers all queries of a set. The best round has the least processor
+// time if there is one thread, and else the least time.
 #include "engine.hpp"
 
 #include <atomic>
