@@ -1,0 +1,61 @@
+// What each way to keep lists implements, so that main.cpp can put the same questions to all of them.
+#pragma once
+#include <cstddef>
+#include <cstdint>
+#include <memory>
+#include <string>
+#include <string_view>
+#include <vector>
+
+constexpr size_t NO_WORD = SIZE_MAX;
+
+// A query: '&' for documents with all words, '|' for those with any, and '-' for those with the first word and no other.
+struct Query {
+    std::string set;
+    char operation;
+    std::vector<std::string> words;
+    std::vector<size_t> places; // of the words, as find returns them
+};
+
+// Room for numbers, which nothing clears.
+class Room {
+  public:
+    uint32_t *of(size_t len)
+    {
+        if (len > len_)
+            numbers_.reset(new uint32_t[len_ = 2 * len]);
+        return numbers_.get();
+    }
+
+  private:
+    std::unique_ptr<uint32_t[]> numbers_;
+    size_t len_ = 0;
+};
+
+// What a thread needs to answer queries.
+class Session {
+  public:
+    virtual ~Session() = default;
+    // The number of documents that answer. Their numbers are at `out`, in order, or that is null in a mode that only counts.
+    virtual size_t answer(const Query &query) = 0;
+    const uint32_t *out = nullptr;
+};
+
+class Engine {
+  public:
+    virtual ~Engine() = default;
+    // Where a word is, or NO_WORD.
+    virtual size_t find(std::string_view word) const = 0;
+    // Opens the list of a word, before threads use it.
+    virtual void prepare(size_t) {}
+    // "query" looks the words of a query up and answers it; "lists" has them looked up before. Others are an engine's own.
+    virtual std::vector<std::string> modes() const { return {"query", "lists"}; }
+    virtual std::unique_ptr<Session> session(const std::string &mode) = 0;
+    // Opens all lists of documents, one after the other. Returns how many values they have, or 0 if nothing is to open.
+    virtual size_t open_all() { return 0; }
+    virtual size_t words() const { return 0; }
+};
+
+// Writes an index of the paragraphs below a folder to a file or a folder.
+void build(const std::string &folder, const std::string &path);
+std::unique_ptr<Engine> open_engine(const std::string &path);

@@ -1,0 +1,180 @@
+// The packed lists of an index of examples/search/, by the functions of include/bitpacking.h. The file is mapped, and a list is opened
+// once.
+#include "engine.hpp"
+
+#include "bitpacking.h"
+
+#include <algorithm>
+#include <cstdio>
+#include <cstdlib>
+#include <cstring>
+#include <fcntl.h>
+#include <sys/mman.h>
+#include <sys/stat.h>
+
+namespace {
+
+// The sections of the file, and the bytes of an entry of the table of words.
+enum { BOUNDS, NAMES, LENGTHS, TABLE, WORDS, LISTS, SECTIONS };
+constexpr size_t ENTRY = 16;
+
+void fail(const char *what)
+{
+    fprintf(stderr, "%s\n", what);
+    exit(1);
+}
+
+uint64_t number_at(const uint8_t *bytes, int len)
+{
+    uint64_t number = 0;
+    while (len > 0)
+        number = number << 8 | bytes[--len];
+    return number;
+}
+
+bitpacking_list opened(const uint8_t *bytes, size_t len)
+{
+    bitpacking_list list = BITPACKING_LIST_EMPTY;
+    ptrdiff_t done = bitpacking_list_open(bytes, len, &list);
+    if (done < 0)
+        fail(bitpacking_error_text(done));
+    return list;
+}
+
+class Lists : public Engine {
+  public:
+    explicit Lists(const std::string &path)
+    {
+        int file = open(path.c_str(), O_RDONLY);
+        struct stat status;
+        if (file < 0 || fstat(file, &status) != 0)
+            fail("the index can't be opened");
+        void *bytes = mmap(nullptr, status.st_size, PROT_READ, MAP_PRIVATE, file, 0);
+        if (bytes == MAP_FAILED || status.st_size < 8 + 8 * SECTIONS || memcmp(bytes, "search 1", 8) != 0)
+            fail("this is no index");
+        const uint8_t *at = static_cast<const uint8_t *>(bytes), *section = at + 8 + 8 * SECTIONS;
+        for (int i = 0; i < SECTIONS; section += lens_[i++]) {
+            sections_[i] = section;
+            lens_[i] = number_at(at + 8 + 8 * i, 8);
+        }
+        if (section != at + status.st_size)
+            fail("a section is cut");
+        words_ = lens_[TABLE] / ENTRY - 1;
+        views_ = static_cast<bitpacking_list *>(calloc(words_, sizeof *views_));
+    }
+
+    size_t words() const override { return words_; }
+
+    std::string_view word_at(size_t word) const
+    {
+        size_t start = number_at(entry(word), 4), end = number_at(entry(word + 1), 4);
+        return {reinterpret_cast<const char *>(sections_[WORDS]) + start, end - start};
+    }
+
+    size_t find(std::string_view word) const override
+    {
+        size_t low = 0, high = words_;
+        while (low < high) {
+            size_t middle = low + (high - low) / 2;
+            if (word_at(middle) < word)
+                low = middle + 1;
+            else
+                high = middle;
+        }
+        return low < words_ && word_at(low) == word ? low : NO_WORD;
+    }
+
+    void prepare(size_t place) override
+    {
+        if (views_[place].lanes == 0)
+            views_[place] = open_documents(place);
+    }
+
+    bitpacking_list open_documents(size_t place) const
+    {
+        return opened(sections_[LISTS] + number_at(entry(place) + 8, 8), number_at(entry(place) + 4, 4));
+    }
+
+    const bitpacking_list &documents_of(size_t place) const { return views_[place]; }
+
+    std::vector<std::string> modes() const override { return {"query", "lists", "opening"}; }
+    std::unique_ptr<Session> session(const std::string &mode) override;
+
+    size_t open_all() override
+    {
+        size_t values = 0;
+        for (size_t i = 0; i < words_; i++) {
+            bitpacking_list list = open_documents(i);
+            values += bitpacking_list_len(&list);
+        }
+        return values;
+    }
+
+    // Prints how many bytes the lists of documents have, and the lists of counts.
+    void print_bytes() const
+    {
+        size_t documents = 0;
+        for (size_t i = 0; i < words_; i++)
+            documents += number_at(entry(i) + 4, 4);
+        printf("bytes\t%zu\t%zu\n", documents, lens_[LISTS] - documents);
+    }
+
+  private:
+    const uint8_t *entry(size_t word) const { return sections_[TABLE] + ENTRY * word; }
+
+    const uint8_t *sections_[SECTIONS];
+    size_t lens_[SECTIONS], words_;
+    bitpacking_list *views_; // of the words, once they are opened; before that all zero
+};
+
+class ListsSession : public Session {
+  public:
+    ListsSession(const Lists &lists, bool opening) : lists_(lists), opening_(opening) {}
+
+    size_t answer(const Query &query) override
+    {
+        size_t sum = 0, shortest = SIZE_MAX, len;
+        ptrdiff_t count;
+        views_.clear();
+        for (size_t place : query.places) {
+            views_.push_back(opening_ ? lists_.open_documents(place) : lists_.documents_of(place));
+            len = bitpacking_list_len(&views_.back());
+            sum += len;
+            shortest = std::min(shortest, len);
+        }
+        if (query.operation == '&')
+            count = bitpacking_list_intersect(views_.data(), views_.size(), room_.of(shortest), shortest);
+        else if (query.operation == '|')
+            count = bitpacking_list_unite(views_.data(), views_.size(), room_.of(sum), sum);
+        else
+            count = bitpacking_list_subtract(views_.data(), views_.size(), room_.of(sum), sum);
+        if (count < 0)
+            fail(bitpacking_error_text(count));
+        out = room_.of(0);
+        return count;
+    }
+
+  private:
+    const Lists &lists_;
+    bool opening_;
+    std::vector<bitpacking_list> views_;
+    Room room_;
+};
+
+std::unique_ptr<Session> Lists::session(const std::string &mode)
+{
+    return std::make_unique<ListsSession>(*this, mode == "opening");
+}
+
+} // namespace
+
+// `search index` of examples/search/ writes the index. This prints how many bytes its lists have.
+void build(const std::string &, const std::string &path)
+{
+    Lists(path).print_bytes();
+}
+
+std::unique_ptr<Engine> open_engine(const std::string &path)
+{
+    return std::make_unique<Lists>(path);
+}

@@ -1,0 +1,190 @@
+// The program of each way to keep lists:
+//
+//     PROGRAM index FOLDER INDEX
+//     PROGRAM queries INDEX QUERIES ANSWERS ROUNDS THREADS ONE_OF
+//     PROGRAM open INDEX ROUNDS
+//
+// It prints lines with tabs. `queries` reads lines SET OPERATION WORDS, with tabs, and takes one of ONE_OF of them. It writes for each how
+// many documents answer, and a number that their numbers make. A round answers all queries of a set. The best round has the least processor
+// time if there is one thread, and else the least time.
+#include "engine.hpp"
+
+#include <atomic>
+#include <cstdio>
+#include <cstdlib>
+#include <ctime>
+#include <fstream>
+#include <map>
+#include <sstream>
+#include <thread>
+
+namespace {
+
+double seconds(clockid_t clock)
+{
+    timespec now;
+    clock_gettime(clock, &now);
+    return now.tv_sec + now.tv_nsec * 1e-9;
+}
+
+struct Time {
+    double processor = seconds(CLOCK_PROCESS_CPUTIME_ID), wall = seconds(CLOCK_MONOTONIC);
+    void end()
+    {
+        processor = seconds(CLOCK_PROCESS_CPUTIME_ID) - processor;
+        wall = seconds(CLOCK_MONOTONIC) - wall;
+    }
+};
+
+void print_memory()
+{
+    std::ifstream status("/proc/self/status");
+    for (std::string line; std::getline(status, line);)
+        if (line.compare(0, 6, "VmHWM:") == 0)
+            printf("memory\t%ld\n", 1024 * atol(line.c_str() + 6));
+}
+
+std::vector<Query> read_queries(const char *path, const Engine &engine, size_t one_of)
+{
+    std::vector<Query> queries;
+    std::ifstream file(path);
+    size_t number = 0;
+    for (std::string line; std::getline(file, line); number++) {
+        if (number % one_of != 0)
+            continue;
+        std::istringstream parts(line);
+        Query query;
+        parts >> query.set >> query.operation;
+        for (std::string word; parts >> word;) {
+            query.places.push_back(engine.find(word));
+            query.words.push_back(word);
+        }
+        queries.push_back(query);
+    }
+    return queries;
+}
+
+// Answers a query as a server does: its words are looked up first.
+size_t answer(const Engine &engine, Session &session, Query &query, bool looked_up)
+{
+    if (!looked_up)
+        for (size_t i = 0; i < query.words.size(); i++)
+            query.places[i] = engine.find(query.words[i]);
+    return session.answer(query);
+}
+
+// Answers each query once, and returns how many documents answer each. The answers go to a file if there is one.
+std::vector<size_t> first_answers(Engine &engine, const std::string &mode, std::vector<Query> &queries, const char *path)
+{
+    std::unique_ptr<Session> session = engine.session(mode);
+    FILE *file = path ? fopen(path, "w") : nullptr;
+    std::vector<size_t> counts;
+    for (Query &query : queries) {
+        size_t count = answer(engine, *session, query, false);
+        uint64_t hash = 14695981039346656037u;
+        for (size_t i = 0; i < count && session->out; i++)
+            hash = (hash ^ session->out[i]) * 1099511628211u;
+        if (file)
+            fprintf(file, "%zu %llu\n", count, (unsigned long long)hash);
+        counts.push_back(count);
+    }
+    if (file)
+        fclose(file);
+    return counts;
+}
+
+// A round: threads take queries in turn.
+Time round(Engine &engine, const std::string &mode, std::vector<Query> &queries, std::vector<std::unique_ptr<Session>> &sessions)
+{
+    std::atomic<size_t> next{0};
+    bool looked_up = mode == "lists";
+    auto run = [&](Session *session) {
+        for (size_t at; (at = next.fetch_add(8)) < queries.size();)
+            for (size_t i = at; i < at + 8 && i < queries.size(); i++)
+                answer(engine, *session, queries[i], looked_up);
+    };
+    std::vector<std::thread> others;
+    Time time;
+    for (size_t i = 1; i < sessions.size(); i++)
+        others.emplace_back(run, sessions[i].get());
+    run(sessions[0].get());
+    for (std::thread &other : others)
+        other.join();
+    time.end();
+    return time;
+}
+
+void time_set(Engine &engine, const std::string &mode, const std::string &set, std::vector<Query> &queries, int rounds, size_t threads)
+{
+    std::vector<std::unique_ptr<Session>> sessions;
+    for (size_t i = 0; i < threads; i++)
+        sessions.push_back(engine.session(mode));
+    Time best = round(engine, mode, queries, sessions);
+    for (int i = 1; i < rounds; i++) {
+        Time next = round(engine, mode, queries, sessions);
+        if (threads == 1 ? next.processor < best.processor : next.wall < best.wall)
+            best = next;
+    }
+    printf("%s\t%s\t%zu\t%zu\t%.9f\t%.9f\n", mode.c_str(), set.c_str(), threads, queries.size(), best.processor, best.wall);
+    fflush(stdout);
+}
+
+int run_queries(Engine &engine, char **arguments)
+{
+    const char *answers = arguments[4];
+    int rounds = atoi(arguments[5]);
+    size_t threads = strtoul(arguments[6], nullptr, 10);
+    std::vector<Query> queries = read_queries(arguments[3], engine, strtoul(arguments[7], nullptr, 10));
+    std::vector<std::string> order;
+    std::map<std::string, std::vector<Query>> sets;
+    for (const Query &query : queries) {
+        for (size_t place : query.places)
+            engine.prepare(place);
+        if (sets[query.set].empty())
+            order.push_back(query.set);
+        sets[query.set].push_back(query);
+    }
+    std::vector<size_t> counts = first_answers(engine, "query", queries, answers);
+    print_memory();
+    for (const std::string &mode : engine.modes()) {
+        if (first_answers(engine, mode, queries, nullptr) != counts) {
+            fprintf(stderr, "the mode %s has other answers\n", mode.c_str());
+            return 1;
+        }
+        for (const std::string &set : order)
+            time_set(engine, mode, set, sets[set], rounds, threads);
+    }
+    return 0;
+}
+
+void run_open(Engine &engine, int rounds)
+{
+    Time best{1e9, 1e9};
+    size_t values = 0;
+    for (int i = 0; i < rounds; i++) {
+        Time time;
+        values = engine.open_all();
+        time.end();
+        best = time.processor < best.processor ? time : best;
+    }
+    printf("open\t%zu\t%zu\t%.9f\t%.9f\n", engine.words(), values, best.processor, best.wall);
+}
+
+} // namespace
+
+int main(int len, char **arguments)
+{
+    std::string command = len > 3 ? arguments[1] : "";
+    if (command == "index") {
+        build(arguments[2], arguments[3]);
+    } else if (command == "queries" && len == 8) {
+        return run_queries(*open_engine(arguments[2]), arguments);
+    } else if (command == "open") {
+        run_open(*open_engine(arguments[2]), atoi(arguments[3]));
+    } else {
+        fprintf(stderr, "index, queries or open, with their arguments\n");
+        return 2;
+    }
+    print_memory();
+    return 0;
+}
