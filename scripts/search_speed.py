@@ -32,8 +32,6 @@ from common import ROOT, leave_out, missing, report, run
 HERE = f"{ROOT}/scripts/search_speed"
 CORPUS = f"{ROOT}/examples/search/corpus"
 LEAST = {"bytes": 200_000_000, "paragraphs": 500_000}
-# A file is text if its first bytes have no zero.
-TESTED = 8000
 # The ways in the order of the table: how many rounds a process makes of a set, in how many passes at most, and of how many queries it takes
 # one. Xapian takes far longer.
 WAYS = {"lists": (3, 99, 1), "arrays": (3, 99, 1), "roaring": (3, 99, 1), "roaring_here": (3, 99, 1), "xapian": (1, 1, 4)}
@@ -86,7 +84,7 @@ def stage(folders, folder):
                 if os.path.islink(path) or not os.path.isfile(path) or not os.access(path, os.R_OK):
                     continue
                 with open(path, "rb") as file:
-                    text = b"\0" not in file.read(TESTED)
+                    text = b"\0" not in file.read()
                 if text:
                     os.makedirs(f"{folder}{parent}", exist_ok=True)
                     shutil.copyfile(path, f"{folder}{path}")

@@ -13,8 +13,7 @@
 
 namespace documents {
 
-// Bytes: the longest word, and the start of a file that has no zero if the file is text.
-constexpr size_t LONGEST_WORD = 64, TESTED = 8000;
+constexpr size_t LONGEST_WORD = 64; // bytes
 
 inline uint8_t letter(uint8_t byte)
 {
@@ -38,13 +37,13 @@ class Reader {
 
     uint32_t read(const std::string &folder)
     {
-        std::vector<std::string> paths;
+        std::vector<std::filesystem::path> paths;
         for (const auto &entry : std::filesystem::recursive_directory_iterator(folder))
             if (entry.is_regular_file() && !entry.is_symlink())
-                paths.push_back(entry.path().string());
-        std::sort(paths.begin(), paths.end());
-        for (const std::string &path : paths)
-            read_file(path);
+                paths.push_back(entry.path());
+        std::sort(paths.begin(), paths.end()); // folder by folder
+        for (const auto &path : paths)
+            read_file(path.string());
         return documents_;
     }
 
@@ -59,10 +58,10 @@ class Reader {
             return;
         text_.resize(fread(text_.data(), 1, text_.size(), file));
         fclose(file);
-        if (memchr(text_.data(), 0, std::min(text_.size(), TESTED)))
+        if (memchr(text_.data(), 0, text_.size()))
             return;
         bytes_ += text_.size();
-        read_paragraphs(text_.compare(0, 3, "\xEF\xBB\xBF") == 0 ? 3 : 0);
+        read_paragraphs(0);
     }
 
     void read_paragraphs(size_t at)

@@ -14,22 +14,10 @@
 
 namespace {
 
-// The sections of the file, and the bytes of an entry of the table of words.
-enum { BOUNDS, NAMES, LENGTHS, TABLE, WORDS, LISTS, SECTIONS };
-constexpr size_t ENTRY = 16;
-
 void fail(const char *what)
 {
     fprintf(stderr, "%s\n", what);
     exit(1);
-}
-
-uint64_t number_at(const uint8_t *bytes, int len)
-{
-    uint64_t number = 0;
-    while (len > 0)
-        number = number << 8 | bytes[--len];
-    return number;
 }
 
 bitpacking_list opened(const uint8_t *bytes, size_t len)
@@ -50,16 +38,17 @@ class Lists : public Engine {
         if (file < 0 || fstat(file, &status) != 0)
             fail("the index can't be opened");
         void *bytes = mmap(nullptr, status.st_size, PROT_READ, MAP_PRIVATE, file, 0);
-        if (bytes == MAP_FAILED || status.st_size < 8 + 8 * SECTIONS || memcmp(bytes, "search 1", 8) != 0)
+        if (bytes == MAP_FAILED || status.st_size < 12 || memcmp(bytes, "search1", 8) != 0)
             fail("this is no index");
-        const uint8_t *at = static_cast<const uint8_t *>(bytes), *section = at + 8 + 8 * SECTIONS;
-        for (int i = 0; i < SECTIONS; section += lens_[i++]) {
-            sections_[i] = section;
-            lens_[i] = number_at(at + 8 + 8 * i, 8);
-        }
-        if (section != at + status.st_size)
-            fail("a section is cut");
-        words_ = lens_[TABLE] / ENTRY - 1;
+        bytes_ = static_cast<const uint8_t *>(bytes);
+        const uint8_t *end = bytes_ + status.st_size - 4;
+        size_t start = end[0] | end[1] << 8 | end[2] << 16 | static_cast<size_t>(end[3]) << 24;
+        bitpacking_list bounds = opened(bytes_ + start, end - bytes_ - start);
+        bounds_.resize(bitpacking_list_len(&bounds));
+        bitpacking_list_unpack(&bounds, bounds_.data(), bounds_.size());
+        bitpacking_list lengths = item(bounds_.size() - 2);
+        documents_ = bitpacking_list_len(&lengths);
+        words_ = (bounds_.size() - 2 - documents_) / 3;
         views_ = static_cast<bitpacking_list *>(calloc(words_, sizeof *views_));
     }
 
@@ -67,8 +56,7 @@ class Lists : public Engine {
 
     std::string_view word_at(size_t word) const
     {
-        size_t start = number_at(entry(word), 4), end = number_at(entry(word + 1), 4);
-        return {reinterpret_cast<const char *>(sections_[WORDS]) + start, end - start};
+        return reinterpret_cast<const char *>(bytes_) + bounds_[documents_ + word];
     }
 
     size_t find(std::string_view word) const override
@@ -92,7 +80,7 @@ class Lists : public Engine {
 
     bitpacking_list open_documents(size_t place) const
     {
-        return opened(sections_[LISTS] + number_at(entry(place) + 8, 8), number_at(entry(place) + 4, 4));
+        return item(list_of(place));
     }
 
     const bitpacking_list &documents_of(size_t place) const { return views_[place]; }
@@ -113,17 +101,22 @@ class Lists : public Engine {
     // Prints how many bytes the lists of documents have, and the lists of counts.
     void print_bytes() const
     {
-        size_t documents = 0;
-        for (size_t i = 0; i < words_; i++)
-            documents += number_at(entry(i) + 4, 4);
-        printf("bytes\t%zu\t%zu\n", documents, lens_[LISTS] - documents);
+        size_t documents = 0, counts = 0;
+        for (size_t i = 0; i < words_; i++) {
+            documents += bounds_[list_of(i) + 1] - bounds_[list_of(i)];
+            counts += bounds_[list_of(i) + 2] - bounds_[list_of(i) + 1];
+        }
+        printf("bytes\t%zu\t%zu\n", documents, counts);
     }
 
   private:
-    const uint8_t *entry(size_t word) const { return sections_[TABLE] + ENTRY * word; }
+    // The items of the file are names of documents, words, two lists of each word, and the lengths of documents.
+    size_t list_of(size_t word) const { return documents_ + words_ + 2 * word; }
+    bitpacking_list item(size_t number) const { return opened(bytes_ + bounds_[number], bounds_[number + 1] - bounds_[number]); }
 
-    const uint8_t *sections_[SECTIONS];
-    size_t lens_[SECTIONS], words_;
+    const uint8_t *bytes_;
+    std::vector<uint32_t> bounds_; // where each item begins
+    size_t documents_, words_;
     bitpacking_list *views_; // of the words, once they are opened; before that all zero
 };
 
