@@ -91,7 +91,7 @@ impl<'a> Index<'a> {
     }
 }
 
-/// The bytes of a list of documents: those of a word, or some that were found.
+/// The bytes of a list of documents, of a word or of an answer.
 type List<'a> = Cow<'a, [u8]>;
 
 /// The functions of the library that make one list of many.
