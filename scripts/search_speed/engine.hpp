@@ -9,7 +9,21 @@
 
 constexpr size_t NO_WORD = SIZE_MAX;
 
-// A query: '&' for documents with all words, '|' for those with any, and '-' for those with the first word and no other.
+// Where a word is among words in order, or NO_WORD.
+template <class WordAt> size_t find_word(size_t words, WordAt word_at, std::string_view word)
+{
+    size_t low = 0, high = words;
+    while (low < high) {
+        size_t middle = low + (high - low) / 2;
+        if (word_at(middle) < word)
+            low = middle + 1;
+        else
+            high = middle;
+    }
+    return low < words && word_at(low) == word ? low : NO_WORD;
+}
+
+// A query: '&' for documents with all words, '|' for documents with any, and '-' for documents with the first word and no other.
 struct Query {
     std::string set;
     char operation;

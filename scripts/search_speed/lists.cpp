@@ -61,15 +61,7 @@ class Lists : public Engine {
 
     size_t find(std::string_view word) const override
     {
-        size_t low = 0, high = words_;
-        while (low < high) {
-            size_t middle = low + (high - low) / 2;
-            if (word_at(middle) < word)
-                low = middle + 1;
-            else
-                high = middle;
-        }
-        return low < words_ && word_at(low) == word ? low : NO_WORD;
+        return find_word(words_, [this](size_t place) { return word_at(place); }, word);
     }
 
     void prepare(size_t place) override

@@ -70,15 +70,7 @@ class Words {
 
     size_t find(std::string_view word) const
     {
-        size_t low = 0, high = count();
-        while (low < high) {
-            size_t middle = low + (high - low) / 2;
-            if (word_at(middle) < word)
-                low = middle + 1;
-            else
-                high = middle;
-        }
-        return low < count() && word_at(low) == word ? low : NO_WORD;
+        return find_word(count(), [this](size_t place) { return word_at(place); }, word);
     }
 
   private:
