@@ -133,14 +133,30 @@ def can_follow(edit, other):
     return True
 
 
+def functions_by_less(edit):
+    """The functions of which the edit changes a clause."""
+    found = set()
+    for path, old, _ in edit.changes:
+        clause = next((line for line in old if re.match(r"\s*(requires|ensures)\b", line)), None)
+        if path.endswith(".rt") and clause and text_of(path):
+            # The edit's own lines may begin above the function.
+            before = text_of(path).split("\n".join(old[: old.index(clause) + 1]))[0]
+            found |= set(re.findall(r"\bfn (\w+)", before + "\n".join(old[: old.index(clause)]))[-1:])
+    return found
+
+
 def are_apart(edit, other):
     """Whether one check can take both, the other after the edit: they leave different functions unproved, change different lines, and no
-    file of proofs twice. Two edits of which the crate does not compile have each its own text."""
+    file of proofs twice, and neither changes a clause of a function that the other names. Two edits of which the crate does not compile
+    have each its own text."""
     shared = {path for path, _, _ in edit.changes} & {path for path, _, _ in other.changes}
     if not edit.unproved or not other.unproved:
         return not edit.unproved and not other.unproved and set(edit.refused).isdisjoint(other.refused)
     if not edit.unproved.keys().isdisjoint(other.unproved) or any(path.endswith(".antt") for path in shared):
         return False
+    for one, two in [(edit, other), (other, edit)] if shared else []:
+        if not functions_by_less(one).isdisjoint(name.split("::")[-1] for name in two.unproved):
+            return False
     return not shared or can_follow(edit, other)
 
 
