@@ -1,4 +1,4 @@
-//! Runs in which memory ends: each growth is refused in turn, and what is answered before it is whole.
+//! Runs in which memory ends: each allocation fails in turn, and the answers before it are whole.
 //!
 //! The expected text is worked by hand from the line language and the format.
 

@@ -101,7 +101,7 @@ enum Combine {
     Without,
 }
 
-/// A query, and the place where it is read.
+/// A query, and how far it is read.
 struct Search<'a> {
     index: &'a Index<'a>,
     query: &'a [u8],
