@@ -60,6 +60,7 @@ mod TailTexts
 mod TextSizes
 mod TextsOfKind
 mod UniteSteps
+mod UnitingSteps
 mod Upgraded
 mod UpgradeSteps
 mod UpgradeSteps3

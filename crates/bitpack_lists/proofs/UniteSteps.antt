@@ -52,13 +52,13 @@ module _ (xs ys : List ℕ) (one : IsIncreasing xs) (other : IsIncreasing ys) (v
   later' : IsLater ys ys'
   later' = later_sought (v + 1) ys ys' other moved'
 
-  parts : united xs ys ≡ v ∷ united xs' ys'
-  parts =
+  pub first_parts : united xs ys ≡ v ∷ united xs' ys'
+  first_parts =
       first_head (united xs ys) v (sym place ∙ e)
       ∙ ap (λ rest. v ∷ rest) (sym (or_next value v xs ys xs' ys' other place e moved moved'))
 
-  fewer : length xs' + length ys' + 1 ≤ length xs + length ys
-  fewer =
+  pub fewer_both : length xs' + length ys' + 1 ≤ length xs + length ys
+  fewer_both =
       let here : (has xs v || has ys v) ≡ true = sym (has-united xs ys v) ∙ first_has (united xs ys) v (sym place ∙ e) in
       elim (or_cases (has xs v) (has ys v) here) [
         | inl is ↦ omega (arith, ap length moved, fewer_above v xs one is, no_more ys ys' later')
@@ -78,7 +78,7 @@ module _ (xs ys : List ℕ) (one : IsIncreasing xs) (other : IsIncreasing ys) (v
         record {
           forward = omega (arith, e, long, within, no_more xs xs' later);
           within = omega arith;
-          fewer = omega (arith, e, long, within, enough, fewer);
-          are = ap (λ xs. united xs ys) (sym is) ∙ parts
+          fewer = omega (arith, e, long, within, enough, fewer_both);
+          are = ap (λ xs. united xs ys) (sym is) ∙ first_parts
               ∙ ap (λ xs. v ∷ united xs ys') (ends ∙ ap (λ n. drop (length values - n) values) (sym e));
         }

@@ -10,5 +10,6 @@ pub mod Passing
 pub mod Retaining
 pub mod Searching
 pub mod Sizes
+pub mod Uniting
 pub mod Upgrading
 pub mod Walks

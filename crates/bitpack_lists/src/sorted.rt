@@ -23,6 +23,7 @@ mod or_all;
 mod passing;
 mod retaining;
 mod sorted_cursor;
+mod uniting;
 mod values;
 
 pub use and::And;

@@ -11,6 +11,7 @@ use super::increasing_slice::IncreasingSlice;
 use super::or::{least, pass};
 use super::retaining::finds_next;
 use super::sorted_cursor::SortedCursor;
+use super::uniting::{Place, unite_at_hand};
 
 /// Keeps the values of a slice that a cursor has too: moves them to the front, in their order. Returns how many these are.
 ///
@@ -90,8 +91,10 @@ fn merge_to_front<C: SortedCursor>(values: &mut [u32], start: usize, cursor: &mu
     let mut from = start;
     while let Some((value, next)) = next_united_from(values, from, cursor) {
         values[written] = value;
-        written += 1;
-        from = next;
+        let done = Place { written: written + 1, from: next, last: value };
+        let place = unite_at_hand(values, done, cursor);
+        written = place.written;
+        from = place.from;
     }
     written
 }

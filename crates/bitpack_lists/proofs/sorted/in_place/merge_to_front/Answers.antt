@@ -17,6 +17,24 @@ loop-value-init g c = record {
 pub next_united_from-requires : goal.next_united_from-requires
 next_united_from-requires g c = (c.loop-value.invariant.within, c.loop-value.invariant.increasing)
 
+pub unite_at_hand-place-requires : goal.unite_at_hand-place-requires
+unite_at_hand-place-requires g c =
+    let values : List ℕ = c.loop-value.values in
+    let written = c.loop-value.written in
+    let value = c.in-Some.value in
+    let next = c.in-Some.next in
+    let others = g.C.SortedCursor.rest c.loop-value.cursor in
+    let so_far = c.loop-value.invariant in
+    let found = c.in-Some.ensures.some in
+    let before : written < next = omega (arith, so_far.room, found.fewer) in
+    record {
+      within = omega (arith, length-set values written value, found.within);
+      increasing = increasing_ahead values c.loop-value.from written value next so_far.increasing found.forward before;
+      above = rw (still_ahead values written value next before)
+          ((rw found.are at (increasing_united (drop c.loop-value.from values) others (g.met.C.SortedCursor.increasing c.loop-value.cursor))).0);
+      room = omega (arith, so_far.room, found.fewer);
+    }
+
 pub loop-value-preserved : goal.loop-value-preserved
 loop-value-preserved g c =
     let values : List ℕ = c.loop-value.values in
@@ -27,11 +45,13 @@ loop-value-preserved g c =
     let so_far = c.loop-value.invariant in
     let found = c.in-Some.ensures.some in
     let before : written < next = omega (arith, so_far.room, found.fewer) in
+    let done = c.unite_at_hand-place.ensures in
     record {
-      room = omega (arith, so_far.room, found.fewer);
-      within = omega (arith, length-set values written value, found.within);
-      increasing = increasing_ahead values c.loop-value.from written value next so_far.increasing found.forward before;
-      all = ap (λ ahead. take (written + 1) (set values written value) ++ united ahead rest) (still_ahead values written value next before)
+      room = done.to_come.room;
+      within = done.to_come.within;
+      increasing = done.to_come.increasing;
+      all = done.all
+          ∙ ap (λ ahead. take (written + 1) (set values written value) ++ united ahead rest) (still_ahead values written value next before)
           ∙ one_kept values written value (united (drop next values) rest) (omega (arith, before, found.within))
           ∙ ap (λ rest. take written values ++ rest) (sym found.are)
           ∙ so_far.all;
