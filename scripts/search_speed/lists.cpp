@@ -29,6 +29,11 @@ bitpacking_list opened(const uint8_t *bytes, size_t len)
     return list;
 }
 
+bool is_shorter(const bitpacking_list &one, const bitpacking_list &other)
+{
+    return bitpacking_list_len(&one) < bitpacking_list_len(&other);
+}
+
 class Lists : public Engine {
   public:
     explicit Lists(const std::string &path)
@@ -127,6 +132,8 @@ class ListsSession : public Session {
             sum += len;
             shortest = std::min(shortest, len);
         }
+        if (query.operation == '|')
+            std::sort(views_.begin(), views_.end(), is_shorter);
         if (query.operation == '&')
             count = bitpacking_list_intersect(views_.data(), views_.size(), room_.of(shortest), shortest);
         else if (query.operation == '|')
