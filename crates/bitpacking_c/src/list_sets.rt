@@ -3,7 +3,7 @@
 //! The caller's room is the work space. The values of one list are written to it, and each further list takes some away, or adds some,
 //! in their place.
 
-ghost use Rattle.std.specs.Prelude.{◌≡◌, ◌≢◌, ℕ, ◌<◌, ◌≤◌, ◌&&◌, not, false, true, List, None, All, length, slice_index, take};
+ghost use Rattle.std.specs.Prelude.{◌≡◌, ◌≢◌, ℕ, ◌<◌, ◌≤◌, ◌&&◌, not, false, true, List, [], None, All, length, slice_index, take};
 ghost use Rattle.std.specs.List.{HoldsAt};
 ghost use Rattle.std.specs.List.Sorted.{IsStrictlyIncreasing};
 ghost use Rattle.bitpack_lists.specs.declared.list_kind.ListKind.{ListKind};
@@ -189,7 +189,7 @@ fn distinct_of<'a, P: BitPacker>(packer: P, view: &ListView<'a>) -> DistinctValu
 /// Writes the values of a list, each once, and returns how many these are.
 fn copy_distinct(view: &ListView<'_>, out: &mut [u32]) -> usize
     requires { IsInOrder view.now × FitsIn (length out.old) view.now }
-    ensures { Leaves view.now has out.new result }
+    ensures { Adds view.now [] out.new result }
 {
     match view.lanes {
         0 => 0,
@@ -203,7 +203,7 @@ fn copy_distinct(view: &ListView<'_>, out: &mut [u32]) -> usize
 fn copy_distinct_of<P: BitPacker>(packer: P, view: &ListView<'_>, out: &mut [u32]) -> usize
     requires lanes { view.now.lanes ≡ P.lanes }
     requires room { IsInOrder view.now × FitsIn (length out.old) view.now }
-    ensures { Leaves view.now has out.new result }
+    ensures { Adds view.now [] out.new result }
 {
     let list = PackedList::from_validated_any(packer, view.bytes);
     if list.kind() == ListKind::StrictlySorted {
@@ -243,6 +243,9 @@ fn add_distinct(view: &ListView<'_>, count: usize, values: &mut [u32]) -> usize
     requires { CanAdd view.now count values.old }
     ensures { Adds view.now (take count values.old) values.new result }
 {
+    if count == 0 {
+        return copy_distinct(view, values);
+    }
     match view.lanes {
         0 => count,
         1 => add_distinct_of(BitPacker1x::new(), view, count, values),

@@ -1,5 +1,5 @@
 -- The values of a strictly sorted list increase; those of a cursor do too.
-use Rattle.std.proofs.Common.{◌≡◌, length, take, ◌∙◌, ap, arith, rules}
+use Rattle.std.proofs.Common.{◌≡◌, ◌≤◌, length, take, ◌∙◌, ap, arith, rules}
 use Rattle.bitpack_lists.specs.declared.list_kind.ListKind.TheVariants.{StrictlySorted}
 use Rattle.bitpack_lists.specs.Cursors.{position, values_of_cursor}
 use Rattle.bitpack_lists.specs.DistinctLaws.{increasing_rest}
@@ -8,7 +8,8 @@ use Rattle.bitpack_lists.specs.Opened.{kind_of, values}
 use Rattle.bitpack_lists.specs.Remaining.{remaining}
 use Rattle.bitpack_lists.specs.Texts.{version_in}
 use Rattle.bitpack_lists.proofs.ForCallers.{has-distinct, strictly_from_increasing}
-use Rattle.bitpacking_c.proofs.SetSteps.{list_of_text, strict_text, text_of_list, written_all}
+use Rattle.std.proofs.lemmas.List.{length-take-le}
+use Rattle.bitpacking_c.proofs.SetSteps.{length-distinct, list_of_text, strict_text, text_of_list, written_all}
 use Rattle.bitpacking_c.proofs.list_sets.copy_distinct_of.Goals as goal
 
 pub copy_to-requires : goal.copy_to-requires
@@ -27,16 +28,19 @@ returns-then-eq g c =
     let list = c.from_validated_any-list.result in
     let bytes = c.args.view.now.bytes.now in
     let strict : kind_of list ≡ StrictlySorted = search rules in
-    let room = c.requires.room.1 (kind_of list) (values list)
-    (list_of_text view.lanes g.P.BitPacker.lanes view.bytes.now (kind_of list) (values list) c.requires.lanes g.met.P.BitPacker.some_lanes
-    c.from_validated_any-list.ensures.list) in
+    let here = list_of_text view.lanes g.P.BitPacker.lanes view.bytes.now (kind_of list) (values list) c.requires.lanes g.met.P.BitPacker.some_lanes
+    c.from_validated_any-list.ensures.list in
+    let room = c.requires.room.1 (kind_of list) (values list) here in
     record {
-      few = omega (arith, c.copy_to.ensures.len, c.copy_to.auto.out, room);
-      increasing = rw c.copy_to.ensures.values
-          (strict_text (version_in bytes) g.P.BitPacker.lanes (kind_of list) (values list) bytes strict c.from_validated_any-list.ensures.list);
-      members = λ kind all is v.
-          let text = text_of_list view.lanes g.P.BitPacker.lanes view.bytes.now kind all c.requires.lanes g.met.P.BitPacker.some_lanes is in
-          ap (λ xs. has xs v) (c.copy_to.ensures.values ∙ (c.from_validated_any-list.ensures.only kind all text).1);
+      leaves = record {
+        few = omega (arith, c.copy_to.ensures.len, c.copy_to.auto.out, room);
+        increasing = rw c.copy_to.ensures.values
+            (strict_text (version_in bytes) g.P.BitPacker.lanes (kind_of list) (values list) bytes strict c.from_validated_any-list.ensures.list);
+        members = λ kind all is v.
+            let text = text_of_list view.lanes g.P.BitPacker.lanes view.bytes.now kind all c.requires.lanes g.met.P.BitPacker.some_lanes is in
+            ap (λ xs. has xs v) (c.copy_to.ensures.values ∙ (c.from_validated_any-list.ensures.only kind all text).1);
+      };
+      few = λ most fits. omega (arith, c.copy_to.ensures.len, fits (kind_of list) (values list) here);
     }
 
 pub returns : goal.returns
@@ -51,8 +55,14 @@ returns g c =
     c.collect_to.ensures.all (c.distinct_of.ensures.values (kind_of list) (values list) is) (c.requires.room.1 (kind_of list) (values list) is)
     c.collect_to.ensures.whole in
     let cursor = c.distinct_of.result.cursor in
+    let within : c.collect_to.result ≤ length c.collect_to.new.out = omega (arith, c.collect_to.ensures.rest.0, c.collect_to.auto.out) in
     record {
-      few = omega (arith, c.collect_to.ensures.rest.0, c.collect_to.auto.out);
-      increasing = rw done (strictly_from_increasing old (increasing_rest (values_of_cursor cursor) (position cursor) c.distinct_of.result.ordered));
-      members = λ kind all is v. ap (λ xs. has xs v) (done ∙ c.distinct_of.ensures.values kind all is) ∙ has-distinct all v;
+      leaves = record {
+        few = within;
+        increasing = rw done (strictly_from_increasing old (increasing_rest (values_of_cursor cursor) (position cursor) c.distinct_of.result.ordered));
+        members = λ kind all is v. ap (λ xs. has xs v) (done ∙ c.distinct_of.ensures.values kind all is) ∙ has-distinct all v;
+      };
+      few = λ most fits.
+          omega (arith, length-take-le c.collect_to.result c.collect_to.new.out within, ap length done,
+          ap length (c.distinct_of.ensures.values (kind_of list) (values list) is), length-distinct (values list), fits (kind_of list) (values list) is);
     }

@@ -20,13 +20,13 @@ and_true b false e = e
 
 pub loop-index-init : goal.loop-index-init
 loop-index-init c = record {
-  few = c.copy_distinct-kept.ensures.few;
-  increasing = c.copy_distinct-kept.ensures.increasing;
+  few = c.copy_distinct-kept.ensures.leaves.few;
+  increasing = c.copy_distinct-kept.ensures.leaves.increasing;
   members = λ lists are v.
       let view = c.index-views-shortest.result in
       let here : get_or c.args.views.now c.args.shortest view ≡ view = search rules in
       and_true _ _
-      (c.copy_distinct-kept.ensures.members (kind_at lists c.args.shortest) (values_at lists c.args.shortest)
+      (c.copy_distinct-kept.ensures.leaves.members (kind_at lists c.args.shortest) (values_at lists c.args.shortest)
       (list_at c.args.views.now lists c.args.shortest view are c.requires.shortest here) v);
 }
 

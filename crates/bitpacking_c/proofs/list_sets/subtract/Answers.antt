@@ -14,13 +14,13 @@ copy_distinct-kept-requires c =
 
 pub loop-index-init : goal.loop-index-init
 loop-index-init c = record {
-  few = c.copy_distinct-kept.ensures.few;
-  increasing = c.copy_distinct-kept.ensures.increasing;
+  few = c.copy_distinct-kept.ensures.leaves.few;
+  increasing = c.copy_distinct-kept.ensures.leaves.increasing;
   members = λ lists are v.
       let view = c.index-views-0.result in
       let here : get_or c.args.views.now 0 view ≡ view = search rules in
       left_begin (has (take c.copy_distinct-kept.result c.copy_distinct-kept.new.out) v) (has (values_at lists 0) v) (all_values lists) v
-      (c.copy_distinct-kept.ensures.members (kind_at lists 0) (values_at lists 0) (list_at c.args.views.now lists 0 view are c.requires.some here) v);
+      (c.copy_distinct-kept.ensures.leaves.members (kind_at lists 0) (values_at lists 0) (list_at c.args.views.now lists 0 view are c.requires.some here) v);
 }
 
 pub loop-index-preserved : goal.loop-index-preserved
