@@ -397,7 +397,7 @@ static inline const char *bitpacking_error_text(ptrdiff_t number)
 /* The values that all lists have. Room that is always enough: the length of the shortest list. */
 ptrdiff_t bitpacking_list_intersect(const bitpacking_list *views, size_t views_len, uint32_t *out, size_t out_len);
 
-/* The values that any list has. Room that is always enough: the sum of the lengths. */
+/* The values that any list has. Room that is always enough: the sum of the lengths. It is fastest if the longest list is last. */
 ptrdiff_t bitpacking_list_unite(const bitpacking_list *views, size_t views_len, uint32_t *out, size_t out_len);
 
 /* The values of the first list that no other has. Room that is always enough: the length of the first list. */

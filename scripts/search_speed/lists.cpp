@@ -132,7 +132,7 @@ class ListsSession : public Session {
             sum += len;
             shortest = std::min(shortest, len);
         }
-        if (query.operation == '|')
+        if (query.operation == '|') // a union is fastest if the longest list is last
             std::sort(views_.begin(), views_.end(), is_shorter);
         if (query.operation == '&')
             count = bitpacking_list_intersect(views_.data(), views_.size(), room_.of(shortest), shortest);

@@ -1,6 +1,6 @@
 -- A slice that is united with others in its place: a turn of a merge writes the first value that is still to come, or passes one at hand
 -- that was written.
-use Rattle.std.proofs.Common.{◌≡◌, ◌⊎◌, ℕ, add-zero, ◌+◌, ◌-◌, ◌<◌, ◌≤◌, Bool, true, false, ◌&&◌, ◌||◌, List, [], ◌∷◌, ◌++◌, length, drop, take, get_or, set, max, min, Some, None, refl, sym, ◌∙◌, ap, arith, inl, inr, leb, append-nil}
+use Rattle.std.proofs.Common.{◌≡◌, ◌⊎◌, ℕ, add-zero, ◌+◌, ◌-◌, ◌<◌, ◌≤◌, Bool, true, false, ◌&&◌, ◌||◌, List, [], ◌∷◌, ◌++◌, length, drop, take, get_or, set, max, min, Some, refl, sym, ◌∙◌, ap, arith, inl, inr, leb, append-nil}
 use Rattle.std.specs.List.{copy_within}
 use Rattle.std.specs.List.Sorted.{IsStrictlyIncreasing}
 use Rattle.std.proofs.Math.Bool.{and-false}
@@ -12,7 +12,7 @@ use Rattle.bitpack_lists.specs.IncreasingLaws.{IsIncreasing-from, increasing_at_
 use Rattle.bitpack_lists.specs.inner.Uniting.{IsStillToCome, all_of}
 use Rattle.bitpack_lists.proofs.Combining.{at_least-first, at_least-none, at_least-same, least_one, least_other, united-none}
 use Rattle.bitpack_lists.proofs.InPlaceSteps.{increasing_rest, later_sought, one_kept, still_ahead}
-use Rattle.bitpack_lists.proofs.Membership.{after_least, first_has, first_head, first_is, has-at_least, has-below, has-united, same_numbers}
+use Rattle.bitpack_lists.proofs.Membership.{after_least, first_has, first_is, has-at_least, has-below, has-united, same_numbers}
 use Rattle.bitpack_lists.proofs.SliceSteps.{from_index}
 use Rattle.bitpack_lists.proofs.UniteSteps.{first_parts, fewer_both}
 

@@ -63,7 +63,8 @@ fn intersect(views: &[ListView<'_>], shortest: usize, out: &mut [u32]) -> usize
 }
 
 /// Writes the values that any of the lists has to the front of `out`, each once and in increasing order, and answers their number.
-/// If a list is plain it answers -23, and if there is less room than the sum of the lengths -3; then it writes nothing.
+/// If a list is plain it answers -23, and if there is less room than the sum of the lengths -3; then it writes nothing. It merges the
+/// lists in turn, and is fastest if the longest is last.
 #[unsafe(no_mangle)]
 pub extern "C" fn bitpacking_list_unite(views: &[ListView<'_>], out: &mut [u32]) -> isize
     ensures { (lists : Lists) → AreListsOf views.now lists → Unites lists out.old out.new result }
@@ -243,6 +244,7 @@ fn add_distinct(view: &ListView<'_>, count: usize, values: &mut [u32]) -> usize
     requires { CanAdd view.now count values.old }
     ensures { Adds view.now (take count values.old) values.new result }
 {
+    // The first list has nothing to merge with.
     if count == 0 {
         return copy_distinct(view, values);
     }

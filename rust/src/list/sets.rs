@@ -32,7 +32,8 @@ pub fn intersect(lists: &[PackedList<'_>]) -> Result<Vec<u32>, Error> {
     combined(best().lists.intersect, lists, shortest)
 }
 
-/// The values that are in at least one list, in increasing order and each once.
+/// The values that are in at least one list, in increasing order and each once. The lists may be in any order: the shortest are merged
+/// first.
 ///
 /// # Errors
 ///
@@ -47,7 +48,10 @@ pub fn intersect(lists: &[PackedList<'_>]) -> Result<Vec<u32>, Error> {
 /// # Ok::<(), bitpacking::list::Error>(())
 /// ```
 pub fn union(lists: &[PackedList<'_>]) -> Result<Vec<u32>, Error> {
-    combined(best().lists.unite, lists, lists.iter().map(PackedList::len).sum())
+    // The call merges its lists in turn. Shortest first, it merges the fewest values.
+    let mut lists = lists.to_vec();
+    lists.sort_unstable_by_key(PackedList::len);
+    combined(best().lists.unite, &lists, lists.iter().map(PackedList::len).sum())
 }
 
 /// The values of the first list that are in none of the others, in increasing order and each once. Of no lists there are none.

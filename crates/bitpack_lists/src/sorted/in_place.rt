@@ -91,7 +91,11 @@ fn merge_to_front<C: SortedCursor>(values: &mut [u32], start: usize, cursor: &mu
     let mut from = start;
     while let Some((value, next)) = next_united_from(values, from, cursor) {
         values[written] = value;
-        let done = Place { written: written + 1, from: next, last: value };
+        let done = Place {
+            written: written + 1,
+            from: next,
+            last: value,
+        };
         let place = unite_at_hand(values, done, cursor);
         written = place.written;
         from = place.from;

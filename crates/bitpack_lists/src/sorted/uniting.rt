@@ -18,7 +18,11 @@ pub(super) struct Place {
 
 /// Writes values of a slice and those that a cursor has at hand to the front of the slice, until one of the two has no more. If the
 /// cursor is at its end, this is all. Moves the cursor past what was written. If the cursor has no values at hand, it may write none.
-pub(super) fn unite_at_hand<C: SortedCursor>(values: &mut [u32], place: Place, cursor: &mut C) -> Place
+pub(super) fn unite_at_hand<C: SortedCursor>(
+    values: &mut [u32],
+    place: Place,
+    cursor: &mut C,
+) -> Place
     requires { IsStillToCome values.old (C.rest cursor.old) place.written place.from place.last }
     ensures { IsUnitedTo values.old (C.rest cursor.old) place values.new (C.rest cursor.new) result }
 {
@@ -42,7 +46,11 @@ fn move_rest(values: &mut [u32], place: Place) -> Place
 {
     let left = values.len() - place.from;
     values.copy_within(place.from.., place.written);
-    Place { written: place.written + left, from: values.len(), last: place.last }
+    Place {
+        written: place.written + left,
+        from: values.len(),
+        last: place.last,
+    }
 }
 
 /// Merges values of a slice with those at hand, until there are no more of one of them. Also returns how many values at hand it
@@ -67,7 +75,14 @@ fn merge<C: SortedCursor>(values: &mut [u32], place: Place, cursor: &C) -> (Plac
         passed += one_if_up_to(other, one);
         last = last.max(least);
     }
-    (Place { written, from, last }, passed)
+    (
+        Place {
+            written,
+            from,
+            last,
+        },
+        passed,
+    )
 }
 
 /// Copies the values at hand to a slice that has no values to come, each once. Also returns how many values at hand it passed.
@@ -89,7 +104,14 @@ fn copy<C: SortedCursor>(values: &mut [u32], place: Place, cursor: &C) -> (Place
         passed += 1;
         last = last.max(value);
     }
-    (Place { written, from: place.from, last }, passed)
+    (
+        Place {
+            written,
+            from: place.from,
+            last,
+        },
+        passed,
+    )
 }
 
 /// 1 if a value is below another, and 0 if not.

@@ -63,6 +63,12 @@ returns g c =
         members = λ kind all is v. ap (λ xs. has xs v) (done ∙ c.distinct_of.ensures.values kind all is) ∙ has-distinct all v;
       };
       few = λ most fits.
-          omega (arith, length-take-le c.collect_to.result c.collect_to.new.out within, ap length done,
-          ap length (c.distinct_of.ensures.values (kind_of list) (values list) is), length-distinct (values list), fits (kind_of list) (values list) is);
+          omega (
+            arith,
+            length-take-le c.collect_to.result c.collect_to.new.out within,
+            ap length done,
+            ap length (c.distinct_of.ensures.values (kind_of list) (values list) is),
+            length-distinct (values list),
+            fits (kind_of list) (values list) is,
+          );
     }

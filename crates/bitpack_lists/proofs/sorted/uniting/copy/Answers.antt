@@ -18,10 +18,10 @@ loop-passed-preserved g c =
     let others = g.C.SortedCursor.rest c.args.cursor.now in
     let so_far = c.loop-passed.invariant in
     let turn = turned_copy c.loop-passed.values c.at_hand-hand.result.now others c.loop-passed.written c.args.place.from c.loop-passed.last c.loop-passed.passed
-        (g.met.C.SortedCursor.increasing c.args.cursor.now) c.at_hand-hand.ensures so_far.to_come so_far.before
-        (omega (arith, c.if-written-values.true, c.loop-passed.auto.values, c.requires.end)) c.loop-passed-test.true
-        (omega (arith, c.loop-passed.auto.values, c.requires.end))
-        c.one_if_below-written.result c.max-last.result c.one_if_below-written.ensures.below c.one_if_below-written.ensures.other c.max-last.ensures in
+    (g.met.C.SortedCursor.increasing c.args.cursor.now) c.at_hand-hand.ensures so_far.to_come so_far.before
+    (omega (arith, c.if-written-values.true, c.loop-passed.auto.values, c.requires.end)) c.loop-passed-test.true
+    (omega (arith, c.loop-passed.auto.values, c.requires.end))
+    c.one_if_below-written.result c.max-last.result c.one_if_below-written.ensures.below c.one_if_below-written.ensures.other c.max-last.ensures in
     record { to_come = turn.to_come; all = turn.all ∙ so_far.all; before = turn.before }
 
 pub returns-after-loop-passed : goal.returns-after-loop-passed

@@ -19,10 +19,10 @@ loop-from-preserved g c =
     let others = g.C.SortedCursor.rest c.args.cursor.now in
     let so_far = c.loop-from.invariant in
     let turn = turned_merge c.loop-from.values c.at_hand-hand.result.now others c.loop-from.written c.loop-from.from c.loop-from.last c.loop-from.passed
-        (g.met.C.SortedCursor.increasing c.args.cursor.now) c.at_hand-hand.ensures so_far.to_come so_far.before c.if-written-from.true c.if-passed-hand.true
-        c.loop-from-test.true c.one_if_below-written.result c.one_if_up_to-from.result c.one_if_up_to-passed.result c.min-least.result c.max-last.result
-        c.min-least.ensures c.one_if_below-written.ensures.below c.one_if_below-written.ensures.other c.one_if_up_to-from.ensures.up_to
-        c.one_if_up_to-from.ensures.above c.one_if_up_to-passed.ensures.up_to c.one_if_up_to-passed.ensures.above c.max-last.ensures in
+    (g.met.C.SortedCursor.increasing c.args.cursor.now) c.at_hand-hand.ensures so_far.to_come so_far.before c.if-written-from.true c.if-passed-hand.true
+    c.loop-from-test.true c.one_if_below-written.result c.one_if_up_to-from.result c.one_if_up_to-passed.result c.min-least.result c.max-last.result
+    c.min-least.ensures c.one_if_below-written.ensures.below c.one_if_below-written.ensures.other c.one_if_up_to-from.ensures.up_to
+    c.one_if_up_to-from.ensures.above c.one_if_up_to-passed.ensures.up_to c.one_if_up_to-passed.ensures.above c.max-last.ensures in
     record {
       to_come = turn.to_come;
       all = turn.all ∙ so_far.all;

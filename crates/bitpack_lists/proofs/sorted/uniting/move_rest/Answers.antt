@@ -1,5 +1,5 @@
 -- The values that are still to come are those of the slice, and they follow those that are done.
-use Rattle.std.proofs.Common.{◌+◌, ◌-◌, length, refl, ◌∙◌, arith}
+use Rattle.std.proofs.Common.{◌+◌, ◌-◌, length, arith}
 use Rattle.bitpack_lists.proofs.UnitingSteps.{moved_to_come, moved_all}
 use Rattle.bitpack_lists.proofs.sorted.uniting.move_rest.Goals as goal
 
