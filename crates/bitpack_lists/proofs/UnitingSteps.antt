@@ -6,10 +6,11 @@ use Rattle.std.specs.List.Sorted.{IsStrictlyIncreasing}
 use Rattle.std.proofs.Math.Bool.{and-false}
 use Rattle.std.proofs.lemmas.Bool.{and_parts, cases_lt, false_from_ne_true, le-leb, leb-true, lt-leb, or_left, or_parts, true≢false}
 use Rattle.std.proofs.lemmas.List.{drop_all, drop_more, length-append, length-drop, length-set, length-take-le, take-set, take_at}
+use Rattle.bitpack_lists.specs.declared.sorted.uniting.Place.{Place}
 use Rattle.bitpack_lists.specs.Fronts.{IsFront}
 use Rattle.bitpack_lists.specs.Increasing.{AllAbove, IsIncreasing, after_first, at_least, first, has, united}
 use Rattle.bitpack_lists.specs.IncreasingLaws.{IsIncreasing-from, increasing_at_least, increasing_united}
-use Rattle.bitpack_lists.specs.inner.Uniting.{IsStillToCome, all_of}
+use Rattle.bitpack_lists.specs.inner.Uniting.{IsStillToCome, IsUnitedTo, all_of}
 use Rattle.bitpack_lists.proofs.Combining.{at_least-first, at_least-none, at_least-same, least_one, least_other, united-none}
 use Rattle.bitpack_lists.proofs.InPlaceSteps.{increasing_rest, later_sought, one_kept, still_ahead}
 use Rattle.bitpack_lists.proofs.Membership.{after_least, first_has, first_is, has-at_least, has-below, has-united, same_numbers}
@@ -38,10 +39,17 @@ no_more_others target ys increasing =
     omega (arith, ap length is, length-drop passed ys)
 
 -- what is to come is above the last value that is done, and so are the others
-pub others_above : (last : ℕ) (xs ys : List ℕ) → IsIncreasing ys → AllAbove last (united xs ys) → at_least (last + 1) ys ≡ ys
+others_above : (last : ℕ) (xs ys : List ℕ) → IsIncreasing ys → AllAbove last (united xs ys) → at_least (last + 1) ys ≡ ys
 others_above last xs ys increasing above =
     at_least-same (last + 1) ys increasing
     (λ v lt. (or_parts (has xs v) (has ys v) (sym (has-united xs ys v) ∙ has-below last v (united xs ys) above (omega (arith, lt)))).1)
+
+-- what is done and still to come before the first turn
+pub united_begun : (values others : List ℕ) (place : Place) → IsIncreasing others → IsStillToCome values others place.written place.from place.last
+    → IsUnitedTo values others place values (at_least (place.last + 1) others) place
+united_begun values others place increasing ahead =
+    let same = others_above place.last (drop place.from values) others increasing ahead.above in
+    record { to_come = rw same ahead; all = rw same refl; forward = omega arith; fewer = rw same (omega arith) }
 
 above_first : (last v : ℕ) (xs : List ℕ) → AllAbove last xs → first xs ≡ Some v → last < v
 above_first last v [] above e = absurd cc

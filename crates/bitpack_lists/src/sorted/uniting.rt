@@ -62,27 +62,18 @@ fn merge<C: SortedCursor>(values: &mut [u32], place: Place, cursor: &C) -> (Plac
         values.new (at_least (result.0.last + 1) (C.rest cursor.now)) result.0 }
 {
     let hand = cursor.at_hand();
-    let mut written = place.written;
-    let mut from = place.from;
-    let mut last = place.last;
+    let mut place = place;
     let mut passed = 0;
-    while from < values.len() && passed < hand.len() && written < from {
-        let (one, other) = (values[from], hand[passed]);
+    while place.from < values.len() && passed < hand.len() && place.written < place.from {
+        let (one, other) = (values[place.from], hand[passed]);
         let least = one.min(other);
-        values[written] = least;
-        written += one_if_below(last, least);
-        from += one_if_up_to(one, other);
+        values[place.written] = least;
+        place.written += one_if_below(place.last, least);
+        place.from += one_if_up_to(one, other);
         passed += one_if_up_to(other, one);
-        last = last.max(least);
+        place.last = place.last.max(least);
     }
-    (
-        Place {
-            written,
-            from,
-            last,
-        },
-        passed,
-    )
+    (place, passed)
 }
 
 /// Copies the values at hand to a slice that has no values to come, each once. Also returns how many values at hand it passed.
@@ -94,24 +85,16 @@ fn copy<C: SortedCursor>(values: &mut [u32], place: Place, cursor: &C) -> (Place
         values.new (at_least (result.0.last + 1) (C.rest cursor.now)) result.0 }
 {
     let hand = cursor.at_hand();
-    let mut written = place.written;
-    let mut last = place.last;
+    let mut place = place;
     let mut passed = 0;
-    while passed < hand.len() && written < values.len() {
+    while passed < hand.len() && place.written < values.len() {
         let value = hand[passed];
-        values[written] = value;
-        written += one_if_below(last, value);
+        values[place.written] = value;
+        place.written += one_if_below(place.last, value);
         passed += 1;
-        last = last.max(value);
+        place.last = place.last.max(value);
     }
-    (
-        Place {
-            written,
-            from: place.from,
-            last,
-        },
-        passed,
-    )
+    (place, passed)
 }
 
 /// 1 if a value is below another, and 0 if not.

@@ -1,17 +1,15 @@
--- Some values are done, and those at hand that are still to come are above the last of them.
-use Rattle.std.proofs.Common.{◌≡◌, ℕ, ◌+◌, ◌-◌, ◌<◌, ◌≤◌, get_or, length}
+-- Some of what was still to come is done, and what was passed at hand is. No value of the slice is to come.
+use Rattle.std.proofs.Common.{ℕ, ◌+◌, ◌-◌, ◌<◌, ◌≤◌, get_or, length}
 use Rattle.bitpack_lists.specs.Increasing.{at_least}
-use Rattle.bitpack_lists.specs.inner.Uniting.{IsStillToCome, all_of}
+use Rattle.bitpack_lists.specs.inner.Uniting.{IsUnitedTo}
 use Rattle.bitpack_lists.proofs.sorted.uniting.copy.Given as goal
 
 abbrev pub invariant-loop-passed : goal.invariant-loop-passed
 invariant-loop-passed g l =
     let others = g.C.SortedCursor.rest l.cursor in
-    let left = at_least (l.last + 1) others in
     record {
-      to_come : IsStillToCome l.values left l.written l.place.from l.last;
-      all : all_of l.values left l.written l.place.from ≡ all_of l.initial.values others l.place.written l.place.from;
-      before : (k : ℕ) → k < l.passed → get_or l.hand k 0 ≤ l.last;
+      united : IsUnitedTo l.initial.values others l.initial.place l.values (at_least (l.place.last + 1) others) l.place;
+      before : (k : ℕ) → k < l.passed → get_or l.hand k 0 ≤ l.place.last;
     }
 
 abbrev pub decreases-loop-passed : goal.decreases-loop-passed
