@@ -190,10 +190,13 @@ unfolding kept_part
 kept_part-nil = refl
 
 -- the kept part is empty only if the line is
+some_taken : (n byte : ℕ) (line : List ℕ) → 0 < n → length (take n (byte ∷ line)) ≢ 0
+some_taken n byte line h e = omega (arith, length-take n (byte ∷ line), e)
+
 pub kept_part-none : (line : List ℕ) → length (kept_part line) ≡ 0 → last_line line ≡ []
 unfolding kept_part
 kept_part-none [] e = refl
-kept_part-none (byte ∷ line) e = absurd (omega (arith, e))
+kept_part-none (byte ∷ line) e = absurd (some_taken 65537 byte line (omega arith) e)
 
 pub kept_part-some : (line : List ℕ) → length (kept_part line) ≢ 0 → last_line line ≡ line ∷ []
 unfolding kept_part
