@@ -6,6 +6,7 @@ The last line is 'N passed, M failed'.
 
 import os
 import pty
+import re
 import shutil
 import subprocess
 import sys
@@ -17,6 +18,7 @@ RT = """#!/bin/sh
 [ "$1" = version ] && { echo "kit of the test"; exit; }
 cat > /dev/null
 echo "$PWD $*" >> "$RT_CALLS"
+[ "$1" = lib ] && exit "${RT_LIB:-0}"
 [ -x out/bitpack_main ] && exit
 echo "output of a check"
 echo "rt: chose --jobs 2 for low"
@@ -42,11 +44,20 @@ chmod +x out/bitpack_main
 LOW = "bitpack: proved low, functions: 7\n"
 
 
+def libraries(crate="bitpack_main"):
+    """The libraries below a crate by crates.txt, each after those that it needs itself."""
+    needs = dict(re.findall(r"^(\w+)[^:\n#]*:(.*)$", source("crates.txt"), re.M))
+    found = [it for need in needs[crate].split() if need in needs for it in [*libraries(need), need]]
+    return list(dict.fromkeys(found))
+
+
 class Copy:
     """A copy of the repository's head, and a folder with the test's rt."""
 
     def __init__(self, top):
         self.top, self.calls, self.path = f"{top}/copy", f"{top}/calls", f"{top}/bin"
+        for crate in libraries():
+            os.makedirs(f"{self.top}/crates/{crate}")
         os.makedirs(f"{self.top}/crates/bitpack_main/src")
         os.makedirs(f"{self.top}/docs")
         os.makedirs(self.path)
@@ -84,12 +95,16 @@ class Copy:
         with open(f"{self.top}/out/build.log", encoding="utf-8") as file:
             return file.read()
 
+    def called(self):
+        """The calls of rt so far, each as a crate and a command."""
+        if not os.path.exists(self.calls):
+            return []
+        with open(self.calls, encoding="utf-8") as file:
+            return [line.strip().split("/")[-1] for line in file]
+
     def builds(self):
         """How often rt was called to build."""
-        if not os.path.exists(self.calls):
-            return 0
-        with open(self.calls, encoding="utf-8") as file:
-            return file.read().count("/crates/bitpack_main run\n")
+        return self.called().count("bitpack_main run")
 
 
 def answers(copy):
@@ -110,6 +125,10 @@ def builds(copy):
     yield "without rt it says so", (status, out, error.count("\n")) == (2, "", 1) and "rt" in error
     status, out, error = copy.run(RT_FAILS="1")
     yield "a failed build shows the log's end", status == 3 and out == "" and "a goal is open" in error
+    below = [f"{crate} lib" for crate in libraries()]
+    yield "it proves the libraries before the program, lowest first", copy.called() == [*below, "bitpack_main run"]
+    status, out, error = copy.run(RT_LIB="1")
+    yield "a library that fails ends the build", (status, out) == (3, "") and copy.called()[-2:] == ["bitpack_main run", below[0]]
     yield "the line of a crate comes when it is proved", copy.says_at_once()
     status, out, error = copy.run("--other", "words")
     yield "the first call builds, and passes words on", (status, out) == (0, "program:--other words\nsize\n")
