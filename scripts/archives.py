@@ -6,8 +6,8 @@
     rust/out/libbitpacking_vN.a                  the same for the crate in rust/, each name with the prefix vN_
     rust/out/TARGET/libbitpacking_c.a            for C and Rust on aarch64, which has one level
 
-It proves the crate `bitpacking_c` once, where a source is newer than what earlier checks left; the other levels and targets take that proof
-from crates/bitpacking_c/out/, and only compile. Then it looks at each archive: it exports the functions of the header and no other name,
+It proves the crate `bitpacking_c` once, and the crates below it that are not proved in out/proved/ from these sources; each level and target
+takes that proof, and only compiles. In scripts/check, with --in-check, `rt lib` does that and keeps each proof in crates/. Then it looks at each archive: it exports the functions of the header and no other name,
 needs no other functions than memcpy, memmove and memset, and has neither data nor unwinding; the archive for all levels has one number of data, the
 level. Where no source changed since the last run nothing is built; `archives.py --anew` builds all the same. It needs rt, cc, ld and nm,
 objcopy, objdump and ar of binutils. The last line is 'N passed, M failed'.
@@ -22,6 +22,7 @@ import sys
 import time
 
 import levels
+import proving
 from common import ROOT, ended, left_out_without, missing, run, words
 
 OUT = f"{ROOT}/rust/out"
@@ -52,12 +53,25 @@ def archive(build):
     return f"{OUT}/{build}/libbitpacking_c.a"
 
 
-def proved_and_built(build):
-    """Builds the archive for C of a level or a target. Prints each crate as it is proved. Returns whether that worked."""
-    start, said, crate = time.time(), [], None
-    command = ["rt", "lib", *BUILDS[build]]
+class Shown:
+    """Prints how many functions of a crate are proved, at most once in ten seconds, and each crate that is. Keeps the last lines of a check."""
+
+    def __init__(self):
+        self.start, self.next, self.last = time.time(), 0, []
+
+    def __call__(self, crate, line):
+        self.last = [*self.last[-11:], line]
+        counts = re.search(r"(\d+ of \d+)( functions checked)?$", line.strip())
+        proved = re.match(r"logic=proved functions=(\d+)", line)
+        if proved or counts and time.time() > self.next:
+            self.next = time.time() + 10
+            print(f"{crate}: {proved[1] if proved else counts[1]} functions proved, {time.time() - self.start:.0f} s", flush=True)
+
+
+def built_by_rt(build, tell):
+    """Builds the archive for C of a level or target by `rt lib`, which keeps each proof for later checks. Returns its path."""
     with subprocess.Popen(
-        command,
+        ["rt", "lib", *BUILDS[build]],
         cwd=f"{ROOT}/crates/bitpacking_c",
         stdin=subprocess.DEVNULL,
         stdout=subprocess.PIPE,
@@ -65,25 +79,33 @@ def proved_and_built(build):
         text=True,
         errors="replace",
     ) as ran:
+        crate = None
         for line in ran.stdout:
-            said.append(line)
             named = re.match(r"rt: chose --jobs \d+ for (\w+)", line)
-            counts = re.match(r"so far: .*", line)
-            proved = re.match(r"logic=proved functions=(\d+)", line)
-            if named:
-                crate = named[1]
-            if counts:
-                print(f"{crate}: {counts[0]}", flush=True)
-            if proved and crate:
-                print(f"{crate}: {proved[1]} functions proved, {time.time() - start:.0f} s", flush=True)
-    made = f"{ROOT}/crates/bitpacking_c/out/libbitpacking_c.a"
-    if ran.returncode != 0 or not os.path.isfile(made):
-        print("".join(said[-12:]))
-        return False
-    os.makedirs(f"{OUT}/{build}", exist_ok=True)
-    shutil.copyfile(made, archive(build))
-    print(f"built rust/out/{build}/libbitpacking_c.a, {time.time() - start:.0f} s", flush=True)
-    return True
+            crate = named[1] if named else crate
+            tell(crate, line)
+    if ran.returncode != 0:
+        raise proving.Failed(f"rt lib {' '.join(BUILDS[build])} ended with status {ran.returncode}")
+    return f"{ROOT}/crates/bitpacking_c/out/libbitpacking_c.a"
+
+
+def proved_and_built(keep):
+    """Builds the archives for C. With `keep` that leaves each proof in crates/, where scripts/unproved.py begins. Returns why that failed, or
+    None."""
+    tell = Shown()
+    try:
+        if not keep:
+            for build, made in proving.archives("bitpacking_c", BUILDS, tell).items():
+                os.makedirs(f"{OUT}/{build}", exist_ok=True)
+                os.replace(made, archive(build))
+        for build in BUILDS if keep else []:
+            os.makedirs(f"{OUT}/{build}", exist_ok=True)
+            shutil.copyfile(built_by_rt(build, tell), archive(build))
+    except proving.Failed as why:
+        print("".join(tell.last))
+        return str(why)
+    print(f"built the archives for C, {time.time() - tell.start:.0f} s", flush=True)
+    return None
 
 
 def prefixed(prefix, level):
@@ -149,13 +171,14 @@ def fresh(stamp, numbers):
     return kept, kept and all(map(os.path.isfile, more)) and were == numbers
 
 
-def made(kept, whole):
+def made(kept, whole, keep):
     """Each archive as a name and what is wrong with it, or None. Those for C are built if they are not kept, and all others if they are not
     whole. Nothing is built after one that fails."""
+    why = None if kept else proved_and_built(keep)
+    if why:
+        yield "the archives for C", why
+        return
     for build in BUILDS:
-        if not kept and not proved_and_built(build):
-            yield f"the archive for {build}", "it was not built, and no archive after it"
-            return
         yield f"the archive for {build}", "; ".join(faults(archive(build))) or None
     for prefix, level in LEVELS.items():
         wrong = None if whole else prefixed(prefix, level)
@@ -166,8 +189,8 @@ def made(kept, whole):
     yield "the archive for all levels", wrong or "; ".join(faults(f"{OUT}/{ALL}", data=4)) or None
 
 
-def build(anew=False):
-    """Builds what is not there, and returns how many archives are right and how many are not."""
+def build(anew=False, keep=False):
+    """Builds what is not there, which with `keep` leaves each proof in crates/. Returns how many archives are right and how many are not."""
     stamp, numbers = f"{OUT}/sources", sources()
     os.makedirs(OUT, exist_ok=True)
     kept, whole = (False, False) if anew else fresh(stamp, numbers)
@@ -176,7 +199,7 @@ def build(anew=False):
     if os.path.isfile(stamp):
         os.remove(stamp)
     passed = failed = 0
-    for name, wrong in made(kept, whole):
+    for name, wrong in made(kept, whole, keep):
         if wrong:
             print(f"FAILED: {name}: {wrong}")
         passed, failed = passed + (not wrong), failed + bool(wrong)
@@ -195,11 +218,11 @@ def status_without(part, *tools):
 
 
 def main():
-    given, lacking = words("--kept", "--anew", "--in-check"), missing(*TOOLS)
+    given, lacking = words("--anew", "--in-check"), missing(*TOOLS)
     if lacking and "--in-check" not in given:
         print(f"archives.py: there is no {' and no '.join(lacking)}, and nothing was built", file=sys.stderr)
         return 2
-    return 0 if left_out_without("the archives for C and Rust", *TOOLS) else ended(*build("--anew" in given))
+    return 0 if left_out_without("the archives for C and Rust", *TOOLS) else ended(*build("--anew" in given, keep="--in-check" in given))
 
 
 if __name__ == "__main__":

@@ -1,77 +1,82 @@
 #!/usr/bin/env python3
-"""Tests the script `bitpack` in a copy, with a command rt that builds a small program in place of the real one.
+"""Tests the script `bitpack` in a copy, with a toolchain that builds a small program in place of the real one.
 
 The last line is 'N passed, M failed'.
 """
 
 import os
 import pty
-import re
 import shutil
 import subprocess
 import sys
 import tempfile
 
+import proving
 from common import ROOT, report, source
 
+SCRIPTS = ["scripts/program.py", "scripts/proving.py", "scripts/common.py"]
+
 RT = """#!/bin/sh
-[ "$1" = version ] && { echo "kit of the test"; exit; }
-cat > /dev/null
-echo "$PWD $*" >> "$RT_CALLS"
-[ "$1" = lib ] && exit "${RT_LIB:-0}"
-[ -x out/bitpack_main ] && exit
+case $1 in
+version) echo "kit of the test" ;;
+doc) echo "$KIT/START-HERE.md" ;;
+esac
+"""
+# Makes what -o names. A crate that FAILS waits for the file WAITS, if that is given, and ends with a goal open.
+RATTLE = """#!/bin/sh
+crate=${PWD##*/}
+echo "$crate $1" >> "$CALLS"
+[ "$1" = build ] && [ "$crate" != bitpack_main ] && quiet=1
+while [ "$1" != -o ]; do shift; done
+mkdir -p "$2"
+[ -n "$quiet" ] && exit
 echo "output of a check"
-echo "rt: chose --jobs 2 for low"
-echo "so far: 0 of 7 functions checked; the verdict comes last"
-echo "so far: 5 of 7 functions checked"
-echo "crate low: modules loaded=1 checked=1"
+echo "checked low::f, 5 of 7"
 echo "logic=proved functions=7 sum=1"
-echo "crate low: modules loaded=1 checked=1"
-echo "logic=proved functions=7 sum=1"
+[ "$crate" = "$FAILS" ] || exit 0
 n=0
-while [ -n "$RT_WAITS" ] && [ ! -e "$RT_WAITS" ]; do
+while [ -n "$WAITS" ] && [ ! -e "$WAITS" ]; do
     n=$((n + 1))
     [ $n = 100 ] && exit 1
     sleep 0.1
 done
-[ -n "$RT_FAILS" ] && { echo "a goal is open"; exit 1; }
-echo "crate high: modules loaded=1 checked=1" >&2
-echo "logic=proved functions=1 sum=1" >&2
-mkdir -p out
-printf '#!/bin/sh\\necho "program:$*"\\ncat\\n' > out/bitpack_main
-chmod +x out/bitpack_main
+echo "a goal is open"
+exit 1
 """
-LOW = "bitpack: proved low, functions: 7\n"
+LINK = """#!/bin/sh
+while [ "$1" != -o ]; do shift; done
+printf '#!/bin/sh\\necho "program:$*"\\ncat\\n' > "$2"
+chmod +x "$2"
+"""
+BELOW = proving.libraries("bitpack_main")
 
 
-def libraries(crate="bitpack_main"):
-    """The libraries below a crate by crates.txt, each after those that it needs itself."""
-    needs = dict(re.findall(r"^(\w+)[^:\n#]*:(.*)$", source("crates.txt"), re.M))
-    found = [it for need in needs[crate].split() if need in needs for it in [*libraries(need), need]]
-    return list(dict.fromkeys(found))
+def line_of(crate):
+    return f"bitpack: proved {crate}, functions: 7\n"
 
 
 class Copy:
-    """A copy of the repository's head, and a folder with the test's rt."""
+    """A copy of the repository's head, and a folder with the test's toolchain."""
 
     def __init__(self, top):
-        self.top, self.calls, self.path = f"{top}/copy", f"{top}/calls", f"{top}/bin"
-        for crate in libraries():
+        self.top, self.calls, self.kit = f"{top}/copy", f"{top}/calls", f"{top}/kit"
+        for crate in BELOW:
             os.makedirs(f"{self.top}/crates/{crate}")
-        os.makedirs(f"{self.top}/crates/bitpack_main/src")
-        os.makedirs(f"{self.top}/docs")
-        os.makedirs(self.path)
-        for name in ["bitpack", "CHANGELOG.md", "crates.txt", "docs/PROOFS.md", "crates/bitpack_main/src/main.rt"]:
+        for folder in ["crates/bitpack_main/src", "docs", "scripts"]:
+            os.makedirs(f"{self.top}/{folder}")
+        for name in ["bitpack", "CHANGELOG.md", "crates.txt", "docs/PROOFS.md", "crates/bitpack_main/src/main.rt", *SCRIPTS]:
             shutil.copy(f"{ROOT}/{name}", f"{self.top}/{name}")
-        with open(f"{self.path}/rt", "w", encoding="ascii") as file:
-            file.write(RT)
-        os.chmod(f"{self.path}/rt", 0o755)
+        os.makedirs(f"{self.kit}/bin")
+        for name, text in {"rt": RT, "rattle": RATTLE, "rattle-link": LINK}.items():
+            with open(f"{self.kit}/bin/{name}", "w", encoding="ascii") as file:
+                file.write(text)
+            os.chmod(f"{self.kit}/bin/{name}", 0o755)
         self.old = f"{self.top}/crates/bitpack_main/src/main.rt"
         os.utime(self.old, (0, 0))
         os.utime(f"{self.top}/crates.txt", (0, 0))
 
     def environment(self, rt=True, **more):
-        return {"PATH": f"{self.path}:/usr/bin:/bin" if rt else "/usr/bin:/bin", "RT_CALLS": self.calls, **more}
+        return {"PATH": f"{self.kit}/bin:/usr/bin:/bin" if rt else "/usr/bin:/bin", "KIT": self.kit, "CALLS": self.calls, **more}
 
     def run(self, *words, stdin="size\n", **more):
         """The status, standard output and standard error of a call from another folder."""
@@ -83,10 +88,10 @@ class Copy:
     def says_at_once(self):
         """Whether the line of a crate comes while the build waits to go on."""
         go = f"{self.top}/go"
-        environment = self.environment(RT_WAITS=go, RT_FAILS="1")
+        environment = self.environment(WAITS=go, FAILS="bitpack_main")
         ran = subprocess.Popen([f"{self.top}/bitpack"], env=environment, stdin=subprocess.DEVNULL, stderr=subprocess.PIPE, text=True)
         for line in ran.stderr:
-            if line == LOW:
+            if line == line_of("bitpack_main"):
                 open(go, "w", encoding="ascii").close()
         ran.wait()
         return os.path.exists(go) and "a goal is open" in self.log()
@@ -95,16 +100,16 @@ class Copy:
         with open(f"{self.top}/out/build.log", encoding="utf-8") as file:
             return file.read()
 
+    def forget(self):
+        """Forgets the calls of rattle so far."""
+        os.remove(self.calls)
+
     def called(self):
-        """The calls of rt so far, each as a crate and a command."""
+        """The calls of rattle so far, each as a crate and a command."""
         if not os.path.exists(self.calls):
             return []
         with open(self.calls, encoding="utf-8") as file:
-            return [line.strip().split("/")[-1] for line in file]
-
-    def builds(self):
-        """How often rt was called to build."""
-        return self.called().count("bitpack_main run")
+            return file.read().split("\n")[:-1]
 
 
 def answers(copy):
@@ -116,33 +121,38 @@ def answers(copy):
     yield "--version is that of CHANGELOG.md and of rt", (status, out, error) == (0, f"bitpack {newest}\nkit of the test\n", "")
     status, out, error = copy.run("--version", rt=False)
     yield "--version without rt has the kit of PROOFS.md", status == 0 and out.split("\n")[1].startswith("rattle-kit-")
-    yield "neither builds", copy.builds() == 0
+    yield "neither builds", not copy.called()
 
 
 def builds(copy):
     """When it builds, and what it prints then."""
     status, out, error = copy.run(rt=False)
     yield "without rt it says so", (status, out, error.count("\n")) == (2, "", 1) and "rt" in error
-    status, out, error = copy.run(RT_FAILS="1")
-    yield "a failed build shows the log's end", status == 3 and out == "" and "a goal is open" in error
-    below = [f"{crate} lib" for crate in libraries()]
-    yield "it proves the libraries before the program, lowest first", copy.called() == [*below, "bitpack_main run"]
-    status, out, error = copy.run(RT_LIB="1")
-    yield "a library that fails ends the build", (status, out) == (3, "") and copy.called()[-2:] == ["bitpack_main run", below[0]]
+    status, out, error = copy.run(FAILS=BELOW[0])
+    yield "a library that fails ends the build", (status, out, copy.called()) == (3, "", [f"{BELOW[0]} check"])
+    yield "the end of the log is shown", "a goal is open" in error
+    status, out, error = copy.run(FAILS="bitpack_main")
+    proofs = [f"{crate} {verb}" for crate in BELOW for verb in ["check", "build"]]
+    yield "it proves the libraries before the program, lowest first", copy.called()[1:] == [*proofs, "bitpack_main build"]
+    said = error.split("\n")
+    yield "it says that it builds, and how long", "building" in said[0] and "minutes on four cores" in said[0]
+    yield "and has a line for each crate", "\n".join(said[1:]).startswith("".join(map(line_of, [*BELOW, "bitpack_main"])))
+    yield "a program that fails is not run", (status, out) == (3, "")
+    copy.forget()
     yield "the line of a crate comes when it is proved", copy.says_at_once()
+    yield "a library is proved once", copy.called() == ["bitpack_main build"]
     status, out, error = copy.run("--other", "words")
     yield "the first call builds, and passes words on", (status, out) == (0, "program:--other words\nsize\n")
-    said = error.split("\n")
-    yield "it says that it builds, and how long", "building" in said[0] and "ten minutes" in said[0]
-    yield "and has a line for each crate", said[1:] == [LOW.strip(), "bitpack: proved high, functions: 1", ""]
     yield "the log has the rest", "output of a check\n" in copy.log()
-    built = copy.builds()
-    yield "the second call does not build", copy.run("--help", "x") == (0, "program:--help x\nsize\n", "") and copy.builds() == built
+    copy.forget()
+    yield "the second call does not build", copy.run("--help", "x") == (0, "program:--help x\nsize\n", "") and not copy.called()
     yield "nor does it need rt", copy.run(rt=False) == (0, "program:\nsize\n", "")
-    os.utime(f"{copy.top}/crates/bitpack_main/out/bitpack_main", (9, 9))
-    os.utime(copy.old, (99, 99))
-    yield "a newer source builds", copy.run()[:2] == (0, "program:\nsize\n") and copy.builds() == built + 1
-    yield "but once, where the program stays as it was", copy.run() == (0, "program:\nsize\n", "") and copy.builds() == built + 1
+    os.utime(copy.old, (2**33, 2**33))
+    yield "a source that is newer, with the same text, proves nothing", copy.run()[:2] == (0, "program:\nsize\n") and not copy.called()
+    with open(copy.old, "a", encoding="utf-8") as file:
+        file.write("// More.\n")
+    yield "one with another text does", copy.run()[:2] == (0, "program:\nsize\n") and copy.called() == ["bitpack_main build"]
+    yield "but once", copy.run() == (0, "program:\nsize\n", "")
 
 
 def terminal(copy):
@@ -152,12 +162,13 @@ def terminal(copy):
     status, out, error = copy.run(stdin=other)
     yield "on a terminal it says that it reads lines", (status, out, error.count("\n")) == (0, "program:\n", 1) and "docs/LINES.md" in error
     os.remove(f"{copy.top}/crates/bitpack_main/out/bitpack_main")
-    subprocess.run([f"{copy.top}/bitpack"], env=copy.environment(RT_FAILS="1"), stdin=subprocess.DEVNULL, stderr=other, check=False)
+    shutil.rmtree(f"{copy.top}/out")
+    subprocess.run([f"{copy.top}/bitpack"], env=copy.environment(FAILS=BELOW[0]), stdin=subprocess.DEVNULL, stderr=other, check=False)
     said = os.read(main, 1 << 16).decode()
     os.close(main)
     os.close(other)
-    yield "on a terminal it shows how many functions are proved", "\r\033[Kbitpack: proving low, 5 of 7 functions\r\033[K" in said
-    yield "and the lines after that are whole", f"\r\033[K{LOW.strip()}\r\n" in said and "\r\033[Kbitpack: the build failed" in said
+    yield "on a terminal it shows how many functions are proved", f"\r\033[Kbitpack: proving {BELOW[0]}, 5 of 7 functions\r\033[K" in said
+    yield "and the lines after that are whole", f"\r\033[K{line_of(BELOW[0]).strip()}\r\n" in said and "\r\033[Kbitpack: the build failed" in said
 
 
 def checks():

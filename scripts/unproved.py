@@ -29,6 +29,7 @@ import time
 import changes
 import claims
 from common import ROOT, ended, run, source, words
+from proving import linked
 
 COPIES = min(4, len(os.sched_getaffinity(0)))
 # How many edits a check takes at most: the more it takes, the more memory it needs, and the longer the others wait for it at the end.
@@ -179,18 +180,6 @@ def tried(room, crate, edits):
     others = {it: sorted(goals_in(text)) for it, text in unproved_in(crate, said).items() if it not in named}
     more = [f"{it} is refused too, at {' '.join(goals)}" for it, goals in others.items() if goals]
     return whys, waiting, more
-
-
-def linked(one, other):
-    """Copies a file. What was proved gets a second name instead: a check writes such a file anew, and never into it."""
-    if one.endswith(".oantt"):
-        try:
-            os.link(one, other)
-            return
-        except OSError:
-            # Two disks, for instance.
-            pass
-    shutil.copy2(one, other, follow_symlinks=False)
 
 
 def copied(room):

@@ -1,0 +1,177 @@
+"""Proves crates and compiles them with `rattle`, the compiler that `rt` calls.
+
+`rt lib` keeps each proof for later checks, and the crates above load all of them again. Here the crates above load what a library states and no
+proof, and nothing is kept but the libraries, in out/proved/. From nothing that takes a third less time. scripts/check proves all once more.
+"""
+
+import concurrent.futures
+import contextlib
+import fcntl
+import glob
+import hashlib
+import os
+import re
+import shutil
+import subprocess
+
+from common import ROOT, run, source
+
+PROVED = f"{ROOT}/out/proved"
+# The memory that a job may take, in bytes, and the most jobs that still make a check faster.
+EACH, MOST = 5 << 29, 8
+
+
+class Failed(Exception):
+    """A command of the toolchain failed."""
+
+
+def crates():
+    """By crate of the repository, those that it names, of the toolchain too."""
+    return {name: needs.split() for name, needs in re.findall(r"^(\w+)[^:\n#]*:(.*)$", source("crates.txt"), re.M)}
+
+
+def libraries(crate):
+    """The libraries of the repository below a crate, each after those that it needs itself."""
+    found = [it for need in crates()[crate] if need in crates() for it in [*libraries(need), need]]
+    return list(dict.fromkeys(found))
+
+
+def kit():
+    """The folder of the toolchain."""
+    return os.path.dirname(run("rt", "doc").stdout.strip())
+
+
+def sum_of(crate):
+    """A number that changes with the toolchain and with each source of a crate and of those below it."""
+    found = hashlib.sha256(run("rt", "version").stdout.encode() + source("crates.txt").encode())
+    for name in [*libraries(crate), crate]:
+        for path in sorted(glob.glob(f"{ROOT}/crates/{name}/[sp]*/**", recursive=True)):
+            if os.path.isfile(path):
+                with open(path, "rb") as file:
+                    found.update(f"{os.path.relpath(path, ROOT)}\n".encode() + file.read())
+    return found.hexdigest()
+
+
+def jobs():
+    """How many processors a check uses: as many as there are and memory is free for."""
+    with open("/proc/meminfo", encoding="ascii") as file:
+        free = 1024 * int(re.search(r"MemAvailable:\s+(\d+)", file.read())[1])
+    return max(1, min(MOST, len(os.sched_getaffinity(0)), free // EACH))
+
+
+def words_of(crate):
+    """What rattle is told of a crate: its root, the libraries that it names, the logic, and that it has no C."""
+    root = "main" if os.path.isfile(f"{ROOT}/crates/{crate}/src/main.rt") else "lib"
+    needs = {need: f"{PROVED}/{need}.rlib" if need in crates() else f"{kit()}/rlibs/{need}.rlib" for need in [*crates()[crate], "std"]}
+    words = ["--crate-name", crate, f"src/{root}.rt", "-L", f"dependency={kit()}/rlibs", "-L", f"dependency={PROVED}"]
+    words += [word for need, rlib in needs.items() for word in ["--extern", f"{need}={rlib}"]]
+    return [*words, "--antt-project", f"{kit()}/rattle/logic/antt-project.json", "--links", f"{crate}="]
+
+
+def called(crate, tell, *command):
+    """Runs a command in the folder of a crate, and tells each line that it prints."""
+    with subprocess.Popen(
+        [f"{kit()}/bin/{command[0]}", *command[1:]],
+        cwd=f"{ROOT}/crates/{crate}",
+        stdin=subprocess.DEVNULL,
+        stdout=subprocess.PIPE,
+        stderr=subprocess.STDOUT,
+        text=True,
+        errors="replace",
+    ) as ran:
+        for line in ran.stdout:
+            tell(crate, line)
+    if ran.returncode != 0:
+        raise Failed(f"{command[0]} {command[1]} of {crate} ended with status {ran.returncode}")
+
+
+def proof(*words):
+    """What rattle is told beside that if it proves a crate over the built logic, and not after a proof."""
+    return ["--logic-built", f"{kit()}/logic_built", "--jobs", str(jobs()), *words]
+
+
+def library(crate, tell):
+    """Proves a library, if that was not done from these sources."""
+    rlib, room = f"{PROVED}/{crate}.rlib", f"{PROVED}/{crate}.checked"
+    with made_once(crate, rlib) as is_made:
+        if is_made:
+            return
+        for folder in [rlib, room]:
+            shutil.rmtree(folder, ignore_errors=True)
+        called(crate, tell, "rattle", "check", *words_of(crate), *proof("--progress", "--statements", "-o", room))
+        called(crate, lambda *_: None, "rattle", "build", *words_of(crate), "--statements", "--crate-checked", room, "-o", rlib)
+        shutil.rmtree(room)
+
+
+def program(crate, tell):
+    """Proves a program, and writes it to the out/ of its crate."""
+    made = f"{ROOT}/crates/{crate}/out/{crate}"
+    os.makedirs(os.path.dirname(made), exist_ok=True)
+    with alone():
+        for below in libraries(crate):
+            library(below, tell)
+        with made_once(crate, made) as is_made:
+            if is_made:
+                os.utime(made)
+                return
+            by_llvm = ["--toolchain", f"{kit()}/toolchain", "--backend", "llvm"]
+            called(crate, tell, "rattle", "build", *words_of(crate), *proof(*by_llvm, "-o", f"{made}.o"))
+            needs = [f"{made}.o", f"{kit()}/c/libos_c.a", f"{kit()}/c/liblibc_c.a"]
+            called(crate, tell, "rattle-link", "--target", "x86_64-unknown-linux-gnu", *by_llvm[:2], "-o", made, *needs)
+
+
+def linked(one, other):
+    """Copies a file. What was proved gets a second name instead: a check writes such a file anew, and never into it."""
+    if one.endswith(".oantt"):
+        try:
+            os.link(one, other)
+            return
+        except OSError:
+            # Two disks, for instance.
+            pass
+    shutil.copy2(one, other, follow_symlinks=False)
+
+
+def archives(crate, builds, tell):
+    """Proves a static library, and compiles it for each build side by side. `builds` has by name what rattle is told of a level or target.
+    Returns by name the path of the archive."""
+    kept, static = f"{PROVED}/{crate}", [*words_of(crate), "--crate-type", "staticlib"]
+
+    def compiled(name):
+        # A check writes into what it takes its proofs from, so each has its own.
+        room, made = f"{kept}.{name}", f"{kept}.{name}.a"
+        shutil.rmtree(room, ignore_errors=True)
+        shutil.copytree(kept, room, copy_function=linked)
+        how = [*proof("--incremental", room), "--toolchain", f"{kit()}/toolchain", "--backend", "llvm", *builds[name]]
+        called(crate, lambda *_: None, "rattle", "build", *static, *how, "-o", made)
+        shutil.rmtree(room)
+        return made
+
+    with alone():
+        for below in libraries(crate):
+            library(below, tell)
+        called(crate, tell, "rattle", "check", *static, *proof("--progress", "--incremental", kept))
+        with concurrent.futures.ThreadPoolExecutor(jobs()) as pool:
+            return dict(zip(builds, pool.map(compiled, builds)))
+
+
+@contextlib.contextmanager
+def made_once(crate, made):
+    """Tells whether a file or folder was made from these sources. If it was not, it is noted once the block made it."""
+    note, now, before = f"{PROVED}/{crate}.sum", sum_of(crate), None
+    if os.path.exists(note):
+        with open(note, encoding="ascii") as file:
+            before = file.read()
+        os.remove(note)
+    yield before == now and os.path.exists(made)
+    with open(note, "w", encoding="ascii") as file:
+        file.write(now)
+
+
+@contextlib.contextmanager
+def alone():
+    """Waits until no other call works in out/proved/."""
+    os.makedirs(PROVED, exist_ok=True)
+    with open(f"{PROVED}/lock", "w", encoding="ascii") as file:
+        fcntl.flock(file, fcntl.LOCK_EX)
+        yield
