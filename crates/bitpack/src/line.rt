@@ -19,7 +19,7 @@ use names::parse_packer;
 use std::alloc::Global;
 
 /// The packers that a line can name.
-#[derive(Clone, Copy, PartialEq, Eq, Debug)]
+#[derive(Clone, Copy)]
 pub(crate) enum PackerName {
     /// `1x`
     OneLane,
@@ -34,7 +34,7 @@ pub(crate) enum PackerName {
 }
 
 /// What a line asks of its packer.
-#[derive(Debug, Drop)]
+#[derive(Drop)]
 pub(crate) enum Command {
     /// `size`: how many bytes a block takes at a width.
     Size(u8),
@@ -55,7 +55,7 @@ pub(crate) enum Command {
 }
 
 /// A line that was parsed.
-#[derive(Debug, Drop)]
+#[derive(Drop)]
 pub(crate) struct Line {
     pub(crate) packer: PackerName,
     pub(crate) command: Command,

@@ -6,7 +6,7 @@ ghost use Rattle.bitpack.specs.declared.line.error.ParseError.TheVariants.{Memor
 use std::alloc::{AllocError, AllocFailed};
 
 /// Why parsing failed.
-#[derive(Clone, Copy, PartialEq, Eq, Debug)]
+#[derive(Clone, Copy)]
 pub(crate) enum ParseError {
     /// The string is not in the grammar.
     Spelling,

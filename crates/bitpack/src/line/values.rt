@@ -10,7 +10,7 @@ use super::numbers::{parse_count, parse_word};
 use std::alloc::Global;
 
 /// One value or a repeated one.
-#[derive(Clone, Copy, PartialEq, Eq, Debug)]
+#[derive(Clone, Copy)]
 pub(crate) enum Item {
     /// `5`
     Once(u32),
