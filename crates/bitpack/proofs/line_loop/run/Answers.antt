@@ -36,7 +36,7 @@ stopped-in_bytes g c =
     let rest = g.R.Read.remaining c.read.new.self in
     let before = g.W.Write.contents c.args.writer.now in
     stopped_by c.from_residual-in_err-handle_bytes.result c.in_err-handle_bytes.field-0.0 left rest before (g.W.Write.contents c.handle_bytes.new.writer) (input ++ more)
-      (search rules) (Consumes-trans left between rest input more consumed c.in-Ok.ensures.bytes.0) (c.in_err-handle_bytes.ensures.err before input so_far)
+    (search rules) (Consumes-trans left between rest input more consumed c.in-Ok.ensures.bytes.0) (c.in_err-handle_bytes.ensures.err before input so_far)
 
 pub returns-in_err-handle_bytes-clause-read : goal.returns-in_err-handle_bytes-clause-read
 returns-in_err-handle_bytes-clause-read g c = (stopped-in_bytes g c).read
@@ -65,7 +65,7 @@ stopped-in_last g c =
     let read = nothing_more left between rest input c.read.new.buf c.in-Ok.count consumed c.in-Ok.ensures.bytes.0 c.if-count-eq0.true in
     let kept = subst (AnsweredSoFar before (g.W.Write.contents c.loop.writer) c.loop.output input) (sym c.as_slice.ensures.value) so_far in
     stopped_by c.from_residual.result c.in_err-answer_last.field-0.0 left rest before (g.W.Write.contents c.answer_last.new.writer) input
-      (search rules) read (c.in_err-answer_last.ensures.err before input kept)
+    (search rules) read (c.in_err-answer_last.ensures.err before input kept)
 
 pub returns-in_err-answer_last-clause-read : goal.returns-in_err-answer_last-clause-read
 returns-in_err-answer_last-clause-read g c = (stopped-in_last g c).read
@@ -85,8 +85,7 @@ answered g c =
     let rest = g.R.Read.remaining c.read.new.self in
     let before = g.W.Write.contents c.args.writer.now in
     let last = g.W.Write.contents c.answer_last.new.writer in
-    let kept = subst (AnsweredSoFar before (g.W.Write.contents c.loop.writer) c.loop.output input) (sym c.as_slice.ensures.value) so_far in
-    (
+    let kept = subst (AnsweredSoFar before (g.W.Write.contents c.loop.writer) c.loop.output input) (sym c.as_slice.ensures.value) so_far in (
       input,
       nothing_more left between rest input c.read.new.buf c.in-Ok.count consumed c.in-Ok.ensures.bytes.0 c.if-count-eq0.true,
       c.in-Ok.ensures.bytes.1 c.if-count-eq0.true (search rules),
@@ -107,5 +106,5 @@ pub returns-then-count-eq0-clause-stopped : goal.returns-then-count-eq0-clause-s
 returns-then-count-eq0-clause-stopped g c =
     let (input, read, end, last) = answered g c in
     let stopped : AnswersInPart (g.R.Read.remaining c.args.reader.now) (g.R.Read.remaining c.read.new.self) (g.W.Write.contents c.args.writer.now) (g.W.Write.contents c.flush.new.writer) =
-      (input, read, part-all (g.W.Write.contents c.args.writer.now) (g.W.Write.contents c.flush.new.writer) (lines input) last) in
+    (input, read, part-all (g.W.Write.contents c.args.writer.now) (g.W.Write.contents c.flush.new.writer) (lines input) last) in
     IfErr-by _ _ _ stopped
