@@ -6,18 +6,18 @@
     rust/out/libbitpacking_vN.a                  the same for the crate in rust/, each name with the prefix vN_
     rust/out/TARGET/libbitpacking_c.a            for C and Rust on aarch64, which has one level
 
-It proves the crate `bitpacking_c` once, and the crates below it that are not proved in out/proved/ from these sources; each level and target
-takes that proof, and only compiles. In scripts/check, with --in-check, `rt lib` does that and keeps each proof in crates/. Then it looks at each archive: it exports the functions of the header and no other name,
-needs no other functions than memcpy, memmove and memset, and has neither data nor unwinding; the archive for all levels has one number of data, the
-level. Where no source changed since the last run nothing is built; `archives.py --anew` builds all the same. It needs rt, cc, ld and nm,
-objcopy, objdump and ar of binutils. The last line is 'N passed, M failed'.
+It proves the crate `bitpacking_c` once, and the crates below it that are not proved in out/proved/ from these sources. Each level and target
+takes that proof, and only compiles. In scripts/check, with --in-check, `rt lib` does so and keeps each proof in crates/.
+
+Then it looks at each archive: it exports the functions of the header and no other name, needs no other functions than memcpy, memmove and
+memset, and has neither data nor unwinding; the archive for all levels has one number of data, the level. If no source changed since the last
+run nothing is built; `archives.py --anew` builds all the same. It needs rt, cc, ld and nm, objcopy, objdump and ar of binutils. The last line
+is 'N passed, M failed'.
 """
-import glob
 import hashlib
 import os
 import re
 import shutil
-import subprocess
 import sys
 import time
 
@@ -26,7 +26,6 @@ import proving
 from common import ROOT, ended, left_out_without, missing, run, words
 
 OUT = f"{ROOT}/rust/out"
-CRATES = ["bitpacking_register", "bitpacking", "bitpack_lists", "bitpacking_c"]
 TOOLS = ["rt", "cc", "ld", "ar", "nm", "objcopy", "objdump"]
 LEVELS = levels.LEVELS
 ARM = "aarch64-unknown-linux-gnu"
@@ -39,13 +38,7 @@ TIME = """Proving and building the archives. From nothing, on an Intel Xeon at 2
 
 def sources():
     """Two numbers: one that changes with each source of what is proved and with the toolchain, and one with the choice of a level."""
-    found = hashlib.sha256(run("rt", "version").stdout.encode())
-    folders = [f"{ROOT}/crates/{crate}/[sp]*/**" for crate in CRATES]
-    for path in [f"{ROOT}/crates.txt"] + sorted(path for folder in folders for path in glob.glob(folder, recursive=True)):
-        if os.path.isfile(path):
-            with open(path, "rb") as file:
-                found.update(f"{os.path.relpath(path, ROOT)}\n".encode() + file.read())
-    return [found.hexdigest(), hashlib.sha256(levels.chooser().encode()).hexdigest()]
+    return [proving.sum_of("bitpacking_c"), hashlib.sha256(levels.chooser().encode()).hexdigest()]
 
 
 def archive(build):
@@ -57,10 +50,14 @@ class Shown:
     """Prints how many functions of a crate are proved, at most once in ten seconds, and each crate that is. Keeps the last lines of a check."""
 
     def __init__(self):
-        self.start, self.next, self.last = time.time(), 0, []
+        self.start, self.next, self.last, self.named = time.time(), 0, [], None
 
     def __call__(self, crate, line):
         self.last = [*self.last[-11:], line]
+        # rt names the crate that the next lines are about.
+        named = re.match(r"rt: chose --jobs \d+ for (\w+)", line)
+        self.named = named[1] if named else self.named
+        crate = self.named or crate
         counts = re.search(r"(\d+ of \d+)( functions checked)?$", line.strip())
         proved = re.match(r"logic=proved functions=(\d+)", line)
         if proved or counts and time.time() > self.next:
@@ -70,22 +67,7 @@ class Shown:
 
 def built_by_rt(build, tell):
     """Builds the archive for C of a level or target by `rt lib`, which keeps each proof for later checks. Returns its path."""
-    with subprocess.Popen(
-        ["rt", "lib", *BUILDS[build]],
-        cwd=f"{ROOT}/crates/bitpacking_c",
-        stdin=subprocess.DEVNULL,
-        stdout=subprocess.PIPE,
-        stderr=subprocess.STDOUT,
-        text=True,
-        errors="replace",
-    ) as ran:
-        crate = None
-        for line in ran.stdout:
-            named = re.match(r"rt: chose --jobs \d+ for (\w+)", line)
-            crate = named[1] if named else crate
-            tell(crate, line)
-    if ran.returncode != 0:
-        raise proving.Failed(f"rt lib {' '.join(BUILDS[build])} ended with status {ran.returncode}")
+    proving.called("bitpacking_c", tell, "rt", "lib", *BUILDS[build])
     return f"{ROOT}/crates/bitpacking_c/out/libbitpacking_c.a"
 
 

@@ -33,8 +33,8 @@ def main():
 
         try:
             proving.program("bitpack_main", tell)
-        except proving.Failed as why:
-            print(why, file=log)
+        except (proving.Failed, KeyboardInterrupt) as why:
+            print(str(why) or "interrupted", file=log)
             print(BACK, end="", file=sys.stderr)
             return 1
     return 0

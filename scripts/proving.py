@@ -7,6 +7,7 @@ proof, and nothing is kept but the libraries, in out/proved/. From nothing that 
 import concurrent.futures
 import contextlib
 import fcntl
+import functools
 import glob
 import hashlib
 import os
@@ -36,6 +37,7 @@ def libraries(crate):
     return list(dict.fromkeys(found))
 
 
+@functools.cache
 def kit():
     """The folder of the toolchain."""
     return os.path.dirname(run("rt", "doc").stdout.strip())
@@ -70,23 +72,21 @@ def words_of(crate):
 
 def called(crate, tell, *command):
     """Runs a command in the folder of a crate, and tells each line that it prints."""
-    with subprocess.Popen(
-        [f"{kit()}/bin/{command[0]}", *command[1:]],
-        cwd=f"{ROOT}/crates/{crate}",
-        stdin=subprocess.DEVNULL,
-        stdout=subprocess.PIPE,
-        stderr=subprocess.STDOUT,
-        text=True,
-        errors="replace",
-    ) as ran:
+    how = {"stdin": subprocess.DEVNULL, "stdout": subprocess.PIPE, "stderr": subprocess.STDOUT, "text": True, "errors": "replace"}
+    with subprocess.Popen(command, cwd=f"{ROOT}/crates/{crate}", **how) as ran:
         for line in ran.stdout:
             tell(crate, line)
     if ran.returncode != 0:
-        raise Failed(f"{command[0]} {command[1]} of {crate} ended with status {ran.returncode}")
+        raise Failed(f"{crate}: {os.path.basename(command[0])} {command[1]} ended with status {ran.returncode}")
+
+
+def rattle(crate, tell, verb, *words):
+    """Has rattle check or build a crate."""
+    called(crate, tell, f"{kit()}/bin/rattle", verb, *words_of(crate), *words)
 
 
 def proof(*words):
-    """What rattle is told beside that if it proves a crate over the built logic, and not after a proof."""
+    """What rattle is also told if it proves a crate, and does not take what was proved."""
     return ["--logic-built", f"{kit()}/logic_built", "--jobs", str(jobs()), *words]
 
 
@@ -98,8 +98,8 @@ def library(crate, tell):
             return
         for folder in [rlib, room]:
             shutil.rmtree(folder, ignore_errors=True)
-        called(crate, tell, "rattle", "check", *words_of(crate), *proof("--progress", "--statements", "-o", room))
-        called(crate, lambda *_: None, "rattle", "build", *words_of(crate), "--statements", "--crate-checked", room, "-o", rlib)
+        rattle(crate, tell, "check", *proof("--progress", "--statements", "-o", room))
+        rattle(crate, lambda *_: None, "build", "--statements", "--crate-checked", room, "-o", rlib)
         shutil.rmtree(room)
 
 
@@ -115,9 +115,9 @@ def program(crate, tell):
                 os.utime(made)
                 return
             by_llvm = ["--toolchain", f"{kit()}/toolchain", "--backend", "llvm"]
-            called(crate, tell, "rattle", "build", *words_of(crate), *proof(*by_llvm, "-o", f"{made}.o"))
+            rattle(crate, tell, "build", *proof(*by_llvm, "-o", f"{made}.o"))
             needs = [f"{made}.o", f"{kit()}/c/libos_c.a", f"{kit()}/c/liblibc_c.a"]
-            called(crate, tell, "rattle-link", "--target", "x86_64-unknown-linux-gnu", *by_llvm[:2], "-o", made, *needs)
+            called(crate, tell, f"{kit()}/bin/rattle-link", "--target", "x86_64-unknown-linux-gnu", *by_llvm[:2], "-o", made, *needs)
 
 
 def linked(one, other):
@@ -135,7 +135,7 @@ def linked(one, other):
 def archives(crate, builds, tell):
     """Proves a static library, and compiles it for each build side by side. `builds` has by name what rattle is told of a level or target.
     Returns by name the path of the archive."""
-    kept, static = f"{PROVED}/{crate}", [*words_of(crate), "--crate-type", "staticlib"]
+    kept, static = f"{PROVED}/{crate}", ["--crate-type", "staticlib"]
 
     def compiled(name):
         # A check writes into what it takes its proofs from, so each has its own.
@@ -143,14 +143,14 @@ def archives(crate, builds, tell):
         shutil.rmtree(room, ignore_errors=True)
         shutil.copytree(kept, room, copy_function=linked)
         how = [*proof("--incremental", room), "--toolchain", f"{kit()}/toolchain", "--backend", "llvm", *builds[name]]
-        called(crate, lambda *_: None, "rattle", "build", *static, *how, "-o", made)
+        rattle(crate, lambda *_: None, "build", *static, *how, "-o", made)
         shutil.rmtree(room)
         return made
 
     with alone():
         for below in libraries(crate):
             library(below, tell)
-        called(crate, tell, "rattle", "check", *static, *proof("--progress", "--incremental", kept))
+        rattle(crate, tell, "check", *static, *proof("--progress", "--incremental", kept))
         with concurrent.futures.ThreadPoolExecutor(jobs()) as pool:
             return dict(zip(builds, pool.map(compiled, builds)))
 
