@@ -44,10 +44,10 @@ impl ListKind {
 
 impl fmt::Display for ListKind {
     fn fmt<W: fmt::Write>(&self, f: &mut fmt::Formatter<W>) -> fmt::Result {
-        match self {
-            ListKind::Plain => write!(f, "plain"),
-            ListKind::Sorted => write!(f, "sorted"),
-            ListKind::StrictlySorted => write!(f, "strictly sorted"),
-        }
+        f.write_str(match self {
+            ListKind::Plain => "plain",
+            ListKind::Sorted => "sorted",
+            ListKind::StrictlySorted => "strictly sorted",
+        })
     }
 }
