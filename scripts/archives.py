@@ -32,8 +32,8 @@ ARM = "aarch64-unknown-linux-gnu"
 # The archives for C, by their folders in rust/out/, and what rt lib is told for each.
 BUILDS = {level: ["--cpu", level] for level in LEVELS.values()} | {ARM: ["--target", ARM]}
 ALL = "libbitpacking.a"
-TIME = """Proving and building the archives. From nothing, on an Intel Xeon at 2.50 GHz, three levels took 21 minutes of processor time and
-1.4 GB of memory: 16 minutes on four cores and 44 minutes on two, both busy with other checks. After a change only what changed is proved."""
+TIME = """Proving and building the archives. On four cores of an Intel Xeon at 2.50 GHz the crates below took seven minutes and a half, with another
+check running, and bitpacking_c with four archives 3 minutes 10 seconds. Crates that are proved in out/proved/ are not proved again."""
 
 
 def sources():
