@@ -1,7 +1,7 @@
 """Proves crates and compiles them with `rattle`, the compiler that `rt` calls.
 
 `rt lib` keeps each proof for later checks, and the crates above load all of them again. Here the crates above load what a library states and no
-proof, and nothing is kept but the libraries, in out/proved/. From nothing that takes a third less time. scripts/check proves all once more.
+proof, and nothing is kept but the libraries, in out/proved/. From nothing that takes 30 % less time. scripts/check proves all once more.
 """
 
 import concurrent.futures
