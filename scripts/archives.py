@@ -29,7 +29,7 @@ OUT = f"{ROOT}/rust/out"
 TOOLS = ["rt", "cc", "ld", "ar", "nm", "objcopy", "objdump"]
 LEVELS = levels.LEVELS
 ARM = "aarch64-unknown-linux-gnu"
-# The archives for C, by their folders in rust/out/, and what rt lib is told for each.
+# The archives for C, by their folders in rust/out/, and what rattle or rt lib is told for each.
 BUILDS = {level: ["--cpu", level] for level in LEVELS.values()} | {ARM: ["--target", ARM]}
 ALL = "libbitpacking.a"
 TIME = """Proving and building the archives. On four cores of an Intel Xeon at 2.50 GHz the crates below took less than eight minutes, with another
