@@ -47,13 +47,12 @@ def archive(build):
 
 
 class Shown:
-    """Prints how many functions of a crate are proved, at most once in ten seconds, and each crate that is. Keeps the last lines of a check."""
+    """Prints how many functions of a crate are proved, at most once in ten seconds, and each crate that is."""
 
     def __init__(self):
-        self.start, self.next, self.last, self.named = time.time(), 0, [], None
+        self.start, self.next, self.named = time.time(), 0, None
 
     def __call__(self, crate, line):
-        self.last = [*self.last[-11:], line]
         # rt names the crate that the next lines are about.
         named = re.match(r"rt: chose --jobs \d+ for (\w+)", line)
         self.named = named[1] if named else self.named
@@ -84,7 +83,7 @@ def proved_and_built(keep):
             os.makedirs(f"{OUT}/{build}", exist_ok=True)
             shutil.copyfile(built_by_rt(build, tell), archive(build))
     except proving.Failed as why:
-        print("".join(tell.last))
+        print(why.said)
         return str(why)
     print(f"built the archives for C, {time.time() - tell.start:.0f} s", flush=True)
     return None

@@ -34,7 +34,7 @@ def main():
         try:
             proving.program("bitpack_main", tell)
         except (proving.Failed, KeyboardInterrupt) as why:
-            print(str(why) or "interrupted", file=log)
+            print(getattr(why, "said", ""), str(why) or "interrupted", sep="", file=log)
             print(BACK, end="", file=sys.stderr)
             return 1
     return 0

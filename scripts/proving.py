@@ -4,6 +4,7 @@
 proof, and nothing is kept but the libraries, in out/proved/. From nothing that takes 30 % less time. scripts/check proves all once more.
 """
 
+import collections
 import concurrent.futures
 import contextlib
 import fcntl
@@ -23,7 +24,11 @@ EACH, MOST = 5 << 29, 8
 
 
 class Failed(Exception):
-    """A command of the toolchain failed."""
+    """A command of the toolchain failed. `said` has the last lines that it printed."""
+
+    def __init__(self, why, said):
+        super().__init__(why)
+        self.said = said
 
 
 def crates():
@@ -73,11 +78,13 @@ def words_of(crate):
 def called(crate, tell, *command):
     """Runs a command in the folder of a crate, and tells each line that it prints."""
     how = {"stdin": subprocess.DEVNULL, "stdout": subprocess.PIPE, "stderr": subprocess.STDOUT, "text": True, "errors": "replace"}
+    said = collections.deque(maxlen=12)
     with subprocess.Popen(command, cwd=f"{ROOT}/crates/{crate}", **how) as ran:
         for line in ran.stdout:
+            said.append(line)
             tell(crate, line)
     if ran.returncode != 0:
-        raise Failed(f"{crate}: {os.path.basename(command[0])} {command[1]} ended with status {ran.returncode}")
+        raise Failed(f"{crate}: {os.path.basename(command[0])} {command[1]} ended with status {ran.returncode}", "".join(said))
 
 
 def rattle(crate, tell, verb, *words):

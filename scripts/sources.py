@@ -8,8 +8,8 @@
   other calls have one body each, in the trait, which calls one of the three once; no packer has one of its own.
 - A packer of several lanes runs `Lanes` on the kernels for vectors and `Scalar` on those for arrays; `new` has `Lanes`, and `scalar`
   has `Scalar`.
-- Each kernel of `bitpacking` is named in its own places alone, so that one packer runs no kernel of another; those with an arm for each
-  width have one for each from 0 to 31.
+- Each kernel of `bitpacking` is named in its own places alone, so that one packer runs no kernel of another; each width from 0 to 31 has
+  code of its own.
 - The program's packers `4s` and `8s` are those that `scalar` gives; `bitpacking_c` names no `scalar`; `bitpack_lists` makes no packer but
   the one for groups, and else takes the one that it is given.
 - The Rust crate asks for the features of each level, has the functions of each level in its table, and those of the one level of another
@@ -36,15 +36,12 @@ COUNTED = ["pack_counted", "unpack_counted", "width_counted"]
 BY_CODES = ["pack_codes", "unpack_codes"]
 # The kernels of `bitpacking`: in which functions of which files each may be named, and nowhere else.
 KERNELS = {
-    "Rolled": {"bitpacker4x.rt": COUNTED, "bitpacker8x.rt": COUNTED, "dispatch/rolled.rt": BY_CODES},
-    "ByWidth": {"bitpacker4x.rt": COUNTED, "bitpacker8x.rt": COUNTED},
-    "Unrolled": {
-        "bitpacker1x.rt": COUNTED,
-        "dispatch/unrolled.rt": BY_CODES,
-        "kernel/unrolled.rt": ["pack_at_width", "unpack_at_width"],
-    },
-    "pack_at_width": {"dispatch/by_width.rt": ["pack_codes"]},
-    "unpack_at_width": {"dispatch/by_width.rt": ["unpack_codes"]},
+    "Rolled": {"bitpacker4x.rt": COUNTED, "bitpacker8x.rt": COUNTED},
+    "ByWidth": {f"bitpacker{lanes}x.rt": COUNTED for lanes in (1, 4, 8)},
+    "Unrolled": {"dispatch/by_width.rt": ["pack_at", "unpack_at"]},
+    "Widths": {"dispatch/by_width.rt": BY_CODES},
+    "pack_at": {"dispatch/by_width.rt": ["pack_codes"]},
+    "unpack_at": {"dispatch/by_width.rt": ["unpack_codes"]},
 }
 CALLS_OF_RUST = "rust/src/calls.rs"
 # What each level of x86-64 adds, by the processors' ABI, but for `lahf_lm` and `xsave`, for which Rust cannot ask.
@@ -195,18 +192,18 @@ def program():
 
 def kernels():
     for path, text in sources().items():
-        # Imports that give no other name, and the heads of structs, functions and impls, are left out.
-        heads = r"\buse\b(?![^;]*\bas\b)[^;]*;|\bstruct \w+;|\bfn \w*at_width\b|\bfor \w+ \{"
+        # Imports that give no other name, the heads of structs, functions and impls, and `Widths`, tested below, are left out.
+        heads = r"\buse\b(?![^;]*\bas\b)[^;]*;|\bstruct \w+;|\btype Widths = [^;]*;|\bfn \w+_at\b|\bfor \w+ \{"
         uses = re.sub(heads, lambda it: re.sub(r"[^\n]", " ", it[0]), text)
         for name, places in KERNELS.items():
             for found in re.finditer(rf"\b{name}\b", uses):
                 inside = (re.findall(r"\bfn (\w+)", text[: found.start()]) or [None])[-1]
                 if inside not in places.get(path.removeprefix(f"{SOURCES}/"), []):
                     yield f"{at(path, text, found.start())}: {inside} names {name}"
-    for path in ["dispatch/unrolled.rt", "dispatch/by_width.rt"]:
-        for name, body in zip(BY_CODES, code(f"{SOURCES}/{path}").split("fn unpack_codes")):
-            if re.findall(r"^ *(\d+) =>", body, re.M) != [str(width) for width in range(32)]:
-                yield f"{SOURCES}/{path}: {name} has no arm for each width"
+    path = f"{SOURCES}/dispatch/by_width.rt"
+    types = "\n".join(re.findall(r"^type [^;]*;", code(path), re.M))
+    if re.findall(r"\b\d+\b", types) != [str(width) for width in range(32)] or "= From0<From8<From16<From24<Rolled>>>>;" not in types:
+        yield f"{path}: Widths has not each width"
 
 
 def packers():

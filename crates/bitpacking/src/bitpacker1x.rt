@@ -3,7 +3,7 @@
 ghost use Rattle.std.proofs.Common.{lit≤, refl, rules};
 
 use crate::by_kind::{pack_kind, unpack_kind, width_kind};
-use crate::kernel::unrolled::Unrolled;
+use crate::dispatch::ByWidth;
 use crate::{BitPacker, Counted, Kind, Steps};
 
 /// Packs blocks of 32 values: the codes follow each other without gaps, from the lowest bit on.
@@ -68,7 +68,7 @@ impl Counted for BitPacker1x {
         num_bits: u8,
         steps: &mut Steps,
     ) -> usize {
-        pack_kind::<Unrolled, u32>(kind, decompressed, compressed, num_bits, steps)
+        pack_kind::<ByWidth, u32>(kind, decompressed, compressed, num_bits, steps)
     }
 
     #[inline(always)]
@@ -80,11 +80,11 @@ impl Counted for BitPacker1x {
         num_bits: u8,
         steps: &mut Steps,
     ) -> usize {
-        unpack_kind::<Unrolled, u32>(kind, compressed, decompressed, num_bits, steps)
+        unpack_kind::<ByWidth, u32>(kind, compressed, decompressed, num_bits, steps)
     }
 
     #[inline(always)]
     fn width_counted(&self, kind: Kind, decompressed: &[u32], steps: &mut Steps) -> u8 {
-        width_kind::<Unrolled, u32>(kind, decompressed, steps)
+        width_kind::<ByWidth, u32>(kind, decompressed, steps)
     }
 }

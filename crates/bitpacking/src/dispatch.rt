@@ -1,13 +1,12 @@
-//! From slices and a width to a kernel: one loop that takes the width, or loops in an arm for each width.
+//! From slices and a width to a kernel: one loop that takes the width, or code of its own for each width.
 
 ghost use Rattle.std.specs.Prelude.{◌+◌};
 ghost use Rattle.bitpacking.specs.Calls.{CanPackCodes, CanUnpack, MovesToPack};
 ghost use Rattle.bitpacking.specs.inner.Kernels.{PackedCodes, UnpackedCodes};
 ghost use Rattle.bitpacking.specs.Moves.{Moves};
 
+mod any_width;
 mod by_width;
-mod rolled;
-mod unrolled;
 
 use crate::kinds::sinks::Sink;
 use crate::kinds::transformers::Transformer;

@@ -2,7 +2,6 @@
 
 use crate::dispatch::ByWidth;
 use crate::kernel::rolled::Rolled;
-use crate::kernel::unrolled::Unrolled;
 use bitpacking_register::Register;
 use std::simd::prelude::*;
 
@@ -35,4 +34,4 @@ impl<R: Vector> RunsOn<R> for ByWidth {}
 
 impl<R: Array> RunsOn<R> for Rolled {}
 
-impl RunsOn<u32> for Unrolled {}
+impl RunsOn<u32> for ByWidth {}

@@ -1,10 +1,7 @@
-//! Four loops of eight rows each. The compiler unrolls them if it knows the width: as a value that is inlined, or as a const
-//! parameter.
+//! Four loops of eight rows each. The compiler unrolls them if it knows the width.
 
 ghost use Rattle.std.specs.Prelude.{◌≡◌, ℕ, ◌+◌, ◌*◌, List, length, drop};
-ghost use Rattle.bitpacking.specs.inner.Kernels.{KernelPacked, KernelUnpacked, NarrowCanPack, NarrowCanUnpack};
 ghost use Rattle.bitpacking.specs.Layout.{size};
-ghost use Rattle.bitpacking.specs.Moves.{Moves};
 ghost use Rattle.bitpacking.specs.inner.Partway.{
   PacksRows,
   RowsCanPack,
@@ -23,24 +20,6 @@ use bitpacking_register::Register;
 /// Four loops of eight rows each. They are short enough to be unrolled. If the compiler knows the width, each shift and index is then a
 /// constant.
 pub(crate) struct Unrolled;
-
-/// Packs a block of codes of fewer than 32 bits, the first of them after the value `start`, and returns the number of bytes
-/// written.
-#[inline(always)]
-pub(crate) fn pack_at_width<R: Register, T: Transformer<R>, const WIDTH: u32>(
-    source: &ValueSource<'_>,
-    target: &mut ByteTarget<'_>,
-    start: u32,
-    steps: &mut Steps,
-) -> usize
-    requires { NarrowCanPack R.LANES WIDTH source.now.bits source.now.words.now
-        (T.block_codes start source.now.words.now) target.old.bytes.now }
-    ensures packed { KernelPacked R.LANES WIDTH
-        (T.block_codes start source.now.words.now) target.old target.new result }
-    ensures counts { Moves steps.old steps.new 32 WIDTH (32 + WIDTH) }
-{
-    Unrolled::pack::<R, T>(source, target, start, WIDTH, steps)
-}
 
 impl Pack for Unrolled {
     #[inline(always)]
@@ -107,23 +86,6 @@ fn pack_rows<R: Register, T: Transformer<R>, const FROM: u32>(
         }
     }
     pending
-}
-
-/// Unpacks a block of codes of fewer than 32 bits, the first of them after the value `start`, and returns the number of bytes
-/// read.
-#[inline(always)]
-pub(crate) fn unpack_at_width<R: Register, S: Sink<R>, const WIDTH: u32>(
-    source: &ByteSource<'_>,
-    target: &mut ValueTarget<'_>,
-    start: u32,
-    steps: &mut Steps,
-) -> usize
-    requires { NarrowCanUnpack R.LANES WIDTH target.old.bits source.now.bytes.now target.old.words.now }
-    ensures unpacked { KernelUnpacked R.LANES WIDTH (S.block_values start) source.now.bytes.now
-        target.old target.new result }
-    ensures counts { Moves steps.old steps.new WIDTH 32 (32 + WIDTH) }
-{
-    Unrolled::unpack::<R, S>(source, target, start, WIDTH, steps)
 }
 
 impl Unpack for Unrolled {

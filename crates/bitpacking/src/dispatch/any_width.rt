@@ -1,16 +1,15 @@
-//! The one loop for the widths from 1 to 31. At width 0 no register is loaded to pack.
+//! Loops with the width as a value, for the widths from 1 to 31. At width 0 no register is loaded to pack.
 
 use crate::MAX_WIDTH;
 use crate::dispatch::Dispatch;
 use crate::kernel::full_width::{pack_32, unpack_32};
-use crate::kernel::rolled::Rolled;
 use crate::kernel::{Pack, Unpack};
 use crate::kinds::sinks::Sink;
 use crate::kinds::transformers::Transformer;
 use crate::memory::{ByteSource, ByteTarget, Steps, ValueSource, ValueTarget};
 use bitpacking_register::Register;
 
-impl Dispatch for Rolled {
+impl<K: Pack + Unpack> Dispatch for K {
     #[inline(always)]
     fn pack_codes<R: Register, T: Transformer<R>>(
         start: u32,
@@ -24,7 +23,7 @@ impl Dispatch for Rolled {
         match num_bits {
             0 => 0,
             MAX_WIDTH => pack_32::<R, T>(&source, &mut target, start, steps),
-            _ => Rolled::pack::<R, T>(&source, &mut target, start, num_bits as u32, steps),
+            _ => K::pack::<R, T>(&source, &mut target, start, num_bits as u32, steps),
         }
     }
 
@@ -39,7 +38,7 @@ impl Dispatch for Rolled {
         let source = ByteSource::new(compressed);
         let mut target = ValueTarget::new(decompressed, num_bits as u32);
         if num_bits < MAX_WIDTH {
-            Rolled::unpack::<R, S>(&source, &mut target, start, num_bits as u32, steps)
+            K::unpack::<R, S>(&source, &mut target, start, num_bits as u32, steps)
         } else {
             unpack_32::<R, S>(&source, &mut target, start, steps)
         }
