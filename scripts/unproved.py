@@ -2,7 +2,7 @@
 """Tries the wrong bodies and other edits of scripts/edits/: each must leave the functions that it names unproved, at the goals that
 it names, or the crate not compiling. scripts/changes.py has their form.
 
-A check takes up to 24 edits that change different functions, and names each function that it refuses. No function may be refused but
+A check takes up to 34 edits that change different functions, and names each function that it refuses. No function may be refused but
 those that an edit names. If a function waits for the proof of a callee that another edit changed, its edit is tried again in a
 later check, without that one. If a check ends without a verdict, such as for want of memory, its edits are tried again, fewer at once.
 Edits of a crate below take the longest, since that crate is then proved again, and so are first. What a caller does with less from the
@@ -33,7 +33,7 @@ from proving import linked
 
 COPIES = min(4, len(os.sched_getaffinity(0)))
 # How many edits a check takes at most: the more it takes, the more memory it needs, and the longer the others wait for it at the end.
-MOST = 24
+MOST = 34
 
 
 def apply(room, edit, kept):
