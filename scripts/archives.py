@@ -32,8 +32,8 @@ ARM = "aarch64-unknown-linux-gnu"
 # The archives for C, by their folders in rust/out/, and what rattle or rt lib is told for each.
 BUILDS = {level: ["--cpu", level] for level in LEVELS.values()} | {ARM: ["--target", ARM]}
 ALL = "libbitpacking.a"
-TIME = """Proving and building the archives. On four cores of an Intel Xeon at 2.50 GHz the crates below took less than eight minutes, with another
-check running, and bitpacking_c with four archives 3 minutes 10 seconds. Crates that are proved in out/proved/ are not proved again."""
+TIME = """Proving and building the archives. On four cores of an Intel Xeon at 2.50 GHz the crates below took 5 minutes 53 seconds, and bitpacking_c
+with four archives 3 minutes 10 seconds. Crates that are proved in out/proved/ are not proved again."""
 
 
 def sources():
