@@ -58,7 +58,7 @@ class Shown:
         self.named = named[1] if named else self.named
         crate = self.named or crate
         counts = re.search(r"(\d+ of \d+)( functions checked)?$", line.strip())
-        proved = re.match(r"logic=proved functions=(\d+)", line)
+        proved = re.match(r"logic=proved functions=(\d+)(?!.* crate-checked=)", line)
         if proved or counts and time.time() > self.next:
             self.next = time.time() + 10
             print(f"{crate}: {proved[1] if proved else counts[1]} functions proved, {time.time() - self.start:.0f} s", flush=True)

@@ -15,7 +15,8 @@ BACK = "\r\033[K" if sys.stderr.isatty() else ""
 def shown(crate, line):
     """Shows what a line of a check says of a crate."""
     done = re.match(r"checked \S+, (\d+ of \d+)$", line)
-    proved = re.match(r"logic=proved functions=(\d+)", line)
+    # Not a verdict that is repeated as the library is written.
+    proved = re.match(r"logic=proved functions=(\d+)(?!.* crate-checked=)", line)
     if done and BACK:
         print(f"{BACK}bitpack: proving {crate}, {done[1]} functions", end="", file=sys.stderr, flush=True)
     if proved:
@@ -34,7 +35,7 @@ def main():
         try:
             proving.program("bitpack_main", tell)
         except (proving.Failed, KeyboardInterrupt) as why:
-            print(getattr(why, "said", ""), str(why) or "interrupted", sep="", file=log)
+            print(str(why) or "interrupted", file=log)
             print(BACK, end="", file=sys.stderr)
             return 1
     return 0

@@ -106,7 +106,7 @@ def library(crate, tell):
         for folder in [rlib, room]:
             shutil.rmtree(folder, ignore_errors=True)
         rattle(crate, tell, "check", *proof("--progress", "--statements", "-o", room))
-        rattle(crate, lambda *_: None, "build", "--statements", "--crate-checked", room, "-o", rlib)
+        rattle(crate, tell, "build", "--statements", "--crate-checked", room, "-o", rlib)
         shutil.rmtree(room)
 
 

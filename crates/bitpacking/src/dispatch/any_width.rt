@@ -1,4 +1,4 @@
-//! Loops with the width as a value, for the widths from 1 to 31. At width 0 no register is loaded to pack.
+//! From a width to loops: the loops for width 32, or the loops for fewer bits. At width 0 no register is loaded to pack.
 
 use crate::MAX_WIDTH;
 use crate::dispatch::Dispatch;

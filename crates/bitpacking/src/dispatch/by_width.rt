@@ -27,12 +27,13 @@ type From16<Other> = AtWidths<16, 17, 18, 19, AtWidths<20, 21, 22, 23, Other>>;
 
 type From24<Other> = AtWidths<24, 25, 26, 27, AtWidths<28, 29, 30, 31, Other>>;
 
-// Any more levels of `AtWidths` would take long to prove: their statements grow as a power of two.
+// What is stated of a call doubles with each level of `AtWidths`: eight take no time to prove, sixteen a minute.
 type Widths = From0<From8<From16<From24<Rolled>>>>;
 
 /// The unrolled loops at each width from 0 to 31, each in code of its own. The compiler turns the tests of the width into one jump.
 pub(crate) struct ByWidth;
 
+// Not inlined: a caller with all this code saves registers before each call.
 impl Dispatch for ByWidth {
     #[inline(never)]
     fn pack_codes<R: Register, T: Transformer<R>>(
@@ -102,7 +103,8 @@ impl<const A: u8, const B: u8, const C: u8, const D: u8, Other: Dispatch> Dispat
     }
 }
 
-// Packs the codes of a block by the unrolled loops, at a width that the compiler knows.
+// Packs the codes of a block by the unrolled loops, at a width that the compiler knows. Without `inline(always)`: with it
+// the calls above grow so large that the compiler ignores theirs, and chains of calls are left.
 fn pack_at<R: Register, T: Transformer<R>, const WIDTH: u8>(
     start: u32,
     decompressed: &[u32],
