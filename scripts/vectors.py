@@ -148,6 +148,22 @@ def rule_checks(names):
         yield f"the codes of block {row['packer']} {row['kind']} {row['width']}", found, right
 
 
+def by_parquet(width, values):
+    """Values as Parquet packs them in a bit-packed run: the bits of each from the lowest on, from the lowest bit of each byte on."""
+    bits = [value >> j & 1 for value in values for j in range(width)]
+    return bytes(sum(bit << j for j, bit in enumerate(bits[at : at + 8])) for at in range(0, len(bits), 8))
+
+
+def parquet_checks(names):
+    """Plain blocks of one lane are what Parquet packs. The first bytes are the example of its specification."""
+    yield "0 to 7 by Parquet", by_parquet(3, range(8)), bytes.fromhex("88c6fa")
+    for row in table("blocks.tsv"):
+        if (row["packer"], row["kind"]) == ("1x", "plain"):
+            width, values = int(row["width"]), numbers(row["values"])
+            yield f"block 1x {width} by Parquet", by_parquet(width, values), octets(row["bytes"])
+            yield f"block 1x {width} by the page", names["body_of"](1, width, values), by_parquet(width, values)
+
+
 def caught(text, first):
     """Whether some vector fails with this implementation, or ends it; the vectors of one kind are tried first."""
     names = names_of(text)
@@ -245,7 +261,7 @@ def programs():
 def groups(asked):
     """The checks of each reader of the vectors, with its name."""
     names = names_of(model())
-    found = [it for checks in [*CHECKS.values(), rule_checks] for it in checks(names)]
+    found = [it for checks in [*CHECKS.values(), rule_checks, parquet_checks] for it in checks(names)]
     yield "the decoders of docs/FORMAT.md and vectors/model.py", found
     yield "wrong implementations", mistake_checks()
     for program in asked:
