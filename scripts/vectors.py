@@ -237,8 +237,30 @@ def query_lines():
                 yield f"seek {packer} 0 {row['bytes']}", "refused 23"
 
 
+def written_out(text, note):
+    """A line or an answer of docs/LINES.md, with what `..` stands for: as many letters as the note says, the numbers between, or one
+    number in the whole block."""
+    if text == "aaa..a":
+        return "a" * int(note.split()[0].replace(",", ""))
+    if found := re.fullmatch(r"(?:(\d+),)+\.\.,\1", text):
+        return ",".join([found[1]] * 32)
+    return re.sub(r"(\d+),\.\.,(\d+)", lambda it: ",".join(map(str, range(int(it[1]), int(it[2]) + 1))), text)
+
+
+def page_lines():
+    """The lines to try of docs/LINES.md. Their columns are at least four spaces apart; an empty line has a note alone."""
+    shown = source("docs/LINES.md").split("## Lines to try\n")[1].split("\n## ")[0]
+    answered, refused = (re.findall(r"^    (.*)$", part, re.M) for part in shown.split("Refused lines"))
+    for line in answered:
+        asked, answer = re.split(r" {4,}", line)[:2]
+        yield written_out(asked, ""), written_out(answer, "")
+    for line in refused:
+        asked, *notes = re.split(r" {4,}", line[6:])
+        yield written_out(asked, "".join(notes)), f"refused {line[:6].strip()}"
+
+
 def program_checks(program):
-    asked = [*block_lines(), *list_lines(), *query_lines()]
+    asked = [*block_lines(), *list_lines(), *query_lines(), *page_lines()]
     text = "".join(f"{line}\n" for line, _ in asked)
     ran = subprocess.run(program, input=text, stdout=subprocess.PIPE, encoding="ascii", errors="replace")
     answers = ran.stdout.split("\n")

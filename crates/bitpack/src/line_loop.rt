@@ -96,9 +96,9 @@ fn answer_last<W: Write>(
 
 /// Reads lines to the end of input and writes one answer for each; then flushes, once.
 ///
-/// Before it reads again, the answer to each line that has ended is written. Nothing is retried: the first read, write or
-/// allocation that fails ends the run, and after a failure nothing is flushed. A reader that gives more after `u64::MAX`
-/// reads counts as failed. At most 65,537 bytes of a line are kept in memory, whatever the input.
+/// Before it reads again, the answer to each line that has ended is written. The first read or write that fails ends the run,
+/// and so does an allocation; only the one for the fields of a line is tried twice. After a failure nothing is flushed. A reader
+/// that gives more after `u64::MAX` reads counts as failed. At most 65,537 bytes of a line are kept in memory, whatever the input.
 pub fn run<R: Read, W: Write>(alloc: Global, reader: &mut R, writer: &mut W) -> Result<(), RunError>
     // The reader gave an input to its end, and all its lines were answered.
     ensures ok { OnOk result
