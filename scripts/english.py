@@ -1,8 +1,8 @@
 #!/usr/bin/env python3
-"""Looks for phrases that make a text hard to read: in the pages, in the comments that users read, and in the texts of errors.
+"""Looks for phrases that make a text hard to read: in the pages, in comments, and in the texts of errors.
 
 - The pages: README, CONTRIBUTING, CHANGELOG, docs/ and the README of each example, without fenced and indented blocks.
-- The comments: `///` and `//!` of the crates and of the Rust crate, the comments of the headers, and `--` of the definitions.
+- The comments: `//`, `///` and `//!` of the crates and of the Rust crate, the comments of the headers, and `--` of the definitions.
 - The texts: what is between quotes in the crates, the Rust crate and the headers, without tests.
 
 What a code span has does not count. `PATTERNS` has the phrases. A comment that begins with `The same` leaves the reader to find out as what.
@@ -56,9 +56,11 @@ TRIED = [
     ("a.md", "The bytes stay where they are. This says where it begins, and where the tail ends.", []),
     ("a.md", "## Where expected values come from", []),
     ("a.md", "The code `so many`.\n\n```\nso many\n```\n\n    so many\n", []),
-    ("a.rt", "/// The same as `f`,\n/// for so many.\nfn g() {} // that of f", ["The same", "so many"]),
+    ("a.rt", "/// The same as `f`,\n/// for so many.\nfn g() {}", ["The same", "so many"]),
+    ("a.rt", "    // The same\n    f(); // for those of g", ["The same", "those of"]),
     ("a.rt", 'write(out, "a width above that of f")', ["that of"]),
-    ("a.rt", 'let that_of = ["of", "which"]; // of which', []),
+    ("a.rt", 'let that_of = ["of", "which", "https://that of"];', []),
+    ("a.rs", 'let a = 1; // of which\n', ["of which"]),
     ("a.h", "/* Writes so\n * many. */\nint f(void); /* The same for g. */", ["The same", "so many"]),
     ("a.antt", "-- ---- the same for a list\n-- the values of so many\nso many = 0 -- those of f", ["The same", "so many", "those of"]),
 ]
@@ -101,7 +103,7 @@ def comments_of(path, text):
             first = text.count("\n", 0, found.start()) + 1
             yield [(first + at, re.sub(r"^\s*\* ?", "", line).lstrip("*")) for at, line in enumerate(found[1].lstrip().split("\n"))]
         return
-    mark = r"(?:^|\s)--(?:\s+-{2,})?(?:\s(.*)|$)" if path.endswith(".antt") else r"^\s*//[/!](?: (.*)|$)"
+    mark = r"(?:^|\s)--(?:\s+-{2,})?(?:\s(.*)|$)" if path.endswith(".antt") else r"(?:^|\s)//[/!]?(?:\s(.*)|$)"
     comment = []
     for number, line in enumerate([*text.split("\n"), ""], 1):
         found = re.search(mark, line)

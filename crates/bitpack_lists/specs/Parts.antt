@@ -1,4 +1,4 @@
--- What packed lists of both versions are made of: the header, whole blocks and the tail after them.
+-- What packed lists are made of: the header of versions 1 and 2, whole blocks and the tail after them.
 use Rattle.std.specs.Prelude.{◌≡◌, ℕ, zero, suc, ◌-◌, ◌*◌, ◌/◌, ◌%◌, ◌^◌, ◌≤◌, Bool, not, ◌&&◌, ◌==◌, nat_lt, if◌then◌else◌, List, [], ◌∷◌, length, take, drop, slice_index, Option, Some, None, Result, Ok, Err}
 use Rattle.std.specs.List.{list_all}
 use Rattle.bitpacking.specs.declared.kind.Kind.{Kind}

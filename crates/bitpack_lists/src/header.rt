@@ -1,4 +1,4 @@
-//! The seven bytes before the blocks of a packed list, in both versions: version, kind, lanes, and the count of values.
+//! The seven bytes before the blocks of a packed list of version 1 or 2: version, kind, lanes, and the count of values.
 
 ghost use Rattle.std.specs.Prelude.{◌≡◌, ◌+◌, ◌^◌, ◌≤◌, ◌<◌, OnOk, IfOk, length, vec_len, vec_capacity};
 ghost use Rattle.bitpack_lists.specs.inner.Appending.{HasAppended};

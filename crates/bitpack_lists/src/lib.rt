@@ -1,8 +1,8 @@
 //! Chains of packed blocks, and packed lists.
 //!
 //! [`chain`] packs many blocks of one kind end to end. [`list`] writes a list of any length as one text, and reads untrusted
-//! texts. [`list2`] does so for lists in order, whose texts are read in place. The texts of [`list3`] are shorter for short lists, and are
-//! read in the same way. [`sorted`] combines cursors over them.
+//! texts. [`list2`] writes lists that are read in place, by search or by position, and reads them. The texts of [`list3`] are shorter for
+//! short lists, and [`list2`] reads them too. [`sorted`] combines cursors over both.
 //!
 //! The crate `bitpack` gives these names again. The tests of chains are in `bitpack_main`, tests of lists in `bitpack_uses`.
 #![tactic(auto)]

@@ -33,12 +33,12 @@ pub fn encode<P: BitPacker>(
     // What is appended is the text of the values.
     ensures ok { OnOk result ((text : List ℕ) × AreBytes text × List2 P.lanes kind values.now text
         × (out.new.items ≡ out.old.items ++ text)) }
-    // Too many values are refused as such, values out of order at the first that is, and others only where memory runs out.
+    // Too many values are refused as such, values out of order at the first that is, and others only if memory runs out.
     ensures long { 2 ^ 28 < length values.now → result ≡ Err (ListError.TooLong (length values.now)) }
     ensures order { length values.now ≤ 2 ^ 28
         → MatchOption (first_out kind values.now) (IfErr result (λ e. e ≡ ListError.Memory))
         (λ position. result ≡ Err (ListError.NotSorted position)) }
-    // Memory runs out only where the vector has no room for the text.
+    // Memory runs out only if the vector has no room for the text.
     ensures room { length values.now ≤ 2 ^ 28 → first_out kind values.now ≡ None
         → OnErr result ((text : List ℕ) → List2 P.lanes kind values.now text
         → vec_capacity out.old < vec_len out.old + length text) }

@@ -38,6 +38,7 @@ impl<'a, P: BitPacker> PackedList<'a, P> {
         }
         Ok(list)
     }
+
     /// Opens a text of version 2 or 3 as [`PackedList::open_any`] does, if its list is of this kind.
     ///
     /// Accepts any bytes, and allocates nothing. A list of another kind is refused with `WrongKind`, after all other faults.

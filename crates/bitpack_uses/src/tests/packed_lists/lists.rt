@@ -146,7 +146,7 @@ fn refusals_of_1x(rt: HostRuntime) {
             &[1, 0, 1, 0x40, 0, 0, 0, 0, 0x21],
             ListError::BadWidth(1, 33),
         ),
-        // The first fault in the order of docs/FORMAT.md, where there are several.
+        // If there are several faults, the first in the order of docs/FORMAT.md.
         (&[], ListError::Short),
         (&[2, 3, 4, 1, 0, 0, 0x10], ListError::BadVersion(2)),
         (&[1, 3, 4, 1, 0, 0, 0x10], ListError::BadKind(3)),
