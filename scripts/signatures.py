@@ -1,8 +1,8 @@
 #!/usr/bin/env python3
 """Compares the types and the names of what the functions for C take: those of crates/bitpacking_c with those that include/bitpacking.h
 declares, and with those by which rust/src/calls.rs calls them. A slice `x` is a pointer `x` and a length `x_len`. The fields of
-`bitpacking_list` are compared with those of `ListView` too, and the limits of blocks with those of crates/bitpacking. The header is read
-as it is written: it has to name each function in a prototype, which no macro makes.
+`bitpacking_list` and `bitpacking_cursor` are compared with `ListView` and `ListCursor` too, and the limits of blocks with those of
+crates/bitpacking. The header is read as it is written: it has to name each function in a prototype, which no macro makes.
 
 Then the wrong changes of scripts/edits/signatures/ are tried, as scripts/changes.py says. The last line is 'N passed, M failed',
 one for the header, one for its limits, one for the calls and one for each of these.
