@@ -60,7 +60,7 @@ TRIED = [
     ("a.rt", "    // The same\n    f(); // for those of g", ["The same", "those of"]),
     ("a.rt", 'write(out, "a width above that of f")', ["that of"]),
     ("a.rt", 'let that_of = ["of", "which", "https://that of"];', []),
-    ("a.rs", 'let a = 1; // of which\n', ["of which"]),
+    ("a.rs", "let a = 1; // of which\n", ["of which"]),
     ("a.h", "/* Writes so\n * many. */\nint f(void); /* The same for g. */", ["The same", "so many"]),
     ("a.antt", "-- ---- the same for a list\n-- the values of so many\nso many = 0 -- those of f", ["The same", "so many", "those of"]),
 ]
