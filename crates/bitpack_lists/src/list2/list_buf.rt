@@ -12,9 +12,11 @@ use std::alloc::Global;
 
 /// A packed list that owns its text of version 2 or 3, which was tested once.
 ///
-/// ```text
-/// let list = ListBuf::open(BitPacker1x::new(), bytes)?;    // bytes is a Vec<u8>
-/// list.as_list().get(0)                                    // Some(5), if the list is 5, 7, 9
+/// <!-- crates/bitpack_uses/src/tests/doc_examples.rt -->
+/// ```rust
+/// // `bytes` is the `Vec<u8>` of the sorted list 3, 5, 9, 12.
+/// let list = ListBuf::open(BitPacker1x::new(), bytes).expect(&rt, "a list");
+/// assert_eq!(rt; list.as_list().get(3), Some(12));
 /// ```
 #[derive(Drop)]
 pub struct ListBuf<P: BitPacker> {

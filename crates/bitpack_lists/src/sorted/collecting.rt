@@ -24,9 +24,12 @@ pub fn collect_into<C: SortedCursor>(cursor: &mut C, out: &mut Vec<u32>) -> Resu
 ///
 /// The cursor moves past these values. The rest of the slice stays as it was.
 ///
-/// ```text
+/// <!-- crates/bitpack_uses/src/tests/doc_examples.rt -->
+/// ```rust
+/// let mut cursor = IncreasingSlice::new(&[2, 3, 5, 7]);
 /// let mut page = [0; 3];
-/// collect_to(&mut cursor, &mut page)      // 3, if the cursor is at 2, 3, 5, 7; then it is at 7
+/// assert_eq!(rt; (collect_to(&mut cursor, &mut page), page), (3, [2, 3, 5]));
+/// assert_eq!(rt; cursor.value(), Some(7));
 /// ```
 pub fn collect_to<C: SortedCursor>(cursor: &mut C, out: &mut [u32]) -> usize
     ensures all { take result out.new ++ C.rest cursor.new ≡ C.rest cursor.old }

@@ -18,10 +18,11 @@ use super::uniting::{Place, unite_at_hand};
 /// The values increase. What is after those that are kept is of no use. Values and cursor seek each other, as in [`super::And`],
 /// so either may be much longer than the other. Allocates nothing.
 ///
-/// ```text
+/// <!-- crates/bitpack_uses/src/tests/doc_examples.rt -->
+/// ```rust
 /// let mut ids = [3, 5, 9, 12];
-/// let kept = intersect_in_place(&mut ids, &mut cursor);        // at 5, 7, 12
-/// ids[..kept]                                                  // 5, 12
+/// let kept = intersect_in_place(&mut ids, &mut IncreasingSlice::new(&[5, 7, 12]));
+/// assert_eq!(rt; ids[..kept], [5, 12][..]);
 /// ```
 pub fn intersect_in_place<C: SortedCursor>(values: &mut [u32], cursor: &mut C) -> usize
     requires { IsStrictlyIncreasing values.old }
@@ -41,10 +42,11 @@ pub fn intersect_in_place<C: SortedCursor>(values: &mut [u32], cursor: &mut C) -
 ///
 /// The values increase. What is after those that are kept is of no use. The cursor seeks each value. Allocates nothing.
 ///
-/// ```text
+/// <!-- crates/bitpack_uses/src/tests/doc_examples.rt -->
+/// ```rust
 /// let mut ids = [3, 5, 9, 12];
-/// let kept = subtract_in_place(&mut ids, &mut cursor);         // at 5, 7, 12
-/// ids[..kept]                                                  // 3, 9
+/// let kept = subtract_in_place(&mut ids, &mut IncreasingSlice::new(&[5, 7, 12]));
+/// assert_eq!(rt; ids[..kept], [3, 9][..]);
 /// ```
 pub fn subtract_in_place<C: SortedCursor>(values: &mut [u32], cursor: &mut C) -> usize
     requires { IsStrictlyIncreasing values.old }
@@ -67,10 +69,11 @@ pub fn subtract_in_place<C: SortedCursor>(values: &mut [u32], cursor: &mut C) ->
 /// The slice needs room for all: as many values as the cursor has left, after the first `count`. What is after the values that are
 /// returned is of no use. The cursor moves to its end. Allocates nothing.
 ///
-/// ```text
+/// <!-- crates/bitpack_uses/src/tests/doc_examples.rt -->
+/// ```rust
 /// let mut ids = [3, 5, 9, 0, 0];
-/// let all = unite_in_place(&mut ids, 3, &mut cursor);          // at 5, 7
-/// ids[..all]                                                   // 3, 5, 7, 9
+/// let all = unite_in_place(&mut ids, 3, &mut IncreasingSlice::new(&[5, 7]));
+/// assert_eq!(rt; ids[..all], [3, 5, 7, 9][..]);
 /// ```
 pub fn unite_in_place<C: SortedCursor>(values: &mut [u32], count: usize, cursor: &mut C) -> usize
     requires increasing { IsStrictlyIncreasing (take count values.old) }

@@ -6,10 +6,14 @@ use super::sorted_cursor::SortedCursor;
 
 /// An iterator over the values that a sorted cursor has left, in increasing order and each once.
 ///
-/// ```text
+/// <!-- crates/bitpack_uses/src/tests/doc_examples.rt -->
+/// ```rust
+/// let a = IncreasingSlice::new(&[3, 5, 9]);
+/// let b = IncreasingSlice::new(&[5, 9]);
 /// for id in Values::new(And::new(a, b)) {
-///     ..                                   // each id that both cursors have
+///     found.push(id).expect(&rt, "memory");
 /// }
+/// assert_eq!(rt; found[..], [5, 9][..]);
 /// ```
 #[derive(Drop)]
 pub struct Values<C: SortedCursor> {

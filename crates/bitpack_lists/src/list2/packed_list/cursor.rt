@@ -14,11 +14,15 @@ use bitpacking::{BitPacker, Kind};
 ///
 /// However it is moved, it unpacks each block of the list at most once. It is an iterator over the values from its place on.
 ///
-/// ```text
-/// let mut cursor = list.cursor();              // of 3, 5, 9, 12
-/// cursor.value()                               // Some(3)
-/// cursor.seek(6);  cursor.value()              // Some(9), if the list is sorted
-/// cursor.advance();  cursor.position()         // 3
+/// <!-- crates/bitpack_uses/src/tests/doc_examples.rt -->
+/// ```rust
+/// // `list` is sorted: 3, 5, 9, 12.
+/// let mut cursor = list.cursor();
+/// assert_eq!(rt; cursor.value(), Some(3));
+/// cursor.advance();
+/// assert_eq!(rt; cursor.value(), Some(5));
+/// cursor.skip_block();
+/// assert_eq!(rt; (cursor.position(), cursor.value()), (4, None));
 /// ```
 #[derive(Drop)]
 pub struct Cursor<'a, P: BitPacker> {
@@ -290,11 +294,14 @@ impl<'a, P: BitPacker> Cursor<'a, P> {
 
 /// The values from the place of the cursor on, in order. A value that the list repeats comes as often as it is there.
 ///
-/// ```text
+/// <!-- crates/bitpack_uses/src/tests/doc_examples.rt -->
+/// ```rust
+/// // `list` is 3, 5, 9, 12.
 /// let mut sum = 0u64;
-/// for value in list.cursor() {             // of 3, 5, 9, 12
-///     sum += value as u64;                 // 29 at the end
+/// for value in list.cursor() {
+///     sum = sum.wrapping_add(value as u64);
 /// }
+/// assert_eq!(rt; sum, 29);
 /// ```
 impl<'a, P: BitPacker> Iterator for Cursor<'a, P> {
     ghost use Rattle.std.specs.Iterator.{YieldsFirst, item_count};
@@ -325,8 +332,10 @@ const NEAR: usize = 8;
 /// The first index from one on whose value is at least the target, or the count of values. Tries the nearest one by one, then
 /// values at growing distances, and then halves.
 ///
-/// ```text
-/// first_from(&[3, 5, 9, 12], 1, 6)             // 2
+/// <!-- crates/bitpack_uses/src/tests/doc_examples.rt -->
+/// ```rust
+/// // From position 1 on, 9 is the first value that is at least 6.
+/// assert_eq!(rt; first_from(&[3, 5, 9, 12], 1, 6), 2);
 /// ```
 #[inline(always)]
 pub fn first_from(values: &[u32], from: usize, target: u32) -> usize

@@ -1,0 +1,90 @@
+//! The examples of doc comments of `bitpack_lists`, which have these lines.
+
+use bitpack::list2::{ListBuf, PackedList, first_from};
+use bitpack::sorted::{
+    And, IncreasingSlice, SortedCursor, Values, collect_to, intersect_in_place, subtract_in_place,
+    unite_in_place,
+};
+use bitpacking::{BitPacker, BitPacker1x};
+
+/// Sorted 3, 5, 9, 12, in one lane.
+const LIST: [u8; 23] = [
+    2, 1, 1, 4, 0, 0, 0, 3, 0, 0, 0, 5, 0, 0, 0, 9, 0, 0, 0, 12, 0, 0, 0,
+];
+
+#[test]
+fn owned_list(rt: HostRuntime) {
+    let bytes = Vec::from_array(rt.alloc(), LIST).expect(&rt, "memory");
+    // `bytes` is the `Vec<u8>` of the sorted list 3, 5, 9, 12.
+    let list = ListBuf::open(BitPacker1x::new(), bytes).expect(&rt, "a list");
+    assert_eq!(rt; list.as_list().get(3), Some(12));
+}
+
+#[test]
+fn moves_of_a_cursor(rt: HostRuntime) {
+    let list = PackedList::open(BitPacker1x::new(), &LIST).expect(&rt, "a list");
+    // `list` is sorted: 3, 5, 9, 12.
+    let mut cursor = list.cursor();
+    assert_eq!(rt; cursor.value(), Some(3));
+    cursor.advance();
+    assert_eq!(rt; cursor.value(), Some(5));
+    cursor.skip_block();
+    assert_eq!(rt; (cursor.position(), cursor.value()), (4, None));
+}
+
+#[test]
+fn values_of_a_cursor(rt: HostRuntime) {
+    let list = PackedList::open(BitPacker1x::new(), &LIST).expect(&rt, "a list");
+    // `list` is 3, 5, 9, 12.
+    let mut sum = 0u64;
+    for value in list.cursor() {
+        sum = sum.wrapping_add(value as u64);
+    }
+    assert_eq!(rt; sum, 29);
+}
+
+#[test]
+fn values_of_two_cursors(rt: HostRuntime) {
+    let mut found = Vec::new(rt.alloc());
+    let a = IncreasingSlice::new(&[3, 5, 9]);
+    let b = IncreasingSlice::new(&[5, 9]);
+    for id in Values::new(And::new(a, b)) {
+        found.push(id).expect(&rt, "memory");
+    }
+    assert_eq!(rt; found[..], [5, 9][..]);
+}
+
+#[test]
+fn first_value_from_a_position(rt: HostRuntime) {
+    // From position 1 on, 9 is the first value that is at least 6.
+    assert_eq!(rt; first_from(&[3, 5, 9, 12], 1, 6), 2);
+}
+
+#[test]
+fn values_in_pages(rt: HostRuntime) {
+    let mut cursor = IncreasingSlice::new(&[2, 3, 5, 7]);
+    let mut page = [0; 3];
+    assert_eq!(rt; (collect_to(&mut cursor, &mut page), page), (3, [2, 3, 5]));
+    assert_eq!(rt; cursor.value(), Some(7));
+}
+
+#[test]
+fn values_in_both(rt: HostRuntime) {
+    let mut ids = [3, 5, 9, 12];
+    let kept = intersect_in_place(&mut ids, &mut IncreasingSlice::new(&[5, 7, 12]));
+    assert_eq!(rt; ids[..kept], [5, 12][..]);
+}
+
+#[test]
+fn values_only_in_the_slice(rt: HostRuntime) {
+    let mut ids = [3, 5, 9, 12];
+    let kept = subtract_in_place(&mut ids, &mut IncreasingSlice::new(&[5, 7, 12]));
+    assert_eq!(rt; ids[..kept], [3, 9][..]);
+}
+
+#[test]
+fn values_in_either(rt: HostRuntime) {
+    let mut ids = [3, 5, 9, 0, 0];
+    let all = unite_in_place(&mut ids, 3, &mut IncreasingSlice::new(&[5, 7]));
+    assert_eq!(rt; ids[..all], [3, 5, 7, 9][..]);
+}
