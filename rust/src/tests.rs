@@ -1,6 +1,7 @@
 //! Every block of `vectors/` at each level that this processor has, with canaries around the buffers; each panic; two threads; little stack.
 
 mod chains;
+mod counts;
 mod layouts;
 #[cfg(target_arch = "x86_64")]
 mod levels;

@@ -83,6 +83,38 @@ pub(crate) fn layouts() -> [Layout; 2] {
     ]
 }
 
+/// What the calls of this thread did since a test asked last.
+#[cfg(test)]
+#[derive(Clone, PartialEq, Eq, Debug, Default)]
+pub(crate) struct Done {
+    /// How many calls unpacked values from a position on, and how many all values.
+    pub(crate) ranges: usize,
+    pub(crate) unpacked: usize,
+    /// How many moves of cursors were calls.
+    pub(crate) moves: usize,
+    /// The lengths of the lists that were last combined, in their order, and the room for the result.
+    pub(crate) combined: (Vec<usize>, usize),
+}
+
+#[cfg(test)]
+thread_local! {
+    static DONE: std::cell::RefCell<Done> = std::cell::RefCell::default();
+}
+
+/// Takes what the calls of this thread did, which is then forgotten.
+#[cfg(test)]
+pub(crate) fn done() -> Done {
+    DONE.take()
+}
+
+/// Notes what a call does, if a test runs.
+macro_rules! note {
+    ($done:ident => $note:expr) => {
+        #[cfg(test)]
+        DONE.with_borrow_mut(|$done| $note);
+    };
+}
+
 /// The functions of lists.
 pub(crate) struct Lists {
     pub(crate) open: unsafe extern "C" fn(*const u8, usize, *mut ListView<'_>) -> isize,
@@ -153,11 +185,13 @@ impl Lists {
     }
 
     pub(crate) fn unpack(&self, view: &ListView<'_>, values: &mut [u32]) -> Result<usize, i32> {
+        note!(done => done.unpacked += 1);
         // SAFETY: a view that was opened; the pointer and the length of a slice that is borrowed by `&mut`.
         counted(unsafe { (self.unpack)(view, values.as_mut_ptr(), values.len()) })
     }
 
     pub(crate) fn range(&self, view: &ListView<'_>, from: usize, values: &mut [u32]) -> usize {
+        note!(done => done.ranges += 1);
         // SAFETY: a view that was opened; the pointer and the length of a slice that is borrowed by `&mut`.
         let count = unsafe { (self.range)(view, from, values.as_mut_ptr(), values.len()) };
         counted(count).unwrap_or(0)
@@ -181,6 +215,7 @@ impl Lists {
         if cursor.index + 1 < cursor.len {
             cursor.index += 1;
         } else {
+            note!(done => done.moves += 1);
             // SAFETY: a cursor that was started.
             unsafe { (self.advance)(cursor) };
         }
@@ -200,6 +235,7 @@ impl Lists {
 
 /// Writes the values that a function makes of these lists, and returns how many they are.
 pub(crate) fn combine(function: Combine, lists: &[PackedList<'_>], out: &mut [u32]) -> Result<usize, i32> {
+    note!(done => done.combined = (lists.iter().map(PackedList::len).collect(), out.len()));
     // SAFETY: pointers and lengths of slices: of views that were opened, since a `PackedList` is a view and nothing else; and of
     // numbers, which are borrowed by `&mut`.
     counted(unsafe { function(lists.as_ptr().cast(), lists.len(), out.as_mut_ptr(), out.len()) })
