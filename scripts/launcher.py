@@ -22,17 +22,21 @@ version) echo "kit of the test" ;;
 doc) echo "$KIT/START-HERE.md" ;;
 esac
 """
-# Makes what -o names. A crate that FAILS waits for the file WAITS, if that is given, and ends with a goal open.
+# Makes what -o names. A crate that FAILS waits for the file WAITS, if that is given, and ends with a goal open. The verdict on the crate OF is
+# the line VERDICT.
 RATTLE = """#!/bin/sh
 crate=${PWD##*/}
 echo "$crate $1" >> "$CALLS"
 [ "$1" = build ] && [ "$crate" != bitpack_main ] && quiet=1
 while [ "$1" != -o ]; do shift; done
 mkdir -p "$2"
-[ -n "$quiet" ] && exit
+if [ -n "$quiet" ]; then
+    echo "logic=proved functions=7 sum=1 crate-checked=trusted"
+    exit
+fi
 echo "output of a check"
 echo "checked low::f, 5 of 7"
-echo "logic=proved functions=7 sum=1"
+if [ "$crate" = "$OF" ]; then echo "$VERDICT"; else echo "logic=proved functions=7 sum=1"; fi
 [ "$crate" = "$FAILS" ] || exit 0
 n=0
 while [ -n "$WAITS" ] && [ ! -e "$WAITS" ]; do
@@ -49,6 +53,9 @@ printf '#!/bin/sh\\necho "program:$*"\\ncat\\n' > "$2"
 chmod +x "$2"
 """
 BELOW = proving.libraries("bitpack_main")
+# Words of a verdict that a crate of this repository may not have. `rt ci` refuses them too.
+REFUSED = ["may-abort=1", "foreign=f", "hides=1", "partial=1", "may-serve=1", "bugs=1", "may-wait=1", "main=Wait", "tests=1", "cache=trusted"]
+REFUSED += ["pinned=no", "batches=trusted", "a-later-word=1"]
 
 
 def line_of(crate):
@@ -99,6 +106,11 @@ class Copy:
     def log(self):
         with open(f"{self.top}/out/build.log", encoding="utf-8") as file:
             return file.read()
+
+    def build_anew(self):
+        """Has the next call build all."""
+        shutil.rmtree(f"{self.top}/out", ignore_errors=True)
+        shutil.rmtree(f"{self.top}/crates/bitpack_main/out", ignore_errors=True)
 
     def forget(self):
         """Forgets the calls of rattle so far."""
@@ -155,14 +167,30 @@ def builds(copy):
     yield "but once", copy.run() == (0, "program:\nsize\n", "")
 
 
+def verdicts(copy):
+    """Which verdicts end the build, though the status of the check is 0."""
+    for crate in [BELOW[0], "bitpack_main"]:
+        for word in REFUSED:
+            copy.build_anew()
+            status, out, error = copy.run(OF=crate, VERDICT=f"logic=proved functions=7 {word} sum=1")
+            told = f"{crate}: the verdict has what no crate of this repository may have: {word}\n"
+            yield f"{word} in the verdict on {crate} ends the build", (status, out) == (3, "") and told in error
+    for line in ["", "logic=open functions=7 sum=1"]:
+        copy.build_anew()
+        yield f"the verdict '{line}' ends the build", copy.run(OF=BELOW[0], VERDICT=line)[:2] == (3, "")
+    copy.build_anew()
+    words = "axioms=1 target=t cpu=c sum=1 native=nat logic-built=trusted libraries-built=trusted statements=trusted incremental=trusted"
+    status, out, _ = copy.run(OF="bitpack_main", VERDICT=f"logic=proved functions=7 {words}")
+    yield "words that say what was proved do not", (status, out) == (0, "program:\nsize\n")
+
+
 def terminal(copy):
     """What it says if its input is a terminal, and if its standard error is one."""
     main, other = pty.openpty()
     os.write(main, b"\x04")
     status, out, error = copy.run(stdin=other)
     yield "on a terminal it says that it reads lines", (status, out, error.count("\n")) == (0, "program:\n", 1) and "docs/LINES.md" in error
-    os.remove(f"{copy.top}/crates/bitpack_main/out/bitpack_main")
-    shutil.rmtree(f"{copy.top}/out")
+    copy.build_anew()
     subprocess.run([f"{copy.top}/bitpack"], env=copy.environment(FAILS=BELOW[0]), stdin=subprocess.DEVNULL, stderr=other, check=False)
     said = os.read(main, 1 << 16).decode()
     os.close(main)
@@ -174,7 +202,7 @@ def terminal(copy):
 def checks():
     with tempfile.TemporaryDirectory(prefix="launcher-") as top:
         copy = Copy(top)
-        for part in [answers, builds, terminal]:
+        for part in [answers, builds, verdicts, terminal]:
             for name, holds in part(copy):
                 yield name, None if holds else "it does not"
 

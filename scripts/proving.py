@@ -21,6 +21,10 @@ from common import ROOT, run, source
 PROVED = f"{ROOT}/out/proved"
 # The memory that a job may take, in bytes, and the most jobs that still make a check faster.
 EACH, MOST = 5 << 29, 8
+# The words of a verdict that says all: what was proved, for what machine, and by the checks of earlier runs that it trusts. `rt ci` refuses
+# others, such as may-abort, hides and main, and any that it does not know, which may say what is left out.
+SAID = {"logic", "functions", "axioms", "target", "cpu", "sum", "native"}
+SAID |= {"logic-built", "libraries-built", "statements", "incremental", "crate-checked"}
 
 
 class Failed(Exception):
@@ -88,8 +92,21 @@ def called(crate, tell, *command):
 
 
 def rattle(crate, tell, verb, *words):
-    """Has rattle check or build a crate."""
-    called(crate, tell, f"{kit()}/bin/rattle", verb, *words_of(crate), *words)
+    """Has rattle check or build a crate, and reads the words of its verdicts."""
+    verdicts = []
+
+    def heard(crate, line):
+        if line.startswith("logic="):
+            verdicts.append(line)
+        tell(crate, line)
+
+    called(crate, heard, f"{kit()}/bin/rattle", verb, *words_of(crate), *words)
+    if not verdicts:
+        raise Failed(f"{crate}: rattle {verb} printed no verdict", "")
+    for verdict in verdicts:
+        more = [word for word in verdict.split() if word.partition("=")[0] not in SAID or word.startswith("logic=") and word != "logic=proved"]
+        if more:
+            raise Failed(f"{crate}: the verdict has what no crate of this repository may have: {' '.join(more)}", verdict)
 
 
 def proof(*words):
