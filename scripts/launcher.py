@@ -54,7 +54,18 @@ chmod +x "$2"
 """
 BELOW = proving.libraries("bitpack_main")
 # Words of a verdict that a crate of this repository may not have. `rt ci` refuses them too.
-REFUSED = ["may-abort=1", "foreign=f", "hides=1", "partial=1", "may-serve=1", "bugs=1", "may-wait=1", "main=Wait", "tests=1", "cache=trusted"]
+REFUSED = [
+    "may-abort=1",
+    "foreign=f",
+    "hides=1",
+    "partial=1",
+    "may-serve=1",
+    "bugs=1",
+    "may-wait=1",
+    "main=Wait",
+    "tests=1",
+    "cache=trusted",
+]
 REFUSED += ["pinned=no", "batches=trusted", "a-later-word=1"]
 
 

@@ -104,7 +104,9 @@ def rattle(crate, tell, verb, *words):
     if not verdicts:
         raise Failed(f"{crate}: rattle {verb} printed no verdict", "")
     for verdict in verdicts:
-        more = [word for word in verdict.split() if word.partition("=")[0] not in SAID or word.startswith("logic=") and word != "logic=proved"]
+        more = [
+            word for word in verdict.split() if word.partition("=")[0] not in SAID or word.startswith("logic=") and word != "logic=proved"
+        ]
         if more:
             raise Failed(f"{crate}: the verdict has what no crate of this repository may have: {' '.join(more)}", verdict)
 
