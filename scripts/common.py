@@ -1,6 +1,7 @@
 """What the scripts share: the files of the repository, running a command, and how a script says what passed and what failed."""
 
 import os
+import re
 import shutil
 import subprocess
 import sys
@@ -12,6 +13,11 @@ def source(path):
     """The text of a file of the repository."""
     with open(f"{ROOT}/{path}", encoding="utf-8") as file:
         return file.read()
+
+
+def version(changelog=None):
+    """The version of all parts: that of the first release in CHANGELOG.md, or in this text of it."""
+    return re.search(r"^## (\d+\.\d+\.\d+)(?: |$)", changelog or source("CHANGELOG.md"), re.M)[1]
 
 
 def run(*command, folder=ROOT, **more):

@@ -12,7 +12,7 @@ import sys
 import tempfile
 
 import proving
-from common import ROOT, report, source
+from common import ROOT, report, version
 
 SCRIPTS = ["scripts/program.py", "scripts/proving.py", "scripts/common.py"]
 
@@ -140,8 +140,7 @@ def answers(copy):
     status, out, error = copy.run("--help")
     yield "--help names the page of the lines", status == 0 and f"{copy.top}/docs/LINES.md" in out and error == ""
     status, out, error = copy.run("--version")
-    newest = next(line[3:].strip() for line in source("CHANGELOG.md").split("\n") if line.startswith("## "))
-    yield "--version is that of CHANGELOG.md and of rt", (status, out, error) == (0, f"bitpack {newest}\nkit of the test\n", "")
+    yield "--version is that of CHANGELOG.md and of rt", (status, out, error) == (0, f"bitpack {version()}\nkit of the test\n", "")
     status, out, error = copy.run("--version", rt=False)
     yield "--version without rt has the kit of PROOFS.md", status == 0 and out.split("\n")[1].startswith("rattle-kit-")
     yield "neither builds", not copy.called()

@@ -4,12 +4,15 @@ declares, and with those by which rust/src/calls.rs calls them. A slice `x` is a
 `bitpacking_list` and `bitpacking_cursor` are compared with `ListView` and `ListCursor` too, and the limits of blocks with those of
 crates/bitpacking. The header is read as it is written: it has to name each function in a prototype, which no macro makes.
 
+The header, the archive and the Rust crate have the version of CHANGELOG.md.
+
 Then the wrong changes of scripts/edits/signatures/ are tried, as scripts/changes.py says. The last line is 'N passed, M failed',
-one for the header, one for its limits, one for the calls and one for each of these.
+one for the header, one for its limits, one for the calls, one for the version and one for each of these.
 """
 import re
 import sys
 
+from common import version
 from texts import code, paths, results, text_of
 
 C_TYPES = {
@@ -25,6 +28,14 @@ STRUCTS = {"ListView": "crates/bitpacking_c/src/list_view.rt", "ListCursor": "cr
 HEADER = "include/bitpacking.h"
 CALLS = "rust/src/calls.rs"
 LIMITS = "crates/bitpacking/src/limits.rt"
+# Where the version is, beside CHANGELOG.md: as text, or as the number a million times the major one, a thousand times the minor one, and the
+# patch.
+VERSIONS = {
+    (HEADER, r"^#define BITPACKING_VERSION (.*)$"): True,
+    ("crates/bitpacking_c/src/version.rt", r"result ≡ (\S+)"): True,
+    ("crates/bitpacking_c/src/version.rt", r"^\{\n    (.*)\n\}$"): True,
+    ("rust/src/lib.rs", r'^pub const VERSION: &str = "(.*)";$'): False,
+}
 
 
 def in_c(written, name=""):
@@ -114,5 +125,14 @@ def calls():
     yield from differences(called(), CALLS, packed)
 
 
+def versions():
+    text = version(text_of("CHANGELOG.md"))
+    major, minor, patch = map(int, text.split("."))
+    for (path, pattern), as_number in VERSIONS.items():
+        wanted, found = str(1000000 * major + 1000 * minor + patch) if as_number else text, re.findall(pattern, text_of(path), re.M)
+        if found != [wanted]:
+            yield f"{path}: the version is {' and '.join(found)}, and by CHANGELOG.md {wanted}"
+
+
 if __name__ == "__main__":
-    sys.exit(results([header, limits, calls], "signatures"))
+    sys.exit(results([header, limits, calls, versions], "signatures"))

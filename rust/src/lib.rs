@@ -29,6 +29,9 @@ mod tests;
 
 pub use packers::{BitPacker1x, BitPacker4x, BitPacker8x};
 
+/// The version of the archives and their header. The crate itself has the number of the original, so that `[patch.crates-io]` takes it.
+pub const VERSION: &str = "0.1.0";
+
 /// Packs blocks of `BLOCK_LEN` values.
 ///
 /// A block out of order is taken by the sorted calls too: differences are taken modulo 2^32, and the values come back.
