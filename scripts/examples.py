@@ -7,15 +7,18 @@ crate of callers, or a program of the Rust crate:
     <!-- rust/examples/NAME.rs -->
 A fenced block of antt, the language of proofs, names one of the crate's proofs/ in the same way, and one of C a program of examples/.
 The lines of the block are lines of that file, in one piece. Only the indentation of the whole block may differ.
-The last line is 'N passed, M failed', one for each block.
+
+Then the wrong changes of scripts/edits/examples/ are tried, as scripts/changes.py says. The last line is 'N passed, M failed', one for each
+block and one for each of these.
 """
-import glob
 import os
 import re
 import sys
 import textwrap
 
-from common import ROOT, report, source
+import changes
+from common import report
+from texts import not_refused, paths, text_of
 
 RATTLE = ("crates/bitpack_uses/src/", ".rt")
 RUST = ("rust/examples/", ".rs")
@@ -67,11 +70,11 @@ def fault(language, before, block):
     folders = SOURCES[language]
     if not any(path.startswith(folder) and path.endswith(ending) for folder, ending in folders):
         return f"{path} is not a file of {' or '.join(folder for folder, _ in folders)}"
-    if not os.path.isfile(f"{ROOT}/{path}"):
+    if not paths(path):
         return f"there is no file {path}"
     if not "".join(block).strip():
         return "it is empty"
-    lines, wanted = source(path).split("\n"), same_lines(block)
+    lines, wanted = text_of(path).split("\n"), same_lines(block)
     for start in range(len(lines)):
         if same_lines(lines[start : start + len(wanted)]) == wanted:
             return None
@@ -80,17 +83,27 @@ def fault(language, before, block):
 
 def examples_in(path):
     """The examples in a page, or in the doc comments of a source, where a block is Rust unless it names another language."""
-    lines = source(path).split("\n")
+    lines = text_of(path).split("\n")
     if path.endswith(".rt"):
         return examples([found[1] if (found := DOC.match(line)) else "" for line in lines], "rust")
     return examples(lines, "")
 
 
-def checks():
+def blocks():
     """Each example as its place and why it is not tested code, or None."""
-    for page in [found for pattern in PAGES for found in sorted(glob.glob(pattern, root_dir=ROOT, recursive=True))]:
+    for page in [found for pattern in PAGES for found in paths(pattern)]:
         for number, language, before, block in examples_in(page):
             yield f"{page}:{number}", fault(language, before, block)
+
+
+def faults():
+    yield from (f"{place}: {why}" for place, why in blocks() if why)
+
+
+def checks():
+    yield from blocks()
+    for edit in changes.edits_in("examples"):
+        yield edit.name, not_refused(edit, [faults])
 
 
 if __name__ == "__main__":
