@@ -7,17 +7,19 @@
     rust/out/TARGET/libbitpacking_c.a            for C and Rust on aarch64, which has one level
 
 It proves the crate `bitpacking_c` once, and the crates below it that are not proved in out/proved/ from these sources. Each level and target
-takes that proof, and only compiles. In scripts/check, with --in-check, `rt lib` does so and keeps each proof in crates/.
+takes that proof, and only compiles.
 
 Then it looks at each archive: it exports the functions of the header and no other name, needs no other functions than memcpy, memmove and
-memset, and has neither data nor unwinding; the archive for all levels has one number of data, the level. If no source changed since the last
-run nothing is built; `archives.py --anew` builds all the same. It needs rt, cc, ld and nm, objcopy, objdump and ar of binutils. The last line
-is 'N passed, M failed'.
+memset, and has neither data nor unwinding; the archive for all levels has one number of data, the level. Only x86-64-v3 has registers of 256
+bits; no two builds have the same instructions, and the archives of a level have the same. Wrong archives are refused: those of one another.
+
+If no source changed since the last run nothing is built; `archives.py --anew` builds all the same. It needs rt, cc, ld and nm, objcopy,
+objdump and ar of binutils; with --in-check it is left out if it lacks one. The last line is 'N passed, M failed'.
 """
+import functools
 import hashlib
 import os
 import re
-import shutil
 import sys
 import time
 
@@ -29,9 +31,11 @@ OUT = f"{ROOT}/rust/out"
 TOOLS = ["rt", "cc", "ld", "ar", "nm", "objcopy", "objdump"]
 LEVELS = levels.LEVELS
 ARM = "aarch64-unknown-linux-gnu"
-# The archives for C, by their folders in rust/out/, and what rattle or rt lib is told for each.
+# The archives for C, by their folders in rust/out/, and what rattle is told for each.
 BUILDS = {level: ["--cpu", level] for level in LEVELS.values()} | {ARM: ["--target", ARM]}
 ALL = "libbitpacking.a"
+# The levels with registers of 256 bits, which objdump calls ymm.
+WIDE = {"x86-64-v3"}
 TIME = """Proving and building the archives. On four cores of an Intel Xeon at 2.50 GHz the crates below took 5 minutes 53 seconds, and bitpacking_c
 with four archives 3 minutes 10 seconds. Crates that are proved in out/proved/ are not proved again."""
 
@@ -50,13 +54,9 @@ class Shown:
     """Prints how many functions of a crate are proved, at most once in ten seconds, and each crate that is."""
 
     def __init__(self):
-        self.start, self.next, self.named = time.time(), 0, None
+        self.start, self.next = time.time(), 0
 
     def __call__(self, crate, line):
-        # rt names the crate that the next lines are about.
-        named = re.match(r"rt: chose --jobs \d+ for (\w+)", line)
-        self.named = named[1] if named else self.named
-        crate = self.named or crate
         counts = re.search(r"(\d+ of \d+)( functions checked)?$", line.strip())
         proved = re.match(r"logic=proved functions=(\d+)(?!.* crate-checked=)", line)
         if proved or counts and time.time() > self.next:
@@ -64,24 +64,13 @@ class Shown:
             print(f"{crate}: {proved[1] if proved else counts[1]} functions proved, {time.time() - self.start:.0f} s", flush=True)
 
 
-def built_by_rt(build, tell):
-    """Builds the archive for C of a level or target by `rt lib`, which keeps each proof for later checks. Returns its path."""
-    proving.called("bitpacking_c", tell, "rt", "lib", *BUILDS[build])
-    return f"{ROOT}/crates/bitpacking_c/out/libbitpacking_c.a"
-
-
-def proved_and_built(keep):
-    """Builds the archives for C. With `keep` that leaves each proof in crates/, where scripts/unproved.py begins. Returns why that failed, or
-    None."""
+def proved_and_built():
+    """Builds the archives for C. Returns why that failed, or None."""
     tell = Shown()
     try:
-        if not keep:
-            for build, made in proving.archives("bitpacking_c", BUILDS, tell).items():
-                os.makedirs(f"{OUT}/{build}", exist_ok=True)
-                os.replace(made, archive(build))
-        for build in BUILDS if keep else []:
+        for build, made in proving.archives("bitpacking_c", BUILDS, tell).items():
             os.makedirs(f"{OUT}/{build}", exist_ok=True)
-            shutil.copyfile(built_by_rt(build, tell), archive(build))
+            os.replace(made, archive(build))
     except proving.Failed as why:
         print(why.said)
         return str(why)
@@ -143,6 +132,50 @@ def faults(path, data=0):
         yield f"it has {found} bytes of data, and not {data}"
 
 
+@functools.cache
+def instructions(path):
+    """A number that changes with the instructions of an archive and the functions that they call, and how many have registers of 256 bits."""
+    text = run("objdump", "-d", "--no-show-raw-insn", path).stdout.partition("Disassembly of section")[2]
+    return hashlib.sha256(re.sub(r"\bv\d_(?=bitpacking_)", "", text).encode()).hexdigest(), text.count("%ymm")
+
+
+def faults_of_level(build, path, others=()):
+    """What is wrong with the instructions of an archive for C. The others are builds that have to differ from it."""
+    same, wide = instructions(path)
+    if build in WIDE and wide == 0:
+        yield "it has no register of 256 bits"
+    if build not in WIDE and wide > 0:
+        yield f"{wide} of its instructions have registers of 256 bits"
+    yield from (f"its instructions are those of {other}" for other in others if other != build and instructions(archive(other))[0] == same)
+
+
+def levels_of_all():
+    """What is wrong with the levels of the archives that are made of those for C."""
+    for prefix, level in LEVELS.items():
+        if instructions(f"{OUT}/libbitpacking_{prefix}.a") != instructions(archive(level)):
+            yield f"libbitpacking_{prefix}.a has other instructions than the archive for {level}"
+    wide = sum(instructions(archive(level))[1] for level in LEVELS.values())
+    if instructions(f"{OUT}/{ALL}")[1] != wide:
+        yield f"{ALL} has {instructions(f'{OUT}/{ALL}')[1]} instructions with registers of 256 bits, and not {wide}"
+
+
+def by_instructions():
+    """Each check of the instructions of the archives, and each of a wrong archive, as a name and what is wrong, or None."""
+    for build in BUILDS:
+        yield f"the instructions for {build}", "; ".join(faults_of_level(build, archive(build), BUILDS)) or None
+    yield "the instructions of the other archives", "; ".join(levels_of_all()) or None
+    least, widest, whole = archive("x86-64"), archive("x86-64-v3"), f"{OUT}/{ALL}"
+    for what, found, wanted in [
+        ("an archive of x86-64 for x86-64-v3", faults_of_level("x86-64-v3", least), "it has no register of 256 bits"),
+        ("an archive of x86-64-v3 for x86-64-v2", faults_of_level("x86-64-v2", widest), "have registers of 256 bits"),
+        ("an archive of x86-64 for x86-64-v2", faults_of_level("x86-64-v2", least, BUILDS), "its instructions are those of x86-64"),
+        ("data beside the level", faults(whole, data=0), "it has 4 bytes of data, and not 0"),
+        ("less data than said", faults(whole, data=8), "it has 4 bytes of data, and not 8"),
+        ("names with a prefix", faults(f"{OUT}/libbitpacking_v1.a"), "it exports ["),
+    ]:
+        yield f"a wrong archive: {what}", None if any(wanted in it for it in found) else "nothing refuses it"
+
+
 def fresh(stamp, numbers):
     """Whether the archives for C are there, of these sources, and whether all archives are."""
     proved = [archive(build) for build in BUILDS]
@@ -152,10 +185,10 @@ def fresh(stamp, numbers):
     return kept, kept and all(map(os.path.isfile, more)) and were == numbers
 
 
-def made(kept, whole, keep):
+def made(kept, whole):
     """Each archive as a name and what is wrong with it, or None. Those for C are built if they are not kept, and all others if they are not
     whole. Nothing is built after one that fails."""
-    why = None if kept else proved_and_built(keep)
+    why = None if kept else proved_and_built()
     if why:
         yield "the archives for C", why
         return
@@ -170,8 +203,9 @@ def made(kept, whole, keep):
     yield "the archive for all levels", wrong or "; ".join(faults(f"{OUT}/{ALL}", data=4)) or None
 
 
-def build(anew=False, keep=False):
-    """Builds what is not there, which with `keep` leaves each proof in crates/. Returns how many archives are right and how many are not."""
+def build(anew=False, thorough=False):
+    """Builds what is not there. What was built has its instructions looked at; if asked to be thorough, all have. Returns how many checks of
+    the archives passed and how many failed."""
     stamp, numbers = f"{OUT}/sources", sources()
     os.makedirs(OUT, exist_ok=True)
     kept, whole = (False, False) if anew else fresh(stamp, numbers)
@@ -179,15 +213,16 @@ def build(anew=False, keep=False):
         print(TIME, flush=True)
     if os.path.isfile(stamp):
         os.remove(stamp)
-    passed = failed = 0
-    for name, wrong in made(kept, whole, keep):
-        if wrong:
-            print(f"FAILED: {name}: {wrong}")
-        passed, failed = passed + (not wrong), failed + bool(wrong)
-    if failed == 0:
+    checks = list(made(kept, whole))
+    if all(wrong is None for _, wrong in checks) and (thorough or not whole):
+        checks += by_instructions()
+    failed = [it for it in checks if it[1] is not None]
+    for name, wrong in failed:
+        print(f"FAILED: {name}: {wrong}")
+    if not failed:
         with open(stamp, "w", encoding="ascii") as file:
             file.write("\n".join(numbers))
-    return passed, failed
+    return len(checks) - len(failed), len(failed)
 
 
 def status_without(part, *tools):
@@ -203,7 +238,7 @@ def main():
     if lacking and "--in-check" not in given:
         print(f"archives.py: there is no {' and no '.join(lacking)}, and nothing was built", file=sys.stderr)
         return 2
-    return 0 if left_out_without("the archives for C and Rust", *TOOLS) else ended(*build("--anew" in given, keep="--in-check" in given))
+    return 0 if left_out_without("the archives for C and Rust", *TOOLS) else ended(*build("--anew" in given, thorough=True))
 
 
 if __name__ == "__main__":

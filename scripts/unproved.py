@@ -182,14 +182,14 @@ def tried(room, crate, edits):
     return whys, waiting, more
 
 
-def copied(room):
-    """Makes a copy of the tracked files, with what earlier checks left in out/, which git tracks there too."""
+def copied(room, built=True):
+    """Makes a copy of the tracked files, which git tracks there too, with what earlier checks left in out/ if that is `built`."""
     listed = subprocess.run(["git", "ls-files", "-z"], cwd=ROOT, check=True, stdout=subprocess.PIPE).stdout
     for name in listed.decode().split("\0"):
         if name and os.path.isfile(f"{ROOT}/{name}"):
             os.makedirs(os.path.dirname(f"{room}/{name}"), exist_ok=True)
             shutil.copy2(f"{ROOT}/{name}", f"{room}/{name}")
-    for crate in os.listdir(f"{ROOT}/crates"):
+    for crate in os.listdir(f"{ROOT}/crates") if built else []:
         if os.path.isdir(f"{ROOT}/crates/{crate}/out"):
             shutil.copytree(f"{ROOT}/crates/{crate}/out", f"{room}/crates/{crate}/out", symlinks=True, copy_function=linked)
     subprocess.run(["git", "init", "-q", room], check=True)
