@@ -4,8 +4,11 @@ whose output is worked by hand, scripts/calls.c, list_calls.c and cursor.c, and 
 vectors/. They are compiled as C99 with every warning an error and run with little stack, and once more with the address sanitizer if the
 compiler has it. The two programs of calls are also compiled as C++11 and C++17, without a cast of C in the header; scripts/calls.c also
 runs over the archive for all levels on a processor of each level that qemu gives, and has to name every macro of the header. Over that
-archive scripts/damaged.c opens a million damaged lists once more. The archives are those that scripts/archives.py wrote, which is called
-if they are not there. The last line is 'N passed, M failed'; a part that is left out because a tool is missing is named.
+archive scripts/damaged.c opens a million damaged lists once more.
+
+Then each program has to fail with another output than it has, or, if it prints nothing, with a function that returns one more. The archives
+are those that scripts/archives.py wrote, which is called if they are not there. The last line is 'N passed, M failed'; a part that is left
+out because a tool is missing is named.
 """
 import re
 import resource
@@ -62,6 +65,18 @@ PROGRAMS = {
     # The lists of the tables that are in order: each alone, n ^ 2 pairs, and as many triples of 17 of them, by three calls.
     SETS: "370 lists, 426549 combined\n",
 }
+# For each program that prints nothing, a function of the header that it calls, and that function with a wrong answer.
+CALLED = {CALLS: "bitpacking_version", LIST_CALLS: "bitpacking_list_len", "scripts/cursor.c": "bitpacking_cursor_position"}
+ONE_MORE = """#include "bitpacking.h"
+
+{returned}__real_{name}({given});
+{returned}__wrap_{name}({given});
+
+{returned}__wrap_{name}({given})
+{{
+    return __real_{name}({passed}) + 1;
+}}
+"""
 VECTORS = {TABLES: ["lists2", "lists3", "refused2", "refused3"], SETS: ["lists2", "lists3"]}
 VECTORS[DAMAGED] = VECTORS[TABLES]
 # The same of a million damaged lists.
@@ -115,7 +130,28 @@ def compiled_and_run(archive, path, command, arguments=(), printed=None, **more)
         if not right:
             return text
         right, text = works([program, *arguments], **given(path), **more)
-        return None if right and text == (printed or PROGRAMS[path]) else f"it failed, and printed {text[:2000]}"
+        wanted = PROGRAMS[path] if printed is None else printed
+        return None if right and text == wanted else f"it failed, and printed {text[:2000]}"
+
+
+def miscounted(text):
+    """The text with another last digit."""
+    return re.sub(r"\d(?=\D*$)", lambda it: str((int(it[0]) + 1) % 10), text)
+
+
+def wrong_ones():
+    """Each program with another output than it has, or over a function with a wrong answer: a name, and what is wrong if it does not fail."""
+    archive = f"{archives.OUT}/{archives.ALL}"
+    for program, text in PROGRAMS.items():
+        if program not in CALLED:
+            why = compiled_and_run(archive, program, C99, printed=miscounted(text))
+            yield f"another output of {program}", None if why == f"it failed, and printed {text}" else f"it does not fail so: {why}"
+    with tempfile.TemporaryDirectory(prefix="c-") as folder:
+        for program, name in CALLED.items():
+            levels.written(f"{folder}/wrong.c", levels.filled(ONE_MORE, name, *levels.prototypes()[name]))
+            why = compiled_and_run(archive, program, [*C99, f"-Wl,--wrap={name}", f"{folder}/wrong.c"])
+            right = (why or "").startswith("it failed, and printed ") and name in why
+            yield f"{program} with a wrong {name}", None if right else f"it does not fail so: {why}"
 
 
 def on_other_processors():
@@ -174,6 +210,7 @@ def checks():
     command = [*C99, "-O2"]
     yield f"{DAMAGED} with a million lists", compiled_and_run(f"{archives.OUT}/{archives.ALL}", DAMAGED, command, ["1000000"], MILLION)
     yield from on_other_processors()
+    yield from wrong_ones()
 
 
 def main():

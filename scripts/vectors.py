@@ -2,7 +2,8 @@
 """Runs the vectors of vectors/ over the decoders that docs/FORMAT.md shows, wrong implementations, and the program.
 
 docs/VECTORS.md says where the vectors come from. `vectors.py PROGRAM ..` runs them over another program of the same line language,
-in place of ./bitpack. The last line is 'N passed, M failed', which counts the readers of the vectors.
+in place of ./bitpack. Each program has to fail if one of its answers is changed, and no check may find a mistake in the decoders themselves.
+The last line is 'N passed, M failed', which counts the readers of the vectors.
 """
 
 import csv
@@ -185,6 +186,7 @@ def mistake_checks():
     """Each wrong implementation is the model with one change; some vector has to fail with it."""
     right, tried = model(), [it for kind in CHECKS for it in mistakes(kind)]
     yield "how many mistakes have a name of their own", len({name for _, name, _, _ in tried}), len(tried)
+    yield "whether the decoders without a mistake are caught", caught(right, "blocks"), False
     with multiprocessing.get_context("fork").Pool() as pool:
         found = pool.starmap(caught, [(right.replace(old, new), kind) for kind, _, old, new in tried])
     for (_, name, old, _), is_caught in zip(tried, found):
@@ -271,6 +273,11 @@ def program_checks(program):
             yield line, answer, right
 
 
+def with_one_change(program):
+    """A program that changes the answer to line 1,000 of another one."""
+    return ["sh", "-c", """"$@" | sed '1000s/$/0/'""", "sh", *(program if isinstance(program, list) else [program])]
+
+
 def programs():
     """The program, and the one that the gate's second compiler built, unless that is the older."""
     yield f"{ROOT}/bitpack"
@@ -287,7 +294,10 @@ def groups(asked):
     yield "the decoders of docs/FORMAT.md and vectors/model.py", found
     yield "wrong implementations", mistake_checks()
     for program in asked:
-        yield os.path.relpath(program[0] if isinstance(program, list) else program, ROOT), program_checks(program)
+        name = os.path.relpath(program[0] if isinstance(program, list) else program, ROOT)
+        yield name, program_checks(program)
+        wrong = sum(found != right for _, found, right in program_checks(with_one_change(program)))
+        yield f"{name} with another answer", [("how many answers are wrong", wrong, 1)]
 
 
 def readers():
