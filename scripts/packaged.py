@@ -1,8 +1,8 @@
 #!/usr/bin/env python3
 """Tests scripts/install.py with a folder of its own for PREFIX, and scripts/bundle.py with programs in C and Rust outside the repository that
 are built from the unpacked bundle. One of these gets `bitpacking` through another crate, which asks for 0.9 of crates.io with one of its
-features, and takes the crate of the bundle by `[patch.crates-io]`. Nothing is fetched. The last line is 'N passed, M failed'; a part
-that is left out for want of a tool is named.
+features, and takes the crate of the bundle by `[patch.crates-io]`. Nothing is fetched: the folder of cargo is empty. Each program has to fail
+if another output is wanted. The last line is 'N passed, M failed'; a part that is left out for want of a tool is named.
 """
 import os
 import subprocess
@@ -11,12 +11,13 @@ import tarfile
 import tempfile
 
 import archives
+import arm
 import bundle
 import c
 import install
 import levels
 import rust
-from common import ROOT, leave_out, missing, report, run
+from common import ROOT, leave_out, missing, report, run, version
 
 EXAMPLES = [it for it in c.PROGRAMS if it.startswith("examples/")]
 
@@ -67,18 +68,43 @@ def listed(folder):
     return found
 
 
-def by_script(*words):
-    return run(sys.executable, f"{ROOT}/scripts/install.py", *words)
+def by_script(*words, **more):
+    return run(sys.executable, f"{ROOT}/scripts/install.py", *words, **more)
 
 
-def built_and_run(command, program, **more):
-    """What is wrong with a C program that a command builds, or None. More is for running it."""
+def bytes_of(path):
+    with open(path, "rb") as file:
+        return file.read()
+
+
+def built_and_run(command, program, wanted=None, **more):
+    """What is wrong with a C program that a command builds, or None. It prints what c.PROGRAMS says, or what is wanted. More is for running
+    it."""
     with tempfile.TemporaryDirectory(prefix="packaged-") as folder:
         built = run(*command, "-o", f"{folder}/program")
         if built.returncode != 0:
             return built.stdout
         done = run(f"{folder}/program", **more)
-        return None if done.returncode == 0 and done.stdout == c.PROGRAMS[program] else f"it printed {done.stdout[:2000]}"
+        return None if done.returncode == 0 and done.stdout == (wanted or c.PROGRAMS[program]) else f"it printed {done.stdout[:2000]}"
+
+
+def is_refused(why, printed):
+    """None if a program is wrong only since it printed this, and else that it is not."""
+    return None if why and why.startswith(f"it printed {printed}") else f"it does not fail so: {why}"
+
+
+def levels_of(prefix):
+    """Whether the archive that is installed is the one that was asked for: each level as a name and what is wrong, or None."""
+    is_it = bytes_of(f"{prefix}/{install.STATIC}") == bytes_of(f"{archives.OUT}/{archives.ALL}")
+    yield "the archive for all levels", None if is_it else "another one is installed"
+    cross = missing(arm.CROSS)
+    if cross:
+        leave_out("installing for aarch64", f"since there is no {arm.CROSS}")
+    for level in archives.BUILDS:
+        if level != archives.ARM or not cross:
+            again = by_script(prefix, "--level", level, env=dict(os.environ, CC=arm.CROSS) if level == archives.ARM else None)
+            is_it = bytes_of(f"{prefix}/{install.STATIC}") == bytes_of(archives.archive(level))
+            yield f"installing {level} over it", again.stdout if again.returncode else None if is_it else "another archive is installed"
 
 
 def installed(folder):
@@ -96,15 +122,19 @@ def installed(folder):
     if missing("pkg-config"):
         leave_out("programs that ask pkg-config", "since there is no pkg-config")
     else:
-        asked = run("pkg-config", "--cflags", "--libs", "bitpacking_c", env=dict(os.environ, PKG_CONFIG_PATH=f"{prefix}/lib/pkgconfig"))
+        env = dict(os.environ, PKG_CONFIG_PATH=f"{prefix}/lib/pkgconfig")
+        asked = run("pkg-config", "--modversion", "bitpacking_c", env=env)
+        yield "the version that pkg-config tells", None if asked.stdout == f"{version()}\n" else f"it is {asked.stdout}"
+        asked = run("pkg-config", "--cflags", "--libs", "bitpacking_c", env=env)
         for program in EXAMPLES:
             command = ["cc", "-std=c99", f"{ROOT}/{program}", *asked.stdout.split()]
             yield f"{program} by pkg-config", built_and_run(command, program, env=dict(os.environ, LD_LIBRARY_PATH=f"{prefix}/lib"))
     for program in EXAMPLES:
         command = ["cc", "-std=c99", f"-I{prefix}/include", f"{ROOT}/{program}", f"{prefix}/{install.STATIC}"]
         yield f"{program} over the installed archive", built_and_run(command, program)
-    again = by_script(prefix, "--level", "x86-64-v2")
-    yield "installing another level over it", None if again.returncode == 0 else again.stdout
+        why = built_and_run(command, program, c.miscounted(c.PROGRAMS[program]))
+        yield f"another output of {program}", is_refused(why, c.PROGRAMS[program])
+    yield from levels_of(prefix)
     removed = by_script(prefix, "--remove")
     yield "install.py --remove", None if removed.returncode == 0 and listed(prefix) == before else f"{removed.stdout} left other files"
     yield "removing nothing", None if by_script(prefix, "--remove").returncode == 1 else "it worked"
@@ -116,10 +146,10 @@ def installed(folder):
 
 def cargo_run(folder, wanted):
     """What is wrong with a Rust program, or None."""
-    env = dict(os.environ, CARGO_TARGET_DIR=f"{folder}/target")
+    env = dict(os.environ, CARGO_TARGET_DIR=f"{folder}/target", CARGO_HOME=f"{folder}/cargo")
     env.pop("BITPACKING_ARCHIVES", None)
     done = run("cargo", "run", "--quiet", "--offline", folder=folder, env=env, stderr=subprocess.PIPE)
-    return None if done.stdout == wanted else f"printed {done.stdout!r} {done.stderr[-2000:]}"
+    return None if done.stdout == wanted else f"it printed {done.stdout}{done.stderr[-2000:]}"
 
 
 def written(folder, texts):
@@ -129,15 +159,32 @@ def written(folder, texts):
             file.write(text)
 
 
+def are_same(one, two):
+    """Writes two bundles. Between them a file gets another time. Returns whether they have the same bytes."""
+    touched = f"{ROOT}/LICENSE"
+    before = os.stat(touched)
+    bundle.write(one)
+    os.utime(touched, (0, 0))
+    try:
+        bundle.write(two)
+    finally:
+        os.utime(touched, ns=(before.st_atime_ns, before.st_mtime_ns))
+    return bytes_of(one) == bytes_of(two)
+
+
 def unpacked(folder):
     """Each check of a bundle as a name and what is wrong, or None."""
-    bundle.write(f"{folder}/one.tar.gz")
-    bundle.write(f"{folder}/two.tar.gz")
-    with open(f"{folder}/one.tar.gz", "rb") as one, open(f"{folder}/two.tar.gz", "rb") as two:
-        yield "two bundles", None if one.read() == two.read() else "they differ"
+    yield "two bundles, of files of other times", None if are_same(f"{folder}/one.tar.gz", f"{folder}/two.tar.gz") else "they differ"
     with tarfile.open(f"{folder}/one.tar.gz") as file:
         file.extractall(folder)
     top = f"{folder}/{bundle.TOP}"
+    found = {os.path.relpath(path, f"{top}/rust/out") for path in listed(f"{top}/rust/out") if path.endswith(".a")}
+    wanted = {
+        archives.ALL,
+        *(f"libbitpacking_{prefix}.a" for prefix in archives.LEVELS),
+        *(f"{it}/libbitpacking_c.a" for it in archives.BUILDS),
+    }
+    yield "the archives of the bundle", None if found == wanted else f"they differ in {sorted(found ^ wanted)}"
     for program in EXAMPLES:
         command = ["cc", "-std=c99", f"-I{top}/include", f"{top}/{program}", f"{top}/rust/out/{archives.ALL}"]
         yield f"{program} from the bundle", built_and_run(command, program)
@@ -149,6 +196,7 @@ def unpacked(folder):
     with open(f"{top}/rust/examples/{name}.rs", encoding="utf-8") as file:
         written(f"{folder}/it", {"Cargo.toml": manifest, "src/main.rs": file.read()})
     yield "a Rust program from the bundle", cargo_run(f"{folder}/it", wanted)
+    yield "another output of a Rust program", is_refused(cargo_run(f"{folder}/it", c.miscounted(wanted)), wanted)
     written(f"{folder}/through", {path: text.format(crate=f"{top}/rust") for path, text in THROUGH_ANOTHER.items()})
     # Differences of 3 but for the first: two bits each, and so 2 * 16 bytes.
     yield "a crate that asks for 0.9 of crates.io", cargo_run(f"{folder}/through", "128 ids in 32 bytes\n")
