@@ -14,18 +14,22 @@
   the one for groups, and else takes the one that it is given.
 - The Rust crate asks for the features of each level, has the functions of each level in its table, and those of the one level of another
   processor, and takes the best level.
-- Of `bitpack_lists`, a function that makes a `Reads` has a mark, `// Reads bytes: ..`. So has a function below list2 that reads a number
-  or unpacks a block from bytes, or tests a text, and one that sees the bytes or the packer of an opened list, or makes a cursor; and one
-  that tests a text of version 3. The
-  mark names its calls in the order of the text: those that count read once for each count, `open` tests a text once and each block
-  of it once, and `from_validated` tests none. No other function has a mark, and no code calls `get`. A walk reads no entry once nothing is
-  wanted.
+- Of `bitpack_lists`, each function that reads a number or unpacks a block from bytes, sees the bytes or the packer of an opened list, or
+  makes a `Reads`, has a mark, `// Reads bytes: ..`; and so has each that calls one, unless a contract counts what that reads, or it is of
+  the tail. Each that measures a block, or calls one that does, has a mark too. A mark names the calls in the order of the text: so those
+  that count read once for each count, `open` tests a text once and each block of it once, and `from_validated` tests none. No other function
+  has a mark, none of a trait needs one, and no code calls `get`.
+- So do the functions of `bitpacking_c` that call these or one with a `Reads`, with what they call in turn. Those for blocks and chains of a
+  packer call one function.
+- A walk reads no entry once nothing is wanted. The items of a vector begin a cursor anew only for one below the last. The values of a list
+  have some at hand. How far searches go step by step, and how many widths are kept, is in bounds.
 
 Then the wrong changes of scripts/edits/sources/ are tried, as scripts/changes.py says. The last line is 'N passed, M failed'.
 """
 import re
 import sys
 
+from marks import LISTS, marks
 from texts import at, code, end_of_braces, paths, results, text_of
 
 SOURCES = "crates/bitpacking/src"
@@ -59,22 +63,25 @@ CHOICE = {
     ],
     "rust/src/packers.rs": ["fn calls() -> &'static Calls { &best().$calls }"],
 }
-LISTS = "crates/bitpack_lists/src"
 GROUPS = (f"{LISTS}/list3/group.rt", "BitPacker1x")
-# The mark above a function of `bitpack_lists` that may read bytes: its loops and its calls of functions of the crate in the order of the
-# text, and `bytes`, `packer` and the fields `rest` and `tail` when it first names them.
-MARK = re.compile(r"^ *// Reads bytes: (.*)\.$")
-# The words that only such a function may have, by the beginning of the paths where this is so. The fields are those of a list.
-READING = {
-    "": r"\bvalue_in_block\b|\bReads::",
-    "list2/": r"\bdecompress\w*|\bunpack_all\b|\bread_one\b|\bread_words\b|\btest(?:_rest|_entries|_bodies|_blocks)?\(",
-    "list2/packed_list": r"\bbytes\b|\bpacker\b|self\.rest\b|self\.tail\b|\bcursor\(",
-    "list3/opening": r"\bread\(|\bread_tail\(|\btest_(?:rest|blocks)\(",
+# What code of `bitpack_lists` has once, by file: the loop of a walk, which reads no entry once nothing is wanted; where a cursor begins
+# anew; and the values at hand of a list, which save a seek for each.
+SHAPES = {
+    f"{LISTS}/list2/packed_list/walk.rt": ["for number in 0..one.count / P::BLOCK_LEN { if walk.want > u32::MAX as u64 { return; }"],
+    f"{LISTS}/sorted/retaining.rt": ["if item < last { *cursor = DistinctValues::new(list.cursor()); } finds_next(cursor, item)"],
+    f"{LISTS}/sorted/distinct_values.rt": [
+        "fn at_hand(&self) -> &[u32] { self.cursor.block() }",
+        "fn seek_ahead(&mut self, target: u32, ahead: usize) { self.cursor.seek_ahead(target, ahead); }",
+    ],
 }
-# What no code of `bitpack_lists` has.
-NEVER = r"(?<!fn )\bget\b|\bReads as\b|\btype\b[^;]*\bReads\b"
-# The loop of a walk begins so: once nothing is wanted, it reads no entry.
-WALK = r"for number in 0\.\.one\.count / P::BLOCK_LEN \{\s*if walk\.want > u32::MAX as u64 \{\s*return;\s*\}"
+# By file and name, the least and the most that a constant may be: how far a search goes step by step, how many values show whether it
+# pays to merge, and how many widths are kept to be measured once.
+BOUNDS = {
+    (f"{LISTS}/list2/packed_list/cursor.rt", "NEAR"): (4, 64),
+    (f"{LISTS}/sorted/and.rt", "FEW"): (4, 64),
+    (f"{LISTS}/measuring.rt", "KEPT_WIDTHS"): (256, 4096),
+    (f"{LISTS}/measuring.rt", "MANY_WIDTHS"): (4096, 16384),
+}
 # The trait of the packers, its three calls by kind with the counted call of each, and by name the one of the three that each of the
 # nine others calls.
 TRAIT = f"{SOURCES}/bit_packer.rt"
@@ -235,76 +242,20 @@ def levels():
         yield from (f"{path}: there is no {it}" for it in wanted if found.count(it) != 1)
 
 
-def functions_in(text):
-    """The functions of a text that runs: the name, the index of `fn`, and where its body begins and ends."""
-    for found in re.finditer(r"\bfn (\w+)[^{;]*\{", text):
-        yield found[1], found.start(), found.end() - 1, end_of_braces(text, found.end() - 1)
+def shapes():
+    for path, wanted in SHAPES.items():
+        found = " ".join(code(path).split())
+        yield from (f"{path}: there is no {it}" for it in wanted if found.count(it) != 1)
 
 
-def reading(path, text):
-    """The words of reading in a text that runs, but for imports that give no other name, and structs: the index and the word of each."""
-    heads = r"\buse\b(?![^;]*\bas\b)[^;]*;|\bstruct \w+[^{;]*\{[^}]*\}|\bfn \w+[^{;]*\{"
-    uses = re.sub(heads, lambda it: re.sub(r"[^\n]", " ", it[0]), text)
-    pattern = "|".join(words for begins, words in READING.items() if path.startswith(begins))
-    return [(found.start(), found.group()) for found in re.finditer(pattern, uses)]
+def bounds():
+    for (path, name), (least, most) in BOUNDS.items():
+        found = re.findall(rf"\bconst {name}: usize = ([^;]*);", code(path))
+        if len(found) != 1 or not found[0].isdecimal() or not least <= int(found[0]) <= most:
+            yield f"{path}: {name} is {', '.join(found)}, and not from {least} to {most}"
 
 
-def mark_above(lines, number):
-    """The number of the line and the text of the mark above a function, whose line has this number."""
-    while number > 0 and re.match(r" *(//|#\[)", lines[number - 1]):
-        number -= 1
-        if found := MARK.match(lines[number]):
-            return number, found[1]
-    return None, None
-
-
-def mark_of(path, body, functions):
-    """The mark that a function with this body has to have."""
-    fields = r"\bbytes\b|\bpacker\b|(?<=self\.)(?:rest|tail)\b" if path.startswith("list2/packed_list") else "(?!)"
-    found = re.findall(rf"\b(for|while|loop)\b|\b(\w+)(?:::<[^()]*>)?\(|({fields})", body)
-    named = [loop or field or call for loop, call, field in found if loop or field or call in functions - {"len"}]
-    kept = [it for at, it in enumerate(named) if it not in ("bytes", "packer", "rest", "tail") or it not in named[:at]]
-    return ", ".join(kept)
-
-
-def called_in(texts):
-    """The functions of the crate with these texts, and the calls of a packer."""
-    return {name for text in texts.values() for name in re.findall(r"\bfn (\w+)", text)}.union(BY_KIND, NINE)
-
-
-def marks():
-    texts = {path.removeprefix(f"{LISTS}/"): code(path) for path in paths(f"{LISTS}/**/*.rt")}
-    named = called_in(texts)
-    for path, text in texts.items():
-        for found in re.finditer(NEVER, text):
-            inside = (re.findall(r"\bfn (\w+)", text[: found.start()]) or [None])[-1]
-            yield f"{at(f'{LISTS}/{path}', text, found.start())}: {inside} names {found.group()}"
-        lines, found, attached = text_of(f"{LISTS}/{path}").split("\n"), reading(path, text), set()
-        for name, start, begins, ends in functions_in(text):
-            inside = [(index, word) for index, word in found if begins <= index < ends]
-            found = [it for it in found if it not in inside]
-            number, mark = mark_above(lines, text.count("\n", 0, start))
-            attached.add(number)
-            right = mark_of(path, text[begins:ends], named)
-            if mark is None:
-                lacking = [f"{at(f'{LISTS}/{path}', text, index)}: {name} names {word}, and has no mark: {right}" for index, word in inside]
-                yield from dict.fromkeys(lacking)
-            elif not inside:
-                yield f"{LISTS}/{path}:{number + 1}: {name} has a mark, and reads nothing"
-            elif mark != right:
-                yield f"{LISTS}/{path}: {name} has {right}, and not {mark}"
-        yield from (f"{at(f'{LISTS}/{path}', text, index)}: no function names {word}" for index, word in found)
-        for number in set(range(len(lines))) - attached:
-            if MARK.match(lines[number]):
-                yield f"{LISTS}/{path}:{number + 1}: a mark that is not above a function"
-
-
-def walks():
-    if len(re.findall(WALK, code(f"{LISTS}/list2/packed_list/walk.rt"))) != 1:
-        yield f"{LISTS}/list2/packed_list/walk.rt: the loop goes on where nothing is wanted"
-
-
-PARTS = [proofs_by_hand, slices, steps, registers, kernels, program, packers, levels, marks, walks]
+PARTS = [proofs_by_hand, slices, steps, registers, kernels, program, packers, levels, marks, shapes, bounds]
 
 
 if __name__ == "__main__":

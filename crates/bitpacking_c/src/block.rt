@@ -8,6 +8,7 @@ use bitpacking::laws::one_least_width;
 use bitpacking::{Counted, Kind, MAX_WIDTH, Steps};
 
 /// Packs a block at a width.
+// Reads values: width_counted, pack_counted.
 #[inline(always)]
 pub(crate) fn compress<P: Counted>(
     packer: &P,
@@ -36,6 +37,7 @@ pub(crate) fn compress<P: Counted>(
 }
 
 /// Unpacks a block.
+// Reads bytes: unpack_counted.
 #[inline(always)]
 pub(crate) fn decompress<P: Counted>(
     packer: &P,
@@ -60,6 +62,7 @@ pub(crate) fn decompress<P: Counted>(
 }
 
 /// The least width of a block.
+// Reads values: width_counted.
 #[inline(always)]
 pub(crate) fn num_bits<P: Counted>(
     packer: &P,
@@ -76,6 +79,7 @@ pub(crate) fn num_bits<P: Counted>(
 }
 
 /// Packs a block at its least width, and gives the width.
+// Reads values: width_counted, pack_counted.
 #[inline(always)]
 pub(crate) fn pack<P: Counted>(
     packer: &P,

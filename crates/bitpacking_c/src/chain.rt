@@ -8,6 +8,7 @@ use bitpack_lists::chain;
 use bitpacking::{BitPacker, Kind, MAX_WIDTH};
 
 /// Packs blocks, each at its least width. If there is no room for any chain of these values, this one is measured first.
+// Reads values: pack_all, packed_len, pack_measured.
 #[inline(always)]
 pub(crate) fn pack_all<P: BitPacker>(
     packer: &P,
@@ -36,6 +37,7 @@ pub(crate) fn pack_all<P: BitPacker>(
 }
 
 /// Unpacks blocks that were packed as a chain.
+// Reads bytes: test_widths, unpack_all.
 #[inline(always)]
 pub(crate) fn unpack_all<P: BitPacker>(
     packer: &P,

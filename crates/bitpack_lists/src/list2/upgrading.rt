@@ -64,6 +64,7 @@ pub fn upgrade<P: BitPacker>(packer: &P, bytes: &[u8], out: &mut Vec<u8>) -> Res
 
 /// Tests the order of the values whose blocks and tail these bytes are. Returns the kind of what follows the blocks, or the first
 /// position out of order.
+// Reads bytes: first, for, unpack_block, first_out, first_out_of_words.
 pub(crate) fn test_order<P: BitPacker>(
     packer: &P,
     header: Header,
@@ -99,6 +100,7 @@ pub(crate) fn test_order<P: BitPacker>(
 }
 
 /// Appends an entry for each whole block. There is room for them.
+// Reads bytes: first, for, unpack_block, write.
 pub(crate) fn write_entries<P: BitPacker>(
     packer: &P,
     header: Header,

@@ -16,6 +16,7 @@ impl<'a, P: BitPacker> PackedList<'a, P> {
     /// Appends all values. Unpacks each block once.
     ///
     /// Fails only with `Memory`, if the vector cannot grow by the length of the list.
+    // Reads bytes: append_zeros, copy_to.
     pub fn append_to(&self, out: &mut Vec<u32>) -> Result<(), ListError>
         ensures ok { OnOk result (out.new.items ≡ out.old.items ++ values self.now) }
         ensures memory { IfErr result (λ e. e ≡ ListError.Memory) }

@@ -33,6 +33,7 @@ impl<'a, P: BitPacker> PackedList<'a, P> {
     }
 
     /// The value at an index of a tail of version 3. Unpacks the groups up to the value's.
+    // Reads bytes: end_of_group, unpack_tail.
     fn value_in_groups(&self, index: usize) -> u32
         requires version { self.now.version ≡ Version.Three }
         requires index { index < tail_values P.lanes self.now.count }
