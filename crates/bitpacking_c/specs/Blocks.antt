@@ -7,6 +7,10 @@ use Rattle.bitpack_lists.specs.Parts.{whole_blocks}
 use Rattle.bitpack_lists.specs.Places.{InOrder}
 use Rattle.bitpacking_c.specs.Views.{IsListOf}
 
+-- at most one more block was unpacked
+abbrev pub AtMostOne : ℕ → ℕ → Type 0
+AtMostOne before after = (before ≤ after) × (after ≤ before + 1)
+
 module _ (lanes : ℕ) (bytes : List ℕ) where
   -- so it is of each list that the bytes are
   abbrev pub Each : (ListKind → List ℕ → Type 0) → Type 0

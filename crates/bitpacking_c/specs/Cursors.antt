@@ -2,7 +2,9 @@
 use Rattle.std.specs.Prelude.{◌≡◌, ℕ, ◌+◌, ◌-◌, ◌*◌, ◌<◌, ◌≤◌, ℤ, pos, negsuc, min, List, ◌++◌, length, drop, take}
 use Rattle.bitpack_lists.specs.declared.list_kind.ListKind.{ListKind}
 use Rattle.bitpack_lists.specs.declared.list_kind.ListKind.TheVariants.{Plain}
+use Rattle.bitpack_lists.specs.Blocks.{blocks_over}
 use Rattle.bitpack_lists.specs.Places.{IsSoughtFrom}
+use Rattle.bitpacking_c.specs.Blocks.{AtMostOne}
 use Rattle.bitpacking_c.specs.declared.list_cursor.ListCursor.{ListCursor}
 use Rattle.bitpacking_c.specs.Views.{IsListOf}
 
@@ -17,6 +19,12 @@ left_at_hand cursor = cursor.len - cursor.index
 -- a list that the cursor is in
 abbrev pub IsListOfCursor : ListCursor → ListKind → List ℕ → Type 0
 IsListOfCursor cursor = IsListOf cursor.list.lanes cursor.list.bytes.now
+
+-- a cursor moved in its list, and at most one more block was unpacked: the one that it moved to, and none if it stayed in its block
+pub record MovesAhead (old new : ListCursor) (before after : ℕ) : Type 0 where
+  pub list : new.list ≡ old.list
+  pub later : after + old.block ≤ before + new.block
+  pub one : AtMostOne before after
 
 -- the answer says whether a value is at a position
 abbrev pub SaysSome : List ℕ → ℕ → ℤ → Type 0
@@ -36,3 +44,9 @@ abbrev pub UnpacksFrom : ℕ → List ℕ → List ℕ → List ℕ → ℤ → 
 UnpacksFrom from all before after answer =
     let count = min (length before) (length all - from) in
     (answer ≡ pos count) × (after ≡ take count (drop from all) ++ drop count before)
+
+-- the answer is the number of values from a position on, and at most the blocks that hold these were unpacked
+abbrev pub UnpacksOver : ℕ → ℕ → ℤ → ℕ → ℕ → Type 0
+UnpacksOver lanes from answer before after =
+    (count : ℕ) × (answer ≡ pos count)
+    × (count ≡ 0 → after ≡ before) × (0 < count → after ≤ before + blocks_over lanes from count)

@@ -3,7 +3,7 @@
 ghost use Rattle.std.specs.Prelude.{◌≡◌, ◌+◌, ◌-◌, ℕ, ℤ, List, None, length, slice_get};
 ghost use Rattle.bitpack_lists.specs.declared.list_kind.ListKind.{ListKind};
 ghost use Rattle.bitpack_lists.specs.Texts.{IsText, fault_of_either, version_in};
-ghost use Rattle.bitpacking_c.specs.Cursors.{Advances, IsListOfCursor, SeeksOn, UnpacksFrom, left_at_hand, position};
+ghost use Rattle.bitpacking_c.specs.Cursors.{Advances, IsListOfCursor, SeeksOn, UnpacksFrom, UnpacksOver, left_at_hand, position};
 ghost use Rattle.bitpacking_c.specs.Views.{Gets, IsListOf};
 
 use crate::list_cursor::ListCursor;
@@ -11,7 +11,7 @@ use crate::list_view::ListView;
 use bitpack_lists::list2::{PackedList, Reads};
 use bitpacking::{BitPacker, BitPacker1x, BitPacker4x, BitPacker8x};
 
-/// Sets a cursor to the first value of a list. One block is unpacked at most.
+/// Sets a cursor to the first value of a list. Unpacks at most one block.
 // Reads bytes: start, new.
 #[unsafe(no_mangle)]
 pub extern "C" fn bitpacking_cursor_start<'a>(cursor: &mut ListCursor<'a>, view: &ListView<'a>)
@@ -44,8 +44,8 @@ pub extern "C" fn bitpacking_cursor_position(cursor: &ListCursor<'_>) -> usize
     cursor.position()
 }
 
-/// Moves a cursor to the next value. Answers 1 if there is a value at the new place, and else 0. After the last value it stays. One block is
-/// unpacked at most.
+/// Moves a cursor to the next value. Answers 1 if there is a value at the new place, and else 0. After the last value it stays. Unpacks at
+/// most one block, and none if the next value is in the block at hand.
 // Reads bytes: advance, new.
 #[unsafe(no_mangle)]
 pub extern "C" fn bitpacking_cursor_advance(cursor: &mut ListCursor<'_>) -> i32
@@ -68,7 +68,7 @@ pub extern "C" fn bitpacking_cursor_seek(cursor: &mut ListCursor<'_>, target: u3
     cursor.seek(target, &mut Reads::new())
 }
 
-/// Moves a cursor past the values of the block at hand, to the next one. One block is unpacked at most.
+/// Moves a cursor past the values of the block at hand, to the next one. Unpacks at most one block.
 // Reads bytes: skip_block, new.
 #[unsafe(no_mangle)]
 pub extern "C" fn bitpacking_cursor_skip_block(cursor: &mut ListCursor<'_>)
@@ -81,7 +81,7 @@ pub extern "C" fn bitpacking_cursor_skip_block(cursor: &mut ListCursor<'_>)
 
 /// Writes the values of a list from a position on to the front of `values`, as many as there are and as fit, and answers their number. The
 /// rest of `values` stays as it was. Each block that has one of them is unpacked once, and no other.
-// Reads bytes: unpack_from, unpack_from, unpack_from.
+// Reads bytes: new, unpack_from, unpack_from, unpack_from.
 #[unsafe(no_mangle)]
 pub extern "C" fn bitpacking_list_range(
     view: &ListView<'_>,
@@ -91,22 +91,30 @@ pub extern "C" fn bitpacking_list_range(
     ensures { (kind : ListKind) (all : List ℕ) → IsListOf view.now.lanes view.now.bytes.now kind all
         → UnpacksFrom from all values.old values.new result }
 {
+    let mut reads = Reads::new();
     match view.lanes {
         0 => 0,
-        1 => unpack_from(BitPacker1x::new(), view.bytes, from, values),
-        4 => unpack_from(BitPacker4x::new(), view.bytes, from, values),
-        _ => unpack_from(BitPacker8x::new(), view.bytes, from, values),
+        1 => unpack_from(BitPacker1x::new(), view.bytes, from, values, &mut reads),
+        4 => unpack_from(BitPacker4x::new(), view.bytes, from, values, &mut reads),
+        _ => unpack_from(BitPacker8x::new(), view.bytes, from, values, &mut reads),
     }
 }
 
 /// Unpacks a text of a packer from a position on.
-// Reads bytes: from_validated_any, copy_from, new.
+// Reads bytes: from_validated_any, copy_from.
 #[inline(always)]
-fn unpack_from<P: BitPacker>(packer: P, bytes: &[u8], from: usize, values: &mut [u32]) -> isize
+fn unpack_from<P: BitPacker>(
+    packer: P,
+    bytes: &[u8],
+    from: usize,
+    values: &mut [u32],
+    reads: &mut Reads,
+) -> isize
     requires { fault_of_either P.lanes bytes.now ≡ None }
-    ensures { (kind : ListKind) (all : List ℕ) → IsText (version_in bytes.now) P.lanes kind all bytes.now
+    ensures values { (kind : ListKind) (all : List ℕ) → IsText (version_in bytes.now) P.lanes kind all bytes.now
         → UnpacksFrom from all values.old values.new result }
+    ensures blocks { UnpacksOver P.lanes from result reads.old.blocks reads.new.blocks }
 {
     let list = PackedList::from_validated_any(packer, bytes);
-    list.copy_from(from, values, &mut Reads::new()) as isize
+    list.copy_from(from, values, reads) as isize
 }

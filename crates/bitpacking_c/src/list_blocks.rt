@@ -2,7 +2,7 @@
 
 ghost use Rattle.std.specs.Prelude.{◌≡◌, ◌+◌, ◌≤◌, None, length};
 ghost use Rattle.bitpack_lists.specs.Texts.{fault_of_either};
-ghost use Rattle.bitpacking_c.specs.Blocks.{AreOrdered, HasBlock, HasRead, IsAfterBelow, IsFound};
+ghost use Rattle.bitpacking_c.specs.Blocks.{AreOrdered, AtMostOne, HasBlock, HasRead, IsAfterBelow, IsFound};
 
 use crate::list_view::ListView;
 use bitpack_lists::list2::{PackedList, Reads};
@@ -19,7 +19,7 @@ pub(crate) fn read_block(
     requires block { HasBlock view.now.lanes view.now.bytes.now block }
     requires room { length out.old ≡ MAX_BLOCK_LEN }
     ensures read { HasRead view.now.lanes view.now.bytes.now block result out.new }
-    ensures one { reads.new.blocks ≤ reads.old.blocks + 1 }
+    ensures one { AtMostOne reads.old.blocks reads.new.blocks }
 {
     match view.lanes {
         0 => 0,
@@ -43,7 +43,7 @@ fn read_in<P: BitPacker>(
     requires block { HasBlock P.lanes bytes.now block }
     requires room { length out.old ≡ MAX_BLOCK_LEN }
     ensures read { HasRead P.lanes bytes.now block result out.new }
-    ensures one { reads.new.blocks ≤ reads.old.blocks + 1 }
+    ensures one { AtMostOne reads.old.blocks reads.new.blocks }
 {
     PackedList::from_validated_any(packer, bytes).read_block(block, out, reads)
 }
@@ -62,9 +62,10 @@ pub(crate) fn find_block(
     requires from { HasBlock view.now.lanes view.now.bytes.now from }
     requires below { IsAfterBelow view.now.lanes view.now.bytes.now target from }
     requires room { length out.old ≡ MAX_BLOCK_LEN }
+    ensures forward { from ≤ result.0 }
     ensures found { IsFound view.now.lanes view.now.bytes.now target from result.0 }
     ensures read { HasRead view.now.lanes view.now.bytes.now result.0 result.1 out.new }
-    ensures one { reads.new.blocks ≤ reads.old.blocks + 1 }
+    ensures one { AtMostOne reads.old.blocks reads.new.blocks }
 {
     match view.lanes {
         0 => (0, 0),
@@ -90,9 +91,10 @@ fn find_in<P: BitPacker>(
     requires from { HasBlock P.lanes bytes.now from }
     requires below { IsAfterBelow P.lanes bytes.now target from }
     requires room { length out.old ≡ MAX_BLOCK_LEN }
+    ensures forward { from ≤ result.0 }
     ensures found { IsFound P.lanes bytes.now target from result.0 }
     ensures read { HasRead P.lanes bytes.now result.0 result.1 out.new }
-    ensures one { reads.new.blocks ≤ reads.old.blocks + 1 }
+    ensures one { AtMostOne reads.old.blocks reads.new.blocks }
 {
     let list = PackedList::from_validated_any(packer, bytes);
     let number = list.find_block(from, target, reads);

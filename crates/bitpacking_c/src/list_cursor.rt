@@ -14,6 +14,8 @@ use bitpacking::MAX_BLOCK_LEN;
 
 /// A place in an opened list that only moves forward. It borrows the bytes of the list, as its view does.
 ///
+/// However it is moved, it unpacks each block of the list at most once: one at its start, and then only the block that it moves to.
+///
 /// C has to set all of it to zero before it is used: it is then at the end of an empty list.
 #[repr(C)]
 #[derive(Drop)]
@@ -39,7 +41,8 @@ pub struct ListCursor<'a> {
 impl<'a> ListCursor<'a> {
     ghost use Rattle.std.specs.Prelude.{◌-◌, ◌<◌, true, false, length, drop, slice_get, slice_index};
     ghost use Rattle.bitpack_lists.specs.Places.{IsSoughtFrom};
-    ghost use Rattle.bitpacking_c.specs.Cursors.{Advances, IsListOfCursor, SeeksOn, left_at_hand, position};
+    ghost use Rattle.bitpacking_c.specs.Blocks.{AtMostOne};
+    ghost use Rattle.bitpacking_c.specs.Cursors.{Advances, IsListOfCursor, MovesAhead, SeeksOn, left_at_hand, position};
 
     /// At the end of an empty list: the cursor that is all zero.
     pub fn empty() -> ListCursor<'a>
@@ -64,7 +67,7 @@ impl<'a> ListCursor<'a> {
     pub(crate) fn start(&mut self, view: &ListView<'a>, reads: &mut Reads)
         ensures list { (self.new.list.bytes.now ≡ view.now.bytes.now) × (self.new.list.lanes ≡ view.now.lanes) }
         ensures first { position self.new ≡ 0 }
-        ensures blocks { reads.new.blocks ≤ reads.old.blocks + 1 }
+        ensures blocks { AtMostOne reads.old.blocks reads.new.blocks }
     {
         let len = read_block(view, 0, &mut self.values, reads);
         self.list = ListView {
@@ -115,10 +118,9 @@ impl<'a> ListCursor<'a> {
     // Reads bytes: next_block.
     #[inline(always)]
     pub(crate) fn advance(&mut self, reads: &mut Reads) -> i32
-        ensures list { self.new.list ≡ self.old.list }
         ensures moved { (kind : ListKind) (all : List ℕ) → IsListOfCursor self.old kind all
             → Advances all (position self.old) (position self.new) result }
-        ensures blocks { reads.new.blocks ≤ reads.old.blocks + 1 }
+        ensures step { MovesAhead self.old self.new reads.old.blocks reads.new.blocks }
     {
         if self.index + 1 < self.len {
             self.index += 1;
@@ -131,10 +133,9 @@ impl<'a> ListCursor<'a> {
     /// Moves past the values of `block`.
     // Reads bytes: next_block.
     pub(crate) fn skip_block(&mut self, reads: &mut Reads)
-        ensures list { self.new.list ≡ self.old.list }
         ensures moved { (kind : ListKind) (all : List ℕ) → IsListOfCursor self.old kind all
             → position self.new ≡ position self.old + left_at_hand self.old }
-        ensures blocks { reads.new.blocks ≤ reads.old.blocks + 1 }
+        ensures step { MovesAhead self.old self.new reads.old.blocks reads.new.blocks }
     {
         if self.index < self.len {
             self.index = self.len - 1;
@@ -146,12 +147,11 @@ impl<'a> ListCursor<'a> {
     // Reads bytes: is_whole, read_block.
     fn next_block(&mut self, reads: &mut Reads)
         requires { self.old.len ≤ self.old.index + 1 }
-        ensures list { self.new.list ≡ self.old.list }
         ensures next { (kind : ListKind) (all : List ℕ) → IsListOfCursor self.old kind all
             → position self.old < length all → position self.new ≡ position self.old + 1 }
         ensures end { (kind : ListKind) (all : List ℕ) → IsListOfCursor self.old kind all
             → length all ≤ position self.old → position self.new ≡ position self.old }
-        ensures blocks { reads.new.blocks ≤ reads.old.blocks + 1 }
+        ensures step { MovesAhead self.old self.new reads.old.blocks reads.new.blocks }
     {
         if self.is_whole() {
             let next = self.block + 1;
@@ -175,10 +175,9 @@ impl<'a> ListCursor<'a> {
     // Reads bytes: first_from, leap.
     #[inline(always)]
     pub(crate) fn seek(&mut self, target: u32, reads: &mut Reads) -> i32
-        ensures list { self.new.list ≡ self.old.list }
         ensures moved { (kind : ListKind) (all : List ℕ) → IsListOfCursor self.old kind all
             → SeeksOn kind all target (position self.old) (position self.new) result }
-        ensures blocks { reads.new.blocks ≤ reads.old.blocks + 1 }
+        ensures step { MovesAhead self.old self.new reads.old.blocks reads.new.blocks }
     {
         if self.ordered == 0 {
             return -23;
@@ -196,10 +195,9 @@ impl<'a> ListCursor<'a> {
     fn leap(&mut self, target: u32, reads: &mut Reads)
         requires ordered { self.old.ordered ≢ 0 }
         requires below { self.old.index < self.old.len → slice_index self.old.values (self.old.len - 1) < target }
-        ensures list { self.new.list ≡ self.old.list }
         ensures sought { (kind : ListKind) (all : List ℕ) → IsListOfCursor self.old kind all
             → IsSoughtFrom all target (position self.old) (position self.new) }
-        ensures blocks { reads.new.blocks ≤ reads.old.blocks + 1 }
+        ensures step { MovesAhead self.old self.new reads.old.blocks reads.new.blocks }
     {
         if self.is_whole() {
             let (block, len) = find_block(

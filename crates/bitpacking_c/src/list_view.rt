@@ -302,7 +302,8 @@ fn seek(
 }
 
 /// Writes the position and the value of the first value that is at least the target, and answers 1. If every value is below it, it
-/// answers 0, and for a plain list, which has no order, -23; both write nothing. One block is unpacked at most.
+/// answers 0, and for a plain list, which has no order, -23; both write nothing. At most one block is unpacked. In version 3 the last entry
+/// is read twice more than the search reads it.
 // Reads bytes: seek, new.
 #[unsafe(no_mangle)]
 pub extern "C" fn bitpacking_list_seek(

@@ -1,5 +1,7 @@
 -- The packer is that of the view.
-use Rattle.std.proofs.Common.{◌≡◌, rules}
+use Rattle.std.proofs.Common.{◌≡◌, [], refl, rules}
+use Rattle.bitpack_lists.specs.declared.list_kind.ListKind.TheVariants as lists
+use Rattle.bitpacking_c.specs.Blocks.{HasBlock}
 use Rattle.bitpacking_c.proofs.list_blocks.find_block.Goals as goal
 
 pub find_in-requires-clause-ordered : goal.find_in-requires-clause-ordered
@@ -34,3 +36,8 @@ pub find_in-requires-in_default-clause-below : goal.find_in-requires-in_default-
 find_in-requires-in_default-clause-below c =
     let eight : c.args.view.now.lanes ≡ 8 = search rules in
     rw eight at c.requires.below
+
+pub returns-in-0-clause-forward : goal.returns-in-0-clause-forward
+returns-in-0-clause-forward c =
+    let from : HasBlock 0 c.args.view.now.bytes.now c.args.from = rw c.in-0.is at c.requires.from in
+    from lists.Plain [] (refl, refl)
