@@ -4,7 +4,7 @@
 #include <stdio.h>
 #include <stdlib.h>
 
-enum { VERSION = 3, STRICTLY_SORTED = 2, DOCUMENTS = 1000 };
+enum { VERSION = BITPACKING_LIST_VERSION_3, KIND = BITPACKING_STRICTLY_SORTED, DOCUMENTS = 1000 };
 
 /* The words. A document has a word if this number divides its own, which is from 1 on. */
 enum { EVEN, FIZZ, BUZZ, WORDS };
@@ -30,7 +30,7 @@ static size_t pack(const uint32_t *documents, size_t count, struct list *list)
 {
     const bitpacking_list empty = BITPACKING_LIST_EMPTY;
     size_t position;
-    ptrdiff_t size = bitpacking_4x_list_size(VERSION, STRICTLY_SORTED, documents, count, &position);
+    ptrdiff_t size = bitpacking_4x_list_size(VERSION, KIND, documents, count, &position);
 
     if (size < 0) {
         fprintf(stderr, "document %u of a list is out of order\n", (unsigned)position);
@@ -38,7 +38,7 @@ static size_t pack(const uint32_t *documents, size_t count, struct list *list)
     }
     list->bytes = checked(malloc((size_t)size));
     list->view = empty;
-    bitpacking_4x_list_pack(VERSION, STRICTLY_SORTED, documents, count, list->bytes, (size_t)size, &position);
+    bitpacking_4x_list_pack(VERSION, KIND, documents, count, list->bytes, (size_t)size, &position);
     bitpacking_list_open(list->bytes, (size_t)size, &list->view); /* neither fails: the size was right, and this is a list */
     return (size_t)size;
 }

@@ -4,19 +4,20 @@
 #include <stdio.h>
 #include <stdlib.h>
 
-enum { COUNT = 300, VERSION = 2, STRICTLY_SORTED = 2 };
+enum { COUNT = 300 };
 
 int main(void)
 {
     uint32_t documents[COUNT], value = 0;
-    uint8_t bytes[7 + 9 * (COUNT / 128) + 4 * COUNT]; /* always enough */
+    uint8_t bytes[BITPACKING_LIST_ROOM(COUNT)]; /* always enough */
     bitpacking_list list = BITPACKING_LIST_EMPTY;
     size_t i, position;
     ptrdiff_t size;
 
     for (i = 0; i < COUNT; i++)
         documents[i] = (uint32_t)(3 * i + i % 2);
-    size = bitpacking_4x_list_pack(VERSION, STRICTLY_SORTED, documents, COUNT, bytes, sizeof bytes, &position);
+    size = bitpacking_4x_list_pack(BITPACKING_LIST_VERSION_2, BITPACKING_STRICTLY_SORTED, documents, COUNT, bytes, sizeof bytes,
+                                   &position);
     if (size < 0) {
         fprintf(stderr, "%s\n", bitpacking_error_text(size));
         return EXIT_FAILURE;

@@ -1,13 +1,17 @@
 /* bitpacking.h: blocks of 32-bit integers packed in few bits per value, and chains and lists of such blocks.
  *
- * The functions are in the static library libbitpacking_c.a; docs/C.md of the repository says how to build it.
- * What each call returns and writes is proved for all arguments that meet these rules:
+ * The functions are in a static library; docs/C.md of the repository says how to build it. libbitpacking.a is for all levels of x86-64, and
+ * libbitpacking_c.a for one level, or for aarch64. Three functions are `static inline` here, and in no archive: bitpacking_list_empty,
+ * bitpacking_cursor_block and bitpacking_error_text.
+ *
+ * What each call of the archive returns and writes is proved for all arguments that meet these rules:
  *
  * - A pointer with a length after it is to that many items. It may be NULL if the length is 0.
- * - The pointers num_bits, view, position and item are to one item each, and must not be NULL.
+ * - The pointers num_bits, view, cursor, position and item are to one item each, and must not be NULL.
  * - Pointers are aligned for their type.
- * - The buffers that a call writes overlap none of its other arguments.
+ * - The buffers that a call writes overlap none of its other arguments, and no bytes of a view or a cursor.
  * - Nothing else writes to an argument during a call, and nothing reads what the call writes.
+ * - The bytes of a list stay as they are while a view or a cursor of it is used: see bitpacking_list below.
  *
  * The functions take no memory and have no state: they may run on any threads at once.
  *
@@ -22,7 +26,8 @@
  *     strictly_sorted    one less than that, modulo 2^32                       initial, or BITPACKING_NO_INITIAL for none
  *
  * A call that works returns a number of bytes, or a width, from 0 on. A call that does not returns one of the negative
- * numbers below, and has then written nothing: the buffers are as they were.
+ * numbers below, and has then written nothing: the buffers are as they were. Only list_pack and list_size write at one error, the
+ * position of a value that is out of order.
  *
  *     uint32_t values[128], back[128];
  *     uint8_t bytes[BITPACKING_4X_BLOCK_SIZE(BITPACKING_MAX_WIDTH)], width;
@@ -208,8 +213,11 @@ ptrdiff_t bitpacking_8x_unpack_all_strictly_sorted(uint32_t initial, const uint8
  *
  * A view is set to BITPACKING_LIST_EMPTY or bitpacking_list_empty() before anything else, or all of it to zero: each is the empty list.
  * Then it is opened, as often as one likes. It has a pointer to the bytes, and no memory of its own. The caller keeps the bytes where
- * they are, unchanged, for as long as the view is used. A view may be copied, and the same is true of the copy. Only the open functions
- * may write the fields.
+ * they are, unchanged, for as long as the view or a copy of it is used. Only the open functions may write its fields.
+ *
+ * The library tests the bytes once, at opening. Later calls trust them. If the bytes change, a call may read or write outside its
+ * buffers. Keep them in memory that nothing writes. Replace a file by renaming a new one, and never write into one that is mapped; a
+ * mapped file that is cut ends the process with SIGBUS.
  *
  *     bitpacking_list list = BITPACKING_LIST_EMPTY;
  *     uint32_t value;
@@ -223,6 +231,18 @@ typedef struct bitpacking_list {
 } bitpacking_list;
 
 #define BITPACKING_LIST_EMPTY {NULL, 0, 0}
+
+/* The kinds of a list. The values of a sorted list do not decrease, and the values of a strictly sorted one increase. */
+#define BITPACKING_PLAIN 0
+#define BITPACKING_SORTED 1
+#define BITPACKING_STRICTLY_SORTED 2
+
+/* The versions of a list. */
+#define BITPACKING_LIST_VERSION_2 2
+#define BITPACKING_LIST_VERSION_3 3
+
+/* Room that is enough for every list of values_len values, in bytes: of each packer, version and kind. */
+#define BITPACKING_LIST_ROOM(values_len) (7 + 4 * sizeof(uint8_t) * (values_len) + 9 * sizeof(uint8_t) * ((values_len) / 32))
 
 /* A view that is the empty list, for an assignment. */
 static inline bitpacking_list bitpacking_list_empty(void)
@@ -243,7 +263,7 @@ ptrdiff_t bitpacking_8x_list_open(const uint8_t *bytes, size_t bytes_len, bitpac
 
 #define BITPACKING_LIST_SHORT (-21)       /* bytes are missing */
 #define BITPACKING_LIST_BAD_VERSION (-22) /* the text is of another version */
-#define BITPACKING_LIST_BAD_KIND (-23)    /* the kind is none; of a search: the list is plain */
+#define BITPACKING_LIST_BAD_KIND (-23)    /* the kind is none; in a search or a set call: the list is plain, and has no order */
 #define BITPACKING_LIST_WRONG_LANES (-24) /* the text is of another packer */
 #define BITPACKING_LIST_TOO_LONG (-25)    /* more than 268,435,456 values */
 #define BITPACKING_LIST_BAD_WIDTH (-26)   /* a width is above BITPACKING_MAX_WIDTH */
@@ -258,7 +278,7 @@ ptrdiff_t bitpacking_8x_list_open(const uint8_t *bytes, size_t bytes_len, bitpac
 /* How many values an opened list has. */
 size_t bitpacking_list_len(const bitpacking_list *view);
 
-/* The kind of an opened list: 0 for plain, 1 for sorted, 2 for strictly sorted. */
+/* The kind of an opened list: BITPACKING_PLAIN, BITPACKING_SORTED or BITPACKING_STRICTLY_SORTED. */
 uint8_t bitpacking_list_kind(const bitpacking_list *view);
 
 /* Writes the value at a position, from 0 on, and returns 1. If there is no such position it returns 0 and writes nothing. It unpacks
@@ -275,15 +295,16 @@ ptrdiff_t bitpacking_list_range(const bitpacking_list *view, size_t from, uint32
 
 /* Searches a sorted or strictly sorted list for the first value that is at least target. Writes its position, the value, and
  * returns 1. If every value is below the target it returns 0, and for a plain list BITPACKING_LIST_BAD_KIND; then nothing is
- * written. It reads at most as many entries as the count of whole blocks has binary digits, and unpacks one block at most. */
+ * written. Compare the answer with `== 1`: in an `if`, BITPACKING_LIST_BAD_KIND is true as well. The call unpacks at most one block. It
+ * reads at most as many entries as the count of whole blocks has binary digits, and in a list of version 3 the last entry twice more. */
 int32_t bitpacking_list_seek(const bitpacking_list *view, uint32_t target, size_t *position, uint32_t *item);
 
 /* A place in an opened list that only moves forward. It has the values of the block at hand, and no memory of its own.
  *
  * All of a cursor is set to zero before anything else: it is then at the end of an empty list. bitpacking_cursor_start sets it to the first
  * value of a view, as often as one likes. The caller keeps the bytes of the list where they are, unchanged, for as long as the cursor is
- * used; the view may go. A cursor may be copied, and the copy moves on its own. Only the functions below may write the fields. Each of them
- * unpacks one block at most.
+ * used; the view may go. A cursor may be copied, and the copy moves on its own. Only the functions below may write its fields. Each of them
+ * unpacks at most one block, and none if the cursor stays in its block: however it moves, a cursor unpacks each block at most once.
  *
  *     bitpacking_cursor cursor = {0};
  *     uint32_t value;
@@ -311,11 +332,12 @@ size_t bitpacking_cursor_position(const bitpacking_cursor *cursor);
 int32_t bitpacking_cursor_advance(bitpacking_cursor *cursor);
 
 /* Moves a cursor of a sorted or strictly sorted list to the first value from its place on that is at least target, and returns 1. If there
- * is none it moves to the end and returns 0. In a plain list it stays, and returns BITPACKING_LIST_BAD_KIND. */
+ * is none it moves to the end and returns 0. In a plain list it stays, and returns BITPACKING_LIST_BAD_KIND, which is true in an `if`:
+ * compare the answer with `== 1`. */
 int32_t bitpacking_cursor_seek(bitpacking_cursor *cursor, uint32_t target);
 
 /* Points *values at the values from here to the end of the block at hand, and returns how many these are: 0 only after the last value.
- * They are in the cursor, and stay until it moves. It is the one function that the archive does not have. */
+ * They are in the cursor, and stay until it moves. Neither pointer may be NULL. */
 static inline size_t bitpacking_cursor_block(const bitpacking_cursor *cursor, const uint32_t **values)
 {
     *values = cursor->values + cursor->index;
@@ -326,11 +348,10 @@ static inline size_t bitpacking_cursor_block(const bitpacking_cursor *cursor, co
 void bitpacking_cursor_skip_block(bitpacking_cursor *cursor);
 
 /* list_pack: writes a packed list of the values at the start of bytes, and returns its number of bytes. Bytes after those stay as they
- * were. version is 2 or 3. kind is 0 for plain, 1 for sorted and 2 for strictly sorted: the values of a sorted list do not decrease,
- * and the values of a strictly sorted one increase.
+ * were. version is BITPACKING_LIST_VERSION_2 or _3, and kind is BITPACKING_PLAIN, _SORTED or _STRICTLY_SORTED.
  * The first of: LIST_BAD_VERSION; LIST_BAD_KIND; LIST_TOO_LONG; LIST_NOT_SORTED, and then *position is the position of the first value
- * out of order; SHORT: bytes_len is below the number of bytes of the list. Nothing else is written then, and *position only if the
- * answer is LIST_NOT_SORTED. */
+ * out of order; SHORT: bytes_len is below the number of bytes of the list, which BITPACKING_LIST_ROOM(values_len) never is. Nothing else
+ * is written then, and *position only if the answer is LIST_NOT_SORTED. */
 ptrdiff_t bitpacking_1x_list_pack(uint8_t version, uint8_t kind, const uint32_t *values, size_t values_len,
                                   uint8_t *bytes, size_t bytes_len, size_t *position);
 ptrdiff_t bitpacking_4x_list_pack(uint8_t version, uint8_t kind, const uint32_t *values, size_t values_len,
@@ -388,9 +409,10 @@ static inline const char *bitpacking_error_text(ptrdiff_t number)
 }
 
 /* The values of any number of views, of any packers and versions, each value once and in increasing order. They go to the front of
- * out, and their number is returned; without views it is 0. A view may be there twice. The lists have to be sorted or strictly sorted.
+ * out, and their number is returned; without views it is 0. A view may stand twice among the views. The lists have to be sorted or
+ * strictly sorted.
  *
- * BITPACKING_LIST_BAD_KIND: one of the lists is plain, or is BITPACKING_LIST_EMPTY or all zero, which is plain too.
+ * BITPACKING_LIST_BAD_KIND: one of the lists is plain. A view that is BITPACKING_LIST_EMPTY or all zero is plain too.
  * BITPACKING_SHORT: there is less room than is always enough, even if the values themselves would fit.
  * Then nothing is written. Else any value of out may have changed, as out is also the work space: keep nothing there. */
 

@@ -180,7 +180,7 @@ def macros_not_named():
 
 def casts_in_the_header():
     """What a C++ compiler says of casts of C in the header and its macros, or None."""
-    macros = re.findall(r"^#define (BITPACKING_\w+)(\(num_bits\))? ", source("include/bitpacking.h"), re.M)
+    macros = re.findall(r"^#define (BITPACKING_\w+)(\(\w+\))? ", source("include/bitpacking.h"), re.M)
     uses = [f"used({name}{'(1)' if given else ''});" for name, given in macros if name != "BITPACKING_LIST_EMPTY"]
     lines = ["template <typename Item> static void used(Item) {}", "int main() { bitpacking_list list = BITPACKING_LIST_EMPTY; used(list);"]
     text = "\n".join(['#include "bitpacking.h"', *lines, *uses, "used(bitpacking_list_empty()); }", ""])

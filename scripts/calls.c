@@ -57,6 +57,22 @@ static void none(void)
     EXPECT(memcmp(values, back, sizeof values), 0);
 }
 
+/* Versions and kinds are their bytes in a text of version 2. The room of a list is a constant expression. */
+static void constants(void)
+{
+    uint8_t bytes[BITPACKING_LIST_ROOM(33)];
+
+    EXPECT(BITPACKING_PLAIN, 0);
+    EXPECT(BITPACKING_SORTED, 1);
+    EXPECT(BITPACKING_STRICTLY_SORTED, 2);
+    EXPECT(BITPACKING_LIST_VERSION_2, 2);
+    EXPECT(BITPACKING_LIST_VERSION_3, 3);
+    EXPECT(BITPACKING_LIST_ROOM(0), 7);
+    EXPECT(BITPACKING_LIST_ROOM(31), 7 + 31 * 4);
+    EXPECT(BITPACKING_LIST_ROOM(30 + 2), 7 + 32 * 4 + 9);
+    EXPECT(sizeof bytes, 7 + 33 * 4 + 9);
+}
+
 /* Each error of the calls on blocks, and that the buffers are as they were. */
 static void errors(void)
 {
@@ -307,6 +323,7 @@ int main(void)
     whole_blocks(8, BITPACKING_8X_BLOCK_LEN, BITPACKING_8X_BLOCK_SIZE(1), BITPACKING_8X_BLOCK_SIZE(1 + 1), bitpacking_8x_list_open);
     worked();
     none();
+    constants();
     errors();
     chains();
     lists();

@@ -1,5 +1,5 @@
 /* Lists that C packs, run by scripts/c.py as C99 and as C++, also under the address sanitizer: bytes worked by hand, each error with nothing
-   written, the texts of all errors. scripts/tables.c packs the lists of the tables. */
+   written, the room that is enough, the texts of all errors. scripts/tables.c packs the lists of the tables. */
 #include "bitpacking.h"
 
 #include <stdio.h>
@@ -99,30 +99,81 @@ static void empty(int packer)
     EXPECT((ptrdiff_t)position, 77);
 }
 
-/* Each error of the header has a sentence of its own, and no other number has one of these. */
+/* A list of any packer, version and kind fits the room that the header states. Here each value of a plain list needs all of its bits, and the
+   first of another one. In version 2 a plain list of one lane fills the room. Returns the size. */
+enum { MOST = 16512 };
+
+static ptrdiff_t fits(int packer, uint8_t version, uint8_t kind, size_t len)
+{
+    static uint32_t values[MOST];
+    static uint8_t bytes[BITPACKING_LIST_ROOM(MOST)];
+    const size_t room = BITPACKING_LIST_ROOM(len);
+    const int fills = version == BITPACKING_LIST_VERSION_2 && lanes[packer] == 1 && kind == BITPACKING_PLAIN;
+    bitpacking_list list = BITPACKING_LIST_EMPTY;
+    size_t position = 77, i;
+    ptrdiff_t size;
+
+    for (i = 0; i < len; i++)
+        values[i] = kind == BITPACKING_PLAIN ? UINT32_MAX : UINT32_MAX - (uint32_t)(len - 1 - i);
+    size = sizes[packer](version, kind, values, len, &position);
+    EXPECT(size > 0 && (size_t)size <= room, 1);
+    EXPECT(packs[packer](version, kind, values, len, bytes, room, &position), fills ? (ptrdiff_t)room : size);
+    EXPECT(bitpacking_list_open(bytes, (size_t)size, &list), 0);
+    EXPECT(bitpacking_list_len(&list), (ptrdiff_t)len);
+    EXPECT(bitpacking_list_kind(&list), kind);
+    return size;
+}
+
+/* Lengths at which blocks and groups begin and end, and numbers get longer. By hand: of version 3 and four lanes, 16,511 plain values of 32 bits
+   have a header of 1 + 3 bytes, 128 entries of 9 and bodies of 512, and 127 values of 4 bytes in 4 groups with a byte each. */
+static void rooms(int packer)
+{
+    static const size_t lens[] = {0,   1,   14,  15,  31,  32,  33,   63,   64,   65,    127,   128,   129,
+                                  255, 256, 257, 383, 511, 512, 1023, 1024, 8191, 16383, 16384, 16511, MOST};
+    uint8_t version, kind;
+    size_t i;
+
+    for (version = BITPACKING_LIST_VERSION_2; version <= BITPACKING_LIST_VERSION_3; version++)
+        for (kind = BITPACKING_PLAIN; kind <= BITPACKING_STRICTLY_SORTED; kind++)
+            for (i = 0; i < sizeof lens / sizeof *lens; i++)
+                fits(packer, version, kind, lens[i]);
+    if (lanes[packer] == 4)
+        EXPECT(fits(packer, BITPACKING_LIST_VERSION_3, BITPACKING_PLAIN, 16511), 67204);
+}
+
+/* Each error of the header has its sentence, and no other number has one of these. */
 static void texts(void)
 {
-    static const ptrdiff_t numbers[] = {
-        BITPACKING_BAD_LENGTH,       BITPACKING_BAD_WIDTH,        BITPACKING_SHORT,           BITPACKING_UNFIT,
-        BITPACKING_LIST_SHORT,       BITPACKING_LIST_BAD_VERSION, BITPACKING_LIST_BAD_KIND,   BITPACKING_LIST_WRONG_LANES,
-        BITPACKING_LIST_TOO_LONG,    BITPACKING_LIST_BAD_WIDTH,   BITPACKING_LIST_LOOSE_WIDTH, BITPACKING_LIST_BAD_OFFSET,
-        BITPACKING_LIST_BAD_LAST,    BITPACKING_LIST_NOT_SORTED,  BITPACKING_LIST_TRAILING,   BITPACKING_LIST_BAD_NUMBER,
-        BITPACKING_LIST_PADDING};
-    enum { COUNT = sizeof numbers / sizeof *numbers };
-    const char *unknown = bitpacking_error_text(0);
+    static const struct {
+        ptrdiff_t number;
+        const char *text;
+    } errors[] = {
+        {BITPACKING_BAD_LENGTH, "The number of values is wrong, or there is no room for them."},
+        {BITPACKING_BAD_WIDTH, "A width is above 32."},
+        {BITPACKING_SHORT, "The buffer is too short."},
+        {BITPACKING_UNFIT, "A value does not fit the width."},
+        {BITPACKING_LIST_SHORT, "Bytes of the list are missing."},
+        {BITPACKING_LIST_BAD_VERSION, "The version of the list is not supported."},
+        {BITPACKING_LIST_BAD_KIND, "The kind of the list is wrong."},
+        {BITPACKING_LIST_WRONG_LANES, "The list is of another packer."},
+        {BITPACKING_LIST_TOO_LONG, "A list has at most 268435456 values."},
+        {BITPACKING_LIST_BAD_WIDTH, "A width in the list is above 32."},
+        {BITPACKING_LIST_LOOSE_WIDTH, "A width in the list is not the least of its block."},
+        {BITPACKING_LIST_BAD_OFFSET, "An offset in the list is not the sum of the widths before it."},
+        {BITPACKING_LIST_BAD_LAST, "A last value in the list is not the one of its block."},
+        {BITPACKING_LIST_NOT_SORTED, "The values are not in order."},
+        {BITPACKING_LIST_TRAILING, "Bytes are left over after the list."},
+        {BITPACKING_LIST_BAD_NUMBER, "A number in the list does not have its only form."},
+        {BITPACKING_LIST_PADDING, "A bit after the codes of a group is set."}};
+    enum { COUNT = sizeof errors / sizeof *errors };
     ptrdiff_t number;
-    size_t found = 0, i, k;
+    size_t others = 0, i;
 
-    for (i = 0; i < COUNT; i++) {
-        const char *text = bitpacking_error_text(numbers[i]);
-
-        EXPECT(text[strlen(text) - 1], '.');
-        for (k = 0; k < i; k++)
-            EXPECT(strcmp(text, bitpacking_error_text(numbers[k])) != 0, 1);
-    }
+    for (i = 0; i < COUNT; i++)
+        EXPECT(strcmp(bitpacking_error_text(errors[i].number), errors[i].text), 0);
     for (number = -100; number <= 100; number++)
-        found += strcmp(bitpacking_error_text(number), unknown) != 0;
-    EXPECT((ptrdiff_t)found, COUNT);
+        others += strcmp(bitpacking_error_text(number), "No error has this number.") == 0;
+    EXPECT((ptrdiff_t)others, 201 - COUNT);
 }
 
 int main(void)
@@ -135,6 +186,7 @@ int main(void)
         worked(packer, 2, 3, 7);
         errors(packer);
         empty(packer);
+        rooms(packer);
     }
     texts();
     return failed;

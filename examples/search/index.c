@@ -154,12 +154,12 @@ void make_index(char *folder, const char *file, int paragraphs)
     for (size_t i = 0; i < words.len; i++)
         end_item(words.items[i]->text, strlen(words.items[i]->text) + 1);
     for (size_t i = 0; i < words.len; i++) {
-        write_list(STRICTLY_SORTED, &words.items[i]->documents);
-        write_list(PLAIN, &words.items[i]->counts);
+        write_list(BITPACKING_STRICTLY_SORTED, &words.items[i]->documents);
+        write_list(BITPACKING_PLAIN, &words.items[i]->counts);
     }
-    write_list(PLAIN, &lengths);
+    write_list(BITPACKING_PLAIN, &lengths);
     uint32_t start = bounds.items[bounds.len - 1];
-    write_list(STRICTLY_SORTED, &bounds);
+    write_list(BITPACKING_STRICTLY_SORTED, &bounds);
     end_item((uint8_t[]){start & 0xFF, start >> 8 & 0xFF, start >> 16 & 0xFF, start >> 24}, 4);
     fflush(out);
     sprintf(name, "%s.%ld.tmp", file, (long)getpid());

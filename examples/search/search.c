@@ -49,12 +49,12 @@ void *grown(void *items, size_t len, size_t size)
 uint8_t *pack(uint8_t kind, const struct numbers *values, size_t *size)
 {
     size_t position;
-    ptrdiff_t packed = bitpacking_4x_list_size(VERSION, kind, values->items, values->len, &position);
+    ptrdiff_t packed = bitpacking_4x_list_size(BITPACKING_LIST_VERSION_3, kind, values->items, values->len, &position);
     if (packed < 0)
         errx(2, "a list: %s", bitpacking_error_text(packed));
     *size = (size_t)packed;
     uint8_t *bytes = grown(NULL, *size, 1);
-    bitpacking_4x_list_pack(VERSION, kind, values->items, values->len, bytes, *size, &position);
+    bitpacking_4x_list_pack(BITPACKING_LIST_VERSION_3, kind, values->items, values->len, bytes, *size, &position);
     return bytes;
 }
 
@@ -97,11 +97,11 @@ static void open_index(struct search *s)
     if (start > list[1])
         errx(2, DAMAGED "it is cut", s->file);
     s->bounds = list;
-    struct numbers bounds = unpack(open_list(s, 0, STRICTLY_SORTED, "bounds"));
+    struct numbers bounds = unpack(open_list(s, 0, BITPACKING_STRICTLY_SORTED, "bounds"));
     if (bounds.len < 2 || bounds.items[0] != sizeof MAGIC || bounds.items[bounds.len - 1] != start)
         errx(2, DAMAGED "the bounds are of other items", s->file);
     s->bounds = bounds.items;
-    s->lengths = unpack(open_list(s, bounds.len - 2, PLAIN, "lengths"));
+    s->lengths = unpack(open_list(s, bounds.len - 2, BITPACKING_PLAIN, "lengths"));
     s->documents = s->lengths.len;
     s->words = (bounds.len - 2 - s->documents) / 3;
     if (s->documents > bounds.len - 2 || s->documents + 3 * s->words != bounds.len - 2)
@@ -133,7 +133,7 @@ static void add_scores(const struct search *s, bitpacking_list list, bitpacking_
 static bitpacking_list open_word(const struct search *s, size_t word, int negative)
 {
     size_t item = s->documents + s->words + 2 * word;
-    bitpacking_list list = open_list(s, item, STRICTLY_SORTED, word_at(s, word));
+    bitpacking_list list = open_list(s, item, BITPACKING_STRICTLY_SORTED, word_at(s, word));
     size_t len = bitpacking_list_len(&list);
     uint32_t last;
     if (!bitpacking_list_get(&list, len - 1, &last) || last >= s->documents)
@@ -141,7 +141,7 @@ static bitpacking_list open_word(const struct search *s, size_t word, int negati
     if (s->explain)
         fprintf(stderr, "%s: %zu documents in %zu blocks\n", word_at(s, word), len, BLOCKS(len));
     if (s->scores && !negative)
-        add_scores(s, list, open_list(s, item + 1, PLAIN, word_at(s, word)));
+        add_scores(s, list, open_list(s, item + 1, BITPACKING_PLAIN, word_at(s, word)));
     return list;
 }
 
@@ -168,7 +168,7 @@ static bitpacking_list combine(const struct search *s, const char *name, set_cal
         errx(2, "%s: %s: %s", s->file, name, bitpacking_error_text(found));
     values.len = (size_t)found;
     size_t size;
-    uint8_t *bytes = pack(STRICTLY_SORTED, &values, &size);
+    uint8_t *bytes = pack(BITPACKING_STRICTLY_SORTED, &values, &size);
     bitpacking_list list = BITPACKING_LIST_EMPTY;
     bitpacking_list_open(bytes, size, &list); /* it does not fail: these bytes are a list */
     free(values.items);

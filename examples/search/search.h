@@ -15,8 +15,6 @@
 #define LETTERS "0123456789abcdefghijklmnopqrstuvwxyz"
 #define SPACES " \t\f\r"
 
-enum { VERSION = 3, PLAIN = 0, STRICTLY_SORTED = 2 }; /* the version of lists, and their kinds */
-
 struct numbers { uint32_t *items; size_t len; };
 
 /* Appends an item to an array, which is {NULL, 0} at first. */
