@@ -8,6 +8,8 @@ The last line is 'N passed, M failed', which counts the readers of the vectors.
 
 import csv
 import functools
+import hashlib
+import itertools
 import multiprocessing
 import os
 import re
@@ -63,7 +65,7 @@ def block_checks(names):
         lanes, kind, width = int(row["packer"][0]), KINDS.index(row["kind"]), int(row["width"])
         found = answer_of(call, lanes, kind, names["start_of"](kind, row["initial"]), width, read(row["given"]))
         yield f"refused {row['call']} {row['packer']} {width}", found, row["number"]
-    for row in [*table("loose.tsv"), *table("blocks.tsv")]:
+    for row in [*table("loose.tsv"), *table("single.tsv"), *table("blocks.tsv")]:
         lanes, kind, width = int(row["packer"][0]), KINDS.index(row["kind"]), int(row["width"])
         start, values, body = names["start_of"](kind, row["initial"]), numbers(row["values"]), octets(row["bytes"])
         name = f"block {row['packer']} {row['kind']} {row['initial']} {row['width']}"
@@ -81,7 +83,7 @@ def list_checks(names):
             lanes, kind = int(row["lanes"]), KINDS.index(row["kind"])
             values, text = numbers(row["values"]), octets(row["bytes"])
             yield f"list{version} {row['bytes'][:80]}", answer_of(decode, lanes, text), (kind, values)
-            encode = names["convert" if version else "encode"]
+            encode = names[f"encode{version}"]
             yield f"text{version} {row['bytes'][:80]}", answer_of(encode, lanes, kind, values), text
 
 
@@ -95,7 +97,7 @@ def short_list_checks(names):
         lanes, kind = int(row["lanes"]), KINDS.index(row["kind"])
         values, text = numbers(row["values"]), octets(row["bytes"])
         yield f"list3 {row['bytes'][:80]}", answer_of(decoders["3"], lanes, text), (kind, values)
-        yield f"text3 {row['bytes'][:80]}", answer_of(names["convert3"], lanes, kind, values), text
+        yield f"text3 {row['bytes'][:80]}", answer_of(names["encode3"], lanes, kind, values), text
         for version in ["", "2"]:
             right = f"BadVersion({text[0]})" if len(text) >= 7 else "Short"
             yield f"list3 {row['bytes'][:80]} as version {version or 1}", answer_of(decoders[version], lanes, text), right
@@ -103,49 +105,105 @@ def short_list_checks(names):
         for row in table(f"lists{version}.tsv"):
             found = answer_of(decoders["3"], int(row["lanes"]), octets(row["bytes"]))
             yield f"list{version} {row['bytes'][:80]} as version 3", found, f"BadVersion({version or 1})"
-    for row in table("upgrade3.tsv"):
-        right = octets(row["upgraded"]) if row["fault"] == "-" else row["fault"]
-        yield f"upgrade3 {row['bytes'][:80]}", answer_of(names["upgrade3"], int(row["lanes"]), octets(row["bytes"])), right
 
 
-def query_checks(names):
-    for row in table("upgrade.tsv"):
-        right = octets(row["upgraded"]) if row["fault"] == "-" else row["fault"]
-        yield f"upgrade {row['bytes'][:80]}", answer_of(names["upgrade"], int(row["lanes"]), octets(row["bytes"])), right
+def upgrade_checks(names):
+    for name in ["upgrade", "upgrade3"]:
+        for row in table(f"{name}.tsv"):
+            right = octets(row["upgraded"]) if row["fault"] == "-" else row["fault"]
+            yield f"{name} {row['bytes'][:80]}", answer_of(names[name], int(row["lanes"]), octets(row["bytes"])), right
     for row in table("refused.tsv"):
         yield f"upgrade {row['bytes'][:80]}", answer_of(names["upgrade"], int(row["lanes"]), octets(row["bytes"])), row["fault"]
-    for row in table("seek.tsv"):
+
+
+def encoder_checks(names):
+    for row in table("refused_values.tsv"):
+        lanes, kind, values = int(row["lanes"]), KINDS.index(row["kind"]), numbers(row["values"])
+        found = answer_of(names[f"encode{row['version']}"], lanes, kind, values)
+        yield f"refused values {row['version']} {row['kind']} {lanes} {row['values'][:80]}", found, f"NotSorted({row['position']})"
+
+
+def of_both(version, text):
+    """Whether a reader of versions 2 and 3 reads a text by the table of this version."""
+    return (octets(text) >= b"\x40") == (version == "3")
+
+
+def seek_checks(names):
+    """Searches, by a reader of versions 2 and 3."""
+    for row in [*table("seek.tsv"), *table("seek3.tsv")]:
         values = answer_of(names["opened"], int(row["lanes"]), octets(row["bytes"]))
         yield f"seek {row['bytes'][:80]}", isinstance(values, list), True
         for target, right in zip(numbers(row["targets"]), row["found"].split(",")):
-            found = names["seek"](int(row["lanes"]), values, target)
+            found = answer_of(names["seek"], int(row["lanes"]), values, target)
             yield f"seek {target} {row['bytes'][:80]}", ":".join(map(str, found)) if found else "none", right
-    for row in table("lists2.tsv"):
-        if row["kind"] == "plain":
-            yield f"seek {row['bytes'][:80]}", answer_of(names["opened"], int(row["lanes"]), octets(row["bytes"])), "BadKind(0)"
-    for row in table("refused2.tsv"):
-        yield f"seek {row['bytes'][:80]}", answer_of(names["opened"], int(row["lanes"]), octets(row["bytes"])), row["fault"]
-    for row in table("intersect.tsv"):
-        lanes, other_lanes = int(row["lanes"]), int(row["other_lanes"])
-        one, other = names["opened"](lanes, octets(row["bytes"])), names["opened"](other_lanes, octets(row["other_bytes"]))
-        name = f"intersect {row['bytes'][:60]} {row['other_bytes'][:60]}"
-        yield name, answer_of(names["intersect"], lanes, one, other_lanes, other), numbers(row["values"])
-        yield f"{name}, exchanged", answer_of(names["intersect"], other_lanes, other, lanes, one), numbers(row["values"])
-        yield f"{name}, as sets", sorted(set(one) & set(other)), numbers(row["values"])
+    for version in ["2", "3"]:
+        for row in table(f"lists{version}.tsv"):
+            if row["kind"] == "plain":
+                yield f"seek {row['bytes'][:80]}", answer_of(names["opened"], int(row["lanes"]), octets(row["bytes"])), "BadKind(0)"
+        for row in table(f"refused{version}.tsv"):
+            if of_both(version, row["bytes"]):
+                yield f"seek {row['bytes'][:80]}", answer_of(names["opened"], int(row["lanes"]), octets(row["bytes"])), row["fault"]
 
 
-CHECKS = {"blocks": block_checks, "lists": list_checks, "short_lists": short_list_checks, "queries": query_checks}
+def set_checks(names):
+    for name, column, call, plain in [
+        ("intersect", "shared", lambda one, other: names["intersect"](*one, *other), set.intersection),
+        ("union", "united", lambda one, other: names["unite"](one[1], other[1]), set.union),
+        ("difference", "left", lambda one, other: names["subtract"](one[1], other[1]), set.difference),
+    ]:
+        for row in table(f"{name}.tsv"):
+            one, other = ((int(row[f"{which}lanes"]), octets(row[f"{which}bytes"])) for which in ["", "other_"])
+            one, other = ((lanes, answer_of(names["opened"], lanes, text)) for lanes, text in [one, other])
+            which, right = f"{name} {row['bytes'][:60]} {row['other_bytes'][:60]}", numbers(row[column])
+            yield which, answer_of(call, one, other), right
+            if name != "difference":
+                yield f"{which}, exchanged", answer_of(call, other, one), right
+            yield f"{which}, as sets", sorted(plain(set(one[1]), set(other[1]))), right
+
+
+def query_checks(names):
+    return itertools.chain(upgrade_checks(names), encoder_checks(names), seek_checks(names))
+
+
+def drawn(count):
+    """The numbers x(1), x(2) and so on of docs/VECTORS.md."""
+    x, found = 1, []
+    for _ in range(count):
+        x = (1664525 * x + 1013904223) % 2**32
+        found.append(x)
+    return found
+
+
+def long_list_checks(names):
+    """Lists whose values are those of the rule of docs/VECTORS.md, and whose texts are known by their digest."""
+    read = []
+    for row in table("digests.tsv"):
+        lanes, kind, bits, version = int(row["lanes"]), KINDS.index(row["kind"]), int(row["bits"]), row["version"].strip("1")
+        codes = [x >> 32 - bits for x in drawn(int(row["count"]))]
+        values = names["block_values"](kind, [0, 0, 2**32 - 1][kind], codes)
+        name, text = f"{row['count']} {row['kind']} values, version {row['version']}", names[f"encode{version}"](lanes, kind, values)
+        yield f"{name}, length", len(text), int(row["length"])
+        yield f"{name}, digest", hashlib.sha256(text).hexdigest(), row["sha256"]
+        read.append((name, names[f"decode{version}"], lanes, text, (kind, values)))
+    for name, decode, lanes, text, right in read:
+        yield f"{name}, read", answer_of(decode, lanes, text), right
+
+
+CHECKS = {
+    "blocks": block_checks,
+    "lists": list_checks,
+    "short_lists": short_list_checks,
+    "queries": query_checks,
+    "sets": set_checks,
+    "long_lists": long_list_checks,
+}
 
 
 def rule_checks(names):
     """The codes of the blocks are those of the rule of docs/VECTORS.md."""
-    x, drawn = 1, []
-    for _ in range(256):
-        x = (1664525 * x + 1013904223) % 2**32
-        drawn.append(x)
     for row in table("blocks.tsv"):
         lanes, width = int(row["packer"][0]), int(row["width"])
-        found, right = names["block_codes"](lanes, width, octets(row["bytes"])), [it >> 32 - width for it in drawn[: 32 * lanes]]
+        found, right = names["block_codes"](lanes, width, octets(row["bytes"])), [x >> 32 - width for x in drawn(32 * lanes)]
         yield f"the codes of block {row['packer']} {row['kind']} {row['width']}", found, right
 
 
@@ -196,7 +254,7 @@ def mistake_checks():
 
 def block_lines():
     """Lines of the line language, with their answers."""
-    for row in [*table("blocks.tsv"), *table("loose.tsv")]:
+    for row in [*table("blocks.tsv"), *table("loose.tsv"), *table("single.tsv")]:
         kind = row["kind"] if row["initial"] == "-" else f"{row['kind']}:{row['initial']}"
         for packer in PACKERS[row["packer"][0]]:
             yield f"width {packer} {kind} {row['values']}", row.get("least", row["width"])
@@ -261,8 +319,19 @@ def page_lines():
         yield written_out(asked, "".join(notes)), f"refused {line[:6].strip()}"
 
 
+def spelled(field):
+    """A field of lines.tsv: `{ab*3}` is `ababab`, and `\\r` and `\\t` are a carriage return and a tab."""
+    long = re.sub(r"\{([^*{}]+)\*(\d+)\}", lambda part: part[1] * int(part[2]), field)
+    return long.replace("\\r", "\r").replace("\\t", "\t")
+
+
+def lines_by_hand():
+    for row in table("lines.tsv"):
+        yield spelled(row["line"]), spelled(row["answer"])
+
+
 def program_checks(program):
-    asked = [*block_lines(), *list_lines(), *query_lines(), *page_lines()]
+    asked = [*block_lines(), *list_lines(), *query_lines(), *page_lines(), *lines_by_hand()]
     text = "".join(f"{line}\n" for line, _ in asked)
     ran = subprocess.run(program, input=text, stdout=subprocess.PIPE, encoding="ascii", errors="replace")
     answers = ran.stdout.split("\n")

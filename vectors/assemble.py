@@ -11,12 +11,13 @@ import sys
 
 sys.dont_write_bytecode = True
 
-from calls import intersections, loose_blocks, refused_packs, refused_unpacks, searches, upgrades
-from lists import edge_lists, long_lists, made_lists, worked_lists, worked_lists2
+from calls import loose_blocks, refused_packs, refused_unpacks, single_blocks, upgrades
+from lists import digests, edge_lists, long_lists, made_lists, single_lists, worked_lists, worked_lists2
 from lists3 import counted_lists, greatest_lists, tail_lists, upgrades3, worked_lists3
 from parts import FOLDER, LANES, body_of, plain_blocks
 from refusals import number_of, refused_rows
 from refusals3 import refused_rows3
+from sets import combinations, intersections, refused_values, searches
 
 
 def field(value):
@@ -47,16 +48,23 @@ def tables(blocks):
     found = {
         "loose.tsv": table("packer kind initial least width values bytes", loose_blocks(blocks)),
         "refused_blocks.tsv": table("call packer kind initial width given number", refused_calls(blocks)),
-        "seek.tsv": table("lanes bytes targets found", searches(blocks)),
-        "intersect.tsv": table("lanes bytes other_lanes other_bytes values", intersections()),
+        "single.tsv": table("packer kind initial width values bytes", single_blocks()),
+        "seek.tsv": table("lanes bytes targets found", searches(2, blocks)),
+        "seek3.tsv": table("lanes bytes targets found", searches(3, blocks)),
+        "intersect.tsv": table("lanes bytes other_lanes other_bytes shared", intersections()),
+        "union.tsv": table("lanes bytes other_lanes other_bytes united", combinations(set.union)),
+        "difference.tsv": table("lanes bytes other_lanes other_bytes left", combinations(set.difference)),
+        "refused_values.tsv": table("version kind lanes values position", refused_values()),
+        "digests.tsv": table("kind lanes count bits version length sha256", digests()),
     }
     for name, rows in [("", upgrades(blocks)), ("3", upgrades3(blocks))]:
         upgraded = [(lanes, text, fault_number(fault), fault, after) for lanes, text, fault, after in rows]
         found[f"upgrade{name}.tsv"] = table("lanes bytes number fault upgraded", upgraded)
-    longer = [*worked_lists2(), *long_lists(blocks, 2)]
+    plain = [*worked_lists(), *single_lists(1)]
+    longer = [*worked_lists2(), *single_lists(2), *long_lists(blocks, 2)]
     short = [*worked_lists3(), *counted_lists(), *tail_lists(), *greatest_lists(), *long_lists(blocks, 3)]
     for version, name, lists, rows in [
-        (1, "", worked_lists(), refused_rows(1, blocks)),
+        (1, "", plain, refused_rows(1, blocks)),
         (2, "2", longer, refused_rows(2, blocks)),
         (3, "3", short, refused_rows3(blocks)),
     ]:

@@ -1,9 +1,8 @@
-"""Blocks at more than their least width, refused blocks, searches, conversions and intersections."""
+"""Blocks of one code, blocks at more than their least width, refused blocks, and conversions."""
 
-from bisect import bisect_left
-
-from lists import chained, long_lists, values_in_order, values_out_of_order
-from parts import KINDS, LANES, body_of, first_out, list_text, summed
+from lists import chained, values_in_order, values_out_of_order
+from parts import KINDS, LANES, STARTS, body_of, first_out, list_text, summed
+from sets import search_lists
 
 SPELLED = {
     "plain": ["-"],
@@ -29,6 +28,23 @@ def loose_blocks(blocks):
                 codes = blocks[lanes, least][0]
                 values, body = summed(kind, start_of(spelled), codes), body_of(lanes, width, codes)
                 yield f"{lanes}x", kind, spelled, least, width, values, body
+
+
+def single_codes(lanes):
+    """The codes of a block that are 0 but for one, and their width: 1 in each row, and so in each lane, and the greatest of each width."""
+    for row in range(32):
+        for code in sorted({1, 2 ** (row + 1) - 1}):
+            codes = [0] * 32 * lanes
+            codes[row * lanes + row % lanes] = code
+            yield code.bit_length(), codes
+
+
+def single_blocks():
+    """Blocks of zeros with one other code: packer, kind, start, width, values, body. The greatest codes are in plain blocks alone."""
+    for lanes in LANES:
+        for width, codes in single_codes(lanes):
+            for kind, start, spelled in zip(KINDS[: 3 if width == 1 else 1], STARTS, ["-", 0, "none"]):
+                yield f"{lanes}x", kind, spelled, width, summed(kind, start, codes), body_of(lanes, width, codes)
 
 
 def refused_packs(lanes, blocks):
@@ -60,36 +76,6 @@ def refused_unpacks(lanes):
         yield 5, width, bytes(length)
 
 
-def search_lists(blocks):
-    """Lists in order: lanes, kind, values."""
-    for lanes in LANES:
-        for kind in [1, 2]:
-            yield lanes, kind, []
-            yield lanes, kind, [4, 9, 10]
-            for values in values_in_order(kind, lanes):
-                yield lanes, kind, values
-            yield lanes, kind, [5 * k + 3 for k in range(64 * lanes + 2)]
-    yield 1, 1, [k // 40 * 10 for k in range(3 * 32 + 5)]  # values that are equal across the edges
-    yield 4, 1, [k // 150 * 1000 + 1 for k in range(3 * 128 + 5)]
-    for name, lanes, values, _ in long_lists(blocks, 2):
-        if name != "plain" and lanes == 1:
-            yield lanes, KINDS.index(name), values
-
-
-def searches(blocks):
-    """Searches in a list: lanes, text, the values sought, and the first position that reaches each, with its value."""
-    for lanes, kind, values in search_lists(blocks):
-        block, sought = 32 * lanes, {0, 1, 2**31, 2**32 - 1}
-        edges = [place for edge in range(0, len(values), block) for place in [edge, edge + 7, edge + block - 1]]
-        for place in [*edges, len(values) - 1]:
-            if 0 <= place < len(values):
-                sought |= {values[place] - 1, values[place], values[place] + 1}
-        sought = sorted(value for value in sought if 0 <= value < 2**32)
-        found = [bisect_left(values, value) for value in sought]
-        answers = [f"{place}:{values[place]}" if place < len(values) else "none" for place in found]
-        yield lanes, list_text(2, lanes, kind, values), sought, answers
-
-
 def upgrades(blocks):
     """Texts of version 1: lanes, the text, and the fault of its list or the text of version 2."""
     plain = chained(blocks, "plain", 1, [20 * block % 33 for block in range(5)])[0]
@@ -97,6 +83,8 @@ def upgrades(blocks):
     some += [it for it in search_lists(blocks) if it[0] < 8]
     for lanes, count in zip(LANES, [8, 5, 1]):
         some += [(lanes, kind, values) for kind in [1, 2] for values in [*values_out_of_order(kind, lanes)][:count]]
+    some += [(1, 0, [0] * 31 + [2**32 - 1])]
+    some += [(lanes, kind, [2**32 - 1, second]) for lanes in LANES for kind, second in [(1, 5), (2, 2**32 - 1)]]
     for lanes, kind, values in some:
         text, position = list_text(1, lanes, kind, values), first_out(kind, values)
         if position is None:
@@ -110,17 +98,6 @@ def upgrades(blocks):
         loose = list_text(1, lanes, 1, [5, *zeros[1:], *zeros])[:-1] + bytes([1]) + bytes(4 * lanes)
         yield lanes, loose, "LooseWidth(1, 1)", b""  # before NotSorted
         yield lanes, list_text(2, lanes, 1, [4, 5]), "BadVersion(2)", b""
-
-
-def intersections():
-    """Two lists and what they share: of each list lanes and text, and the values."""
-    some = [(1, 2, [5, 9]), (1, 1, [5, 5, 5, 9, 9, 10]), (1, 1, []), (4, 2, [0, 7, 2**32 - 1])]
-    some += [(1, 1, [k // 3 * 7 for k in range(100)]), (1, 2, [7 * k for k in range(34)])]
-    some += [(1, 2, [14 * k + 7 for k in range(96)])]
-    some += [(4, 1, [k // 2 * 21 for k in range(2 * 128 + 3)]), (8, 2, [3 * k for k in range(2 * 256 + 9)])]
-    some += [(1, 2, [*range(40), *range(600, 633), *range(1400, 1500)]), (1, 2, [0, *range(2**32 - 40, 2**32)])]
-    some += [(1, 1, [6] * 64 + [2**31] * 40 + [2**32 - 1] * 3)]
-    for place, (lanes, kind, values) in enumerate(some):
-        for other_lanes, other_kind, others in some[: place + 1]:
-            shared = sorted(set(values) & set(others))
-            yield lanes, list_text(2, lanes, kind, values), other_lanes, list_text(2, other_lanes, other_kind, others), shared
+        text = list_text(3, lanes, 2, [*range(32 * lanes + 1)])
+        yield lanes, text, f"BadVersion({text[0]})", b""
+        yield lanes, list_text(3, lanes, 2, []), "Short", b""

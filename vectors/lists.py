@@ -1,6 +1,8 @@
 """Lists with their texts, of every version."""
 
-from parts import KINDS, LANES, STARTS, list_text, summed, text_of
+from hashlib import sha256
+
+from parts import KINDS, LANES, STARTS, body_of, list_text, split, summed, text_of
 
 
 def chained(blocks, kind, lanes, widths):
@@ -30,6 +32,41 @@ def made_lists(blocks, version):
                 last = values[-1] if values else STARTS[kind]
                 rest = [(last + 1_000_003 * (place + 1)) % 2**32 for place in range(tail)]
                 yield name, lanes, values + rest, text_of(version, lanes, kind, bodies, rest)
+
+
+def single_lists(version):
+    """Lists of one block whose codes are 0 but for one code 1, in each row, and so in each lane. The kinds come in turn."""
+    for lanes in LANES:
+        for row in range(32):
+            codes, kind = [0] * 32 * lanes, row % 3
+            codes[row * lanes + row % lanes] = 1
+            values = summed(KINDS[kind], STARTS[kind], codes)
+            yield KINDS[kind], lanes, values, text_of(version, lanes, kind, [(1, values[-1], body_of(lanes, 1, codes))], [])
+
+
+def drawn(count):
+    """The numbers x(1), x(2) and so on of docs/VECTORS.md."""
+    x, found = 1, []
+    for _ in range(count):
+        x = (1664525 * x + 1013904223) % 2**32
+        found.append(x)
+    return found
+
+
+def digest_lists():
+    """Lists of more than 65,535 values, or more than 65,535 bytes of bodies: kind, lanes, width of the codes, values."""
+    for name, lanes, count, width in [("plain", 8, 16645, 32), ("plain", 1, 65605, 32), ("strict", 4, 65605, 15)]:
+        codes = [x >> 32 - width for x in drawn(count)]
+        yield name, lanes, width, summed(name, STARTS[KINDS.index(name)], codes)
+
+
+def digests():
+    """Kind, lanes, count, width of the codes, version, and the length and SHA-256 of the text."""
+    for name, lanes, width, values in digest_lists():
+        parts = split(lanes, KINDS.index(name), values)
+        for version in [1, 2, 3]:
+            text = text_of(version, lanes, KINDS.index(name), *parts)
+            yield name, lanes, len(values), width, version, len(text), sha256(text).hexdigest()
 
 
 def long_lists(blocks, version):

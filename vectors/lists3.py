@@ -1,19 +1,12 @@
 """Lists with their texts of version 3, and texts of versions 1 and 2 that become texts of version 3."""
 
-from calls import search_lists
-from lists import chained, values_out_of_order
+from lists import chained, drawn, values_out_of_order
 from parts import KINDS, LANES, STARTS, first_out, list_text, summed
+from sets import search_lists
 
 COUNTS = [0, 1, 2, 31, 32, 33, 127, 128, 255, 256, 1000]
-
-
-def drawn(count):
-    """The numbers x(1), x(2) and so on of docs/VECTORS.md."""
-    x, found = 1, []
-    for _ in range(count):
-        x = (1664525 * x + 1013904223) % 2**32
-        found.append(x)
-    return found
+# by lanes: where byte 0 ends and a count begins, and whole groups that end a tail, or are almost whole
+MORE_COUNTS = {1: [13, 14, 15, 16, 17], 4: [63, 64, 65, 95, 96, 97, 192], 8: [63, 64, 65, 95, 96, 97, 320]}
 
 
 def counted_lists():
@@ -24,7 +17,7 @@ def counted_lists():
     for lanes in LANES:
         for kind, name in enumerate(KINDS):
             bound = 22 if kind else 33
-            for step, count in enumerate(COUNTS):
+            for step, count in enumerate([*COUNTS, *MORE_COUNTS[lanes]]):
                 widths = [(7 * (k // 32) + 5 * step + 3 * lanes) % bound for k in range(count)]
                 codes = [x >> 32 - width for x, width in zip(drawn(count), widths)]
                 values = summed(name, STARTS[kind], codes)
@@ -37,6 +30,8 @@ def tail_lists():
         starts = [2**bits - 1 + more for bits in [7, 14, 21, 28] for more in [0, 1]] + [2**32 - 1]
         groups = [[0, 0, min(2**width - 1, 2**32 - 1 - 2 * (kind == 2))] for width in range(33)]
         groups += [[0, *(k % 5 for k in range(count))] for count in range(1, 34)]
+        if kind == 0:  # one code of a group is not 0: its last one, or any of 32
+            groups += [[0, *[0] * count, 1] for count in range(31)] + [[0, *[0] * place, 1, *[0] * (31 - place)] for place in range(31)]
         for lanes, codes in [(8, [start]) for start in starts] + [(4, codes) for codes in groups]:
             values = summed(name, STARTS[kind], codes)
             yield name, lanes, values, list_text(3, lanes, kind, values)
@@ -94,13 +89,14 @@ def upgrades3(blocks):
     plain = chained(blocks, "plain", 1, [20 * block % 33 for block in range(5)])[0]
     some = [(lanes, 0, values) for lanes in LANES for values in [[], [5, 3], plain]]
     some += [it for it in search_lists(blocks) if it[0] < 8 and len(it[2]) < 400]
-    some += [(8, 2, [3 * k + 1 for k in range(300)])]
+    some += [(8, 2, [3 * k + 1 for k in range(300)]), (1, 0, [0] * 31 + [2**32 - 1])]
     for lanes, kind, values in some:
         for version in [1, 2]:
             yield lanes, list_text(version, lanes, kind, values), "-", list_text(3, lanes, kind, values)
     for lanes, count in zip(LANES, [8, 3, 0]):
         for kind in [1, 2]:
-            for values in [[5, 5 - (kind == 1)], *values_out_of_order(kind, lanes)][: count + 1]:
+            greatest = [2**32 - 1, [5, 2**32 - 1][kind - 1]]
+            for values in [greatest, [5, 5 - (kind == 1)], *values_out_of_order(kind, lanes)][: count + 2]:
                 for version in [1, 2]:
                     yield lanes, list_text(version, lanes, kind, values), f"NotSorted({first_out(kind, values)})", b""
     for lanes in LANES:
@@ -111,3 +107,6 @@ def upgrades3(blocks):
             yield lanes, text + bytes(1), "Trailing", b""
             yield lanes, text[:-1], "Short", b""
             yield lanes, text[:6], "Short", b""
+        text = list_text(3, lanes, 2, [*range(32 * lanes + 1)])  # of version 3, and so a fault of version 1
+        yield lanes, text, f"BadVersion({text[0]})", b""
+        yield lanes, list_text(3, lanes, 2, []), "Short", b""

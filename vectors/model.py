@@ -3,6 +3,8 @@
 `scripts/vectors.py` runs this file after the functions of that page, and again with each mistake of vectors/mistakes/.
 """
 
+from bisect import bisect_right
+
 
 def start_of(kind, spelled):
     return {"-": 0, "none": 2**32 - 1}[spelled] if spelled in ("-", "none") else int(spelled)
@@ -69,11 +71,15 @@ def entries_of(parts):
     return entries
 
 
+def text2(lanes, kind, values):
+    parts, tail = parts_of(lanes, kind, values)
+    return header_of(2, lanes, kind, values) + entries_of(parts) + b"".join(body for _, _, body in parts) + tail
+
+
 def convert(lanes, kind, values):
     for p in range(1, len(values)):
         need(kind == 0 or values[p] >= values[p - 1] + kind - 1, "NotSorted", p)
-    parts, tail = parts_of(lanes, kind, values)
-    return header_of(2, lanes, kind, values) + entries_of(parts) + b"".join(body for _, _, body in parts) + tail
+    return text2(lanes, kind, values)
 
 
 def number_of(value):
@@ -94,9 +100,7 @@ def tail_of(blocks, start, kind, tail):
     return first + b"".join(group_of(codes[at : at + 32]) for at in range(0, len(codes), 32))
 
 
-def convert3(lanes, kind, values):
-    for p in range(1, len(values)):
-        need(values[p] - values[p - 1] >= [-(2**32), 0, 1][kind], "NotSorted", p)
+def text3(lanes, kind, values):
     parts, _ = parts_of(lanes, kind, values)
     count, blocks = len(values), len(parts)
     start = parts[-1][1] if parts else 0
@@ -104,6 +108,24 @@ def convert3(lanes, kind, values):
     front += number_of(count) if count >= 15 else b""
     bodies = b"".join(body for _, _, body in parts)
     return front + entries_of(parts) + bodies + tail_of(blocks, start, kind, values[32 * lanes * blocks :])
+
+
+def convert3(lanes, kind, values):
+    for p in range(1, len(values)):
+        need(values[p] - values[p - 1] >= [-(2**32), 0, 1][kind], "NotSorted", p)
+    return text3(lanes, kind, values)
+
+
+def encode2(lanes, kind, values):
+    falls = [p for p in range(1, len(values)) if kind and values[p] < values[p - 1] + (kind == 2)]
+    need(not falls, "NotSorted", *falls[:1])
+    return text2(lanes, kind, values)
+
+
+def encode3(lanes, kind, values):
+    rises = [kind == 0 or values[p] > values[p - 1] - (kind == 1) for p in range(1, len(values))]
+    need(all(rises), "NotSorted", 1 + [*rises, False].index(False))
+    return text3(lanes, kind, values)
 
 
 def upgrade3(lanes, text):
@@ -115,7 +137,7 @@ def upgrade(lanes, text):
 
 
 def opened(lanes, text):
-    kind, values = decode2(lanes, text)
+    kind, values = (decode3 if text[:1] >= b"\x40" else decode2)(lanes, text)
     need(kind != 0, "BadKind", 0)
     return values
 
@@ -141,3 +163,23 @@ def intersect(lanes, values, other_lanes, others):
                 shared.append(value)
             target = max(value + 1, found[1])
     return shared
+
+
+def unite(values, others):
+    united = []
+    while values or others:
+        least = min(values[:1] + others[:1])
+        united.append(least)
+        values = values[bisect_right(values, least) :]
+        others = others[bisect_right(others, least) :]
+    return united
+
+
+def subtract(values, others):
+    left, at = [], 0
+    for value in values:
+        while at < len(others) and others[at] < value:
+            at += 1
+        if others[at : at + 1] != [value] and left[-1:] != [value]:
+            left.append(value)
+    return left

@@ -103,15 +103,20 @@ def codes_after(kind, last, values):
     return [(value - before - (kind == 2)) % 2**32 for before, value in zip([last, *values], values)]
 
 
-def list_text(version, lanes, kind, values):
-    """The text of the values, by the number of their kind. In version 2 their order is not tested."""
+def split(lanes, kind, values):
+    """The width, last value and body of each block of the values, and the values of the tail."""
     block, last, bodies = 32 * lanes, STARTS[kind], []
     whole = len(values) // block * block
     for place in range(0, whole, block):
         codes = codes_after(kind, last, values[place : place + block])
         width, last = max(codes).bit_length(), values[place + block - 1]
         bodies.append((width, last, body_of(lanes, width, codes)))
-    return text_of(version, lanes, kind, bodies, values[whole:])
+    return bodies, values[whole:]
+
+
+def list_text(version, lanes, kind, values):
+    """The text of the values, by the number of their kind. Their order is not tested."""
+    return text_of(version, lanes, kind, *split(lanes, kind, values))
 
 
 def first_out(kind, values):

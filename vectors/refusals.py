@@ -1,7 +1,7 @@
 """Bytes with a fault, for a reader of lists of version 1 or 2."""
 
 from lists import values_out_of_order
-from parts import LANES, MOST, entry, first_out, header, list_text, summed, text_of, word
+from parts import LANES, MOST, body_of, entry, first_out, header, list_text, summed, text_of, word
 
 NUMBERS = {
     "Short": 1,
@@ -33,7 +33,7 @@ def refused_headers(lanes, version):
     for bad in [0, other_version, 3, 255]:
         yield f"BadVersion({bad})", header(lanes, 0, version=bad)
     yield f"BadVersion({other_version})", header(3, MOST + 1, 3, other_version)
-    for kind in [3, 255]:
+    for kind in [3, 4, 5, 6, 128, 255]:
         yield f"BadKind({kind})", header(lanes, 0, kind, version)
     yield "BadKind(3)", header(2, MOST + 1, 3, version)
     for other in [0, 1, 2, 4, 8, 32, 255]:
@@ -57,6 +57,11 @@ def refused_blocks(lanes, blocks):
     two = header(lanes, 2 * block, 1)
     yield "Short", header(lanes, 1) + bytes(3)
     yield "Short", header(lanes, block + 1) + bytes([33])  # before BadWidth: no room is left for the tail
+    yield "Short", header(lanes, 2 * block) + bytes([33])  # before BadWidth: no room is left for the width of block 1
+    yield "LooseWidth(0, 1)", header(lanes, block + 1) + zeros  # before Short: the tail is missing
+    many = header(lanes, 257 * block) + bytes(256)
+    yield "BadWidth(256, 33)", many + bytes([33])
+    yield "LooseWidth(256, 1)", many + zeros
     yield "Short", whole[:-1]
     yield "Short", two + good
     yield "Short", header(lanes, block + 1) + good + bytes(3)
@@ -93,6 +98,13 @@ def refused_entries(lanes, blocks):
     yield "Short", one + entry(1, 0, 0)  # before LooseWidth
     yield "Short", one + entry(9, 0, blocks[lanes, 9][0][-1]) + blocks[lanes, 9][1][:-1]
     yield "Short", header(lanes, block + 1, 0, 2) + entry(1, 0, 0) + bytes(4 * lanes + 3)
+    yield "BadOffset(0)", one + entry(0, 2**31, 0)
+    yield "BadOffset(0)", header(lanes, block + 1, 2, 2) + entry(0, 2**31, block - 1) + word(block)
+    if lanes == 1:
+        yield "BadWidth(256, 33)", header(lanes, 257 * block, 0, 2) + entry(0, 0, 0) * 256 + entry(33, 0, 0)
+    if lanes == 8:  # bodies of 2^16 + 1024 bytes
+        entries = [entry(32, 32 * m, 0) for m in range(65)]
+        yield "Short", header(lanes, 65 * block + 2, 0, 2) + b"".join(entries) + bytes(1032)
 
 
 def refused_bodies(lanes, blocks):
@@ -104,14 +116,20 @@ def refused_bodies(lanes, blocks):
     yield "LooseWidth(0, 1)", one + entry(1, 0, 9) + bytes(4 * lanes)  # before BadLast of the same block
     yield "LooseWidth(0, 2)", one + entry(2, 0, 1) + bytes.fromhex("55" * 8 * lanes)  # each code is 1
     yield "LooseWidth(1, 1)", two + entry(0, 0, 0) + entry(1, 0, 0) + bytes(4 * lanes)
-    for last in [1, 2**8, 2**16, 255 * 2**24]:
+    yield "LooseWidth(0, 32)", one + entry(32, 0, 0) + bytes(128 * lanes)
+    for last in [1, 2**8, 2**16, 2**31, 255 * 2**24]:
         yield "BadLast(0)", one + entry(0, 0, last)
+    yield "BadLast(0)", header(lanes, block, 2, 2) + entry(0, 0, 2**31 + block - 1)
     yield "BadLast(0)", two + entry(0, 0, 5) + entry(1, 0, 0) + bytes(4 * lanes)  # block by block
     yield "BadLast(1)", two + entry(0, 0, 0) + entry(0, 0, 1)
     yield "BadLast(0)", header(lanes, block + 2, 1, 2) + entry(0, 0, 5) + word(5) + word(4)  # before NotSorted
     yield "NotSorted(1)", header(lanes, 2, 1, 2) + word(5) + word(4)
     yield "NotSorted(1)", header(lanes, 2, 2, 2) + word(5) + word(5)
     yield "NotSorted(1)", header(lanes, 2, 2, 2) + word(5) + word(5) + bytes(1)  # before Trailing
+    yield "NotSorted(1)", header(lanes, 2, 1, 2) + word(2**32 - 1) + word(5)
+    yield "NotSorted(1)", header(lanes, 2, 2, 2) + word(2**32 - 1) + word(2**32 - 1)
+    falls = entry(32, 0, 4) + entry(0, 32, 5) + body_of(lanes, 32, [5, 2**32 - 1, *[0] * (block - 2)])  # the values 5, 4, 4 and so on
+    yield "BadLast(1)", header(lanes, 2 * block, 1, 2) + falls  # of block 1, before NotSorted in block 0
     yield f"NotSorted({block})", header(lanes, block + 1, 2, 2) + entry(0, 0, block - 1) + word(block - 1)
     for kind, name in [(1, "sorted"), (2, "strict")]:
         codes, body = blocks[lanes, 32]  # their sums wrap
@@ -135,6 +153,12 @@ def refused_later(lanes, blocks):
         yield f"BadOffset({count})", header(lanes, (count + 1) * block, 0, 2) + b"".join(entries)
     yield "LooseWidth(2, 2)", three + entry(0, 0, 0) + entry(0, 0, 0) + entry(2, 0, 1) + ones
     yield "BadLast(2)", three + entry(0, 0, 0) + entry(0, 0, 0) + entry(2, 0, 0) + bytes.fromhex("AA" * 8 * lanes)
+    if lanes == 1:
+        many = header(lanes, 257 * block, 0, 2) + entry(0, 0, 0) * 256
+        yield "LooseWidth(256, 1)", many + entry(1, 0, 0) + bytes(4)
+        yield "BadLast(256)", many + entry(0, 0, 1)
+    if lanes == 8:  # a position above 65,535
+        yield "NotSorted(65537)", header(lanes, 256 * block + 2, 1, 2) + entry(0, 0, 0) * 256 + word(5) + word(4)
     for kind in [1, 2]:
         for values in values_out_of_order(kind, lanes):
             yield f"NotSorted({first_out(kind, values)})", list_text(2, lanes, kind, values)

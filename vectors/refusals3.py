@@ -1,9 +1,10 @@
 """Bytes with a fault, for a reader of lists of version 3. Those of short lists are worked by hand, from the order of refusals."""
 
 from lists import values_out_of_order
-from parts import KINDS, LANES, MOST, STARTS, entry, first_out, group, header, header3, list_text, number, summed, text_of, word
+from parts import KINDS, LANES, MOST, STARTS, body_of, entry, first_out, group, header, header3, list_text, number, summed, text_of, word
 
 NO_NUMBERS = ["8F 00", "8F 80 00", "80 80 80 80 10", "FF FF FF FF 1F", "80 80 80 80 80", "8F 80 80 80 80 00", "FF FF FF FF 8F 00"]
+NO_NUMBERS += ["80 80 80 80 00", "8F 80 80 80 00"]
 CUT_NUMBERS = ["", "80", "FF FF", "80 80 80", "FF FF FF FF"]
 
 
@@ -51,6 +52,8 @@ def refused_blocks3(lanes, blocks):
     for offset in [0, 2, 1 + 2**8, 1 + 2**16, 1 + 2**24]:
         yield "BadOffset(1)", two + entry(1, 0, 0) + entry(1, offset, 0)
     yield "BadOffset(2)", three + entry(1, 0, 1) + entry(1, 1, 1) + entry(1, 1, 1)
+    yield "BadOffset(0)", one + entry(0, 2**31, 0)
+    yield "BadOffset(0)", header3(lanes, block + 1, 2) + entry(0, 2**31, block - 1) + bytes(1)
     for count in [8, 2048][: 1 + (lanes == 1)]:  # the sum is 2^8 and 2^16, and the last offset is 0
         entries = [entry(32, 32 * m, 0) for m in range(count)] + [entry(1, 0, 0)]
         yield f"BadOffset({count})", header3(lanes, (count + 1) * block) + b"".join(entries)
@@ -60,12 +63,35 @@ def refused_blocks3(lanes, blocks):
     yield "LooseWidth(0, 1)", one + entry(1, 0, 9) + zeros  # before BadLast of the same block
     yield "LooseWidth(0, 1)", header3(lanes, block + 1) + entry(1, 0, 0) + zeros  # before Short: there is no tail
     yield "LooseWidth(2, 2)", three + entry(0, 0, 0) + entry(0, 0, 0) + entry(2, 0, 1) + ones
-    for last in [1, 2**8, 2**16, 255 * 2**24]:
+    yield "LooseWidth(0, 32)", one + entry(32, 0, 0) + bytes(128 * lanes)
+    for last in [1, 2**8, 2**16, 2**31, 255 * 2**24]:
         yield "BadLast(0)", one + entry(0, 0, last)
+    yield "BadLast(0)", header3(lanes, block, 2) + entry(0, 0, 2**31 + block - 1)
     yield "BadLast(0)", two + entry(0, 0, 5) + entry(1, 0, 0) + zeros  # block by block
     yield "BadLast(1)", two + entry(0, 0, 0) + entry(0, 0, 1)
     yield "BadLast(0)", header3(lanes, block + 1, 1) + entry(0, 0, 5) + bytes([33])  # before the width of the group
+    yield "BadLast(0)", header3(lanes, block + 1, 2) + entry(0, 0, block - 2)  # before Short: there is no group
+    falls = body_of(lanes, 32, [5, 2**32 - 1, *[0] * (block - 2)])  # the values 5, 4, 4 and so on
+    yield "BadLast(1)", header3(lanes, 2 * block, 1) + entry(32, 0, 4) + entry(0, 32, 5) + falls  # before NotSorted in block 0
+    yield "BadWidth(1, 33)", header3(lanes, block + 1, 1) + entry(32, 0, 4) + falls + bytes([33])  # of the group, before NotSorted
+    yield "Short", header3(lanes, block + 1, 1) + entry(32, 0, 4) + falls
     yield "Trailing", whole + bytes(1)
+
+
+def refused_many(lanes):
+    """Bytes with a fault after 256 blocks, or bodies of more than 65,535 bytes."""
+    if lanes == 1:
+        many, entries = header3(lanes, 257 * 32), entry(0, 0, 0) * 256
+        yield "BadWidth(256, 33)", many + entries + entry(33, 0, 0)
+        yield "LooseWidth(256, 1)", many + entries + entry(1, 0, 0) + bytes(4)
+        yield "BadLast(256)", many + entries + entry(0, 0, 1)
+        yield "BadWidth(256, 33)", header3(lanes, 256 * 32 + 1) + entries + bytes([33])  # of a group
+        yield "LooseWidth(256, 1)", header3(lanes, 256 * 32 + 1) + entries + bytes([1, 0])
+    if lanes == 8:
+        entries = [entry(32, 32 * m, 0) for m in range(65)]
+        yield "Short", header3(lanes, 65 * 256) + b"".join(entries) + bytes(1024)
+        # a position above 65,535: the codes of the group are 5 and -1
+        yield "NotSorted(65537)", header3(lanes, 256 * 256 + 2, 1) + entry(0, 0, 0) * 256 + group([5, 2**32 - 1])
 
 
 def refused_tails(lanes):
@@ -76,6 +102,7 @@ def refused_tails(lanes):
     for given in NO_NUMBERS + ["85 00"]:
         yield "BadNumber", few + bytes.fromhex(given)
     yield "BadNumber", header3(lanes, 2, 2) + bytes.fromhex("85 00")  # before Short: there is no group
+    yield "BadNumber", header3(lanes, 15, 0) + bytes.fromhex("85 00")  # after a count
     for fault, count, kind, rest in [
         ("Trailing", 1, 0, "05 00"),
         ("Short", 2, 0, "05"),
@@ -98,6 +125,8 @@ def refused_tails(lanes):
         ("NotSorted(1)", 2, 2, "05 20 FF FF FF FF"),  # and of 0 in a strict list
         ("NotSorted(1)", 2, 2, "FF FF FF FF 0F 00"),  # a wrap to 0
         ("NotSorted(2)", 3, 2, "FE FF FF FF 0F 00"),
+        ("NotSorted(1)", 2, 1, "FF FF FF FF 0F 03 06"),  # a fall from 4294967295 to 5
+        ("NotSorted(1)", 2, 2, "FF FF FF FF 0F 20 FF FF FF FF"),  # 4294967295 twice
         ("NotSorted(1)", 2, 1, "05 20 FF FF FF FF 00"),  # before Trailing
         ("Trailing", 2, 0, "05 01 01 00"),
         ("Trailing", 2, 0, "05 01 01 00 00 00"),  # a group up to a whole word
@@ -178,6 +207,7 @@ def refused_rows3(blocks):
     """The lanes of a reader, the fault, and the bytes."""
     yield from worked_refusals()
     for lanes in LANES:
-        faults = [*refused_headers3(lanes), *refused_blocks3(lanes, blocks), *refused_tails(lanes), *refused_groups(lanes, blocks)]
+        faults = [*refused_headers3(lanes), *refused_blocks3(lanes, blocks), *refused_many(lanes)]
+        faults += [*refused_tails(lanes), *refused_groups(lanes, blocks)]
         for fault, text in faults:
             yield lanes, fault, text
