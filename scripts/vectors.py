@@ -38,9 +38,9 @@ def octets(text):
 
 
 def model():
-    """An implementation in Python: the fenced `python` blocks of docs/FORMAT.md, and what vectors/model.py adds to them."""
+    """An implementation in Python: the fenced `python` blocks of docs/FORMAT.md, and what vectors/model.py and line_model.py add to them."""
     shown = re.findall(r"^```python\n(.*?)^```$", source("docs/FORMAT.md"), re.M | re.S)
-    return "\n".join([*shown, source("vectors/model.py")])
+    return "\n".join([*shown, source("vectors/model.py"), source("vectors/line_model.py")])
 
 
 def names_of(text):
@@ -189,12 +189,29 @@ def long_list_checks(names):
         yield f"{name}, read", answer_of(decode, lanes, text), right
 
 
+def spelled(field):
+    """A field of lines.tsv: `{ab*3}` is `ababab`, and `\\r` and `\\t` are a carriage return and a tab."""
+    long = re.sub(r"\{([^*{}]+)\*(\d+)\}", lambda part: part[1] * int(part[2]), field)
+    return long.replace("\\r", "\r").replace("\\t", "\t")
+
+
+def lines_by_hand():
+    for row in table("lines.tsv"):
+        yield spelled(row["line"]), spelled(row["answer"])
+
+
+def line_checks(names):
+    for line, right in lines_by_hand():
+        yield line, names["answer"](line), right
+
+
 CHECKS = {
     "blocks": block_checks,
     "lists": list_checks,
     "short_lists": short_list_checks,
     "queries": query_checks,
     "sets": set_checks,
+    "lines": line_checks,
     "long_lists": long_list_checks,
 }
 
@@ -223,11 +240,11 @@ def parquet_checks(names):
             yield f"block 1x {width} by the page", names["body_of"](1, width, values), by_parquet(width, values)
 
 
-def caught(text, first):
-    """Whether some vector fails with this implementation, or ends it; the vectors of one kind are tried first."""
+def caught(text, kind):
+    """Whether some vector of a kind fails with this implementation, or ends it."""
     names = names_of(text)
     try:
-        return any(found != right for checks in [CHECKS[first], *CHECKS.values()] for _, found, right in checks(names))
+        return any(found != right for _, found, right in CHECKS[kind](names))
     except (IndexError, ValueError, OverflowError):
         return True
 
@@ -319,17 +336,6 @@ def page_lines():
         yield written_out(asked, "".join(notes)), f"refused {line[:6].strip()}"
 
 
-def spelled(field):
-    """A field of lines.tsv: `{ab*3}` is `ababab`, and `\\r` and `\\t` are a carriage return and a tab."""
-    long = re.sub(r"\{([^*{}]+)\*(\d+)\}", lambda part: part[1] * int(part[2]), field)
-    return long.replace("\\r", "\r").replace("\\t", "\t")
-
-
-def lines_by_hand():
-    for row in table("lines.tsv"):
-        yield spelled(row["line"]), spelled(row["answer"])
-
-
 def program_checks(program):
     asked = [*block_lines(), *list_lines(), *query_lines(), *page_lines(), *lines_by_hand()]
     text = "".join(f"{line}\n" for line, _ in asked)
@@ -359,8 +365,13 @@ def programs():
 def groups(asked):
     """The checks of each reader of the vectors, with its name."""
     names = names_of(model())
+<<<<<<< HEAD
     found = [it for checks in [*CHECKS.values(), rule_checks, parquet_checks] for it in checks(names)]
     yield "the decoders of docs/FORMAT.md and vectors/model.py", found
+=======
+    found = [it for checks in [*CHECKS.values(), rule_checks] for it in checks(names)]
+    yield "the decoders of docs/FORMAT.md, vectors/model.py and line_model.py", found
+>>>>>>> fdc42f7 (Vectors: lines by hand with a line program in Python, and each wrong implementation fails in its own part)
     yield "wrong implementations", mistake_checks()
     for program in asked:
         name = os.path.relpath(program[0] if isinstance(program, list) else program, ROOT)

@@ -4,7 +4,8 @@
 A body holds codes and no start. So a body of blocks.tsv, as the original crate wrote it, can be a block of any list, and the values
 are the codes added up. Other bodies are laid bit by bit, and every body of blocks.tsv too, to test that this is right. All else is
 from docs/FORMAT.md: the header, the width bytes or entries, and the tail.
-`assemble.py --check` writes nothing, and fails where the files are not what it would write.
+`assemble.py --check` writes nothing, and fails if the files are not what it would write. `assemble.py --long VERSION` prints the lists of
+digests.tsv in the form of lists.tsv.
 """
 
 import sys
@@ -12,9 +13,9 @@ import sys
 sys.dont_write_bytecode = True
 
 from calls import loose_blocks, refused_packs, refused_unpacks, single_blocks, upgrades
-from lists import digests, edge_lists, long_lists, made_lists, single_lists, worked_lists, worked_lists2
+from lists import digest_lists, digests, edge_lists, long_lists, made_lists, single_lists, worked_lists, worked_lists2
 from lists3 import counted_lists, greatest_lists, tail_lists, upgrades3, worked_lists3
-from parts import FOLDER, LANES, body_of, plain_blocks
+from parts import FOLDER, KINDS, LANES, body_of, list_text, plain_blocks
 from refusals import number_of, refused_rows
 from refusals3 import refused_rows3
 from sets import combinations, intersections, refused_values, searches
@@ -74,7 +75,15 @@ def tables(blocks):
     return found
 
 
+def digested_lists(version):
+    lists = ((name, lanes, values, list_text(version, lanes, KINDS.index(name), values)) for name, lanes, _, values in digest_lists())
+    return table("kind lanes values bytes", lists)
+
+
 def main():
+    if sys.argv[1:2] == ["--long"]:
+        print(digested_lists(int(sys.argv[2])), end="")
+        return 0
     blocks, status = plain_blocks(), 0
     for (lanes, width), (codes, body) in blocks.items():
         if body_of(lanes, width, codes) != body:

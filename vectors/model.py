@@ -35,7 +35,7 @@ def pack(lanes, kind, start, width, values):
     need(len(values) == 32 * lanes, 2)
     need(width <= 32, 3)
     codes = codes_of(kind, start, values)
-    need(width_of(codes) <= width, 4)
+    need(all(code >> width == 0 for code in codes), 4)
     return body_of(lanes, width, codes)
 
 

@@ -71,10 +71,10 @@ def pair(one, other, versions, call):
 
 
 def intersections():
-    """Pairs of lists of version 2, and once more with the second list of version 3 and the first of either. A jump to a tail of one value."""
+    """Pairs of lists of version 2, and once more with one or both of version 3. In the last two a jump leads to a tail of one value."""
     some = longer_lists()
     pairs = [(place, other) for place in range(len(some)) for other in range(place + 1)]
-    for versions in [(2, 2)], [(2, 3), (3, 3)]:
+    for versions in [[(2, 2)], [(2, 3), (3, 3)]]:
         for step, (place, other) in enumerate(pairs):
             yield pair(some[place], some[other], versions[step % len(versions)], set.intersection)
     for versions in [(2, 2), (3, 3)]:
