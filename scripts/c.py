@@ -1,7 +1,7 @@
 #!/usr/bin/env python3
 """Compiles and runs the C programs over the archive for all levels of the processor and the archive of each level: those of examples/,
-whose output is worked by hand, scripts/calls.c, list_calls.c and cursor.c, and scripts/tables.c, sets.c and damaged.c over the tables of
-vectors/. They are compiled as C99 with every warning an error and run with little stack, and once more with the address sanitizer if the
+whose output is worked by hand, scripts/calls.c, list_calls.c and cursor.c, and scripts/tables.c, queries.c, sets.c and damaged.c over the
+tables of vectors/. They are compiled as C99 with every warning an error and run with little stack, and once more with the address sanitizer if the
 compiler has it. The two programs of calls are also compiled as C++11 and C++17, without a cast of C in the header; scripts/calls.c also
 runs over the archive for all levels on a processor of each level that qemu gives, and has to name every macro of the header. Over that
 archive scripts/damaged.c opens a million damaged lists once more.
@@ -10,6 +10,7 @@ Then each program has to fail with another output than it has, or, if it prints 
 are those that scripts/archives.py wrote, which is called if they are not there. The last line is 'N passed, M failed'; a part that is left
 out because a tool is missing is named.
 """
+import functools
 import re
 import resource
 import shutil
@@ -27,6 +28,7 @@ CALLS = "scripts/calls.c"
 LIST_CALLS = "scripts/list_calls.c"
 TABLES = "scripts/tables.c"
 SETS = "scripts/sets.c"
+QUERIES = "scripts/queries.c"
 DAMAGED = "scripts/damaged.c"
 STACK = 256 << 10  # bytes; the sanitizer needs more
 SANITIZED = ["-fsanitize=address,undefined", "-fno-sanitize-recover=all"]
@@ -56,14 +58,15 @@ PROGRAMS = {
     "scripts/cursor.c": "",
     LIST_CALLS: "",
     # Each row of the tables that it is given.
-    TABLES: "532 lists, 725 refusals\n",
+    TABLES: "753 lists, 821 refusals\n",
+    QUERIES: "2917 searches, 242 pairs, 104 refusals\n",
     # Of a fixed seed and these tables: other rows give other numbers.
     DAMAGED: "50000 damaged lists: "
     "10461 opened, 12631 Short, 2021 BadVersion, 2088 BadKind, 1223 WrongLanes, "
     "1314 TooLong, 2467 BadWidth, 1027 LooseWidth, 2411 BadOffset, 2795 BadLast, "
     "2465 NotSorted, 5519 Trailing, 2679 BadNumber, 899 Padding\n",
     # The lists of the tables that are in order: each alone, n ^ 2 pairs, and as many triples of 17 of them, by three calls.
-    SETS: "370 lists, 426549 combined\n",
+    SETS: "471 lists, 681675 combined\n",
 }
 # For each program that prints nothing, a function of the header that it calls, and that function with a wrong answer.
 CALLED = {CALLS: "bitpacking_version", LIST_CALLS: "bitpacking_list_len", "scripts/cursor.c": "bitpacking_cursor_position"}
@@ -79,6 +82,7 @@ ONE_MORE = """#include "bitpacking.h"
 """
 VECTORS = {TABLES: ["lists2", "lists3", "refused2", "refused3"], SETS: ["lists2", "lists3"]}
 VECTORS[DAMAGED] = VECTORS[TABLES]
+VECTORS[QUERIES] = ["seek", "seek3", "intersect", "union", "difference", "refused_values"]
 # The same of a million damaged lists.
 MILLION = (
     "1000000 damaged lists: "
@@ -116,9 +120,18 @@ def places():
             leave_out(f"the C programs at the level {level}", "which this processor does not have")
 
 
+@functools.cache
+def long_lists():
+    """The lists of vectors/digests.tsv that C reads, as vectors/assemble.py prints them."""
+    return "".join(run(sys.executable, f"{ROOT}/vectors/assemble.py", "--long", version).stdout for version in ["2", "3"])
+
+
 def given(program):
     """What a program reads."""
-    return {"input": "".join(source(f"vectors/{table}.tsv") for table in VECTORS[program])} if program in VECTORS else {}
+    if program not in VECTORS:
+        return {}
+    tables = "".join(source(f"vectors/{table}.tsv") for table in VECTORS[program])
+    return {"input": tables + (long_lists() if program == TABLES else "")}
 
 
 def compiled_and_run(archive, path, command, arguments=(), printed=None, **more):

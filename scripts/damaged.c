@@ -295,7 +295,7 @@ static void compare(void)
 }
 
 /* Keeps the text of a row. The plain reader has to give what the row says, but for faults of one packer or one version. */
-static void keep(char *column[4])
+static void keep(char *column[COLUMNS])
 {
     static uint32_t wanted[MANY];
     plain_list right = {0};
@@ -304,7 +304,7 @@ static void keep(char *column[4])
     text_len = read_bytes(column[3], text);
     right.values = values;
     fault = plain_read(&right, text, text_len, 0);
-    if (is_refusal(column)) {
+    if (table == REFUSED) {
         int said = atoi(column[1]);
 
         expect(said == BAD_VERSION || said == WRONG_LANES || (int)fault == said, "the plain reader refuses a row otherwise");
@@ -324,7 +324,7 @@ static void keep(char *column[4])
 int main(int arguments, char **argument)
 {
     unsigned long all = arguments > 1 ? strtoul(argument[1], NULL, 10) : 50000, i;
-    char *column[4];
+    char *column[COLUMNS];
 
     bytes_room = guarded(LONGEST);
     values_room = guarded(4 * MANY);

@@ -114,7 +114,7 @@ static void combine(size_t a, size_t b, size_t c, size_t len)
     compare("what any has", bitpacking_list_unite, which, len, expect_all(which, len), total);
 }
 
-static void read_list(char *column[4])
+static void read_list(char *column[COLUMNS])
 {
     size_t size = read_bytes(column[3], bytes + bytes_used);
     bitpacking_list view = BITPACKING_LIST_EMPTY;
@@ -134,7 +134,7 @@ static void read_list(char *column[4])
 int main(void)
 {
     size_t a, b, c;
-    char *column[4];
+    char *column[COLUMNS];
 
     while (next_row(column))
         read_list(column);

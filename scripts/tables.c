@@ -1,12 +1,12 @@
-/* Reads the tables vectors/lists2.tsv, lists3.tsv, refused2.tsv and refused3.tsv, one after the other. Packs the values of each list, which
-   has to give its bytes, and opens each text with bitpacking_list_open. Prints what is wrong, and last how many lists and
-   refusals it read. */
+/* Reads the tables vectors/lists2.tsv, lists3.tsv, refused2.tsv and refused3.tsv, one after the other, and long lists in the form of
+   lists2.tsv. Packs the values of each list, which has to give its bytes, and opens each text with bitpacking_list_open. Prints what is
+   wrong, and last how many lists and refusals it read. */
 #include "bitpacking.h"
 #include "tables.h"
 
-enum { LONGEST = 1 << 15 };
+enum { LONGEST = 1 << 17, MORE = 64 };
 
-static uint8_t bytes[LINE / 2], packed[LINE / 2 + 1];
+static uint8_t bytes[LINE / 2], packed[LINE / 2 + MORE];
 static uint32_t values[LONGEST], found[LONGEST + 1];
 static int failed;
 
@@ -36,16 +36,16 @@ static void packs(uint8_t kind, int lanes, size_t count, size_t size)
     const list_pack pack = lanes == 1 ? bitpacking_1x_list_pack : lanes == 4 ? bitpacking_4x_list_pack : bitpacking_8x_list_pack;
     const list_size measure = lanes == 1 ? bitpacking_1x_list_size : lanes == 4 ? bitpacking_4x_list_size : bitpacking_8x_list_size;
     uint8_t version = bytes[0] < 64 ? 2 : 3;
-    size_t position = 77;
+    size_t position = 77, room = size + MORE;
 
-    memset(packed, 0xA5, sizeof packed);
+    memset(packed, 0xA5, room);
     expect(measure(version, kind, values, count, &position) == (ptrdiff_t)size, "another size");
     expect(pack(version, kind, values, count, packed, size - 1, &position) == BITPACKING_SHORT, "it has too much room");
-    expect(all_are(packed, sizeof packed, 0xA5), "it is written without room");
-    expect(pack(version, kind, values, count, packed, sizeof packed, &position) == (ptrdiff_t)size, "another answer of list_pack");
+    expect(all_are(packed, room, 0xA5), "it is written without room");
+    expect(pack(version, kind, values, count, packed, room, &position) == (ptrdiff_t)size, "another answer of list_pack");
     expect(memcmp(packed, bytes, size) == 0, "other bytes");
-    expect(all_are(packed + size, sizeof packed - size, 0xA5), "bytes are written after it");
-    memset(packed, 0xA5, sizeof packed);
+    expect(all_are(packed + size, MORE, 0xA5), "bytes are written after it");
+    memset(packed, 0xA5, room);
     expect(pack(version, kind, values, count, packed, size, &position) == (ptrdiff_t)size, "no room in its own length");
     expect(memcmp(packed, bytes, size) == 0 && packed[size] == 0xA5 && position == 77, "other bytes in their own length");
 }
@@ -62,7 +62,7 @@ static void accepts(const char *kind, size_t count, size_t size)
     for (i = 0; i < count; i++)
         expect(bitpacking_list_get(&list, i, &value) == 1 && value == values[i], "another value");
     expect(bitpacking_list_get(&list, count, &value) == 0, "a value after the last");
-    memset(found, 0xA5, sizeof found);
+    memset(found, 0xA5, (count + 1) * sizeof *found);
     if (count > 0)
         expect(bitpacking_list_unpack(&list, found, count - 1) == BITPACKING_SHORT && found[0] == 0xA5A5A5A5, "too little room");
     expect(bitpacking_list_unpack(&list, found, count + 1) == (ptrdiff_t)count, "another number of values");
@@ -84,10 +84,10 @@ static void refuses(int number, size_t size)
 int main(void)
 {
     size_t lists = 0, refusals = 0;
-    char *column[4];
+    char *column[COLUMNS];
 
     while (next_row(column)) {
-        if (is_refusal(column)) {
+        if (table == REFUSED) {
             refuses(atoi(column[1]), read_bytes(column[3], bytes));
             refusals++;
         } else {

@@ -1,5 +1,4 @@
-/* Reads tables of vectors/ from the standard input, one after the other: rows of four columns, of which the last are bytes. A row is
-   "kind, lanes, values, bytes" of a list, or "lanes, number, fault, bytes" of a text that is refused. */
+/* Reads tables of vectors/ from the standard input, one after the other. The first line of a table has the names of its columns. */
 #ifndef TABLES_H
 #define TABLES_H
 
@@ -10,31 +9,50 @@
 #include <stdlib.h>
 #include <string.h>
 
-enum { LINE = 1 << 16 };
+enum { LINE = 1 << 21, COLUMNS = 5, TABLES = 7 };
+
+/* The table of the row that was read last. */
+static enum { LISTS, REFUSED, SEARCHES, INTERSECTIONS, UNIONS, DIFFERENCES, REFUSED_VALUES } table;
+static const char *const heads[TABLES] = {
+    "kind\tlanes\tvalues\tbytes\n",
+    "lanes\tnumber\tfault\tbytes\n",
+    "lanes\tbytes\ttargets\tfound\n",
+    "lanes\tbytes\tother_lanes\tother_bytes\tshared\n",
+    "lanes\tbytes\tother_lanes\tother_bytes\tunited\n",
+    "lanes\tbytes\tother_lanes\tother_bytes\tleft\n",
+    "version\tkind\tlanes\tvalues\tposition\n"};
 
 static char line[LINE];
 
-/* Reads the next row that is not the head of a table into line, and points to its columns. Returns whether there is one. */
-static int next_row(char *column[4])
+/* Whether the line is the first of a table, which is then the table of the rows after it. */
+static int is_head(void)
+{
+    size_t i;
+
+    for (i = 0; i < TABLES && strcmp(line, heads[i]) != 0; i++)
+        continue;
+    if (i < TABLES)
+        table = i;
+    return i < TABLES;
+}
+
+/* Reads the next row into line, and points to its columns: NULL after the last. Returns whether there is one. */
+static int next_row(char *column[COLUMNS])
 {
     while (fgets(line, sizeof line, stdin)) {
         int i;
 
+        if (is_head())
+            continue;
         column[0] = line;
-        for (i = 1; i < 4 && column[i - 1]; i++) {
-            column[i] = strchr(column[i - 1], '\t');
+        for (i = 1; i < COLUMNS; i++) {
+            column[i] = column[i - 1] ? strchr(column[i - 1], '\t') : NULL;
             if (column[i])
                 *column[i]++ = 0;
         }
-        if (i == 4 && column[3] && strcmp(column[3], "bytes\n") != 0)
-            return 1;
+        return 1;
     }
     return 0;
-}
-
-static inline int is_refusal(char *column[4])
-{
-    return isdigit((unsigned char)*column[0]);
 }
 
 static uint8_t kind_of(const char *name)
