@@ -79,7 +79,7 @@ fn pack<P: Pack>(packer: &P, kind: Kind, values: &[u32], bytes: &mut [u8]) -> (u
     }
 }
 
-/// A block of `vectors/blocks.tsv`, which the crate `bitpacking` 0.9.3 wrote.
+/// A block of `vectors/blocks.tsv`, which the crate `bitpacking` 0.9.3 wrote, or of `vectors/single.tsv`, laid by docs/FORMAT.md.
 struct Block {
     packer: String,
     kind: Kind,
@@ -89,10 +89,10 @@ struct Block {
 }
 
 fn blocks() -> Vec<Block> {
-    let path = concat!(env!("CARGO_MANIFEST_DIR"), "/../vectors/blocks.tsv");
-    let text = fs::read_to_string(path).unwrap();
-    let found: Vec<Block> = text.lines().skip(1).map(block).collect();
-    assert_eq!(found.len(), 396);
+    let texts = ["blocks", "single"]
+        .map(|name| fs::read_to_string(format!("{}/../vectors/{name}.tsv", env!("CARGO_MANIFEST_DIR"))).unwrap());
+    let found: Vec<Block> = texts.iter().flat_map(|text| text.lines().skip(1)).map(block).collect();
+    assert_eq!(found.len(), 396 + 381);
     found
 }
 

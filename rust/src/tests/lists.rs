@@ -163,13 +163,25 @@ fn too_many_values_are_refused() {
 }
 
 /// The rows of a table of `vectors/`, as their fields.
-fn rows(name: &str) -> Vec<Vec<String>> {
+pub(super) fn rows(name: &str) -> Vec<Vec<String>> {
     let path = format!("{}/../vectors/{name}.tsv", env!("CARGO_MANIFEST_DIR"));
     let text = fs::read_to_string(path).unwrap();
     text.lines().skip(1).map(|line| line.split('\t').map(str::to_string).collect()).collect()
 }
 
-fn bytes_of(digits: &str) -> Vec<u8> {
+pub(super) fn values_of(text: &str) -> Vec<u32> {
+    text.split(',').filter_map(|value| value.parse().ok()).collect()
+}
+
+fn kind_of(name: &str) -> Kind {
+    match name {
+        "plain" => Kind::Plain,
+        "sorted" => Kind::Sorted,
+        _ => Kind::StrictlySorted,
+    }
+}
+
+pub(super) fn bytes_of(digits: &str) -> Vec<u8> {
     let digits = digits.trim_matches('-');
     (0..digits.len() / 2).map(|k| u8::from_str_radix(&digits[2 * k..2 * k + 2], 16).unwrap()).collect()
 }
@@ -177,17 +189,11 @@ fn bytes_of(digits: &str) -> Vec<u8> {
 #[test]
 fn the_lists_of_the_vectors() {
     at_each_level(|| {
-        for (table, version, count) in [("lists2", Version::Two, 87), ("lists3", Version::Three, 445)] {
+        for (table, version, count) in [("lists2", Version::Two, 183), ("lists3", Version::Three, 564)] {
             let rows = rows(table);
             assert_eq!(rows.len(), count);
             for row in rows {
-                let kind = match &row[0][..] {
-                    "plain" => Kind::Plain,
-                    "sorted" => Kind::Sorted,
-                    _ => Kind::StrictlySorted,
-                };
-                let values: Vec<u32> = row[2].split(',').filter_map(|value| value.parse().ok()).collect();
-                let bytes = bytes_of(&row[3]);
+                let (kind, values, bytes) = (kind_of(&row[0]), values_of(&row[2]), bytes_of(&row[3]));
                 assert_eq!(encoded((row[1].parse().unwrap(), version), kind, &values).as_ref(), Ok(&bytes));
                 let list = PackedList::open(&bytes).unwrap();
                 assert_eq!((list.kind(), list.to_vec()), (kind, values));
@@ -210,7 +216,36 @@ fn the_refused_texts_of_the_vectors() {
                 refused += 1;
             }
         }
-        assert_eq!(refused, 238 - 15 - 21 + 487 - 37 - 20);
+        assert_eq!(refused, 279 - 15 - 21 + 542 - 37 - 20);
+    });
+}
+
+/// The first position that is out of order.
+#[test]
+fn the_refused_values_of_the_vectors() {
+    at_each_level(|| {
+        let rows = rows("refused_values");
+        assert_eq!(rows.len(), 104);
+        for row in rows {
+            let version = if row[0] == "2" { Version::Two } else { Version::Three };
+            let error = Error::NotSorted { position: Some(row[4].parse().unwrap()) };
+            assert_eq!(encoded((row[2].parse().unwrap(), version), kind_of(&row[1]), &values_of(&row[3])), Err(error));
+        }
+    });
+}
+
+#[test]
+fn the_searches_of_the_vectors() {
+    at_each_level(|| {
+        for row in rows("seek").into_iter().chain(rows("seek3")) {
+            let bytes = bytes_of(&row[1]);
+            let (list, targets) = (PackedList::open(&bytes).unwrap(), values_of(&row[2]));
+            assert_eq!(targets.len(), row[3].split(',').count());
+            for (target, answer) in targets.into_iter().zip(row[3].split(',')) {
+                let right = answer.split_once(':').map(|(position, value)| (position.parse().unwrap(), value.parse().unwrap()));
+                assert_eq!(list.seek(target), Ok(right));
+            }
+        }
     });
 }
 

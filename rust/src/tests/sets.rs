@@ -3,7 +3,7 @@
 use std::collections::BTreeSet;
 
 use super::at_each_level;
-use super::lists::{encoded, values, Numbers, FORMS};
+use super::lists::{bytes_of, encoded, rows, values, values_of, Numbers, FORMS};
 use crate::list::{difference, encode, intersect, union, Error, Kind, PackedList};
 
 type Sets = Vec<BTreeSet<u32>>;
@@ -61,6 +61,29 @@ fn equal_and_empty_lists() {
         assert_eq!((intersect(&[list, list]), union(&[list, list])), (Ok(values.clone()), Ok(values.clone())));
         assert_eq!((difference(&[list, list]), difference(&[list, empty])), (Ok(vec![]), Ok(values.clone())));
         assert_eq!((intersect(&[list, empty]), union(&[empty, list])), (Ok(vec![]), Ok(values)));
+    });
+}
+
+/// Two lists of any packers and versions, in both orders if the operation has none.
+#[test]
+fn the_pairs_of_the_vectors() {
+    at_each_level(|| {
+        for (table, count) in [("intersect", 158), ("union", 42), ("difference", 42)] {
+            let rows = rows(table);
+            assert_eq!(rows.len(), count);
+            for row in rows {
+                let (one, other) = (bytes_of(&row[1]), bytes_of(&row[3]));
+                let (one, other) = (PackedList::open(&one).unwrap(), PackedList::open(&other).unwrap());
+                let combined = |lists: &[PackedList<'_>]| match table {
+                    "intersect" => intersect(lists),
+                    "union" => union(lists),
+                    _ => difference(lists),
+                };
+                let right = Ok(values_of(&row[4]));
+                assert_eq!(combined(&[one, other]), right);
+                assert!(table == "difference" || combined(&[other, one]) == right);
+            }
+        }
     });
 }
 
