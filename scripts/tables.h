@@ -15,7 +15,7 @@ enum { LINE = 1 << 21, COLUMNS = 5, TABLES = 7 };
 static enum { LISTS, REFUSED, SEARCHES, INTERSECTIONS, UNIONS, DIFFERENCES, REFUSED_VALUES } table;
 static const char *const heads[TABLES] = {
     "kind\tlanes\tvalues\tbytes\n",
-    "lanes\tnumber\tfault\tbytes\n",
+    "lanes\tnumber\tfault\tbytes\trule\n",
     "lanes\tbytes\ttargets\tfound\n",
     "lanes\tbytes\tother_lanes\tother_bytes\tshared\n",
     "lanes\tbytes\tother_lanes\tother_bytes\tunited\n",

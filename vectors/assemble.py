@@ -18,6 +18,7 @@ from lists3 import counted_lists, greatest_lists, tail_lists, upgrades3, worked_
 from parts import FOLDER, KINDS, LANES, body_of, list_text, plain_blocks
 from refusals import number_of, refused_rows
 from refusals3 import refused_rows3
+from rules import rule_of
 from sets import combinations, intersections, refused_values, searches
 
 
@@ -70,8 +71,8 @@ def tables(blocks):
         (3, "3", short, refused_rows3(blocks)),
     ]:
         found[f"lists{name}.tsv"] = table("kind lanes values bytes", [*lists, *made_lists(blocks, version), *edge_lists(version)])
-        refused = [(lanes, number_of(fault), fault, text) for lanes, fault, text in rows]
-        found[f"refused{name}.tsv"] = table("lanes number fault bytes", refused)
+        refused = [(lanes, number_of(fault), fault, text, rule_of(version, lanes, fault, text)) for lanes, fault, text in rows]
+        found[f"refused{name}.tsv"] = table("lanes number fault bytes rule", refused)
     return found
 
 
