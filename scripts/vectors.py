@@ -365,13 +365,8 @@ def programs():
 def groups(asked):
     """The checks of each reader of the vectors, with its name."""
     names = names_of(model())
-<<<<<<< HEAD
     found = [it for checks in [*CHECKS.values(), rule_checks, parquet_checks] for it in checks(names)]
-    yield "the decoders of docs/FORMAT.md and vectors/model.py", found
-=======
-    found = [it for checks in [*CHECKS.values(), rule_checks] for it in checks(names)]
     yield "the decoders of docs/FORMAT.md, vectors/model.py and line_model.py", found
->>>>>>> fdc42f7 (Vectors: lines by hand with a line program in Python, and each wrong implementation fails in its own part)
     yield "wrong implementations", mistake_checks()
     for program in asked:
         name = os.path.relpath(program[0] if isinstance(program, list) else program, ROOT)
