@@ -62,9 +62,9 @@ PROGRAMS = {
     QUERIES: "2917 searches, 242 pairs, 104 refusals\n",
     # Of a fixed seed and these tables: other rows give other numbers.
     DAMAGED: "50000 damaged lists: "
-    "10461 opened, 12631 Short, 2021 BadVersion, 2088 BadKind, 1223 WrongLanes, "
-    "1314 TooLong, 2467 BadWidth, 1027 LooseWidth, 2411 BadOffset, 2795 BadLast, "
-    "2465 NotSorted, 5519 Trailing, 2679 BadNumber, 899 Padding\n",
+    "10673 opened, 12282 Short, 1915 BadVersion, 2185 BadKind, 1181 WrongLanes, "
+    "1419 TooLong, 2419 BadWidth, 925 LooseWidth, 2482 BadOffset, 2853 BadLast, "
+    "2478 NotSorted, 5676 Trailing, 2681 BadNumber, 831 Padding\n",
     # The lists of the tables that are in order: each alone, n ^ 2 pairs, and as many triples of 17 of them, by three calls.
     SETS: "471 lists, 681675 combined\n",
 }
@@ -86,9 +86,9 @@ VECTORS[QUERIES] = ["seek", "seek3", "intersect", "union", "difference", "refuse
 # The same of a million damaged lists.
 MILLION = (
     "1000000 damaged lists: "
-    "208357 opened, 250530 Short, 40476 BadVersion, 41856 BadKind, 24996 WrongLanes, "
-    "27305 TooLong, 48691 BadWidth, 19743 LooseWidth, 48075 BadOffset, 56156 BadLast, "
-    "49931 NotSorted, 110783 Trailing, 54726 BadNumber, 18375 Padding\n"
+    "215154 opened, 242569 Short, 39260 BadVersion, 43157 BadKind, 25068 WrongLanes, "
+    "27643 TooLong, 47016 BadWidth, 18662 LooseWidth, 48512 BadOffset, 59704 BadLast, "
+    "49888 NotSorted, 112028 Trailing, 54252 BadNumber, 17087 Padding\n"
 )
 
 

@@ -295,11 +295,10 @@ static void compare(void)
 }
 
 /* Whether a text was refused by the rule that a row names. A text of no byte is of each version, and its rule is 1 in both. */
-static int is_rule(const plain_list *refused, char *named)
+static int is_rule(const plain_list *refused, const char *named)
 {
     const char *name = rule_names[text_len > 0 && text[0] >= 64][refused->rule];
 
-    named[strcspn(named, "\n")] = 0;
     return name != NULL && strcmp(name, named) == 0;
 }
 

@@ -14,13 +14,13 @@ enum { LINE = 1 << 21, COLUMNS = 5, TABLES = 7 };
 /* The table of the row that was read last. */
 static enum { LISTS, REFUSED, SEARCHES, INTERSECTIONS, UNIONS, DIFFERENCES, REFUSED_VALUES } table;
 static const char *const heads[TABLES] = {
-    "kind\tlanes\tvalues\tbytes\n",
-    "lanes\tnumber\tfault\tbytes\trule\n",
-    "lanes\tbytes\ttargets\tfound\n",
-    "lanes\tbytes\tother_lanes\tother_bytes\tshared\n",
-    "lanes\tbytes\tother_lanes\tother_bytes\tunited\n",
-    "lanes\tbytes\tother_lanes\tother_bytes\tleft\n",
-    "version\tkind\tlanes\tvalues\tposition\n"};
+    "kind\tlanes\tvalues\tbytes",
+    "lanes\tnumber\tfault\tbytes\trule",
+    "lanes\tbytes\ttargets\tfound",
+    "lanes\tbytes\tother_lanes\tother_bytes\tshared",
+    "lanes\tbytes\tother_lanes\tother_bytes\tunited",
+    "lanes\tbytes\tother_lanes\tother_bytes\tleft",
+    "version\tkind\tlanes\tvalues\tposition"};
 
 static char line[LINE];
 
@@ -42,6 +42,7 @@ static int next_row(char *column[COLUMNS])
     while (fgets(line, sizeof line, stdin)) {
         int i;
 
+        line[strcspn(line, "\n")] = 0;
         if (is_head())
             continue;
         column[0] = line;
