@@ -14,7 +14,7 @@ pub enum ListError {
     Short,
     /// The version byte is another.
     BadVersion(u8),
-    /// The kind byte is above 2.
+    /// The kind is above 2; or it is 0, plain, and the list was to be searched.
     BadKind(u8),
     /// The text was packed in this many lanes, and not in the packer's.
     WrongLanes(u8),
