@@ -3,6 +3,7 @@
 
 - README.md: the lengths of the four ids, the lines of the command line, what a list takes beside its blocks, and the bytes of a block.
 - docs/SCALE.md: which share of single flipped bits a reader finds. The page says what the lists are.
+- What README.md, docs/SCALE.md and docs/SPEED.md reckon from measured numbers: bits a value, bytes a posting.
 
 Then the wrong changes of scripts/edits/page_numbers/ are tried, as scripts/changes.py says. The last line is 'N passed, M failed'.
 """
@@ -14,7 +15,7 @@ import sys
 from texts import results, text_of
 from vectors import KINDS, model, names_of
 
-README, SCALE = "README.md", "docs/SCALE.md"
+README, SCALE, SPEED = "README.md", "docs/SCALE.md", "docs/SPEED.md"
 FOUR, STRICT = [7, 9, 10, 300], 2
 # The lanes of the measured lists, and their lengths, each with the distance of the bits that are flipped.
 LANES, STEPS = 4, {20: 1, 1_000: 1, 1_024: 1, 20_000: 101}
@@ -106,5 +107,25 @@ def damage():
         yield from missing(SCALE, f"| {count:,} | " + " | ".join(f"{share:.1f} %" for share in row) + " |")
 
 
+def numbers_of(path, first):
+    """The numbers of the row of a page that begins with this cell."""
+    row = re.search(rf"^\| {re.escape(first)} \|(.*)$", text_of(path), re.M)
+    return [float(it.replace(",", "")) for it in re.findall(r"\d[\d,]*(?:\.\d+)?", row[1])] if row else []
+
+
+def reckoned():
+    """What follows from measured numbers: in an index the bits a value of all lists and of short ones, and the bytes a posting."""
+    (values, of_short), lengths = numbers_of(SPEED, "values"), numbers_of(SPEED, "bytes")
+    bits = [8 * length / count for length, count in zip(lengths, 3 * [values] + 3 * [of_short])]
+    yield from missing(SPEED, "| bits a value | " + " | ".join(f"{it:.1f}" for it in bits) + " |")
+    yield from missing(README, f"took {bits[3]:.0f} bits a value in versions 1 and 2, and {bits[5]:.0f} in version 3")
+    (postings,), whole = numbers_of(SCALE, "postings"), 0
+    for first in ("lists of documents", "lists of counts"):
+        length = numbers_of(SCALE, first)[0]
+        whole += length / postings
+        yield from missing(SCALE, f"| {first} | {length:,.0f} bytes, {length / postings:.2f} a posting |")
+    yield from missing(SCALE, f"At {whole:.1f} bytes a posting with its count, 10 GB hold {10 / whole:.1f} billion postings")
+
+
 if __name__ == "__main__":
-    sys.exit(results([four_ids, blocks, damage], "page_numbers"))
+    sys.exit(results([four_ids, blocks, damage, reckoned], "page_numbers"))
