@@ -1,8 +1,8 @@
 /* bitpacking.h: blocks of 32-bit integers packed in few bits per value, and chains and lists of such blocks.
  *
- * The functions are in a static library; docs/C.md of the repository says how to build it. libbitpacking.a is for all levels of x86-64, and
- * libbitpacking_c.a for one level, or for aarch64. Three functions are `static inline` here, and in no archive: bitpacking_list_empty,
- * bitpacking_cursor_block and bitpacking_error_text.
+ * The functions are in a static library; docs/C.md of the repository says how to build it. libbitpacking.a chooses the level of the
+ * processor, and libbitpacking_c.a has one level. An installed libbitpacking_c.a is one of these. Three functions are `static inline` here,
+ * and in no archive: bitpacking_list_empty, bitpacking_cursor_block and bitpacking_error_text.
  *
  * What each call of the archive returns and writes is proved for all arguments that meet these rules:
  *
