@@ -103,8 +103,10 @@ def levels_of(prefix):
     for level in archives.BUILDS:
         if level != archives.ARM or not cross:
             again = by_script(prefix, "--level", level, env=dict(os.environ, CC=arm.CROSS) if level == archives.ARM else None)
-            is_it = bytes_of(f"{prefix}/{install.STATIC}") == bytes_of(archives.archive(level))
-            yield f"installing {level} over it", again.stdout if again.returncode else None if is_it else "another archive is installed"
+            wrong = again.stdout[-2000:] if again.returncode else None
+            if not wrong and bytes_of(f"{prefix}/{install.STATIC}") != bytes_of(archives.archive(level)):
+                wrong = "another archive is installed"
+            yield f"installing {level} over it", wrong
 
 
 def installed(folder):
