@@ -41,7 +41,7 @@ module _ (lanes : ℕ) (kind : ListKind) (values : List ℕ) (some : 1 ≤ lanes
         rw add-one at next,
       )
 
-  bodies_upto : (i : ℕ) → i ≤ blocks → (rest : List ℕ) × AreBytes rest × HasBodies lanes blocks kind values rest i
+  pub bodies_upto : (i : ℕ) → i ≤ blocks → (rest : List ℕ) × AreBytes rest × HasBodies lanes blocks kind values rest i
   bodies_upto zero le =
       let (rest, block_kind, offset, small, entered) = entries_upto blocks (omega arith) in (
         rest,

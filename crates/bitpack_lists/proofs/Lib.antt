@@ -13,6 +13,7 @@ mod Distinct
 mod DistinctLemmas
 mod EntryLemmas
 mod Existence2
+mod Existence3
 mod FaultLemmas
 pub mod ForCallers
 mod FrontLemmas
@@ -57,6 +58,7 @@ mod TailOrder
 mod TailSearch
 mod TailSteps
 mod TailTexts
+mod TextLengths
 mod TextSizes
 mod TextsOfKind
 mod UniteSteps

@@ -53,7 +53,7 @@ chained_room lanes i width size_of room kind rest all lt least before within =
 
 -- ---- version 1
 
-widths_of_blocks : (lanes count : ℕ) (kind : Kind) (values bytes : List ℕ) → Blocks1 lanes count kind values bytes
+pub widths_of_blocks : (lanes count : ℕ) (kind : Kind) (values bytes : List ℕ) → Blocks1 lanes count kind values bytes
     → (all : List ℕ) × (length all ≡ count) × LeastWidths lanes kind values all
     × (length bytes ≡ count + 4 * lanes * sum all + 4 * (length values - 32 * lanes * count))
 widths_of_blocks lanes zero kind values bytes is =

@@ -33,7 +33,7 @@ one_of_three true four = (omega arith, omega arith)
 one_of_three false true = (omega arith, omega arith)
 one_of_three false false = (omega arith, omega arith)
 
-lanes_code-few : (lanes : ℕ) → (1 ≤ lanes_code lanes) × (lanes_code lanes ≤ 3)
+pub lanes_code-few : (lanes : ℕ) → (1 ≤ lanes_code lanes) × (lanes_code lanes ≤ 3)
 lanes_code-few lanes = one_of_three (lanes == 1) (lanes == 4)
 
 -- ---- a header is read
@@ -42,11 +42,11 @@ module _ (lanes count : ℕ) (kind : ListKind) (rest : List ℕ) where
   abbrev first : ℕ
   first = 64 * lanes_code lanes + 16 * kind_byte kind + min count 15
 
-  small_header : count < 15 → header3 kind lanes count ++ rest ≡ first ∷ rest
+  pub small_header : count < 15 → header3 kind lanes count ++ rest ≡ first ∷ rest
   unfolding header3
   small_header lt = rw (lt-ltb count 15 lt) refl
 
-  large_header : 15 ≤ count → header3 kind lanes count ++ rest ≡ first ∷ (number count ++ rest)
+  pub large_header : 15 ≤ count → header3 kind lanes count ++ rest ≡ first ∷ (number count ++ rest)
   unfolding header3
   large_header le = rw (le-ltb count 15 le) refl
 

@@ -26,7 +26,7 @@ groups_exist (suc groups) codes le lt words =
     let (rest, small', are) = groups_exist groups (drop 32 codes) (omega (arith, length-drop 32 codes, le)) (omega (arith, length-drop 32 codes, lt)) (All-drop (λ v. v < 2 ^ 32) 32 codes words) in
     (part ++ rest, AreBytes-append part rest small small', (part, rest, refl, group, are))
 
-AreBytes-number_in : (more x : ℕ) → AreBytes (number_in more x)
+pub AreBytes-number_in : (more x : ℕ) → AreBytes (number_in more x)
 unfolding number_in
 AreBytes-number_in zero x = AreBytes-nil
 AreBytes-number_in (suc more) x =

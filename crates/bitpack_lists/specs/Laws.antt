@@ -1,5 +1,5 @@
 -- Laws of chains and packed lists, proved of the definitions alone.
-use Rattle.std.specs.Prelude.{◌≡◌, ◌≢◌, ◌↔◌, ℕ, ◌<◌, ◌≤◌, List, ◌++◌, length, take, drop, slice_get, Some, None, All, IsTrue}
+use Rattle.std.specs.Prelude.{◌≡◌, ◌≢◌, ◌↔◌, ℕ, ◌^◌, ◌<◌, ◌≤◌, List, ◌++◌, length, take, drop, slice_get, Some, None, All, IsTrue}
 use Rattle.std.specs.Option.{MatchOption}
 use Rattle.std.specs.List.Sorted.{IsNonDecreasing, IsStrictlyIncreasing}
 use Rattle.bitpacking.specs.declared.kind.Kind.{Kind}
@@ -32,6 +32,11 @@ abbrev pub OneText1 : Type 0
 OneText1 = (lanes : ℕ) (kind : ListKind) (values text other : List ℕ) → 0 < lanes → AreBytes text → AreBytes other
     → List1 lanes kind values text → List1 lanes kind values other → other ≡ text
 
+-- values in any order have a text of version 1, if they are not too many
+abbrev pub HasText1 : Type 0
+HasText1 = (lanes : ℕ) (kind : ListKind) (values : List ℕ) → 0 < lanes → lanes < 2 ^ 8 → AreWords values → length values ≤ 2 ^ 28
+    → (text : List ℕ) × AreBytes text × List1 lanes kind values text
+
 -- a text of version 1 belongs to one kind and one list
 abbrev pub OneList1 : Type 0
 OneList1 = (lanes : ℕ) (kind kind' : ListKind) (values others text : List ℕ) → 0 < lanes
@@ -46,6 +51,11 @@ NoFault1 = (lanes : ℕ) (bytes : List ℕ) → 0 < lanes → AreBytes bytes
 abbrev pub OneText2 : Type 0
 OneText2 = (lanes : ℕ) (kind : ListKind) (values text other : List ℕ) → 0 < lanes → AreBytes text → AreBytes other
     → List2 lanes kind values text → List2 lanes kind values other → other ≡ text
+
+-- values in the order of their kind have a text of version 2, if they are not too many
+abbrev pub HasText2 : Type 0
+HasText2 = (lanes : ℕ) (kind : ListKind) (values : List ℕ) → 0 < lanes → lanes < 2 ^ 8 → AreWords values → length values ≤ 2 ^ 28
+    → first_out kind values ≡ None → (text : List ℕ) × AreBytes text × List2 lanes kind values text
 
 -- a text of version 2 belongs to one kind and one list
 abbrev pub OneList2 : Type 0

@@ -8,7 +8,7 @@ use Rattle.bitpack_lists.specs.Groups.{AreGroups, IsGroup, after_groups, group_c
 use Rattle.bitpack_lists.specs.Numbers.{number, number_end, number_fault, number_value}
 use Rattle.bitpack_lists.specs.Parts.{whole_blocks}
 use Rattle.bitpack_lists.specs.Version1.{fault1}
-use Rattle.bitpack_lists.specs.Version2.{List2, fault2, tail_start}
+use Rattle.bitpack_lists.specs.Version2.{List2, fault2, first_out, tail_start}
 use Rattle.bitpack_lists.specs.Version3.{HasCode, List3, fault3, header_end}
 
 -- ---- texts
@@ -17,6 +17,11 @@ use Rattle.bitpack_lists.specs.Version3.{HasCode, List3, fault3, header_end}
 abbrev pub OneText3 : Type 0
 OneText3 = (lanes : ℕ) (kind : ListKind) (values text other : List ℕ) → 0 < lanes → AreBytes text → AreBytes other
     → List3 lanes kind values text → List3 lanes kind values other → other ≡ text
+
+-- values in the order of their kind have a text of version 3, if they are not too many
+abbrev pub HasText3 : Type 0
+HasText3 = (lanes : ℕ) (kind : ListKind) (values : List ℕ) → 0 < lanes → AreWords values → length values ≤ 2 ^ 28
+    → first_out kind values ≡ None → (text : List ℕ) × AreBytes text × List3 lanes kind values text
 
 -- a text of version 3 belongs to one kind and one list
 abbrev pub OneList3 : Type 0

@@ -23,6 +23,7 @@ pub mod Owned
 pub mod Parts
 pub mod Places
 pub mod Remaining
+pub mod Room
 pub mod Search
 pub mod Texts
 pub mod Version1

@@ -2,12 +2,14 @@
 //!
 //! The definitions are in `specs/`: `Loose` and `Chained` in Chains; `header`, `is_loose` and the other parts of packed lists
 //! in Parts; `List1` and `fault1` in Version1; `List2`, `fault2`, `first_out` and `parts_before` in Version2; `List3` and `fault3` in
-//! Version3, with the words of Numbers and Groups; `IsText` in Texts; `first_at_least` in Search; `IsCommon` in Intersections.
+//! Version3, with the words of Numbers and Groups; `IsText` in Texts; `list_room` in Room; `first_at_least` in Search; `IsCommon` in
+//! Intersections.
 
 ghost use Rattle.std.specs.Prelude.{◌≡◌, None};
-ghost use Rattle.bitpack_lists.specs.Laws.{ChainsReadBack, CommonIsShort, FirstIsFound, LooseFitsSmaller, NeitherFalls, NoFault1, NoFault2, OneCommon, OneList1, OneList2, OneText1, OneText2, SameBodies, SortedIsOrder, StrictIsOrder};
-ghost use Rattle.bitpack_lists.specs.Laws3.{GroupReadsBack, GroupsAreRead, GroupsReadBack, NoFault3, NumberReadsBack, OneGroup, OneGroupOfCodes, OneList3, OneNumber, OneText3, OneVersion, SameBlocks3};
+ghost use Rattle.bitpack_lists.specs.Laws.{ChainsReadBack, CommonIsShort, FirstIsFound, HasText1, HasText2, LooseFitsSmaller, NeitherFalls, NoFault1, NoFault2, OneCommon, OneList1, OneList2, OneText1, OneText2, SameBodies, SortedIsOrder, StrictIsOrder};
+ghost use Rattle.bitpack_lists.specs.Laws3.{GroupReadsBack, GroupsAreRead, GroupsReadBack, HasText3, NoFault3, NumberReadsBack, OneGroup, OneGroupOfCodes, OneList3, OneNumber, OneText3, OneVersion, SameBlocks3};
 ghost use Rattle.bitpack_lists.specs.Opened.{kind_of, text, values, version_of};
+ghost use Rattle.bitpack_lists.specs.Room.{FitsRoom, Longest1, Longest2, Longest3};
 ghost use Rattle.bitpack_lists.specs.Texts.{IsText, IsTextOfNoOther};
 ghost use Rattle.bitpack_lists.specs.Version2.{first_out};
 
@@ -32,6 +34,21 @@ pub fn one_text()
     ensures text3 { OneText3 }
     ensures list3 { OneList3 }
     ensures fault3 { NoFault3 }
+{}
+
+/// At most 2 ^ 28 values have a text of each version. In versions 2 and 3 they have to be in the order of their kind.
+pub fn text_exists()
+    ensures one { HasText1 }
+    ensures two { HasText2 }
+    ensures three { HasText3 }
+{}
+
+/// How long a text can be, by the number of its values: in each version, and in all of them.
+pub fn text_fits()
+    ensures one { Longest1 }
+    ensures two { Longest2 }
+    ensures three { Longest3 }
+    ensures room { FitsRoom }
 {}
 
 /// The text of an opened list is the text of its kind and its values, and of no other list.

@@ -2,6 +2,7 @@
 
 ghost use Rattle.std.specs.Prelude.{◌≡◌, ◌^◌, ◌<◌, IfOk};
 ghost use Rattle.bitpack_lists.specs.Parts.{FindsFault, kind_of_byte};
+ghost use Rattle.bitpack_lists.specs.Version3.{HasCode};
 ghost use Rattle.bitpacking_c.specs.Packs.{AnswersSize, GivesSize, PacksList, number_of_size, numbers_fault, position_after};
 
 use bitpack_lists::{ListError, ListKind, list2, list3};
@@ -134,6 +135,7 @@ fn pack<P: BitPacker>(
     values: &[u32],
     bytes: &mut [u8],
 ) -> Result<usize, ListError>
+    requires lanes { HasCode P.lanes }
     ensures packs { PacksList P.lanes version kind values.now bytes.old bytes.new result }
     ensures small { IfOk result (λ count. count < 2 ^ 63) }
 {
@@ -149,6 +151,7 @@ fn pack<P: BitPacker>(
 // Reads values: kind_numbered, encoded_len, encoded_len.
 #[inline(always)]
 fn size<P: BitPacker>(packer: &P, version: u8, kind: u8, values: &[u32]) -> Result<usize, ListError>
+    requires lanes { HasCode P.lanes }
     ensures size { GivesSize P.lanes version kind values.now result }
     ensures small { IfOk result (λ size. size < 2 ^ 63) }
 {

@@ -8,7 +8,7 @@ ghost use Rattle.bitpack_lists.specs.declared.list_kind.ListKind.{ListKind};
 ghost use Rattle.bitpack_lists.specs.Older.{IsOlder, older_fault};
 ghost use Rattle.bitpack_lists.specs.Parts.{whole_blocks};
 ghost use Rattle.bitpack_lists.specs.Version2.{first_out, kind_at};
-ghost use Rattle.bitpack_lists.specs.Version3.{IsTail3, List3, header3};
+ghost use Rattle.bitpack_lists.specs.Version3.{HasCode, IsTail3, List3, header3};
 ghost use Rattle.bitpack_lists.specs.inner.Appending.{HasAppended};
 ghost use Rattle.bitpack_lists.specs.inner.Opening.{HasBodies};
 ghost use Rattle.bitpack_lists.specs.inner.Upgrading.{IsOlderRest, IsTestedRest, States3};
@@ -46,9 +46,11 @@ struct OldText {
 ///
 /// Any bytes are taken, and they are tested whole before a byte is appended: as a text of version 2 if they begin with 2, and otherwise
 /// as one of version 1. Values out of order are refused, as in [`list2::upgrade`](crate::list2::upgrade). The bodies of the blocks are
-/// copied, since they are the same bytes in each version. The vector grows once at most, by the length of the new text.
+/// copied, since they are the same bytes in each version. The vector grows once at most, by the length of the new text. The packer has 1,
+/// 4 or 8 lanes, as for [`encode`](crate::list3::encode).
 // Reads bytes: test_text, read_codes, tail_len, header_len, append_header, write_blocks, append_tail.
 pub fn upgrade<P: BitPacker>(packer: &P, bytes: &[u8], out: &mut Vec<u8>) -> Result<(), ListError>
+    requires lanes { HasCode P.lanes }
     // The bytes are the text of some values in version 1 or 2, and what is appended is the text of version 3 of the same.
     ensures ok { OnOk result ((kind : ListKind) × (values : List ℕ) × (text : List ℕ)
         × IsOlder P.lanes kind values bytes.now × AreBytes text × List3 P.lanes kind values text

@@ -5,7 +5,7 @@ ghost use Rattle.bitpacking.specs.Bits.{AreBytes};
 ghost use Rattle.bitpack_lists.specs.Chains;
 ghost use Rattle.bitpack_lists.specs.Parts.{FindsFault, first_kind, tail_values};
 ghost use Rattle.bitpack_lists.specs.Version2.{first_out, values_fault};
-ghost use Rattle.bitpack_lists.specs.Version3.{List3};
+ghost use Rattle.bitpack_lists.specs.Version3.{HasCode, List3};
 ghost use Rattle.bitpack_lists.specs.inner.Appending.{AppendsText3};
 ghost use Rattle.bitpack_lists.specs.inner.Sizes.{AreReady, AreTailCodes, IsSize3};
 
@@ -25,7 +25,8 @@ use bitpacking::{BitPacker, Kind};
 
 /// Appends the text of version 3 of the values, which have to be in the order of their kind, as for `list2::encode`.
 ///
-/// A list has at most 268,435,456 values. The vector grows once at most.
+/// The packer has 1, 4 or 8 lanes: a text can state no other number. A list has at most 268,435,456 values. The vector grows once at
+/// most.
 // Reads bytes: append_text, append_text.
 pub fn encode<P: BitPacker>(
     packer: &P,
@@ -33,6 +34,7 @@ pub fn encode<P: BitPacker>(
     values: &[u32],
     out: &mut Vec<u8>,
 ) -> Result<(), ListError>
+    requires lanes { HasCode P.lanes }
     // What is appended is the text of the values.
     ensures ok { OnOk result ((text : List ℕ) × AreBytes text × List3 P.lanes kind values.now text
         × (out.new.items ≡ out.old.items ++ text)) }
@@ -96,7 +98,7 @@ fn append_text<P: BitPacker>(
 
 /// Writes the text of version 3 of the values at the start of the slice, and returns its length in bytes. Allocates nothing.
 ///
-/// The values have to be in the order of their kind, as for [`encode`]. A slice that is too short is refused with `Short`; then
+/// The packer has 1, 4 or 8 lanes, and the values have to be in the order of their kind, as for [`encode`]. A slice that is too short is refused with `Short`; then
 /// nothing is written. The bytes after the text stay as they were. [`encoded_len`] tells how many bytes are needed.
 // Reads bytes: measure, write_text.
 pub fn encode_to<P: BitPacker>(
@@ -105,6 +107,7 @@ pub fn encode_to<P: BitPacker>(
     values: &[u32],
     bytes: &mut [u8],
 ) -> Result<usize, ListError>
+    requires lanes { HasCode P.lanes }
     // What is written is the text of the values, and what is after it stays.
     ensures ok { IfOk result (λ len. (text : List ℕ) × AreBytes text × List3 P.lanes kind values.now text
         × (len ≡ length text) × (bytes.new ≡ text ++ drop len bytes.old)) }
@@ -127,13 +130,15 @@ pub fn encode_to<P: BitPacker>(
     Ok(size)
 }
 
-/// The length in bytes of the text of version 3 of the values, which have to be in the order of their kind, as for [`encode`].
+/// The length in bytes of the text of version 3 of the values, which have to be in the order of their kind, as for [`encode`]. The
+/// packer has 1, 4 or 8 lanes.
 // Reads values: measure.
 pub fn encoded_len<P: BitPacker>(
     packer: &P,
     kind: ListKind,
     values: &[u32],
 ) -> Result<usize, ListError>
+    requires lanes { HasCode P.lanes }
     ensures len { IfOk result (λ len. (text : List ℕ) → List3 P.lanes kind values.now text → len ≡ length text) }
     ensures few { IfOk result (λ len. len ≤ 2 ^ 40) }
     // Values with a fault are refused for the first.

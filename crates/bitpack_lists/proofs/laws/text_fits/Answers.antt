@@ -1,0 +1,6 @@
+-- The clauses of the law are lemmas on texts.
+use Rattle.bitpack_lists.proofs.TextLengths.{fits_room, longest1, longest2, longest3}
+use Rattle.bitpack_lists.proofs.laws.text_fits.Goals as goal
+
+pub returns : goal.returns
+returns c = record { one = longest1; two = longest2; three = longest3; room = fits_room }
