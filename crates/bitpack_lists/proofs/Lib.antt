@@ -70,6 +70,7 @@ mod ValueFaults
 mod Versions
 mod walking
 mod WholeBlocks
+mod WorkedOlderProofs
 mod WorkedProofs
 mod WriteSteps
 mod WriteSteps3

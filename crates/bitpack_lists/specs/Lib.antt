@@ -29,4 +29,5 @@ pub mod Texts
 pub mod Version1
 pub mod Version2
 pub mod Version3
+pub mod WorkedOlderTexts
 pub mod WorkedTexts

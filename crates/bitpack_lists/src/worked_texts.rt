@@ -1,9 +1,20 @@
 //! Texts worked by hand, which the definitions hold of apart from any code.
 
+ghost use Rattle.bitpack_lists.specs.WorkedOlderTexts.{WorkedFaults1, WorkedFaults2, WorkedTexts1, WorkedTexts2};
 ghost use Rattle.bitpack_lists.specs.WorkedTexts.{WorkedFaults, WorkedTexts};
 
-// The statements are in specs/WorkedTexts.antt. This does nothing at run time.
+// The statements are in specs/WorkedTexts.antt and WorkedOlderTexts.antt. These functions do nothing at run time.
 fn texts_of_version_3()
     ensures texts { WorkedTexts }
     ensures faults { WorkedFaults }
+{}
+
+fn texts_of_version_1()
+    ensures texts { WorkedTexts1 }
+    ensures faults { WorkedFaults1 }
+{}
+
+fn texts_of_version_2()
+    ensures texts { WorkedTexts2 }
+    ensures faults { WorkedFaults2 }
 {}
