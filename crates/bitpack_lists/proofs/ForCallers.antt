@@ -17,6 +17,7 @@ pub use Rattle.bitpack_lists.proofs.OpenedValues.{kind_is, opened_list2, values_
 pub use Rattle.bitpack_lists.proofs.OrderLaws.{first_is_found, neither_falls, sorted_is_order, strict_is_order}
 pub use Rattle.bitpack_lists.proofs.PartLemmas.{AreBytes-nil}
 pub use Rattle.bitpack_lists.proofs.Existence2.{text_of2}
+pub use Rattle.bitpack_lists.proofs.ValueFaults.{few_values, in_order}
 pub use Rattle.bitpack_lists.proofs.Versions.{either_right2}
 
 -- the bytes of the blocks before block i, and those of block i
