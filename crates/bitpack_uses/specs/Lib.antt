@@ -1,6 +1,7 @@
 -- The definitions of the callers.
 pub mod Postings
 pub mod Query
+pub mod Rooms
 pub mod Selected
 pub mod Sets
 pub mod Stored

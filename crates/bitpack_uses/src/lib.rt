@@ -18,6 +18,7 @@ pub mod posting_list;
 pub mod postings;
 pub mod query;
 pub mod reads;
+pub mod room;
 pub mod round_trips;
 pub mod selection;
 pub mod shared_values;

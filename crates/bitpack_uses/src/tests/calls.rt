@@ -1,6 +1,9 @@
 //! The calls on packed lists, each once and with no contract. The proof of a test does not read what a call promises, so it is short
 //! if the test calls these.
 
+ghost use Rattle.std.specs.Prelude.{IsTrue};
+ghost use Rattle.bitpack_lists.specs.Version3.{HasCode};
+
 use bitpack::list2::{Cursor, PackedList, Reads, intersect};
 use bitpack::{ListError, ListKind, list, list2, list3};
 use bitpacking::BitPacker;
@@ -35,6 +38,13 @@ pub(super) fn encode2<P: BitPacker>(
     list2::encode(packer, kind, values, out)
 }
 
+/// Whether a text of version 3 can state the lanes of the packer, as it can for all packers here.
+fn has_code<P: BitPacker>() -> bool
+    ensures { IsTrue result → HasCode P.lanes }
+{
+    P::BLOCK_LEN == 32 || P::BLOCK_LEN == 128 || P::BLOCK_LEN == 256
+}
+
 /// Encodes in version 3.
 pub(super) fn encode3<P: BitPacker>(
     packer: &P,
@@ -42,6 +52,9 @@ pub(super) fn encode3<P: BitPacker>(
     values: &[u32],
     out: &mut Vec<u8>,
 ) -> Result<(), ListError> {
+    if !has_code::<P>() {
+        return Err(ListError::BadVersion(3));
+    }
     list3::encode(packer, kind, values, out)
 }
 
@@ -74,6 +87,9 @@ pub(super) fn encode_to<P: BitPacker>(
     values: &[u32],
     bytes: &mut [u8],
 ) -> Result<usize, ListError> {
+    if !has_code::<P>() {
+        return Err(ListError::BadVersion(3));
+    }
     match version {
         Version::Two => list2::encode_to(packer, kind, values, bytes),
         Version::Three => list3::encode_to(packer, kind, values, bytes),
@@ -87,6 +103,9 @@ pub(super) fn encoded_len<P: BitPacker>(
     kind: ListKind,
     values: &[u32],
 ) -> Result<usize, ListError> {
+    if !has_code::<P>() {
+        return Err(ListError::BadVersion(3));
+    }
     match version {
         Version::Two => list2::encoded_len(packer, kind, values),
         Version::Three => list3::encoded_len(packer, kind, values),
@@ -124,6 +143,9 @@ pub(super) fn upgrade3<P: BitPacker>(
     text: &[u8],
     out: &mut Vec<u8>,
 ) -> Result<(), ListError> {
+    if !has_code::<P>() {
+        return Err(ListError::BadVersion(3));
+    }
     list3::upgrade(packer, text, out)
 }
 
