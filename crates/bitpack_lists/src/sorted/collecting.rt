@@ -1,6 +1,6 @@
 //! All values of a cursor, in a vector or a slice; and how many these are.
 
-ghost use Rattle.std.specs.Prelude.{◌≡◌, ◌≤◌, ◌++◌, [], drop, length, take, OnOk};
+ghost use Rattle.std.specs.Prelude.{◌≡◌, ◌+◌, ◌<◌, ◌≤◌, ◌++◌, [], drop, length, min, take, OnErr, OnOk, vec_capacity, vec_len};
 
 use super::sorted_cursor::SortedCursor;
 use std::alloc::AllocError;
@@ -12,6 +12,9 @@ use std::alloc::AllocError;
 pub fn collect_into<C: SortedCursor>(cursor: &mut C, out: &mut Vec<u32>) -> Result<(), AllocError>
     ensures all { out.new.items ++ C.rest cursor.new ≡ out.old.items ++ C.rest cursor.old }
     ensures ok { OnOk result (C.rest cursor.new ≡ []) }
+    // Allocation fails only if there was no room for all, and then all room is filled first.
+    ensures room { OnErr result (vec_capacity out.old < vec_len out.old + length (C.rest cursor.old)) }
+    ensures full { OnErr result (vec_capacity out.old ≤ vec_len out.new) }
 {
     while let Some(value) = cursor.value() {
         out.push(value)?;
@@ -20,7 +23,8 @@ pub fn collect_into<C: SortedCursor>(cursor: &mut C, out: &mut Vec<u32>) -> Resu
     Ok(())
 }
 
-/// Writes the values from the place of a cursor on to the front of a slice, as many as it has room for, and returns their number.
+/// Writes the values from the place of a cursor on to the front of a slice, all if they fit, and otherwise as many as it has room for.
+/// Returns their number.
 ///
 /// The cursor moves past these values. The rest of the slice stays as it was.
 ///
@@ -33,6 +37,7 @@ pub fn collect_into<C: SortedCursor>(cursor: &mut C, out: &mut Vec<u32>) -> Resu
 /// ```
 pub fn collect_to<C: SortedCursor>(cursor: &mut C, out: &mut [u32]) -> usize
     ensures all { take result out.new ++ C.rest cursor.new ≡ C.rest cursor.old }
+    ensures len { result ≡ min (length out.old) (length (C.rest cursor.old)) }
     ensures rest { (result ≤ length out.old) × (drop result out.new ≡ drop result out.old) }
     ensures whole { length (C.rest cursor.old) ≤ length out.old → C.rest cursor.new ≡ [] }
 {

@@ -6,6 +6,7 @@ ghost use Rattle.bitpack_lists.specs.Blocks.{IsBlockOf, IsFirstReaching, blocks_
 ghost use Rattle.bitpack_lists.specs.Opened.{kind_of, values};
 ghost use Rattle.bitpack_lists.specs.Parts.{whole_blocks};
 ghost use Rattle.bitpack_lists.specs.Places.{InOrder};
+ghost use Rattle.bitpack_lists.specs.Search.{HasGrown};
 
 use super::super::reads::Reads;
 use super::search::DOUBLES;
@@ -26,8 +27,8 @@ impl<'a, P: BitPacker> PackedList<'a, P> {
         ensures few { 32 * P.lanes * block + result ≤ 2 ^ 28 }
         ensures rest { drop result out.new ≡ drop result out.old }
         ensures entries { reads.new.entries ≤ reads.old.entries + 2 }
-        ensures blocks { reads.old.blocks ≤ reads.new.blocks }
         ensures one { reads.new.blocks ≤ reads.old.blocks + 1 }
+        ensures grown { HasGrown reads.old reads.new }
     {
         let len = P::BLOCK_LEN;
         if block >= self.count / len {
@@ -45,8 +46,11 @@ impl<'a, P: BitPacker> PackedList<'a, P> {
         len
     }
 
-    /// The number of the first block from one on whose last value is at least the target, or the count of blocks. The list has to be
-    /// sorted or strictly sorted, and the last value before the block that the search begins at has to be below the target.
+    /// Returns the number of the first whole block, from one on, whose last value is at least the target, or the count of whole blocks if
+    /// there is none.
+    ///
+    /// Requires a list that is sorted or strictly sorted, and a number to begin at that is at most the count of whole blocks. If this is
+    /// not 0, the value before its block has to be below the target.
     ///
     /// It reads at most two entries for each time that the distance doubles, and one. It unpacks nothing.
     pub fn find_block(&self, from: usize, target: u32, reads: &mut Reads) -> usize
@@ -57,6 +61,7 @@ impl<'a, P: BitPacker> PackedList<'a, P> {
         // To block j from block i on it reads at most twice k entries and one if j - i + 2 is at most 2 ^ k.
         ensures entries { (k : ℕ) → result + 2 ≤ from + 2 ^ k → reads.new.entries ≤ reads.old.entries + (2 * k + 1) }
         ensures blocks { reads.new.blocks ≡ reads.old.blocks }
+        ensures grown { HasGrown reads.old reads.new }
     {
         let blocks = self.count / P::BLOCK_LEN;
         if from >= blocks {
@@ -79,6 +84,7 @@ impl<'a, P: BitPacker> PackedList<'a, P> {
         ensures rest { drop result out.new ≡ drop result out.old }
         ensures none { result ≡ 0 → reads.new.blocks ≡ reads.old.blocks }
         ensures blocks { 0 < result → reads.new.blocks ≤ reads.old.blocks + blocks_over P.lanes from result }
+        ensures grown { HasGrown reads.old reads.new }
     {
         if from >= self.count {
             return 0;

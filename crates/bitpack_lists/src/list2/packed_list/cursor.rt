@@ -134,9 +134,10 @@ impl<'a, P: BitPacker> Cursor<'a, P> {
     ghost use Rattle.bitpack_lists.specs.inner.Searching.{blocks_of, rest_of};
     ghost use Rattle.bitpack_lists.specs.Version2.{kind_at};
 
-    /// Whether the list is sorted or strictly sorted, which `seek` requires.
+    /// Whether the list is sorted or strictly sorted. If it is, its values are in order, which `seek` requires.
     pub fn is_in_order(&self) -> bool
         ensures sorted { result ≡ true → InOrder (values_of_cursor self.now) }
+        ensures not_plain { result ≡ true → kind_of self.now.list ≢ ListKind.Plain }
         ensures plain { result ≡ false → kind_of self.now.list ≡ ListKind.Plain }
     {
         match self.list.kind {
@@ -256,8 +257,10 @@ impl<'a, P: BitPacker> Cursor<'a, P> {
     #[inline(always)]
     pub(crate) fn seek_ahead(&mut self, target: u32, ahead: usize)
         requires { InOrder (values_of_cursor self.old) }
-        ensures list { self.new.list ≡ self.old.list }
+        ensures moved { HasMoved self.old self.new }
         ensures sought { IsSoughtFrom (values_of_cursor self.old) target (position self.old) (position self.new) }
+        ensures entries { (k : ℕ) → block_number self.new + 1 ≤ block_number self.old + 2 ^ k
+            → entries_read self.new ≤ entries_read self.old + 2 * k }
     {
         if self.index < self.len && self.values[self.len - 1] >= target {
             self.index = first_ahead(&self.values[..self.len], self.index, ahead, target);

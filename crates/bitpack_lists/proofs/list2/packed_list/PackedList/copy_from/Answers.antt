@@ -82,6 +82,7 @@ loop-done-preserved g c =
     let room : done + more ≤ length out = omega (arith, before.long, fits, c.min-count.ensures) in
     let long : length part ≡ more = c.copy_from_slice.auto.self ∙ simp (length-take, length-drop) (omega (arith, room)) in
     let opened = before.open' lt in
+    let grown = c.read_block-len.ensures.grown in
     record {
       within = fits;
       long = search (rules, overwrites);
@@ -89,6 +90,7 @@ loop-done-preserved g c =
           (holds_part self from done block index len more c.read_block-len.new.out part is here inner (omega (arith, all, fits))
           c.copy_from_slice.ensures.after);
       rest = drop-put_mid done (done + more - done) out part count (omega (arith, fits)) (omega (arith, room)) (omega (arith, long)) ∙ before.rest;
+      grown = record { entries = omega (arith, before.grown.entries, grown.entries); blocks = omega (arith, before.grown.blocks, grown.blocks) };
       start = λ e. absurd (omega (arith, step));
       open' = next_open n _ from count done some end lt block index len b i is.len_is more most _ _ _ opened c.read_block-len.ensures.one;
       few = λ _. next_few n _ from count done some end lt block index len b i is.len_is more most _ _ _ opened c.read_block-len.ensures.one;

@@ -9,6 +9,6 @@ use Rattle.bitpack_lists.proofs.sorted.distinct_values.DistinctValuesSortedCurso
 pub returns : goal.returns
 returns g c =
     let cursor = c.args.self.now.cursor in
-    let same : values_of_cursor c.seek_ahead.new.self ≡ values_of_cursor cursor = ap (λ l. values l) c.seek_ahead.ensures.list in
+    let same : values_of_cursor c.seek_ahead.new.self ≡ values_of_cursor cursor = ap (λ l. values l) c.seek_ahead.ensures.moved.list in
     ap (λ zs. distinct (drop (position c.seek_ahead.new.self) zs)) same
     ∙ sought_rest (values_of_cursor cursor) c.args.target (position cursor) (position c.seek_ahead.new.self) c.args.self.now.ordered c.seek_ahead.ensures.sought
