@@ -42,7 +42,19 @@ impl<'a, P: BitPacker> PackedList<'a, P> {
         let len = P::BLOCK_LEN;
         let end = end_of_group(self.count / len, self.count % len, index);
         let mut values = [0; LONGEST_BLOCK];
-        self.unpack_tail(&mut values[..end]);
+        self.value_in_front(index, &mut values[..end])
+    }
+
+    // The value at an index of a tail of version 3, of which the first values are read, at most 31 after it.
+    // Reads bytes: unpack_tail.
+    fn value_in_front(&self, index: usize, values: &mut [u32]) -> u32
+        requires version { self.now.version ≡ Version.Three }
+        requires within { index < length values.old }
+        requires few { length values.old ≤ index + 32 }
+        requires len { EndsGroup (blocks_of self.now) (tail_values P.lanes self.now.count) (length values.old) }
+        ensures { result ≡ value_of self.now (32 * P.lanes * blocks_of self.now + index) }
+    {
+        self.unpack_tail(values);
         values[index]
     }
 
