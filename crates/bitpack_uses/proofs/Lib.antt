@@ -1,5 +1,6 @@
 -- Lemmas of the callers.
 pub mod Combinations
+pub mod Failures
 pub mod Once
 pub mod Rooms
 pub mod Selections

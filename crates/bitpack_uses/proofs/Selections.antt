@@ -1,10 +1,15 @@
 -- The ids of queries over three and four lists.
-use Rattle.std.proofs.Common.{◌≡◌, ◌⊎◌, ◌↔◌, ℕ, List, Contains, Result, Ok, Err, IfOk, refl, inl, inr}
+use Rattle.std.proofs.Common.{◌≡◌, ◌≢◌, ◌⊎◌, ◌↔◌, ◌==◌, ℕ, List, Contains, length, slice_index, false, Some, None, Result, Ok, Err, IfOk, refl, ap, ◌∙◌, inl, inr}
 use Rattle.std.specs.List.Sorted.{IsStrictlyIncreasing}
+use Rattle.bitpack_lists.specs.declared.list_error.ListError.TheVariants.{BadKind}
+use Rattle.bitpack_lists.specs.declared.list_kind.ListKind.{ListKind}
+use Rattle.bitpack_lists.specs.declared.list_kind.ListKind.TheVariants as lists
 use Rattle.bitpack_lists.specs.Distinct.{distinct}
 use Rattle.bitpack_lists.specs.Increasing.{shared, united, without}
-use Rattle.bitpack_lists.proofs.ForCallers.{contains-distinct, contains-shared, contains-united, contains-without}
-use Rattle.bitpack_uses.specs.Selected.{IsInAll, IsSelected}
+use Rattle.bitpack_lists.specs.Parts.{kind_byte}
+use Rattle.bitpack_lists.specs.Version2.{List2, fault2}
+use Rattle.bitpack_lists.proofs.ForCallers.{contains-distinct, contains-shared, contains-united, contains-without, header_bytes}
+use Rattle.bitpack_uses.specs.Selected.{IsInAll, IsSelected, ids_fault}
 
 module _ (a b c d : List ℕ) where
   abbrev either : List ℕ
@@ -65,3 +70,21 @@ module _ (a b c : List ℕ) where
 pub both_ok : {T E : Type 0} (r : Result T E) (P Q R : T → Type 0) → IfOk r P → IfOk r Q → ((x : T) → P x → Q x → R x) → IfOk r R
 both_ok (Ok x) P Q R one other both = both x one other
 both_ok (Err e) P Q R one other both = tt
+
+-- a valid text is refused exactly if its list is plain
+module _ (kind : ListKind) (values bytes : List ℕ) (valid : fault2 4 bytes ≡ None) (list : List2 4 kind values bytes) where
+  kind_there : slice_index bytes 1 ≡ kind_byte kind
+  kind_there = (header_bytes 2 4 kind (length values) bytes list.begins).kind_is
+
+  pub plain_fault : kind ≡ lists.Plain → ids_fault bytes ≡ Some (BadKind 0)
+  plain_fault plain =
+      let byte : slice_index bytes 1 ≡ 0 = kind_there ∙ ap kind_byte plain in
+      rw (valid, byte) refl
+
+  not_zero : (kind : ListKind) → kind ≢ lists.Plain → (kind_byte kind == 0) ≡ false
+  not_zero lists.Plain other = absurd (other refl)
+  not_zero lists.Sorted other = refl
+  not_zero lists.StrictlySorted other = refl
+
+  pub ordered_fault : kind ≢ lists.Plain → ids_fault bytes ≡ None
+  ordered_fault other = rw (valid, kind_there, not_zero kind other) refl

@@ -1,4 +1,5 @@
 -- The definitions of the callers.
+pub mod Failures
 pub mod Postings
 pub mod Query
 pub mod Rooms

@@ -2,15 +2,19 @@
 
 ghost use Rattle.std.specs.Prelude.{◌≡◌, ℕ, List, IfErr, IfOk};
 ghost use Rattle.std.specs.List.Sorted.{IsStrictlyIncreasing};
+ghost use Rattle.std.specs.Option.{option_or};
+ghost use Rattle.bitpack_lists.specs.declared.list_error.ListError.{ListError};
 ghost use Rattle.bitpack_lists.specs.declared.list_kind.ListKind.{ListKind};
 ghost use Rattle.bitpack_lists.specs.Distinct.{distinct};
+ghost use Rattle.bitpack_lists.specs.Parts.{FindsFault};
 ghost use Rattle.bitpack_lists.specs.Remaining.{remaining};
 ghost use Rattle.bitpack_lists.specs.Version2.{List2};
-ghost use Rattle.bitpack_uses.specs.Selected.{AreInAll, IsListInOrder};
+ghost use Rattle.bitpack_uses.specs.Failures.{FailsWith};
+ghost use Rattle.bitpack_uses.specs.Selected.{AreInAll, IsListInOrder, ids_fault};
 
-use bitpack::ListError;
 use bitpack::list2::PackedList;
 use bitpack::sorted::{And, DistinctValues, SortedCursor, collect_into};
+use bitpack::{ListError, ListKind};
 use bitpacking::{BitPacker, BitPacker4x};
 use std::alloc::Global;
 
@@ -22,6 +26,9 @@ pub fn in_all_three(
     third: &[u8],
 ) -> Result<Vec<u32>, ListError>
     ensures documents { IfOk result (λ documents. AreInAll first.now second.now third.now documents.items) }
+    // Texts that are refused are so for the first fault of the first of them, and others only if memory runs out.
+    ensures fault { FailsWith
+        (option_or (ids_fault first.now) (option_or (ids_fault second.now) (ids_fault third.now))) result }
 {
     let first_two = And::new(open(first)?, open(second)?);
     collect(alloc, And::new(first_two, open(third)?))
@@ -35,12 +42,13 @@ pub(crate) fn open(bytes: &[u8]) -> Result<Ids<'_>, ListError>
     ensures values { IfOk result (λ opened. (kind : ListKind) (values : List ℕ)
         → List2 4 kind values bytes.now → remaining opened ≡ distinct values) }
     ensures refused { IfErr result (λ e. IsListInOrder bytes.now → ⊥) }
+    ensures fault { FindsFault result (ids_fault bytes.now) }
 {
-    let cursor = PackedList::open(BitPacker4x::new(), bytes)?.cursor();
-    if !cursor.is_in_order() {
+    let list = PackedList::open(BitPacker4x::new(), bytes)?;
+    if list.kind() == ListKind::Plain {
         return Err(ListError::BadKind(0));
     }
-    Ok(DistinctValues::new(cursor))
+    Ok(DistinctValues::new(list.cursor()))
 }
 
 /// The values from the place of a cursor on.

@@ -1,6 +1,6 @@
 //! What the laws of lists and of the line language are good for. Each function calls one law, and its contract needs it.
 
-ghost use Rattle.std.specs.Prelude.{◌≡◌, ◌≢◌, ◌<◌, ◌≤◌, ◌^◌, ℕ, List, None, IsTrue, IfOk, IfErr, length, drop, slice_index};
+ghost use Rattle.std.specs.Prelude.{◌≡◌, ◌≢◌, ◌<◌, ◌≤◌, ◌^◌, ◌∷◌, ◌++◌, ℕ, List, None, IsTrue, IfOk, IfErr, length, drop};
 ghost use Rattle.std.specs.List.Sorted.{IsNonDecreasing, IsStrictlyIncreasing};
 ghost use Rattle.bitpacking.specs.Bits.{AreBytes};
 ghost use Rattle.bitpacking.specs.Layout.{Layout};
@@ -11,7 +11,7 @@ ghost use Rattle.bitpack_lists.specs.declared.list_kind.ListKind.{ListKind};
 ghost use Rattle.bitpack_lists.specs.Opened.{kind_of, values};
 ghost use Rattle.bitpack_lists.specs.Parts.{is_loose};
 ghost use Rattle.bitpack_lists.specs.Version1.{List1};
-ghost use Rattle.bitpack_lists.specs.Version2.{List2, first_out};
+ghost use Rattle.bitpack_lists.specs.Version2.{List2, body_at, first_out, tail_start, width_at};
 
 use bitpack::laws::{in_order, one_answer, one_command, one_common, one_text, same_bodies};
 use bitpack::list2::{PackedList, Reads, intersect};
@@ -84,11 +84,12 @@ pub fn a_smaller_width()
     one_text();
 }
 
-/// The texts of a list of one whole block have the same width after the header in both versions.
-pub fn same_first_width()
+/// After the header the text of version 1 of a list of one whole block has the width, the body and the tail of version 2.
+pub fn parts_of_a_block()
     ensures { (kind : ListKind) (values text other : List ℕ) → 32 ≤ length values → length values < 64
         → AreBytes text → AreBytes other → List1 1 kind values text → List2 1 kind values other
-        → slice_index (drop 7 text) 0 ≡ slice_index (drop 7 other) 0 }
+        → drop 7 text ≡ width_at (drop 7 other) 0 ∷ body_at 1 1 (drop 7 other) 0
+        ++ drop (tail_start 1 1 (drop 7 other)) (drop 7 other) }
 {
     same_bodies();
 }

@@ -1,6 +1,7 @@
 //! A small inverted index: words, and for each the posting list of the documents that have it.
 
-ghost use Rattle.std.specs.Prelude.{◌≡◌, IfOk};
+ghost use Rattle.std.specs.Prelude.{◌≡◌, IfErr, IfOk};
+ghost use Rattle.bitpack_lists.specs.declared.list_error.ListError.{ListError};
 ghost use Rattle.bitpack_lists.specs.Increasing.{shared};
 ghost use Rattle.bitpack_uses.specs.Postings.{distinct_ids};
 
@@ -98,7 +99,8 @@ pub fn both<P: BitPacker, Q: BitPacker>(
     first: &Postings<P>,
     second: &Postings<Q>,
 ) -> Result<Vec<u32>, ListError>
-    ensures { IfOk result (λ found. found.items ≡ shared (distinct_ids first.now) (distinct_ids second.now)) }
+    ensures ids { IfOk result (λ found. found.items ≡ shared (distinct_ids first.now) (distinct_ids second.now)) }
+    ensures memory { IfErr result (λ e. e ≡ ListError.Memory) }
 {
     collect(alloc, And::new(first.cursor(), second.cursor()))
 }

@@ -7,6 +7,7 @@ pub mod any_list;
 pub mod by_hand;
 pub mod by_law;
 pub mod by_list_law;
+pub mod by_version_law;
 pub mod counts;
 pub mod exact_calls;
 pub mod id_set;

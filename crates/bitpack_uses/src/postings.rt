@@ -13,7 +13,7 @@ use bitpack::list2::{ListBuf, PackedList, Reads};
 use bitpack::sorted::{DistinctValues, retain_common};
 use bitpack::{ListError, ListKind};
 use bitpacking::BitPacker;
-pub use queries::{and, and_not, first_shared, or, select};
+pub use queries::{and, and_not, first_and_rest, first_shared, or, select};
 use std::alloc::Global;
 
 /// Increasing ids, packed. The text was tested when the list was made.
@@ -25,7 +25,7 @@ pub struct Postings<P: BitPacker> {
 }
 
 impl<P: BitPacker> Postings<P> {
-    ghost use Rattle.std.specs.Prelude.{◌≢◌, ◌↔◌, ◌^◌, ◌≤◌, ◌<◌, ℕ, List, Contains, Err, IfErr, IfOk, IsTrue, MatchOption, Some, filter, length};
+    ghost use Rattle.std.specs.Prelude.{◌≢◌, ◌↔◌, ◌^◌, ◌≤◌, ◌<◌, ℕ, List, Contains, Err, IfErr, IfOk, IsTrue, MatchOption, Some, filter, length, vec_capacity};
     ghost use Rattle.bitpack_lists.specs.declared.list_error.ListError.{ListError};
     ghost use Rattle.bitpack_lists.specs.Increasing.{has};
     ghost use Rattle.bitpack_lists.specs.OfKind.{fault2_as};
@@ -150,9 +150,10 @@ impl<P: BitPacker> Postings<P> {
         Ok(ids)
     }
 
-    /// Keeps the ids that this list has too.
+    /// Keeps the ids that this list has too. Allocates nothing.
     pub fn retain_in(&self, ids: &mut Vec<u32>)
-        ensures { ids.new.items ≡ filter (has (ids_of self.now)) ids.old.items }
+        ensures kept { ids.new.items ≡ filter (has (ids_of self.now)) ids.old.items }
+        ensures room { vec_capacity ids.new ≡ vec_capacity ids.old }
     {
         retain_common(&self.as_list(), ids);
     }

@@ -1,11 +1,15 @@
 //! What was packed is read back, for every packer.
 
-ghost use Rattle.std.specs.Prelude.{◌≡◌, ◌*◌, ◌≤◌, length, take, drop, slice_get, IfOk};
+ghost use Rattle.std.specs.Prelude.{◌≡◌, ◌*◌, ◌^◌, ◌<◌, ◌≤◌, length, take, drop, slice_get, Err, IfErr, IfOk};
 ghost use Rattle.bitpacking.specs.declared.kind.Kind.{Kind};
 ghost use Rattle.bitpacking.specs.Calls.{IsPacked};
 ghost use Rattle.bitpacking.specs.Width.{IsWidth};
 ghost use Rattle.bitpack_lists.specs.Chains.{Chained};
+ghost use Rattle.bitpack_lists.specs.declared.list_error.ListError.{ListError};
+ghost use Rattle.bitpack_lists.specs.declared.list_kind.ListKind.{ListKind};
 ghost use Rattle.bitpack_lists.specs.Search.{first_at_least};
+ghost use Rattle.bitpack_lists.specs.Version2.{values_fault};
+ghost use Rattle.bitpack_uses.specs.Failures.{FailsWith};
 
 use bitpack::chain::{pack_all, unpack_all};
 use bitpack::laws::{chains_read_back, one_text};
@@ -61,6 +65,9 @@ pub fn list<P: BitPacker>(
     values: &[u32],
 ) -> Result<Vec<u32>, ListError>
     ensures same { IfOk result (λ unpacked. unpacked.items ≡ values.now) }
+    // Too many values are refused as such, and others only if memory runs out.
+    ensures long { 2 ^ 28 < length values.now → result ≡ Err (ListError.TooLong (length values.now)) }
+    ensures memory { length values.now ≤ 2 ^ 28 → IfErr result (λ e. e ≡ ListError.Memory) }
 {
     one_text();
     let mut text = Vec::new(alloc);
@@ -79,6 +86,7 @@ pub fn value<P: BitPacker>(
     position: usize,
 ) -> Result<Option<u32>, ListError>
     ensures same { IfOk result (λ found. found ≡ slice_get values.now position) }
+    ensures fault { FailsWith (values_fault kind values.now) result }
 {
     let mut text = Vec::new(alloc);
     list2::encode(packer, kind, values, &mut text)?;
@@ -94,6 +102,7 @@ pub fn search<P: BitPacker>(
     target: u32,
 ) -> Result<Option<(usize, u32)>, ListError>
     ensures first { IfOk result (λ found. found ≡ first_at_least values.now target) }
+    ensures fault { FailsWith (values_fault ListKind.Sorted values.now) result }
 {
     let mut text = Vec::new(alloc);
     list2::encode(packer, ListKind::Sorted, values, &mut text)?;

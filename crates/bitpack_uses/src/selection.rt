@@ -2,11 +2,14 @@
 
 ghost use Rattle.std.specs.Prelude.{◌≡◌, ℕ, List, IfErr, IfOk};
 ghost use Rattle.std.specs.List.Sorted.{IsStrictlyIncreasing};
+ghost use Rattle.std.specs.Option.{option_or};
+ghost use Rattle.bitpack_lists.specs.declared.list_error.ListError.{ListError};
 ghost use Rattle.bitpack_lists.specs.declared.list_kind.ListKind.{ListKind};
 ghost use Rattle.bitpack_lists.specs.Increasing.{shared, united, without};
 ghost use Rattle.bitpack_lists.specs.Remaining.{remaining};
 ghost use Rattle.bitpack_lists.specs.Version2.{List2};
-ghost use Rattle.bitpack_uses.specs.Selected.{IsListInOrder, IsSelected};
+ghost use Rattle.bitpack_uses.specs.Failures.{FailsWith};
+ghost use Rattle.bitpack_uses.specs.Selected.{IsListInOrder, IsSelected, ids_fault};
 
 use crate::and_query::{Ids, collect, open};
 use bitpack::ListError;
@@ -21,6 +24,9 @@ pub fn select(alloc: Global, a: &[u8], b: &[u8], c: &[u8], d: &[u8]) -> Result<V
     // Over lists in order it fails only if allocation fails.
     ensures memory { IfErr result (λ e. IsListInOrder a.now → IsListInOrder b.now → IsListInOrder c.now
         → IsListInOrder d.now → e ≡ ListError.Memory) }
+    // Texts that are refused are so for the first fault of the first of them.
+    ensures fault { FailsWith (option_or (ids_fault a.now)
+        (option_or (ids_fault b.now) (option_or (ids_fault c.now) (ids_fault d.now)))) result }
 {
     combine(alloc, open(a)?, open(b)?, open(c)?, open(d)?)
 }

@@ -1,11 +1,12 @@
 //! What an intersection finds, and what it keeps if it fails.
 
-ghost use Rattle.std.specs.Prelude.{◌≡◌, ◌≢◌, ℕ, Contains, IfOk, OnErr};
+ghost use Rattle.std.specs.Prelude.{◌≡◌, ◌≢◌, ℕ, Contains, IfErr, IfOk, OnErr, vec_capacity};
+ghost use Rattle.bitpack_lists.specs.declared.list_error.ListError.{ListError};
 ghost use Rattle.bitpack_lists.specs.declared.list_kind.ListKind.{ListKind};
 ghost use Rattle.bitpack_lists.specs.Opened.{kind_of, values};
 
 use bitpack::ListError;
-use bitpack::list2::{PackedList, Reads, intersect};
+use bitpack::list2::{PackedList, Reads, append_common, intersect};
 use bitpacking::BitPacker;
 use std::alloc::Global;
 
@@ -21,6 +22,7 @@ pub fn find<P: BitPacker, Q: BitPacker>(
         → Contains shared.items value) }
     ensures other { IfOk result (λ shared. (value : ℕ) → Contains shared.items value
         → Contains (values a.now) value × Contains (values b.now) value) }
+    ensures memory { IfErr result (λ e. e ≡ ListError.Memory) }
 {
     let mut shared = Vec::new(alloc);
     intersect(a, b, &mut shared, &mut Reads::new(), &mut Reads::new())?;
@@ -41,4 +43,18 @@ pub fn append<P: BitPacker, Q: BitPacker>(
     ensures reads { OnErr result ((reads_a.new ≡ reads_a.old) × (reads_b.new ≡ reads_b.old)) }
 {
     intersect(a, b, out, reads_a, reads_b)
+}
+
+/// Appends them without a count of reads. If memory runs out, the vector keeps its items and its room.
+pub fn append_uncounted<P: BitPacker, Q: BitPacker>(
+    a: &PackedList<'_, P>,
+    b: &PackedList<'_, Q>,
+    out: &mut Vec<u32>,
+) -> Result<(), ListError>
+    requires ordered_a { kind_of a.now ≢ ListKind.Plain }
+    requires ordered_b { kind_of b.now ≢ ListKind.Plain }
+    ensures items { OnErr result (out.new.items ≡ out.old.items) }
+    ensures room { OnErr result (vec_capacity out.new ≡ vec_capacity out.old) }
+{
+    append_common(a, b, out)
 }

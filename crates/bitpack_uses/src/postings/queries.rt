@@ -1,6 +1,6 @@
 //! What posting lists have in common, or together, or one without another.
 
-ghost use Rattle.std.specs.Prelude.{◌≡◌, IfErr, IfOk, map, take};
+ghost use Rattle.std.specs.Prelude.{◌≡◌, ◌≢◌, [], ◌∷◌, IfErr, IfOk, MatchOption, OnErr, map, take};
 ghost use Rattle.std.specs.List.Sorted.{IsStrictlyIncreasing};
 ghost use Rattle.bitpack_lists.specs.declared.list_error.ListError.{ListError};
 ghost use Rattle.bitpack_lists.specs.Increasing.{shared, united, without};
@@ -10,7 +10,7 @@ ghost use Rattle.bitpack_uses.specs.Postings.{distinct_ids};
 use super::Postings;
 use crate::and_query::collect;
 use bitpack::ListError;
-use bitpack::sorted::{And, AndAll, AndNot, Or, Values};
+use bitpack::sorted::{And, AndAll, AndNot, Or, SortedCursor, Values};
 use bitpacking::BitPacker;
 use std::alloc::{AllocError, Global};
 
@@ -36,7 +36,10 @@ pub fn first_shared<P: BitPacker, Q: BitPacker>(
     b: &Postings<Q>,
     limit: usize,
 ) -> Result<Vec<u32>, AllocError>
-    ensures { IfOk result (λ found. found.items ≡ take limit (shared (distinct_ids a.now) (distinct_ids b.now))) }
+    ensures ids { IfOk result (λ found. found.items
+        ≡ take limit (shared (distinct_ids a.now) (distinct_ids b.now))) }
+    // It allocates only if there is an id to return.
+    ensures some { OnErr result (take limit (shared (distinct_ids a.now) (distinct_ids b.now)) ≢ []) }
 {
     let mut found = Vec::new(alloc);
     for id in Values::new(And::new(a.cursor(), b.cursor())) {
@@ -46,6 +49,15 @@ pub fn first_shared<P: BitPacker, Q: BitPacker>(
         found.push(id)?;
     }
     Ok(found)
+}
+
+/// The first id that a cursor has left, and the cursor after it.
+pub fn first_and_rest<C: SortedCursor>(cursor: C) -> (Option<u32>, C)
+    ensures { MatchOption result.0 (C.rest cursor ≡ []) (λ id. C.rest cursor ≡ id ∷ C.rest result.1) }
+{
+    let mut ids = Values::new(cursor);
+    let first = ids.next();
+    (first, ids.into_cursor())
 }
 
 /// The ids that at least one of two lists has.

@@ -1,7 +1,10 @@
--- The text is that of the sorted list that was packed, and of no other.
-use Rattle.std.proofs.Common.{◌≡◌, ◌∙◌, sym, ap}
+-- The text is that of the sorted list that was packed, and of no other. It has no fault, so that it is opened.
+use Rattle.std.proofs.Common.{◌≡◌, ◌∙◌, sym, ap, None, Some, Err, rules}
 use Rattle.bitpack_lists.specs.declared.list_kind.ListKind.TheVariants as lists
 use Rattle.bitpack_lists.specs.Search.{first_at_least}
+use Rattle.bitpack_lists.specs.Version2.{values_fault}
+use Rattle.bitpack_lists.proofs.ForCallers.{no_fault2}
+use Rattle.bitpack_uses.proofs.Failures.{fails_alike, fails_for_values, none_if_ok}
 use Rattle.bitpack_uses.proofs.round_trips.search.Goals as goal
 
 pub seek-requires : goal.seek-requires
@@ -12,9 +15,27 @@ seek-requires g c = λ plain.
     let other : lists.Sorted ≡ lists.Plain = sym same.0 ∙ plain in
     absurd cc
 
-pub returns : goal.returns
-returns g c =
+pub returns-clause-first : goal.returns-clause-first
+returns-clause-first g c =
     let written = c.in_ok-encode.ensures.ok in
     let text : c.encode.new.out.items ≡ written.0 = rw c.new-text.ensures.items at written.3 in
     let same = c.in_ok-list.ensures.only lists.Sorted c.args.values.now (rw (c.deref.ensures.value, text) written.2) in
-    record { first = c.seek.ensures.found ∙ ap (λ values. first_at_least values c.args.target) same.1 }
+    c.seek.ensures.found ∙ ap (λ values. first_at_least values c.args.target) same.1
+
+pub returns-clause-fault : goal.returns-clause-fault
+returns-clause-fault g c =
+    let none = none_if_ok (values_fault lists.Sorted c.args.values.now) _ (fails_for_values lists.Sorted c.args.values.now _ c.in_ok-encode.ensures.long c.in_ok-encode.ensures.order) in
+    rw none tt
+
+pub returns-in_err-encode-clause-fault : goal.returns-in_err-encode-clause-fault
+returns-in_err-encode-clause-fault g c =
+    let is : c.from_residual.result ≡ Err c.in_err-encode.field-0.0 = search rules in
+    rw is (fails_alike _ _ (values_fault lists.Sorted c.args.values.now) _ (fails_for_values lists.Sorted c.args.values.now _ c.in_err-encode.ensures.long c.in_err-encode.ensures.order))
+
+pub returns-in_err-list-clause-fault : goal.returns-in_err-list-clause-fault
+returns-in_err-list-clause-fault g c =
+    let written = c.in_ok-encode.ensures.ok in
+    let text : c.encode.new.out.items ≡ written.0 = rw c.new-text.ensures.items at written.3 in
+    let none = (no_fault2 g.P.BitPacker.lanes written.0 g.met.P.BitPacker.some_lanes written.1).1 (lists.Sorted, c.args.values.now, written.2) in
+    let clash : None ≡ Some c.in_err-list.field-0.0 = sym none ∙ rw (c.deref.ensures.value, text) at c.in_err-list.ensures.fault in
+    absurd cc

@@ -1,5 +1,5 @@
 -- The id that was pushed is the first of those to come.
-use Rattle.std.proofs.Common.{◌≡◌, ℕ, List, [], ◌∷◌, ◌++◌, ◌≤◌, length, take, ap, sym, ◌∙◌, arith}
+use Rattle.std.proofs.Common.{◌≡◌, ◌≢◌, Err, rules, ℕ, List, [], ◌∷◌, ◌++◌, ◌<◌, ◌≤◌, length, take, ap, sym, ◌∙◌, arith, length-append, length-take}
 use Rattle.std.proofs.lemmas.Grind.{common_steps}
 use Rattle.std.proofs.lemmas.List.{append_assoc, append-nil, take-append-le, take_all}
 use Rattle.bitpack_uses.proofs.postings.queries.first_shared.Goals as goal
@@ -23,11 +23,24 @@ module _ (found left all : List ℕ) (limit : ℕ) (parts : found ++ left ≡ al
   enough : limit ≤ length found → found ≡ take limit all
   enough most = rw (← parts) (sym (take-append-le limit found left most ∙ take_all limit found few))
 
-pub returns : goal.returns
-returns g c =
+-- There is an id that is wanted and was not found before.
+some_wanted : (found left rest all : List ℕ) (limit id : ℕ) → found ++ left ≡ all → left ≡ id ∷ rest → length found < limit → take limit all ≢ []
+some_wanted found left rest all limit id parts step few none =
+    let size = ap length (sym parts) ∙ length-append found left in
+    omega (arith, size, ap length step, few, length-take limit all, ap length none)
+
+pub returns-clause-ids : goal.returns-clause-ids
+returns-clause-ids g c =
     let found = c.loop-id.found.items in
     let (parts, few) = c.loop-id.invariant in
     elim c.match-next.branch [
       | in-None w ↦ none_left found _ _ c.args.limit parts few w.in-None.ensures.steps.0
       | in-Some+then-len-limit w ↦ enough found _ _ c.args.limit parts few (search (arith, w.len.ensures, w.if-len-limit.true))
     ]
+
+pub returns-in_err-push-clause-some : goal.returns-in_err-push-clause-some
+returns-in_err-push-clause-some g c =
+    let is : c.from_residual.result ≡ Err c.in_err-push.field-0.0 = search rules in
+    let (parts, few) = c.loop-id.invariant in
+    let lt : length c.loop-id.found.items < c.args.limit = search (arith, c.len.ensures, c.if-len-limit.false) in
+    rw is (some_wanted c.loop-id.found.items _ _ _ c.args.limit c.in-Some.id parts c.in-Some.ensures.steps lt)
