@@ -33,7 +33,7 @@ impl<'a, P: BitPacker> PackedList<'a, P> {
     }
 
     /// The value at an index of a tail of version 3. Unpacks the groups up to the value's.
-    // Reads bytes: end_of_group, unpack_tail.
+    // Reads bytes: end_of_group, value_in_front.
     fn value_in_groups(&self, index: usize) -> u32
         requires version { self.now.version ≡ Version.Three }
         requires index { index < tail_values P.lanes self.now.count }
@@ -45,7 +45,7 @@ impl<'a, P: BitPacker> PackedList<'a, P> {
         self.value_in_front(index, &mut values[..end])
     }
 
-    // The value at an index of a tail of version 3, of which the first values are read, at most 31 after it.
+    // The value at an index of a tail of version 3. It reads the first values of the tail, at most 31 after this one.
     // Reads bytes: unpack_tail.
     fn value_in_front(&self, index: usize, values: &mut [u32]) -> u32
         requires version { self.now.version ≡ Version.Three }
