@@ -5,7 +5,20 @@ use Rattle.bitpacking.specs.declared.bit_packer.BitPacker.{Ghosts}
 use Rattle.bitpack_lists.specs.declared.list2.packed_list.PackedList.{PackedList}
 use Rattle.bitpack_lists.specs.declared.list_kind.ListKind.{ListKind}
 use Rattle.bitpack_lists.specs.declared.version.Version.{Version}
-use Rattle.bitpack_lists.specs.inner.Searching.{value_of}
+use Rattle.bitpack_lists.specs.Parts.{whole_blocks}
+use Rattle.bitpack_lists.specs.Texts.{value_in}
+
+module _ {P : Type 0} {members : Ghosts P} (list : PackedList P members) where
+  -- the count of whole blocks, and what is after the header
+  abbrev pub blocks_of : ℕ
+  blocks_of = whole_blocks members.lanes list.count
+
+  abbrev pub rest_of : List ℕ
+  rest_of = list.rest.now
+
+  -- the value at each position
+  abbrev pub value_of : ℕ → ℕ
+  value_of = value_in list.version members.lanes list.count list.kind rest_of
 
 -- the bytes that were opened
 abbrev pub text : {P : Type 0} {members : Ghosts P} → PackedList P members → List ℕ

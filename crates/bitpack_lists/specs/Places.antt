@@ -2,7 +2,7 @@
 use Rattle.std.specs.Prelude.{◌≡◌, ℕ, ◌+◌, ◌-◌, ◌*◌, ◌<◌, ◌≤◌, min, List, length, slice_index}
 use Rattle.bitpacking.specs.declared.bit_packer.BitPacker.{Ghosts}
 use Rattle.bitpack_lists.specs.declared.list2.packed_list.PackedList.{PackedList}
-use Rattle.bitpack_lists.specs.inner.Searching.{blocks_of, value_of}
+use Rattle.bitpack_lists.specs.Opened.{blocks_of, value_of}
 
 module _ {P : Type 0} {members : Ghosts P} (list : PackedList P members) where
   -- the values at hand are the values of a block, or after all blocks the tail

@@ -5,9 +5,8 @@ use Rattle.bitpack_lists.specs.declared.list2.packed_list.ListBlock.{ListBlock}
 use Rattle.bitpack_lists.specs.declared.list2.packed_list.KeptBlock.{KeptBlock}
 use Rattle.bitpack_lists.specs.declared.list2.packed_list.PackedList.{PackedList}
 use Rattle.bitpack_lists.specs.declared.list2.reads.Reads.{Reads}
-use Rattle.bitpack_lists.specs.Parts.{whole_blocks}
+pub use Rattle.bitpack_lists.specs.Opened.{blocks_of, rest_of, value_of}
 use Rattle.bitpack_lists.specs.Search.{HasGrown, in_whole_block}
-use Rattle.bitpack_lists.specs.Texts.{value_in}
 use Rattle.bitpack_lists.specs.Version2.{block_at, kind_at, last_at, offset_at, width_at}
 
 -- only entries were read
@@ -28,41 +27,30 @@ pub record IsNear (from to old new : ℕ) : Type 0 where
   pub few : new ≤ old + (2 * doubled + 1)
 
 module _ {P : Type 0} {members : Ghosts P} (list : PackedList P members) where
-  -- the count of whole blocks, and what is after the header
-  abbrev pub blocks_of : ℕ
-  blocks_of = whole_blocks members.lanes list.count
-
-  abbrev pub rest_of : List ℕ
-  rest_of = list.rest.now
-
-  -- the value at each position
-  abbrev pub value_of : ℕ → ℕ
-  value_of = value_in list.version members.lanes list.count list.kind rest_of
-
   -- the values of each whole block
   abbrev pub block_of_list : ℕ → List ℕ
-  block_of_list = block_at members.lanes blocks_of list.kind rest_of
+  block_of_list = block_at members.lanes (blocks_of list) list.kind (rest_of list)
 
   -- a whole block, as its entry says
   pub record IsListBlock (block : ListBlock) : Type 0 where
-    pub within : block.number < blocks_of
-    pub width : block.entry.width ≡ width_at rest_of block.number
-    pub offset : block.entry.offset ≡ offset_at rest_of block.number
-    pub kind_is : block.kind ≡ kind_at list.kind rest_of block.number
+    pub within : block.number < blocks_of list
+    pub width : block.entry.width ≡ width_at (rest_of list) block.number
+    pub offset : block.entry.offset ≡ offset_at (rest_of list) block.number
+    pub kind_is : block.kind ≡ kind_at list.kind (rest_of list) block.number
 
   -- the block before this one ends with a value below the target
   abbrev pub EndsBelow : ℕ → ℕ → Type 0
-  EndsBelow target block = (before : ℕ) → suc before ≡ block → last_at rest_of before < target
+  EndsBelow target block = (before : ℕ) → suc before ≡ block → last_at (rest_of list) before < target
 
   -- the first whole block whose last value is at least the target
   pub record IsFirstBlock (target : ℕ) (block : ListBlock) : Type 0 where
     pub is : IsListBlock block
     pub before : EndsBelow target block.number
-    pub enough : target ≤ last_at rest_of block.number
+    pub enough : target ≤ last_at (rest_of list) block.number
 
   -- the number of a block, or the count of blocks
   abbrev pub number_or_all : Option ListBlock → ℕ
-  number_or_all None = blocks_of
+  number_or_all None = blocks_of list
   number_or_all (Some block) = block.number
 
   -- the first whole block from one on whose last value is at least the target, if there is one
@@ -70,11 +58,11 @@ module _ {P : Type 0} {members : Ghosts P} (list : PackedList P members) where
     pub is : IfSome found IsListBlock
     pub forward : from ≤ number_or_all found
     pub before : EndsBelow target (number_or_all found)
-    pub enough : number_or_all found < blocks_of → target ≤ last_at rest_of (number_or_all found)
+    pub enough : number_or_all found < blocks_of list → target ≤ last_at (rest_of list) (number_or_all found)
 
   -- what is kept is the block of its number, if the list has one
   abbrev pub IsKept : KeptBlock → Type 0
-  IsKept kept = kept.number < blocks_of → take (32 * members.lanes) kept.values ≡ block_of_list kept.number
+  IsKept kept = kept.number < blocks_of list → take (32 * members.lanes) kept.values ≡ block_of_list kept.number
 
   -- the block of this number is kept in place of another, and was unpacked for that unless it was the other
   pub record KeepsBlock (block : ℕ) (before after : KeptBlock) (old new : Reads) : Type 0 where
@@ -91,9 +79,9 @@ module _ {P : Type 0} {members : Ghosts P} (list : PackedList P members) where
   -- a search keeps the block of its answer if that is in one, and reads an entry each time that it halves the blocks
   pub record KeepsOne (answer : Option (ℕ × ℕ)) (before after : KeptBlock) (old new : Reads) : Type 0 where
     pub kept : IsKept after
-    pub entries : (digits : ℕ) → blocks_of < 2 ^ digits → new.entries ≤ old.entries + digits
+    pub entries : (digits : ℕ) → blocks_of list < 2 ^ digits → new.entries ≤ old.entries + digits
     pub blocks : new.blocks ≤ old.blocks + 1
     pub again : after.number ≡ before.number → new.blocks ≡ old.blocks
-    pub inside : in_whole_block members.lanes list.count answer ≡ true → (after.number < blocks_of) × IsInBlock after.number answer
+    pub inside : in_whole_block members.lanes list.count answer ≡ true → (after.number < blocks_of list) × IsInBlock after.number answer
     pub outside : in_whole_block members.lanes list.count answer ≡ false → after.number ≡ before.number
     pub grown : HasGrown old new
