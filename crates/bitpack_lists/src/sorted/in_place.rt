@@ -67,7 +67,7 @@ pub fn subtract_in_place<C: SortedCursor>(values: &mut [u32], cursor: &mut C) ->
 /// increasing order and each once. Returns how many these are.
 ///
 /// The slice needs room for all: as many values as the cursor has left, after the first `count`. What is after the values that are
-/// returned is of no use. The cursor moves to its end. Allocates nothing.
+/// returned is of no use. Allocates nothing.
 ///
 /// <!-- crates/bitpack_uses/src/tests/doc_examples.rt -->
 /// ```rust
