@@ -80,12 +80,6 @@ def functions_of(path, text):
     return found
 
 
-@functools.cache
-def imports(text):
-    """The names that a text imports."""
-    return {name for it in re.findall(r"\buse\b([^;]*);", text) for name in re.findall(r"\w+", it)}
-
-
 def bound_in(function):
     """The names that a function binds: parameters, and what its patterns bind."""
     patterns = [function.header, *re.findall(r"\blet\b([^=;]*)=", function.body), *re.findall(r"\bfor\b([^{]*?)\bin\b", function.body)]
