@@ -16,7 +16,8 @@ use Rattle.bitpack.specs.declared.line.PackerName.TheVariants.{EightLanes, Eight
 use Rattle.bitpack.specs.declared.line.values.Item.{Item}
 use Rattle.bitpack.specs.declared.line.values.Item.TheVariants.{Once, Times}
 use Rattle.bitpack.specs.Grammar.{Dec, Enc, IsItem, IsWord, Pack, Request, Seek, Size, Spells, SpellsRequest, SpellsValues, Unpack, Upgrade, Width, item_values}
-use Rattle.bitpack.specs.Answers.{IsAnswer, IsReplied, IsReply, Passed, Prints, PrintsBytes, Refused, RefusedIf, SpellsNone, printed_bytes, lanes_of, refused, printed_values, list_fault}
+use Rattle.bitpack.specs.Answers.{IsAnswer, IsReplied, IsReply, Passed, Prints, PrintsBytes, Refused, RefusedIf, SpellsNone, printed_bytes, lanes_of, refused, printed_values}
+use Rattle.bitpack_lists.specs.Older.{older_fault}
 use Rattle.bitpack_lists.specs.Version2.{fault2}
 use Rattle.bitpack.specs.Laws.{OneAnswer}
 use Rattle.bitpack.specs.Lines.{kept_part}
@@ -193,7 +194,7 @@ module _ (lanes : ℕ) (some : 0 < lanes) where
   same_reply (Unpack kind width bytes) is_kind =
       same_refusal _ 3 _ (λ narrow. same_refusal _ 5 _ (λ room a b. same_unpacked width kind bytes a b (narrow_width width narrow) is_kind))
   same_reply (Enc kind values) range = λ a b. same_encoded lanes kind values a b some
-  same_reply (Dec bytes) small = λ a b. same_decoded lanes bytes (list_fault lanes bytes) a b some small
+  same_reply (Dec bytes) small = λ a b. same_decoded lanes bytes (older_fault lanes bytes) a b some small
   same_reply (Seek target bytes) small = λ a b. same_sought lanes target bytes (fault2 lanes bytes) a b some small
   same_reply (Upgrade bytes) range = λ a b. same_upgraded lanes bytes (fault1 lanes bytes) a b some
 

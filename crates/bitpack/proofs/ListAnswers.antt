@@ -3,6 +3,7 @@ use Rattle.std.proofs.Common.{◌≡◌, ◌≢◌, ℕ, ◌+◌, ◌^◌, ◌<�
 use Rattle.hex.proofs.HexLemmas.{decode_of-ok}
 use Rattle.bitpacking.specs.Bits.{AreBytes}
 use Rattle.bitpacking.specs.Codes.{AreWords}
+use Rattle.bitpack_lists.specs.Older.{older_fault}
 use Rattle.bitpack_lists.specs.declared.list_kind.ListKind.{ListKind}
 use Rattle.bitpack_lists.specs.declared.list_error.ListError.{ListError}
 use Rattle.bitpack_lists.specs.declared.list_kind.ListKind.TheVariants as lists
@@ -11,7 +12,7 @@ use Rattle.bitpack_lists.specs.Parts.{header, number_of}
 use Rattle.bitpack_lists.specs.Search.{first_at_least}
 use Rattle.bitpack_lists.specs.Version1.{List1, fault1}
 use Rattle.bitpack_lists.specs.Version2.{List2, fault2}
-use Rattle.bitpack.specs.Answers.{PrintsBytes, RefusedFor, RepliesToList, list_fault, printed_bytes, printed_found, printed_list, refused, sought}
+use Rattle.bitpack.specs.Answers.{PrintsBytes, RefusedFor, RepliesToList, printed_bytes, printed_found, printed_list, refused, sought}
 use Rattle.bitpack_lists.proofs.ForCallers.{AreBytes-nil, header_bytes, no_fault2, one_list1, one_list2, one_text1, text_from_none, text_of}
 
 -- ---- bytes
@@ -61,7 +62,7 @@ decoded_by lanes bytes true some small =
     decoded_at lanes bytes (fault2 lanes bytes) (λ none.
     let (kind, values, list) = (no_fault2 lanes bytes some small).0 none in (kind, values, inr list))
 
-pub decoded_of : (lanes : ℕ) (bytes : List ℕ) → 1 ≤ lanes → AreBytes bytes → (answer : List ℕ) × IsReplyAt lanes bytes (list_fault lanes bytes) answer
+pub decoded_of : (lanes : ℕ) (bytes : List ℕ) → 1 ≤ lanes → AreBytes bytes → (answer : List ℕ) × IsReplyAt lanes bytes (older_fault lanes bytes) answer
 decoded_of lanes bytes some small = decoded_by lanes bytes (slice_index bytes 0 == 2) some small
 
 -- bytes are no text of both versions
@@ -89,7 +90,7 @@ same_decoded lanes bytes None a b some small first second =
 
 -- the list of a text of version 2
 pub second_listed : (lanes : ℕ) (bytes : List ℕ) (kind : ListKind) (values answer : List ℕ) → (slice_index bytes 0 == 2) ≡ true
-    → fault2 lanes bytes ≡ None → List2 lanes kind values bytes → answer ≡ printed_list kind values → IsReplyAt lanes bytes (list_fault lanes bytes) answer
+    → fault2 lanes bytes ≡ None → List2 lanes kind values bytes → answer ≡ printed_list kind values → IsReplyAt lanes bytes (older_fault lanes bytes) answer
 second_listed lanes bytes kind values answer second none list is =
     rw (second, none) (record { kind = kind; values = values; list = inr list; reply = is })
 

@@ -1,5 +1,5 @@
 -- The answer to a line: the first refusal that applies, and else what the format says. What is printed is called an answer.
-use Rattle.std.specs.Prelude.{◌≡◌, ◌≢◌, ℕ, ◌+◌, ◌*◌, ◌<◌, List, [], ◌∷◌, ◌++◌, ◌⊎◌, ◌==◌, if◌then◌else◌, length, map, slice_index, string_bytes, Option, MatchOption, None, Some}
+use Rattle.std.specs.Prelude.{◌≡◌, ◌≢◌, ℕ, ◌+◌, ◌*◌, ◌<◌, List, [], ◌∷◌, ◌++◌, ◌⊎◌, length, map, string_bytes, Option, MatchOption, None, Some}
 use Rattle.std.specs.Prelude.{codes as ascii}
 use Rattle.std.specs.Fmt.{decimal}
 use Rattle.std.specs.Option.{option_map}
@@ -18,6 +18,7 @@ use Rattle.bitpack.specs.declared.line.PackerName.{PackerName}
 use Rattle.bitpack.specs.declared.line.PackerName.TheVariants.{EightLanes, EightScalar, FourLanes, FourScalar, OneLane}
 use Rattle.bitpack.specs.declared.line.values.Item.TheVariants.{Once}
 use Rattle.bitpack.specs.Grammar.{Dec, Enc, Pack, Request, Seek, Size, Spells, Unpack, Upgrade, Width, items_string, line_limit, list_kind_string}
+use Rattle.bitpack_lists.specs.Older.{older_fault}
 use Rattle.bitpack_lists.specs.Parts.{number_of}
 use Rattle.bitpack_lists.specs.Search.{first_at_least}
 use Rattle.bitpack_lists.specs.Version1.{List1, fault1}
@@ -62,10 +63,6 @@ PrintsBytes Fact = Prints printed_bytes (λ bytes. AreBytes bytes × Fact bytes)
 abbrev pub printed_list : ListKind → List ℕ → List ℕ
 printed_list kind values = list_kind_string kind ++ 32 ∷ printed_values values
 
--- the first fault of the bytes: byte 0 tells version 2, and all other bytes are read as version 1
-abbrev pub list_fault : ℕ → List ℕ → Option ListError
-list_fault lanes bytes = if slice_index bytes 0 == 2 then fault2 lanes bytes else fault1 lanes bytes
-
 -- a position and the value there with a space between them, or `none`
 abbrev pub printed_found : Option (ℕ × ℕ) → List ℕ
 printed_found None = ascii "none"
@@ -108,7 +105,7 @@ IsReply lanes (Unpack kind width bytes) =
     (Prints printed_values (λ block. AreWords block × Holds lanes width kind block bytes)))
 IsReply lanes (Enc kind values) = PrintsBytes (List1 lanes kind values)
 IsReply lanes (Dec bytes) =
-    RefusedFor (list_fault lanes bytes)
+    RefusedFor (older_fault lanes bytes)
     (RepliesToList (λ kind values. List1 lanes kind values bytes ⊎ List2 lanes kind values bytes)
     (λ kind values answer. answer ≡ printed_list kind values))
 IsReply lanes (Seek target bytes) =
