@@ -151,7 +151,6 @@ fn pack<P: BitPacker>(
 // Reads values: kind_numbered, encoded_len, encoded_len.
 #[inline(always)]
 fn size<P: BitPacker>(packer: &P, version: u8, kind: u8, values: &[u32]) -> Result<usize, ListError>
-    requires lanes { HasCode P.lanes }
     ensures size { GivesSize P.lanes version kind values.now result }
     ensures small { IfOk result (λ size. size < 2 ^ 63) }
 {

@@ -47,8 +47,7 @@ pub fn encode<P: BitPacker>(
     ensures room { length values.now ≤ 2 ^ 28 → first_out kind values.now ≡ None
         → OnErr result ((text : List ℕ) → List3 P.lanes kind values.now text
         → vec_capacity out.old < vec_len out.old + length text) }
-    ensures unchanged { OnErr result (out.new.items ≡ out.old.items) }
-    ensures kept { OnErr result (vec_capacity out.new ≡ vec_capacity out.old) }
+    ensures unchanged { OnErr result ((out.new.items ≡ out.old.items) × (vec_capacity out.new ≡ vec_capacity out.old)) }
 {
     if values.len() < LONGEST_GROUP {
         return append_text(
@@ -98,8 +97,9 @@ fn append_text<P: BitPacker>(
 
 /// Writes the text of version 3 of the values at the start of the slice, and returns its length in bytes. Allocates nothing.
 ///
-/// The packer has 1, 4 or 8 lanes, and the values have to be in the order of their kind, as for [`encode`]. A slice that is too short is refused with `Short`; then
-/// nothing is written. The bytes after the text stay as they were. [`encoded_len`] tells how many bytes are needed.
+/// The packer has 1, 4 or 8 lanes, and the values have to be in the order of their kind, as for [`encode`]. A slice that is too short
+/// is refused with `Short`; then nothing is written. The bytes after the text stay as they were. [`encoded_len`] tells how many bytes
+/// are needed.
 // Reads bytes: measure, write_text.
 pub fn encode_to<P: BitPacker>(
     packer: &P,
@@ -130,15 +130,13 @@ pub fn encode_to<P: BitPacker>(
     Ok(size)
 }
 
-/// The length in bytes of the text of version 3 of the values, which have to be in the order of their kind, as for [`encode`]. The
-/// packer has 1, 4 or 8 lanes.
+/// The length in bytes of the text of version 3 of the values, which have to be in the order of their kind, as for [`encode`].
 // Reads values: measure.
 pub fn encoded_len<P: BitPacker>(
     packer: &P,
     kind: ListKind,
     values: &[u32],
 ) -> Result<usize, ListError>
-    requires lanes { HasCode P.lanes }
     ensures len { IfOk result (λ len. (text : List ℕ) → List3 P.lanes kind values.now text → len ≡ length text) }
     ensures few { IfOk result (λ len. len ≤ 2 ^ 40) }
     // Values with a fault are refused for the first.
