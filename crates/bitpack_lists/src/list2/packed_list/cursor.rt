@@ -259,8 +259,6 @@ impl<'a, P: BitPacker> Cursor<'a, P> {
         requires { InOrder (values_of_cursor self.old) }
         ensures moved { HasMoved self.old self.new }
         ensures sought { IsSoughtFrom (values_of_cursor self.old) target (position self.old) (position self.new) }
-        ensures entries { (k : ℕ) → block_number self.new + 1 ≤ block_number self.old + 2 ^ k
-            → entries_read self.new ≤ entries_read self.old + 2 * k }
     {
         if self.index < self.len && self.values[self.len - 1] >= target {
             self.index = first_ahead(&self.values[..self.len], self.index, ahead, target);

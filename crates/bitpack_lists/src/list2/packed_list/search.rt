@@ -166,28 +166,21 @@ impl<'a, P: BitPacker> PackedList<'a, P> {
         }
     }
 
-    /// The first value of the tail that is at least the target, with its position. Those of the whole blocks are below it.
-    // Reads bytes: seek_in_words, seek_in_groups.
+    /// The first value of the tail that is at least the target, with its position. Those of the whole blocks are below it. In version 2
+    /// it reads the whole tail.
     fn seek_in_tail(&self, target: u32) -> Option<(usize, u32)>
         ensures found { ((k : ℕ) → k < 32 * P.lanes * blocks_of self.now → value_of self.now k < target)
             → result ≡ first_reaching (value_of self.now) self.now.count target }
         ensures outside { in_whole_block P.lanes self.now.count result ≡ false }
     {
         match self.version {
-            Version::Two => self.seek_in_words(target),
+            Version::Two => {
+                let mut values = [0; LONGEST_BLOCK];
+                let len = self.read_tail(&mut values);
+                first_at_least(&values[..len], self.count - len, target)
+            }
             Version::Three => self.seek_in_groups(target),
         }
-    }
-
-    /// As `seek_in_tail` does, by reading the whole tail.
-    fn seek_in_words(&self, target: u32) -> Option<(usize, u32)>
-        ensures found { ((k : ℕ) → k < 32 * P.lanes * blocks_of self.now → value_of self.now k < target)
-            → result ≡ first_reaching (value_of self.now) self.now.count target }
-        ensures outside { in_whole_block P.lanes self.now.count result ≡ false }
-    {
-        let mut values = [0; LONGEST_BLOCK];
-        let len = self.read_tail(&mut values);
-        first_at_least(&values[..len], self.count - len, target)
     }
 }
 

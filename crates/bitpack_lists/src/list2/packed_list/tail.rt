@@ -51,8 +51,8 @@ impl<'a, P: BitPacker> PackedList<'a, P> {
         requires version { self.now.version ≡ Version.Three }
         requires within { index < length values.old }
         requires few { length values.old ≤ index + 32 }
-        requires len { EndsGroup (blocks_of self.now) (tail_values P.lanes self.now.count) (length values.old) }
-        ensures { result ≡ value_of self.now (32 * P.lanes * blocks_of self.now + index) }
+        requires ends { EndsGroup (blocks_of self.now) (tail_values P.lanes self.now.count) (length values.old) }
+        ensures value { result ≡ value_of self.now (32 * P.lanes * blocks_of self.now + index) }
     {
         self.unpack_tail(values);
         values[index]

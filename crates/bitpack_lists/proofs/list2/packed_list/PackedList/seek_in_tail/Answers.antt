@@ -5,10 +5,10 @@ use Rattle.std.proofs.lemmas.List.{get_or-take, length-take}
 use Rattle.bitpack_lists.specs.Search.{first_reaching}
 use Rattle.bitpack_lists.specs.inner.Searching.{blocks_of, value_of}
 use Rattle.bitpack_lists.proofs.walking.OpenedWalks.{few_in_tail}
-use Rattle.bitpack_lists.proofs.list2.packed_list.PackedList.seek_in_words.Goals as goal
+use Rattle.bitpack_lists.proofs.list2.packed_list.PackedList.seek_in_tail.Goals as goal
 
-pub returns-clause-found : goal.returns-clause-found
-returns-clause-found g c = λ before.
+pub returns-in-Two-clause-found : goal.returns-in-Two-clause-found
+returns-in-Two-clause-found g c = λ before.
     let list = c.args.self.now in
     let n : ℕ = 32 * g.P.BitPacker.lanes in
     let read = c.read_tail-len.new.values in
