@@ -3,6 +3,7 @@
 mod by_law;
 mod calls;
 mod checks;
+mod counted;
 mod doc_examples;
 mod id_set;
 mod members;

@@ -4,7 +4,9 @@
 ghost use Rattle.std.specs.Prelude.{IsTrue};
 ghost use Rattle.bitpack_lists.specs.Version3.{HasCode};
 
+use super::checks::holds;
 use bitpack::list2::{Cursor, PackedList, Reads, intersect};
+use bitpack::sorted::retain_common;
 use bitpack::{ListError, ListKind, list, list2, list3};
 use bitpacking::BitPacker;
 use std::process::Abort;
@@ -198,4 +200,27 @@ pub(super) fn seek_cursor<P: BitPacker>(cursor: &mut Cursor<'_, P>, target: u32)
     if cursor.is_in_order() {
         cursor.seek(target);
     }
+}
+
+/// Appends all values.
+pub(super) fn unpack<P: BitPacker>(rt: &impl Abort, list: &PackedList<'_, P>, out: &mut Vec<u32>) {
+    holds(rt, list.append_to(out).is_ok(), "memory");
+}
+
+/// How many values a cursor walks over.
+pub(super) fn walk<P: BitPacker>(list: &PackedList<'_, P>) -> usize {
+    list.cursor().count()
+}
+
+/// Keeps the items that a list has too, if it is in order.
+pub(super) fn retain<P: BitPacker>(
+    rt: &impl Abort,
+    list: &PackedList<'_, P>,
+    items: &mut Vec<u32>,
+) {
+    if list.kind() == ListKind::Plain {
+        holds(rt, false, "a list in order");
+        return;
+    }
+    retain_common(list, items);
 }

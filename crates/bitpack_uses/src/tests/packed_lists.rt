@@ -2,6 +2,7 @@
 
 mod changed_lists;
 mod encode_to;
+mod few_and_long;
 mod intersect;
 mod large;
 mod list2;

@@ -1,8 +1,9 @@
 //! How much room a call makes in an empty vector, with memory to spare: no more than the text takes, or the shorter of two lists.
 
-use crate::tests::calls::{encode1, encode2, intersect_texts, upgrade, upgrade3};
+use crate::tests::calls::{encode1, encode2, intersect_texts, open, unpack, upgrade, upgrade3};
 use crate::tests::checks::{holds, same_number, steps, succeeds};
 use bitpack::ListKind;
+use bitpack::sorted::{IncreasingSlice, collect_into};
 use bitpacking::{BitPacker, BitPacker1x, BitPacker4x, BitPacker8x};
 use std::alloc::Global;
 use std::process::Abort;
@@ -112,4 +113,36 @@ fn room_for_the_shorter_list(rt: HostRuntime) {
     let (long, short) = (packed(&rt, alloc, &long), packed(&rt, alloc, &short));
     shares_in(&rt, alloc, &long, &short, 100);
     shares_in(&rt, alloc, &short, &long, 100);
+}
+
+/// All values of a list take as much room as they are, and a cursor says how many come.
+#[test]
+fn room_for_all_values(rt: HostRuntime) {
+    let alloc = rt.alloc();
+    let values = steps(&rt, alloc, 0, 1, 2_000);
+    let text = packed(&rt, alloc, &values);
+    let list = open(&BitPacker1x::new(), &text).expect(&rt, "a list");
+    let mut out = Vec::new(alloc);
+    unpack(&rt, &list, &mut out);
+    same_number(&rt, out.capacity(), 2_000, "room for values");
+    let (least, most) = list.cursor().size_hint();
+    same_number(&rt, least, 2_000, "the least number of values");
+    holds(&rt, most == Some(2_000), "the greatest number of values");
+}
+
+/// A thousand values that are collected one by one change the capacity of their vector fewer than twenty times.
+#[test]
+fn a_thousand_values_collected(rt: HostRuntime) {
+    let mut out: Vec<u32> = Vec::new(rt.alloc());
+    let mut changes = 0usize;
+    for _ in 0..1000u32 {
+        let room = out.capacity();
+        let collected = collect_into(&mut IncreasingSlice::new(&[7]), &mut out);
+        holds(&rt, collected.is_ok(), "memory");
+        if out.capacity() != room {
+            changes = changes.wrapping_add(1);
+        }
+    }
+    same_number(&rt, out.len(), 1_000, "values");
+    holds(&rt, changes < 20, "changes of the room for values");
 }

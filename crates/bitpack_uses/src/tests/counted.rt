@@ -1,0 +1,186 @@
+//! How often calls on lists measure, pack and unpack a block. A packer that counts its calls tells it, since no clause does.
+
+ghost use Rattle.std.proofs.Common.{lit≤, refl, rules};
+
+use super::calls::{
+    Version, decode1, encode_as, encode_to, encode1, open, open_any, retain, unpack, upgrade3, walk,
+};
+use super::checks::{holds, same_bytes, same_number, same_values, steps, succeeds};
+use bitpack::ListKind;
+use bitpacking::{BitPacker, BitPacker1x, Kind};
+use std::alloc::Global;
+use std::cell::Cell;
+use std::process::Abort;
+
+/// How many blocks a packer measured, packed and unpacked.
+#[derive(Drop)]
+struct Counts {
+    measured: Cell<usize>,
+    packed: Cell<usize>,
+    unpacked: Cell<usize>,
+}
+
+/// Counts that stay for all packers that hold them.
+fn new_counts(rt: &impl Abort, alloc: Global) -> &'static Counts {
+    let counts = Counts {
+        measured: Cell::new(0),
+        packed: Cell::new(0),
+        unpacked: Cell::new(0),
+    };
+    Box::leak(Box::new(alloc, counts).ok().expect(rt, "memory"))
+}
+
+/// A packer of one lane that counts its calls.
+#[derive(Clone, Copy)]
+struct Counting {
+    counts: Option<&'static Counts>,
+}
+
+impl Counting {
+    fn of(counts: &'static Counts) -> Counting {
+        Counting {
+            counts: Some(counts),
+        }
+    }
+}
+
+fn add(count: &Cell<usize>) {
+    count.set(count.get().wrapping_add(1));
+}
+
+impl BitPacker for Counting {
+    const BLOCK_LEN: usize = 32;
+
+    ghost BLOCK_LEN = { 32 };
+
+    ghost lanes = { 1 };
+
+    fn new() -> Self {
+        Counting { counts: None }
+    }
+
+    fn compress_kind(
+        &self,
+        kind: Kind,
+        decompressed: &[u32],
+        compressed: &mut [u8],
+        num_bits: u8,
+    ) -> usize {
+        if let Some(counts) = self.counts {
+            add(&counts.packed);
+        }
+        BitPacker1x::new().compress_kind(kind, decompressed, compressed, num_bits)
+    }
+
+    fn decompress_kind(
+        &self,
+        kind: Kind,
+        compressed: &[u8],
+        decompressed: &mut [u32],
+        num_bits: u8,
+    ) -> usize {
+        if let Some(counts) = self.counts {
+            add(&counts.unpacked);
+        }
+        BitPacker1x::new().decompress_kind(kind, compressed, decompressed, num_bits)
+    }
+
+    fn num_bits_kind(&self, kind: Kind, decompressed: &[u32]) -> u8 {
+        if let Some(counts) = self.counts {
+            add(&counts.measured);
+        }
+        BitPacker1x::new().num_bits_kind(kind, decompressed)
+    }
+
+    ghost block_len = { refl };
+
+    ghost some_lanes = { lit≤ tt };
+
+    ghost few_lanes = { lit≤ tt };
+
+    ghost clone_same = { Prim.search rules };
+}
+
+/// This number of blocks was measured, packed and unpacked.
+fn counted(rt: &impl Abort, counts: &Counts, expected: [usize; 3], what: &str) {
+    let [measured, packed, unpacked] = expected;
+    same_number(rt, counts.measured.get(), measured, what);
+    same_number(rt, counts.packed.get(), packed, what);
+    same_number(rt, counts.unpacked.get(), unpacked, what);
+}
+
+const KIND: ListKind = ListKind::StrictlySorted;
+
+/// The text of these values in version 1. Each block is measured once and packed once.
+fn text1(rt: &impl Abort, alloc: Global, values: &[u32], blocks: usize) -> Vec<u8> {
+    let counts = new_counts(rt, alloc);
+    let mut text = Vec::new(alloc);
+    let outcome = encode1(&Counting::of(counts), KIND, values, &mut text);
+    succeeds(rt, outcome, &[]);
+    counted(rt, counts, [blocks, blocks, 0], "version 1");
+    text
+}
+
+/// Likewise in a later version, also written to a slice.
+fn text_of(
+    rt: &impl Abort,
+    alloc: Global,
+    version: Version,
+    values: &[u32],
+    blocks: usize,
+) -> Vec<u8> {
+    let counts = new_counts(rt, alloc);
+    let mut text = Vec::new(alloc);
+    let outcome = encode_as(version, &Counting::of(counts), KIND, values, &mut text);
+    succeeds(rt, outcome, &[]);
+    counted(rt, counts, [blocks, blocks, 0], "encode");
+    let mut bytes = [0; 65_536];
+    let len = encode_to(version, &Counting::of(counts), KIND, values, &mut bytes);
+    counted(rt, counts, [2 * blocks, 2 * blocks, 0], "encode_to");
+    same_number(rt, len.unwrap_or(0), text.len(), "bytes");
+    text
+}
+
+#[test]
+fn each_block_is_packed_once(rt: HostRuntime) {
+    let values = steps(&rt, rt.alloc(), 0, 3, 32 * 1024 + 7);
+    text1(&rt, rt.alloc(), &values, 1024);
+    text_of(&rt, rt.alloc(), Version::Two, &values, 1024);
+    text_of(&rt, rt.alloc(), Version::Three, &values, 1024);
+}
+
+/// Opening, unpacking, walking and searching in order unpack each of five blocks once.
+fn list_unpacks_once(rt: &impl Abort, alloc: Global, text: &[u8], values: &[u32]) {
+    let counts = new_counts(rt, alloc);
+    let list = open_any(&Counting::of(counts), text).expect(rt, "a list");
+    counted(rt, counts, [0, 0, 5], "open");
+    let mut out = Vec::new(alloc);
+    unpack(rt, &list, &mut out);
+    same_values(rt, &out, values);
+    counted(rt, counts, [0, 0, 10], "append_to");
+    same_number(rt, walk(&list), values.len(), "values");
+    counted(rt, counts, [0, 0, 15], "a cursor");
+    retain(rt, &list, &mut out);
+    same_values(rt, &out, values);
+    counted(rt, counts, [0, 0, 20], "retain_common");
+}
+
+#[test]
+fn each_block_is_unpacked_once(rt: HostRuntime) {
+    let alloc = rt.alloc();
+    let values = steps(&rt, alloc, 0, 3, 32 * 5 + 7);
+    let one = text1(&rt, alloc, &values, 5);
+    let two = text_of(&rt, alloc, Version::Two, &values, 5);
+    let three = text_of(&rt, alloc, Version::Three, &values, 5);
+    list_unpacks_once(&rt, alloc, &two, &values);
+    list_unpacks_once(&rt, alloc, &three, &values);
+    let counts = new_counts(&rt, alloc);
+    let mut out = Vec::new(alloc);
+    let found = decode1(&Counting::of(counts), &one, &mut out);
+    holds(&rt, found == Ok(KIND), "a text of version 1");
+    counted(&rt, counts, [0, 0, 5], "decode");
+    let mut text = Vec::new(alloc);
+    succeeds(&rt, upgrade3(&Counting::of(counts), &two, &mut text), &two);
+    same_bytes(&rt, &text, &three);
+    counted(&rt, counts, [0, 0, 10], "upgrade");
+}
