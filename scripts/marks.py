@@ -21,12 +21,15 @@ READING = {
     f"{C}/": r"\bReads::|\bunpack_counted\b",
 }
 MEASURING = r"\bnum_bits_kind\b|\bwidth_counted\b"
-# The functions whose reads a contract counts, or that read at most one tail: who calls them needs no mark.
+# The functions whose reads a contract counts, or that read at most one tail, with their marks: who calls them needs no mark.
 COUNTED = {
-    f"{LISTS}/list2/reads.rt": ["entry", "unpack"],
-    f"{LISTS}/list2/packed_list.rt": ["entry", "unpack", "clone"],
-    f"{LISTS}/list2/packed_list/tail.rt": ["read_tail", "value_in_tail"],
-    f"{LISTS}/list2/packed_list/search.rt": ["seek_in_tail"],
+    f"{LISTS}/list2/reads.rt": {"entry": "record, read_one, read_one", "unpack": "record, body, decompress_kind"},
+    f"{LISTS}/list2/packed_list.rt": {"entry": "entry, rest", "unpack": "unpack, packer, rest", "clone": "packer, bytes, rest, tail"},
+    f"{LISTS}/list2/packed_list/tail.rt": {
+        "read_tail": "read_words, tail, unpack_tail",
+        "value_in_tail": "read_one, tail, value_in_groups",
+    },
+    f"{LISTS}/list2/packed_list/search.rt": {"seek_in_tail": "seek_in_words, seek_in_groups"},
 }
 # What no code has, and what no code of `bitpack_lists` has.
 NEVER = r"\bReads as\b|\btype\b[^;]*\bReads\b|\bmacro_rules\b"
@@ -57,7 +60,7 @@ class Function:
 
     @property
     def is_counted(self):
-        return self.name in COUNTED.get(self.path, [])
+        return self.name in COUNTED.get(self.path, {})
 
 
 def owners_in(text):
@@ -234,6 +237,15 @@ def faults_of_words(function, text, words, names):
             yield f"{at(function.path, text, index)}: {function.name} names {word} as a value"
 
 
+def faults_of_counted(functions, marked):
+    """The functions whose callers need no mark, if they are not one each, with their marks."""
+    for path, counted in COUNTED.items():
+        for name, calls in counted.items():
+            found = [marked.get(it, (None, None))[1] for it in functions if (it.path, it.name) == (path, name)]
+            if found != [f"Reads bytes: {calls}"]:
+                yield f"{path}: who calls {name} needs no mark, but {name} has {', '.join(map(str, found))}, and not Reads bytes: {calls}"
+
+
 def outside(path, text, named):
     """What no code has; and the words and functions that are named outside functions: in a constant, or in an import by another name."""
     for found in re.finditer(f"{NEVER}|{NEVER_IN_LISTS}" if path.startswith(LISTS) else NEVER, text):
@@ -271,6 +283,7 @@ def marks():
         right = mark_of(function, function in reading, names)
         yield from faults_of_mark(function, text, marked.get(function, (None, None))[1], words, right)
         yield from faults_of_words(function, text, words, names)
+    yield from faults_of_counted(functions, marked)
     named = {it.name for it in {*reading, *measuring}}
     for path, text in texts.items():
         yield from outside(path, text, {it.name for it in {*reading, *measuring} if it.path.startswith(LISTS) or path.startswith(C)})
