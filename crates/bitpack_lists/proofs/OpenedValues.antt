@@ -13,7 +13,7 @@ use Rattle.bitpack_lists.specs.Opened.{first_of, kind_of, text, values, version_
 use Rattle.bitpack_lists.specs.Parts.{count_of, kind_of_byte, whole_blocks}
 use Rattle.bitpack_lists.specs.Search.{first_at_least, first_reaching}
 use Rattle.bitpack_lists.specs.Texts.{IsText, IsTextOfNoOther, States, fault_in, stated_kind, value_in}
-use Rattle.bitpack_lists.specs.Version2.{List2, OfNoOther, fault2, first_out, value_at}
+use Rattle.bitpack_lists.specs.Version2.{List2, fault2, first_out, value_at}
 use Rattle.bitpack_lists.specs.Version3.{List3, count3, header_end, kind3}
 use Rattle.bitpack_lists.specs.inner.Searching.{value_of}
 use Rattle.bitpack_lists.specs.inner.Walks.{values_in}
@@ -104,7 +104,7 @@ module _ {P : Type 0} {members : Ghosts P} (list : PackedList P members) (some :
   pub opened_list2 : version_of list ≡ versions.Two → List2 members.lanes (kind_of list) (values list) (text list)
   opened_list2 two = subst (λ version. IsText version members.lanes (kind_of list) (values list) (text list)) two opened_list
 
-  pub opened_only2 : version_of list ≡ versions.Two → OfNoOther members.lanes (kind_of list) (values list) (text list)
+  pub opened_only2 : version_of list ≡ versions.Two → IsTextOfNoOther versions.Two members.lanes (kind_of list) (values list) (text list)
   opened_only2 two = subst (λ version. IsTextOfNoOther version members.lanes (kind_of list) (values list) (text list)) two opened_only
 
   -- of a list of version 3

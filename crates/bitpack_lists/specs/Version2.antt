@@ -109,10 +109,6 @@ pub record List2 (lanes : ℕ) (kind : ListKind) (values bytes : List ℕ) : Typ
   pub begins : BeginsWithHeader 2 lanes kind (length values) bytes
   pub rest : IsRest2 lanes (whole_blocks lanes (length values)) kind values (drop 7 bytes)
 
--- bytes are the text of no list but this one
-abbrev pub OfNoOther : ℕ → ListKind → List ℕ → List ℕ → Type 0
-OfNoOther lanes kind values bytes = (kind' : ListKind) (others : List ℕ) → List2 lanes kind' others bytes → (kind ≡ kind') × (values ≡ others)
-
 -- ---- the values that the rest of a text gives
 
 -- a block, in a text of `blocks` blocks

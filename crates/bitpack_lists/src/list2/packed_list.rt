@@ -99,7 +99,8 @@ impl<'a, P: BitPacker> PackedList<'a, P> {
     ghost use Rattle.std.specs.Prelude.{length, slice_get, IfOk, None};
     ghost use Rattle.bitpack_lists.specs.Opened.{kind_of, text, values, version_of};
     ghost use Rattle.bitpack_lists.specs.Parts.{BeginsWithHeader, FindsFault};
-    ghost use Rattle.bitpack_lists.specs.Version2.{List2, OfNoOther, fault2};
+    ghost use Rattle.bitpack_lists.specs.Texts.{IsTextOfNoOther};
+    ghost use Rattle.bitpack_lists.specs.Version2.{List2, fault2};
 
     /// Opens a text of version 2, which is tested whole. Any bytes are taken, and no memory.
     // Reads bytes: test, packer, bytes, of_text.
@@ -109,7 +110,8 @@ impl<'a, P: BitPacker> PackedList<'a, P> {
         ensures bytes { IfOk result (λ list. text list ≡ bytes.now) }
         // The bytes are the text of this kind and these values, and of no other list.
         ensures list { IfOk result (λ list. List2 P.lanes (kind_of list) (values list) bytes.now) }
-        ensures only { IfOk result (λ list. OfNoOther P.lanes (kind_of list) (values list) bytes.now) }
+        ensures only { IfOk result (λ list.
+            IsTextOfNoOther Version.Two P.lanes (kind_of list) (values list) bytes.now) }
         ensures version { IfOk result (λ list. version_of list ≡ Version.Two) }
     {
         let header = test(&packer, bytes)?;
@@ -123,7 +125,7 @@ impl<'a, P: BitPacker> PackedList<'a, P> {
         requires sound { fault2 P.lanes bytes.now ≡ None }
         ensures bytes { text result ≡ bytes.now }
         ensures list { List2 P.lanes (kind_of result) (values result) bytes.now }
-        ensures only { OfNoOther P.lanes (kind_of result) (values result) bytes.now }
+        ensures only { IsTextOfNoOther Version.Two P.lanes (kind_of result) (values result) bytes.now }
         ensures version { version_of result ≡ Version.Two }
     {
         match Header::read(2, P::BLOCK_LEN / 32, bytes) {

@@ -1,7 +1,9 @@
 -- The kind and the values of an opened list are those of its text.
 use Rattle.std.proofs.Common.{subst}
 use Rattle.bitpack_lists.specs.Opened.{kind_of, values}
-use Rattle.bitpack_lists.specs.Version2.{List2, OfNoOther}
+use Rattle.bitpack_lists.specs.declared.version.Version.TheVariants as versions
+use Rattle.bitpack_lists.specs.Texts.{IsTextOfNoOther}
+use Rattle.bitpack_lists.specs.Version2.{List2}
 use Rattle.bitpack_lists.proofs.OpenedValues.{opened_list2, opened_only2}
 use Rattle.bitpack_lists.proofs.list2.packed_list.PackedList.open.Goals as goal
 
@@ -14,5 +16,5 @@ returns-clause-list g c =
 pub returns-clause-only : goal.returns-clause-only
 returns-clause-only g c =
     let list = c.of_text.result in
-    subst (λ bytes. OfNoOther g.P.BitPacker.lanes (kind_of list) (values list) bytes) c.of_text.ensures.0
+    subst (λ bytes. IsTextOfNoOther versions.Two g.P.BitPacker.lanes (kind_of list) (values list) bytes) c.of_text.ensures.0
     (opened_only2 list g.met.P.BitPacker.some_lanes c.of_text.ensures.1)
