@@ -29,7 +29,7 @@ COUNTED = {
         "read_tail": "read_words, tail, unpack_tail",
         "value_in_tail": "read_one, tail, value_in_groups",
     },
-    f"{LISTS}/list2/packed_list/search.rt": {"seek_in_tail": "seek_in_words, seek_in_groups"},
+    f"{LISTS}/list2/packed_list/search.rt": {"seek_in_tail": "read_tail, first_at_least, seek_in_groups"},
 }
 # What no code has, and what no code of `bitpack_lists` has.
 NEVER = r"\bReads as\b|\btype\b[^;]*\bReads\b|\bmacro_rules\b"
