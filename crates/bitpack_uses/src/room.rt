@@ -8,7 +8,7 @@ ghost use Rattle.bitpack_uses.specs.Rooms.{CanWrite, IsWritten};
 use bitpack::laws::{one_text, text_exists, text_fits};
 use bitpack::list2::PackedList;
 use bitpack::{ListKind, list2, list3};
-use bitpacking::BitPacker;
+use bitpacking::{BitPacker, BitPacker4x};
 
 /// Measures a list in order, writes it in version 2 into that many bytes, and returns how many they are.
 pub fn always_fits2<P: BitPacker>(
@@ -54,20 +54,14 @@ pub fn always_fits3<P: BitPacker>(
 }
 
 /// Writes a list in order in version 3, opens it and returns the value at a position.
-pub fn read_back<P: BitPacker>(
-    packer: &P,
-    kind: ListKind,
-    values: &[u32],
-    bytes: &mut [u8],
-    position: usize,
-) -> Option<u32>
-    requires lanes { HasCode P.lanes }
+pub fn read_back(kind: ListKind, values: &[u32], bytes: &mut [u8], position: usize) -> Option<u32>
     requires fits { CanWrite kind values.now bytes.old }
     ensures same { result ≡ slice_get values.now position }
 {
     one_text();
-    let len = always_fits3(packer, kind, values, bytes);
-    match PackedList::open3(*packer, &bytes[..len]) {
+    let packer = BitPacker4x::new();
+    let len = always_fits3(&packer, kind, values, bytes);
+    match PackedList::open3(packer, &bytes[..len]) {
         Ok(list) => list.get(position),
         Err(_) => unreachable!(),
     }

@@ -1,5 +1,5 @@
 -- The law `one_text`: the text that was written has no fault, and belongs to no other list.
-use Rattle.std.proofs.Common.{◌≡◌, ℕ, ◌≤◌, List, length, Some, None, sym, ◌∙◌, ap, arith}
+use Rattle.std.proofs.Common.{◌≡◌, ℕ, ◌≤◌, List, length, Some, None, refl, sym, ◌∙◌, ap, arith}
 use Rattle.std.specs.List.{slice_get}
 use Rattle.std.proofs.lemmas.List.{length-take-le}
 use Rattle.bitpack_uses.proofs.room.read_back.Goals as goal
@@ -15,7 +15,7 @@ slice_bounds-open3-end-2 g c =
 
 pub unreachable-requires : goal.unreachable-requires
 unreachable-requires g c =
-    let none = (c.one_text.ensures.fault3 g.P.BitPacker.lanes _ g.met.P.BitPacker.some_lanes c.requires.lanes c.always_fits3-len.ensures.bytes).1
+    let none = (c.one_text.ensures.fault3 4 _ (omega arith) refl c.always_fits3-len.ensures.bytes).1
     (c.args.kind, c.args.values.now, c.always_fits3-len.ensures.text) in
     let other : Some c.in-Err.field-0 ≡ None = sym c.in-Err.ensures.fault ∙ none in
     absurd cc
