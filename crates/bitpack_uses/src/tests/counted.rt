@@ -136,7 +136,8 @@ fn text_of(
     counted(rt, counts, [blocks, blocks, 0], "encode");
     let mut bytes = [0; 65_536];
     let len = encode_to(version, &Counting::of(counts), KIND, values, &mut bytes);
-    counted(rt, counts, [2 * blocks, 2 * blocks, 0], "encode_to");
+    let twice = blocks.wrapping_mul(2);
+    counted(rt, counts, [twice, twice, 0], "encode_to");
     same_number(rt, len.unwrap_or(0), text.len(), "bytes");
     text
 }

@@ -1,5 +1,6 @@
 -- The id that was pushed is the first of those to come.
-use Rattle.std.proofs.Common.{◌≡◌, ◌≢◌, Err, rules, ℕ, List, [], ◌∷◌, ◌++◌, ◌<◌, ◌≤◌, length, take, ap, sym, ◌∙◌, arith, length-append, length-take}
+use Rattle.std.proofs.Common.{◌≡◌, ◌≢◌, Result, Ok, Err, ℕ, List, [], ◌∷◌, ◌++◌, ◌<◌, ◌≤◌, length, take, ap, sym, ◌∙◌, arith, length-append, length-take}
+use Rattle.std.specs.Prelude.{OnErr}
 use Rattle.std.proofs.lemmas.Grind.{common_steps}
 use Rattle.std.proofs.lemmas.List.{append_assoc, append-nil, take-append-le, take_all}
 use Rattle.bitpack_uses.proofs.postings.queries.first_shared.Goals as goal
@@ -29,6 +30,10 @@ some_wanted found left rest all limit id parts step few none =
     let size = ap length (sym parts) ∙ length-append found left in
     omega (arith, size, ap length step, few, length-take limit all, ap length none)
 
+on_err : {A E : Type 0} (result : Result A E) (P : Type 0) → P → OnErr result P
+on_err (Ok x) P _ = tt
+on_err (Err e) P holds = holds
+
 pub returns-clause-ids : goal.returns-clause-ids
 returns-clause-ids g c =
     let found = c.loop-id.found.items in
@@ -40,7 +45,6 @@ returns-clause-ids g c =
 
 pub returns-in_err-push-clause-some : goal.returns-in_err-push-clause-some
 returns-in_err-push-clause-some g c =
-    let is : c.from_residual.result ≡ Err c.in_err-push.field-0.0 = search rules in
     let (parts, few) = c.loop-id.invariant in
     let lt : length c.loop-id.found.items < c.args.limit = search (arith, c.len.ensures, c.if-len-limit.false) in
-    rw is (some_wanted c.loop-id.found.items _ _ _ c.args.limit c.in-Some.id parts c.in-Some.ensures.steps lt)
+    on_err c.from_residual.result _ (some_wanted c.loop-id.found.items _ _ _ c.args.limit c.in-Some.id parts c.in-Some.ensures.steps lt)
