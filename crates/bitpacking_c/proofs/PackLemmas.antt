@@ -1,12 +1,12 @@
 -- What is written, and how long it is, by the fault of the values.
-use Rattle.std.proofs.Common.{◌≡◌, ◌≢◌, ℕ, ◌<◌, ◌==◌, List, ◌++◌, length, drop, Option, Some, None, Result, Ok, Err, refl, IfOk, IsOk, IfErr, OnErr, MatchOption, rules}
+use Rattle.std.proofs.Common.{◌≡◌, ◌≢◌, ℕ, ◌<◌, List, ◌++◌, length, drop, Option, Some, None, Result, Ok, Err, refl, IfOk, IsOk, IfErr, OnErr, MatchOption, rules}
 use Rattle.std.proofs.lemmas.Bool.{false≢true}
 use Rattle.bitpacking.specs.Bits.{AreBytes}
 use Rattle.bitpack_lists.specs.declared.list_error.ListError.{ListError}
 use Rattle.bitpack_lists.specs.declared.list_error.ListError.TheVariants.{Short}
 use Rattle.bitpack_lists.specs.declared.list_kind.ListKind.{ListKind}
 use Rattle.bitpack_lists.specs.declared.version.Version.{Version}
-use Rattle.bitpack_lists.specs.declared.version.Version.TheVariants.{Two, Three}
+use Rattle.bitpack_lists.specs.declared.version.Version.TheVariants.{Three}
 use Rattle.bitpack_lists.specs.Parts.{kind_of_byte}
 use Rattle.bitpack_lists.specs.Texts.{IsText}
 use Rattle.bitpack_lists.specs.Version2.{values_fault}
