@@ -1,5 +1,5 @@
 -- Values in order have a text, which the room is enough for.
-use Rattle.std.proofs.Common.{◌≡◌, ℕ, ◌≤◌, List, length, take, drop, sym, ◌∙◌, arith}
+use Rattle.std.proofs.Common.{ℕ, ◌≤◌, List, length, take, drop, sym, ◌∙◌, arith}
 use Rattle.std.proofs.lemmas.List.{length-take-le}
 use Rattle.bitpacking.proofs.ForCallers.{AreWords-from_slice}
 use Rattle.bitpack_lists.specs.declared.list_kind.ListKind.{ListKind}
