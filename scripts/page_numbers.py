@@ -13,7 +13,7 @@ import re
 import sys
 
 from texts import results, text_of
-from vectors import KINDS, model, names_of
+from vectors import KINDS, drawn, model, names_of
 
 README, SCALE, SPEED = "README.md", "docs/SCALE.md", "docs/SPEED.md"
 FOUR, STRICT = [7, 9, 10, 300], 2
@@ -33,18 +33,9 @@ def encoders():
     return {"1": names()["encode"], "2": names()["convert"], "3": names()["convert3"]}
 
 
-def drawn(count):
-    """The numbers of docs/VECTORS.md, as numbers of eight bits."""
-    x, found = 1, []
-    for _ in range(count):
-        x = (1664525 * x + 1013904223) % 2**32
-        found.append(x >> 24)
-    return found
-
-
 def values_of(kind, count):
-    """Plain values, or values with these differences."""
-    return names()["block_values"](kind, [0, 0, 2**32 - 1][kind], drawn(count))
+    """Plain values, or values with these differences: the numbers of docs/VECTORS.md, as numbers of eight bits."""
+    return names()["block_values"](kind, [0, 0, 2**32 - 1][kind], [x >> 24 for x in drawn(count)])
 
 
 def missing(path, *sentences):
