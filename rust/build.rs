@@ -1,4 +1,4 @@
-//! Links the archives of proved code, which `scripts/archives.py` of the repository writes.
+//! Links the archives of proved code, which `scripts/build/archives.py` of the repository writes.
 //!
 //! If an archive is not there, or the target has none, this warns. `cargo check` and `cargo doc` work then, and a build fails, since the
 //! compiler does not find the archive.
@@ -35,7 +35,7 @@ fn main() {
         println!("cargo::rerun-if-changed={}", archive.display());
         if below != "none" && !archive.is_file() {
             println!(
-                "cargo::warning=there is no {}: scripts/archives.py of the repository writes it, or BITPACKING_ARCHIVES names its folder",
+                "cargo::warning=there is no {}: scripts/build/archives.py of the repository writes it, or BITPACKING_ARCHIVES names its folder",
                 archive.display()
             );
         }

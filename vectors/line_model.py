@@ -1,6 +1,6 @@
 """A line program: an answer for each line of docs/LINES.md, by the functions of docs/FORMAT.md and vectors/model.py.
 
-`scripts/vectors.py` runs this file after those, and again with each mistake of vectors/mistakes/lines.txt.
+`scripts/test/vectors.py` runs this file after those, and again with each mistake of vectors/mistakes/lines.txt.
 """
 
 LANES = {"1x": 1, "4x": 4, "4s": 4, "8x": 8, "8s": 8}

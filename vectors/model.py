@@ -1,6 +1,6 @@
 """The calls that docs/FORMAT.md describes and does not show: what a reader writes on top of its decoders.
 
-`scripts/vectors.py` runs this file after the functions of that page, and again with each mistake of vectors/mistakes/.
+`scripts/test/vectors.py` runs this file after the functions of that page, and again with each mistake of vectors/mistakes/.
 """
 
 from bisect import bisect_right

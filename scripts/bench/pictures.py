@@ -1,0 +1,117 @@
+#!/usr/bin/env python3
+"""Draws the pictures of docs/SPEED.md from the measured numbers in docs/speed/search.tsv: docs/speed/size.svg and docs/speed/queries.svg.
+`pictures.py --check` compares them with what it would draw, and writes nothing. The last line is 'N passed, M failed', one for each picture.
+"""
+import os
+import sys
+
+sys.path.insert(1, f"{sys.path[0]}/..")
+from common import ROOT, report, source, words
+
+FOLDER = "docs/speed"
+# The ways of search_speed.py, with the names and colours of their bars.
+WAYS = {
+    "lists": ("packed lists", "#2563eb"),
+    "arrays": ("plain arrays", "#8b93a1"),
+    "roaring": ("Roaring", "#d97706"),
+    "roaring_here": ("Roaring, for this processor", "#f6ad55"),
+    "xapian": ("Xapian", "#2f855a"),
+}
+SETS = {
+    "and2": "AND of 2 words",
+    "and3": "AND of 3 words",
+    "and4": "AND of 4 words",
+    "or": "OR of 2 to 4 words",
+    "not": "a word, NOT another",
+    "rare": "AND of 2 rare words",
+    "dense-and": "AND of 2 frequent words",
+    "dense-or": "OR of 2 frequent words",
+}
+# Of a picture, in pixels: its width, where bars begin and how long they are at most, and the height of a bar.
+WIDTH, LEFT, LONGEST, BAR = 760, 190, 450, 15
+
+
+def numbers():
+    """The measured numbers by measure, way, set of queries and threads."""
+    rows = [line.split("\t") for line in source(f"{FOLDER}/search.tsv").split("\n") if line and not line.startswith("#")]
+    return {tuple(row[:4]): float(row[4]) for row in rows[1:]}
+
+
+def text(x, y, words, anchor="start", weight="normal", colour="#1f2933"):
+    return f'<text x="{x}" y="{y}" text-anchor="{anchor}" font-weight="{weight}" fill="{colour}">{words}</text>'
+
+
+def bar(x, y, length, colour, opacity=1.0):
+    return f'<rect x="{x:.1f}" y="{y}" width="{max(length, 1):.1f}" height="{BAR - 3}" rx="2" fill="{colour}" fill-opacity="{opacity}"/>'
+
+
+def picture(title, height, parts):
+    """A picture on a light ground of its own, which can be read on a page of any colour."""
+    return "\n".join(
+        [
+            f'<svg xmlns="http://www.w3.org/2000/svg" width="{WIDTH}" height="{height}" viewBox="0 0 {WIDTH} {height}" '
+            'font-family="Helvetica, Arial, sans-serif" font-size="13">',
+            f"<title>{title}</title>",
+            f'<rect x="0.5" y="0.5" width="{WIDTH - 1}" height="{height - 1}" rx="8" fill="#ffffff" stroke="#cbd2d9"/>',
+            text(20, 28, title, weight="bold"),
+            *parts,
+            "</svg>\n",
+        ]
+    )
+
+
+def size(found):
+    """Bits a posting: of the numbers of documents, and after them of the counts."""
+    postings, parts, y = found["postings", "texts", "", ""], [], 48
+    scale = LONGEST / 64
+    for way, (name, colour) in WAYS.items():
+        if way == "roaring_here":
+            continue
+        documents, counts = [8 * found[f"bytes of {what}", way, "", ""] / postings for what in ("documents", "counts")]
+        counts = 0 if way == "roaring" else counts
+        label = f"{documents:.1f}" + (f" + {counts:.1f}" if counts else ", with counts and words" if way == "xapian" else "")
+        parts += [text(LEFT - 10, y + 11, name, "end"), bar(LEFT, y, scale * documents, colour)]
+        parts += [bar(LEFT + scale * documents, y, scale * counts, colour, 0.35)] if counts else []
+        parts.append(text(round(LEFT + scale * (documents + counts) + 8), y + 11, label))
+        y += BAR + 8
+    parts.append(
+        text(20, y + 14, "Full colour: the numbers of documents. Light: how often each has the word. Less is better.", colour="#52606d")
+    )
+    return picture("Bits a posting", y + 28, parts)
+
+
+def queries(found):
+    """Queries a second on one core. The longest bar of each set is the most."""
+    parts, x, y = [], 20, 44
+    for name, colour in WAYS.values():
+        parts += [bar(x, y, 13, colour), text(x + 18, y + 11, name)]
+        x += 44 + 7 * len(name)
+    y += 30
+    for key, name in SETS.items():
+        rates = {way: 1 / found["query: processor seconds", way, key, "1"] for way in WAYS}
+        parts.append(text(LEFT - 10, y + len(WAYS) * BAR // 2 + 4, name, "end"))
+        for way, (_, colour) in WAYS.items():
+            length = LONGEST * rates[way] / max(rates.values())
+            parts += [bar(LEFT, y, length, colour), text(round(LEFT + max(length, 1) + 8), y + 11, f"{rates[way]:,.0f}")]
+            y += BAR
+        y += 12
+    parts.append(text(20, y + 8, "Each set of queries has a scale of its own. More is better.", colour="#52606d"))
+    return picture("Queries a second on one core, without ranking", y + 24, parts)
+
+
+def main():
+    check, found = "--check" in words("--check"), numbers()
+    drawn = {"size": size(found), "queries": queries(found)}
+    for name, picture_text in drawn.items():
+        if not check:
+            with open(f"{ROOT}/{FOLDER}/{name}.svg", "w", encoding="utf-8") as file:
+                file.write(picture_text)
+    paths = {f"{FOLDER}/{name}.svg": picture_text for name, picture_text in drawn.items()}
+    wrong = "it is not what pictures.py draws"
+    return report(
+        (path, None if os.path.isfile(f"{ROOT}/{path}") and source(path) == picture_text else wrong) for path, picture_text in paths.items()
+    )
+
+
+if __name__ == "__main__":
+    sys.exit(main())

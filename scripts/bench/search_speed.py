@@ -1,0 +1,341 @@
+#!/usr/bin/env python3
+"""Measures the lists of the search engine of examples/search/ beside plain arrays, CRoaring and Xapian, from nothing:
+
+    scripts/bench/search_speed.py [--core N] [--passes N] [--tsv FILE] [--keep FOLDER] [--roaring FOLDER] [FOLDER ..]
+    scripts/bench/search_speed.py --try
+
+It copies the text files below the folders (/usr/share and /usr/include if none is given) to a folder of its own, and has each way index
+their paragraphs by itself. Then each answers the same random queries, in one process, on one core and on four. The answers have to be the
+same. It prints a table, and with --tsv writes all numbers. docs/SPEED.md says what they are. Nothing rests on them.
+
+It needs 200 MB of text with 500,000 paragraphs; `apt-get install linux-doc` brings 150 MB. It needs g++, taskset, and the packages
+libroaring-dev and libxapian-dev of Debian. Debian's CRoaring is built for any x86-64; --roaring adds one built for this processor, from its
+sources in FOLDER. --keep uses the texts that an earlier run left in FOLDER. The archive is the one of scripts/build/archives.py, which is
+called if it is not there.
+
+--try measures nothing: it compiles the programs, and compares the answers on examples/search/corpus/. Ways that are not installed are left
+out. The last line is 'N passed, M failed'.
+"""
+import argparse
+import glob
+import os
+import random
+import shutil
+import subprocess
+import sys
+import tempfile
+import time
+
+sys.path.insert(1, f"{sys.path[0]}/..")
+from common import ROOT, leave_out, missing, report, run
+import archives
+
+HERE = f"{ROOT}/scripts/bench/search_speed"
+CORPUS = f"{ROOT}/examples/search/corpus"
+LEAST = {"bytes": 200_000_000, "paragraphs": 500_000}
+# The ways in the order of the table: how many rounds a process makes of a set, in how many passes at most, and of how many queries it takes
+# one. Xapian takes far longer.
+WAYS = {"lists": (3, 99, 1), "arrays": (3, 99, 1), "roaring": (3, 99, 1), "roaring_here": (3, 99, 1), "xapian": (1, 1, 4)}
+# What a way needs that may not be installed, and what comes with it.
+NEEDS = {"roaring": ("/usr/include/roaring/roaring.h", "libroaring-dev"), "xapian": ("/usr/bin/xapian-config", "libxapian-dev")}
+# The sets of queries: operation, the least and the most words, how many queries, and which words there may be.
+SETS = {
+    "and2": ("&", 2, 2, 2000, "any"),
+    "and3": ("&", 3, 3, 2000, "any"),
+    "and4": ("&", 4, 4, 2000, "any"),
+    "or": ("|", 2, 4, 300, "any"),
+    "not": ("-", 2, 2, 1000, "any"),
+    "rare": ("&", 2, 2, 2000, "rare"),
+    "dense-and": ("&", 2, 2, 300, "dense"),
+    "dense-or": ("|", 2, 2, 300, "dense"),
+}
+# A word is dense if it is in one of 16 documents or more, which is when Roaring takes bitmaps. It is rare if it is in two documents or
+# more, and in fewer than one of 1,000.
+DENSE, RARE = 16, 1000
+
+
+class Numbers:
+    """What was measured: the least of all passes. It is written to a file, if there is one."""
+
+    def __init__(self, path=None):
+        self.best, self.path = {}, path
+
+    def add(self, measure, way, value, part="", threads=""):
+        key = (measure, way, part, str(threads))
+        self.best[key] = min(value, self.best.get(key, value))
+
+    def get(self, measure, way, part="", threads=""):
+        return self.best.get((measure, way, part, str(threads)))
+
+    def save(self):
+        if not self.path:
+            return
+        with open(self.path, "w", encoding="ascii") as file:
+            file.write(
+                f"# {time.strftime('%Y-%m-%d')}, {machine_name()}, load {os.getloadavg()[0]:.1f}\nmeasure\tway\tset\tthreads\tvalue\n"
+            )
+            file.writelines("\t".join([*key, f"{value:.9g}"]) + "\n" for key, value in self.best.items())
+
+
+def stage(folders, folder):
+    """Copies text files to a folder, under their whole paths."""
+    for top in folders:
+        for parent, _, names in os.walk(os.path.realpath(top)):
+            for path in [f"{parent}/{name}" for name in names]:
+                if os.path.islink(path) or not os.path.isfile(path) or not os.access(path, os.R_OK):
+                    continue
+                with open(path, "rb") as file:
+                    text = b"\0" not in file.read()
+                if text:
+                    os.makedirs(f"{folder}{parent}", exist_ok=True)
+                    shutil.copyfile(path, f"{folder}{path}")
+
+
+def commands(folder, ways, roaring, level):
+    """What builds each program, at a level of optimization."""
+    flags = [level, "-march=native", "-Wall", "-Wextra", "-Werror"]
+    cpp = ["g++", "-std=c++20", *flags, "-pthread", f"{HERE}/main.cpp"]
+    archive, include = f"{archives.OUT}/{archives.ALL}", f"-I{ROOT}/include"
+    yield "search", ["cc", "-std=c99", "-O2", include, *sorted(glob.glob(f"{ROOT}/examples/search/*.c")), archive, "-lm"]
+    yield "words", ["g++", "-std=c++20", *flags, f"{HERE}/words.cpp"]
+    yield "lists", [*cpp, include, f"{HERE}/lists.cpp", archive]
+    yield "arrays", [*cpp, f"{HERE}/arrays.cpp"]
+    if "roaring" in ways:
+        yield "roaring", [*cpp, f"{HERE}/roaring.cpp", "-lroaring"]
+    if "roaring_here" in ways:
+        sources = glob.glob(f"{roaring}/src/**/*.c", recursive=True)
+        os.makedirs(f"{folder}/objects", exist_ok=True)
+        command = ["gcc", "-std=c11", "-O3", "-march=native", f"-I{roaring}/include", "-c", *sources]
+        subprocess.run(command, cwd=f"{folder}/objects", check=True)
+        yield "roaring_here", [*cpp, f"-I{roaring}/include", f"{HERE}/roaring.cpp", *glob.glob(f"{folder}/objects/*.o")]
+    if "xapian" in ways:
+        yield "xapian", [*cpp, f"{HERE}/xapian.cpp", *run("xapian-config", "--cxxflags", "--libs").stdout.split()]
+
+
+def built(folder, ways, roaring, level="-O3"):
+    """Builds the programs. Each as its name and why it was not built, or None."""
+    for name, command in commands(folder, ways, roaring, level):
+        done = run(*command, "-o", f"{folder}/{name}", folder=folder)
+        yield f"the program {name}", None if done.returncode == 0 else done.stdout[-3000:]
+
+
+class Machine:
+    """Runs the programs on one core or on four, and measures them from outside."""
+
+    def __init__(self, folder, core):
+        self.folder, self.core = folder, core
+
+    def run(self, *command, threads=1):
+        """What a program prints, as lists of words, its processor time, the time, and the most memory that it had."""
+        pinned = ["taskset", "-c", self.core] if self.core and threads == 1 else []
+        env = dict(os.environ, XAPIAN_FLUSH_THRESHOLD="100000")
+        start = time.time()
+        with subprocess.Popen([*pinned, *command], cwd=self.folder, stdout=subprocess.PIPE, text=True, env=env) as ran:
+            text = ran.stdout.read()
+            _, status, usage = os.wait4(ran.pid, 0)
+            ran.returncode = os.waitstatus_to_exitcode(status)
+        if ran.returncode != 0:
+            sys.exit(f"failed with {ran.returncode}: {' '.join(command)}")
+        said = [line.split("\t") for line in text.split("\n")]
+        return said, usage.ru_utime + usage.ru_stime, time.time() - start, usage.ru_maxrss * 1024
+
+    def answers(self, way):
+        """What a way answered, as a line for each query."""
+        with open(f"{self.folder}/answers.{way}", encoding="ascii") as file:
+            return file.readlines()
+
+
+def read_sample(path):
+    """The documents of each word, and the words of the chosen documents."""
+    with open(path, encoding="ascii") as file:
+        text, chosen = file.read().split("\n\n", 1)
+    return {word: int(count) for word, count in map(str.split, text.split("\n"))}, [line.split() for line in chosen.split("\n")]
+
+
+def write_queries(path, counts, chosen, documents):
+    """Random queries, whose words are different words of one document. The seed is fixed."""
+    dice, lines = random.Random(1), []
+    fits = {
+        "any": lambda word: True,
+        "dense": lambda word: counts[word] * DENSE >= documents,
+        "rare": lambda word: 1 < counts[word] < documents / RARE,
+    }
+    for name, (operation, least, most, count, which) in SETS.items():
+        choices = [words for words in (sorted(filter(fits[which], words)) for words in chosen) if len(words) >= most]
+        for _ in range(count if choices else 0):
+            words = dice.sample(dice.choice(choices), dice.randint(least, most))
+            lines.append(f"{name}\t{operation}\t{' '.join(words)}\n")
+    with open(path, "w", encoding="ascii") as file:
+        file.writelines(lines)
+
+
+def index_of(way):
+    return "index.roaring" if way == "roaring_here" else f"index.{way}"
+
+
+def measure_index(machine, ways, numbers, one_of=200):
+    """Has each way index the texts, and adds what that took, and the bytes of its lists."""
+    for way in ["reading", *(way for way in ways if way != "roaring_here")]:
+        shutil.rmtree(f"{machine.folder}/index.{way}", ignore_errors=True)
+        command = [f"./{way}", "index", "texts", index_of(way)]
+        if way == "reading":
+            command = ["./words", "texts", "sample", str(one_of)]
+        elif way == "lists":
+            command = ["./search", "index", "--paragraphs", "texts", "index.lists"]
+        said, processor, wall, memory = machine.run(*command)
+        numbers.add("index: processor seconds", way, processor)
+        numbers.add("index: seconds", way, wall)
+        numbers.add("index: bytes of memory", way, memory)
+        if way == "reading":
+            for name, value in zip(["bytes", "paragraphs", "words", "postings", "occurrences"], said[0][1:]):
+                numbers.add(name, "texts", int(value))
+            continue
+        if way == "lists":
+            said = machine.run("./lists", "index", "texts", "index.lists")[0]
+        numbers.add("bytes of documents", way, int(said[0][1]))
+        numbers.add("bytes of counts", way, int(said[0][2]))
+        numbers.save()
+        print(f"{way}: indexed in {processor:.1f} s of the processor", flush=True)
+
+
+def measure_queries(machine, way, numbers, threads, rounds, one_of):
+    """Has a way answer the queries, and adds what that took."""
+    command = [f"./{way}", "queries", index_of(way), "queries", f"answers.{way}", str(rounds), str(threads), str(one_of)]
+    for words in machine.run(*command, threads=threads)[0]:
+        if words[0] == "memory":
+            numbers.add("queries: bytes of memory", way, int(words[1]), "", threads)
+        elif len(words) == 6:
+            mode, name, _, count, processor, wall = words
+            numbers.add(f"{mode}: processor seconds", way, float(processor) / int(count), name, threads)
+            numbers.add(f"{mode}: seconds", way, float(wall) / int(count), name, threads)
+
+
+def measure(machine, ways, numbers, passes):
+    """Has the ways answer the queries in turn, and compares the answers. Last it opens all lists of documents."""
+    for number in range(passes):
+        for threads in 1, 4:
+            for way in ways:
+                rounds, most, one_of = WAYS[way]
+                if number >= most:
+                    continue
+                measure_queries(machine, way, numbers, threads, rounds, one_of)
+                if machine.answers(way) != machine.answers("lists")[::one_of]:
+                    sys.exit(f"{way} has other answers than the lists")
+        numbers.save()
+        print(f"pass {number + 1} of {passes}: the answers are the same; load {os.getloadavg()[0]:.1f}", flush=True)
+    for words in machine.run("./lists", "open", "index.lists", "5")[0]:
+        if words[0] == "open":
+            numbers.add("opening all: lists", "lists", int(words[1]))
+            numbers.add("opening all: processor seconds", "lists", float(words[3]))
+    numbers.save()
+
+
+def table(ways, numbers):
+    """Prints the numbers as a page has them. What a way does not have is left empty."""
+    postings = numbers.get("postings", "texts")
+
+    def row(name, value):
+        print(f"| {name} | " + " | ".join("" if value(way) is None else value(way) for way in ways) + " |")
+
+    def number(measure_name, form, scale=1.0):
+        def value(way):
+            found = numbers.get(measure_name, way)
+            return None if found is None else form.format(found * scale)
+
+        return value
+
+    def rates(measure_name, part, threads):
+        def value(way):
+            found = numbers.get(measure_name, way, part, threads)
+            return None if found is None else f"{1 / found:,.0f}"
+
+        return value
+
+    print("| | " + " | ".join(ways) + " |\n|---|" + "---|" * len(ways))
+    row("index, s of the processor", number("index: processor seconds", "{:.1f}"))
+    row("index, memory in MB", number("index: bytes of memory", "{:,.0f}", 1e-6))
+    row("bytes of documents", number("bytes of documents", "{:,.0f}"))
+    row("bits a posting", number("bytes of documents", "{:.2f}", 8 / postings))
+    row("bits of its count", number("bytes of counts", "{:.2f}", 8 / postings))
+    row("queries, memory in MB", lambda way: f"{numbers.get('queries: bytes of memory', way, '', 1) / 1e6:,.0f}")
+    for mode, threads in [("query", 1), ("lists", 1), ("opening", 1), ("bitmaps", 1), ("counts", 1), ("query", 4)]:
+        for part in SETS:
+            kind = "processor seconds" if threads == 1 else "seconds"
+            row(f"{mode}, {part}, {threads} threads, a s", rates(f"{mode}: {kind}", part, threads))
+
+
+def machine_name():
+    """What the processor says that it is."""
+    with open("/proc/cpuinfo", encoding="ascii") as file:
+        fields = dict(map(str.strip, line.split(":", 1)) for line in file.read().split("\n\n")[0].split("\n"))
+    return f"{fields.get('model name')}, family {fields.get('cpu family')}, model {fields.get('model')}, {os.cpu_count()} cores"
+
+
+def tried():
+    """Compares the answers of all ways on a small corpus. Each check as its name and why it failed, or None."""
+    ways = [way for way in WAYS if way != "roaring_here"]
+    for way, (path, package) in NEEDS.items():
+        if not os.path.exists(path):
+            leave_out(f"the way {way}", f"since there is no {package}")
+            ways.remove(way)
+    with tempfile.TemporaryDirectory(prefix="search-speed-") as folder:
+        os.symlink(CORPUS, f"{folder}/texts")
+        done = list(built(folder, ways, None, "-O1"))
+        yield from done
+        if any(why for _, why in done):
+            return
+        machine, numbers = Machine(folder, None), Numbers()
+        measure_index(machine, ways, numbers, 1)
+        write_queries(f"{folder}/queries", *read_sample(f"{folder}/sample"), numbers.get("paragraphs", "texts"))
+        for threads in 1, 4:
+            for way in ways:
+                measure_queries(machine, way, numbers, threads, 1, 1)
+                right = machine.answers(way) == machine.answers("lists") and len(machine.answers(way)) > 1000
+                yield f"the answers of {way} with {threads} threads", None if right else "they are others than the lists have"
+
+
+def main():
+    parser = argparse.ArgumentParser()
+    parser.add_argument("--core", default="0")
+    parser.add_argument("--passes", type=int, default=3)
+    parser.add_argument("--tsv")
+    parser.add_argument("--keep")
+    parser.add_argument("--roaring")
+    parser.add_argument("--try", action="store_true", dest="only_try")
+    parser.add_argument("folders", nargs="*", default=["/usr/share", "/usr/include"])
+    given = parser.parse_args()
+    if given.only_try:
+        status = archives.status_without("the ways to keep lists", "g++", "taskset")
+        return report(tried()) if status is None else status
+    lacking = missing("g++", "taskset") + [package for path, package in NEEDS.values() if not os.path.exists(path)]
+    if lacking:
+        sys.exit(f"there is no {' and no '.join(lacking)}")
+    if not os.path.isfile(f"{archives.OUT}/{archives.ALL}") and archives.build()[1] > 0:
+        return 1
+    return measured(given)
+
+
+def measured(given):
+    """Measures all, as the arguments say."""
+    ways = [way for way in WAYS if way != "roaring_here" or given.roaring]
+    folder = given.keep or tempfile.mkdtemp(prefix="search-speed-")
+    os.makedirs(folder, exist_ok=True)
+    if not os.path.isdir(f"{folder}/texts"):
+        print(f"copying text files to {folder}/texts", flush=True)
+        stage(given.folders, f"{folder}/texts")
+    for name, why in built(folder, ways, given.roaring and os.path.realpath(given.roaring)):
+        if why:
+            sys.exit(f"{name} was not built: {why}")
+    machine, numbers = Machine(folder, given.core), Numbers(given.tsv)
+    measure_index(machine, ways, numbers)
+    for name, least in LEAST.items():
+        if numbers.get(name, "texts") < least:
+            sys.exit(f"{numbers.get(name, 'texts'):,} {name} are too few: name more folders, or `apt-get install linux-doc`")
+    write_queries(f"{folder}/queries", *read_sample(f"{folder}/sample"), numbers.get("paragraphs", "texts"))
+    measure(machine, ways, numbers, given.passes)
+    table(ways, numbers)
+    return 0
+
+
+if __name__ == "__main__":
+    sys.exit(main())

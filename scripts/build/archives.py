@@ -1,0 +1,246 @@
+#!/usr/bin/env python3
+"""Builds the archives of proved code that C and Rust programs link, into rust/out/:
+
+    rust/out/libbitpacking.a                     for C on x86-64: each function chooses its level when it is called
+    rust/out/LEVEL/libbitpacking_c.a             for C, of one level of x86-64
+    rust/out/libbitpacking_vN.a                  the same for the crate in rust/, each name with the prefix vN_
+    rust/out/TARGET/libbitpacking_c.a            for C and Rust on aarch64, which has one level
+
+It proves the crate `bitpacking_c` once, and the crates below it that are not proved in out/proved/ from these sources. Each level and target
+takes that proof, and only compiles.
+
+Then it looks at each archive: it exports the functions of the header and no other name, needs no other functions than memcpy, memmove and
+memset, and has neither data nor unwinding; the archive for all levels has one number of data, the level. Only x86-64-v3 has registers of 256
+bits; no two builds have the same instructions, and the archives of a level have the same. Wrong archives are refused: those of one another.
+
+If no source changed since the last run nothing is built; `archives.py --anew` builds all the same. It needs rt, cc, ld and nm, objcopy,
+objdump and ar of binutils; with --in-check it is left out if it lacks one. The last line is 'N passed, M failed'.
+"""
+import functools
+import hashlib
+import os
+import re
+import sys
+import time
+
+sys.path.insert(1, f"{sys.path[0]}/..")
+from common import ROOT, ended, left_out_without, missing, run, words
+import levels
+import proving
+
+OUT = f"{ROOT}/rust/out"
+TOOLS = ["rt", "cc", "ld", "ar", "nm", "objcopy", "objdump"]
+LEVELS = levels.LEVELS
+ARM = "aarch64-unknown-linux-gnu"
+# The archives for C, by their folders in rust/out/, and what rattle is told for each.
+BUILDS = {level: ["--cpu", level] for level in LEVELS.values()} | {ARM: ["--target", ARM]}
+ALL = "libbitpacking.a"
+# The levels with registers of 256 bits, which objdump calls ymm.
+WIDE = {"x86-64-v3"}
+TIME = """Proving and building the archives. On four cores of an Intel Xeon at 2.50 GHz the crates below took 5 minutes 53 seconds, and bitpacking_c
+with four archives 3 minutes 10 seconds. Crates that are proved in out/proved/ are not proved again."""
+
+
+def sources():
+    """Two numbers: one that changes with each source of what is proved and with the toolchain, and one with the choice of a level."""
+    return [proving.sum_of("bitpacking_c"), hashlib.sha256(levels.chooser().encode()).hexdigest()]
+
+
+def archive(build):
+    """The archive for C of a level or a target."""
+    return f"{OUT}/{build}/libbitpacking_c.a"
+
+
+class Shown:
+    """Prints how many functions of a crate are proved, at most once in ten seconds, and each crate that is."""
+
+    def __init__(self):
+        self.start, self.next = time.time(), 0
+
+    def __call__(self, crate, line):
+        counts = re.search(r"(\d+ of \d+)( functions checked)?$", line.strip())
+        proved = re.match(r"logic=proved functions=(\d+)(?!.* crate-checked=)", line)
+        if proved or counts and time.time() > self.next:
+            self.next = time.time() + 10
+            print(f"{crate}: {proved[1] if proved else counts[1]} functions proved, {time.time() - self.start:.0f} s", flush=True)
+
+
+def proved_and_built():
+    """Builds the archives for C. Returns why that failed, or None."""
+    tell = Shown()
+    try:
+        for build, made in proving.archives("bitpacking_c", BUILDS, tell).items():
+            os.makedirs(f"{OUT}/{build}", exist_ok=True)
+            os.replace(made, archive(build))
+    except proving.Failed as why:
+        print(why.said)
+        return str(why)
+    print(f"built the archives for C, {time.time() - tell.start:.0f} s", flush=True)
+    return None
+
+
+def prefixed(prefix, level):
+    """Writes the archive of a level for the Rust crate. Returns why that failed, or None."""
+    names = f"{OUT}/{level}/names"
+    with open(names, "w", encoding="ascii") as file:
+        file.writelines(f"{name} {prefix}_{name}\n" for name in sorted(exported(archive(level))))
+    done = run("objcopy", f"--redefine-syms={names}", archive(level), f"{OUT}/libbitpacking_{prefix}.a")
+    return None if done.returncode == 0 else done.stdout
+
+
+def joined():
+    """Writes the archive for all levels of x86-64: one object, of which only the names of the header can be seen. Returns why that failed,
+    or None."""
+    chooser, whole, names = f"{OUT}/levels.o", f"{OUT}/bitpacking.o", f"{OUT}/names"
+    why = levels.compiled(chooser)
+    if why:
+        return why
+    with open(names, "w", encoding="ascii") as file:
+        file.writelines(f"{name}\n" for name in sorted(levels.prototypes()))
+    for file in [f"{OUT}/{ALL}", whole]:
+        if os.path.exists(file):
+            os.remove(file)
+    for command in [
+        ["ld", "-r", "--whole-archive", chooser, *(f"{OUT}/libbitpacking_{prefix}.a" for prefix in LEVELS), "-o", whole],
+        ["objcopy", f"--keep-global-symbols={names}", whole],
+        ["ar", "rcsD", f"{OUT}/{ALL}", whole],
+    ]:
+        done = run(*command)
+        if done.returncode != 0:
+            return done.stdout
+    return None
+
+
+def exported(path):
+    lines = run("nm", "-g", "--defined-only", path).stdout.split("\n")
+    return {parts[2] for parts in map(str.split, lines) if len(parts) == 3}
+
+
+def faults(path, data=0):
+    """What is wrong with an archive for C, which has that many bytes of data."""
+    if exported(path) != set(levels.prototypes()):
+        yield f"it exports {sorted(exported(path) ^ set(levels.prototypes()))[:4]}, or the header declares them"
+    needed = {line.split()[-1] for line in run("nm", "-u", path).stdout.split("\n") if line.strip().startswith("U ")}
+    if not needed <= {"memcpy", "memmove", "memset"}:
+        yield f"it needs {sorted(needed)}"
+    found = 0
+    for name, size in re.findall(r"^\s*\d+ (\S+)\s+([0-9a-f]+)", run("objdump", "-h", path).stdout, re.M):
+        if re.match(r"\.(data(?!\.rel\.ro)|bss|tdata|tbss|t?common)", name):
+            found += int(size, 16)
+        elif int(size, 16) > 0 and re.match(r"\.(eh_frame|gcc_except_table)", name):
+            yield f"it has a section {name}"
+    if found != data:
+        yield f"it has {found} bytes of data, and not {data}"
+
+
+@functools.cache
+def instructions(path):
+    """A number that changes with the instructions of an archive and the functions that they call, and how many have registers of 256 bits."""
+    text = run("objdump", "-d", "--no-show-raw-insn", path).stdout.partition("Disassembly of section")[2]
+    return hashlib.sha256(re.sub(r"\bv\d_(?=bitpacking_)", "", text).encode()).hexdigest(), text.count("%ymm")
+
+
+def faults_of_level(build, path, others=()):
+    """What is wrong with the instructions of an archive for C. The others are builds that have to differ from it."""
+    same, wide = instructions(path)
+    if build in WIDE and wide == 0:
+        yield "it has no register of 256 bits"
+    if build not in WIDE and wide > 0:
+        yield f"{wide} of its instructions have registers of 256 bits"
+    yield from (f"its instructions are those of {other}" for other in others if other != build and instructions(archive(other))[0] == same)
+
+
+def levels_of_all():
+    """What is wrong with the levels of the archives that are made of those for C."""
+    for prefix, level in LEVELS.items():
+        if instructions(f"{OUT}/libbitpacking_{prefix}.a") != instructions(archive(level)):
+            yield f"libbitpacking_{prefix}.a has other instructions than the archive for {level}"
+    wide = sum(instructions(archive(level))[1] for level in LEVELS.values())
+    if instructions(f"{OUT}/{ALL}")[1] != wide:
+        yield f"{ALL} has {instructions(f'{OUT}/{ALL}')[1]} instructions with registers of 256 bits, and not {wide}"
+
+
+def by_instructions():
+    """Each check of the instructions of the archives, and each of a wrong archive, as a name and what is wrong, or None."""
+    for build in BUILDS:
+        yield f"the instructions for {build}", "; ".join(faults_of_level(build, archive(build), BUILDS)) or None
+    yield "the instructions of the other archives", "; ".join(levels_of_all()) or None
+    least, widest, whole = archive("x86-64"), archive("x86-64-v3"), f"{OUT}/{ALL}"
+    for what, found, wanted in [
+        ("an archive of x86-64 for x86-64-v3", faults_of_level("x86-64-v3", least), "it has no register of 256 bits"),
+        ("an archive of x86-64-v3 for x86-64-v2", faults_of_level("x86-64-v2", widest), "have registers of 256 bits"),
+        ("an archive of x86-64 for x86-64-v2", faults_of_level("x86-64-v2", least, BUILDS), "its instructions are those of x86-64"),
+        ("data beside the level", faults(whole, data=0), "it has 4 bytes of data, and not 0"),
+        ("less data than said", faults(whole, data=8), "it has 4 bytes of data, and not 8"),
+        ("names with a prefix", faults(f"{OUT}/libbitpacking_v1.a"), "it exports ["),
+    ]:
+        yield f"a wrong archive: {what}", None if any(wanted in it for it in found) else "nothing refuses it"
+
+
+def fresh(stamp, numbers):
+    """Whether the archives for C are there, of these sources, and whether all archives are."""
+    proved = [archive(build) for build in BUILDS]
+    more = [f"{OUT}/libbitpacking_{prefix}.a" for prefix in LEVELS] + [f"{OUT}/{ALL}"]
+    were = open(stamp, encoding="ascii").read().split() if os.path.isfile(stamp) else []
+    kept = all(map(os.path.isfile, proved)) and were[:1] == numbers[:1]
+    return kept, kept and all(map(os.path.isfile, more)) and were == numbers
+
+
+def made(kept, whole):
+    """Each archive as a name and what is wrong with it, or None. Those for C are built if they are not kept, and all others if they are not
+    whole. Nothing is built after one that fails."""
+    why = None if kept else proved_and_built()
+    if why:
+        yield "the archives for C", why
+        return
+    for build in BUILDS:
+        yield f"the archive for {build}", "; ".join(faults(archive(build))) or None
+    for prefix, level in LEVELS.items():
+        wrong = None if whole else prefixed(prefix, level)
+        if not wrong and exported(f"{OUT}/libbitpacking_{prefix}.a") != {f"{prefix}_{name}" for name in exported(archive(level))}:
+            wrong = "the prefix is not that of each name"
+        yield f"the archive for {level} and Rust", wrong
+    wrong = None if whole else joined()
+    yield "the archive for all levels", wrong or "; ".join(faults(f"{OUT}/{ALL}", data=4)) or None
+
+
+def build(anew=False, thorough=False):
+    """Builds what is not there. What was built has its instructions looked at; if asked to be thorough, all have. Returns how many checks of
+    the archives passed and how many failed."""
+    stamp, numbers = f"{OUT}/sources", sources()
+    os.makedirs(OUT, exist_ok=True)
+    kept, whole = (False, False) if anew else fresh(stamp, numbers)
+    if not kept:
+        print(TIME, flush=True)
+    if os.path.isfile(stamp):
+        os.remove(stamp)
+    checks = list(made(kept, whole))
+    if all(wrong is None for _, wrong in checks) and (thorough or not whole):
+        checks += by_instructions()
+    failed = [it for it in checks if it[1] is not None]
+    for name, wrong in failed:
+        print(f"FAILED: {name}: {wrong}")
+    if not failed:
+        with open(stamp, "w", encoding="ascii") as file:
+            file.write("\n".join(numbers))
+    return len(checks) - len(failed), len(failed)
+
+
+def status_without(part, *tools):
+    """The exit status of a script over the archives that cannot run, once it has said why: a tool is missing, or an archive is not
+    right. None if it can run."""
+    if left_out_without(part, *TOOLS, *tools):
+        return 0
+    return ended(0, 1) if build()[1] > 0 else None
+
+
+def main():
+    given, lacking = words("--anew", "--in-check"), missing(*TOOLS)
+    if lacking and "--in-check" not in given:
+        print(f"archives.py: there is no {' and no '.join(lacking)}, and nothing was built", file=sys.stderr)
+        return 2
+    return 0 if left_out_without("the archives for C and Rust", *TOOLS) else ended(*build("--anew" in given, thorough=True))
+
+
+if __name__ == "__main__":
+    sys.exit(main())

@@ -1,0 +1,263 @@
+#!/usr/bin/env python3
+"""Checks of the sources: what docs/PROOFS.md says of the code that no contract says.
+
+- The proofs by hand are those of `new` and `record` of `Steps` and of `Reads`, and no other.
+- Of `bitpacking`, only memory.rt reads or writes the elements of a slice: a slice that a function of another file is given is
+  passed on whole to a function of the crate, and neither elements nor words or bytes of a register are named there.
+- Of `bitpacking`, only the three calls by kind of each packer make a `Steps`, each one, which it lends to its counted call. The nine
+  other calls have one body each, in the trait, which calls one of the three once; no packer has one of its own.
+- A packer of several lanes runs `Lanes` on the kernels for vectors and `Scalar` on those for arrays; `new` has `Lanes`, and `scalar`
+  has `Scalar`.
+- Each kernel of `bitpacking` is named in its own places alone, so that one packer runs no kernel of another; each width from 0 to 31 has
+  code of its own.
+- The program's packers `4s` and `8s` are those that `scalar` gives; `bitpacking_c` names no `scalar`; `bitpack_lists` makes no packer but
+  the one for groups, and else takes the one that it is given.
+- The Rust crate asks for the features of each level, has the functions of each level in its table, and those of the one level of another
+  processor, and takes the best level.
+- Of `bitpack_lists`, each function that reads a number or unpacks a block from bytes, sees the bytes or the packer of an opened list, or
+  makes a `Reads`, has a mark, `// Reads bytes: ..`; and so has each that calls one, unless a contract counts what that reads, or it is of
+  the tail. Each that measures a block, or calls one that does, has a mark too. A mark names the calls in the order of the text: so those
+  that count read once for each count, `open` tests a text once and each block of it once, and `from_validated` tests none. No other function
+  has a mark, none of a trait needs one, and no code calls `get`.
+- So do the functions of `bitpacking_c` that call these or one with a `Reads`, with what they call in turn. Those for blocks and chains of a
+  packer call one function.
+- A walk reads no entry once nothing is wanted. The items of a vector begin a cursor anew only for one below the last. The values of a list
+  have some at hand. How far searches go step by step, and how many widths are kept, is in bounds.
+
+Then the wrong changes of scripts/mutate/edits/sources/ are tried, as scripts/mutate/changes.py says. The last line is 'N passed, M failed'.
+"""
+import re
+import sys
+
+sys.path.insert(1, f"{sys.path[0]}/..")
+from marks import LISTS, marks
+from texts import at, code, end_of_braces, paths, results, text_of
+
+SOURCES = "crates/bitpacking/src"
+MEMORY = f"{SOURCES}/memory.rt"
+COUNTS = ["bitpacking/proofs/memory/Steps", "bitpack_lists/proofs/list2/reads/Reads"]
+BY_HAND = [f"crates/{count}/{name}/Proof.antt" for count in COUNTS for name in ["new", "record"]]
+COUNTED = ["pack_counted", "unpack_counted", "width_counted"]
+BY_CODES = ["pack_codes", "unpack_codes"]
+# The kernels of `bitpacking`: in which functions of which files each may be named, and nowhere else.
+KERNELS = {
+    "Rolled": {"bitpacker4x.rt": COUNTED, "bitpacker8x.rt": COUNTED},
+    "ByWidth": {f"bitpacker{lanes}x.rt": COUNTED for lanes in (1, 4, 8)},
+    "Unrolled": {"dispatch/by_width.rt": ["pack_at", "unpack_at"]},
+    "Widths": {"dispatch/by_width.rt": BY_CODES},
+    "pack_at": {"dispatch/by_width.rt": ["pack_codes"]},
+    "unpack_at": {"dispatch/by_width.rt": ["unpack_codes"]},
+}
+CALLS_OF_RUST = "rust/src/calls.rs"
+# What each level of x86-64 adds, by the processors' ABI, but for `lahf_lm` and `xsave`, for which Rust cannot ask.
+FEATURES = {
+    "v2": "cmpxchg16b popcnt sse3 sse4.1 sse4.2 ssse3",
+    "v3": "avx avx2 bmi1 bmi2 f16c fma lzcnt movbe",
+}
+# The choice of a level in the Rust crate: by file, what is in it once.
+CHOICE = {
+    CALLS_OF_RUST: [
+        "levels_with(added_by_v2(), added_by_v3())",
+        "let v2 = v2.iter().all(|(_, has)| *has); let v3 = v2 && v3.iter().all(|(_, has)| *has);",
+        "&LEVELS[..1 + usize::from(v2) + usize::from(v3)]",
+        "BEST.get_or_init(|| &levels()[levels().len() - 1])",
+    ],
+    "rust/src/packers.rs": ["fn calls() -> &'static Calls { &best().$calls }"],
+}
+GROUPS = (f"{LISTS}/list3/group.rt", "BitPacker1x")
+# What code of `bitpack_lists` has once, by file: the loop of a walk, which reads no entry once nothing is wanted; where a cursor begins
+# anew; and the values at hand of a list, which save a seek for each.
+SHAPES = {
+    f"{LISTS}/list2/packed_list/walk.rt": ["for number in 0..one.count / P::BLOCK_LEN { if walk.want > u32::MAX as u64 { return; }"],
+    f"{LISTS}/sorted/retaining.rt": ["if item < last { *cursor = DistinctValues::new(list.cursor()); } finds_next(cursor, item)"],
+    f"{LISTS}/sorted/distinct_values.rt": [
+        "fn at_hand(&self) -> &[u32] { self.cursor.block() }",
+        "fn seek_ahead(&mut self, target: u32, ahead: usize) { self.cursor.seek_ahead(target, ahead); }",
+    ],
+}
+# By file and name, the least and the most that a constant may be: how far a search goes step by step, how many values show whether it
+# pays to merge, and how many widths are kept to be measured once.
+BOUNDS = {
+    (f"{LISTS}/list2/packed_list/cursor.rt", "NEAR"): (4, 64),
+    (f"{LISTS}/sorted/and.rt", "FEW"): (4, 64),
+    (f"{LISTS}/measuring.rt", "KEPT_WIDTHS"): (256, 4096),
+    (f"{LISTS}/measuring.rt", "MANY_WIDTHS"): (4096, 16384),
+}
+# The trait of the packers, its three calls by kind with the counted call of each, and by name the one of the three that each of the
+# nine others calls.
+TRAIT = f"{SOURCES}/bit_packer.rt"
+BY_KIND = dict(zip(["compress_kind", "decompress_kind", "num_bits_kind"], COUNTED))
+NINE = {call.replace("_kind", kind): call for call in BY_KIND for kind in ["", "_sorted", "_strictly_sorted"]}
+
+
+def sources():
+    """The files of `bitpacking` without memory.rt, with their code."""
+    return {path: code(path) for path in paths(f"{SOURCES}/**/*.rt") if path != MEMORY}
+
+
+def callee(text, index):
+    """The last name of the function in whose arguments an index is, or None."""
+    depth = 0
+    for place in range(index - 1, -1, -1):
+        depth += {")": 1, "(": -1}.get(text[place], 0)
+        if depth < 0:
+            found = re.search(r"(\w+)(?:::<[^()]*>)?$", text[:place])
+            return found and found.group(1)
+    return None
+
+
+def proofs_by_hand():
+    found = paths("crates/*/proofs/**/Proof.antt")
+    yield from (f"{path}: a proof by hand" for path in found if path not in BY_HAND)
+    yield from (f"{path}: there is none" for path in BY_HAND if path not in found)
+
+
+def slices():
+    texts = sources()
+    functions = {name for text in [*texts.values(), code(MEMORY)] for name in re.findall(r"\bfn (\w+)", text)}
+    for path, text in texts.items():
+        for found in re.finditer(r"\b(from_words|to_words|from_bytes|to_bytes|from_slice|copy_to_slice)\b", text):
+            yield f"{at(path, text, found.start())}: names {found.group(1)}"
+        for found in re.finditer(r"[\w)\]?]\[", text):
+            yield f"{at(path, text, found.start())}: reads or writes an element"
+        for found in re.finditer(r"->[^{;]*&[^{;]*\[|\btype\b[^;]*\[|\blet\b[^=;]*\[", text):
+            yield f"{at(path, text, found.start())}: names a slice or an array beside a parameter"
+        for name in set(re.findall(r"\b(\w+): &(?:'\w+ )?(?:mut )?\[", text)):
+            for found in re.finditer(rf"\b{name}\b(?!: &)", text):
+                whole = re.search(r"[(,]\s*$", text[: found.start()]) and re.match(r"\s*[,)]", text[found.end() :])
+                if not whole or callee(text, found.start()) not in functions:
+                    yield f"{at(path, text, found.start())}: the slice {name} is not passed on whole to a function of the crate"
+
+
+def body_of(text, name):
+    """The body of the first function of this name, with its braces, or nothing where it has none."""
+    found = re.search(rf"\bfn {name}\b[^;{{]*(?={{)", text)
+    return text[found.end() : end_of_braces(text, found.end())] if found else ""
+
+
+def calls_in(body, functions):
+    """The loops of a body, and its calls of these functions, in the order of the text."""
+    found = re.findall(r"\b(for|while|loop)\b|\b(\w+)(?:::<[^()]*>)?\(", body)
+    return " ".join(loop or call for loop, call in found if loop or call in functions)
+
+
+def steps():
+    trait = code(TRAIT)
+    for name, call in NINE.items():
+        if calls_in(body_of(trait, name), [*COUNTED, *BY_KIND, *NINE]) != call:
+            yield f"{TRAIT}: {name} does not call {call} alone"
+    for path, text in sources().items():
+        made = []
+        for found in re.finditer(r"\bSteps\b", text):
+            before, after = text[: found.start()], text[found.end() :]
+            line = before[before.rfind("\n") + 1 :]
+            if after.startswith("::new()") and before.endswith("&mut "):
+                made.append(re.findall(r"\bfn (\w+)", before)[-1])
+            elif re.match(r"\s*(pub )?use\b", line) and not re.match(r"\s+as\b", after):
+                continue
+            elif not (before.endswith("steps: &mut ") and re.match(r"\s*[,)]", after)):
+                yield f"{at(path, text, found.start())}: names Steps as neither a parameter nor a new one for a call"
+        packer = re.search(r"/bitpacker\dx\.rt$", path)
+        yield from (f"{path}: {name} makes a Steps" for name in made if name not in BY_KIND or not packer)
+        if packer:
+            yield from (f"{path}: {name} makes {made.count(name)} Steps, and not one" for name in BY_KIND if made.count(name) != 1)
+            yield from (f"{path}: {name} has a body of its own" for name in NINE if re.search(rf"\bfn {name}\b", text))
+            for name, call in BY_KIND.items():
+                if calls_in(body_of(text, name), [*COUNTED, *BY_KIND, *NINE]) != call:
+                    yield f"{path}: {name} does not call {call} alone"
+    text = code(MEMORY)
+    for found in re.finditer(r"\b(Steps|Self)::new\b", text):
+        yield f"{at(MEMORY, text, found.start())}: makes a Steps"
+
+
+def registers():
+    for lanes in [4, 8]:
+        path = f"{SOURCES}/bitpacker{lanes}x.rt"
+        text = code(path)
+        made = re.findall(rf"\bfn (\w+)\(\) -> Self {{\s*BitPacker{lanes}x\(InstructionSet::(\w+)\)\s*}}", text)
+        if sorted(made) != [("new", "Lanes"), ("scalar", "Scalar")]:
+            yield f"{path}: new and scalar are {made}"
+        calls = text[text.index("impl Counted for") :]
+        arms = [re.split(r"=>", arm)[1] for arm in re.split(r"InstructionSet::(?=Lanes|Scalar)", calls)[1:]]
+        named = [tuple(re.findall(r"\b(\w+_kind)::<(\w+), (u32x\d|\[u32; \d\])>", arm)) for arm in arms]
+        right = []
+        for call in ["pack_kind", "unpack_kind", "width_kind"]:
+            right += [((call, "ByWidth", f"u32x{lanes}"),), ((call, "Rolled", f"[u32; {lanes}]"),)]
+        if named != right:
+            yield f"{path}: the arms of Lanes and Scalar are not {right}"
+
+
+def program():
+    names = code("crates/bitpack/src/line/names.rt")
+    answer = code("crates/bitpack/src/answer.rt")
+    for name, variant, lanes in [("4s", "FourScalar", 4), ("8s", "EightScalar", 8)]:
+        if f'"{name}" => Some(PackerName::{variant})' not in names:
+            yield f"crates/bitpack/src/line/names.rt: {name} is not {variant}"
+        arms = re.findall(rf"PackerName::{variant} => ([^\n]*)", answer)
+        if len(arms) != 1 or f"&BitPacker{lanes}x::scalar()" not in arms[0]:
+            yield f"crates/bitpack/src/answer.rt: {variant} is not what scalar gives"
+
+
+def kernels():
+    for path, text in sources().items():
+        # Imports that give no other name, the heads of structs, functions and impls, and `Widths`, tested below, are left out.
+        heads = r"\buse\b(?![^;]*\bas\b)[^;]*;|\bstruct \w+;|\btype Widths = [^;]*;|\bfn \w+_at\b|\bfor \w+ \{"
+        uses = re.sub(heads, lambda it: re.sub(r"[^\n]", " ", it[0]), text)
+        for name, places in KERNELS.items():
+            for found in re.finditer(rf"\b{name}\b", uses):
+                inside = (re.findall(r"\bfn (\w+)", text[: found.start()]) or [None])[-1]
+                if inside not in places.get(path.removeprefix(f"{SOURCES}/"), []):
+                    yield f"{at(path, text, found.start())}: {inside} names {name}"
+    path = f"{SOURCES}/dispatch/by_width.rt"
+    types = "\n".join(re.findall(r"^type [^;]*;", code(path), re.M))
+    if re.findall(r"\b\d+\b", types) != [str(width) for width in range(32)] or "= From0<From8<From16<From24<Rolled>>>>;" not in types:
+        yield f"{path}: Widths has not each width"
+
+
+def packers():
+    for path in paths("crates/bitpacking_c/src/**/*.rt"):
+        text = code(path)
+        for found in re.finditer(r"\bscalar\b", text):
+            yield f"{at(path, text, found.start())}: names scalar"
+    texts = {path: code(path) for path in paths(f"{LISTS}/**/*.rt")}
+    own = {name for text in texts.values() for name in re.findall(r"\bstruct (\w+)", text)} | {"Vec"}
+    for path, text in texts.items():
+        for found in re.finditer(r"(\w+>?)(?:::<[^()]*>)?::new\b", text):
+            if found[1] not in own and (path, found[1]) != GROUPS:
+                yield f"{at(path, text, found.start())}: makes a new {found[1]}"
+
+
+def levels():
+    text = text_of(CALLS_OF_RUST)
+    packers = [("one", "calls", "1x_"), ("four", "calls", "4x_"), ("eight", "calls", "8x_"), ("lists", "lists", "")]
+    levels = ["v1_", "v2_", "v3_", ""]
+    right = [(name, macro, f"{level}bitpacking_{lanes}") for level in levels for name, macro, lanes in packers]
+    if re.findall(r'\b(\w+): (\w+)!\("(\w+)"\)', text) != right:
+        yield f"{CALLS_OF_RUST}: the tables are not {right}"
+    for level, features in FEATURES.items():
+        asked = re.findall(rf"fn added_by_{level}\(\)[^{{]*{{\s*detected!\(([^)]*)\)", text)
+        if [sorted(re.findall(r'"([^"]*)"', names)) for names in asked] != [features.split()]:
+            yield f"{CALLS_OF_RUST}: {level} asks for {asked}, and not {features}"
+    for path, wanted in CHOICE.items():
+        found = " ".join(text_of(path).split())
+        yield from (f"{path}: there is no {it}" for it in wanted if found.count(it) != 1)
+
+
+def shapes():
+    for path, wanted in SHAPES.items():
+        found = " ".join(code(path).split())
+        yield from (f"{path}: there is no {it}" for it in wanted if found.count(it) != 1)
+
+
+def bounds():
+    for (path, name), (least, most) in BOUNDS.items():
+        found = re.findall(rf"\bconst {name}: usize = ([^;]*);", code(path))
+        if len(found) != 1 or not found[0].isdecimal() or not least <= int(found[0]) <= most:
+            yield f"{path}: {name} is {', '.join(found)}, and not from {least} to {most}"
+
+
+PARTS = [proofs_by_hand, slices, steps, registers, kernels, program, packers, levels, marks, shapes, bounds]
+
+
+if __name__ == "__main__":
+    sys.exit(results(PARTS, "sources"))

@@ -1,0 +1,316 @@
+#!/usr/bin/env python3
+"""Tries the wrong bodies and other edits of scripts/mutate/edits/: each must leave the functions that it names unproved, at the goals that
+it names, or the crate not compiling. scripts/mutate/changes.py has their form.
+
+A check takes up to 34 edits that change different functions, and names each function that it refuses. No function may be refused but
+those that an edit names. If a function waits for the proof of a callee that another edit changed, its edit is tried again in a
+later check, without that one. If a check ends without a verdict, such as for want of memory, its edits are tried again, fewer at once.
+Edits of a crate below take the longest, since that crate is then proved again, and so are first. What a caller does with less from the
+crate below is tried in the caller's crate: a new function calls the one below, and has its contract without a clause.
+The crates are checked in a copy of what git tracks, over what earlier checks left in out/, and the edits in copies of that, one for
+each processor, up to four.
+
+`unproved.py WORD ..` tries the edits alone that are named, or that are in a folder of scripts/mutate/edits/, such as a crate.
+`unproved.py --list` tries none, and prints each claim of docs/PROOFS.md with its edits, and what these break; also with words.
+The last line is 'N passed, M failed'.
+"""
+import collections
+import concurrent.futures
+import functools
+import os
+import queue
+import re
+import shutil
+import subprocess
+import sys
+import tempfile
+import time
+
+sys.path.insert(1, f"{sys.path[0]}/..")
+from common import ROOT, ended, run, source, words
+import changes
+import claims
+from proving import linked
+
+COPIES = min(4, len(os.sched_getaffinity(0)))
+# How many edits a check takes at most: the more it takes, the more memory it needs, and the longer the others wait for it at the end.
+MOST = 34
+
+
+def apply(room, edit, kept):
+    """Makes the changes, and keeps the files as they were in `kept`, None for a new one. Returns why not, if one does not fit."""
+    for path, old, new in edit.changes:
+        full, before = f"{room}/{path}", None
+        if os.path.exists(full):
+            with open(full, encoding="utf-8") as file:
+                before = file.read()
+        kept.setdefault(full, before)
+        after, why = changes.changed(before, path, old, new)
+        if why:
+            return why
+        os.makedirs(os.path.dirname(full), exist_ok=True)
+        with open(full, "w", encoding="utf-8") as file:
+            file.write(after)
+    return None
+
+
+def restore(kept):
+    """Puts the files back as they were."""
+    for path, text in kept.items():
+        if text is None and os.path.exists(path):
+            os.remove(path)
+        elif text is not None:
+            with open(path, "w", encoding="utf-8") as file:
+                file.write(text)
+
+
+def check(room, crate, *flags):
+    ran = run("rt", "check", *flags, folder=f"{room}/crates/{crate}")
+    return ran.returncode, ran.stdout
+
+
+def unproved_in(crate, said):
+    """By function or impl of the crate that the check did not prove, what the check says of it."""
+    found, before, at, named = {}, [], None, set()
+    for line in said.split("\n"):
+        error = re.match(r"\./proofs/(\S+)/\w+\.antt:\d+:\d+: ", line)
+        verdict = re.match(rf"(?:fn|impl) {crate}::(\S+): (proved)?", line)
+        if error:
+            at = error[1].replace("/", "::")
+        elif re.match(r"note: src/", line):
+            # Notes are above the line of their function.
+            at = None
+            before.append(line)
+        elif verdict:
+            at = None
+            if not verdict[2]:
+                named.add(verdict[1])
+                found.setdefault(verdict[1], []).extend([*before, line])
+            before = []
+        if at:
+            found.setdefault(at, []).append(line)
+    # An error may stand in a file of the same path in a crate below.
+    return {function: "\n".join(lines) for function, lines in found.items() if function in named}
+
+
+def goals_in(text):
+    """The goals of a function's own proof that the text says are refused: none if only the proof of a callee lacks."""
+    found = set(re.findall(r"^(?:\./proofs/\S+: error: |note: src/.* \()`([^`]+)`", text, re.M))
+    for several in re.findall(r"(?:`search` did not prove|antt refuses) (`[^`]+`(?:, `[^`]+`)*)", text):
+        found |= set(re.findall(r"`([^`]+)`", several))
+    return found
+
+
+def why_not(edit, crate, status, said):
+    """Why the check's answer is not the one that the edit asks for, or None."""
+    if status == 0:
+        return "the crate is still proved"
+    found = unproved_in(crate, said)
+    for function, goals in edit.unproved.items():
+        if function not in found:
+            return f"{function} is still proved, or the check does not name it"
+        refused = goals_in(found[function])
+        if refused != set(goals):
+            return f"{function} is refused at {' '.join(sorted(refused)) or 'no goal of its own'}"
+    told = "\n".join(found[it] for it in edit.unproved) or said
+    for text in edit.refused:
+        if text not in told:
+            return f"the check does not say of it: {text}"
+    return None
+
+
+@functools.lru_cache(maxsize=None)
+def text_of(path):
+    """The text of a file of the repository, or None if there is none."""
+    return source(path) if os.path.isfile(f"{ROOT}/{path}") else None
+
+
+def can_follow(edit, other):
+    """Whether the changes of the other fit after those of the edit."""
+    texts = {}
+    for path, old, new in [*edit.changes, *other.changes]:
+        texts[path], why = changes.changed(texts[path] if path in texts else text_of(path), path, old, new)
+        if why:
+            return False
+    return True
+
+
+def functions_by_less(edit):
+    """The functions of which the edit changes a clause."""
+    found = set()
+    for path, old, _ in edit.changes:
+        clause = next((line for line in old if re.match(r"\s*(requires|ensures)\b", line)), None)
+        if path.endswith(".rt") and clause and text_of(path):
+            # The edit's own lines may begin above the function.
+            before = text_of(path).split("\n".join(old[: old.index(clause) + 1]))[0]
+            found |= set(re.findall(r"\bfn (\w+)", before + "\n".join(old[: old.index(clause)]))[-1:])
+    return found
+
+
+def are_apart(edit, other):
+    """Whether one check can take both, the other after the edit: they leave different functions unproved, change different lines, and no
+    file of proofs twice, and neither changes a clause of a function that the other names. Two edits of which the crate does not compile
+    have each its own text."""
+    shared = {path for path, _, _ in edit.changes} & {path for path, _, _ in other.changes}
+    if not edit.unproved or not other.unproved:
+        return not edit.unproved and not other.unproved and set(edit.refused).isdisjoint(other.refused)
+    if not edit.unproved.keys().isdisjoint(other.unproved) or any(path.endswith(".antt") for path in shared):
+        return False
+    for one, two in [(edit, other), (other, edit)] if shared else []:
+        if not functions_by_less(one).isdisjoint(name.split("::")[-1] for name in two.unproved):
+            return False
+    return not shared or can_follow(edit, other)
+
+
+def tried(room, crate, edits):
+    """Tries the edits in one check. Returns by name why each is not refused as it must be, or None; the names of those that may be later,
+    since they wait for a callee that another one changed, or for a compiler that stopped at another one; and what is wrong with the
+    check as a whole. If it ended without a verdict on any function, these are None, and all may be later."""
+    kept = {}
+    whys = {edit.name: apply(room, edit, kept) for edit in edits}
+    status, said = check(room, crate, "--jobs", "1")
+    restore(kept)
+    if status != 0 and edits[0].unproved and not re.search(rf"^fn {crate}::", said, re.M):
+        why = f"the check ended with status {status} and no verdict: {said.strip()[-200:]}"
+        return {edit.name: why for edit in edits}, {edit.name for edit in edits}, None
+    whys = {edit.name: whys[edit.name] or why_not(edit, crate, status, said) for edit in edits}
+    calls = set(re.findall(rf"^fn {crate}::(\S+): .*it calls .* not proved", said, re.M))
+    later = [edit for edit in edits if whys[edit.name] and len(edits) > 1]
+    waiting = {edit.name for edit in later if not edit.unproved or not calls.isdisjoint(edit.unproved)}
+    named = {function for edit in edits for function in edit.unproved}
+    others = {it: sorted(goals_in(text)) for it, text in unproved_in(crate, said).items() if it not in named}
+    more = [f"{it} is refused too, at {' '.join(goals)}" for it, goals in others.items() if goals]
+    return whys, waiting, more
+
+
+def copied(room, built=True):
+    """Makes a copy of the tracked files, which git tracks there too, with what earlier checks left in out/ if that is `built`."""
+    listed = subprocess.run(["git", "ls-files", "-z"], cwd=ROOT, check=True, stdout=subprocess.PIPE).stdout
+    for name in listed.decode().split("\0"):
+        if name and os.path.isfile(f"{ROOT}/{name}"):
+            os.makedirs(os.path.dirname(f"{room}/{name}"), exist_ok=True)
+            shutil.copy2(f"{ROOT}/{name}", f"{room}/{name}")
+    for crate in os.listdir(f"{ROOT}/crates") if built else []:
+        if os.path.isdir(f"{ROOT}/crates/{crate}/out"):
+            shutil.copytree(f"{ROOT}/crates/{crate}/out", f"{room}/crates/{crate}/out", symlinks=True, copy_function=linked)
+    subprocess.run(["git", "init", "-q", room], check=True)
+    subprocess.run(["git", "add", "--all"], cwd=room, check=True)
+
+
+def files_in(top):
+    """The files below a folder, and of each how long it is and when it was written."""
+    found = [os.path.relpath(f"{folder}/{name}", top) for folder, _, names in os.walk(top) for name in names]
+    return {path: (os.lstat(f"{top}/{path}").st_size, os.lstat(f"{top}/{path}").st_mtime_ns) for path in found}
+
+
+def mend(sound, folder):
+    """Makes a copy of a folder what it was: the files that were written since are copied again, and those that are new are taken out."""
+    wanted, found = files_in(sound), files_in(folder)
+    for path in (path for path, state in found.items() if wanted.get(path) != state):
+        os.remove(f"{folder}/{path}")
+    for path in (path for path, state in wanted.items() if found.get(path) != state):
+        os.makedirs(os.path.dirname(f"{folder}/{path}"), exist_ok=True)
+        linked(f"{sound}/{path}", f"{folder}/{path}")
+
+
+def changes_below(crate, edits):
+    """Whether the edits change a crate below theirs, which is then checked too."""
+    return any(not path.startswith(f"crates/{crate}/") for edit in edits for path, _, _ in edit.changes)
+
+
+def weight(crate, edits):
+    """How long a check of these edits takes, in edits: one of a crate below takes as long as some ten."""
+    return len(edits) + 10 * changes_below(crate, edits)
+
+
+def checks_of(crate, edits, most):
+    """The checks that take these edits of a crate, each up to so many. The edits that are apart from the fewest others come first, so that
+    there are few checks. An edit of a crate below goes where there is one, and all others where there are fewest."""
+    checks = []
+    others = {edit.name: sum(not are_apart(it, edit) for it in edits) for edit in edits}
+    for edit in sorted(edits, key=lambda it: (not changes_below(crate, [it]), -others[it.name], it.name)):
+        able = [check for check in checks if len(check) < most and all(are_apart(it, edit) for it in check)]
+        if not able:
+            checks.append([edit])
+        elif changes_below(crate, [edit]):
+            max(able, key=lambda check: changes_below(crate, check)).append(edit)
+        else:
+            min(able, key=len).append(edit)
+    return checks
+
+
+class Rooms:
+    """Copies of the repository in which edits are tried. After a check its crate has the out/ of `sound` again: else the next check proves
+    anew what these edits changed."""
+
+    def __init__(self, top):
+        self.top, self.sound, self.free, self.faults = top, f"{top}/sound", queue.SimpleQueue(), []
+        # How many edits a check takes at most, by crate.
+        self.most = collections.defaultdict(lambda: MOST)
+        copied(self.sound)
+
+    def open(self, number):
+        """Makes so many copies, once the crates of `sound` are checked."""
+        for at in range(number):
+            shutil.copytree(self.sound, f"{self.top}/room{at}", symlinks=True, copy_function=linked)
+            self.free.put(f"{self.top}/room{at}")
+
+    def try_in_one(self, crate, edits):
+        """Tries the edits in one check, and keeps what failed in `faults`. Returns the edits that wait."""
+        room, start = self.free.get(), time.time()
+        whys, waiting, more = tried(room, crate, edits)
+        for below in os.listdir(f"{room}/crates") if changes_below(crate, edits) else [crate]:
+            mend(f"{self.sound}/crates/{below}/out", f"{room}/crates/{below}/out")
+        self.free.put(room)
+        if more is None and len(edits) > 1:
+            self.most[crate], more = max(1, len(edits) // 4), []
+            print(f"{crate}: {next(iter(whys.values()))}", flush=True)
+        elif all(whys.values()):
+            waiting, more = set(), more or []
+        told = [f"{crate}/{it}: {f'FAILED: {why}' if why else 'refused, as it must be'}" for it, why in whys.items() if it not in waiting]
+        told += [f"{crate}: FAILED: {fault}, and no edit of this check names it" for fault in more]
+        print("\n".join([*told, f"{crate}: {len(edits) - len(waiting)} in one check of {time.time() - start:.0f} s"]), flush=True)
+        self.faults += [it for it in told if ": FAILED: " in it]
+        return [it for it in edits if it.name in waiting]
+
+    def try_all(self, asked):
+        """Tries the edits of each crate, each check as soon as a copy is free."""
+        tasks = [(crate, edits) for crate, found in asked.items() for edits in checks_of(crate, found, MOST)]
+        self.open(min(COPIES, len(tasks)))
+        running, left = {}, {crate: [] for crate in asked}
+        with concurrent.futures.ThreadPoolExecutor(COPIES) as pool:
+            while tasks or running:
+                for crate, edits in sorted(tasks, key=lambda it: -weight(*it)):
+                    running[pool.submit(self.try_in_one, crate, edits)] = crate
+                done = concurrent.futures.wait(running, return_when=concurrent.futures.FIRST_COMPLETED).done
+                for future in done:
+                    crate = running.pop(future)
+                    left[crate] += future.result()
+                # Those that wait are tried when no check of their crate is left that could find more of them.
+                ready = [crate for crate, found in left.items() if found and crate not in running.values()]
+                tasks = [(crate, edits) for crate in ready for edits in checks_of(crate, left.pop(crate), self.most[crate])]
+                left.update({crate: [] for crate in ready})
+
+
+def main():
+    asked = words("--list")
+    wanted = [it for it in asked if it != "--list"]
+    edits = [
+        it for it in claims.edits_of_crates() if not wanted or any(it.name == word or it.path.startswith(f"{word}/") for word in wanted)
+    ]
+    if "--list" in asked:
+        return claims.print_table(edits)
+    by_crate = {crate: [it for it in edits if it.crate == crate] for crate in sorted({it.crate for it in edits})}
+    with tempfile.TemporaryDirectory(prefix="unproved-") as top:
+        rooms = Rooms(top)
+        for crate in list(by_crate):
+            if check(rooms.sound, crate)[0] != 0:
+                rooms.faults += [f"{crate}/{it.name}: FAILED: the crate itself is not proved" for it in by_crate.pop(crate)]
+        rooms.try_all(by_crate)
+    failed = len(rooms.faults)
+    print("".join(f"{it}\n" for it in rooms.faults), end="")
+    return ended(max(len(edits) - failed, 0), failed) or not edits
+
+
+if __name__ == "__main__":
+    sys.exit(main())

@@ -1,0 +1,236 @@
+#!/usr/bin/env python3
+"""Compiles and runs the C programs over the archive for all levels of the processor and the archive of each level: those of examples/,
+whose output is worked by hand, scripts/test/calls.c, list_calls.c and cursor.c, and scripts/test/tables.c, queries.c, sets.c and damaged.c
+over the tables of vectors/. They are compiled as C99 with every warning an error and run with little stack, and once more with the address
+sanitizer if the compiler has it. The two programs of calls are also compiled as C++11 and C++17, without a cast of C in the header;
+scripts/test/calls.c also runs over the archive for all levels on a processor of each level that qemu gives, and has to name every macro of
+the header. Over that archive scripts/test/damaged.c opens a million damaged lists once more.
+
+Then each program has to fail with another output than it has, or, if it prints nothing, with a function that returns one more. The archives
+are those that scripts/build/archives.py wrote, which is called if they are not there. The last line is 'N passed, M failed'; a part that is
+left out because a tool is missing is named.
+"""
+import functools
+import re
+import resource
+import shutil
+import subprocess
+import sys
+import tempfile
+
+sys.path.insert(1, f"{sys.path[0]}/..")
+from common import ROOT, leave_out, report, run, source
+import archives
+import levels
+
+STRICT = ["-Wall", "-Wextra", "-Werror", "-pedantic", f"-I{ROOT}/include"]
+C99 = ["cc", "-std=c99", *STRICT]
+CALLS = "scripts/test/calls.c"
+LIST_CALLS = "scripts/test/list_calls.c"
+TABLES = "scripts/test/tables.c"
+SETS = "scripts/test/sets.c"
+QUERIES = "scripts/test/queries.c"
+DAMAGED = "scripts/test/damaged.c"
+STACK = 256 << 10  # bytes; the sanitizer needs more
+SANITIZED = ["-fsanitize=address,undefined", "-fno-sanitize-recover=all"]
+# The index of the documents 1 to 1000, by hand: 500, 333 and 200 numbers. The codes of the lists are gaps less one: 1 of even (of its
+# first block up to 2), 2 of fizz, 4 of buzz, 29 of the multiples of 30; and up to 2, 3 and 5 of the others. With the widths 2, 1 and 1,
+# the text of even has a header of 3 bytes, 3 entries of 9, 16 * 4 bytes of blocks, and 116 codes in 4 groups of 5, 5, 5 and 4: 113 bytes.
+# In this way fizz has 108 bytes, and buzz 90.
+INDEX = """\
+3 words in 311 bytes
+fizz AND buzz AND even: 33 documents in 24 bytes, [30, 60, 90, 120] ..
+fizz OR buzz: 467 documents in 150 bytes, [3, 5, 6, 9] ..
+even NOT fizz: 334 documents in 108 bytes, [2, 4, 8, 10] ..
+(fizz OR buzz) NOT even: 234 documents in 104 bytes, [3, 5, 9, 15] ..
+fizz AND odd: 0 documents in 1 bytes, [] ..
+"""
+# Gaps of 2 and 4 in turn: one less are 1 and 3, two bits each, and so 2 * 16 bytes for each block of 128.
+PROGRAMS = {
+    # Gaps of 3: two bits each, and so 2 * 16 bytes.
+    "examples/block.c": "128 ids in 32 bytes\n",
+    # Byte 0, the first id as a number, and a group of the three codes 1, 0 and 289: a byte with their width 9, and 27 bits.
+    "examples/list.c": "4 ids in 7 bytes\n",
+    "examples/posting_list.c": "300 numbers: 2 and 2 bits, 64 bytes, 44 numbers as they are\n",
+    # A header of 7 bytes, 2 entries of 9, those blocks, and 44 numbers of 4 bytes; the last number is 3 * 299 + 1.
+    "examples/packed_list.c": "300 numbers in 265 bytes, the last 898\nthe first from 500 on is 502, at position 167\n",
+    "examples/index.c": INDEX,
+    CALLS: "",
+    "scripts/test/cursor.c": "",
+    LIST_CALLS: "",
+    # Each row of the tables that it is given.
+    TABLES: "753 lists, 821 refusals\n",
+    QUERIES: "2917 searches, 242 pairs, 104 refusals\n",
+    # Of a fixed seed and these tables: other rows give other numbers.
+    DAMAGED: "50000 damaged lists: "
+    "10673 opened, 12282 Short, 1915 BadVersion, 2185 BadKind, 1181 WrongLanes, "
+    "1419 TooLong, 2419 BadWidth, 925 LooseWidth, 2482 BadOffset, 2853 BadLast, "
+    "2478 NotSorted, 5676 Trailing, 2681 BadNumber, 831 Padding\n",
+    # The lists of the tables that are in order: each alone, n ^ 2 pairs, and as many triples of 17 of them, by three calls.
+    SETS: "471 lists, 681675 combined\n",
+}
+# For each program that prints nothing, a function of the header that it calls, and that function with a wrong answer.
+CALLED = {CALLS: "bitpacking_version", LIST_CALLS: "bitpacking_list_len", "scripts/test/cursor.c": "bitpacking_cursor_position"}
+ONE_MORE = """#include "bitpacking.h"
+
+{returned}__real_{name}({given});
+{returned}__wrap_{name}({given});
+
+{returned}__wrap_{name}({given})
+{{
+    return __real_{name}({passed}) + 1;
+}}
+"""
+VECTORS = {TABLES: ["lists2", "lists3", "refused2", "refused3"], SETS: ["lists2", "lists3"]}
+VECTORS[DAMAGED] = VECTORS[TABLES]
+VECTORS[QUERIES] = ["seek", "seek3", "intersect", "union", "difference", "refused_values"]
+# The same of a million damaged lists.
+MILLION = (
+    "1000000 damaged lists: "
+    "215154 opened, 242569 Short, 39260 BadVersion, 43157 BadKind, 25068 WrongLanes, "
+    "27643 TooLong, 47016 BadWidth, 18662 LooseWidth, 48512 BadOffset, 59704 BadLast, "
+    "49888 NotSorted, 112028 Trailing, 54252 BadNumber, 17087 Padding\n"
+)
+
+
+def works(command, **given):
+    """Whether a command ends with status 0, and what it prints."""
+    done = run(*command, **given)
+    return done.returncode == 0, done.stdout
+
+
+def has_sanitizers():
+    with tempfile.TemporaryDirectory(prefix="c-") as folder:
+        source, program = f"{folder}/empty.c", f"{folder}/empty"
+        with open(source, "w", encoding="ascii") as file:
+            file.write("int main(void) { return 0; }\n")
+        return works(["cc", *SANITIZED, source, "-o", program])[0] and works([program])[0]
+
+
+def with_little_stack():
+    resource.setrlimit(resource.RLIMIT_STACK, (STACK, STACK))
+
+
+def places():
+    """The archives that this processor runs: a name and a path of each."""
+    yield "all levels", f"{archives.OUT}/{archives.ALL}"
+    for level in archives.LEVELS.values():
+        if level == "x86-64" or levels.supports(level):
+            yield level, archives.archive(level)
+        else:
+            leave_out(f"the C programs at the level {level}", "which this processor does not have")
+
+
+@functools.cache
+def long_lists():
+    """The lists of vectors/digests.tsv that C reads, as vectors/assemble.py prints them."""
+    return "".join(run(sys.executable, f"{ROOT}/vectors/assemble.py", "--long", version).stdout for version in ["2", "3"])
+
+
+def given(program):
+    """What a program reads."""
+    if program not in VECTORS:
+        return {}
+    tables = "".join(source(f"vectors/{table}.tsv") for table in VECTORS[program])
+    return {"input": tables + (long_lists() if program == TABLES else "")}
+
+
+def compiled_and_run(archive, path, command, arguments=(), printed=None, **more):
+    """What is wrong with a program over an archive, or None. The command is that of the compiler. It prints what PROGRAMS says, or with
+    arguments what is given here."""
+    with tempfile.TemporaryDirectory(prefix="c-") as folder:
+        program = f"{folder}/program"
+        right, text = works([*command, f"{ROOT}/{path}", "-x", "none", archive, "-o", program])
+        if not right:
+            return text
+        right, text = works([program, *arguments], **given(path), **more)
+        wanted = PROGRAMS[path] if printed is None else printed
+        return None if right and text == wanted else f"it failed, and printed {text[:2000]}"
+
+
+def miscounted(text):
+    """The text with another last digit."""
+    return re.sub(r"\d(?=\D*$)", lambda it: str((int(it[0]) + 1) % 10), text)
+
+
+def wrong_ones():
+    """Each program with another output than it has, or over a function with a wrong answer: a name, and what is wrong if it does not fail."""
+    archive = f"{archives.OUT}/{archives.ALL}"
+    for program, text in PROGRAMS.items():
+        if program not in CALLED:
+            why = compiled_and_run(archive, program, C99, printed=miscounted(text))
+            yield f"another output of {program}", None if why == f"it failed, and printed {text}" else f"it does not fail so: {why}"
+    with tempfile.TemporaryDirectory(prefix="c-") as folder:
+        for program, name in CALLED.items():
+            levels.written(f"{folder}/wrong.c", levels.filled(ONE_MORE, name, *levels.prototypes()[name]))
+            why = compiled_and_run(archive, program, [*C99, f"-Wl,--wrap={name}", f"{folder}/wrong.c"])
+            right = (why or "").startswith("it failed, and printed ") and name in why
+            yield f"{program} with a wrong {name}", None if right else f"it does not fail so: {why}"
+
+
+def on_other_processors():
+    """scripts/test/calls.c over the archive for all levels, on a processor of each level: each as a name and what is wrong, or None."""
+    if not shutil.which(levels.OTHERS):
+        leave_out(f"{CALLS} on other processors", f"since there is no {levels.OTHERS} (Debian: qemu-user-static)")
+        return
+    with tempfile.TemporaryDirectory(prefix="c-") as folder:
+        program = f"{folder}/program"
+        right, text = works([*C99, "-static", f"{ROOT}/{CALLS}", f"{archives.OUT}/{archives.ALL}", "-o", program])
+        for processor in levels.ONE_OF_EACH:
+            done = run(levels.OTHERS, "-cpu", processor, program, stderr=subprocess.DEVNULL) if right else None
+            wrong = f"it ended with {done.returncode}, and printed {done.stdout[:2000]}" if right and done.returncode else None
+            yield f"{CALLS} on {processor}", wrong if right else text
+
+
+def macros_not_named():
+    """What is wrong with the use of the header's macros, or None. Its guard is its own."""
+    text, used = source("include/bitpacking.h"), set(re.findall(r"\w+", source(CALLS)))
+    own = set(re.findall(r"^#ifndef (\w+)", text, re.M))
+    macros = set(re.findall(r"^#define (\w+)", text, re.M)) - own
+    if not macros:
+        return "the header has no macro"
+    return f"it does not name {' '.join(sorted(macros - used))}" if macros - used else None
+
+
+def casts_in_the_header():
+    """What a C++ compiler says of casts of C in the header and its macros, or None."""
+    macros = re.findall(r"^#define (BITPACKING_\w+)(\(\w+\))? ", source("include/bitpacking.h"), re.M)
+    uses = [f"used({name}{'(1)' if given else ''});" for name, given in macros if name != "BITPACKING_LIST_EMPTY"]
+    lines = ["template <typename Item> static void used(Item) {}", "int main() { bitpacking_list list = BITPACKING_LIST_EMPTY; used(list);"]
+    text = "\n".join(['#include "bitpacking.h"', *lines, *uses, "used(bitpacking_list_empty()); }", ""])
+    right, said = works(["c++", *STRICT, "-Wold-style-cast", "-x", "c++", "-fsyntax-only", "-"], input=text)
+    return None if right else said or "it is refused"
+
+
+def checks():
+    """Each check as a name and what is wrong, or None."""
+    yield f"the macros in {CALLS}", macros_not_named()
+    sanitizers, in_cpp = has_sanitizers(), shutil.which("c++")
+    if not sanitizers:
+        leave_out("the C programs under the address sanitizer", "which cc does not have here")
+    if in_cpp:
+        yield "the header without casts of C", casts_in_the_header()
+    else:
+        leave_out(f"{CALLS} and {LIST_CALLS} as C++", "since there is no c++")
+    for level, archive in places():
+        for program in PROGRAMS:
+            yield f"{program} at {level}", compiled_and_run(archive, program, C99, preexec_fn=with_little_stack)
+            if sanitizers:
+                yield f"{program} at {level}, sanitized", compiled_and_run(archive, program, [*C99, *SANITIZED])
+        for standard in ["c++11", "c++17"] if in_cpp else []:
+            command = ["c++", f"-std={standard}", *STRICT, "-x", "c++"]
+            for program in [CALLS, LIST_CALLS]:
+                yield f"{program} as {standard} at {level}", compiled_and_run(archive, program, command)
+    command = [*C99, "-O2"]
+    yield f"{DAMAGED} with a million lists", compiled_and_run(f"{archives.OUT}/{archives.ALL}", DAMAGED, command, ["1000000"], MILLION)
+    yield from on_other_processors()
+    yield from wrong_ones()
+
+
+def main():
+    status = archives.status_without("the C programs", "cc")
+    return report(checks()) if status is None else status
+
+
+if __name__ == "__main__":
+    sys.exit(main())

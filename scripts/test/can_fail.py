@@ -1,0 +1,114 @@
+#!/usr/bin/env python3
+"""Tests that what decides can fail, with made-up results: `report`, by which a script ends; `judged` of scripts/check; `why_not` of
+scripts/mutate/unproved.py, over what a check printed; and `not_refused`, by which scripts that read the sources try wrong changes.
+
+The last line is 'N passed, M failed'.
+"""
+import contextlib
+import importlib.machinery
+import importlib.util
+import io
+import sys
+
+sys.path.insert(1, f"{sys.path[0]}/..")
+import common
+import texts
+import unproved
+from changes import Edit
+
+CRATE = "bitpacking_register"
+# What a check of edits of that crate printed of four functions, without the long lines.
+SAID = """\
+./proofs/arrays/to_bytes_all/Answers.antt:9:46: error: `loop-lane-preserved`: as printed, the two types first differ
+fn bitpacking_register::arrays::to_bytes_all: not proved
+fn bitpacking_register::arrays::ArrayU324Register::to_bytes: no proof: it calls `bitpacking_register::arrays::to_bytes_all`, which is not proved
+note: src/arrays.rt:193:5: it is not proved that what the function ensures holds when it returns (`returns`)
+fn bitpacking_register::arrays::ArrayU328Register::integrate: no proof: `search` did not prove `returns`; it calls another
+fn bitpacking_register::word::or: proved
+"""
+BYTES, CALLER, SUMS = "arrays::to_bytes_all", "arrays::ArrayU324Register::to_bytes", "arrays::ArrayU328Register::integrate"
+
+
+def gate():
+    """The script `check` as a module."""
+    loader = importlib.machinery.SourceFileLoader("check", f"{common.ROOT}/scripts/check")
+    made = importlib.util.module_from_spec(importlib.util.spec_from_loader("check", loader))
+    loader.exec_module(made)
+    return made
+
+
+def reported(*checks):
+    """What `report` makes of checks: its status and what it prints."""
+    with contextlib.redirect_stdout(io.StringIO()) as said:
+        status = common.report(checks)
+    return status, said.getvalue()
+
+
+def reports():
+    """Each report as a name, what it comes to, and what it has to."""
+    yield "a check that passes", reported(("one", None)), (0, "1 passed, 0 failed\n")
+    yield "a check that fails", reported(("one", None), ("two", "it is")), (1, "FAILED: two: it is\n1 passed, 1 failed\n")
+    yield "a check that fails and says nothing", reported(("one", "")), (1, "FAILED: one: \n0 passed, 1 failed\n")
+    yield "no check", reported(), (1, "0 passed, 1 failed\n")
+
+
+def parts():
+    """Each end of a part of the gate as a name, what it comes to, and what it has to."""
+    judged, left_out = gate().judged, "LEFT OUT: all, since there is no cc\n"
+    yield "a part that passes", judged("it", ["3 passed, 0 failed\n"], 0), (3, 0, [])
+    yield "a part that is left out", judged("it", [left_out, "0 passed, 0 failed\n"], 0), (0, 0, [left_out])
+    failed = ["FAILED: two: it is\n", "2 passed, 1 failed\n"]
+    for status in [0, 1]:
+        yield f"a part that fails with status {status}", judged("it", failed, status), (2, 1, failed[:1])
+    ends = {
+        "it checked nothing": (["0 passed, 0 failed\n"], 0),
+        "it ended without a last line": (["3 passed\n"], 0),
+        "it ended with status 2": (["3 passed, 0 failed\n"], 2),
+    }
+    for why, (said, status) in ends.items():
+        passed = 3 if status else 0
+        yield f"a part of which {why}", judged("it", said, status), (passed, 1, [f"FAILED: it: {why}\n"])
+
+
+def why(goals, refused=(), status=1):
+    """Why the check is not the one that an edit asks for, which names these functions with their goals, or None."""
+    return unproved.why_not(Edit(f"{CRATE}/it", unproved=goals, refused=list(refused)), CRATE, status, SAID)
+
+
+def edits():
+    """Each edit as a name, why the check does not refuse it as it says, and why not."""
+    preserved, returns = ["loop-lane-preserved"], ["returns"]
+    yield "an edit that is refused", why({BYTES: preserved, CALLER: [], SUMS: returns}, ["the two types first differ"]), None
+    yield "an edit of a crate that does not compile", why({}, ["`search` did not prove"]), None
+    yield "an edit that is proved", why({BYTES: preserved}, status=0), "the crate is still proved"
+    for name, goals in {"another goal": returns, "a goal too many": [*preserved, *returns], "no goal": []}.items():
+        yield f"an edit of {name}", why({BYTES: goals}), f"{BYTES} is refused at loop-lane-preserved"
+    yield "an edit of a goal of a caller", why({CALLER: returns}), f"{CALLER} is refused at no goal of its own"
+    for name in ["word::or", "word::and"]:
+        yield f"an edit of {name}", why({SUMS: returns, name: returns}), f"{name} is still proved, or the check does not name it"
+    other = "the check does not say of it: the two types first differ"
+    yield "an edit of a text that is said of another function", why({SUMS: returns}, ["the two types first differ"]), other
+    yield "an edit of a text that is not said", why({}, ["mismatched types"]), "the check does not say of it: mismatched types"
+    found = {name: sorted(unproved.goals_in(text)) for name, text in unproved.unproved_in(CRATE, SAID).items()}
+    yield "the functions that the check refuses", found, {BYTES: preserved, CALLER: [], SUMS: returns}
+
+
+def faults():
+    """Each wrong change for a script as a name, what is found, and what has to be."""
+    new = Edit("it", refused=["docs/NEW.md: it is"], changes=[("docs/NEW.md", [], ["New."])])
+    twice = Edit("it", refused=["it is"], changes=[("LICENSE", ["no such line"], [])])
+    yield "a change that is refused", texts.not_refused(new, [lambda: ["docs/NEW.md: it is new"]]), None
+    yield "a change that nothing refuses", texts.not_refused(new, [lambda: []]), "nothing refuses it"
+    other = "refused too: LICENSE: it is old; no fault says: docs/NEW.md: it is"
+    yield "a change that is refused for another fault", texts.not_refused(new, [lambda: ["LICENSE: it is old"]]), other
+    yield "a change that does not fit", texts.not_refused(twice, [lambda: []]), "its lines are in LICENSE 0 times, and not once"
+
+
+def checks():
+    for part in [reports, parts, edits, faults]:
+        for name, found, right in part():
+            yield name, None if found == right else f"it is {found}, and not {right}"
+
+
+if __name__ == "__main__":
+    sys.exit(common.report(checks()))

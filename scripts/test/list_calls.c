@@ -1,0 +1,193 @@
+/* Lists that C packs, run by scripts/test/c.py as C99 and as C++, also under the address sanitizer: bytes worked by hand, each error with
+   nothing written, the room that is enough, the texts of all errors. scripts/test/tables.c packs the lists of the tables. */
+#include "bitpacking.h"
+
+#include <stdio.h>
+#include <string.h>
+
+static int failed;
+
+static void expect(const char *call, ptrdiff_t found, ptrdiff_t right)
+{
+    if (found != right) {
+        printf("%s: %ld and not %ld\n", call, (long)found, (long)right);
+        failed = 1;
+    }
+}
+
+#define EXPECT(call, right) expect(#call, call, right)
+
+typedef ptrdiff_t (*list_pack)(uint8_t, uint8_t, const uint32_t *, size_t, uint8_t *, size_t, size_t *);
+typedef ptrdiff_t (*list_size)(uint8_t, uint8_t, const uint32_t *, size_t, size_t *);
+
+static const list_pack packs[3] = {bitpacking_1x_list_pack, bitpacking_4x_list_pack, bitpacking_8x_list_pack};
+static const list_size sizes[3] = {bitpacking_1x_list_size, bitpacking_4x_list_size, bitpacking_8x_list_size};
+static const uint8_t lanes[3] = {1, 4, 8};
+
+/* An error of a packer writes nothing, and a position only if it is that of a value out of order. */
+static void refuses(int packer, uint8_t version, uint8_t kind, const uint32_t *values, size_t len, size_t room, ptrdiff_t error, size_t at)
+{
+    uint8_t bytes[40];
+    size_t position = 77, i;
+
+    memset(bytes, 0xA5, sizeof bytes);
+    EXPECT(packs[packer](version, kind, values, len, bytes, room, &position), error);
+    EXPECT((ptrdiff_t)position, (ptrdiff_t)at);
+    for (i = 0; i < sizeof bytes; i++)
+        EXPECT(bytes[i], 0xA5);
+    position = 77;
+    if (error != BITPACKING_SHORT) {
+        EXPECT(sizes[packer](version, kind, values, len, &position), error);
+        EXPECT((ptrdiff_t)position, (ptrdiff_t)at);
+    }
+}
+
+/* Two values of version 2: a header of version, kind, lanes and count, and the values as they are. */
+static void worked(int packer, uint8_t kind, uint32_t first, uint32_t second)
+{
+    const uint32_t values[2] = {first, second};
+    const uint8_t right[15] = {2, kind, lanes[packer], 2, 0, 0, 0, (uint8_t)first, 0, 0, 0, (uint8_t)second, 0, 0, 0};
+    uint8_t bytes[16];
+    size_t position = 77;
+    bitpacking_list list = bitpacking_list_empty();
+    uint32_t value = 0;
+
+    memset(bytes, 0xA5, sizeof bytes);
+    EXPECT(sizes[packer](2, kind, values, 2, &position), 15);
+    EXPECT(packs[packer](2, kind, values, 2, bytes, sizeof bytes, &position), 15);
+    EXPECT(memcmp(bytes, right, 15), 0);
+    EXPECT(bytes[15], 0xA5);
+    EXPECT((ptrdiff_t)position, 77);
+    EXPECT(bitpacking_list_len(&list), 0);
+    EXPECT(bitpacking_list_open(bytes, 15, &list), 0);
+    EXPECT(bitpacking_list_get(&list, 1, &value), 1);
+    EXPECT(value, (ptrdiff_t)second);
+    refuses(packer, 2, kind, values, 2, 14, BITPACKING_SHORT, 77);
+    refuses(packer, 2, kind, values, 2, 0, BITPACKING_SHORT, 77);
+}
+
+/* The errors in their order. */
+static void errors(int packer)
+{
+    static const uint32_t falls[3] = {5, 6, 4}, stays[3] = {5, 5, 6};
+    uint8_t version;
+
+    for (version = 2; version <= 3; version++) {
+        refuses(packer, version, 1, falls, 3, 40, BITPACKING_LIST_NOT_SORTED, 2);
+        refuses(packer, version, 2, falls, 3, 0, BITPACKING_LIST_NOT_SORTED, 2);
+        refuses(packer, version, 2, stays, 3, 40, BITPACKING_LIST_NOT_SORTED, 1);
+        refuses(packer, version, 3, falls, 3, 40, BITPACKING_LIST_BAD_KIND, 77);
+        refuses(packer, version, 255, falls, 3, 0, BITPACKING_LIST_BAD_KIND, 77);
+        refuses(packer, version, 1, stays, 3, 1, BITPACKING_SHORT, 77);
+        refuses(packer, version, 0, falls, 3, 1, BITPACKING_SHORT, 77);
+    }
+    refuses(packer, 1, 1, falls, 3, 40, BITPACKING_LIST_BAD_VERSION, 77);
+    refuses(packer, 4, 3, falls, 3, 40, BITPACKING_LIST_BAD_VERSION, 77);
+    refuses(packer, 0, 0, falls, 3, 0, BITPACKING_LIST_BAD_VERSION, 77);
+}
+
+/* An empty list, with no values and no room. */
+static void empty(int packer)
+{
+    uint8_t bytes[7] = {9, 9, 9, 9, 9, 9, 9};
+    size_t position = 77;
+
+    EXPECT(packs[packer](2, 0, NULL, 0, NULL, 0, &position), BITPACKING_SHORT);
+    EXPECT(packs[packer](2, 2, NULL, 0, bytes, 7, &position), 7);
+    EXPECT(bytes[0] + bytes[1] + bytes[2], 4 + lanes[packer]);
+    EXPECT(bytes[3] + bytes[4] + bytes[5] + bytes[6], 0);
+    EXPECT((ptrdiff_t)position, 77);
+}
+
+/* A list of any packer, version and kind fits the room that the header states. Here each value of a plain list needs all of its bits, and the
+   first of another one. In version 2 a plain list of one lane fills the room. Returns the size. */
+enum { MOST = 16512 };
+
+static ptrdiff_t fits(int packer, uint8_t version, uint8_t kind, size_t len)
+{
+    static uint32_t values[MOST];
+    static uint8_t bytes[BITPACKING_LIST_ROOM(MOST)];
+    const size_t room = BITPACKING_LIST_ROOM(len);
+    const int fills = version == BITPACKING_LIST_VERSION_2 && lanes[packer] == 1 && kind == BITPACKING_PLAIN;
+    bitpacking_list list = BITPACKING_LIST_EMPTY;
+    size_t position = 77, i;
+    ptrdiff_t size;
+
+    for (i = 0; i < len; i++)
+        values[i] = kind == BITPACKING_PLAIN ? UINT32_MAX : UINT32_MAX - (uint32_t)(len - 1 - i);
+    size = sizes[packer](version, kind, values, len, &position);
+    EXPECT(size > 0 && (size_t)size <= room, 1);
+    EXPECT(packs[packer](version, kind, values, len, bytes, room, &position), fills ? (ptrdiff_t)room : size);
+    EXPECT(bitpacking_list_open(bytes, (size_t)size, &list), 0);
+    EXPECT(bitpacking_list_len(&list), (ptrdiff_t)len);
+    EXPECT(bitpacking_list_kind(&list), kind);
+    return size;
+}
+
+/* Lengths at which blocks and groups begin and end, and numbers get longer. By hand: of version 3 and four lanes, 16,511 plain values of 32 bits
+   have a header of 1 + 3 bytes, 128 entries of 9 and bodies of 512, and 127 values of 4 bytes in 4 groups with a byte each. */
+static void rooms(int packer)
+{
+    static const size_t lens[] = {0,   1,   14,  15,  31,  32,  33,   63,   64,   65,    127,   128,   129,
+                                  255, 256, 257, 383, 511, 512, 1023, 1024, 8191, 16383, 16384, 16511, MOST};
+    uint8_t version, kind;
+    size_t i;
+
+    for (version = BITPACKING_LIST_VERSION_2; version <= BITPACKING_LIST_VERSION_3; version++)
+        for (kind = BITPACKING_PLAIN; kind <= BITPACKING_STRICTLY_SORTED; kind++)
+            for (i = 0; i < sizeof lens / sizeof *lens; i++)
+                fits(packer, version, kind, lens[i]);
+    if (lanes[packer] == 4)
+        EXPECT(fits(packer, BITPACKING_LIST_VERSION_3, BITPACKING_PLAIN, 16511), 67204);
+}
+
+/* Each error of the header has its sentence, and no other number has one of these. */
+static void texts(void)
+{
+    static const struct {
+        ptrdiff_t number;
+        const char *text;
+    } errors[] = {
+        {BITPACKING_BAD_LENGTH, "The number of values is wrong, or there is no room for them."},
+        {BITPACKING_BAD_WIDTH, "A width is above 32."},
+        {BITPACKING_SHORT, "The buffer is too short."},
+        {BITPACKING_UNFIT, "A value does not fit the width."},
+        {BITPACKING_LIST_SHORT, "Bytes of the list are missing."},
+        {BITPACKING_LIST_BAD_VERSION, "The version of the list is not supported."},
+        {BITPACKING_LIST_BAD_KIND, "The kind of the list is wrong."},
+        {BITPACKING_LIST_WRONG_LANES, "The list is of another packer."},
+        {BITPACKING_LIST_TOO_LONG, "A list has at most 268435456 values."},
+        {BITPACKING_LIST_BAD_WIDTH, "A width in the list is above 32."},
+        {BITPACKING_LIST_LOOSE_WIDTH, "A width in the list is not the least of its block."},
+        {BITPACKING_LIST_BAD_OFFSET, "An offset in the list is not the sum of the widths before it."},
+        {BITPACKING_LIST_BAD_LAST, "A last value in the list is not the one of its block."},
+        {BITPACKING_LIST_NOT_SORTED, "The values are not in order."},
+        {BITPACKING_LIST_TRAILING, "Bytes are left over after the list."},
+        {BITPACKING_LIST_BAD_NUMBER, "A number in the list does not have its only form."},
+        {BITPACKING_LIST_PADDING, "A bit after the codes of a group is set."}};
+    enum { COUNT = sizeof errors / sizeof *errors };
+    ptrdiff_t number;
+    size_t others = 0, i;
+
+    for (i = 0; i < COUNT; i++)
+        EXPECT(strcmp(bitpacking_error_text(errors[i].number), errors[i].text), 0);
+    for (number = -100; number <= 100; number++)
+        others += strcmp(bitpacking_error_text(number), "No error has this number.") == 0;
+    EXPECT((ptrdiff_t)others, 201 - COUNT);
+}
+
+int main(void)
+{
+    int packer;
+
+    for (packer = 0; packer < 3; packer++) {
+        worked(packer, 0, 7, 3);
+        worked(packer, 1, 3, 3);
+        worked(packer, 2, 3, 7);
+        errors(packer);
+        empty(packer);
+        rooms(packer);
+    }
+    texts();
+    return failed;
+}

@@ -1,0 +1,400 @@
+#!/usr/bin/env python3
+"""Builds the search engine of examples/search/ in Rust and in C, with warnings as errors, and tries both on the same files: their indexes
+have to be the same bytes, and their answers the same text. The answers on examples/search/corpus/ are compared with `grep`, others with
+numbers worked by hand. Last it searches in a thousand damaged indexes, in C with the address sanitizer where the compiler has it.
+It takes the archives that scripts/build/archives.py wrote, which is called where they are not there. The last line is 'N passed, M failed'.
+"""
+import os
+import random
+import re
+import struct
+import subprocess
+import sys
+import tempfile
+
+sys.path.insert(1, f"{sys.path[0]}/..")
+from common import ROOT, leave_out, report, run
+import archives
+import c
+import rust
+
+FOLDER = "examples/search"
+CORPUS = f"{ROOT}/{FOLDER}/corpus"
+SOURCES = [f"{ROOT}/{FOLDER}/{name}.c" for name in ("search", "index")]
+# The status of a program that the sanitizer ends.
+STOPPED = 99
+ENVIRONMENT = dict(os.environ, ASAN_OPTIONS=f"detect_leaks=0:exitcode={STOPPED}", UBSAN_OPTIONS=f"exitcode={STOPPED}", LC_ALL="C")
+# Seconds for one search, which takes far below one.
+PATIENCE = 30
+DAMAGES = 1000
+PLAIN, STRICTLY_SORTED = 0, 2  # kinds of lists
+
+# Queries, and what they mean by the sets of documents in which grep finds a word.
+QUERIES = {
+    "water": lambda has: has("water"),
+    "WARM water": lambda has: has("water") & has("warm"),
+    "water -warm": lambda has: has("water") - has("warm"),
+    "oven|clock": lambda has: has("oven") | has("clock"),
+    "warm (oven | hive) -bread": lambda has: (has("warm") & (has("oven") | has("hive"))) - has("bread"),
+    "warm oven | winter -bees": lambda has: (has("warm") & has("oven")) | (has("winter") - has("bees")),
+    "water - (warm | cold) -(sea moon)": lambda has: has("water") - (has("warm") | has("cold")) - (has("sea") & has("moon")),
+    "mo*": lambda has: has("mo[a-z0-9]*"),
+    "mo* -moon* night": lambda has: (has("mo[a-z0-9]*") & has("night")) - has("moon[a-z0-9]*"),
+    "t* water | 2*": lambda has: (has("t[a-z0-9]*") & has("water")) | has("2[a-z0-9]*"),
+    "caf": lambda has: has("caf"),
+    "((water))": lambda has: has("water"),
+    "water zebra": lambda has: set(),
+    "zebra | water -zeb*": lambda has: has("water"),
+    "zebra": lambda has: set(),
+}
+# A thousand paragraphs: each has its number, and one word more for each of these that divides the number.
+NUMBERS = {"even": 2, "fizz": 3, "buzz": 5}
+# How many of them answer a query, by hand: 1000/2 = 500, 333, 200, and 33 multiples of 30; 333 + 200 - 66; 500 - 166; 467 - 233. With 1
+# begin 1, 10 to 19, 100 to 199 and 1000, and with 10 begin 10, 100 to 109 and 1000.
+COUNTS = {
+    "number": 1000,
+    "n*": 1000,
+    "n1*": 112,
+    "n1* -n10*": 100,
+    "fizz buzz even": 33,
+    "fizz | buzz": 467,
+    "even -fizz": 334,
+    "(fizz | buzz) -even": 234,
+    "n7 even": 0,
+}
+# What is read for a query, and how many answer it, by hand. A list of 1000 values has 8 blocks, and an AND with one value reads 3 of them.
+# With 3 begin 3, 30 to 39 and 300 to 399, whose 111 lists are united by sixteen; of these numbers 1 + 4 + 34 are multiples of 3.
+BEGIN_WITH_3 = [f"n{k}: 1 documents in 1 blocks" for k in sorted(map(str, [3, *range(30, 40), *range(300, 400)]))]
+UNITED = [f"unite of {count} lists: at most 1 blocks of each unpacked" for count in [16] * 6 + [15, 7]]
+TWO = "of 2 lists: at most 3 blocks of each unpacked"
+EXPLAINED = {
+    "number n30": (["number: 1000 documents in 8 blocks", "n30: 1 documents in 1 blocks", f"intersect {TWO}"], 1),
+    "fizz -n3*": (["fizz: 333 documents in 3 blocks", *BEGIN_WITH_3, *UNITED, f"subtract {TWO}"], 333 - 39),
+}
+# Files, and the names that their documents get, in the order of their bytes. None is there for a file that is left out.
+FILES = {
+    "b-x": (b"word at the end", "b-x:1  word at the end"),
+    "b/mark": (b"\r\n  First line\r\nword\r\n", "b/mark:2  First line"),
+    "binary": (b"word" + b" " * 9000 + b"\0", None),
+    "empty": (b"", None),
+    "escape": (b"word \x1b[31m\x7f", "escape:1  word ?[31m?"),
+    "long": (b"word " + b"x" * 64 + b" " + b"y" * 65, "long:1  word " + "x" * 64 + " " + "y" * 30),
+    "signs": (b"--- !\n", None),
+    "utf8": (b"x" * 98 + b" \xC3\xA9 word", "utf8:1  " + "x" * 98 + " "),
+}
+# Two documents of two and three words, and their scores for `b` and `a`: with 2.5 words on average, those of the first are
+# ln(1 + 1.5/1.5) * 2.2 / (1 + 1.2 * (0.25 + 0.75 * 2/2.5)) = 0.693 * 1.089, and ln(1 + 0.5/2.5) * 1.089 = 0.182 * 1.089. The second
+# has `a` three times: 0.182 * 3 * 2.2 / (3 + 1.2 * (0.25 + 0.75 * 3/2.5)) = 0.182 * 1.507.
+SCORED = {"1": b"a b", "2": b"a, a; A!"}
+SCORES = {
+    "b": "1 of 2 documents\n  0.755  F/1:1  a b\n",
+    "a": "2 of 2 documents\n  0.275  F/2:1  a, a; A!\n  0.199  F/1:1  a b\n",
+    # The first document has b, which comes after a minus, and so does not count.
+    "a -(b c)": "2 of 2 documents\n  0.275  F/2:1  a, a; A!\n  0.199  F/1:1  a b\n",
+}
+# Queries that are refused, after which part of them, and why.
+NO_TERM = "a word is missing, or a space after it"
+NO_WORD = "a word is missing, or one without a minus"
+REFUSED = {
+    "a (b": ("a (b", "a bracket is not closed"),
+    "a)": ("a", "no bracket is open"),
+    "": ("", NO_WORD),
+    "a |": ("a |", NO_WORD),
+    "a ()": ("a (", NO_WORD),
+    "a | -b": ("a | -b", NO_WORD),
+    "a 'b'": ("a ", NO_TERM),
+    "*": ("*", NO_TERM),
+    "a-b": ("a", NO_TERM),
+    "na\u00EFve": ("na", NO_TERM),
+    "a* caf\u00E9 (": ("a* caf", NO_TERM),
+}
+LONGEST_QUERY = 1000
+
+
+class Programs:
+    """The programs, by their names, and what they print."""
+
+    def __init__(self, folder):
+        self.folder, self.paths, self.faults = folder, {}, []
+        sanitizers = c.has_sanitizers()
+        if not sanitizers:
+            leave_out("damaged indexes under the address sanitizer", "which cc does not have here")
+        for name, flags in [("c", [])] + [("sanitized", c.SANITIZED)] * sanitizers:
+            self.paths[name] = f"{folder}/{name}/search"
+            os.mkdir(f"{folder}/{name}")
+            command = [*c.C99, "-O1", *flags, *SOURCES, f"{archives.OUT}/{archives.ALL}", "-lm", "-o", self.paths[name]]
+            self.add("the program in C", run(*command))
+        self.add("the program in Rust", rust.cargo("build", "--release", package=f"{FOLDER}/rust"))
+        self.paths["rust"] = f"{archives.OUT}/target/release/search"
+
+    def add(self, name, built):
+        self.faults.append((name, None if built.returncode == 0 else f"{built.stdout[-2000:]} {(built.stderr or '')[-2000:]}"))
+
+    def run(self, name, *arguments):
+        """The status of a program, what it prints, and its messages."""
+        command, given = [self.paths[name], *arguments], {"stderr": subprocess.PIPE, "env": ENVIRONMENT, "timeout": PATIENCE}
+        done = run(*command, folder=self.folder, **given)
+        return done.returncode, done.stdout, done.stderr
+
+    def same(self, *arguments):
+        """What all of the programs answer, and what is wrong if they differ. In the messages the system's own differ."""
+        answers = {name: self.run(name, *arguments) for name in self.paths}
+        status, text, messages = answers["c"]
+        differ = [name for name, answer in answers.items() if answer[:2] != (status, text)]
+        return status, text, messages, f"{differ} answers otherwise than c: {answers}" if differ else None
+
+    def index(self, *arguments):
+        """Writes an index with each of the programs. Returns its name, and what is wrong if the bytes differ or a program says more."""
+        written = {}
+        for name in self.paths:
+            status, _, messages = self.run(name, "index", *arguments, f"index.{name}")
+            if status != 0 or messages:
+                return None, f"{name} ends with {status}, and says {messages}"
+            with open(f"{self.folder}/index.{name}", "rb") as file:
+                written[name] = file.read()
+        return "index.c", None if len(set(written.values())) == 1 else "the programs write other bytes"
+
+
+def write(folder, files):
+    for path, text in files.items():
+        os.makedirs(os.path.dirname(f"{folder}/{path}"), exist_ok=True)
+        with open(f"{folder}/{path}", "wb") as file:
+            file.write(text)
+
+
+def paragraphs_of_corpus():
+    """The paragraphs of the corpus, by their paths and lines."""
+    found = {}
+    for parent, _, names in os.walk(CORPUS):
+        for name in names:
+            path = os.path.relpath(f"{parent}/{name}", CORPUS)
+            with open(f"{CORPUS}/{path}", "rb") as file:
+                lines = file.read().split(b"\n")
+            begins = [k for k, line in enumerate(lines) if line.strip() and (k == 0 or not lines[k - 1].strip())]
+            for begin, end in zip(begins, begins[1:] + [len(lines)]):
+                found[f"{path}:{begin + 1}"] = b"\n".join(lines[begin:end])
+    return found
+
+
+def names(text):
+    return set(re.findall(r"^ *[\d.]+  [^/]+/(\S+:\d+)  ", text, re.M))
+
+
+def against_grep(programs):
+    """The answers on the corpus, in which a document is a file and then a paragraph."""
+    folder = programs.folder
+    os.symlink(CORPUS, f"{folder}/corpus")
+    write(f"{folder}/split", paragraphs_of_corpus())
+    for option, searched in ((), "corpus/"), (("--paragraphs",), "split"):
+        index, wrong = programs.index(*option, "corpus/")
+        yield f"an index of {searched}", wrong
+
+        def has(word, searched=searched):
+            found = run("grep", "-rliwE", word, searched, folder=folder, env=ENVIRONMENT).stdout.split()
+            paths = {path.partition("/")[2] for path in found}
+            return paths if searched == "split" else {f"{path}:1" for path in paths}
+
+        for query, meaning in QUERIES.items():
+            status, text, messages, wrong = programs.same("find", "--best", "999", index, query)
+            wanted = meaning(has)
+            if names(text) != wanted or status != (0 if wanted else 1) or messages:
+                wrong = wrong or f"wanted {sorted(wanted)}, and got {status} {text} {messages}"
+            yield f"{query} in {searched}", wrong
+
+
+def by_hand(programs):
+    """Answers that were worked by hand."""
+    text = "\n\n".join(f"number n{k}" + "".join(f" {word}" for word, by in NUMBERS.items() if k % by == 0) for k in range(1, 1001))
+    write(f"{programs.folder}/numbers", {"numbers.txt": text.encode()})
+    index, wrong = programs.index("--paragraphs", "numbers")
+    yield "an index of numbers", wrong
+    for query, count in COUNTS.items():
+        status, text, _, wrong = programs.same("find", "--count", index, query)
+        right = (status, text) == (0 if count else 1, f"{count} of 1000 documents\n")
+        yield f"how many have {query}", wrong or (None if right else f"printed {text}")
+    for query, (explained, count) in EXPLAINED.items():
+        for name in programs.paths:
+            answer = programs.run(name, "find", "--count", "--explain", index, query)
+            right = answer == (0, f"{count} of 1000 documents\n", "\n".join([*explained, ""]))
+            yield f"{query} explained in {name}", None if right else f"answered {answer}"
+
+    write(f"{programs.folder}/F", SCORED)
+    index, wrong = programs.index("F/")
+    yield "an index of two files", wrong
+    for query, wanted in SCORES.items():
+        _, text, _, wrong = programs.same("find", index, query)
+        yield f"the scores for {query}", wrong or (None if text == wanted else f"printed {text}")
+
+    write(f"{programs.folder}/files", {path: text for path, (text, _) in FILES.items()})
+    index, wrong = programs.index("files")
+    yield "an index of files", wrong
+    _, text, _, wrong = programs.same("find", index, "word")
+    found = sorted(re.findall(r"^ *[\d.]+  files/(.*)$", text, re.M))
+    wanted = sorted(name for _, name in FILES.values() if name)
+    yield "the names of documents", wrong or (None if found == wanted else f"printed {text}")
+    yield "a word of 64 letters and one of 65", programs.same("find", "--count", index, "x* -y*")[3]
+
+
+def on_terminal(programs):
+    """What a terminal shows while an index is made: last, that the eight files were read."""
+    try:
+        ours, theirs = os.openpty()
+    except OSError as error:
+        leave_out("the line of progress", f"since there is no terminal: {error}")
+        return
+    for name, path in programs.paths.items():
+        run(path, "index", "files", "shown", folder=programs.folder, env=ENVIRONMENT, stderr=theirs)
+        shown = os.read(ours, 1000)
+        yield f"the line of progress in {name}", None if shown.endswith(b"\r8 files\r\n") else f"the terminal shows {shown}"
+    os.close(ours)
+    os.close(theirs)
+
+
+def refusals(programs):
+    """Calls that are refused: with a message, and with nothing printed or left over."""
+    index, _ = programs.index("files")
+    messages = {query: f"the query, after '{read}': {why}" for query, (read, why) in REFUSED.items()}
+    messages["(" * (LONGEST_QUERY + 1)] = "the query is too long"
+    messages["(" * LONGEST_QUERY] = f"the query, after '{'(' * LONGEST_QUERY}': {NO_WORD}"
+    for query, message in messages.items():
+        for name in programs.paths:
+            answer, wanted = programs.run(name, "find", index, query), (2, "", f"search: {index}: {message}\n")
+            yield f"the query {query[:20]} in {name}", None if answer == wanted else f"answered {answer}"
+    options = [["--all"], ["--best", "x"], ["--best", "-1"], ["--best", "1000"]]
+    usages = [[], ["seek", index, "a"], ["index", "files"], *(["find", *option, index, "a"] for option in options)]
+    calls = {f"the arguments {arguments}": (arguments, "search --help says what is wanted") for arguments in usages}
+    calls |= {
+        "no folder": (["index", "nowhere", "new"], "nowhere: No such file or directory"),
+        "no place for the index": (["index", "files", "nowhere/new"], "nowhere/new: No such file or directory"),
+        "a folder in the place of the index": (["index", "files", "split"], "split: Is a directory"),
+        "no index": (["find", "nowhere", "a"], "nowhere: No such file or directory"),
+        "text for an index": (["find", "files/b-x", "a"], "files/b-x: this is no index: it does not begin with 'search1'"),
+    }
+    before = sorted(os.listdir(programs.folder))
+    for what, (arguments, message) in calls.items():
+        for name in programs.paths:
+            status, text, messages = programs.run(name, *arguments)
+            right = (status, text) == (2, "") and message in messages and sorted(os.listdir(programs.folder)) == before
+            yield f"{what} in {name}", None if right else f"answered {status} {text} {messages}"
+    for name in programs.paths:
+        status, text, messages = programs.run(name, "--help")
+        yield f"--help in {name}", None if status == 0 and text.startswith("A small search engine") else f"{status} {messages}"
+
+
+def packed(kind, values):
+    """A list of version 3 of fewer than 15 values, of which the first is below 128, as docs/FORMAT.md has it."""
+    codes = [value - before - 1 for before, value in zip(values, values[1:])] if kind == STRICTLY_SORTED else values[1:]
+    width = max(codes, default=0).bit_length()
+    group = sum(code << width * k for k, code in enumerate(codes)).to_bytes((width * len(codes) + 7) // 8, "little")
+    return bytes([2 * 64 + 16 * kind + len(values), *values[:1]]) + (bytes([width]) + group if codes else b"")
+
+
+def assembled(items):
+    """An index of these items, which are fewer than 14."""
+    bounds = [8 + sum(map(len, items[:k])) for k in range(len(items) + 1)]
+    return b"search1\0" + b"".join(items) + packed(STRICTLY_SORTED, bounds) + struct.pack("<I", bounds[-1])
+
+
+# The index of SCORED, by hand: two names, two words, for each word in which documents it is and how often, and the lengths.
+ITEMS = [b"F/1:1  a b", b"F/2:1  a, a; A!", b"a\0", b"b\0"]
+ITEMS += [packed(STRICTLY_SORTED, [0, 1]), packed(PLAIN, [1, 3]), packed(STRICTLY_SORTED, [0]), packed(PLAIN, [1]), packed(PLAIN, [2, 3])]
+
+
+def forged():
+    """Indexes that say what can't be, each with what is wrong."""
+    changes = [
+        ("a word has more or fewer counts than documents", {5: packed(PLAIN, [1])}),
+        ("a list of a: wrong kind", {5: packed(STRICTLY_SORTED, [1, 3])}),
+        ("a list of b: wrong kind", {6: packed(PLAIN, [0])}),
+        ("'b' is in no document, or in one that is not there", {6: packed(STRICTLY_SORTED, [2])}),
+        ("'b' is in no document, or in one that is not there", {6: packed(STRICTLY_SORTED, [])}),
+        ("a list of b: ", {7: b"?"}),
+        ("a list of lengths: wrong kind", {8: packed(STRICTLY_SORTED, [2, 3])}),
+        ("the number of items is wrong", {8: packed(PLAIN, [5])}),
+        ("the number of items is wrong", {8: packed(PLAIN, [0] * 11)}),
+    ]
+    words = [{2: b"b\0", 3: b"a\0"}, {3: b"a\0"}, {3: b"b-\0"}, {3: b"b\0c\0"}, {3: b"bc"}]
+    changes += [("word 1 has a wrong sign, or is not in order", changed) for changed in words]
+    for what, changed in changes:
+        yield what, assembled([changed.get(place, item) for place, item in enumerate(ITEMS)])
+    whole, start = assembled(ITEMS), 8 + sum(map(len, ITEMS))
+    yield "it is cut", whole[:-4] + struct.pack("<I", len(whole) - 3)
+    yield "a list of bounds: ", whole[:-5] + whole[-4:]
+    for bounds in [9, start], [8, start - 1], [8]:
+        yield "the bounds are of other items", whole[:start] + packed(STRICTLY_SORTED, bounds) + whole[-4:]
+
+
+def forgeries(programs):
+    """Searches in forged indexes. One that is assembled and not forged is the index itself."""
+    programs.index("F/")
+    with open(f"{programs.folder}/index.c", "rb") as file:
+        yield "an index by hand", None if assembled(ITEMS) == file.read() else "it is another than the programs write"
+    for what, text in forged():
+        write(programs.folder, {"damaged": text})
+        for name in programs.paths:
+            status, printed, messages = programs.run(name, "find", "damaged", "a b")
+            right = (status, printed) == (2, "") and messages.startswith(f"search: damaged: the index is damaged: {what}")
+            yield f"{what} in {name}", None if right else f"answered {status} {printed} {messages}"
+
+
+def damaged(number, whole):
+    """A file that is cut, or has other bytes at its ends, in its bounds or anywhere; and whether it has to be refused."""
+    chance, start = random.Random(number), struct.unpack("<I", whole[-4:])[0]
+    if number % 4 == 0:
+        return whole[: chance.randrange(len(whole))], True
+    every = range(len(whole))
+    places = {1: [*every[:8], *every[-4:]], 2: every[start:-4], 3: every}[number % 4]
+    changed = bytearray(whole)
+    for _ in range(chance.randrange(1, 5)):
+        changed[chance.choice(places)] = chance.choice([0, 1, 127, 128, 255, chance.randrange(256)])
+    return bytes(changed), number % 4 == 1 and changed != whole
+
+
+def fault_of_damaged(programs, must_fail, query):
+    """What is wrong with the answers from a damaged file, or None. The programs answer alike, and where they refuse it they name it."""
+    status, text, messages, wrong = programs.same("find", "--best", "3", "damaged", query)
+    if wrong or status not in (0, 1, 2):
+        return wrong or f"answered {status} {text} {messages}"
+    if must_fail and status != 2:
+        return f"it is not refused: {text}"
+    return f"said {messages}" if status == 2 and not messages.startswith("search: damaged: ") else None
+
+
+def damages(programs):
+    """Searches in damaged indexes, by queries that read all lists of the index."""
+    refused = 0
+    every = " | ".join(f"{sign}*" for sign in "0123456789abcdefghijklmnopqrstuvwxyz")
+    for first, arguments in (0, ("corpus",)), (DAMAGES // 2, ("--paragraphs", "numbers")):
+        index, _ = programs.index(*arguments)
+        with open(f"{programs.folder}/{index}", "rb") as file:
+            whole = file.read()
+        for number in range(first, first + DAMAGES // 2):
+            text, must_fail = damaged(number, whole)
+            with open(f"{programs.folder}/damaged", "wb") as file:
+                file.write(text)
+            try:
+                wrong = fault_of_damaged(programs, must_fail, every)
+            except subprocess.TimeoutExpired:
+                wrong = "it does not end"
+            if wrong:
+                yield f"the damaged index {number}", wrong
+            refused += must_fail
+    yield f"{DAMAGES} damaged indexes", None if refused > DAMAGES // 4 else "too few of them had to be refused"
+
+
+def checks():
+    with tempfile.TemporaryDirectory(prefix="search-") as folder:
+        programs = Programs(folder)
+        yield from programs.faults
+        if all(why is None for _, why in programs.faults):
+            for part in against_grep, by_hand, on_terminal, refusals, forgeries, damages:
+                yield from part(programs)
+
+
+def main():
+    status = archives.status_without("the search engine", "cc", "cargo")
+    return report(checks()) if status is None else status
+
+
+if __name__ == "__main__":
+    sys.exit(main())

@@ -1,0 +1,394 @@
+#!/usr/bin/env python3
+"""Runs the vectors of vectors/ over the decoders that docs/FORMAT.md shows, wrong implementations, and the program.
+
+docs/VECTORS.md says where the vectors come from. `vectors.py PROGRAM ..` runs them over another program of the same line language,
+in place of ./bitpack. Each program has to fail if one of its answers is changed, and no check may find a mistake in the decoders themselves.
+The last line is 'N passed, M failed', which counts the readers of the vectors.
+"""
+
+import csv
+import functools
+import hashlib
+import itertools
+import multiprocessing
+import os
+import re
+import subprocess
+import sys
+
+sys.path.insert(1, f"{sys.path[0]}/..")
+from common import ROOT, report, run, source
+
+KINDS = ["plain", "sorted", "strict"]
+PACKERS = {"1": ["1x"], "4": ["4x", "4s"], "8": ["8x", "8s"]}  # by lanes
+
+
+@functools.cache
+def table(name):
+    """The lines of a table, as dictionaries by the names in its head."""
+    with open(f"{ROOT}/vectors/{name}", encoding="ascii", newline="") as file:
+        return list(csv.DictReader(file, delimiter="\t"))
+
+
+def numbers(text):
+    return [] if text == "-" else [int(value) for value in text.split(",")]
+
+
+def octets(text):
+    return b"" if text == "-" else bytes.fromhex(text)
+
+
+def model():
+    """An implementation in Python: the fenced `python` blocks of docs/FORMAT.md, and what vectors/model.py and line_model.py add to them."""
+    shown = re.findall(r"^```python\n(.*?)^```$", source("docs/FORMAT.md"), re.M | re.S)
+    return "\n".join([*shown, source("vectors/model.py"), source("vectors/line_model.py")])
+
+
+def names_of(text):
+    names = {}
+    exec(text, names)
+    return names
+
+
+def answer_of(call, *given):
+    """What a call returns, or the fault that it raises, as refused.tsv spells it."""
+    try:
+        return call(*given)
+    except ValueError as refusal:
+        name, *details = refusal.args
+        return f"{name}({', '.join(map(str, details))})" if details else str(name)
+
+
+def block_checks(names):
+    """What the implementation finds beside what is right, with the name of the vector."""
+    for row in table("refused_blocks.tsv"):
+        call, read = names[row["call"]], numbers if row["call"] == "pack" else octets
+        lanes, kind, width = int(row["packer"][0]), KINDS.index(row["kind"]), int(row["width"])
+        found = answer_of(call, lanes, kind, names["start_of"](kind, row["initial"]), width, read(row["given"]))
+        yield f"refused {row['call']} {row['packer']} {width}", found, row["number"]
+    for row in [*table("loose.tsv"), *table("single.tsv"), *table("blocks.tsv")]:
+        lanes, kind, width = int(row["packer"][0]), KINDS.index(row["kind"]), int(row["width"])
+        start, values, body = names["start_of"](kind, row["initial"]), numbers(row["values"]), octets(row["bytes"])
+        name = f"block {row['packer']} {row['kind']} {row['initial']} {row['width']}"
+        yield f"{name}, least width", names["width_of"](names["codes_of"](kind, start, values)), int(row.get("least", width))
+        yield f"{name}, body", answer_of(names["pack"], lanes, kind, start, width, values), body
+        yield f"{name}, values", answer_of(names["unpack"], lanes, kind, start, width, body), values
+
+
+def list_checks(names):
+    for version, decode in [("", names["decode"]), ("2", names["decode2"])]:
+        for row in table(f"refused{version}.tsv"):
+            found = answer_of(decode, int(row["lanes"]), octets(row["bytes"]))
+            yield f"refused{version} {row['bytes'][:80]}", found, row["fault"]
+        for row in table(f"lists{version}.tsv"):
+            lanes, kind = int(row["lanes"]), KINDS.index(row["kind"])
+            values, text = numbers(row["values"]), octets(row["bytes"])
+            yield f"list{version} {row['bytes'][:80]}", answer_of(decode, lanes, text), (kind, values)
+            encode = names[f"encode{version}"]
+            yield f"text{version} {row['bytes'][:80]}", answer_of(encode, lanes, kind, values), text
+
+
+def short_list_checks(names):
+    """Lists of version 3. Each reader refuses the texts of the other versions."""
+    decoders = {"": names["decode"], "2": names["decode2"], "3": names["decode3"]}
+    for row in table("refused3.tsv"):
+        found = answer_of(decoders["3"], int(row["lanes"]), octets(row["bytes"]))
+        yield f"refused3 {row['bytes'][:80]}", found, row["fault"]
+    for row in table("lists3.tsv"):
+        lanes, kind = int(row["lanes"]), KINDS.index(row["kind"])
+        values, text = numbers(row["values"]), octets(row["bytes"])
+        yield f"list3 {row['bytes'][:80]}", answer_of(decoders["3"], lanes, text), (kind, values)
+        yield f"text3 {row['bytes'][:80]}", answer_of(names["encode3"], lanes, kind, values), text
+        for version in ["", "2"]:
+            right = f"BadVersion({text[0]})" if len(text) >= 7 else "Short"
+            yield f"list3 {row['bytes'][:80]} as version {version or 1}", answer_of(decoders[version], lanes, text), right
+    for version in ["", "2"]:
+        for row in table(f"lists{version}.tsv"):
+            found = answer_of(decoders["3"], int(row["lanes"]), octets(row["bytes"]))
+            yield f"list{version} {row['bytes'][:80]} as version 3", found, f"BadVersion({version or 1})"
+
+
+def upgrade_checks(names):
+    for name in ["upgrade", "upgrade3"]:
+        for row in table(f"{name}.tsv"):
+            right = octets(row["upgraded"]) if row["fault"] == "-" else row["fault"]
+            yield f"{name} {row['bytes'][:80]}", answer_of(names[name], int(row["lanes"]), octets(row["bytes"])), right
+    for row in table("refused.tsv"):
+        yield f"upgrade {row['bytes'][:80]}", answer_of(names["upgrade"], int(row["lanes"]), octets(row["bytes"])), row["fault"]
+
+
+def encoder_checks(names):
+    for row in table("refused_values.tsv"):
+        lanes, kind, values = int(row["lanes"]), KINDS.index(row["kind"]), numbers(row["values"])
+        found = answer_of(names[f"encode{row['version']}"], lanes, kind, values)
+        yield f"refused values {row['version']} {row['kind']} {lanes} {row['values'][:80]}", found, f"NotSorted({row['position']})"
+
+
+def of_both(version, text):
+    """Whether a reader of versions 2 and 3 reads a text by the table of this version."""
+    return (octets(text) >= b"\x40") == (version == "3")
+
+
+def seek_checks(names):
+    """Searches, by a reader of versions 2 and 3."""
+    for row in [*table("seek.tsv"), *table("seek3.tsv")]:
+        values = answer_of(names["opened"], int(row["lanes"]), octets(row["bytes"]))
+        yield f"seek {row['bytes'][:80]}", isinstance(values, list), True
+        for target, right in zip(numbers(row["targets"]), row["found"].split(",")):
+            found = answer_of(names["seek"], int(row["lanes"]), values, target)
+            yield f"seek {target} {row['bytes'][:80]}", ":".join(map(str, found)) if found else "none", right
+    for version in ["2", "3"]:
+        for row in table(f"lists{version}.tsv"):
+            if row["kind"] == "plain":
+                yield f"seek {row['bytes'][:80]}", answer_of(names["opened"], int(row["lanes"]), octets(row["bytes"])), "BadKind(0)"
+        for row in table(f"refused{version}.tsv"):
+            if of_both(version, row["bytes"]):
+                yield f"seek {row['bytes'][:80]}", answer_of(names["opened"], int(row["lanes"]), octets(row["bytes"])), row["fault"]
+
+
+def set_checks(names):
+    for name, column, call, plain in [
+        ("intersect", "shared", lambda one, other: names["intersect"](*one, *other), set.intersection),
+        ("union", "united", lambda one, other: names["unite"](one[1], other[1]), set.union),
+        ("difference", "left", lambda one, other: names["subtract"](one[1], other[1]), set.difference),
+    ]:
+        for row in table(f"{name}.tsv"):
+            one, other = ((int(row[f"{which}lanes"]), octets(row[f"{which}bytes"])) for which in ["", "other_"])
+            one, other = ((lanes, answer_of(names["opened"], lanes, text)) for lanes, text in [one, other])
+            which, right = f"{name} {row['bytes'][:60]} {row['other_bytes'][:60]}", numbers(row[column])
+            yield which, answer_of(call, one, other), right
+            if name != "difference":
+                yield f"{which}, exchanged", answer_of(call, other, one), right
+            yield f"{which}, as sets", sorted(plain(set(one[1]), set(other[1]))), right
+
+
+def query_checks(names):
+    return itertools.chain(upgrade_checks(names), encoder_checks(names), seek_checks(names))
+
+
+def drawn(count):
+    """The numbers x(1), x(2) and so on of docs/VECTORS.md."""
+    x, found = 1, []
+    for _ in range(count):
+        x = (1664525 * x + 1013904223) % 2**32
+        found.append(x)
+    return found
+
+
+def long_list_checks(names):
+    """Lists whose values are those of the rule of docs/VECTORS.md, and whose texts are known by their digest."""
+    read = []
+    for row in table("digests.tsv"):
+        lanes, kind, bits, version = int(row["lanes"]), KINDS.index(row["kind"]), int(row["bits"]), row["version"].strip("1")
+        codes = [x >> 32 - bits for x in drawn(int(row["count"]))]
+        values = names["block_values"](kind, [0, 0, 2**32 - 1][kind], codes)
+        name, text = f"{row['count']} {row['kind']} values, version {row['version']}", names[f"encode{version}"](lanes, kind, values)
+        yield f"{name}, length", len(text), int(row["length"])
+        yield f"{name}, digest", hashlib.sha256(text).hexdigest(), row["sha256"]
+        read.append((name, names[f"decode{version}"], lanes, text, (kind, values)))
+    for name, decode, lanes, text, right in read:
+        yield f"{name}, read", answer_of(decode, lanes, text), right
+
+
+def spelled(field):
+    """A field of lines.tsv: `{ab*3}` is `ababab`, and `\\r` and `\\t` are a carriage return and a tab."""
+    long = re.sub(r"\{([^*{}]+)\*(\d+)\}", lambda part: part[1] * int(part[2]), field)
+    return long.replace("\\r", "\r").replace("\\t", "\t")
+
+
+def lines_by_hand():
+    for row in table("lines.tsv"):
+        yield spelled(row["line"]), spelled(row["answer"])
+
+
+def line_checks(names):
+    for line, right in lines_by_hand():
+        yield line, names["answer"](line), right
+
+
+CHECKS = {
+    "blocks": block_checks,
+    "lists": list_checks,
+    "short_lists": short_list_checks,
+    "queries": query_checks,
+    "sets": set_checks,
+    "lines": line_checks,
+    "long_lists": long_list_checks,
+}
+
+
+def rule_checks(names):
+    """The codes of the blocks are those of the rule of docs/VECTORS.md."""
+    for row in table("blocks.tsv"):
+        lanes, width = int(row["packer"][0]), int(row["width"])
+        found, right = names["block_codes"](lanes, width, octets(row["bytes"])), [x >> 32 - width for x in drawn(32 * lanes)]
+        yield f"the codes of block {row['packer']} {row['kind']} {row['width']}", found, right
+
+
+def by_parquet(width, values):
+    """Values as Parquet packs them in a bit-packed run: the bits of each from the lowest on, from the lowest bit of each byte on."""
+    bits = [value >> j & 1 for value in values for j in range(width)]
+    return bytes(sum(bit << j for j, bit in enumerate(bits[at : at + 8])) for at in range(0, len(bits), 8))
+
+
+def parquet_checks(names):
+    """Plain blocks of one lane are what Parquet packs. The first bytes are the example of its specification."""
+    yield "0 to 7 by Parquet", by_parquet(3, range(8)), bytes.fromhex("88c6fa")
+    for row in table("blocks.tsv"):
+        if (row["packer"], row["kind"]) == ("1x", "plain"):
+            width, values = int(row["width"]), numbers(row["values"])
+            yield f"block 1x {width} by Parquet", by_parquet(width, values), octets(row["bytes"])
+            yield f"block 1x {width} by the page", names["body_of"](1, width, values), by_parquet(width, values)
+
+
+def caught(text, kind):
+    """Whether some vector of a kind fails with this implementation, or ends it."""
+    names = names_of(text)
+    try:
+        return any(found != right for _, found, right in CHECKS[kind](names))
+    except (IndexError, ValueError, OverflowError):
+        return True
+
+
+def mistakes(kind):
+    """The mistakes of a file of vectors/mistakes/: the name of each, the lines that it changes, and those in their place."""
+    for part in source(f"vectors/mistakes/{kind}.txt").rstrip("\n").split("\n\n")[1:]:
+        name, *changes = part.split("\n")
+        old, new = ("".join(f"{line[1:]}\n" for line in changes if line[0] == sign) for sign in "-+")
+        yield kind, name, old, new
+
+
+def mistake_checks():
+    """Each wrong implementation is the model with one change; some vector has to fail with it."""
+    right, tried = model(), [it for kind in CHECKS for it in mistakes(kind)]
+    yield "how many mistakes have a name of their own", len({name for _, name, _, _ in tried}), len(tried)
+    yield "whether the decoders without a mistake are caught", caught(right, "blocks"), False
+    with multiprocessing.get_context("fork").Pool() as pool:
+        found = pool.starmap(caught, [(right.replace(old, new), kind) for kind, _, old, new in tried])
+    for (_, name, old, _), is_caught in zip(tried, found):
+        yield f"how many places the mistake '{name}' changes", right.count(old), 1
+        yield f"whether the mistake '{name}' is caught", is_caught, True
+
+
+def block_lines():
+    """Lines of the line language, with their answers."""
+    for row in [*table("blocks.tsv"), *table("loose.tsv"), *table("single.tsv")]:
+        kind = row["kind"] if row["initial"] == "-" else f"{row['kind']}:{row['initial']}"
+        for packer in PACKERS[row["packer"][0]]:
+            yield f"width {packer} {kind} {row['values']}", row.get("least", row["width"])
+            yield f"pack {packer} {kind} {row['width']} {row['values']}", row["bytes"]
+            yield f"unpack {packer} {kind} {row['width']} {row['bytes']}", row["values"]
+    for row in table("refused_blocks.tsv"):
+        kind = row["kind"] if row["initial"] == "-" else f"{row['kind']}:{row['initial']}"
+        for packer in PACKERS[row["packer"][0]]:
+            yield f"{row['call']} {packer} {kind} {row['width']} {row['given']}", f"refused {row['number']}"
+
+
+def list_lines():
+    for version in ["", "2"]:
+        for row in table(f"lists{version}.tsv"):
+            for packer in PACKERS[row["lanes"]]:
+                if version == "":
+                    yield f"enc {packer} {row['kind']} {row['values']}", row["bytes"]
+                yield f"dec {packer} {row['bytes']}", f"{row['kind']} {row['values']}"
+        for row in table(f"refused{version}.tsv"):
+            for packer in PACKERS[row["lanes"]]:
+                number = 20 + int(row["number"])
+                # dec reads bytes that begin with 2 as version 2, and all others as version 1
+                if row["bytes"].startswith("02") == (version == "2"):
+                    yield f"dec {packer} {row['bytes']}", f"refused {number}"
+                yield f"seek {packer} 0 {row['bytes']}" if version else f"upgrade {packer} {row['bytes']}", f"refused {number}"
+
+
+def query_lines():
+    for row in table("upgrade.tsv"):
+        for packer in PACKERS[row["lanes"]]:
+            right = row["upgraded"] if row["fault"] == "-" else f"refused {20 + int(row['number'])}"
+            yield f"upgrade {packer} {row['bytes']}", right
+    for row in table("seek.tsv"):
+        for packer in PACKERS[row["lanes"]]:
+            for target, right in zip(numbers(row["targets"]), row["found"].split(",")):
+                yield f"seek {packer} {target} {row['bytes']}", right.replace(":", " ")
+    for row in table("lists2.tsv"):
+        if row["kind"] == "plain":
+            for packer in PACKERS[row["lanes"]]:
+                yield f"seek {packer} 0 {row['bytes']}", "refused 23"
+
+
+def written_out(text, note):
+    """A line or an answer of docs/LINES.md, with what `..` stands for: as many letters as the note says, the numbers between, or one
+    number in the whole block."""
+    if text == "aaa..a":
+        return "a" * int(note.split()[0].replace(",", ""))
+    if found := re.fullmatch(r"(?:(\d+),)+\.\.,\1", text):
+        return ",".join([found[1]] * 32)
+    return re.sub(r"(\d+),\.\.,(\d+)", lambda it: ",".join(map(str, range(int(it[1]), int(it[2]) + 1))), text)
+
+
+def page_lines():
+    """The lines to try of docs/LINES.md. Their columns are at least four spaces apart; an empty line has a note alone."""
+    shown = source("docs/LINES.md").split("## Lines to try\n")[1].split("\n## ")[0]
+    answered, refused = (re.findall(r"^    (.*)$", part, re.M) for part in shown.split("Refused lines"))
+    for line in answered:
+        asked, answer = re.split(r" {4,}", line)[:2]
+        yield written_out(asked, ""), written_out(answer, "")
+    for line in refused:
+        asked, *notes = re.split(r" {4,}", line[6:])
+        yield written_out(asked, "".join(notes)), f"refused {line[:6].strip()}"
+
+
+def program_checks(program):
+    asked = [*block_lines(), *list_lines(), *query_lines(), *page_lines(), *lines_by_hand()]
+    text = "".join(f"{line}\n" for line, _ in asked)
+    ran = subprocess.run(program, input=text, stdout=subprocess.PIPE, encoding="ascii", errors="replace")
+    answers = ran.stdout.split("\n")
+    yield "the program's status", ran.returncode, 0
+    yield "how many lines it answered", len(answers) - 1, len(asked)
+    if len(answers) - 1 == len(asked):
+        for answer, (line, right) in zip(answers, asked):
+            yield line, answer, right
+
+
+def with_one_change(program):
+    """A program that changes the answer to line 1,000 of another one."""
+    return ["sh", "-c", """"$@" | sed '1000s/$/0/'""", "sh", *(program if isinstance(program, list) else [program])]
+
+
+def programs():
+    """The program, and the one that the gate's second compiler built, unless that is the older."""
+    yield f"{ROOT}/bitpack"
+    built = f"{ROOT}/crates/bitpack_main/out/bitpack_main"
+    second = f"{built}.by-rattle"
+    if os.path.isfile(second) and os.path.isfile(built) and os.stat(second).st_mtime >= os.stat(built).st_mtime:
+        yield second
+
+
+def groups(asked):
+    """The checks of each reader of the vectors, with its name."""
+    names = names_of(model())
+    found = [it for checks in [*CHECKS.values(), rule_checks, parquet_checks] for it in checks(names)]
+    yield "the decoders of docs/FORMAT.md, vectors/model.py and line_model.py", found
+    yield "wrong implementations", mistake_checks()
+    for program in asked:
+        name = os.path.relpath(program[0] if isinstance(program, list) else program, ROOT)
+        yield name, program_checks(program)
+        wrong = sum(found != right for _, found, right in program_checks(with_one_change(program)))
+        yield f"{name} with another answer", [("how many answers are wrong", wrong, 1)]
+
+
+def readers():
+    """The readers of the vectors, each as its name and its first wrong answers, if it has any."""
+    assembled = run(sys.executable, f"{ROOT}/vectors/assemble.py", "--check")
+    yield "vectors/assemble.py", None if assembled.returncode == 0 else assembled.stdout
+    for reader, checks in groups([sys.argv[1:]] if sys.argv[1:] else programs()):
+        count, wrong = 0, []
+        for name, found, right in checks:
+            count += 1
+            if found != right:
+                wrong.append(f"{name[:120]}\n    is {str(found)[:120]}\n    and not {str(right)[:120]}")
+        print(f"{reader}: {count - len(wrong)} of {count} checks as they should be")
+        yield reader, "\n".join(wrong[:20]) or None
+
+
+if __name__ == "__main__":
+    sys.exit(report(readers()))
