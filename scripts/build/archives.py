@@ -25,12 +25,12 @@ import time
 
 sys.path.insert(1, f"{sys.path[0]}/..")
 from common import ROOT, ended, left_out_without, missing, run, words
-import levels
+import choosing
 import proving
 
 OUT = f"{ROOT}/rust/out"
 TOOLS = ["rt", "cc", "ld", "ar", "nm", "objcopy", "objdump"]
-LEVELS = levels.LEVELS
+LEVELS = choosing.LEVELS
 ARM = "aarch64-unknown-linux-gnu"
 # The archives for C, by their folders in rust/out/, and what rattle is told for each.
 BUILDS = {level: ["--cpu", level] for level in LEVELS.values()} | {ARM: ["--target", ARM]}
@@ -43,7 +43,7 @@ with four archives 3 minutes 10 seconds. Crates that are proved in out/proved/ a
 
 def sources():
     """Two numbers: one that changes with each source of what is proved and with the toolchain, and one with the choice of a level."""
-    return [proving.sum_of("bitpacking_c"), hashlib.sha256(levels.chooser().encode()).hexdigest()]
+    return [proving.sum_of("bitpacking_c"), hashlib.sha256(choosing.chooser().encode()).hexdigest()]
 
 
 def archive(build):
@@ -92,11 +92,11 @@ def joined():
     """Writes the archive for all levels of x86-64: one object, of which only the names of the header can be seen. Returns why that failed,
     or None."""
     chooser, whole, names = f"{OUT}/levels.o", f"{OUT}/bitpacking.o", f"{OUT}/names"
-    why = levels.compiled(chooser)
+    why = choosing.compiled(chooser)
     if why:
         return why
     with open(names, "w", encoding="ascii") as file:
-        file.writelines(f"{name}\n" for name in sorted(levels.prototypes()))
+        file.writelines(f"{name}\n" for name in sorted(choosing.prototypes()))
     for file in [f"{OUT}/{ALL}", whole]:
         if os.path.exists(file):
             os.remove(file)
@@ -118,8 +118,8 @@ def exported(path):
 
 def faults(path, data=0):
     """What is wrong with an archive for C, which has that many bytes of data."""
-    if exported(path) != set(levels.prototypes()):
-        yield f"it exports {sorted(exported(path) ^ set(levels.prototypes()))[:4]}, or the header declares them"
+    if exported(path) != set(choosing.prototypes()):
+        yield f"it exports {sorted(exported(path) ^ set(choosing.prototypes()))[:4]}, or the header declares them"
     needed = {line.split()[-1] for line in run("nm", "-u", path).stdout.split("\n") if line.strip().startswith("U ")}
     if not needed <= {"memcpy", "memmove", "memset"}:
         yield f"it needs {sorted(needed)}"

@@ -19,7 +19,7 @@ import tempfile
 sys.path.insert(1, f"{sys.path[0]}/..")
 from common import ROOT, missing, run, source
 import archives
-import levels
+import choosing
 
 CC = os.environ.get("CC", "cc")
 HEADER, STATIC, SHARED = "include/bitpacking.h", "lib/libbitpacking_c.a", "lib/libbitpacking_c.so.1"
@@ -53,7 +53,7 @@ def shared(archive, path):
     with tempfile.TemporaryDirectory(prefix="install-") as folder:
         names = f"{folder}/names"
         with open(names, "w", encoding="ascii") as file:
-            file.write(f"{{ global: {' '.join(f'{name};' for name in sorted(levels.prototypes()))} local: *; }};\n")
+            file.write(f"{{ global: {' '.join(f'{name};' for name in sorted(choosing.prototypes()))} local: *; }};\n")
         words = ["-shared", f"-Wl,-soname,{os.path.basename(SHARED)}", f"-Wl,--version-script={names}", "-Wl,-z,defs,-z,relro,-z,now"]
         done = run(CC, *words, "-Wl,--whole-archive", archive, "-Wl,--no-whole-archive", "-o", path)
     if done.returncode != 0:

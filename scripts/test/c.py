@@ -21,6 +21,7 @@ import tempfile
 sys.path.insert(1, f"{sys.path[0]}/..")
 from common import ROOT, leave_out, report, run, source
 import archives
+import choosing
 import levels
 
 STRICT = ["-Wall", "-Wextra", "-Werror", "-pedantic", f"-I{ROOT}/include"]
@@ -162,7 +163,7 @@ def wrong_ones():
             yield f"another output of {program}", None if why == f"it failed, and printed {text}" else f"it does not fail so: {why}"
     with tempfile.TemporaryDirectory(prefix="c-") as folder:
         for program, name in CALLED.items():
-            levels.written(f"{folder}/wrong.c", levels.filled(ONE_MORE, name, *levels.prototypes()[name]))
+            choosing.written(f"{folder}/wrong.c", levels.filled(ONE_MORE, name, *choosing.prototypes()[name]))
             why = compiled_and_run(archive, program, [*C99, f"-Wl,--wrap={name}", f"{folder}/wrong.c"])
             right = (why or "").startswith("it failed, and printed ") and name in why
             yield f"{program} with a wrong {name}", None if right else f"it does not fail so: {why}"

@@ -1,12 +1,12 @@
 #!/usr/bin/env python3
-"""Writes the C file by which each function of include/bitpacking.h chooses the level of x86-64 when it is called, and tests that file over
-functions that only say their names: each function of the header calls the one of its own name, at the level that the C compiler's own test
-names, and in each copy of a processor that qemu-x86_64-static gives, at the level of that copy. The first call keeps the level, and each
-later one goes by it alone. No copy has a system that does not save the registers of AVX; for that the test puts numbers of its own in the
-place of what the processor says.
+"""Tests the C file of scripts/build/choosing.py, by which each function of include/bitpacking.h chooses the level of x86-64 when it is
+called, over functions that only say their names: each function of the header calls the one of its own name, at the level that the C
+compiler's own test names, and in each copy of a processor that qemu-x86_64-static gives, at the level of that copy. The first call keeps the
+level, and each later one goes by it alone. No copy has a system that does not save the registers of AVX; for that the test puts numbers of
+its own in the place of what the processor says.
 
-Then wrong changes of the C file are tried: each of them must fail. It needs cc. The last line is 'N passed, M failed', one for each processor
-and each wrong change; a part that is left out for want of a tool is named.
+Then wrong changes of the C file are tried: each of them must fail. It needs cc. The last line is 'N passed, M failed', one for each
+processor and each wrong change; a part that is left out for want of a tool is named.
 """
 import re
 import shutil
@@ -15,11 +15,9 @@ import sys
 import tempfile
 
 sys.path.insert(1, f"{sys.path[0]}/..")
-from common import ROOT, leave_out, left_out_without, report, run
+from common import leave_out, left_out_without, report, run
+from choosing import LEVELS, WARNED, chooser, names_of, prototypes, written
 
-LEVELS = {"v1": "x86-64", "v2": "x86-64-v2", "v3": "x86-64-v3"}
-WARNED = ["-std=gnu99", "-Wall", "-Wextra", "-Werror", f"-I{ROOT}/include"]
-COMPILED = ["-O2", "-fPIC", "-ffunction-sections", "-fdata-sections", "-fno-asynchronous-unwind-tables", "-fno-stack-protector"]
 # What each level adds, as qemu names it. Without one of them a processor has the level before.
 V2 = ["cx16", "lahf-lm", "popcnt", "pni", "ssse3", "sse4.1", "sse4.2"]
 V3 = ["avx", "avx2", "bmi1", "bmi2", "f16c", "fma", "abm", "movbe", "xsave"]
@@ -27,69 +25,6 @@ V3 = ["avx", "avx2", "bmi1", "bmi2", "f16c", "fma", "abm", "movbe", "xsave"]
 # A processor of each level, as qemu names it. It does not run an instruction that the processor lacks.
 ONE_OF_EACH = {"core2duo,-cx16": "1", "Nehalem": "2", "Haswell": "3"}
 OTHERS = "qemu-x86_64-static"
-
-HEAD = """/* Each function of bitpacking.h chooses the level of the processor. scripts/test/levels.py writes this file from that header. */
-#include <cpuid.h>
-
-#include "bitpacking.h"
-
-/* What the levels add, as bits of the registers of the instruction cpuid. */
-enum {
-    V2_IN_ECX_1 = 1 << 0 /* SSE3 */ | 1 << 9 /* SSSE3 */ | 1 << 13 /* CMPXCHG16B */ | 1 << 19 /* SSE4.1 */ | 1 << 20 /* SSE4.2 */
-                  | 1 << 23 /* POPCNT */,
-    V2_IN_ECX_EXTENDED = 1 << 0 /* LAHF */,
-    V3_IN_ECX_1 = 1 << 12 /* FMA */ | 1 << 22 /* MOVBE */ | 1 << 27 /* OSXSAVE */ | 1 << 28 /* AVX */ | 1 << 29 /* F16C */,
-    V3_IN_EBX_7 = 1 << 3 /* BMI1 */ | 1 << 5 /* AVX2 */ | 1 << 8 /* BMI2 */,
-    V3_IN_ECX_EXTENDED = 1 << 5 /* LZCNT */,
-    SAVED_BY_THE_SYSTEM = 1 << 1 | 1 << 2 /* the registers of SSE and AVX, in the register XCR0 */
-};
-
-/* The level; 0 before the first call. Any thread finds the same one, and nothing else is read by it. */
-static unsigned level;
-
-static unsigned best(void)
-{
-    unsigned eax, ebx, ecx, edx, more_ebx, more_ecx, extended_ecx, saved, high;
-
-    if (!__get_cpuid(1, &eax, &ebx, &ecx, &edx) || (ecx & V2_IN_ECX_1) != V2_IN_ECX_1)
-        return 1;
-    if (!__get_cpuid(0x80000001, &eax, &ebx, &extended_ecx, &edx) || !(extended_ecx & V2_IN_ECX_EXTENDED))
-        return 1;
-    if ((ecx & V3_IN_ECX_1) != V3_IN_ECX_1 || !(extended_ecx & V3_IN_ECX_EXTENDED))
-        return 2;
-    if (!__get_cpuid_count(7, 0, &eax, &more_ebx, &more_ecx, &edx) || (more_ebx & V3_IN_EBX_7) != V3_IN_EBX_7)
-        return 2;
-    __asm__("xgetbv" : "=a"(saved), "=d"(high) : "c"(0));
-    return (saved & SAVED_BY_THE_SYSTEM) == SAVED_BY_THE_SYSTEM ? 3 : 2;
-}
-
-static unsigned choose(void)
-{
-    unsigned found = best();
-
-    __atomic_store_n(&level, found, __ATOMIC_RELAXED);
-    return found;
-}
-"""
-
-# A function of the header: the one of each level, the one before the first call, their table, and the call.
-FUNCTION = """
-{returned}v1_{name}({given});
-{returned}v2_{name}({given});
-{returned}v3_{name}({given});
-static {returned}first_{name}({given});
-static {returned}(*const {name}_at[4])({given}) = {{first_{name}, v1_{name}, v2_{name}, v3_{name}}};
-
-static {returned}first_{name}({given})
-{{
-    {gives}{name}_at[choose()]({passed});
-}}
-
-{returned}{name}({given})
-{{
-    {gives}{name}_at[__atomic_load_n(&level, __ATOMIC_RELAXED)]({passed});
-}}
-"""
 
 # The functions of the levels in the test, and calls of a function of the header: the first call of all, which has to keep the level, and one
 # at each level that may be kept. `said` is the name of the function that was called.
@@ -133,10 +68,10 @@ BY_SAVED = {"0": "2", "1": "2", "3": "2", "5": "2", "6": "3", "7": "3"}
 WRONG = {
     "the level is not kept": (r"    __atomic_store_n\(&level, .*\n", ""),
     "each call asks the processor": (r"_at\[__atomic_load_n\(&level, __ATOMIC_RELAXED\)\]", "_at[choose()]"),
-    "level 3 runs the functions of level 2": (r"\bv3_(\w+)\};", r"v2_\1};"),
+    "level 3 runs the functions of level 2": (r"\bv3_##name\};", r"v2_##name};"),
     "a function calls another": (
-        r"first_bitpacking_version, v1_bitpacking_version",
-        "first_bitpacking_version, (void *)v1_bitpacking_1x_pack",
+        r"(FUNCTION\(uint32_t, return, bitpacking_version, .*)",
+        r'#define v1_bitpacking_version other\n\1\n#undef v1_bitpacking_version\nuint32_t other(void) { said = "other"; return 0; }',
     ),
     "SSE alone has to be saved": (r"1 << 1 \| 1 << 2 /\*", "1 << 1 /*"),
 }
@@ -147,26 +82,6 @@ WRONG_ELSEWHERE = {
     "a processor without level 3 has it": (r"return 2;", "return 3;"),
     "a processor without level 2 has it": (r"return 1;", "return 2;"),
 }
-
-
-def prototypes():
-    """The functions that the header declares and does not define, as the C preprocessor reads it: the name, what it returns, and its
-    parameters."""
-    text = run("cc", "-E", "-P", f"{ROOT}/include/bitpacking.h").stdout
-    inner = None
-    while inner != text:
-        # A body ends what it belongs to, as the semicolon of a declaration does.
-        inner, text = text, re.sub(r"(\)?)\s*\{[^{}]*\}", lambda it: ") ;" if it[1] else " ", text)
-    found = {}
-    for returned, name, given in re.findall(r"(?:^|;)\s*([\w\s*]+?)\b(bitpacking_\w+)\s*\(([^()]*)\)\s*(?=;)", text):
-        if not returned.startswith("static "):
-            found[name] = " ".join(returned.split()).removeprefix("extern "), " ".join(given.split())
-    return found
-
-
-def names_of(given):
-    """The names of parameters."""
-    return [] if given == "void" else [re.search(r"(\w+)(\[\w*\])?$", it.strip())[1] for it in given.split(",")]
 
 
 def filled(form, name, returned, given, **more):
@@ -183,24 +98,6 @@ def filled(form, name, returned, given, **more):
         "zero": "" if returned == "void" else "0",
     }
     return form.format(**text, **more)
-
-
-def chooser():
-    """The text of the C file."""
-    return HEAD + "".join(filled(FUNCTION, name, *types) for name, types in sorted(prototypes().items()))
-
-
-def compiled(to):
-    """Compiles the C file into an object. Returns what the compiler says if it fails, or None."""
-    with tempfile.TemporaryDirectory(prefix="levels-") as folder:
-        written(f"{folder}/levels.c", chooser())
-        done = run("cc", *WARNED, *COMPILED, "-c", f"{folder}/levels.c", "-o", to)
-        return None if done.returncode == 0 else done.stdout
-
-
-def written(path, text):
-    with open(path, "w", encoding="ascii") as file:
-        file.write(text)
 
 
 def supports(level):

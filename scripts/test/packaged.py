@@ -16,8 +16,8 @@ import archives
 import arm
 import bundle
 import c
+import choosing
 import install
-import levels
 import rust
 
 EXAMPLES = [it for it in c.PROGRAMS if it.startswith("examples/")]
@@ -121,7 +121,7 @@ def installed(folder):
     yield "install.py", None if done.returncode == 0 else done.stdout
     library = f"{prefix}/{install.LINK}"
     exported = {line.split()[-1] for line in run("nm", "-D", "--defined-only", library).stdout.splitlines()}
-    yield "the names of the shared library", None if exported == set(levels.prototypes()) else f"{sorted(exported)}"
+    yield "the names of the shared library", None if exported == set(choosing.prototypes()) else f"{sorted(exported)}"
     if missing("pkg-config"):
         leave_out("programs that ask pkg-config", "since there is no pkg-config")
     else:
