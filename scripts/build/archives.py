@@ -52,14 +52,14 @@ def archive(build):
 
 
 class Shown:
-    """Prints how many functions of a crate are proved, at most once in ten seconds, and each crate that is."""
+    """Prints each crate that is proved, and how many functions of `bitpacking_c` are, at most once in ten seconds."""
 
     def __init__(self):
         self.start, self.next = time.time(), 0
 
     def __call__(self, crate, line):
         counts = re.search(r"(\d+ of \d+)( functions checked)?$", line.strip())
-        proved = re.match(r"logic=proved functions=(\d+)(?!.* crate-checked=)", line)
+        proved = re.match(r"logic=proved functions=(\d+)", line)
         if proved or counts and time.time() > self.next:
             self.next = time.time() + 10
             print(f"{crate}: {proved[1] if proved else counts[1]} functions proved, {time.time() - self.start:.0f} s", flush=True)

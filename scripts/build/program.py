@@ -1,6 +1,6 @@
 #!/usr/bin/env python3
 """Builds the line program for the script `bitpack`: proves the crates below it and the program, and prints a line for each crate on standard
-error. On a terminal a line below shows how many of its functions are proved. The rest goes to out/build.log. The status is 1 if a proof failed.
+error. On a terminal a line below shows the crate that is being proved. The rest goes to out/build.log. The status is 1 if a proof failed.
 """
 import os
 import re
@@ -10,16 +10,16 @@ sys.path.insert(1, f"{sys.path[0]}/..")
 from common import ROOT
 import proving
 
+PROGRAM = "bitpack_main"
+CRATES = [*proving.libraries(PROGRAM), PROGRAM]
 BACK = "\r\033[K" if sys.stderr.isatty() else ""
 
 
 def shown(crate, line):
-    """Shows what a line of a check says of a crate."""
-    done = re.match(r"checked \S+, (\d+ of \d+)$", line)
-    # Not a verdict that is repeated as the library is written.
-    proved = re.match(r"logic=proved functions=(\d+)(?!.* crate-checked=)", line)
-    if done and BACK:
-        print(f"{BACK}bitpack: proving {crate}, {done[1]} functions", end="", file=sys.stderr, flush=True)
+    """Shows what a line of a build says of a crate."""
+    proved = re.match(r"logic=proved functions=(\d+)", line)
+    if BACK and line == f"{crate}: rattle build\n":
+        print(f"{BACK}bitpack: proving {crate}, crate {CRATES.index(crate) + 1} of {len(CRATES)}", end="", file=sys.stderr, flush=True)
     if proved:
         print(f"{BACK}bitpack: proved {crate}, functions: {proved[1]}", file=sys.stderr, flush=True)
 
@@ -34,7 +34,7 @@ def main():
             shown(crate, line)
 
         try:
-            proving.program("bitpack_main", tell)
+            proving.program(PROGRAM, tell)
         except (proving.Failed, KeyboardInterrupt) as why:
             print(str(why) or "interrupted", file=log)
             print(BACK, end="", file=sys.stderr)

@@ -24,7 +24,7 @@ EACH, MOST = 5 << 29, 8
 # The words of a verdict that says all: what was proved, for what machine, and by the checks of earlier runs that it trusts. `rt ci` refuses
 # others, such as may-abort, hides and main, and any that it does not know, which may say what is left out.
 SAID = {"logic", "functions", "axioms", "target", "cpu", "sum", "native"}
-SAID |= {"logic-built", "libraries-built", "statements", "incremental", "crate-checked"}
+SAID |= {"logic-built", "libraries-built", "statements", "incremental"}
 
 
 class Failed(Exception):
@@ -83,6 +83,7 @@ def called(crate, tell, *command):
     """Runs a command in the folder of a crate, and tells each line that it prints."""
     how = {"stdin": subprocess.DEVNULL, "stdout": subprocess.PIPE, "stderr": subprocess.STDOUT, "text": True, "errors": "replace"}
     said = collections.deque(maxlen=12)
+    tell(crate, f"{crate}: {os.path.basename(command[0])} {command[1]}\n")
     with subprocess.Popen(command, cwd=f"{ROOT}/crates/{crate}", **how) as ran:
         for line in ran.stdout:
             said.append(line)
@@ -118,15 +119,13 @@ def proof(*words):
 
 def library(crate, tell):
     """Proves a library, if that was not done from these sources."""
-    rlib, room = f"{PROVED}/{crate}.rlib", f"{PROVED}/{crate}.checked"
+    rlib = f"{PROVED}/{crate}.rlib"
     with made_once(crate, rlib) as is_made:
         if is_made:
             return
-        for folder in [rlib, room]:
-            shutil.rmtree(folder, ignore_errors=True)
-        rattle(crate, tell, "check", *proof("--progress", "--statements", "-o", room))
-        rattle(crate, tell, "build", "--statements", "--crate-checked", room, "-o", rlib)
-        shutil.rmtree(room)
+        shutil.rmtree(rlib, ignore_errors=True)
+        # A check would show how many functions are proved, but the build after it would read the crate once more.
+        rattle(crate, tell, "build", *proof("--statements", "-o", rlib))
 
 
 def program(crate, tell):

@@ -28,15 +28,9 @@ esac
 RATTLE = """#!/bin/sh
 crate=${PWD##*/}
 echo "$crate $1" >> "$CALLS"
-[ "$1" = build ] && [ "$crate" != bitpack_main ] && quiet=1
 while [ "$1" != -o ]; do shift; done
 mkdir -p "$2"
-if [ -n "$quiet" ]; then
-    echo "logic=proved functions=7 sum=1 crate-checked=trusted"
-    exit
-fi
-echo "output of a check"
-echo "checked low::f, 5 of 7"
+echo "output of a proof"
 if [ "$crate" = "$OF" ]; then echo "$VERDICT"; else echo "logic=proved functions=7 sum=1"; fi
 [ "$crate" = "$FAILS" ] || exit 0
 n=0
@@ -67,7 +61,7 @@ REFUSED = [
     "tests=1",
     "cache=trusted",
 ]
-REFUSED += ["pinned=no", "batches=trusted", "a-later-word=1"]
+REFUSED += ["pinned=no", "batches=trusted", "crate-checked=trusted", "a-later-word=1"]
 
 
 def line_of(crate):
@@ -152,11 +146,11 @@ def builds(copy):
     status, out, error = copy.run(rt=False)
     yield "without rt it says so", (status, out, error.count("\n")) == (2, "", 1) and "rt" in error
     status, out, error = copy.run(FAILS=BELOW[0])
-    yield "a library that fails ends the build", (status, out, copy.called()) == (3, "", [f"{BELOW[0]} check"])
+    yield "a library that fails ends the build", (status, out, copy.called()) == (3, "", [f"{BELOW[0]} build"])
     yield "the end of the log is shown", "a goal is open" in error
     status, out, error = copy.run(FAILS="bitpack_main")
-    proofs = [f"{crate} {verb}" for crate in BELOW for verb in ["check", "build"]]
-    yield "it proves the libraries before the program, lowest first", copy.called()[1:] == [*proofs, "bitpack_main build"]
+    proofs = [f"{crate} build" for crate in [*BELOW, "bitpack_main"]]
+    yield "it proves the libraries before the program, lowest first", copy.called()[1:] == proofs
     said = error.split("\n")
     yield "it says that it builds, and how long", "building" in said[0] and "minutes on four cores" in said[0]
     yield "and has a line for each crate", "\n".join(said[1:]).startswith("".join(map(line_of, [*BELOW, "bitpack_main"])))
@@ -166,7 +160,7 @@ def builds(copy):
     yield "a library is proved once", copy.called() == ["bitpack_main build"]
     status, out, error = copy.run("--other", "words")
     yield "the first call builds, and passes words on", (status, out) == (0, "program:--other words\nsize\n")
-    yield "the log has the rest", "output of a check\n" in copy.log()
+    yield "the log has the rest", "output of a proof\n" in copy.log()
     copy.forget()
     yield "the second call does not build", copy.run("--help", "x") == (0, "program:--help x\nsize\n", "") and not copy.called()
     yield "nor does it need rt", copy.run(rt=False) == (0, "program:\nsize\n", "")
@@ -206,7 +200,8 @@ def terminal(copy):
     said = os.read(main, 1 << 16).decode()
     os.close(main)
     os.close(other)
-    yield "on a terminal it shows how many functions are proved", f"\r\033[Kbitpack: proving {BELOW[0]}, 5 of 7 functions\r\033[K" in said
+    shown = f"\r\033[Kbitpack: proving {BELOW[0]}, crate 1 of {len(BELOW) + 1}\r\033[K"
+    yield "on a terminal it shows the crate that is being proved", shown in said
     yield "and the lines after that are whole", f"\r\033[K{line_of(BELOW[0]).strip()}\r\n" in said and "\r\033[Kbitpack: the build failed" in said
 
 
