@@ -8,7 +8,7 @@ import sys
 
 ROOT = os.path.dirname(os.path.dirname(os.path.realpath(__file__)))
 # A script imports this file first, and then can import those of each folder.
-sys.path[1:1] = [f"{ROOT}/scripts/{folder}" for folder in ("build", "lint", "mutate", "test", "bench")]
+sys.path[1:1] = [f"{ROOT}/scripts/{folder}" for folder in ("build", "lint", "mutate", "test", "bench")] + [f"{ROOT}/vectors"]
 
 
 def source(path):

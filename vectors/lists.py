@@ -2,7 +2,7 @@
 
 from hashlib import sha256
 
-from parts import KINDS, LANES, STARTS, body_of, list_text, split, summed, text_of
+from parts import KINDS, LANES, STARTS, body_of, drawn, list_text, split, summed, text_of
 
 
 def chained(blocks, kind, lanes, widths):
@@ -42,15 +42,6 @@ def single_lists(version):
             codes[row * lanes + row % lanes] = 1
             values = summed(KINDS[kind], STARTS[kind], codes)
             yield KINDS[kind], lanes, values, text_of(version, lanes, kind, [(1, values[-1], body_of(lanes, 1, codes))], [])
-
-
-def drawn(count):
-    """The numbers x(1), x(2) and so on of docs/VECTORS.md."""
-    x, found = 1, []
-    for _ in range(count):
-        x = (1664525 * x + 1013904223) % 2**32
-        found.append(x)
-    return found
 
 
 def digest_lists():

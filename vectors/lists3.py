@@ -1,7 +1,7 @@
 """Lists with their texts of version 3, and texts of versions 1 and 2 that become texts of version 3."""
 
-from lists import chained, drawn, values_out_of_order
-from parts import KINDS, LANES, STARTS, first_out, list_text, summed
+from lists import chained, values_out_of_order
+from parts import KINDS, LANES, STARTS, drawn, first_out, list_text, summed
 from sets import search_lists
 
 COUNTS = [0, 1, 2, 31, 32, 33, 127, 128, 255, 256, 1000]

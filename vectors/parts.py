@@ -15,6 +15,15 @@ def rows(name):
         return [line.rstrip("\n").split("\t") for line in file][1:]
 
 
+def drawn(count):
+    """The numbers x(1), x(2) and so on of docs/VECTORS.md."""
+    x, found = 1, []
+    for _ in range(count):
+        x = (1664525 * x + 1013904223) % 2**32
+        found.append(x)
+    return found
+
+
 def plain_blocks():
     """By lanes and width: the codes of a block, which are the values of a plain one, and their body."""
     found = {}

@@ -15,7 +15,8 @@ import sys
 
 sys.path.insert(1, f"{sys.path[0]}/..")
 from texts import results, text_of
-from vectors import KINDS, drawn, model, names_of
+from parts import drawn
+from vectors import KINDS, model, names_of
 
 README, SCALE, SPEED = "README.md", "docs/SCALE.md", "docs/SPEED.md"
 FOUR, STRICT = [7, 9, 10, 300], 2

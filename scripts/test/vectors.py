@@ -18,6 +18,7 @@ import sys
 
 sys.path.insert(1, f"{sys.path[0]}/..")
 from common import ROOT, report, run, source
+from parts import drawn
 
 KINDS = ["plain", "sorted", "strict"]
 PACKERS = {"1": ["1x"], "4": ["4x", "4s"], "8": ["8x", "8s"]}  # by lanes
@@ -164,15 +165,6 @@ def set_checks(names):
 
 def query_checks(names):
     return itertools.chain(upgrade_checks(names), encoder_checks(names), seek_checks(names))
-
-
-def drawn(count):
-    """The numbers x(1), x(2) and so on of docs/VECTORS.md."""
-    x, found = 1, []
-    for _ in range(count):
-        x = (1664525 * x + 1013904223) % 2**32
-        found.append(x)
-    return found
 
 
 def long_list_checks(names):
