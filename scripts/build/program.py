@@ -36,7 +36,8 @@ def main():
         try:
             proving.program(PROGRAM, tell)
         except (proving.Failed, KeyboardInterrupt) as why:
-            print(str(why) or "interrupted", file=log)
+            # The script `bitpack` shows the end of the log, so what is not proved is there once more.
+            print(f"{why.said}{why}" if isinstance(why, proving.Failed) else "interrupted", file=log)
             print(BACK, end="", file=sys.stderr)
             return 1
     return 0

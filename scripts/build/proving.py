@@ -28,7 +28,7 @@ SAID |= {"logic-built", "libraries-built", "statements", "incremental"}
 
 
 class Failed(Exception):
-    """A command of the toolchain failed. `said` has the last lines that it printed."""
+    """A command of the toolchain failed. `said` has the last lines that it printed, but those of what is proved."""
 
     def __init__(self, why, said):
         super().__init__(why)
@@ -82,11 +82,12 @@ def words_of(crate):
 def called(crate, tell, *command):
     """Runs a command in the folder of a crate, and tells each line that it prints."""
     how = {"stdin": subprocess.DEVNULL, "stdout": subprocess.PIPE, "stderr": subprocess.STDOUT, "text": True, "errors": "replace"}
-    said = collections.deque(maxlen=12)
+    said = collections.deque(maxlen=16)
     tell(crate, f"{crate}: {os.path.basename(command[0])} {command[1]}\n")
     with subprocess.Popen(command, cwd=f"{ROOT}/crates/{crate}", **how) as ran:
         for line in ran.stdout:
-            said.append(line)
+            if not re.search(r": proved$|^statements ", line):
+                said.append(line)
             tell(crate, line)
     if ran.returncode != 0:
         raise Failed(f"{crate}: {os.path.basename(command[0])} {command[1]} ended with status {ran.returncode}", "".join(said))

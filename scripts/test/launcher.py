@@ -40,6 +40,7 @@ while [ -n "$WAITS" ] && [ ! -e "$WAITS" ]; do
     sleep 0.1
 done
 echo "a goal is open"
+for n in 1 2 3 4 5 6 7 8 9 10 11 12 13 14 15 16 17 18 19 20; do echo "fn low::f$n: proved"; done
 exit 1
 """
 LINK = """#!/bin/sh
@@ -147,7 +148,7 @@ def builds(copy):
     yield "without rt it says so", (status, out, error.count("\n")) == (2, "", 1) and "rt" in error
     status, out, error = copy.run(FAILS=BELOW[0])
     yield "a library that fails ends the build", (status, out, copy.called()) == (3, "", [f"{BELOW[0]} build"])
-    yield "the end of the log is shown", "a goal is open" in error
+    yield "the end of the log is shown, with what is not proved", "a goal is open" in error
     status, out, error = copy.run(FAILS="bitpack_main")
     proofs = [f"{crate} build" for crate in [*BELOW, "bitpack_main"]]
     yield "it proves the libraries before the program, lowest first", copy.called()[1:] == proofs
