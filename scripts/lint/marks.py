@@ -1,7 +1,8 @@
-"""The marks above functions that read a list where no contract counts it, or that measure blocks: who needs one, and what it says.
+"""The marks of functions that read a list where no contract counts it, or that measure blocks: who needs one, and what it says.
 
-A mark is `// Reads bytes: ..` or, above a function that only measures blocks, `// Reads values: ..`. It names the loops of the function and
-its calls in the order of the text, and fields of a list when it first names them.
+A mark is a line of marks.txt beside this file: the path of the function, its name after that of its type, and `bytes: ..`, or `values: ..`
+if it only measures blocks. It names the loops of the function and its calls in the order of the text, and fields of a list when it first
+names them.
 """
 
 import dataclasses
@@ -12,7 +13,7 @@ from texts import at, code, end_of_braces, paths, text_of
 
 LISTS = "crates/bitpack_lists/src"
 C = "crates/bitpacking_c/src"
-MARK = re.compile(r"^ *// (Reads (?:bytes|values): .*)\.$")
+TABLE = "scripts/lint/marks.txt"
 # The words of reading, by the beginning of the paths where this is so. The fields are those of a list.
 FIELDS = r"\bbytes\b|\bpacker\b|(?<=self\.)(?:rest|tail)\b"
 READING = {
@@ -53,6 +54,10 @@ class Function:
     body: str
     owner: str  # the type of its impl, its trait, or nothing
     of_trait: bool  # whether its impl is of a trait
+
+    @property
+    def full_name(self):
+        return f"{self.owner}::{self.name}" if self.owner else self.name
 
     @property
     def is_method(self):
@@ -185,25 +190,23 @@ def words_of(functions, marked):
     )
 
 
-def mark_above(lines, number):
-    """The number of the line and the text of the mark above a function, whose line has this number."""
-    while number > 0 and re.match(r" *(//|#\[)", lines[number - 1]):
-        number -= 1
-        if found := MARK.match(lines[number]):
-            return number, found[1]
-    return None, None
-
-
-def marks_in(texts):
-    """The functions that have a mark, with its line and text; and the lines of marks above no function."""
-    found, lost = {}, []
-    for path, text in texts.items():
-        lines = text_of(path).split("\n")
-        above = {it: mark_above(lines, text.count("\n", 0, it.start)) for it in functions_of(path, text)}
-        found.update({it: mark for it, mark in above.items() if mark[1]})
-        attached = {number for number, _ in above.values()}
-        lost += [(path, number) for number, line in enumerate(lines) if MARK.match(line) and number not in attached]
-    return found, lost
+def marks_in(functions):
+    """The functions that have a mark, with it; and the lines of the table that are not the only mark of one function."""
+    named, found, faults = {}, {}, []
+    for it in functions:
+        named.setdefault((it.path, it.full_name), []).append(it)
+    for number, line in enumerate(text_of(TABLE).split("\n"), 1):
+        path, name, mark = (line.split(" ", 2) + ["", ""])[:3]
+        these = named.get((path, name), [])
+        if not line or line.startswith("# "):
+            continue
+        if len(these) != 1:
+            faults.append(f"{TABLE}:{number}: a mark of {len(these)} functions")
+        elif these[0] in found:
+            faults.append(f"{TABLE}:{number}: a second mark of {name}")
+        else:
+            found[these[0]] = f"Reads {mark}"
+    return found, faults
 
 
 def mark_of(function, reads, names):
@@ -221,7 +224,7 @@ def faults_of_mark(function, text, mark, words, right):
     """What is wrong with the mark of a function, or of one without a mark."""
     where = at(function.path, text, words[0][0] if words else function.start)
     if mark is None:
-        yield f"{where}: {function.name} names {', '.join(dict.fromkeys(word for _, word in words))}, and has no mark: {right}"
+        yield f"{where}: {function.full_name} names {', '.join(dict.fromkeys(word for _, word in words))}, and has no mark: {right}"
     elif not words:
         yield f"{where}: {function.name} has a mark, and reads nothing"
     elif mark != right:
@@ -241,7 +244,7 @@ def faults_of_counted(functions, marked):
     """The functions whose callers need no mark, if they are not one each, with their marks."""
     for path, counted in COUNTED.items():
         for name, calls in counted.items():
-            found = [marked.get(it, (None, None))[1] for it in functions if (it.path, it.name) == (path, name)]
+            found = [marked.get(it) for it in functions if (it.path, it.name) == (path, name)]
             if found != [f"Reads bytes: {calls}"]:
                 yield f"{path}: who calls {name} needs no mark, but {name} has {', '.join(map(str, found))}, and not Reads bytes: {calls}"
 
@@ -272,16 +275,16 @@ def passed_on(functions, targets):
 def marks():
     texts, functions = in_crates()
     passing = [it for it in functions if PASS_ON.match(it.path)]
+    marked, faults = marks_in(functions)
     functions = [it for it in functions if it not in passing]
-    marked, lost = marks_in(texts)
     reading, measuring = words_of(functions, marked)
     names = {it.name for it in functions} | PACKER_CALLS
-    yield from (f"{path}:{number + 1}: a mark that is not above a function" for path, number in lost)
+    yield from faults
     for function in {**reading, **measuring, **marked}:
         text = texts[function.path]
         words = sorted({*reading.get(function, []), *measuring.get(function, [])})
         right = mark_of(function, function in reading, names)
-        yield from faults_of_mark(function, text, marked.get(function, (None, None))[1], words, right)
+        yield from faults_of_mark(function, text, marked.get(function), words, right)
         yield from faults_of_words(function, text, words, names)
     yield from faults_of_counted(functions, marked)
     named = {it.name for it in {*reading, *measuring}}

@@ -15,8 +15,7 @@
 - The Rust crate asks for the features of each level, has the functions of each level in its table, and those of the one level of another
   processor, and takes the best level.
 - Of `bitpack_lists`, each function that reads a number or unpacks a block from bytes, sees the bytes or the packer of an opened list, or
-  makes a `Reads`, has a mark, `// Reads bytes: ..`; and so has each that calls one, unless a contract counts what that reads, or it is of
-  the tail. Each that measures a block, or calls one that does, has a mark too. A mark names the calls in the order of the text: so those
+  makes a `Reads`, has a mark in marks.txt; and so has each that calls one, unless a contract counts what that reads, or it is of the tail. Each that measures a block, or calls one that does, has a mark too. A mark names the calls in the order of the text: so those
   that count read once for each count, `open` tests a text once and each block of it once, and `from_validated` tests none. No other function
   has a mark, none of a trait needs one, and no code calls `get`.
 - So do the functions of `bitpacking_c` that call these or one with a `Reads`, with what they call in turn. Those for blocks and chains of a

@@ -18,7 +18,6 @@ pub(crate) const LONGEST_BODY: usize = 1024;
 ///
 /// The widths go into `widths`, one for each block. The first block has `kind`; each one after it has the same kind with
 /// the last value of the block before as its initial value.
-// Reads values: pack_measured.
 pub fn pack_all<P: BitPacker>(
     packer: &P,
     kind: Kind,
@@ -39,7 +38,6 @@ pub fn pack_all<P: BitPacker>(
 
 /// Packs blocks as [`pack_all`] does, into a slice that has room for their chain and may have no more. [`packed_len`] returns how
 /// many bytes that is.
-// Reads values: for, num_bits_kind, compress_kind, next_kind.
 pub fn pack_measured<P: BitPacker>(
     packer: &P,
     kind: Kind,
@@ -65,7 +63,6 @@ pub fn pack_measured<P: BitPacker>(
 }
 
 /// The number of bytes that [`pack_all`] and [`pack_measured`] write for the whole blocks of these values.
-// Reads values: for, num_bits_kind, next_kind.
 pub fn packed_len<P: BitPacker>(packer: &P, kind: Kind, values: &[u32]) -> usize
     ensures { IsChainSize P.lanes kind values.now (length values.now / P.BLOCK_LEN) result }
 {
@@ -86,7 +83,6 @@ pub fn packed_len<P: BitPacker>(packer: &P, kind: Kind, values: &[u32]) -> usize
 /// Unpacks blocks that were packed as a chain and returns the number of bytes read.
 ///
 /// Any widths up to 32 are taken, and any bytes. Later bytes are not looked at.
-// Reads bytes: for, decompress_kind, next_kind.
 pub fn unpack_all<P: BitPacker>(
     packer: &P,
     kind: Kind,

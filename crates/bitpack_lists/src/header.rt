@@ -24,7 +24,6 @@ pub(crate) struct Header {
 
 impl Header {
     /// Reads the header of a text of this version, for a packer of `lanes` lanes.
-    // Reads bytes: read_one.
     #[tactic(auto, unfolding(crate::specs::Parts::header_fault))]
     pub(crate) fn read(version: u8, lanes: usize, bytes: &[u8]) -> Result<Header, ListError>
         ensures fault { FindsFault result (header_fault version lanes bytes.now) }

@@ -21,7 +21,6 @@ pub(crate) fn read_one(bytes: &[u8], index: usize) -> u32
 }
 
 /// Reads as many words as the slice has, from the first byte on.
-// Reads bytes: for, read_one.
 pub(crate) fn read_words(bytes: &[u8], values: &mut [u32])
     requires { 4 * length values.old ≤ length bytes.now }
     ensures { (k : ℕ) → k < length values.new → slice_index values.new k ≡ word bytes.now k }
@@ -32,7 +31,6 @@ pub(crate) fn read_words(bytes: &[u8], values: &mut [u32])
 }
 
 /// Appends the values whose bytes these are. There is room for them.
-// Reads bytes: for, read_one.
 pub(crate) fn read_all(bytes: &[u8], out: &mut Vec<u32>)
     requires room { vec_len out.old + length bytes.now / 4 ≤ vec_capacity out.old }
     ensures items { (values : List ℕ) → AreWords values → bytes.now ≡ bytes_of_words values

@@ -18,7 +18,6 @@ pub(crate) const MANY_WIDTHS: usize = 8192;
 
 /// How many bytes a text of the values has in version 1 or 2, with `entry_len` bytes for each whole block beside its body. The least widths
 /// of its first blocks are kept.
-// Reads values: blocks_len.
 pub(crate) fn text_len<P: BitPacker>(
     packer: &P,
     kind: ListKind,
@@ -44,7 +43,6 @@ pub(crate) fn text_len<P: BitPacker>(
 
 /// How many bytes the whole blocks of the values have in a text, with `entry_len` bytes for each beside its body. The least widths of the
 /// first blocks are kept.
-// Reads values: first, for, num_bits_kind, keep, next_kind.
 pub(crate) fn blocks_len<P: BitPacker>(
     packer: &P,
     kind: ListKind,
@@ -89,7 +87,6 @@ fn keep(widths: &mut [u8], index: usize, width: u8)
 }
 
 /// The least width of the block with this index: the one that was kept, or else measured again.
-// Reads values: num_bits_kind.
 pub(crate) fn width_of<P: BitPacker>(
     packer: &P,
     kind: Kind,

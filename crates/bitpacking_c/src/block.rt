@@ -8,7 +8,6 @@ use bitpacking::laws::one_least_width;
 use bitpacking::{Counted, Kind, MAX_WIDTH, Steps};
 
 /// Packs a block at a width.
-// Reads values: width_counted, pack_counted.
 #[inline(always)]
 pub(crate) fn compress<P: Counted>(
     packer: &P,
@@ -37,7 +36,6 @@ pub(crate) fn compress<P: Counted>(
 }
 
 /// Unpacks a block.
-// Reads bytes: unpack_counted.
 #[inline(always)]
 pub(crate) fn decompress<P: Counted>(
     packer: &P,
@@ -62,7 +60,6 @@ pub(crate) fn decompress<P: Counted>(
 }
 
 /// The least width of a block.
-// Reads values: width_counted.
 #[inline(always)]
 pub(crate) fn num_bits<P: Counted>(
     packer: &P,
@@ -79,7 +76,6 @@ pub(crate) fn num_bits<P: Counted>(
 }
 
 /// Packs a block at its least width, and gives the width.
-// Reads values: width_counted, pack_counted.
 #[inline(always)]
 pub(crate) fn pack<P: Counted>(
     packer: &P,

@@ -8,7 +8,6 @@ use bitpack_lists::chain;
 use bitpacking::{BitPacker, Kind, MAX_WIDTH};
 
 /// Packs blocks, each at its least width. If there is no room for any chain of these values, this one is measured first.
-// Reads values: pack_all, packed_len, pack_measured.
 #[inline(always)]
 pub(crate) fn pack_all<P: BitPacker>(
     packer: &P,
@@ -37,7 +36,6 @@ pub(crate) fn pack_all<P: BitPacker>(
 }
 
 /// Unpacks blocks that were packed as a chain.
-// Reads bytes: test_widths, unpack_all.
 #[inline(always)]
 pub(crate) fn unpack_all<P: BitPacker>(
     packer: &P,

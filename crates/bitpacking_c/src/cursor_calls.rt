@@ -12,7 +12,6 @@ use bitpack_lists::list2::{PackedList, Reads};
 use bitpacking::{BitPacker, BitPacker1x, BitPacker4x, BitPacker8x};
 
 /// Sets a cursor to the first value of a list. Unpacks at most one block.
-// Reads bytes: start, new.
 #[unsafe(no_mangle)]
 pub extern "C" fn bitpacking_cursor_start<'a>(cursor: &mut ListCursor<'a>, view: &ListView<'a>)
     ensures list { (cursor.new.list.bytes.now ≡ view.now.bytes.now) × (cursor.new.list.lanes ≡ view.now.lanes) }
@@ -46,7 +45,6 @@ pub extern "C" fn bitpacking_cursor_position(cursor: &ListCursor<'_>) -> usize
 
 /// Moves a cursor to the next value. Answers 1 if there is a value at the new place, and else 0. After the last value it stays. Unpacks at
 /// most one block, and none if the next value is in the block at hand.
-// Reads bytes: advance, new.
 #[unsafe(no_mangle)]
 pub extern "C" fn bitpacking_cursor_advance(cursor: &mut ListCursor<'_>) -> i32
     ensures list { cursor.new.list ≡ cursor.old.list }
@@ -58,7 +56,6 @@ pub extern "C" fn bitpacking_cursor_advance(cursor: &mut ListCursor<'_>) -> i32
 
 /// Moves a cursor to the first value from its place on that is at least the target. Answers 1; 0 if there is none, and then it is at the end;
 /// or -23 for a plain list, and then it stays. Unpacks at most one block, and none if the value is in the block at hand.
-// Reads bytes: seek, new.
 #[unsafe(no_mangle)]
 pub extern "C" fn bitpacking_cursor_seek(cursor: &mut ListCursor<'_>, target: u32) -> i32
     ensures list { cursor.new.list ≡ cursor.old.list }
@@ -69,7 +66,6 @@ pub extern "C" fn bitpacking_cursor_seek(cursor: &mut ListCursor<'_>, target: u3
 }
 
 /// Moves a cursor past the values of the block at hand, to the next one. Unpacks at most one block.
-// Reads bytes: skip_block, new.
 #[unsafe(no_mangle)]
 pub extern "C" fn bitpacking_cursor_skip_block(cursor: &mut ListCursor<'_>)
     ensures list { cursor.new.list ≡ cursor.old.list }
@@ -81,7 +77,6 @@ pub extern "C" fn bitpacking_cursor_skip_block(cursor: &mut ListCursor<'_>)
 
 /// Writes the values of a list from a position on to the front of `values`, as many as there are and as fit, and answers their number. The
 /// rest of `values` stays as it was. Each block that has one of them is unpacked once, and no other.
-// Reads bytes: new, unpack_from, unpack_from, unpack_from.
 #[unsafe(no_mangle)]
 pub extern "C" fn bitpacking_list_range(
     view: &ListView<'_>,
@@ -101,7 +96,6 @@ pub extern "C" fn bitpacking_list_range(
 }
 
 /// Unpacks a text of a packer from a position on.
-// Reads bytes: from_validated_any, copy_from.
 #[inline(always)]
 fn unpack_from<P: BitPacker>(
     packer: P,

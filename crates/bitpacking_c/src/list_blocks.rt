@@ -9,7 +9,6 @@ use bitpack_lists::list2::{PackedList, Reads};
 use bitpacking::{BitPacker, BitPacker1x, BitPacker4x, BitPacker8x, MAX_BLOCK_LEN};
 
 /// Unpacks the block of a number, or what is left after all blocks, and returns how many values it has.
-// Reads bytes: read_in, read_in, read_in.
 pub(crate) fn read_block(
     view: &ListView<'_>,
     block: usize,
@@ -30,7 +29,6 @@ pub(crate) fn read_block(
 }
 
 /// Reads a block of a text of a packer.
-// Reads bytes: from_validated_any, read_block.
 #[inline(always)]
 fn read_in<P: BitPacker>(
     packer: P,
@@ -50,7 +48,6 @@ fn read_in<P: BitPacker>(
 
 /// Finds the first block from one on whose last value is at least the target, and unpacks it, or what is left after all blocks. Returns
 /// its number, and how many values it has.
-// Reads bytes: find_in, find_in, find_in.
 pub(crate) fn find_block(
     view: &ListView<'_>,
     from: usize,
@@ -76,7 +73,6 @@ pub(crate) fn find_block(
 }
 
 /// Finds and reads a block of a text of a packer.
-// Reads bytes: from_validated_any, find_block, read_block.
 #[inline(always)]
 fn find_in<P: BitPacker>(
     packer: P,

@@ -63,7 +63,6 @@ impl<'a> ListCursor<'a> {
     }
 
     /// At the first value of a list. Unpacks its first block.
-    // Reads bytes: read_block, kind.
     pub(crate) fn start(&mut self, view: &ListView<'a>, reads: &mut Reads)
         ensures list { (self.new.list.bytes.now ≡ view.now.bytes.now) × (self.new.list.lanes ≡ view.now.lanes) }
         ensures first { position self.new ≡ 0 }
@@ -115,7 +114,6 @@ impl<'a> ListCursor<'a> {
     }
 
     /// Moves to the next value. After the last value it stays.
-    // Reads bytes: next_block.
     #[inline(always)]
     pub(crate) fn advance(&mut self, reads: &mut Reads) -> i32
         ensures moved { (kind : ListKind) (all : List ℕ) → IsListOfCursor self.old kind all
@@ -131,7 +129,6 @@ impl<'a> ListCursor<'a> {
     }
 
     /// Moves past the values of `block`.
-    // Reads bytes: next_block.
     pub(crate) fn skip_block(&mut self, reads: &mut Reads)
         ensures moved { (kind : ListKind) (all : List ℕ) → IsListOfCursor self.old kind all
             → position self.new ≡ position self.old + left_at_hand self.old }
@@ -144,7 +141,6 @@ impl<'a> ListCursor<'a> {
     }
 
     // Moves from the last value at hand to the next block, or to the end.
-    // Reads bytes: is_whole, read_block.
     fn next_block(&mut self, reads: &mut Reads)
         requires { self.old.len ≤ self.old.index + 1 }
         ensures next { (kind : ListKind) (all : List ℕ) → IsListOfCursor self.old kind all
@@ -172,7 +168,6 @@ impl<'a> ListCursor<'a> {
     }
 
     /// Moves to the first value from here on that is at least the target, or to the end. In a plain list it stays.
-    // Reads bytes: first_from, leap.
     #[inline(always)]
     pub(crate) fn seek(&mut self, target: u32, reads: &mut Reads) -> i32
         ensures moved { (kind : ListKind) (all : List ℕ) → IsListOfCursor self.old kind all
@@ -191,7 +186,6 @@ impl<'a> ListCursor<'a> {
     }
 
     // Seeks if no value at hand is at least the target.
-    // Reads bytes: is_whole, find_block, first_from.
     fn leap(&mut self, target: u32, reads: &mut Reads)
         requires ordered { self.old.ordered ≢ 0 }
         requires below { self.old.index < self.old.len → slice_index self.old.values (self.old.len - 1) < target }

@@ -13,7 +13,6 @@ use bitpacking::{BitPacker, BitPacker1x, BitPacker4x, BitPacker8x};
 ///
 /// If the text has no room it answers -3, and for a fault the number of the first. Then nothing is written but the position of a value
 /// out of order.
-// Reads bytes: answer, pack.
 #[unsafe(no_mangle)]
 pub extern "C" fn bitpacking_1x_list_pack(
     version: u8,
@@ -31,7 +30,6 @@ pub extern "C" fn bitpacking_1x_list_pack(
 }
 
 /// Writes the text of the values, packed in four lanes, as [`bitpacking_1x_list_pack`] does.
-// Reads bytes: answer, pack.
 #[unsafe(no_mangle)]
 pub extern "C" fn bitpacking_4x_list_pack(
     version: u8,
@@ -49,7 +47,6 @@ pub extern "C" fn bitpacking_4x_list_pack(
 }
 
 /// Writes the text of the values, packed in eight lanes, as [`bitpacking_1x_list_pack`] does.
-// Reads bytes: answer, pack.
 #[unsafe(no_mangle)]
 pub extern "C" fn bitpacking_8x_list_pack(
     version: u8,
@@ -67,7 +64,6 @@ pub extern "C" fn bitpacking_8x_list_pack(
 }
 
 /// The number of bytes that [`bitpacking_1x_list_pack`] writes for the values. It answers the same faults.
-// Reads values: answer, size.
 #[unsafe(no_mangle)]
 pub extern "C" fn bitpacking_1x_list_size(
     version: u8,
@@ -81,7 +77,6 @@ pub extern "C" fn bitpacking_1x_list_size(
 }
 
 /// The number of bytes that [`bitpacking_4x_list_pack`] writes for the values.
-// Reads values: answer, size.
 #[unsafe(no_mangle)]
 pub extern "C" fn bitpacking_4x_list_size(
     version: u8,
@@ -95,7 +90,6 @@ pub extern "C" fn bitpacking_4x_list_size(
 }
 
 /// The number of bytes that [`bitpacking_8x_list_pack`] writes for the values.
-// Reads values: answer, size.
 #[unsafe(no_mangle)]
 pub extern "C" fn bitpacking_8x_list_size(
     version: u8,
@@ -126,7 +120,6 @@ fn kind_numbered(version: u8, kind: u8) -> Result<ListKind, ListError>
 }
 
 /// Writes the text of the values.
-// Reads bytes: kind_numbered, encode_to, encode_to.
 #[inline(always)]
 fn pack<P: BitPacker>(
     packer: &P,
@@ -148,7 +141,6 @@ fn pack<P: BitPacker>(
 }
 
 /// The length of the text of the values.
-// Reads values: kind_numbered, encoded_len, encoded_len.
 #[inline(always)]
 fn size<P: BitPacker>(packer: &P, version: u8, kind: u8, values: &[u32]) -> Result<usize, ListError>
     ensures size { GivesSize P.lanes version kind values.now result }

@@ -26,7 +26,6 @@ use bitpacking::{BitPacker, BitPacker1x, BitPacker4x, BitPacker8x};
 
 /// Writes the values that all of the lists have to the front of `out`, each once and in increasing order, and answers their number.
 /// If a list is plain it answers -23, and if there is less room than the length of the shortest list -3; then it writes nothing.
-// Reads bytes: has_plain, shortest, intersect.
 #[unsafe(no_mangle)]
 pub extern "C" fn bitpacking_list_intersect(views: &[ListView<'_>], out: &mut [u32]) -> isize
     ensures { (lists : Lists) → AreListsOf views.now lists → Intersects lists out.old out.new result }
@@ -45,7 +44,6 @@ pub extern "C" fn bitpacking_list_intersect(views: &[ListView<'_>], out: &mut [u
 }
 
 /// Writes what all of the lists have. The one at the index is the shortest. Returns how many values this is.
-// Reads bytes: copy_distinct, for, keep_shared.
 fn intersect(views: &[ListView<'_>], shortest: usize, out: &mut [u32]) -> usize
     requires shortest { shortest < length views.now }
     requires ordered { All IsInOrder views.now }
@@ -67,7 +65,6 @@ fn intersect(views: &[ListView<'_>], shortest: usize, out: &mut [u32]) -> usize
 /// Writes the values that any of the lists has to the front of `out`, each once and in increasing order, and answers their number.
 /// If a list is plain it answers -23, and if there is less room than the sum of the lengths -3; then it writes nothing. It merges the
 /// lists in turn, and is fastest if the longest is last.
-// Reads bytes: has_plain, has_room, unite.
 #[unsafe(no_mangle)]
 pub extern "C" fn bitpacking_list_unite(views: &[ListView<'_>], out: &mut [u32]) -> isize
     ensures { (lists : Lists) → AreListsOf views.now lists → Unites lists out.old out.new result }
@@ -82,7 +79,6 @@ pub extern "C" fn bitpacking_list_unite(views: &[ListView<'_>], out: &mut [u32])
 }
 
 /// Writes what any of the lists has. Returns how many values this is.
-// Reads bytes: for, add_distinct.
 fn unite(views: &[ListView<'_>], out: &mut [u32]) -> usize
     requires { All IsInOrder views.now × HasRoom views.now (length out.old) }
     ensures few { result ≤ length out.old }
@@ -98,7 +94,6 @@ fn unite(views: &[ListView<'_>], out: &mut [u32]) -> usize
 
 /// Writes the values of the first list that no other has to the front of `out`, each once and in increasing order, and answers their
 /// number. If a list is plain it answers -23, and if there is less room than the length of the first -3; then it writes nothing.
-// Reads bytes: has_plain, bitpacking_list_len, subtract.
 #[unsafe(no_mangle)]
 pub extern "C" fn bitpacking_list_subtract(views: &[ListView<'_>], out: &mut [u32]) -> isize
     ensures { (lists : Lists) → AreListsOf views.now lists → Subtracts lists out.old out.new result }
@@ -116,7 +111,6 @@ pub extern "C" fn bitpacking_list_subtract(views: &[ListView<'_>], out: &mut [u3
 }
 
 /// Writes what the first list has and no other. Returns how many values this is.
-// Reads bytes: copy_distinct, for, keep_others.
 fn subtract(views: &[ListView<'_>], out: &mut [u32]) -> usize
     requires some { 0 < length views.now }
     requires ordered { All IsInOrder views.now }
@@ -134,7 +128,6 @@ fn subtract(views: &[ListView<'_>], out: &mut [u32]) -> usize
 }
 
 /// The index and the length of the first list that is not longer than another.
-// Reads bytes: bitpacking_list_len, for, bitpacking_list_len.
 fn shortest(views: &[ListView<'_>]) -> (usize, usize)
     requires { 0 < length views.now }
     ensures within { result.0 < length views.now }
@@ -154,7 +147,6 @@ fn shortest(views: &[ListView<'_>]) -> (usize, usize)
 }
 
 /// Whether there is room for the values of all lists, one list after the other.
-// Reads bytes: for, bitpacking_list_len.
 fn has_room(views: &[ListView<'_>], room: usize) -> bool
     ensures room { result ≡ true → HasRoom views.now room }
     ensures short { result ≡ false → (lists : Lists) → AreListsOf views.now lists → room < total_len lists }
@@ -171,7 +163,6 @@ fn has_room(views: &[ListView<'_>], room: usize) -> bool
 }
 
 /// Whether a list is plain.
-// Reads bytes: for, kind.
 fn has_plain(views: &[ListView<'_>]) -> bool
     ensures plain { (lists : Lists) → AreListsOf views.now lists → result ≡ any_plain lists }
     ensures ordered { result ≡ false → All IsInOrder views.now }
@@ -185,7 +176,6 @@ fn has_plain(views: &[ListView<'_>]) -> bool
 }
 
 /// The values of a list of a packer, each once.
-// Reads bytes: from_validated_any, cursor.
 #[inline(always)]
 fn distinct_of<'a, P: BitPacker>(packer: P, view: &ListView<'a>) -> DistinctValues<'a, P>
     requires lanes { view.now.lanes ≡ P.lanes }
@@ -198,7 +188,6 @@ fn distinct_of<'a, P: BitPacker>(packer: P, view: &ListView<'a>) -> DistinctValu
 }
 
 /// Writes the values of a list, each once, and returns how many these are.
-// Reads bytes: copy_distinct_of, copy_distinct_of, copy_distinct_of.
 fn copy_distinct(view: &ListView<'_>, out: &mut [u32]) -> usize
     requires { IsInOrder view.now × FitsIn (length out.old) view.now }
     ensures { Adds view.now [] out.new result }
@@ -212,7 +201,6 @@ fn copy_distinct(view: &ListView<'_>, out: &mut [u32]) -> usize
 }
 
 /// Writes the values of a list of a packer. Those of a list that is strictly sorted are unpacked straight into their place.
-// Reads bytes: from_validated_any, kind, copy_to, collect_to, distinct_of.
 fn copy_distinct_of<P: BitPacker>(packer: P, view: &ListView<'_>, out: &mut [u32]) -> usize
     requires lanes { view.now.lanes ≡ P.lanes }
     requires room { IsInOrder view.now × FitsIn (length out.old) view.now }
@@ -226,7 +214,6 @@ fn copy_distinct_of<P: BitPacker>(packer: P, view: &ListView<'_>, out: &mut [u32
 }
 
 /// Keeps the values that a list has too, and returns how many these are.
-// Reads bytes: intersect_in_place, distinct_of, intersect_in_place, distinct_of, intersect_in_place, distinct_of.
 fn keep_shared(view: &ListView<'_>, values: &mut [u32]) -> usize
     requires { IsInOrder view.now × IsStrictlyIncreasing values.old }
     ensures { Leaves view.now (λ all v. has values.old v && has all v) values.new result }
@@ -240,7 +227,6 @@ fn keep_shared(view: &ListView<'_>, values: &mut [u32]) -> usize
 }
 
 /// Keeps the values that a list lacks, and returns how many these are.
-// Reads bytes: subtract_in_place, distinct_of, subtract_in_place, distinct_of, subtract_in_place, distinct_of.
 fn keep_others(view: &ListView<'_>, values: &mut [u32]) -> usize
     requires { IsInOrder view.now × IsStrictlyIncreasing values.old }
     ensures { Leaves view.now (λ all v. has values.old v && not (has all v)) values.new result }
@@ -254,7 +240,6 @@ fn keep_others(view: &ListView<'_>, values: &mut [u32]) -> usize
 }
 
 /// Adds the values of a list to the first `count` of a slice, and returns how many these are together.
-// Reads bytes: copy_distinct, add_distinct_of, add_distinct_of, add_distinct_of.
 fn add_distinct(view: &ListView<'_>, count: usize, values: &mut [u32]) -> usize
     requires { CanAdd view.now count values.old }
     ensures { Adds view.now (take count values.old) values.new result }
@@ -272,7 +257,6 @@ fn add_distinct(view: &ListView<'_>, count: usize, values: &mut [u32]) -> usize
 }
 
 /// Adds the values of a list of a packer.
-// Reads bytes: unite_in_place, distinct_of.
 fn add_distinct_of<P: BitPacker>(
     packer: P,
     view: &ListView<'_>,

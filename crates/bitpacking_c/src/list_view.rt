@@ -29,7 +29,6 @@ pub struct ListView<'a> {
 }
 
 /// Opens a text of a packer of `lanes` lanes.
-// Reads bytes: keep, open.
 #[inline(always)]
 fn open<'a, P: BitPacker>(packer: P, lanes: u8, bytes: &'a [u8], view: &mut ListView<'a>) -> isize
     requires lanes { lanes ≡ P.lanes }
@@ -42,7 +41,6 @@ fn open<'a, P: BitPacker>(packer: P, lanes: u8, bytes: &'a [u8], view: &mut List
 }
 
 /// Opens a text of version 2 that was packed in one lane, which is tested whole. Answers 0, or the number of the first fault.
-// Reads bytes: open.
 #[unsafe(no_mangle)]
 pub extern "C" fn bitpacking_1x_list_open<'a>(bytes: &'a [u8], view: &mut ListView<'a>) -> isize
     ensures answer { result ≡ fault_number (fault2 1 bytes.now) }
@@ -53,7 +51,6 @@ pub extern "C" fn bitpacking_1x_list_open<'a>(bytes: &'a [u8], view: &mut ListVi
 }
 
 /// Opens a text that was packed in four lanes, as [`bitpacking_1x_list_open`] does.
-// Reads bytes: open.
 #[unsafe(no_mangle)]
 pub extern "C" fn bitpacking_4x_list_open<'a>(bytes: &'a [u8], view: &mut ListView<'a>) -> isize
     ensures answer { result ≡ fault_number (fault2 4 bytes.now) }
@@ -64,7 +61,6 @@ pub extern "C" fn bitpacking_4x_list_open<'a>(bytes: &'a [u8], view: &mut ListVi
 }
 
 /// Opens a text that was packed in eight lanes, as [`bitpacking_1x_list_open`] does.
-// Reads bytes: open.
 #[unsafe(no_mangle)]
 pub extern "C" fn bitpacking_8x_list_open<'a>(bytes: &'a [u8], view: &mut ListView<'a>) -> isize
     ensures answer { result ≡ fault_number (fault2 8 bytes.now) }
@@ -75,7 +71,6 @@ pub extern "C" fn bitpacking_8x_list_open<'a>(bytes: &'a [u8], view: &mut ListVi
 }
 
 /// Opens a text of version 2 or 3 of any packer, as it says itself. It is tested whole. Answers 0, or the number of the first fault.
-// Reads bytes: stated_lanes, open_any, open_any, open_any.
 #[unsafe(no_mangle)]
 pub extern "C" fn bitpacking_list_open<'a>(bytes: &'a [u8], view: &mut ListView<'a>) -> isize
     ensures answer { result ≡ fault_number (fault_of_any bytes.now) }
@@ -91,7 +86,6 @@ pub extern "C" fn bitpacking_list_open<'a>(bytes: &'a [u8], view: &mut ListView<
 }
 
 /// Opens a text of version 2 or 3 of a packer of this many lanes.
-// Reads bytes: keep, open_any.
 #[inline(always)]
 fn open_any<'a, P: BitPacker>(
     packer: P,
@@ -155,7 +149,6 @@ fn stated_lanes(bytes: &[u8]) -> u8
 }
 
 /// How many values the list has.
-// Reads bytes: from_validated_any, from_validated_any, from_validated_any.
 #[unsafe(no_mangle)]
 pub extern "C" fn bitpacking_list_len(view: &ListView<'_>) -> usize
     ensures { (kind : ListKind) (values : List ℕ) → IsListOf view.now.lanes view.now.bytes.now kind values
@@ -170,7 +163,6 @@ pub extern "C" fn bitpacking_list_len(view: &ListView<'_>) -> usize
 }
 
 /// The kind of the list.
-// Reads bytes: from_validated_any, kind, from_validated_any, kind, from_validated_any, kind.
 pub(crate) fn kind(view: &ListView<'_>) -> ListKind
     ensures { (kind : ListKind) (values : List ℕ) → IsListOf view.now.lanes view.now.bytes.now kind values
         → result ≡ kind }
@@ -184,7 +176,6 @@ pub(crate) fn kind(view: &ListView<'_>) -> ListKind
 }
 
 /// The kind of the list: 0 for plain, 1 for sorted, 2 for strictly sorted.
-// Reads bytes: kind.
 #[unsafe(no_mangle)]
 pub extern "C" fn bitpacking_list_kind(view: &ListView<'_>) -> u8
     ensures { (kind : ListKind) (values : List ℕ) → IsListOf view.now.lanes view.now.bytes.now kind values
@@ -198,7 +189,6 @@ pub extern "C" fn bitpacking_list_kind(view: &ListView<'_>) -> u8
 }
 
 /// The value at a position.
-// Reads bytes: from_validated_any, get, from_validated_any, get, from_validated_any, get.
 fn value(view: &ListView<'_>, position: usize) -> Option<u32>
     ensures { (kind : ListKind) (values : List ℕ) → IsListOf view.now.lanes view.now.bytes.now kind values
         → result ≡ slice_get values position }
@@ -212,7 +202,6 @@ fn value(view: &ListView<'_>, position: usize) -> Option<u32>
 }
 
 /// Writes the value at a position and answers 1. From the length on it answers 0 and writes nothing. One block is unpacked at most.
-// Reads bytes: value.
 #[unsafe(no_mangle)]
 pub extern "C" fn bitpacking_list_get(view: &ListView<'_>, position: usize, item: &mut u32) -> i32
     ensures { (kind : ListKind) (values : List ℕ) → IsListOf view.now.lanes view.now.bytes.now kind values
@@ -229,7 +218,6 @@ pub extern "C" fn bitpacking_list_get(view: &ListView<'_>, position: usize, item
 
 /// Writes all values to the front of `values`, and answers their number. If there is no room for them it answers -3 and writes nothing.
 /// The rest of `values` stays as it was. Each block is unpacked once.
-// Reads bytes: unpack, unpack, unpack.
 #[unsafe(no_mangle)]
 pub extern "C" fn bitpacking_list_unpack(view: &ListView<'_>, values: &mut [u32]) -> isize
     ensures { (kind : ListKind) (all : List ℕ) → IsListOf view.now.lanes view.now.bytes.now kind all
@@ -244,7 +232,6 @@ pub extern "C" fn bitpacking_list_unpack(view: &ListView<'_>, values: &mut [u32]
 }
 
 /// Unpacks a text of a packer.
-// Reads bytes: from_validated_any, copy_to.
 #[inline(always)]
 fn unpack<P: BitPacker>(packer: P, bytes: &[u8], values: &mut [u32]) -> isize
     requires { fault_of_either P.lanes bytes.now ≡ None }
@@ -259,7 +246,6 @@ fn unpack<P: BitPacker>(packer: P, bytes: &[u8], values: &mut [u32]) -> isize
 }
 
 /// The first value that is at least the target, with its position.
-// Reads bytes: from_validated_any, seek, from_validated_any, seek, from_validated_any, seek.
 fn first_at_least(view: &ListView<'_>, target: u32, reads: &mut Reads) -> Option<(usize, u32)>
     requires { (kind : ListKind) (values : List ℕ) → IsListOf view.now.lanes view.now.bytes.now kind values
         → kind ≢ ListKind.Plain }
@@ -277,7 +263,6 @@ fn first_at_least(view: &ListView<'_>, target: u32, reads: &mut Reads) -> Option
 }
 
 /// The search, with the entries and blocks that it reads.
-// Reads bytes: kind, first_at_least.
 fn seek(
     view: &ListView<'_>,
     target: u32,
@@ -304,7 +289,6 @@ fn seek(
 /// Writes the position and the value of the first value that is at least the target, and answers 1. If every value is below it, it
 /// answers 0, and for a plain list, which has no order, -23; both write nothing. At most one block is unpacked. In version 3 the last entry
 /// is read twice more than the search reads it.
-// Reads bytes: seek, new.
 #[unsafe(no_mangle)]
 pub extern "C" fn bitpacking_list_seek(
     view: &ListView<'_>,

@@ -19,7 +19,6 @@ use bitpacking::{BitPacker, Kind};
 ///
 /// Any bytes are taken. The whole text is tested before a value is appended, and the vector grows once at most, by as many
 /// values as the text has: at most 32 for each lane and byte of the text.
-// Reads bytes: test, read_blocks.
 pub fn decode<P: BitPacker>(
     packer: &P,
     bytes: &[u8],
@@ -47,7 +46,6 @@ pub fn decode<P: BitPacker>(
 }
 
 /// Tests the whole text.
-// Reads bytes: read, test_blocks.
 pub(crate) fn test<P: BitPacker>(packer: &P, bytes: &[u8]) -> Result<Header, ListError>
     ensures fault { FindsFault result (fault1 P.lanes bytes.now) }
     ensures header { IfOk result (λ header. BeginsWithHeader 1 P.lanes header.kind header.count bytes.now) }
@@ -115,7 +113,6 @@ fn test_block<'a, P: BitPacker>(
 }
 
 /// Appends the values of blocks and tail that were tested. There is room for them.
-// Reads bytes: first, for, read_block, read_all.
 fn read_blocks<P: BitPacker>(packer: &P, header: Header, bytes: &[u8], out: &mut Vec<u32>)
     requires sound { IsSound1 P.lanes header.count bytes.now }
     requires room { vec_len out.old + header.count ≤ vec_capacity out.old }
@@ -133,7 +130,6 @@ fn read_blocks<P: BitPacker>(packer: &P, header: Header, bytes: &[u8], out: &mut
 }
 
 /// Appends the values of the block at the front of the bytes. Returns the kind of the block after it, and the bytes there.
-// Reads bytes: append_zeros, unpack_block.
 #[inline(always)]
 fn read_block<'a, P: BitPacker>(
     packer: &P,
@@ -152,7 +148,6 @@ fn read_block<'a, P: BitPacker>(
 }
 
 /// Unpacks the block at the front of the bytes. Returns the kind of the block after it, and the bytes there.
-// Reads bytes: decompress_kind, next_kind, last_value.
 #[inline(always)]
 pub(crate) fn unpack_block<'a, P: BitPacker>(
     packer: &P,

@@ -21,7 +21,6 @@ use bitpacking::{BitPacker, Kind};
 /// Appends the text of the values. They may be in any order, whatever the kind.
 ///
 /// A list has at most 268,435,456 values. The vector grows once at most.
-// Reads values: text_len, write, write_blocks, first.
 pub fn encode<P: BitPacker>(
     packer: &P,
     kind: ListKind,
@@ -57,7 +56,6 @@ pub fn encode<P: BitPacker>(
 }
 
 /// Appends the blocks and the tail of the values. There is room for them. The widths are the ones that were kept.
-// Reads values: for, width_of, write_block, next_kind, write_all.
 fn write_blocks<P: BitPacker>(
     packer: &P,
     kind: Kind,

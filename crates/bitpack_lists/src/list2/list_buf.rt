@@ -37,7 +37,6 @@ impl<P: BitPacker> ListBuf<P> {
     /// Opens a text of version 2, which is tested whole. Accepts any bytes, and allocates nothing.
     ///
     /// Returns the bytes beside the first fault if they are refused.
-    // Reads bytes: open.
     pub fn open(packer: P, bytes: Vec<u8>) -> Result<ListBuf<P>, (ListError, Vec<u8>)>
         ensures sound { IfOk result (λ _. fault2 P.lanes bytes.items ≡ None) }
         ensures bytes { IfOk result (λ list. bytes_of_buf list ≡ bytes.items) }
@@ -52,7 +51,6 @@ impl<P: BitPacker> ListBuf<P> {
     }
 
     /// Opens a text of version 2 or 3, whichever its first byte says, as [`ListBuf::open`] does.
-    // Reads bytes: open_any.
     pub fn open_any(packer: P, bytes: Vec<u8>) -> Result<ListBuf<P>, (ListError, Vec<u8>)>
         ensures sound { IfOk result (λ _. fault_of_either P.lanes bytes.items ≡ None) }
         ensures bytes { IfOk result (λ list. bytes_of_buf list ≡ bytes.items) }
@@ -68,7 +66,6 @@ impl<P: BitPacker> ListBuf<P> {
     /// Packs values, which are in the order of their kind, as [`encode`] does.
     ///
     /// Fails with `TooLong`, with `NotSorted`, or with `Memory`.
-    // Reads bytes: encode.
     pub fn from_values(
         alloc: Global,
         packer: P,
@@ -90,7 +87,6 @@ impl<P: BitPacker> ListBuf<P> {
     }
 
     /// The list, which borrows the text. Nothing is tested again.
-    // Reads bytes: from_validated_any.
     pub fn as_list(&self) -> PackedList<'_, P>
         ensures text { text result ≡ bytes_of_buf self.now }
         ensures kind { kind_of result ≡ kind_of_buf self.now }

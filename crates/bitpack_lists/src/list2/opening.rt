@@ -17,7 +17,6 @@ use crate::loose::fits_smaller;
 use bitpacking::{BitPacker, Kind};
 
 /// Tests the whole text, and returns its header.
-// Reads bytes: read, test_rest.
 pub(crate) fn test<P: BitPacker>(packer: &P, bytes: &[u8]) -> Result<Header, ListError>
     ensures fault { FindsFault result (fault2 P.lanes bytes.now) }
     ensures header { IfOk result (λ header. BeginsWithHeader 2 P.lanes header.kind header.count bytes.now) }
@@ -28,7 +27,6 @@ pub(crate) fn test<P: BitPacker>(packer: &P, bytes: &[u8]) -> Result<Header, Lis
 }
 
 /// Tests what is after the header.
-// Reads bytes: test_blocks, first_out_of_words.
 fn test_rest<P: BitPacker>(packer: &P, header: Header, rest: &[u8]) -> Result<(), ListError>
     requires { header.count ≤ 2 ^ 28 }
     ensures { FindsFault result (rest_fault2 P.lanes header.kind header.count rest.now) }
@@ -62,7 +60,6 @@ pub(crate) struct TestedBlocks {
 }
 
 /// Tests the blocks of a list, after which come this many bytes or more.
-// Reads bytes: test_room, test_entries, test_room, test_bodies.
 pub(crate) fn test_blocks<P: BitPacker>(
     packer: &P,
     header: Header,
@@ -112,7 +109,6 @@ fn test_room(bytes: &[u8], end: usize) -> Result<(), ListError>
 }
 
 /// Tests the entries of all blocks, and returns the sum of their widths.
-// Reads bytes: new, for, entry.
 fn test_entries(rest: &[u8], blocks: usize) -> Result<usize, ListError>
     requires few { blocks ≤ 2 ^ 28 }
     requires room { ENTRY_LEN * blocks ≤ length rest.now }
@@ -137,7 +133,6 @@ fn test_entries(rest: &[u8], blocks: usize) -> Result<usize, ListError>
 
 /// Tests the bodies of the blocks, whose entries were tested. Returns the last value of the last block, the first position out of
 /// order in the blocks, and the kind of what follows.
-// Reads bytes: first, new, for, entry, unpack, body, test_block, first_out, next_kind.
 fn test_bodies<P: BitPacker>(
     packer: &P,
     header: Header,

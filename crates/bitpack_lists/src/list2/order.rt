@@ -103,7 +103,6 @@ fn falls(strict: bool, values: &[u32]) -> bool
 }
 
 /// As above, of `count` values, given as their bytes.
-// Reads bytes: for, read_one, is_out.
 pub(crate) fn first_out_of_words(
     kind: ListKind,
     position: usize,

@@ -80,7 +80,6 @@ impl<'a, P: BitPacker> Clone for PackedList<'a, P> {
 
     ghost is_infallible = { λ _. ⊤ };
 
-    // Reads bytes: packer, bytes, rest, tail.
     fn clone(&self) -> Result<Self, AllocError> {
         Ok(PackedList {
             packer: self.packer,
@@ -103,7 +102,6 @@ impl<'a, P: BitPacker> PackedList<'a, P> {
     ghost use Rattle.bitpack_lists.specs.Version2.{List2, fault2};
 
     /// Opens a text of version 2, which is tested whole. Any bytes are taken, and no memory.
-    // Reads bytes: test, packer, bytes, of_text.
     pub fn open(packer: P, bytes: &'a [u8]) -> Result<PackedList<'a, P>, ListError>
         // Bytes with a fault are refused for the first, and bytes without one are opened.
         ensures fault { FindsFault result (fault2 P.lanes bytes.now) }
@@ -120,7 +118,6 @@ impl<'a, P: BitPacker> PackedList<'a, P> {
 
     /// The list of a text of version 2 that was opened before: the blocks are not tested again. It is for a caller who keeps the
     /// text alone, and the fact that it has no fault.
-    // Reads bytes: read, bytes, of_text, packer.
     pub fn from_validated(packer: P, bytes: &'a [u8]) -> PackedList<'a, P>
         requires sound { fault2 P.lanes bytes.now ≡ None }
         ensures bytes { text result ≡ bytes.now }
@@ -135,7 +132,6 @@ impl<'a, P: BitPacker> PackedList<'a, P> {
     }
 
     // The list of a text of version 2 that has this header.
-    // Reads bytes: bytes, packer, first.
     fn of_text(packer: P, header: Header, bytes: &'a [u8]) -> PackedList<'a, P>
         requires sound { fault2 P.lanes bytes.now ≡ None }
         requires begins { BeginsWithHeader 2 P.lanes header.kind header.count bytes.now }
@@ -170,7 +166,6 @@ impl<'a, P: BitPacker> PackedList<'a, P> {
     }
 
     /// The value at a position, or `None` from the length on. Unpacks at most one block, or the groups of the tail up to the value.
-    // Reads bytes: value_in_block, value_in_tail.
     pub fn get(&self, position: usize) -> Option<u32>
         ensures { result ≡ slice_get (values self.now) position }
     {
@@ -192,7 +187,6 @@ impl<'a, P: BitPacker> PackedList<'a, P> {
     ghost use Rattle.bitpack_lists.specs.Version2.{kind_at, last_at, offset_at, width_at};
 
     /// The value at an index of a whole block.
-    // Reads bytes: new, entry, kind_of, unpack.
     fn value_in_block(&self, number: usize, index: usize) -> u32
         requires block { number < blocks_of self.now }
         requires index { index < P.BLOCK_LEN }
@@ -226,7 +220,6 @@ impl<'a, P: BitPacker> PackedList<'a, P> {
     }
 
     /// Reads the entry of a block, which is in the text.
-    // Reads bytes: entry, rest.
     pub(crate) fn entry(&self, block: usize, reads: &mut Reads) -> Entry
         requires { block < blocks_of self.now }
         ensures width { result.width ≡ width_at (rest_of self.now) block }
@@ -239,7 +232,6 @@ impl<'a, P: BitPacker> PackedList<'a, P> {
     }
 
     /// Unpacks a block, whose body is in the text.
-    // Reads bytes: unpack, packer, rest.
     fn unpack(&self, block: ListBlock, values: &mut [u32], reads: &mut Reads)
         requires block { IsListBlock self.now block }
         requires room { P.BLOCK_LEN ≤ length values.old }

@@ -47,7 +47,6 @@ impl Reads {
     {}
 
     /// Reads the entry of a block. The bytes are those after a header.
-    // Reads bytes: record, read_one, read_one.
     pub(crate) fn entry(&mut self, rest: &[u8], block: usize) -> Entry
         requires { ENTRY_LEN * block + ENTRY_LEN ≤ length rest.now }
         ensures width { result.width ≡ width_at rest.now block }
@@ -66,7 +65,6 @@ impl Reads {
     }
 
     /// Unpacks the block of an entry, in a list of `blocks` blocks. The bytes are the ones after a header.
-    // Reads bytes: record, body, decompress_kind.
     pub(crate) fn unpack<P: BitPacker>(
         &mut self,
         packer: &P,

@@ -27,7 +27,6 @@ use bitpacking::{BitPacker, Kind};
 /// may not decrease, and the values of a strictly sorted one have to increase. The bodies of the blocks are copied, since they are
 /// the same bytes in both versions. The vector grows at most once, by the length of the new text, which has eight bytes more than
 /// the old one for each whole block.
-// Reads bytes: test, test_order, write, write_entries, copy_bodies, append.
 pub fn upgrade<P: BitPacker>(packer: &P, bytes: &[u8], out: &mut Vec<u8>) -> Result<(), ListError>
     // The bytes are the text of some values, and what is appended is the text of version 2 of the same.
     ensures ok { OnOk result ((kind : ListKind) × (values : List ℕ) × (text : List ℕ)
@@ -64,7 +63,6 @@ pub fn upgrade<P: BitPacker>(packer: &P, bytes: &[u8], out: &mut Vec<u8>) -> Res
 
 /// Tests the order of the values whose blocks and tail these bytes are. Returns the kind of what follows the blocks, or the first
 /// position out of order.
-// Reads bytes: first, for, unpack_block, first_out, first_out_of_words.
 pub(crate) fn test_order<P: BitPacker>(
     packer: &P,
     header: Header,
@@ -100,7 +98,6 @@ pub(crate) fn test_order<P: BitPacker>(
 }
 
 /// Appends an entry for each whole block. There is room for them.
-// Reads bytes: first, for, unpack_block, write.
 pub(crate) fn write_entries<P: BitPacker>(
     packer: &P,
     header: Header,

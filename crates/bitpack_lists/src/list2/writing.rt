@@ -24,7 +24,6 @@ use bitpacking::BitPacker;
 /// decrease, and strictly sorted ones increase.
 ///
 /// A list has at most 268,435,456 values. The vector grows once at most.
-// Reads bytes: test_values, text_len, append_zeros, write_text.
 pub fn encode<P: BitPacker>(
     packer: &P,
     kind: ListKind,
@@ -62,7 +61,6 @@ pub fn encode<P: BitPacker>(
 ///
 /// The values have to be in the order of their kind, as for [`encode`]. A slice that is too short is refused with `Short`; then
 /// nothing is written. The bytes after the text stay as they were. [`encoded_len`] tells how many bytes are needed.
-// Reads bytes: test_values, write_to, write_to.
 pub fn encode_to<P: BitPacker>(
     packer: &P,
     kind: ListKind,
@@ -88,7 +86,6 @@ pub fn encode_to<P: BitPacker>(
 }
 
 /// Writes the text of values without a fault as `encode_to` does, with room for the widths that are kept.
-// Reads bytes: text_len, write_text.
 fn write_to<P: BitPacker>(
     packer: &P,
     kind: ListKind,
@@ -108,7 +105,6 @@ fn write_to<P: BitPacker>(
 }
 
 /// The length in bytes of the text of the values, which have to be in the order of their kind, as for [`encode`].
-// Reads values: test_values, text_len.
 pub fn encoded_len<P: BitPacker>(
     packer: &P,
     kind: ListKind,
@@ -125,7 +121,6 @@ pub fn encoded_len<P: BitPacker>(
 }
 
 /// Fills the slice with the text of the values. The caller has measured it, and kept the widths.
-// Reads bytes: write_blocks, write_words.
 fn write_text<P: BitPacker>(
     packer: &P,
     kind: ListKind,
@@ -147,7 +142,6 @@ fn write_text<P: BitPacker>(
 
 /// Writes the entries and then the bodies of the whole blocks at the start of the slice, and returns their length in bytes. The
 /// caller has kept the widths.
-// Reads bytes: write_entries, write_bodies.
 pub(crate) fn write_blocks<P: BitPacker>(
     packer: &P,
     kind: ListKind,
@@ -166,7 +160,6 @@ pub(crate) fn write_blocks<P: BitPacker>(
 }
 
 /// Writes the entries of the whole blocks at the start of the slice. The widths are those that were kept.
-// Reads values: first, for, width_of, next_kind.
 fn write_entries<P: BitPacker>(
     packer: &P,
     kind: ListKind,
@@ -202,7 +195,6 @@ fn write_entries<P: BitPacker>(
 }
 
 /// Packs the bodies of the whole blocks after their entries, and returns the length of both in bytes.
-// Reads bytes: new, first, for, entry, compress_kind, next_kind.
 fn write_bodies<P: BitPacker>(packer: &P, kind: ListKind, values: &[u32], rest: &mut [u8]) -> usize
     requires entries { HasBodies P.lanes (whole_blocks P.lanes (length values.now)) kind values.now
         (take (ENTRY_LEN * whole_blocks P.lanes (length values.now)) rest.old) 0 }

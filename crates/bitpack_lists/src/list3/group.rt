@@ -20,7 +20,6 @@ const LONGEST_GROUP_BODY: usize = 128;
 
 /// Reads the group of `count` codes at the front of the bytes, which is block number `block`, and returns how many bytes it has.
 /// Its codes are the first of `codes`; after a refusal these may be any.
-// Reads bytes: group_size, unpack_cut, are_loose, all_zeros.
 pub(crate) fn read_group(
     block: usize,
     count: usize,
@@ -126,7 +125,6 @@ pub(crate) fn group_size(count: usize, width: u8) -> usize
 }
 
 /// Unpacks the body that begins with these bytes and goes on with zeros.
-// Reads bytes: decompress.
 fn unpack_cut(width: u8, cut: &[u8], codes: &mut [u32])
     requires width { width ≤ 32 }
     requires cut { length cut.now ≤ 4 * width }

@@ -29,7 +29,6 @@ pub(crate) struct StatedText {
 }
 
 /// Tests the whole text.
-// Reads bytes: read, test_rest, test_rest.
 #[tactic(auto, unfolding(crate::specs::Version3::fault3))]
 pub(crate) fn test<P: BitPacker>(packer: &P, bytes: &[u8]) -> Result<StatedText, ListError>
     ensures fault { FindsFault result (fault3 P.lanes bytes.now) }
@@ -56,7 +55,6 @@ pub(crate) fn test<P: BitPacker>(packer: &P, bytes: &[u8]) -> Result<StatedText,
 }
 
 /// Tests what is after the header, with room for the values of the tail.
-// Reads bytes: test_blocks, read_tail, to_values, first_out.
 #[inline(always)]
 fn test_rest<P: BitPacker>(
     packer: &P,
@@ -86,7 +84,6 @@ fn test_rest<P: BitPacker>(
 }
 
 /// What a text without a fault states, as `test` returns it. Only the header and the last entry are read.
-// Reads bytes: read, end_of_blocks.
 pub(crate) fn stated<P: BitPacker>(bytes: &[u8]) -> StatedText
     requires sound { fault3 P.lanes bytes.now ≡ None }
     ensures { IsStated3 P.lanes bytes.now result }
@@ -106,7 +103,6 @@ pub(crate) fn stated<P: BitPacker>(bytes: &[u8]) -> StatedText
 }
 
 /// Where the tail begins, and what is packed there in place of values. Reads the last entry.
-// Reads bytes: first, new, entry, next_kind, first.
 fn end_of_blocks<P: BitPacker>(kind: ListKind, blocks: usize, rest: &[u8]) -> (usize, Kind)
     requires entries { EntriesAreSound P.lanes blocks rest.now }
     ensures start { result.0 ≡ tail_start P.lanes blocks rest.now }

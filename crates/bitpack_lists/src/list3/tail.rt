@@ -12,7 +12,6 @@ use crate::list_error::ListError;
 
 /// Reads the tail of as many codes as the slice has, after `blocks` blocks, and returns the bytes after it. After a refusal the codes
 /// may be any.
-// Reads bytes: read_number, read_groups, read_groups.
 #[tactic(auto, unfolding(crate::specs::Version3::tail_fault3, crate::specs::Version3::tail_codes3, crate::specs::Version3::after_tail3))]
 #[inline(always)]
 pub(crate) fn read_tail<'a>(
@@ -37,7 +36,6 @@ pub(crate) fn read_tail<'a>(
 
 /// Reads the groups of as many codes as the slice has, from block number `block` on, and returns the bytes after them. After a
 /// refusal the codes may be any.
-// Reads bytes: for, next_len, read_group.
 pub(crate) fn read_groups<'a>(
     block: usize,
     bytes: &'a [u8],

@@ -48,7 +48,6 @@ struct OldText {
 /// as one of version 1. Values out of order are refused, as in [`list2::upgrade`](crate::list2::upgrade). The bodies of the blocks are
 /// copied, since they are the same bytes in each version. The vector grows once at most, by the length of the new text. The packer has 1,
 /// 4 or 8 lanes, as for [`encode`](crate::list3::encode).
-// Reads bytes: test_text, read_codes, tail_len, header_len, append_header, write_blocks, append_tail.
 pub fn upgrade<P: BitPacker>(packer: &P, bytes: &[u8], out: &mut Vec<u8>) -> Result<(), ListError>
     requires lanes { HasCode P.lanes }
     // The bytes are the text of some values in version 1 or 2, and what is appended is the text of version 3 of the same.
@@ -86,7 +85,6 @@ pub fn upgrade<P: BitPacker>(packer: &P, bytes: &[u8], out: &mut Vec<u8>) -> Res
 }
 
 /// Tests the whole text, and the order of its values.
-// Reads bytes: is_two, test, kind_after, test, test_order.
 fn test_text<P: BitPacker>(packer: &P, bytes: &[u8]) -> Result<OldText, ListError>
     ensures fault { MatchOption (older_fault P.lanes bytes.now) ⊤ (λ fault. result ≡ Err fault) }
     ensures order { (kind : ListKind) (values : List ℕ) → IsOlder P.lanes kind values bytes.now
@@ -131,7 +129,6 @@ fn is_two(bytes: &[u8]) -> bool
 }
 
 /// The kind of what follows this many blocks, by the entry of the last one.
-// Reads bytes: first, new, entry, next_kind, first.
 fn kind_after(kind: ListKind, blocks: usize, rest: &[u8]) -> Kind
     requires { ENTRY_LEN * blocks ≤ length rest.now }
     ensures { result ≡ kind_at kind rest.now blocks }
@@ -145,7 +142,6 @@ fn kind_after(kind: ListKind, blocks: usize, rest: &[u8]) -> Kind
 }
 
 /// The codes of the tail whose values are these words.
-// Reads bytes: read_words, to_codes.
 fn read_codes(kind: Kind, words: &[u8], codes: &mut [u32])
     requires few { length codes.old ≤ LONGEST_BLOCK }
     requires words { length words.now ≡ 4 * length codes.old }
@@ -159,7 +155,6 @@ fn read_codes(kind: Kind, words: &[u8], codes: &mut [u32])
 }
 
 /// Appends the entries and the bodies, if there is room for them.
-// Reads bytes: append, write_entries, copy_bodies.
 fn write_blocks<P: BitPacker>(packer: &P, old: OldText, rest: &[u8], out: &mut Vec<u8>)
     requires tested { IsTestedRest old.is_two P.lanes old.header.count old.whole rest.now }
     requires room { vec_len out.old + old.whole ≤ vec_capacity out.old }

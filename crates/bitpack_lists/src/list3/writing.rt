@@ -27,7 +27,6 @@ use bitpacking::{BitPacker, Kind};
 ///
 /// The packer has 1, 4 or 8 lanes: a text can state no other number. A list has at most 268,435,456 values. The vector grows once at
 /// most.
-// Reads bytes: append_text, append_text.
 pub fn encode<P: BitPacker>(
     packer: &P,
     kind: ListKind,
@@ -72,7 +71,6 @@ pub fn encode<P: BitPacker>(
 
 /// Appends the text as `encode` does, with room for the widths that are kept, and for the codes of the tail. For a short list little
 /// room is enough, which takes less time to clear.
-// Reads bytes: measure, append_zeros, write_text.
 fn append_text<P: BitPacker>(
     packer: &P,
     kind: ListKind,
@@ -100,7 +98,6 @@ fn append_text<P: BitPacker>(
 /// The packer has 1, 4 or 8 lanes, and the values have to be in the order of their kind, as for [`encode`]. A slice that is too short
 /// is refused with `Short`; then nothing is written. The bytes after the text stay as they were. [`encoded_len`] tells how many bytes
 /// are needed.
-// Reads bytes: measure, write_text.
 pub fn encode_to<P: BitPacker>(
     packer: &P,
     kind: ListKind,
@@ -131,7 +128,6 @@ pub fn encode_to<P: BitPacker>(
 }
 
 /// The length in bytes of the text of version 3 of the values, which have to be in the order of their kind, as for [`encode`].
-// Reads values: measure.
 pub fn encoded_len<P: BitPacker>(
     packer: &P,
     kind: ListKind,
@@ -151,7 +147,6 @@ pub fn encoded_len<P: BitPacker>(
 
 /// Tests the values, and returns the length of their text. The least widths of the first blocks and the codes of the tail are
 /// kept.
-// Reads values: test_values, to_codes, kind_after, blocks_len, header_len, tail_len.
 fn measure<P: BitPacker>(
     packer: &P,
     kind: ListKind,
@@ -175,7 +170,6 @@ fn measure<P: BitPacker>(
 }
 
 /// Fills the slice with the text of the values. The caller has measured it, and kept the widths and the codes of the tail.
-// Reads bytes: write_header, write_blocks, write_tail.
 fn write_text<P: BitPacker>(
     packer: &P,
     kind: ListKind,

@@ -18,7 +18,6 @@ use bitpacking::BitPacker;
 /// block of the list is unpacked at most once. An item below the one before it is searched from the start of the list.
 ///
 /// Allocates nothing.
-// Reads bytes: move_common.
 pub fn retain_common<P: BitPacker>(list: &PackedList<'_, P>, items: &mut Vec<u32>)
     requires ordered { kind_of list.now ≢ ListKind.Plain }
     ensures common { items.new.items ≡ filter (has (values list.now)) items.old.items }
@@ -29,7 +28,6 @@ pub fn retain_common<P: BitPacker>(list: &PackedList<'_, P>, items: &mut Vec<u32
 }
 
 /// Moves the items that a list has to the front, in their order. Returns how many these are.
-// Reads bytes: cursor, for, finds.
 fn move_common<P: BitPacker>(list: &PackedList<'_, P>, items: &mut [u32]) -> usize
     requires ordered { kind_of list.now ≢ ListKind.Plain }
     ensures common { take result items.new ≡ filter (has (values list.now)) items.old }
@@ -50,7 +48,6 @@ fn move_common<P: BitPacker>(list: &PackedList<'_, P>, items: &mut [u32]) -> usi
 }
 
 /// Whether a list has an item. The cursor goes on if the item is not below the last one, and starts again if it is.
-// Reads bytes: cursor, finds_next.
 fn finds<'a, P: BitPacker>(
     list: &PackedList<'a, P>,
     cursor: &mut DistinctValues<'a, P>,

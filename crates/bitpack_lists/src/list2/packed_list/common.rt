@@ -18,7 +18,6 @@ use bitpacking::BitPacker;
 /// `a` that have no value of `b` by their last values.
 ///
 /// Fails only with `Memory`, if the vector cannot grow by the length of the shorter list.
-// Reads bytes: intersect, new, new.
 pub fn append_common<P: BitPacker, Q: BitPacker>(
     a: &PackedList<'_, P>,
     b: &PackedList<'_, Q>,

@@ -16,7 +16,6 @@ impl<'a, P: BitPacker> PackedList<'a, P> {
     /// Appends all values. Unpacks each block once.
     ///
     /// Fails only with `Memory`, if the vector cannot grow by the length of the list.
-    // Reads bytes: append_zeros, copy_to.
     pub fn append_to(&self, out: &mut Vec<u32>) -> Result<(), ListError>
         ensures ok { OnOk result (out.new.items ≡ out.old.items ++ values self.now) }
         ensures memory { IfErr result (λ e. e ≡ ListError.Memory) }
@@ -36,7 +35,6 @@ impl<'a, P: BitPacker> PackedList<'a, P> {
     /// Writes all values at the start of the slice, and returns their number. Unpacks each block once, and allocates nothing.
     ///
     /// Requires room for all values. The rest of the slice stays as it was.
-    // Reads bytes: copy_values, new.
     pub fn copy_to(&self, out: &mut [u32]) -> usize
         requires room { length (values self.now) ≤ length out.old }
         ensures len { result ≡ length (values self.now) }

@@ -47,7 +47,6 @@ impl<'a, P: BitPacker> PackedList<'a, P> {
     ghost use Rattle.bitpack_lists.specs.Version2.{kind_at};
 
     /// A cursor at the first value. Unpacks the first block, if there is one.
-    // Reads bytes: new, whole_block, first, read_part, packer, bytes, rest, tail.
     pub fn cursor(&self) -> Cursor<'a, P>
         ensures values { values_of_cursor result ≡ Rattle.bitpack_lists.specs.Opened.values self.now }
         ensures kind { kind_of result.list ≡ kind_of self.now }

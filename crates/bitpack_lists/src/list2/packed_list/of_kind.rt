@@ -18,7 +18,6 @@ impl<'a, P: BitPacker> PackedList<'a, P> {
     /// Opens a text as [`PackedList::open`] does, if its list is of this kind.
     ///
     /// Accepts any bytes, and allocates nothing. A list of another kind is refused with `WrongKind`, after all other faults.
-    // Reads bytes: open, packer, bytes.
     pub fn open_as(
         packer: P,
         kind: ListKind,
@@ -42,7 +41,6 @@ impl<'a, P: BitPacker> PackedList<'a, P> {
     /// Opens a text of version 2 or 3 as [`PackedList::open_any`] does, if its list is of this kind.
     ///
     /// Accepts any bytes, and allocates nothing. A list of another kind is refused with `WrongKind`, after all other faults.
-    // Reads bytes: open_any, packer, bytes.
     pub fn open_any_as(
         packer: P,
         kind: ListKind,

@@ -168,7 +168,6 @@ impl<'a, P: BitPacker> PackedList<'a, P> {
 
     /// The first value of the tail that is at least the target, with its position. Those of the whole blocks are below it. In version 2
     /// it reads the whole tail.
-    // Reads bytes: read_tail, first_at_least, seek_in_groups.
     fn seek_in_tail(&self, target: u32) -> Option<(usize, u32)>
         ensures found { ((k : ℕ) → k < 32 * P.lanes * blocks_of self.now → value_of self.now k < target)
             → result ≡ first_reaching (value_of self.now) self.now.count target }

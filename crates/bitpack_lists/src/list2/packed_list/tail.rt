@@ -19,7 +19,6 @@ impl<'a, P: BitPacker> PackedList<'a, P> {
     ghost use Rattle.bitpack_lists.specs.Version3.{tail_values3};
 
     /// The value at a position of the tail.
-    // Reads bytes: read_one, tail, value_in_groups.
     pub(crate) fn value_in_tail(&self, position: usize) -> u32
         requires tail { 32 * P.lanes * blocks_of self.now ≤ position }
         requires within { position < self.now.count }
@@ -33,7 +32,6 @@ impl<'a, P: BitPacker> PackedList<'a, P> {
     }
 
     /// The value at an index of a tail of version 3. Unpacks the groups up to the value's.
-    // Reads bytes: end_of_group, value_in_front.
     fn value_in_groups(&self, index: usize) -> u32
         requires version { self.now.version ≡ Version.Three }
         requires index { index < tail_values P.lanes self.now.count }
@@ -46,7 +44,6 @@ impl<'a, P: BitPacker> PackedList<'a, P> {
     }
 
     // The value at an index of a tail of version 3. It reads the first values of the tail, at most 31 after this one.
-    // Reads bytes: unpack_tail.
     fn value_in_front(&self, index: usize, values: &mut [u32]) -> u32
         requires version { self.now.version ≡ Version.Three }
         requires within { index < length values.old }
@@ -59,7 +56,6 @@ impl<'a, P: BitPacker> PackedList<'a, P> {
     }
 
     /// Reads the values of the tail, and returns how many these are.
-    // Reads bytes: read_words, tail, unpack_tail.
     pub(crate) fn read_tail(&self, values: &mut [u32]) -> usize
         requires room { tail_values P.lanes self.now.count ≤ length values.old }
         ensures len { result ≡ tail_values P.lanes self.now.count }
@@ -75,7 +71,6 @@ impl<'a, P: BitPacker> PackedList<'a, P> {
     }
 
     // Reads the first values of a tail of version 3, up to the end of a group.
-    // Reads bytes: read_tail, tail, to_values.
     fn unpack_tail(&self, values: &mut [u32])
         requires version { self.now.version ≡ Version.Three }
         requires len { EndsGroup (blocks_of self.now) (tail_values P.lanes self.now.count) (length values.old) }

@@ -19,7 +19,6 @@ impl<'a, P: BitPacker> PackedList<'a, P> {
     ghost use Rattle.bitpack_lists.specs.declared.version.Version.{Version};
 
     /// The first value of the tail that is at least the target, with its position. The values of the whole blocks are below it.
-    // Reads bytes: seek_after_first, seek_groups, tail.
     pub(super) fn seek_in_groups(&self, target: u32) -> Option<(usize, u32)>
         requires version { self.now.version ≡ Version.Three }
         ensures found { ((k : ℕ) → k < 32 * P.lanes * blocks_of self.now → value_of self.now k < target)
@@ -46,7 +45,6 @@ impl<'a, P: BitPacker> PackedList<'a, P> {
     }
 
     /// The first value that is at least the target, with its position, in a list without a whole block.
-    // Reads bytes: read_number, tail, to_values, next_kind, seek_groups.
     fn seek_after_first(&self, target: u32) -> Option<(usize, u32)>
         requires first { (self.now.version ≡ Version.Three) × (1 ≤ self.now.count) × (self.now.count < 32 * P.lanes) }
         ensures { result ≡ first_reaching (value_of self.now) self.now.count target }
@@ -68,7 +66,6 @@ impl<'a, P: BitPacker> PackedList<'a, P> {
 
 /// The first value that is at least the target, with its position, in the groups of `count` values from block number `block` on. The
 /// values before the position `start` are below the target.
-// Reads bytes: bytes, for, next_len, read_values, first_at_least, next_kind.
 fn seek_groups(
     first_kind: Kind,
     block: usize,
@@ -103,7 +100,6 @@ fn seek_groups(
 }
 
 /// Reads the values of a group without a fault, which are the first of `values`, and returns how many bytes it has.
-// Reads bytes: read_group, bytes, to_values.
 fn read_values(kind: Kind, block: usize, count: usize, bytes: &[u8], values: &mut [u32]) -> usize
     requires count { (1 ≤ count) × (count ≤ LONGEST_GROUP) }
     requires room { length values.old ≡ LONGEST_GROUP }

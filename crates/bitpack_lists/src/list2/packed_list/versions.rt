@@ -21,7 +21,6 @@ impl<'a, P: BitPacker> PackedList<'a, P> {
     /// Opens a text of version 3, which is tested whole. Accepts any bytes, and allocates nothing.
     ///
     /// The list has the calls of one of version 2.
-    // Reads bytes: test, packer, bytes, of_stated.
     pub fn open3(packer: P, bytes: &'a [u8]) -> Result<PackedList<'a, P>, ListError>
         // Bytes with a fault are refused for the first, and bytes without one are opened.
         ensures fault { FindsFault result (fault3 P.lanes bytes.now) }
@@ -37,7 +36,6 @@ impl<'a, P: BitPacker> PackedList<'a, P> {
     }
 
     // The list of a text of version 3 that states this.
-    // Reads bytes: bytes, packer.
     fn of_stated(packer: P, found: StatedText, bytes: &'a [u8]) -> PackedList<'a, P>
         requires stated { IsStated3 P.lanes bytes.now found }
         ensures { (text result ≡ bytes.now) × (version_of result ≡ Version.Three) }
@@ -58,7 +56,6 @@ impl<'a, P: BitPacker> PackedList<'a, P> {
     /// Opens a text of version 2 or 3, whichever its first byte says.
     ///
     /// Accepts any bytes, and allocates nothing. A text of version 1 is refused with `BadVersion(1)`.
-    // Reads bytes: bytes, open, packer, open3.
     pub fn open_any(packer: P, bytes: &'a [u8]) -> Result<PackedList<'a, P>, ListError>
         ensures fault { FindsFault result (fault_of_either P.lanes bytes.now) }
         ensures bytes { IfOk result (λ list. text list ≡ bytes.now) }
@@ -75,7 +72,6 @@ impl<'a, P: BitPacker> PackedList<'a, P> {
     }
 
     /// The list of a text of version 2 or 3 that was opened before, as [`PackedList::from_validated`] gives one of version 2.
-    // Reads bytes: bytes, from_validated, packer, of_stated, stated.
     pub fn from_validated_any(packer: P, bytes: &'a [u8]) -> PackedList<'a, P>
         requires sound { fault_of_either P.lanes bytes.now ≡ None }
         ensures bytes { text result ≡ bytes.now }
