@@ -20,6 +20,6 @@ mod output;
 mod run_error;
 mod writing;
 
-pub use bitpack_lists::{ListError, ListKind, chain, list, list2, list3, sorted};
+pub use bitpack_lists::{ListError, ListKind, chain, list, list2, list3};
 pub use line_loop::run;
 pub use run_error::{RunError, ending};

@@ -3,22 +3,18 @@
 use Rattle.std.proofs.Common.{◌≡◌, ◌+◌, ◌*◌, ◌<◌, ◌≤◌, ℕ, List, length, take, get_or, sum, arith}
 use Rattle.std.proofs.lemmas.List.Sums.{sum_by_more, sum_by_more_le}
 use Rattle.std.proofs.lemmas.Nat.{mul-le}
-pub use Rattle.bitpack_lists.proofs.CursorPlaces.{position_within}
-pub use Rattle.bitpack_lists.proofs.Distinct.{common_is_short, one_common}
-pub use Rattle.bitpack_lists.proofs.DistinctLemmas.{has-distinct}
-pub use Rattle.bitpack_lists.proofs.HeaderLemmas.{header_bytes}
-pub use Rattle.bitpack_lists.proofs.ListLemmas.{text_of}
-pub use Rattle.bitpack_lists.proofs.ManyLemmas.{has-shared_by_all, has-united_all}
-pub use Rattle.bitpack_lists.proofs.Membership.{has-filter, has-shared, has-united, has-without, same_numbers}
-pub use Rattle.bitpack_lists.proofs.MembersOfSorted.{contains-distinct, contains-shared, contains-shared_by_all, contains-united, contains-united_all, contains-without, distinct-increasing, has_contains, same_members, strictly_from_increasing}
-pub use Rattle.bitpack_lists.proofs.Soundness1.{one_list1, one_text1, text_from_none}
-pub use Rattle.bitpack_lists.proofs.OneText2.{no_fault2, one_list2, one_text2}
-pub use Rattle.bitpack_lists.proofs.OpenedValues.{kind_is, opened_list2, values_are}
-pub use Rattle.bitpack_lists.proofs.OrderLaws.{first_is_found, neither_falls, sorted_is_order, strict_is_order}
-pub use Rattle.bitpack_lists.proofs.PartLemmas.{AreBytes-nil}
-pub use Rattle.bitpack_lists.proofs.Existence2.{text_of2}
-pub use Rattle.bitpack_lists.proofs.ValueFaults.{few_values, in_order}
-pub use Rattle.bitpack_lists.proofs.Versions.{either_right2}
+pub use Rattle.bitpack_lists.proofs.lemmas.opened.CursorPlaces.{position_within}
+pub use Rattle.bitpack_lists.proofs.lemmas.laws.Distinct.{common_is_short, one_common}
+pub use Rattle.bitpack_lists.proofs.lemmas.blocks.HeaderLemmas.{header_bytes}
+pub use Rattle.bitpack_lists.proofs.lemmas.blocks.ListLemmas.{text_of}
+pub use Rattle.bitpack_lists.proofs.lemmas.v1.Soundness1.{one_list1, one_text1, text_from_none}
+pub use Rattle.bitpack_lists.proofs.lemmas.v2.OneText2.{no_fault2, one_list2, one_text2}
+pub use Rattle.bitpack_lists.proofs.lemmas.opened.OpenedValues.{kind_is, opened_list2, values_are}
+pub use Rattle.bitpack_lists.proofs.lemmas.laws.OrderLaws.{first_is_found, neither_falls, sorted_is_order, strict_is_order}
+pub use Rattle.bitpack_lists.proofs.lemmas.blocks.PartLemmas.{AreBytes-nil}
+pub use Rattle.bitpack_lists.proofs.lemmas.laws.Existence2.{text_of2}
+pub use Rattle.bitpack_lists.proofs.lemmas.blocks.ValueFaults.{few_values, in_order}
+pub use Rattle.bitpack_lists.proofs.lemmas.opened.Versions.{either_right2}
 
 -- the bytes of the blocks before block i, and those of block i
 pub sizes_more : (lanes i : ℕ) (widths : List ℕ) → i < length widths

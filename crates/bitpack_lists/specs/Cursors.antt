@@ -1,7 +1,7 @@
 -- What a cursor shows: its position, the values of its list, and the blocks that it unpacked; and what a move leaves.
 use Rattle.std.specs.Prelude.{◌≡◌, ℕ, ◌+◌, ◌-◌, ◌*◌, ◌≤◌, List, drop}
 use Rattle.bitpacking.specs.declared.bit_packer.BitPacker.{Ghosts}
-use Rattle.bitpack_lists.specs.declared.list2.packed_list.cursor.Cursor.{Cursor}
+use Rattle.bitpack_lists.specs.declared.opened.cursor.Cursor.{Cursor}
 use Rattle.bitpack_lists.specs.Opened.{values}
 
 module _ {P : Type 0} {members : Ghosts P} (cursor : Cursor P members) where

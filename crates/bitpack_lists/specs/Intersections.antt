@@ -1,7 +1,7 @@
 -- What two packed lists share, and what an intersection may read of them.
 use Rattle.std.specs.Prelude.{◌↔◌, ℕ, ◌+◌, ◌*◌, ◌^◌, ◌<◌, ◌≤◌, min, List, Contains, length}
 use Rattle.std.specs.List.Sorted.{IsStrictlyIncreasing}
-use Rattle.bitpack_lists.specs.declared.list2.reads.Reads.{Reads}
+use Rattle.bitpack_lists.specs.declared.blocks.reads.Reads.{Reads}
 use Rattle.bitpack_lists.specs.Parts.{whole_blocks}
 use Rattle.bitpack_lists.specs.Search.{HasGrown}
 

@@ -2,19 +2,11 @@
 pub mod Blocks
 pub mod Chains
 pub mod Cursors
-pub mod Distinct
-pub mod DistinctLaws
-pub mod Fronts
 pub mod Groups
-pub mod Increasing
-pub mod IncreasingLaws
-pub mod InFront
 pub mod inner
 pub mod Intersections
 pub mod Laws
 pub mod Laws3
-pub mod Many
-pub mod ManyLaws
 pub mod Numbers
 pub mod OfKind
 pub mod Older
@@ -22,7 +14,6 @@ pub mod Opened
 pub mod Owned
 pub mod Parts
 pub mod Places
-pub mod Remaining
 pub mod Room
 pub mod Search
 pub mod Texts

@@ -2,7 +2,7 @@
 use Rattle.std.specs.Prelude.{ℕ, List, drop}
 use Rattle.bitpacking.specs.declared.bit_packer.BitPacker.{Ghosts}
 use Rattle.bitpack_lists.specs.declared.list_kind.ListKind.{ListKind}
-use Rattle.bitpack_lists.specs.declared.list2.list_buf.ListBuf.{ListBuf}
+use Rattle.bitpack_lists.specs.declared.list_buf.ListBuf.{ListBuf}
 use Rattle.bitpack_lists.specs.declared.version.Version.{Version}
 use Rattle.bitpack_lists.specs.Opened.{first_of}
 use Rattle.bitpack_lists.specs.Texts.{stated_count, stated_end, stated_kind, value_in, version_in}

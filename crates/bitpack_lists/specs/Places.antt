@@ -1,7 +1,7 @@
 -- A place in an opened list: the block at hand, or after all blocks the tail, and an index in it.
 use Rattle.std.specs.Prelude.{◌≡◌, ℕ, ◌+◌, ◌-◌, ◌*◌, ◌<◌, ◌≤◌, min, List, length, slice_index}
 use Rattle.bitpacking.specs.declared.bit_packer.BitPacker.{Ghosts}
-use Rattle.bitpack_lists.specs.declared.list2.packed_list.PackedList.{PackedList}
+use Rattle.bitpack_lists.specs.declared.opened.PackedList.{PackedList}
 use Rattle.bitpack_lists.specs.Opened.{blocks_of, value_of}
 
 module _ {P : Type 0} {members : Ghosts P} (list : PackedList P members) where

@@ -1,7 +1,7 @@
 -- Searches in a list: the answer, and what is read for it.
 use Rattle.std.specs.Prelude.{◌≡◌, ℕ, ◌+◌, ◌*◌, ◌^◌, ◌<◌, ◌≤◌, Bool, false, nat_lt, nat_le, List, length, slice_index, Option, Some, None}
 use Rattle.std.specs.Option.{option_map}
-use Rattle.bitpack_lists.specs.declared.list2.reads.Reads.{Reads}
+use Rattle.bitpack_lists.specs.declared.blocks.reads.Reads.{Reads}
 use Rattle.bitpack_lists.specs.Parts.{whole_blocks}
 use Rattle.bitpack_lists.specs.Version2.{least_below}
 

@@ -4,10 +4,10 @@ ghost use Rattle.std.specs.Prelude.{◌≡◌, ◌+◌, ◌^◌, ◌≤◌, ◌<
 ghost use Rattle.bitpack_lists.specs.inner.Appending.{HasAppended};
 ghost use Rattle.bitpack_lists.specs.Parts.{BeginsWithHeader, FindsFault, header, header_fault};
 
-use super::list_error::ListError;
-use super::list_kind::ListKind;
-use super::little_endian::read_one;
-use super::reserved::append;
+use crate::list_error::ListError;
+use crate::list_kind::ListKind;
+use crate::little_endian::read_one;
+use crate::reserved::append;
 
 /// The bytes of a header.
 pub(crate) const HEADER_LEN: usize = 7;

@@ -13,7 +13,7 @@ ghost use Rattle.bitpack_lists.specs.Room.{FitsRoom, Longest1, Longest2, Longest
 ghost use Rattle.bitpack_lists.specs.Texts.{IsText, IsTextOfNoOther};
 ghost use Rattle.bitpack_lists.specs.Version2.{first_out};
 
-use crate::list2::PackedList;
+use crate::opened::PackedList;
 use bitpacking::BitPacker;
 
 /// `unpack_all` gives back the values that `pack_all` was given.

@@ -2,24 +2,27 @@
 //!
 //! [`chain`] packs many blocks of one kind end to end. [`list`] writes a list of any length as one text, and reads untrusted
 //! texts. [`list2`] writes lists that are read in place, by search or by position, and reads them. The texts of [`list3`] are shorter for
-//! short lists, and [`list2`] reads them too. [`sorted`] combines cursors over both.
+//! short lists, and [`list2`] reads them too.
 //!
 //! The crate `bitpack` gives these names again. The tests of chains are in `bitpack_main`, tests of lists in `bitpack_uses`.
 #![tactic(auto)]
 
+mod blocks;
 pub mod chain;
 mod header;
 pub mod laws;
 pub mod list;
 pub mod list2;
 pub mod list3;
+mod list_buf;
 mod list_error;
 mod list_kind;
 mod little_endian;
-mod loose;
-mod measuring;
+mod opened;
 mod reserved;
-pub mod sorted;
+mod v1;
+mod v2;
+mod v3;
 mod version;
 mod worked_texts;
 

@@ -6,8 +6,5 @@
 //! 20 00 00 00             the value 32
 //! ```
 
-pub(crate) mod reading;
-mod writing;
-
-pub use reading::decode;
-pub use writing::encode;
+pub use crate::v1::reading::decode;
+pub use crate::v1::writing::encode;

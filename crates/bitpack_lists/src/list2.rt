@@ -6,18 +6,8 @@
 //! 20 00 00 00                   the value 32
 //! ```
 
-pub(crate) mod entry;
-mod list_buf;
-pub(crate) mod opening;
-pub(crate) mod order;
-mod packed_list;
-pub(crate) mod reads;
-pub(crate) mod upgrading;
-pub(crate) mod writing;
-
-pub use list_buf::ListBuf;
-pub(crate) use packed_list::first_ahead;
-pub use packed_list::{Cursor, PackedList, append_common, first_from, intersect};
-pub use reads::Reads;
-pub use upgrading::upgrade;
-pub use writing::{encode, encode_to, encoded_len};
+pub use crate::blocks::reads::Reads;
+pub use crate::list_buf::ListBuf;
+pub use crate::opened::{Cursor, PackedList, append_common, first_ahead, first_from, intersect};
+pub use crate::v2::upgrading::upgrade;
+pub use crate::v2::writing::{encode, encode_to, encoded_len};

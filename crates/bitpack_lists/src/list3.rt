@@ -8,14 +8,5 @@
 //! 00                            a group of one code, 0, at width 0: the value 32
 //! ```
 
-pub(crate) mod codes;
-pub(crate) mod group;
-pub(crate) mod header;
-pub(crate) mod number;
-pub(crate) mod opening;
-pub(crate) mod tail;
-mod upgrading;
-mod writing;
-
-pub use upgrading::upgrade;
-pub use writing::{encode, encode_to, encoded_len};
+pub use crate::v3::upgrading::upgrade;
+pub use crate::v3::writing::{encode, encode_to, encoded_len};

@@ -4,10 +4,10 @@ ghost use Rattle.std.specs.Prelude.{◌≡◌, ◌+◌, ◌*◌, ◌/◌, ◌<�
 ghost use Rattle.bitpacking.specs.Codes.{AreWords};
 ghost use Rattle.bitpacking.specs.Words.{bytes_of_words, word};
 
-use super::reserved::append;
+use crate::reserved::append;
 
 /// The word whose bytes are those from this index on.
-#[tactic(auto, using(crate::proofs::PartLemmas::is_word))]
+#[tactic(auto, using(crate::proofs::lemmas::blocks::PartLemmas::is_word))]
 pub(crate) fn read_one(bytes: &[u8], index: usize) -> u32
     requires { index + 4 ≤ length bytes.now }
     ensures { result ≡ word (drop index bytes.now) 0 }

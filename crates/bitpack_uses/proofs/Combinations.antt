@@ -6,10 +6,11 @@ use Rattle.std.specs.List.Sorted.{IsStrictlyIncreasing}
 use Rattle.bitpack_lists.specs.declared.list_error.ListError.{ListError}
 use Rattle.bitpack_lists.specs.declared.list_error.ListError.TheVariants.{Memory, NotSorted}
 use Rattle.bitpack_lists.specs.declared.list_kind.ListKind.TheVariants.{StrictlySorted}
-use Rattle.bitpack_lists.specs.Distinct.{distinct}
-use Rattle.bitpack_lists.specs.Increasing.{has, insert, shared, united, without}
+use Rattle.bitpack_sorted.specs.Distinct.{distinct}
+use Rattle.bitpack_sorted.specs.Increasing.{has, insert, shared, united, without}
 use Rattle.bitpack_lists.specs.Version2.{first_out}
-use Rattle.bitpack_lists.proofs.ForCallers.{contains-distinct, contains-shared, contains-united, contains-without, strict_is_order}
+use Rattle.bitpack_lists.proofs.ForCallers.{strict_is_order}
+use Rattle.bitpack_sorted.proofs.ForCallers.{contains-distinct, contains-shared, contains-united, contains-without}
 
 -- ---- how many
 

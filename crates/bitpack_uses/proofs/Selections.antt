@@ -4,11 +4,12 @@ use Rattle.std.specs.List.Sorted.{IsStrictlyIncreasing}
 use Rattle.bitpack_lists.specs.declared.list_error.ListError.TheVariants.{BadKind}
 use Rattle.bitpack_lists.specs.declared.list_kind.ListKind.{ListKind}
 use Rattle.bitpack_lists.specs.declared.list_kind.ListKind.TheVariants as lists
-use Rattle.bitpack_lists.specs.Distinct.{distinct}
-use Rattle.bitpack_lists.specs.Increasing.{shared, united, without}
+use Rattle.bitpack_sorted.specs.Distinct.{distinct}
+use Rattle.bitpack_sorted.specs.Increasing.{shared, united, without}
 use Rattle.bitpack_lists.specs.Parts.{kind_byte}
 use Rattle.bitpack_lists.specs.Version2.{List2, fault2}
-use Rattle.bitpack_lists.proofs.ForCallers.{contains-distinct, contains-shared, contains-united, contains-without, header_bytes}
+use Rattle.bitpack_lists.proofs.ForCallers.{header_bytes}
+use Rattle.bitpack_sorted.proofs.ForCallers.{contains-distinct, contains-shared, contains-united, contains-without}
 use Rattle.bitpack_uses.specs.Selected.{IsInAll, IsSelected, ids_fault}
 
 module _ (a b c d : List ℕ) where

@@ -1,7 +1,7 @@
 -- What a posting list shows, and what is asked of its ids.
 use Rattle.std.specs.Prelude.{ℕ, ◌<◌, ◌≤◌, List, Contains, Option, Some, None}
 use Rattle.bitpacking.specs.declared.bit_packer.BitPacker.{Ghosts}
-use Rattle.bitpack_lists.specs.Distinct.{distinct}
+use Rattle.bitpack_sorted.specs.Distinct.{distinct}
 use Rattle.bitpack_lists.specs.Owned.{bytes_of_buf, values_of_buf}
 use Rattle.bitpack_uses.specs.declared.postings.Postings.{Postings}
 

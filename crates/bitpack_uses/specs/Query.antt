@@ -3,7 +3,7 @@ use Rattle.std.specs.Prelude.{◌≡◌, ℕ, Bool, ◌&&◌, ◌||◌, not, nat
 use Rattle.std.specs.List.Sorted.{IsStrictlyIncreasing}
 use Rattle.bitpack_lists.specs.declared.list_kind.ListKind.{ListKind}
 use Rattle.bitpack_lists.specs.declared.list_kind.ListKind.TheVariants as lists
-use Rattle.bitpack_lists.specs.Increasing.{has}
+use Rattle.bitpack_sorted.specs.Increasing.{has}
 use Rattle.bitpack_uses.specs.declared.query.Operator.{Operator}
 use Rattle.bitpack_uses.specs.declared.query.Operator.TheVariants as operators
 use Rattle.bitpack_uses.specs.declared.query.Query.{Query}

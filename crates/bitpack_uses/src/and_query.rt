@@ -5,15 +5,15 @@ ghost use Rattle.std.specs.List.Sorted.{IsStrictlyIncreasing};
 ghost use Rattle.std.specs.Option.{option_or};
 ghost use Rattle.bitpack_lists.specs.declared.list_error.ListError.{ListError};
 ghost use Rattle.bitpack_lists.specs.declared.list_kind.ListKind.{ListKind};
-ghost use Rattle.bitpack_lists.specs.Distinct.{distinct};
+ghost use Rattle.bitpack_sorted.specs.Distinct.{distinct};
 ghost use Rattle.bitpack_lists.specs.Parts.{FindsFault};
-ghost use Rattle.bitpack_lists.specs.Remaining.{remaining};
+ghost use Rattle.bitpack_sorted.specs.Remaining.{remaining};
 ghost use Rattle.bitpack_lists.specs.Version2.{List2};
 ghost use Rattle.bitpack_uses.specs.Failures.{FailsWith};
 ghost use Rattle.bitpack_uses.specs.Selected.{AreInAll, IsListInOrder, ids_fault};
 
 use bitpack::list2::PackedList;
-use bitpack::sorted::{And, DistinctValues, SortedCursor, collect_into};
+use bitpack_sorted::{And, DistinctValues, SortedCursor, collect_into};
 use bitpack::{ListError, ListKind};
 use bitpacking::{BitPacker, BitPacker4x};
 use std::alloc::Global;

@@ -1,12 +1,12 @@
 //! The values of a list whose packer is known only when the program runs, or of a slice.
 
 ghost use Rattle.bitpack_lists.specs.Cursors.{position, values_of_cursor};
-ghost use Rattle.bitpack_lists.specs.DistinctLaws.{increasing_rest};
-ghost use Rattle.bitpack_lists.specs.IncreasingLaws.{IsIncreasing-from};
-ghost use Rattle.bitpack_lists.specs.Remaining.{remaining};
+ghost use Rattle.bitpack_sorted.specs.DistinctLaws.{increasing_rest};
+ghost use Rattle.bitpack_sorted.specs.IncreasingLaws.{IsIncreasing-from};
+ghost use Rattle.bitpack_sorted.specs.Remaining.{remaining};
 ghost use Rattle.bitpack_uses.specs.declared.any_list.AnyList.TheVariants.{Eight, Four, Loose, One};
 
-use bitpack::sorted::{DistinctValues, IncreasingSlice, SortedCursor};
+use bitpack_sorted::{DistinctValues, IncreasingSlice, SortedCursor};
 use bitpacking::{BitPacker1x, BitPacker4x, BitPacker8x};
 
 /// A cursor over a list of one, four or eight lanes, or over values that are not packed.

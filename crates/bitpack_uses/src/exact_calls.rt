@@ -4,7 +4,7 @@
 use bitpack::ListKind;
 use bitpack::chain::{pack_all, pack_measured, packed_len, unpack_all};
 use bitpack::list2::{self, PackedList, Reads, first_from};
-use bitpack::sorted::{
+use bitpack_sorted::{
     DistinctValues, IncreasingSlice, SortedCursor, intersect_in_place, subtract_in_place,
     unite_in_place,
 };

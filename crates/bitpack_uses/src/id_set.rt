@@ -13,7 +13,7 @@ use crate::and_query::collect;
 use crate::postings::Postings;
 use bitpack::ListError;
 use bitpack::laws::{in_order, opened_text};
-use bitpack::sorted::{And, AndNot, Or, SortedCursor};
+use bitpack_sorted::{And, AndNot, Or, SortedCursor};
 use bitpacking::BitPacker;
 use std::alloc::Global;
 use std::marker::Model;

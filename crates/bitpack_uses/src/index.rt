@@ -2,13 +2,13 @@
 
 ghost use Rattle.std.specs.Prelude.{◌≡◌, IfErr, IfOk};
 ghost use Rattle.bitpack_lists.specs.declared.list_error.ListError.{ListError};
-ghost use Rattle.bitpack_lists.specs.Increasing.{shared};
+ghost use Rattle.bitpack_sorted.specs.Increasing.{shared};
 ghost use Rattle.bitpack_uses.specs.Postings.{distinct_ids};
 
 use crate::and_query::collect;
 use crate::postings::{Postings, select};
 use bitpack::ListError;
-use bitpack::sorted::And;
+use bitpack_sorted::And;
 use bitpacking::BitPacker;
 use std::alloc::{AllocError, Global};
 use std::collections::BTreeMap;

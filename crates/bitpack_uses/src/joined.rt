@@ -1,10 +1,10 @@
 //! Two cursors, joined by an operator that is chosen when the program runs.
 
-ghost use Rattle.bitpack_lists.specs.Increasing.{shared, united, without};
-ghost use Rattle.bitpack_lists.specs.IncreasingLaws.{increasing_shared, increasing_united, increasing_without};
+ghost use Rattle.bitpack_sorted.specs.Increasing.{shared, united, without};
+ghost use Rattle.bitpack_sorted.specs.IncreasingLaws.{increasing_shared, increasing_united, increasing_without};
 ghost use Rattle.bitpack_uses.specs.declared.joined.Joined.TheVariants.{Both, Either, FirstOnly};
 
-use bitpack::sorted::{And, AndNot, Or, SortedCursor};
+use bitpack_sorted::{And, AndNot, Or, SortedCursor};
 
 /// Two cursors as one, by AND, OR or AND NOT. It is a cursor itself, so trees of any depth can be built of it.
 #[derive(Drop)]

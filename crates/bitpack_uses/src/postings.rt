@@ -10,7 +10,7 @@ ghost use Rattle.bitpack_lists.specs.Owned.{kind_of_buf, version_of_buf};
 use crate::membership::contains;
 use bitpack::laws::{first_is_found, in_order, opened_text};
 use bitpack::list2::{ListBuf, PackedList, Reads};
-use bitpack::sorted::{DistinctValues, retain_common};
+use bitpack_sorted::{DistinctValues, retain_common};
 use bitpack::{ListError, ListKind};
 use bitpacking::BitPacker;
 pub use queries::{and, and_not, first_and_rest, first_shared, or, select};
@@ -27,11 +27,11 @@ pub struct Postings<P: BitPacker> {
 impl<P: BitPacker> Postings<P> {
     ghost use Rattle.std.specs.Prelude.{◌≢◌, ◌↔◌, ◌^◌, ◌≤◌, ◌<◌, ℕ, List, Contains, Err, IfErr, IfOk, IsTrue, MatchOption, Some, filter, length, vec_capacity};
     ghost use Rattle.bitpack_lists.specs.declared.list_error.ListError.{ListError};
-    ghost use Rattle.bitpack_lists.specs.Increasing.{has};
+    ghost use Rattle.bitpack_sorted.specs.Increasing.{has};
     ghost use Rattle.bitpack_lists.specs.OfKind.{fault2_as};
     ghost use Rattle.bitpack_lists.specs.Opened.{kind_of, values};
     ghost use Rattle.bitpack_lists.specs.Owned.{bytes_of_buf};
-    ghost use Rattle.bitpack_lists.specs.Remaining.{remaining};
+    ghost use Rattle.bitpack_sorted.specs.Remaining.{remaining};
     ghost use Rattle.bitpack_lists.specs.Version2.{List2, first_out};
     ghost use Rattle.bitpack_uses.specs.Postings.{IsNextAtLeast, distinct_ids, ids_of, text_of};
 

@@ -1,15 +1,15 @@
 //! Queries over packed lists: trees of AND, OR and AND NOT, made when the program runs.
 
 ghost use Rattle.std.specs.Prelude.{◌≡◌, ◌⊎◌, ℕ, [], None, Some, IfErr, IfOk, get_or, map};
-ghost use Rattle.bitpack_lists.specs.Increasing.{has};
+ghost use Rattle.bitpack_sorted.specs.Increasing.{has};
 ghost use Rattle.bitpack_lists.specs.Opened.{kind_of, values};
-ghost use Rattle.bitpack_lists.specs.Remaining.{remaining};
+ghost use Rattle.bitpack_sorted.specs.Remaining.{remaining};
 ghost use Rattle.bitpack_uses.specs.Query.{AreThose, asks, fault, fault_of_term, joins};
 
 use crate::and_query::collect;
 use bitpack::ListKind;
 use bitpack::list2::PackedList;
-use bitpack::sorted::{And, AndNot, DistinctValues, IncreasingSlice, Or, SortedCursor};
+use bitpack_sorted::{And, AndNot, DistinctValues, IncreasingSlice, Or, SortedCursor};
 use bitpacking::BitPacker;
 use std::alloc::Global;
 use std::error::Error;

@@ -5,15 +5,15 @@ ghost use Rattle.std.specs.List.Sorted.{IsStrictlyIncreasing};
 ghost use Rattle.std.specs.Option.{option_or};
 ghost use Rattle.bitpack_lists.specs.declared.list_error.ListError.{ListError};
 ghost use Rattle.bitpack_lists.specs.declared.list_kind.ListKind.{ListKind};
-ghost use Rattle.bitpack_lists.specs.Increasing.{shared, united, without};
-ghost use Rattle.bitpack_lists.specs.Remaining.{remaining};
+ghost use Rattle.bitpack_sorted.specs.Increasing.{shared, united, without};
+ghost use Rattle.bitpack_sorted.specs.Remaining.{remaining};
 ghost use Rattle.bitpack_lists.specs.Version2.{List2};
 ghost use Rattle.bitpack_uses.specs.Failures.{FailsWith};
 ghost use Rattle.bitpack_uses.specs.Selected.{IsListInOrder, IsSelected, ids_fault};
 
 use crate::and_query::{Ids, collect, open};
 use bitpack::ListError;
-use bitpack::sorted::{And, AndNot, Or};
+use bitpack_sorted::{And, AndNot, Or};
 use std::alloc::Global;
 
 /// The ids that are in `a`, and in `b` or `c`, and not in `d`. The texts may be untrusted.

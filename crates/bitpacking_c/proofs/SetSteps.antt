@@ -8,15 +8,16 @@ use Rattle.bitpack_lists.specs.declared.list_kind.ListKind.{ListKind}
 use Rattle.bitpack_lists.specs.declared.list_kind.ListKind.TheVariants.{Plain, Sorted, StrictlySorted}
 use Rattle.bitpack_lists.specs.declared.version.Version.{Version}
 use Rattle.bitpack_lists.specs.declared.version.Version.TheVariants as versions
-use Rattle.bitpack_lists.specs.Distinct.{distinct}
-use Rattle.bitpack_lists.specs.DistinctLaws.{IsOrdered-from, increasing_distinct}
-use Rattle.bitpack_lists.specs.Increasing.{IsIncreasing, has, shared, without}
-use Rattle.bitpack_lists.specs.IncreasingLaws.{IsIncreasing-filter, IsIncreasing-from}
-use Rattle.bitpack_lists.specs.InFront.{AreInFront}
-use Rattle.bitpack_lists.specs.Many.{all_have, any_has, shared_by_all}
+use Rattle.bitpack_sorted.specs.Distinct.{distinct}
+use Rattle.bitpack_sorted.specs.DistinctLaws.{IsOrdered-from, increasing_distinct}
+use Rattle.bitpack_sorted.specs.Increasing.{IsIncreasing, has, shared, without}
+use Rattle.bitpack_sorted.specs.IncreasingLaws.{IsIncreasing-filter, IsIncreasing-from}
+use Rattle.bitpack_sorted.specs.InFront.{AreInFront}
+use Rattle.bitpack_sorted.specs.Many.{all_have, any_has, shared_by_all}
 use Rattle.bitpack_lists.specs.Texts.{IsText, version_in}
 use Rattle.bitpack_lists.specs.Version2.{first_out}
-use Rattle.bitpack_lists.proofs.ForCallers.{has-distinct, has-filter, has-shared, has-shared_by_all, has-without, neither_falls, same_numbers, strict_is_order}
+use Rattle.bitpack_lists.proofs.ForCallers.{neither_falls, strict_is_order}
+use Rattle.bitpack_sorted.proofs.ForCallers.{has-distinct, has-filter, has-shared, has-shared_by_all, has-without, same_numbers}
 use Rattle.bitpacking_c.specs.declared.list_view.ListView.{ListView}
 use Rattle.bitpacking_c.specs.Sets.{AreListsOf, HasLength, Intersects, IsInOrder, Leaves, Lists, Subtracts, Writes, all_distinct, all_values, any_plain, first_len, is_plain, others_have, shortest_len, values_at, without_others}
 use Rattle.bitpacking_c.specs.Views.{IsListOf}

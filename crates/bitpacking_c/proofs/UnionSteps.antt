@@ -4,13 +4,13 @@ use Rattle.std.specs.List.Sorted.{IsStrictlyIncreasing}
 use Rattle.std.proofs.lemmas.Bool.{cond_both}
 use Rattle.std.proofs.lemmas.List.{drop_more, length-take-le}
 use Rattle.bitpack_lists.specs.declared.list_kind.ListKind.{ListKind}
-use Rattle.bitpack_lists.specs.Distinct.{distinct}
-use Rattle.bitpack_lists.specs.Increasing.{has, insert, united}
-use Rattle.bitpack_lists.specs.IncreasingLaws.{IsIncreasing-from}
-use Rattle.bitpack_lists.specs.InFront.{AreInFront}
-use Rattle.bitpack_lists.specs.Many.{any_has, united_all}
-use Rattle.bitpack_lists.specs.ManyLaws.{increasing_united_all}
-use Rattle.bitpack_lists.proofs.ForCallers.{has-distinct, has-united, has-united_all, same_numbers}
+use Rattle.bitpack_sorted.specs.Distinct.{distinct}
+use Rattle.bitpack_sorted.specs.Increasing.{has, insert, united}
+use Rattle.bitpack_sorted.specs.IncreasingLaws.{IsIncreasing-from}
+use Rattle.bitpack_sorted.specs.InFront.{AreInFront}
+use Rattle.bitpack_sorted.specs.Many.{any_has, united_all}
+use Rattle.bitpack_sorted.specs.ManyLaws.{increasing_united_all}
+use Rattle.bitpack_sorted.proofs.ForCallers.{has-distinct, has-united, has-united_all, same_numbers}
 use Rattle.bitpacking_c.specs.declared.list_view.ListView.{ListView}
 use Rattle.bitpacking_c.specs.Sets.{Adds, AreListsOf, CanAdd, FitsIn, HasLength, HasRoom, Lists, all_distinct, all_values, total_len, values_at}
 use Rattle.bitpacking_c.specs.Views.{IsListOf}

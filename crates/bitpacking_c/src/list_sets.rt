@@ -7,11 +7,11 @@ ghost use Rattle.std.specs.Prelude.{◌≡◌, ◌≢◌, ℕ, ◌<◌, ◌≤�
 ghost use Rattle.std.specs.List.{HoldsAt};
 ghost use Rattle.std.specs.List.Sorted.{IsStrictlyIncreasing};
 ghost use Rattle.bitpack_lists.specs.declared.list_kind.ListKind.{ListKind};
-ghost use Rattle.bitpack_lists.specs.Distinct.{distinct};
-ghost use Rattle.bitpack_lists.specs.Increasing.{has};
-ghost use Rattle.bitpack_lists.specs.InFront.{AreInFront};
-ghost use Rattle.bitpack_lists.specs.Many.{all_have, united_all};
-ghost use Rattle.bitpack_lists.specs.Remaining.{remaining};
+ghost use Rattle.bitpack_sorted.specs.Distinct.{distinct};
+ghost use Rattle.bitpack_sorted.specs.Increasing.{has};
+ghost use Rattle.bitpack_sorted.specs.InFront.{AreInFront};
+ghost use Rattle.bitpack_sorted.specs.Many.{all_have, united_all};
+ghost use Rattle.bitpack_sorted.specs.Remaining.{remaining};
 ghost use Rattle.bitpack_lists.specs.Texts.{IsText, fault_of_either, version_in};
 ghost use Rattle.bitpacking_c.specs.Sets.{Adds, AreListsOf, CanAdd, FitsIn, HasLength, HasRoom, Intersects, IsInOrder, Leaves, Lists, Subtracts, Unites, all_distinct, all_values, any_plain, others_have, shortest_len, total_len, values_at};
 ghost use Rattle.bitpacking_c.specs.Views.{IsListOf};
@@ -19,7 +19,7 @@ ghost use Rattle.bitpacking_c.specs.Views.{IsListOf};
 use super::list_view::{ListView, bitpacking_list_len, kind};
 use bitpack_lists::ListKind;
 use bitpack_lists::list2::PackedList;
-use bitpack_lists::sorted::{
+use bitpack_sorted::{
     DistinctValues, collect_to, intersect_in_place, subtract_in_place, unite_in_place,
 };
 use bitpacking::{BitPacker, BitPacker1x, BitPacker4x, BitPacker8x};

@@ -1,6 +1,6 @@
 -- What inner functions know of a text of version 3 without a fault.
 use Rattle.std.specs.Prelude.{◌≡◌, ℕ, ◌^◌, ◌≤◌, List, length, drop, None}
-use Rattle.bitpack_lists.specs.declared.list3.opening.StatedText.{StatedText}
+use Rattle.bitpack_lists.specs.declared.v3.opening.StatedText.{StatedText}
 use Rattle.bitpack_lists.specs.Parts.{whole_blocks}
 use Rattle.bitpack_lists.specs.Version2.{entry_fault2, first_fault, kind_at, tail_start}
 use Rattle.bitpack_lists.specs.Version3.{count3, fault3, header_end, kind3}

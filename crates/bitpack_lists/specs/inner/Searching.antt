@@ -1,10 +1,10 @@
 -- What the inner functions of a search know of an opened list.
 use Rattle.std.specs.Prelude.{◌≡◌, ℕ, suc, ◌+◌, ◌*◌, ◌^◌, ◌<◌, ◌≤◌, true, false, List, take, Option, Some, None, IfSome}
 use Rattle.bitpacking.specs.declared.bit_packer.BitPacker.{Ghosts}
-use Rattle.bitpack_lists.specs.declared.list2.packed_list.ListBlock.{ListBlock}
-use Rattle.bitpack_lists.specs.declared.list2.packed_list.KeptBlock.{KeptBlock}
-use Rattle.bitpack_lists.specs.declared.list2.packed_list.PackedList.{PackedList}
-use Rattle.bitpack_lists.specs.declared.list2.reads.Reads.{Reads}
+use Rattle.bitpack_lists.specs.declared.opened.ListBlock.{ListBlock}
+use Rattle.bitpack_lists.specs.declared.opened.KeptBlock.{KeptBlock}
+use Rattle.bitpack_lists.specs.declared.opened.PackedList.{PackedList}
+use Rattle.bitpack_lists.specs.declared.blocks.reads.Reads.{Reads}
 pub use Rattle.bitpack_lists.specs.Opened.{blocks_of, rest_of, value_of}
 use Rattle.bitpack_lists.specs.Search.{HasGrown, in_whole_block}
 use Rattle.bitpack_lists.specs.Version2.{block_at, kind_at, last_at, offset_at, width_at}

@@ -3,14 +3,14 @@
 ghost use Rattle.std.specs.Prelude.{◌≡◌, ◌≢◌, [], ◌∷◌, IfErr, IfOk, MatchOption, OnErr, map, take};
 ghost use Rattle.std.specs.List.Sorted.{IsStrictlyIncreasing};
 ghost use Rattle.bitpack_lists.specs.declared.list_error.ListError.{ListError};
-ghost use Rattle.bitpack_lists.specs.Increasing.{shared, united, without};
-ghost use Rattle.bitpack_lists.specs.Many.{shared_by_all};
+ghost use Rattle.bitpack_sorted.specs.Increasing.{shared, united, without};
+ghost use Rattle.bitpack_sorted.specs.Many.{shared_by_all};
 ghost use Rattle.bitpack_uses.specs.Postings.{distinct_ids};
 
 use super::Postings;
 use crate::and_query::collect;
 use bitpack::ListError;
-use bitpack::sorted::{And, AndAll, AndNot, Or, SortedCursor, Values};
+use bitpack_sorted::{And, AndAll, AndNot, Or, SortedCursor, Values};
 use bitpacking::BitPacker;
 use std::alloc::{AllocError, Global};
 

@@ -6,7 +6,7 @@ ghost use Rattle.bitpack_lists.specs.Version3.{HasCode};
 
 use super::checks::holds;
 use bitpack::list2::{Cursor, PackedList, Reads, intersect};
-use bitpack::sorted::retain_common;
+use bitpack_sorted::retain_common;
 use bitpack::{ListError, ListKind, list, list2, list3};
 use bitpacking::BitPacker;
 use std::process::Abort;

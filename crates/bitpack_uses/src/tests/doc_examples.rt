@@ -1,7 +1,7 @@
 //! The examples of doc comments of `bitpack_lists`, which have these lines.
 
 use bitpack::list2::{ListBuf, PackedList, first_from};
-use bitpack::sorted::{
+use bitpack_sorted::{
     And, IncreasingSlice, SortedCursor, Values, collect_to, intersect_in_place, subtract_in_place,
     unite_in_place,
 };

@@ -8,7 +8,7 @@ use super::calls::encode2;
 use super::checks::{holds, is_increasing, push, returns, same_values};
 use crate::and_query::{Ids, collect, open};
 use crate::selection::select;
-use bitpack::sorted::{And, AndNot, IncreasingSlice, Or, SortedCursor, count};
+use bitpack_sorted::{And, AndNot, IncreasingSlice, Or, SortedCursor, count};
 use bitpack::{ListError, ListKind};
 use bitpacking::{BitPacker, BitPacker4x};
 use std::alloc::Global;

@@ -1,7 +1,7 @@
 -- Four bytes for each value are room for any chain.
 use Rattle.std.proofs.Common.{◌*◌, ◌∙◌, ap, length}
 use Rattle.bitpacking.proofs.ForCallers.{AreWords-from_slice}
-use Rattle.bitpack_lists.proofs.ChainLemmas.{chain_fits}
+use Rattle.bitpack_lists.proofs.lemmas.blocks.ChainLemmas.{chain_fits}
 use Rattle.bitpack_lists.proofs.chain.pack_all.Goals as goal
 
 pub pack_measured-requires : goal.pack_measured-requires

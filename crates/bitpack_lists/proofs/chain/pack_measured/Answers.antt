@@ -5,9 +5,9 @@ use Rattle.std.proofs.lemmas.List.{take_all, length-take, length-drop}
 use Rattle.std.proofs.lemmas.List.Elements.{All-append, All-cons, All-nil}
 use Rattle.std.proofs.lemmas.Nat.{mul-le}
 use Rattle.bitpack_lists.specs.Chains.{next_kind}
-use Rattle.bitpack_lists.proofs.ChainLemmas.{Loose_step, LeastWidths_step, Loose_done, LeastWidths_done, take-block, length-block, take-put_end, drop-put_end, drop-further, sum-more, bound-more, block-from, drop-block}
-use Rattle.bitpack_lists.proofs.MeasuredLengths.{chained_room, chained_step}
-use Rattle.bitpack_lists.proofs.WriteSteps.{last-block}
+use Rattle.bitpack_lists.proofs.lemmas.blocks.ChainLemmas.{Loose_step, LeastWidths_step, Loose_done, LeastWidths_done, take-block, length-block, take-put_end, drop-put_end, drop-further, sum-more, bound-more, block-from, drop-block}
+use Rattle.bitpack_lists.proofs.lemmas.blocks.MeasuredLengths.{chained_room, chained_step}
+use Rattle.bitpack_lists.proofs.lemmas.blocks.WriteSteps.{last-block}
 use Rattle.bitpack_lists.proofs.chain.pack_measured.Goals as goal
 
 pub compress_kind-written-requires : goal.compress_kind-written-requires

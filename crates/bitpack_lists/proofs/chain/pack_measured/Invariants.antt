@@ -1,9 +1,9 @@
 -- The blocks before this one are a chain of least widths. By the least widths of all blocks, the length of the others is known.
 use Rattle.std.proofs.Common.{◌≡◌, ◌*◌, ◌≤◌, ℕ, List, length, take, drop, sum}
 use Rattle.std.specs.Prelude.{All}
-use Rattle.bitpack_lists.proofs.ChainLemmas.{LooseSoFar, LeastSoFar}
+use Rattle.bitpack_lists.proofs.lemmas.blocks.ChainLemmas.{LooseSoFar, LeastSoFar}
 use Rattle.bitpack_lists.specs.Chains.{LeastWidths}
-use Rattle.bitpack_lists.proofs.MeasuredLengths.{Measured}
+use Rattle.bitpack_lists.proofs.lemmas.blocks.MeasuredLengths.{Measured}
 use Rattle.bitpack_lists.proofs.chain.pack_measured.Given as goal
 
 abbrev pub invariant-loop-index : goal.invariant-loop-index

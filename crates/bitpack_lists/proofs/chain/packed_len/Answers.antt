@@ -3,9 +3,9 @@ use Rattle.std.proofs.Common.{◌≡◌, ◌*◌, ◌/◌, ◌≤◌, ℕ, List,
 use Rattle.std.proofs.lemmas.List.{drop_all, length-drop}
 use Rattle.bitpacking.proofs.ForCallers.{AreWords-from_slice}
 use Rattle.bitpack_lists.specs.Chains.{second_kind}
-use Rattle.bitpack_lists.proofs.ChainLemmas.{bound-more, least_widths}
-use Rattle.bitpack_lists.proofs.MeasuredLengths.{chained_step}
-use Rattle.bitpack_lists.proofs.WriteSteps.{block-left, left-more, last-block}
+use Rattle.bitpack_lists.proofs.lemmas.blocks.ChainLemmas.{bound-more, least_widths}
+use Rattle.bitpack_lists.proofs.lemmas.blocks.MeasuredLengths.{chained_step}
+use Rattle.bitpack_lists.proofs.lemmas.blocks.WriteSteps.{block-left, left-more, last-block}
 use Rattle.bitpack_lists.proofs.chain.packed_len.Goals as goal
 
 pub loop-init : goal.loop-init

@@ -1,7 +1,7 @@
 -- By the least widths of all blocks, the length so far is known.
 use Rattle.std.proofs.Common.{◌≡◌, ◌+◌, ◌*◌, ◌/◌, ◌≤◌, ℕ, List, length}
 use Rattle.bitpack_lists.specs.Chains.{LeastWidths}
-use Rattle.bitpack_lists.proofs.MeasuredLengths.{Measured}
+use Rattle.bitpack_lists.proofs.lemmas.blocks.MeasuredLengths.{Measured}
 use Rattle.bitpack_lists.proofs.chain.packed_len.Given as goal
 
 abbrev pub invariant-loop : goal.invariant-loop

@@ -5,7 +5,7 @@ use Rattle.std.proofs.lemmas.List.{take_all, length-take, length-drop}
 use Rattle.std.proofs.lemmas.Nat.{mul-le}
 use Rattle.bitpacking.specs.Layout.{size}
 use Rattle.bitpack_lists.specs.Chains.{next_kind}
-use Rattle.bitpack_lists.proofs.ChainLemmas.{Loose_step, Loose_done, length-block, drop-further, sum-more, sum-prefix, take-put_block, drop-put_block}
+use Rattle.bitpack_lists.proofs.lemmas.blocks.ChainLemmas.{Loose_step, Loose_done, length-block, drop-further, sum-more, sum-prefix, take-put_block, drop-put_block}
 use Rattle.bitpack_lists.proofs.chain.unpack_all.Goals as goal
 
 -- The bytes up to the end of the next block.

@@ -1,6 +1,6 @@
 -- The blocks before this one are a chain.
 use Rattle.std.proofs.Common.{◌≡◌, ◌*◌, take, drop, sum}
-use Rattle.bitpack_lists.proofs.ChainLemmas.{LooseSoFar}
+use Rattle.bitpack_lists.proofs.lemmas.blocks.ChainLemmas.{LooseSoFar}
 use Rattle.bitpack_lists.proofs.chain.unpack_all.Given as goal
 
 abbrev pub invariant-loop-index : goal.invariant-loop-index

@@ -1,5 +1,5 @@
 -- The law is a lemma on chains.
-use Rattle.bitpack_lists.proofs.ChainLemmas.{chains_read_back}
+use Rattle.bitpack_lists.proofs.lemmas.blocks.ChainLemmas.{chains_read_back}
 use Rattle.bitpack_lists.proofs.laws.chains_read_back.Goals as goal
 
 pub returns : goal.returns

@@ -1,5 +1,5 @@
 -- The clauses of the law are lemmas on lists in order.
-use Rattle.bitpack_lists.proofs.OrderLaws.{neither_falls, sorted_is_order, strict_is_order}
+use Rattle.bitpack_lists.proofs.lemmas.laws.OrderLaws.{neither_falls, sorted_is_order, strict_is_order}
 use Rattle.bitpack_lists.proofs.laws.in_order.Goals as goal
 
 pub returns-clause-sorted : goal.returns-clause-sorted

@@ -1,5 +1,5 @@
 -- The clauses of the law are lemmas on lists that increase.
-use Rattle.bitpack_lists.proofs.Distinct.{common_is_short, one_common}
+use Rattle.bitpack_lists.proofs.lemmas.laws.Distinct.{common_is_short, one_common}
 use Rattle.bitpack_lists.proofs.laws.one_common.Goals as goal
 
 pub returns-clause-same : goal.returns-clause-same

@@ -1,5 +1,5 @@
 -- The law is a lemma on the first byte of a text.
-use Rattle.bitpack_lists.proofs.Versions.{one_version}
+use Rattle.bitpack_lists.proofs.lemmas.opened.Versions.{one_version}
 use Rattle.bitpack_lists.proofs.laws.one_version.Goals as goal
 
 pub returns : goal.returns

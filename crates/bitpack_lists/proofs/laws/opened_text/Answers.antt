@@ -1,5 +1,5 @@
 -- Each opened list has a text without a fault.
-use Rattle.bitpack_lists.proofs.OpenedValues.{opened_list, opened_only, opened_ordered_values}
+use Rattle.bitpack_lists.proofs.lemmas.opened.OpenedValues.{opened_list, opened_only, opened_ordered_values}
 use Rattle.bitpack_lists.proofs.laws.opened_text.Goals as goal
 
 pub returns-clause-list : goal.returns-clause-list

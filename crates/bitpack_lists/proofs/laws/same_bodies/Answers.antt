@@ -1,5 +1,5 @@
 -- The law is a lemma on the two texts of a list.
-use Rattle.bitpack_lists.proofs.Upgraded.{same_bodies}
+use Rattle.bitpack_lists.proofs.lemmas.v2.Upgraded.{same_bodies}
 use Rattle.bitpack_lists.proofs.laws.same_bodies.Goals as goal
 
 pub returns : goal.returns

@@ -1,7 +1,7 @@
 -- The clauses of the law are lemmas on texts.
-use Rattle.bitpack_lists.proofs.Existence2.{text_of2}
-use Rattle.bitpack_lists.proofs.Existence3.{text_of3}
-use Rattle.bitpack_lists.proofs.ListLemmas.{text_of}
+use Rattle.bitpack_lists.proofs.lemmas.laws.Existence2.{text_of2}
+use Rattle.bitpack_lists.proofs.lemmas.laws.Existence3.{text_of3}
+use Rattle.bitpack_lists.proofs.lemmas.blocks.ListLemmas.{text_of}
 use Rattle.bitpack_lists.proofs.laws.text_exists.Goals as goal
 
 pub returns : goal.returns

@@ -1,5 +1,5 @@
 -- The clauses of the law are lemmas on texts.
-use Rattle.bitpack_lists.proofs.TextLengths.{fits_room, longest1, longest2, longest3}
+use Rattle.bitpack_lists.proofs.lemmas.laws.TextLengths.{fits_room, longest1, longest2, longest3}
 use Rattle.bitpack_lists.proofs.laws.text_fits.Goals as goal
 
 pub returns : goal.returns

@@ -4,7 +4,7 @@ use Rattle.std.proofs.Math.Seq.{take-suc}
 use Rattle.std.proofs.lemmas.List.{take_all}
 use Rattle.bitpacking.specs.Words.{word}
 use Rattle.bitpacking.proofs.ForCallers.{length-bytes_of_words, words_read_back}
-use Rattle.bitpack_lists.proofs.PartLemmas.{word-drop}
+use Rattle.bitpack_lists.proofs.lemmas.blocks.PartLemmas.{word-drop}
 use Rattle.bitpack_lists.proofs.little_endian.read_all.Goals as goal
 
 pub loop-index-preserved : goal.loop-index-preserved

@@ -2,7 +2,7 @@
 use Rattle.std.proofs.Common.{◌<◌, ℕ, length, ◌∙◌, arith, inl, inr}
 use Rattle.std.proofs.lemmas.Bool.{cases_eq}
 use Rattle.std.proofs.lemmas.List.{get_or-set_other, get_or-set_same, length-set}
-use Rattle.bitpack_lists.proofs.PartLemmas.{word-drop}
+use Rattle.bitpack_lists.proofs.lemmas.blocks.PartLemmas.{word-drop}
 use Rattle.bitpack_lists.proofs.little_endian.read_words.Goals as goal
 
 pub loop-index-preserved : goal.loop-index-preserved

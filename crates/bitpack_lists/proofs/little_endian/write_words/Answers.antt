@@ -4,7 +4,7 @@ use Rattle.std.proofs.lemmas.List.{take_all}
 use Rattle.std.proofs.lemmas.Slice.{take-put_mid}
 use borrow.Rule.Slice.PartMut.{put_mid}
 use Rattle.bitpacking.proofs.ForCallers.{bytes_of_words_more}
-use Rattle.bitpack_lists.proofs.GroupSteps.{length-written}
+use Rattle.bitpack_lists.proofs.lemmas.blocks.GroupSteps.{length-written}
 use Rattle.bitpack_lists.proofs.little_endian.write_words.Goals as goal
 
 pub loop-index-preserved : goal.loop-index-preserved

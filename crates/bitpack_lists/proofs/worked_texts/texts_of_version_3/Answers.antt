@@ -1,5 +1,5 @@
 -- The worked texts, by computing.
-use Rattle.bitpack_lists.proofs.WorkedProofs.{worked_faults, worked_texts}
+use Rattle.bitpack_lists.proofs.lemmas.laws.WorkedProofs.{worked_faults, worked_texts}
 use Rattle.bitpack_lists.proofs.worked_texts.texts_of_version_3.Goals as goal
 
 pub returns-clause-texts : goal.returns-clause-texts

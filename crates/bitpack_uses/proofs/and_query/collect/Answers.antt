@@ -1,6 +1,6 @@
 -- The values of a cursor increase.
 use Rattle.std.proofs.Common.{◌≡◌, rules}
-use Rattle.bitpack_lists.proofs.ForCallers.{strictly_from_increasing}
+use Rattle.bitpack_sorted.proofs.ForCallers.{strictly_from_increasing}
 use Rattle.bitpack_uses.proofs.and_query.collect.Goals as goal
 
 pub returns-clause-increasing : goal.returns-clause-increasing

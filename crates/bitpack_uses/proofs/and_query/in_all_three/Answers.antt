@@ -1,7 +1,7 @@
 -- What the three cursors begin with are the values of the three lists. The first text that is refused has the fault, and those before it none.
 use Rattle.std.proofs.Common.{◌≡◌, ℕ, List, Err, refl, ◌∙◌, ap, rules}
-use Rattle.bitpack_lists.specs.Increasing.{shared}
-use Rattle.bitpack_lists.specs.Remaining.{remaining}
+use Rattle.bitpack_sorted.specs.Increasing.{shared}
+use Rattle.bitpack_sorted.specs.Remaining.{remaining}
 use Rattle.bitpack_uses.proofs.Selections.{both_ok, in_all}
 use Rattle.bitpack_uses.proofs.and_query.in_all_three.Goals as goal
 

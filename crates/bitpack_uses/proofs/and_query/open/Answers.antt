@@ -3,7 +3,7 @@ use Rattle.std.proofs.Common.{◌≡◌, ◌≢◌, ℕ, Some, None, Err, drop, 
 use Rattle.bitpacking.proofs.ForCallers.{AreBytes-from_slice}
 use Rattle.bitpack_lists.specs.declared.list_kind.ListKind.TheVariants as lists
 use Rattle.bitpack_lists.specs.Cursors.{values_of_cursor}
-use Rattle.bitpack_lists.specs.Distinct.{distinct}
+use Rattle.bitpack_sorted.specs.Distinct.{distinct}
 use Rattle.bitpack_lists.specs.Opened.{kind_of, text, values}
 use Rattle.bitpack_lists.specs.Version2.{List2}
 use Rattle.bitpack_lists.proofs.ForCallers.{kind_is, no_fault2, values_are}

@@ -1,8 +1,8 @@
 -- A cursor over two has the ids that its operator wants.
 use Rattle.std.proofs.Common.{◌≡◌, ℕ, List, ap, ◌∙◌}
 use Rattle.std.proofs.lemmas.Result.{IfOk-weaker}
-use Rattle.bitpack_lists.specs.Increasing.{has}
-use Rattle.bitpack_lists.proofs.ForCallers.{has-shared, has-united, has-without}
+use Rattle.bitpack_sorted.specs.Increasing.{has}
+use Rattle.bitpack_sorted.proofs.ForCallers.{has-shared, has-united, has-without}
 use Rattle.bitpack_uses.specs.Query.{AreThose, joins}
 use Rattle.bitpack_uses.specs.declared.query.Operator.{Operator}
 use Rattle.bitpack_uses.specs.declared.query.Operator.TheVariants as operators

@@ -5,10 +5,10 @@ use Rattle.std.proofs.lemmas.List.{get_or-map, length-map}
 use Rattle.bitpack_lists.specs.declared.list_kind.ListKind.{ListKind}
 use Rattle.bitpack_lists.specs.declared.list_kind.ListKind.TheVariants.{Plain, Sorted, StrictlySorted}
 use Rattle.bitpack_lists.specs.Cursors.{values_of_cursor}
-use Rattle.bitpack_lists.specs.Distinct.{distinct}
-use Rattle.bitpack_lists.specs.Increasing.{has}
+use Rattle.bitpack_sorted.specs.Distinct.{distinct}
+use Rattle.bitpack_sorted.specs.Increasing.{has}
 use Rattle.bitpack_lists.specs.Opened.{kind_of, values}
-use Rattle.bitpack_lists.proofs.ForCallers.{has-distinct}
+use Rattle.bitpack_sorted.proofs.ForCallers.{has-distinct}
 use Rattle.bitpack_uses.specs.Query.{fault_of_kind, fault_of_term}
 use Rattle.bitpack_uses.proofs.query.term.Goals as goal
 

@@ -3,7 +3,7 @@
 use crate::tests::calls::{encode1, encode2, intersect_texts, open, unpack, upgrade, upgrade3};
 use crate::tests::checks::{holds, same_number, steps, succeeds};
 use bitpack::ListKind;
-use bitpack::sorted::{IncreasingSlice, collect_into};
+use bitpack_sorted::{IncreasingSlice, collect_into};
 use bitpacking::{BitPacker, BitPacker1x, BitPacker4x, BitPacker8x};
 use std::alloc::Global;
 use std::process::Abort;

@@ -5,7 +5,7 @@ use crate::and_query::{Ids, collect};
 use crate::tests::checks::{holds, push, same_values};
 use bitpack::ListKind;
 use bitpack::list2::PackedList;
-use bitpack::sorted::{AndAll, IncreasingSlice, OrAll, retain_common};
+use bitpack_sorted::{AndAll, IncreasingSlice, OrAll, retain_common};
 use bitpacking::{BitPacker, BitPacker4x};
 use std::alloc::Global;
 use std::process::Abort;

@@ -8,7 +8,7 @@ use crate::joined::Joined;
 use crate::tests::checks::{Numbers, holds, is_increasing, push};
 use bitpack::ListKind;
 use bitpack::list2::{Cursor, ListBuf};
-use bitpack::sorted::{And, AndNot, DistinctValues, Or, SortedCursor};
+use bitpack_sorted::{And, AndNot, DistinctValues, Or, SortedCursor};
 use bitpacking::{BitPacker, BitPacker1x, BitPacker4x, BitPacker8x};
 use std::alloc::Global;
 use std::process::Abort;

@@ -1,5 +1,5 @@
 -- The cursor has the values of the list, each once.
-use Rattle.bitpack_lists.specs.Remaining.{remaining}
+use Rattle.bitpack_sorted.specs.Remaining.{remaining}
 use Rattle.bitpacking_c.proofs.UnionSteps.{adds, room_to_add}
 use Rattle.bitpacking_c.proofs.list_sets.add_distinct_of.Goals as goal
 

@@ -1,6 +1,6 @@
 -- The values in front are the values that all lists have.
 use Rattle.std.proofs.Common.{◌≡◌, ◌<◌, ◌≤◌, false, length, take, pos, to_z, w64, arith, rules}
-use Rattle.bitpack_lists.specs.Many.{shared_by_all}
+use Rattle.bitpack_sorted.specs.Many.{shared_by_all}
 use Rattle.bitpacking_c.specs.Sets.{all_distinct, any_plain, shortest_len}
 use Rattle.bitpacking_c.proofs.SetSteps.{all_shared, count_of_lists, intersects_none, rising_shared, writes}
 use Rattle.bitpacking_c.proofs.list_sets.bitpacking_list_intersect.Goals as goal

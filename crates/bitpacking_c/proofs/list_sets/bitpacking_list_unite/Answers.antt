@@ -1,6 +1,6 @@
 -- The values in front are those that any list has.
 use Rattle.std.proofs.Common.{◌≡◌, ◌≤◌, false, length, pos, to_z, w64, rules}
-use Rattle.bitpack_lists.specs.Many.{united_all}
+use Rattle.bitpack_sorted.specs.Many.{united_all}
 use Rattle.bitpacking_c.specs.Sets.{all_distinct, any_plain, total_len}
 use Rattle.bitpacking_c.proofs.SetSteps.{writes}
 use Rattle.bitpacking_c.proofs.UnionSteps.{total_fits}

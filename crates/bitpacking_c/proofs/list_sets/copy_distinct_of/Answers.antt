@@ -2,12 +2,12 @@
 use Rattle.std.proofs.Common.{◌≡◌, ◌≤◌, length, take, ◌∙◌, ap, arith, rules}
 use Rattle.bitpack_lists.specs.declared.list_kind.ListKind.TheVariants.{StrictlySorted}
 use Rattle.bitpack_lists.specs.Cursors.{position, values_of_cursor}
-use Rattle.bitpack_lists.specs.DistinctLaws.{increasing_rest}
-use Rattle.bitpack_lists.specs.Increasing.{has}
+use Rattle.bitpack_sorted.specs.DistinctLaws.{increasing_rest}
+use Rattle.bitpack_sorted.specs.Increasing.{has}
 use Rattle.bitpack_lists.specs.Opened.{kind_of, values}
-use Rattle.bitpack_lists.specs.Remaining.{remaining}
+use Rattle.bitpack_sorted.specs.Remaining.{remaining}
 use Rattle.bitpack_lists.specs.Texts.{version_in}
-use Rattle.bitpack_lists.proofs.ForCallers.{has-distinct, strictly_from_increasing}
+use Rattle.bitpack_sorted.proofs.ForCallers.{has-distinct, strictly_from_increasing}
 use Rattle.std.proofs.lemmas.List.{length-take-le}
 use Rattle.bitpacking_c.proofs.SetSteps.{length-distinct, list_of_text, strict_text, text_of_list, written_all}
 use Rattle.bitpacking_c.proofs.list_sets.copy_distinct_of.Goals as goal

@@ -1,8 +1,8 @@
 -- Each list but the first that was written takes away what it lacks.
 use Rattle.std.proofs.Common.{◌≡◌, ℕ, ◌<◌, ◌&&◌, Bool, List, true, false, get_or, length, take, ◌∙◌, ap, arith, rules}
 use Rattle.std.proofs.lemmas.List.{length-take-le, take-append-le, take_all}
-use Rattle.bitpack_lists.specs.Increasing.{has}
-use Rattle.bitpack_lists.specs.Many.{all_have}
+use Rattle.bitpack_sorted.specs.Increasing.{has}
+use Rattle.bitpack_sorted.specs.Many.{all_have}
 use Rattle.bitpacking_c.specs.Sets.{AreListsOf, Lists, all_values, values_at}
 use Rattle.bitpacking_c.proofs.SetSteps.{all_with_one, count_of_values, kind_at, list_at, shared_again, shared_more}
 use Rattle.bitpacking_c.proofs.list_sets.intersect.Goals.{then-index-shortest, else-index-shortest}

@@ -1,8 +1,8 @@
 -- What is in front is what the shortest list and all lists before this one have.
 use Rattle.std.proofs.Common.{◌≡◌, ℕ, ◌≤◌, ◌&&◌, length, take}
 use Rattle.std.specs.List.Sorted.{IsStrictlyIncreasing}
-use Rattle.bitpack_lists.specs.Increasing.{has}
-use Rattle.bitpack_lists.specs.Many.{all_have}
+use Rattle.bitpack_sorted.specs.Increasing.{has}
+use Rattle.bitpack_sorted.specs.Many.{all_have}
 use Rattle.bitpacking_c.specs.Sets.{AreListsOf, Lists, all_values, values_at}
 use Rattle.bitpacking_c.proofs.list_sets.intersect.Given as goal
 

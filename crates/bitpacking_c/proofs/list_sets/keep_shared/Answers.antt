@@ -1,5 +1,5 @@
 -- The cursor has the values of the list, each once.
-use Rattle.bitpack_lists.specs.Remaining.{remaining}
+use Rattle.bitpack_sorted.specs.Remaining.{remaining}
 use Rattle.bitpacking_c.proofs.SetSteps.{leaves_shared}
 use Rattle.bitpacking_c.proofs.list_sets.keep_shared.Goals as goal
 

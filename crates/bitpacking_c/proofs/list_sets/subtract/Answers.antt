@@ -1,7 +1,7 @@
 -- Each list but the first takes away what it has.
 use Rattle.std.proofs.Common.{◌≡◌, ℕ, ◌<◌, ◌++◌, drop, List, get_or, length, take, ◌∙◌, ap, arith, rules}
 use Rattle.std.proofs.lemmas.List.{length-append, take-append-le}
-use Rattle.bitpack_lists.specs.Increasing.{has}
+use Rattle.bitpack_sorted.specs.Increasing.{has}
 use Rattle.bitpacking_c.specs.Sets.{all_values, values_at}
 use Rattle.bitpacking_c.proofs.SetSteps.{count_of_values, kind_at, left_begin, left_more, list_at}
 use Rattle.bitpacking_c.proofs.list_sets.subtract.Goals as goal

@@ -1,7 +1,7 @@
 -- What is in front is what the first list has and no other before this one.
 use Rattle.std.proofs.Common.{◌≡◌, ℕ, ◌≤◌, ◌&&◌, length, not, take}
 use Rattle.std.specs.List.Sorted.{IsStrictlyIncreasing}
-use Rattle.bitpack_lists.specs.Increasing.{has}
+use Rattle.bitpack_sorted.specs.Increasing.{has}
 use Rattle.bitpacking_c.specs.Sets.{AreListsOf, Lists, all_values, others_have, values_at}
 use Rattle.bitpacking_c.proofs.list_sets.subtract.Given as goal
 

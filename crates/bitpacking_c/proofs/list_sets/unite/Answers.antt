@@ -1,8 +1,8 @@
 -- Each list adds its values, and takes no more room than its length.
 use Rattle.std.proofs.Common.{◌≡◌, ℕ, ◌-◌, ◌<◌, ◌≤◌, List, get_or, length, take, ◌∙◌, ap, arith, rules}
 use Rattle.std.proofs.lemmas.List.{length-take-le, take_all}
-use Rattle.bitpack_lists.specs.Increasing.{has}
-use Rattle.bitpack_lists.specs.Many.{any_has}
+use Rattle.bitpack_sorted.specs.Increasing.{has}
+use Rattle.bitpack_sorted.specs.Many.{any_has}
 use Rattle.bitpacking_c.specs.Sets.{all_values, values_at}
 use Rattle.bitpacking_c.proofs.SetSteps.{count_of_values, kind_at, list_at}
 use Rattle.bitpacking_c.proofs.UnionSteps.{all_united, more_room, room_at, united_more}

@@ -1,8 +1,8 @@
 -- What is in front is what any list before this one has, and there is room for the lists from here on.
 use Rattle.std.proofs.Common.{◌≡◌, ℕ, ◌-◌, ◌≤◌, drop, length, take}
 use Rattle.std.specs.List.Sorted.{IsStrictlyIncreasing}
-use Rattle.bitpack_lists.specs.Increasing.{has}
-use Rattle.bitpack_lists.specs.Many.{any_has}
+use Rattle.bitpack_sorted.specs.Increasing.{has}
+use Rattle.bitpack_sorted.specs.Many.{any_has}
 use Rattle.bitpacking_c.specs.Sets.{AreListsOf, HasRoom, Lists, all_values}
 use Rattle.bitpacking_c.proofs.list_sets.unite.Given as goal
 

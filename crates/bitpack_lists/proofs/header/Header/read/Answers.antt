@@ -2,7 +2,7 @@
 use Rattle.std.proofs.Common.{◌≡◌, arith, get_or}
 use Rattle.bitpacking.proofs.ForCallers.{AreBytes-from_slice}
 use Rattle.bitpack_lists.specs.Parts.{kind_byte}
-use Rattle.bitpack_lists.proofs.HeaderLemmas.{header_from_bytes}
+use Rattle.bitpack_lists.proofs.lemmas.blocks.HeaderLemmas.{header_from_bytes}
 use Rattle.bitpack_lists.proofs.header.Header.read.Goals.{in-0, in-1, in-2}
 use Rattle.bitpack_lists.proofs.header.Header.read.Goals as goal
 

@@ -1,7 +1,7 @@
 -- The cursor has the ids, and they are no more than those of this set.
 use Rattle.std.proofs.Common.{◌∙◌, ap}
 use Rattle.std.proofs.lemmas.Result.{IfOk-weaker}
-use Rattle.bitpack_lists.specs.Distinct.{distinct}
+use Rattle.bitpack_sorted.specs.Distinct.{distinct}
 use Rattle.bitpack_uses.proofs.Combinations.{both_ids, both_few}
 use Rattle.bitpack_uses.proofs.id_set.IdSet.and.Goals as goal
 

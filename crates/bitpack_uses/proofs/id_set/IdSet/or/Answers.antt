@@ -1,7 +1,7 @@
 -- The cursor has the ids, and they are no more than those of both sets.
 use Rattle.std.proofs.Common.{◌∙◌, ap}
 use Rattle.std.proofs.lemmas.Result.{IfOk-weaker}
-use Rattle.bitpack_lists.specs.Distinct.{distinct}
+use Rattle.bitpack_sorted.specs.Distinct.{distinct}
 use Rattle.bitpack_uses.proofs.Combinations.{either_ids, either_few}
 use Rattle.bitpack_uses.proofs.id_set.IdSet.or.Goals as goal
 

@@ -1,8 +1,8 @@
 -- At the end the cursors have the ids of all lists.
 use Rattle.std.proofs.Common.{◌≡◌, ◌+◌, ◌<◌, ◌∷◌, ◌++◌, [], ℕ, List, length, get_or, map, take, sym, ap, ◌∙◌, arith, rules}
 use Rattle.std.proofs.lemmas.List.{map-append, take_all, take_more}
-use Rattle.bitpack_lists.specs.Many.{shared_by_all}
-use Rattle.bitpack_lists.specs.Remaining.{remaining}
+use Rattle.bitpack_sorted.specs.Many.{shared_by_all}
+use Rattle.bitpack_sorted.specs.Remaining.{remaining}
 use Rattle.bitpack_uses.specs.Postings.{distinct_ids}
 use Rattle.bitpack_uses.proofs.Selections.{both_ok}
 use Rattle.bitpack_uses.proofs.postings.queries.and.Goals as goal

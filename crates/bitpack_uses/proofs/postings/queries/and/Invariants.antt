@@ -1,6 +1,6 @@
 -- The cursors so far have the ids of the lists so far.
 use Rattle.std.proofs.Common.{◌≡◌, map, take}
-use Rattle.bitpack_lists.specs.Remaining.{remaining}
+use Rattle.bitpack_sorted.specs.Remaining.{remaining}
 use Rattle.bitpack_uses.specs.Postings.{distinct_ids}
 use Rattle.bitpack_uses.proofs.postings.queries.and.Given as goal
 

@@ -1,7 +1,7 @@
 -- The ids that were found, and those to come, are all that both lists have.
 use Rattle.std.proofs.Common.{◌≡◌, ◌++◌, ◌≤◌, length}
-use Rattle.bitpack_lists.specs.Increasing.{shared}
-use Rattle.bitpack_lists.specs.Remaining.{remaining}
+use Rattle.bitpack_sorted.specs.Increasing.{shared}
+use Rattle.bitpack_sorted.specs.Remaining.{remaining}
 use Rattle.bitpack_uses.specs.Postings.{distinct_ids}
 use Rattle.bitpack_uses.proofs.postings.queries.first_shared.Given as goal
 

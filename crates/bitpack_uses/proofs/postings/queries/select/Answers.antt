@@ -1,7 +1,7 @@
 -- What is collected are the values that the cursors of the four lists have left.
 use Rattle.std.proofs.Common.{◌≡◌, List, ℕ, refl, ◌∙◌}
 use Rattle.std.proofs.lemmas.Result.{IfOk-weaker}
-use Rattle.bitpack_lists.specs.Increasing.{shared, united, without}
+use Rattle.bitpack_sorted.specs.Increasing.{shared, united, without}
 use Rattle.bitpack_uses.proofs.postings.queries.select.Goals as goal
 
 -- The values of the cursors are those of the lists.

@@ -1,0 +1,23 @@
+-- Lemmas of what all versions share: parts of a text, whole blocks, entries, widths and order.
+pub mod BlockLemmas
+pub mod BlockValues
+pub mod ChainLemmas
+pub mod EntryLemmas
+pub mod FaultLemmas
+pub mod GroupSteps
+pub mod HeaderLemmas
+pub mod ListLemmas
+pub mod LooseLemmas
+pub mod MeasuredLengths
+pub mod Orders
+pub mod PartLemmas
+pub mod ReadSteps
+pub mod RestFaults
+pub mod RestLemmas
+pub mod RestValues
+pub mod SameBlocks
+pub mod SearchLemmas
+pub mod TextSizes
+pub mod ValueFaults
+pub mod WholeBlocks
+pub mod WriteSteps

@@ -1,0 +1,100 @@
+-- Version 2: what right entries say of the bodies, and the value at each position that the rest of a text gives.
+use Rattle.std.proofs.Common.{◌≡◌, ℕ, zero, suc, ◌+◌, ◌-◌, ◌*◌, ◌/◌, ◌%◌, ◌^◌, ◌<◌, ◌≤◌, List, length, drop, get_or, None, refl, sym, ◌∙◌, ap, arith}
+use Rattle.std.proofs.lemmas.Bool.{lt-ltb, le-ltb}
+use Rattle.std.proofs.lemmas.List.{length-drop, length-take-le}
+use Rattle.std.proofs.lemmas.Nat.{div-mul-add, le-div, mod-mul-add}
+use Rattle.bitpacking.specs.Bits.{AreBytes}
+use Rattle.bitpacking.specs.Codes.{AreWords, start}
+use Rattle.bitpacking.specs.Layout.{size, Holds}
+use Rattle.bitpacking.specs.Words.{word}
+use Rattle.bitpacking.proofs.ForCallers.{as_many_codes}
+use Rattle.bitpack_lists.specs.declared.list_kind.ListKind.{ListKind}
+use Rattle.bitpack_lists.specs.declared.list_kind.ListKind.TheVariants as lists
+use Rattle.bitpack_lists.specs.Version2.{block_at, body_at, body_start, entry_fault2, first_fault, kind_at, offset_at, tail_start, value_at, value_with, width_at, widths_before}
+use Rattle.bitpack_lists.proofs.lemmas.blocks.BlockValues.{AreWords-block, Holds-values_of}
+use Rattle.bitpack_lists.proofs.lemmas.blocks.EntryLemmas.{body_end}
+use Rattle.bitpack_lists.proofs.lemmas.blocks.PartLemmas.{AreBytes-drop, word-lt}
+use Rattle.bitpack_lists.proofs.lemmas.blocks.RestFaults.{entry_right, first_fault-none}
+
+pub start-kind_at : (kind : ListKind) (rest : List ℕ) (block : ℕ) → AreBytes rest → start (kind_at kind rest block) < 2 ^ 32
+start-kind_at lists.Plain rest zero small = omega arith
+start-kind_at lists.Sorted rest zero small = omega arith
+start-kind_at lists.StrictlySorted rest zero small = omega arith
+start-kind_at lists.Plain rest (suc block) small = omega arith
+start-kind_at lists.Sorted rest (suc block) small = word-lt (drop (9 * block + 5) rest) (AreBytes-drop (9 * block + 5) rest small)
+start-kind_at lists.StrictlySorted rest (suc block) small = word-lt (drop (9 * block + 5) rest) (AreBytes-drop (9 * block + 5) rest small)
+
+-- ---- right entries
+
+module _ (lanes blocks : ℕ) (rest : List ℕ) (right : first_fault (entry_fault2 rest) blocks ≡ None) (block : ℕ) (lt : block < blocks) where
+  entry : (width_at rest block ≤ 32) × (offset_at rest block ≡ widths_before rest block)
+  entry = entry_right rest block (first_fault-none (entry_fault2 rest) blocks right block lt)
+
+  pub narrow_entry : width_at rest block ≤ 32
+  narrow_entry = entry.0
+
+  pub offset_entry : offset_at rest block ≡ widths_before rest block
+  offset_entry = entry.1
+
+  pub body_room : tail_start lanes blocks rest ≤ length rest → body_start lanes blocks rest block + size lanes (width_at rest block) ≤ length rest
+  body_room room = omega (arith, body_end lanes blocks blocks rest block lt entry.1, room)
+
+  pub length-body_at : tail_start lanes blocks rest ≤ length rest → length (body_at lanes blocks rest block) ≡ size lanes (width_at rest block)
+  length-body_at room =
+      let from : ℕ = body_start lanes blocks rest block in
+      length-take-le (size lanes (width_at rest block)) (drop from rest) (omega (arith, length-drop from rest, body_room room))
+
+  -- The body holds the block that it gives.
+  pub Holds-block_at : (kind : ListKind) → tail_start lanes blocks rest ≤ length rest → AreBytes rest
+      → Holds lanes (width_at rest block) (kind_at kind rest block) (block_at lanes blocks kind rest block) (body_at lanes blocks rest block)
+  Holds-block_at kind room small =
+      Holds-values_of lanes (width_at rest block) (kind_at kind rest block) (body_at lanes blocks rest block) (start-kind_at kind rest block small) entry.0
+      (length-body_at room)
+
+  pub AreWords-block_at : (kind : ListKind) → tail_start lanes blocks rest ≤ length rest → AreBytes rest → AreWords (block_at lanes blocks kind rest block)
+  AreWords-block_at kind room small =
+      AreWords-block lanes (width_at rest block) (kind_at kind rest block) (body_at lanes blocks rest block) (start-kind_at kind rest block small) entry.0
+      (length-body_at room)
+
+  pub length-block_at : (kind : ListKind) → tail_start lanes blocks rest ≤ length rest → AreBytes rest → length (block_at lanes blocks kind rest block) ≡ 32 * lanes
+  length-block_at kind room small =
+      sym (as_many_codes (kind_at kind rest block) (block_at lanes blocks kind rest block)) ∙ (Holds-block_at kind room small).code_count
+
+-- ---- the values
+
+module _ (lanes blocks : ℕ) (kind : ListKind) (rest : List ℕ) (tail : ℕ → ℕ) (some : 1 ≤ lanes) where
+  pub value_with-block : (block k : ℕ) → block < blocks → k < 32 * lanes
+      → value_with lanes blocks kind rest tail (32 * lanes * block + k) ≡ get_or (block_at lanes blocks kind rest block) k 0
+  unfolding value_with
+  value_with-block block k lt within =
+      let n : ℕ = 32 * lanes in
+      let turned : n * block + k ≡ block * n + k = omega arith in
+      let row : (n * block + k) / n ≡ block = ap (λ p. p / n) turned ∙ div-mul-add block n k within in
+      let column : (n * block + k) % n ≡ k = ap (λ p. p % n) turned ∙ mod-mul-add block n k within in
+      rw (row, column, lt-ltb block blocks lt) refl
+
+  pub value_with-tail : (k : ℕ) → value_with lanes blocks kind rest tail (32 * lanes * blocks + k) ≡ tail k
+  unfolding value_with
+  value_with-tail k =
+      let n : ℕ = 32 * lanes in
+      let p : ℕ = n * blocks + k in
+      let row : blocks ≤ p / n = le-div blocks p n (omega arith) (omega arith) in
+      let left : n * blocks + k - n * blocks ≡ k = omega arith in
+      rw (le-ltb (p / n) blocks row, left) refl
+
+-- The tail of version 2 is words.
+module _ (lanes blocks : ℕ) (kind : ListKind) (rest : List ℕ) (some : 1 ≤ lanes) where
+  pub value_at-block : (block k : ℕ) → block < blocks → k < 32 * lanes
+      → value_at lanes blocks kind rest (32 * lanes * block + k) ≡ get_or (block_at lanes blocks kind rest block) k 0
+  value_at-block = value_with-block lanes blocks kind rest (word (drop (tail_start lanes blocks rest) rest)) some
+
+  pub value_at-tail : (k : ℕ) → value_at lanes blocks kind rest (32 * lanes * blocks + k) ≡ word (drop (tail_start lanes blocks rest) rest) k
+  value_at-tail = value_with-tail lanes blocks kind rest (word (drop (tail_start lanes blocks rest) rest)) some
+
+-- The last value of a block, as the block's kind goes on from it.
+pub value_with-last : (lanes blocks : ℕ) (kind : ListKind) (rest : List ℕ) (tail : ℕ → ℕ) (block last : ℕ) → 1 ≤ lanes → block < blocks
+    → get_or (block_at lanes blocks kind rest block) (32 * lanes - 1) 0 ≡ last → value_with lanes blocks kind rest tail (32 * lanes * (block + 1) - 1) ≡ last
+value_with-last lanes blocks kind rest tail block last some lt is =
+    let n : ℕ = 32 * lanes in
+    let here : n * (block + 1) - 1 ≡ n * block + (n - 1) = omega arith in
+    ap (value_with lanes blocks kind rest tail) here ∙ value_with-block lanes blocks kind rest tail some block (n - 1) lt (omega arith) ∙ is

@@ -1,0 +1,8 @@
+-- Lemmas of the laws, and texts worked by hand.
+pub mod Distinct
+pub mod Existence2
+pub mod Existence3
+pub mod OrderLaws
+pub mod TextLengths
+pub mod WorkedOlderProofs
+pub mod WorkedProofs

@@ -1,0 +1,255 @@
+-- Values of groups, one group after the other, and the first that reaches a target.
+use Rattle.std.proofs.Common.{◌≡◌, ℕ, suc, ◌==◌, false, ltb, ◌+◌, ◌-◌, ◌*◌, ◌%◌, ◌^◌, min, ◌<◌, ◌≤◌, Option, Some, None, List, [], ◌∷◌, ◌++◌, length, drop, get_or, refl, sym, ◌∙◌, ap, arith, inl}
+use Rattle.std.specs.Option.{option_map, option_or}
+use Rattle.std.proofs.Math.Nat.{div-add-mod, div-lt_iff_lt-mul}
+use Rattle.std.proofs.lemmas.Bool.{and_left, leb-false, lt-ltb, ne_eqb}
+use Rattle.std.proofs.lemmas.List.{drop-drop, drop_at, get_or-drop, get_or-take, get_or_append_left}
+use Rattle.bitpacking.specs.declared.bit_packer.BitPacker.{Ghosts}
+use Rattle.bitpacking.specs.declared.kind.Kind.{Kind}
+use Rattle.bitpacking.specs.declared.kind.Kind.TheVariants.{Plain, Sorted, StrictlySorted}
+use Rattle.bitpacking.specs.Codes.{values_of}
+use Rattle.bitpack_lists.specs.Chains.{next_kind}
+use Rattle.bitpack_lists.specs.declared.list_error.ListError.{ListError}
+use Rattle.bitpack_lists.specs.declared.opened.PackedList.{PackedList}
+use Rattle.bitpack_lists.specs.declared.version.Version.TheVariants as versions
+use Rattle.bitpack_lists.specs.Groups.{group_codes, group_end, group_fault, groups_codes, groups_fault, groups_of}
+use Rattle.bitpack_lists.specs.Numbers.{number_end, number_fault, number_value}
+use Rattle.bitpack_lists.specs.Parts.{tail_values}
+use Rattle.bitpack_lists.specs.Search.{first_reaching}
+use Rattle.bitpack_lists.specs.Version2.{least_below}
+use Rattle.bitpack_lists.specs.Version3.{has_first, tail_codes3, tail_fault3, tail_values3}
+use Rattle.bitpack_lists.specs.inner.CodeSteps.{sums}
+use Rattle.bitpack_lists.specs.inner.Searching.{blocks_of, rest_of, value_of}
+use Rattle.bitpack_lists.proofs.lemmas.v3.CodeLemmas.{sums-sorted, sums-strict}
+use Rattle.bitpack_lists.proofs.lemmas.blocks.GroupSteps.{codes-next, fault-here, tail-first}
+use Rattle.bitpack_lists.proofs.lemmas.opened.OpenedLists.{front_values, tail_at, tail_right}
+use Rattle.bitpack_lists.proofs.lemmas.blocks.Orders.{least_below-further}
+use Rattle.bitpack_lists.proofs.lemmas.blocks.SearchLemmas.{least_below-none, reaches}
+
+-- ---- values go on from the last one
+
+sums-append : (before more : ℕ) (xs ys : List ℕ)
+    → sums before more (xs ++ ys) ≡ sums before more xs ++ sums (get_or (before ∷ sums before more xs) (length xs) 0) more ys
+sums-append before more [] ys = refl
+sums-append before more (x ∷ xs) ys =
+    let next : ℕ = (before + x + more) % 2 ^ 32 in
+    ap (λ zs. next ∷ zs) (sums-append next more xs ys)
+
+sorted-append : (before x : ℕ) (xs ys : List ℕ) → values_of (Sorted before) (x ∷ (xs ++ ys))
+    ≡ values_of (Sorted before) (x ∷ xs) ++ values_of (Sorted (get_or (values_of (Sorted before) (x ∷ xs)) (length xs) 0)) ys
+sorted-append before x xs ys =
+    let last : ℕ = get_or (values_of (Sorted before) (x ∷ xs)) (length xs) 0 in
+    sym (sums-sorted before before (x ∷ (xs ++ ys)) refl) ∙ sums-append before 0 (x ∷ xs) ys
+    ∙ ap (λ zs. zs ++ sums (get_or zs (length xs) 0) 0 ys) (sums-sorted before before (x ∷ xs) refl)
+    ∙ ap (λ zs. values_of (Sorted before) (x ∷ xs) ++ zs) (sums-sorted last last ys refl)
+
+strict-append : (before x : ℕ) (xs ys : List ℕ) → values_of (StrictlySorted (Some before)) (x ∷ (xs ++ ys))
+    ≡ values_of (StrictlySorted (Some before)) (x ∷ xs)
+    ++ values_of (StrictlySorted (Some (get_or (values_of (StrictlySorted (Some before)) (x ∷ xs)) (length xs) 0))) ys
+strict-append before x xs ys =
+    let last : ℕ = get_or (values_of (StrictlySorted (Some before)) (x ∷ xs)) (length xs) 0 in
+    sym (sums-strict before before (x ∷ (xs ++ ys)) refl) ∙ sums-append before 1 (x ∷ xs) ys
+    ∙ ap (λ zs. zs ++ sums (get_or zs (length xs) 0) 1 ys) (sums-strict before before (x ∷ xs) refl)
+    ∙ ap (λ zs. values_of (StrictlySorted (Some before)) (x ∷ xs) ++ zs) (sums-strict last last ys refl)
+
+pub values_of-append : (kind : Kind) (xs ys : List ℕ) (n : ℕ) → length xs ≡ n + 1
+    → values_of kind (xs ++ ys) ≡ values_of kind xs ++ values_of (next_kind kind (get_or (values_of kind xs) n 0)) ys
+values_of-append kind [] ys n long = absurd (omega (arith, long))
+values_of-append Plain (x ∷ xs) ys n long = refl
+values_of-append (Sorted before) (x ∷ xs) ys n long =
+    let same : n ≡ length xs = omega (arith, long) in
+    rw same (sorted-append before x xs ys)
+values_of-append (StrictlySorted None) (x ∷ xs) ys n long =
+    let same : n ≡ length xs = omega (arith, long) in
+    rw same (strict-append 4294967295 x xs ys)
+values_of-append (StrictlySorted (Some before)) (x ∷ xs) ys n long =
+    let same : n ≡ length xs = omega (arith, long) in
+    rw same (strict-append before x xs ys)
+
+length-sums : (before more : ℕ) (xs : List ℕ) → length (sums before more xs) ≡ length xs
+length-sums before more [] = refl
+length-sums before more (x ∷ xs) = ap suc (length-sums ((before + x + more) % 2 ^ 32) more xs)
+
+length-values_of : (kind : Kind) (xs : List ℕ) → length (values_of kind xs) ≡ length xs
+length-values_of Plain xs = refl
+length-values_of (Sorted before) xs = ap length (sym (sums-sorted before before xs refl)) ∙ length-sums before 0 xs
+length-values_of (StrictlySorted None) xs = ap length (sym (sums-strict 4294967295 4294967295 xs refl)) ∙ length-sums 4294967295 1 xs
+length-values_of (StrictlySorted (Some before)) xs = ap length (sym (sums-strict before before xs refl)) ∙ length-sums before 1 xs
+
+-- ---- one group of those that are left
+
+module _ (groups block total i len : ℕ) (rest : List ℕ) (lt : i < groups) (is : len ≡ min 32 (total - 32 * i)) where
+  pub group_right : groups_fault (groups - i) (block + i) (total - 32 * i) rest ≡ None → group_fault (block + i) len rest ≡ None
+  group_right none = either (group_fault (block + i) len rest) refl
+    where
+      either : (fault : Option ListError) → group_fault (block + i) len rest ≡ fault → group_fault (block + i) len rest ≡ None
+      either None e = e
+      either (Some fault) e =
+          let clash : Some fault ≡ None = sym (fault-here groups block total i len rest lt is fault e) ∙ none in
+          absurd cc
+
+  -- The values from an index on are those of the group, and then those of the groups after it.
+  pub next_part : (kind : Kind) (from : ℕ) (part all : List ℕ) → 1 ≤ len → length part ≡ len → part ≡ values_of kind (group_codes len rest)
+      → drop from all ≡ values_of kind (groups_codes (groups - i) (total - 32 * i) rest)
+      → drop from all ≡ part ++ values_of (next_kind kind (get_or part (len - 1) 0))
+      (groups_codes (groups - (i + 1)) (total - 32 * (i + 1)) (drop (group_end len rest) rest))
+  next_part kind from part all some long part_is all_is =
+      let codes : List ℕ = group_codes len rest in
+      let later : List ℕ = groups_codes (groups - (i + 1)) (total - 32 * (i + 1)) (drop (group_end len rest) rest) in
+      let many : length codes ≡ len - 1 + 1 = omega (arith, some, long, ap length part_is, length-values_of kind codes) in
+      all_is ∙ ap (values_of kind) (codes-next groups block total i len rest lt is) ∙ values_of-append kind codes later (len - 1) many
+      ∙ ap (λ zs. zs ++ values_of (next_kind kind (get_or zs (len - 1) 0)) later) (sym part_is)
+
+-- ---- a part of all values, from an index on
+
+module _ (all part later : List ℕ) (from len : ℕ) (is : drop from all ≡ part ++ later) (long : length part ≡ len) where
+  pub later_is : drop (from + len) all ≡ later
+  later_is = sym (drop-drop len from all) ∙ ap (drop len) is ∙ drop_at part later len long
+
+  part_at : (k : ℕ) → k < len → get_or all (from + k) 0 ≡ get_or part k 0
+  part_at k lt =
+      sym (get_or-drop from all k 0) ∙ ap (λ zs. get_or zs k 0) is ∙ get_or_append_left part later 0 k (omega (arith, long, lt))
+
+pub part_values : (value : ℕ → ℕ) (start from count : ℕ) (all part later : List ℕ) → drop from all ≡ part ++ later → from + length part ≤ count
+    → ((k : ℕ) → k < count → value (start + k) ≡ get_or all k 0) → (k : ℕ) → k < length part → value (start + from + k) ≡ get_or part k 0
+part_values value start from count all part later is within each k lt =
+    let place : start + from + k ≡ start + (from + k) = omega arith in
+    ap value place ∙ each (from + k) (omega (arith, within, lt)) ∙ part_at all part later from (length part) is refl k lt
+
+-- ---- the first that reaches a target
+
+module _ (value : ℕ → ℕ) (target bound : ℕ) where
+  abbrev placed : ℕ → ℕ × ℕ
+  placed position = (position, value position)
+
+  -- What is found among fewer values is found among more.
+  pub found_further : (greater : ℕ) (found : ℕ × ℕ) → bound ≤ greater → first_reaching value bound target ≡ Some found
+      → first_reaching value greater target ≡ Some found
+  found_further greater found le is = either (least_below (reaches value target) bound) refl is
+    where
+      either : (least : Option ℕ) → least_below (reaches value target) bound ≡ least → option_map placed least ≡ Some found
+          → first_reaching value greater target ≡ Some found
+      either None e f = absurd cc
+      either (Some position) e f = ap (option_map placed) (least_below-further (reaches value target) bound greater position le e) ∙ f
+
+  -- If none is found, all are below the target.
+  pub all_below : first_reaching value bound target ≡ None → (k : ℕ) → k < bound → value k < target
+  all_below none k lt =
+      leb-false target (value k) (least_below-none (reaches value target) bound (no_least (least_below (reaches value target) bound) none) k lt)
+    where
+      no_least : (least : Option ℕ) → option_map placed least ≡ None → least ≡ None
+      no_least None e = refl
+      no_least (Some position) e = absurd cc
+
+-- ---- the first value, and those after it
+
+module _ (kind : Kind) (code : ℕ) (codes : List ℕ) where
+  abbrev front : List ℕ
+  front = values_of kind (code ∷ [])
+
+  abbrev later : List ℕ
+  later = values_of (next_kind kind (get_or front 0 0)) codes
+
+  split : values_of kind (code ∷ codes) ≡ front ++ later
+  split = values_of-append kind (code ∷ []) codes 0 refl
+
+  first_value : get_or (values_of kind (code ∷ codes)) 0 0 ≡ get_or front 0 0
+  first_value =
+      ap (λ zs. get_or zs 0 0) split ∙ get_or_append_left front later 0 0 (omega (arith, length-values_of kind (code ∷ [])))
+
+  later_value : (k : ℕ) → get_or (values_of kind (code ∷ codes)) (1 + k) 0 ≡ get_or later k 0
+  later_value k =
+      ap (λ zs. get_or zs (1 + k) 0) split ∙ sym (get_or-drop 1 (front ++ later) k 0)
+      ∙ ap (λ zs. get_or zs k 0) (drop_at front later 1 (length-values_of kind (code ∷ [])))
+
+-- ---- the tail of an opened list
+
+no_first : (blocks tail : ℕ) → 0 < blocks → has_first blocks tail ≡ false
+no_first blocks tail some = and_left (blocks == 0) (ltb 0 tail) (ne_eqb blocks 0 (λ e. omega (arith, some, e)))
+
+groups-fault : (blocks tail : ℕ) (bytes : List ℕ) → 0 < blocks → tail_fault3 blocks tail bytes ≡ groups_fault (groups_of tail) blocks tail bytes
+unfolding tail_fault3
+groups-fault blocks tail bytes some = rw (no_first blocks tail some) refl
+
+groups-codes : (blocks tail : ℕ) (bytes : List ℕ) → 0 < blocks → tail_codes3 blocks tail bytes ≡ groups_codes (groups_of tail) tail bytes
+unfolding tail_codes3
+groups-codes blocks tail bytes some = rw (no_first blocks tail some) refl
+
+first-fault : (blocks tail : ℕ) (bytes : List ℕ) → blocks ≡ 0 → 0 < tail → tail_fault3 blocks tail bytes
+    ≡ option_or (number_fault bytes) (groups_fault (groups_of (tail - 1)) 0 (tail - 1) (drop (number_end bytes) bytes))
+unfolding tail_fault3
+first-fault blocks tail bytes none some = rw (none, lt-ltb 0 tail some) refl
+
+module _ {P : Type 0} {members : Ghosts P} (list : PackedList P members) (some : 1 ≤ members.lanes) (three : list.version ≡ versions.Three) where
+  abbrev tail : ℕ
+  tail = tail_values members.lanes list.count
+
+  abbrev bytes : List ℕ
+  bytes = list.tail.now
+
+  tail_value_is : (k : ℕ) → k < tail
+      → value_of list (32 * members.lanes * blocks_of list + k) ≡ get_or (values_of list.tail_kind (tail_codes3 (blocks_of list) tail bytes)) k 0
+  tail_value_is k lt =
+      tail_at list some three k
+      ∙ sym (get_or-take tail (tail_values3 members.lanes (blocks_of list) tail list.kind (rest_of list)) k 0 lt)
+      ∙ ap (λ zs. get_or zs k 0) (sym (front_values list some three tail (inl refl)))
+
+  module _ (whole : 0 < blocks_of list) where
+    pub whole_right : groups_fault (groups_of tail) (blocks_of list) tail bytes ≡ None
+    whole_right = sym (groups-fault (blocks_of list) tail bytes whole) ∙ tail_right list some three
+
+    pub whole_value : (k : ℕ) → k < tail
+        → value_of list (32 * members.lanes * blocks_of list + k) ≡ get_or (values_of list.tail_kind (groups_codes (groups_of tail) tail bytes)) k 0
+    whole_value k lt = tail_value_is k lt ∙ ap (λ codes. get_or (values_of list.tail_kind codes) k 0) (groups-codes (blocks_of list) tail bytes whole)
+
+  module _ (count_some : 1 ≤ list.count) (few : list.count < 32 * members.lanes) where
+    none_whole : blocks_of list ≡ 0
+    none_whole =
+        let lt : list.count < 1 * (32 * members.lanes) = omega (arith, few) in
+        let n : 0 < 32 * members.lanes = omega (arith, some) in
+        let below : blocks_of list < 1 = (div-lt_iff_lt-mul n).1 lt in
+        omega (arith, below)
+
+    start_is : (k : ℕ) → 32 * members.lanes * blocks_of list + k ≡ k
+    start_is k = let none : 32 * members.lanes * blocks_of list ≡ 0 = rw none_whole (omega arith) in omega (arith, none)
+
+    all_tail : tail ≡ list.count
+    all_tail = omega (arith, div-add-mod list.count (32 * members.lanes), start_is 0)
+
+    both_right : option_or (number_fault bytes) (groups_fault (groups_of (list.count - 1)) 0 (list.count - 1) (drop (number_end bytes) bytes)) ≡ None
+    both_right =
+        rw all_tail at (sym (first-fault (blocks_of list) tail bytes none_whole (omega (arith, all_tail, count_some))) ∙ tail_right list some three)
+
+    pub first_right : number_fault bytes ≡ None
+    first_right = left (number_fault bytes) _ both_right
+      where
+        left : (one other : Option ListError) → option_or one other ≡ None → one ≡ None
+        left None other e = refl
+        left (Some fault) other e = absurd cc
+
+    pub later_right : groups_fault (groups_of (list.count - 1)) 0 (list.count - 1) (drop (number_end bytes) bytes) ≡ None
+    later_right = right (number_fault bytes) _ both_right
+      where
+        right : (one other : Option ListError) → option_or one other ≡ None → other ≡ None
+        right None other e = e
+        right (Some fault) other e = absurd cc
+
+    value_at : (k : ℕ) → k < list.count → value_of list k ≡ get_or (values_of list.tail_kind
+        (number_value bytes ∷ groups_codes (groups_of (list.count - 1)) (list.count - 1) (drop (number_end bytes) bytes))) k 0
+    value_at k lt =
+        let first = tail-first (blocks_of list) tail bytes none_whole (omega (arith, all_tail, count_some)) in
+        ap (value_of list) (sym (start_is k)) ∙ tail_value_is k (omega (arith, all_tail, lt))
+        ∙ ap (λ codes. get_or (values_of list.tail_kind codes) k 0)
+        (first ∙ ap (λ n. number_value bytes ∷ groups_codes (groups_of (n - 1)) (n - 1) (drop (number_end bytes) bytes)) all_tail)
+
+    pub value_first : value_of list 0 ≡ get_or (values_of list.tail_kind (number_value bytes ∷ [])) 0 0
+    value_first =
+        value_at 0 (omega (arith, count_some))
+        ∙ first_value list.tail_kind (number_value bytes) (groups_codes (groups_of (list.count - 1)) (list.count - 1) (drop (number_end bytes) bytes))
+
+    pub value_later : (k : ℕ) → k < list.count - 1 → value_of list (1 + k)
+        ≡ get_or (values_of (next_kind list.tail_kind (get_or (values_of list.tail_kind (number_value bytes ∷ [])) 0 0))
+        (groups_codes (groups_of (list.count - 1)) (list.count - 1) (drop (number_end bytes) bytes))) k 0
+    value_later k lt =
+        value_at (1 + k) (omega (arith, lt))
+        ∙ later_value list.tail_kind (number_value bytes) (groups_codes (groups_of (list.count - 1)) (list.count - 1) (drop (number_end bytes) bytes)) k

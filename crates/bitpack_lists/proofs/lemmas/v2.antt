@@ -1,0 +1,5 @@
+-- Lemmas of version 2.
+pub mod OneText2
+pub mod Soundness2
+pub mod UpgradeSteps
+pub mod Upgraded

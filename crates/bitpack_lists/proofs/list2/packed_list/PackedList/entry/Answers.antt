@@ -1,9 +1,0 @@
--- The entries are within the text.
-use Rattle.std.proofs.Common.{arith}
-use Rattle.bitpack_lists.proofs.OpenedLists.{opened_room}
-use Rattle.bitpack_lists.proofs.list2.packed_list.PackedList.entry.Goals as goal
-
-pub entry-requires : goal.entry-requires
-entry-requires g c =
-    let room = opened_room c.args.self.now g.met.P.BitPacker.some_lanes in
-    omega (arith, room, c.requires)

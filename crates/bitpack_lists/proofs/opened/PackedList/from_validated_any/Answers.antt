@@ -1,0 +1,42 @@
+-- The list is that of its text, of the version that its first byte says.
+use Rattle.std.proofs.Common.{◌≡◌, ℕ, List, subst, rules}
+use Rattle.bitpack_lists.specs.Opened.{kind_of, values, version_of}
+use Rattle.bitpack_lists.specs.Texts.{IsText, IsTextOfNoOther, version_in}
+use Rattle.bitpack_lists.proofs.lemmas.opened.OpenedValues.{opened_list, opened_only}
+use Rattle.bitpack_lists.proofs.opened.PackedList.from_validated_any.Goals as goal
+
+pub returns-then-is_empty-clause-list : goal.returns-then-is_empty-clause-list
+returns-then-is_empty-clause-list g c =
+    let list = c.from_validated.result in
+    let bytes : List ℕ = c.args.bytes.now in
+    let version : version_of list ≡ version_in bytes = search rules in
+    subst (λ v. IsText v g.P.BitPacker.lanes (kind_of list) (values list) bytes) version
+    (subst (λ zs. IsText (version_of list) g.P.BitPacker.lanes (kind_of list) (values list) zs) c.from_validated.ensures.bytes
+    (opened_list list g.met.P.BitPacker.some_lanes))
+
+pub returns-then-is_empty-clause-only : goal.returns-then-is_empty-clause-only
+returns-then-is_empty-clause-only g c =
+    let list = c.from_validated.result in
+    let bytes : List ℕ = c.args.bytes.now in
+    let version : version_of list ≡ version_in bytes = search rules in
+    subst (λ v. IsTextOfNoOther v g.P.BitPacker.lanes (kind_of list) (values list) bytes) version
+    (subst (λ zs. IsTextOfNoOther (version_of list) g.P.BitPacker.lanes (kind_of list) (values list) zs) c.from_validated.ensures.bytes
+    (opened_only list g.met.P.BitPacker.some_lanes))
+
+pub returns-clause-list : goal.returns-clause-list
+returns-clause-list g c =
+    let list = c.of_stated.result in
+    let bytes : List ℕ = c.args.bytes.now in
+    let version : version_of list ≡ version_in bytes = search rules in
+    subst (λ v. IsText v g.P.BitPacker.lanes (kind_of list) (values list) bytes) version
+    (subst (λ zs. IsText (version_of list) g.P.BitPacker.lanes (kind_of list) (values list) zs) c.of_stated.ensures.0
+    (opened_list list g.met.P.BitPacker.some_lanes))
+
+pub returns-clause-only : goal.returns-clause-only
+returns-clause-only g c =
+    let list = c.of_stated.result in
+    let bytes : List ℕ = c.args.bytes.now in
+    let version : version_of list ≡ version_in bytes = search rules in
+    subst (λ v. IsTextOfNoOther v g.P.BitPacker.lanes (kind_of list) (values list) bytes) version
+    (subst (λ zs. IsTextOfNoOther (version_of list) g.P.BitPacker.lanes (kind_of list) (values list) zs) c.of_stated.ensures.0
+    (opened_only list g.met.P.BitPacker.some_lanes))

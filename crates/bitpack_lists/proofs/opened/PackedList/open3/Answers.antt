@@ -1,0 +1,20 @@
+-- The kind and the values of an opened list are those of its text.
+use Rattle.std.proofs.Common.{subst}
+use Rattle.bitpack_lists.specs.declared.version.Version.TheVariants as versions
+use Rattle.bitpack_lists.specs.Opened.{kind_of, values}
+use Rattle.bitpack_lists.specs.Texts.{IsTextOfNoOther}
+use Rattle.bitpack_lists.specs.Version3.{List3}
+use Rattle.bitpack_lists.proofs.lemmas.opened.OpenedValues.{opened_list3, opened_only3}
+use Rattle.bitpack_lists.proofs.opened.PackedList.open3.Goals as goal
+
+pub returns-clause-list : goal.returns-clause-list
+returns-clause-list g c =
+    let list = c.of_stated.result in
+    subst (λ bytes. List3 g.P.BitPacker.lanes (kind_of list) (values list) bytes) c.of_stated.ensures.0
+    (opened_list3 list g.met.P.BitPacker.some_lanes c.of_stated.ensures.1)
+
+pub returns-clause-only : goal.returns-clause-only
+returns-clause-only g c =
+    let list = c.of_stated.result in
+    subst (λ bytes. IsTextOfNoOther versions.Three g.P.BitPacker.lanes (kind_of list) (values list) bytes) c.of_stated.ensures.0
+    (opened_only3 list g.met.P.BitPacker.some_lanes c.of_stated.ensures.1)

@@ -1,0 +1,44 @@
+-- A text without a fault is of one kind, which its header gives.
+use Rattle.std.proofs.Common.{◌≡◌, sym, ◌∙◌, subst, rules}
+use Rattle.bitpacking.proofs.ForCallers.{AreBytes-from_slice}
+use Rattle.bitpack_lists.specs.Opened.{values}
+use Rattle.bitpack_lists.specs.Texts.{IsText}
+use Rattle.bitpack_lists.proofs.lemmas.opened.KindFaults.{kind_fault-none, kind_fault-other}
+use Rattle.bitpack_lists.proofs.lemmas.opened.TextsOfKind.{kind_of_opened, kind_of_text, none_of_either}
+use Rattle.bitpack_lists.proofs.opened.PackedList.open_any_as.Goals as goal
+
+pub returns-in_err-list-clause-every : goal.returns-in_err-list-clause-every
+returns-in_err-list-clause-every g c = λ version all known is.
+    let none = none_of_either version g.P.BitPacker.lanes c.args.kind all c.args.bytes.now g.met.P.BitPacker.some_lanes known (AreBytes-from_slice _ c.type_inv.bytes) is in
+    let fault = c.in_err-list.ensures.fault in
+    absurd cc
+
+pub returns-then-ne-clause-fault : goal.returns-then-ne-clause-fault
+returns-then-ne-clause-fault g c =
+    let list = c.in_ok-list.list in
+    let kind = kind_of_opened list c.args.bytes.now g.met.P.BitPacker.some_lanes (AreBytes-from_slice _ c.type_inv.bytes) c.in_ok-list.ensures.bytes c.in_ok-list.ensures.list in
+    rw (c.in_ok-list.ensures.fault, kind) (kind_fault-other list.kind c.args.kind c.if-ne.ensures)
+
+pub returns-then-ne-clause-every : goal.returns-then-ne-clause-every
+returns-then-ne-clause-every g c = λ version all known is.
+    let list = c.in_ok-list.list in
+    let small = AreBytes-from_slice _ c.type_inv.bytes in
+    let some = g.met.P.BitPacker.some_lanes in
+    let kind = kind_of_opened list c.args.bytes.now some small c.in_ok-list.ensures.bytes c.in_ok-list.ensures.list in
+    let same : list.kind ≡ c.args.kind = sym kind ∙ kind_of_text version g.P.BitPacker.lanes c.args.kind all c.args.bytes.now some known small is in
+    let other = kind_fault-other list.kind c.args.kind c.if-ne.ensures in
+    let none = kind_fault-none c.args.kind in
+    absurd cc
+
+pub returns-clause-fault : goal.returns-clause-fault
+returns-clause-fault g c =
+    let list = c.in_ok-list.list in
+    let wanted : list.kind ≡ c.args.kind = search rules in
+    let kind = kind_of_opened list c.args.bytes.now g.met.P.BitPacker.some_lanes (AreBytes-from_slice _ c.type_inv.bytes) c.in_ok-list.ensures.bytes c.in_ok-list.ensures.list in
+    rw (c.in_ok-list.ensures.fault, kind, wanted) (kind_fault-none c.args.kind)
+
+pub returns-clause-list : goal.returns-clause-list
+returns-clause-list g c =
+    let list = c.in_ok-list.list in
+    let wanted : list.kind ≡ c.args.kind = search rules in
+    subst (λ kind. IsText list.version g.P.BitPacker.lanes kind (values list) c.args.bytes.now) wanted c.in_ok-list.ensures.list

@@ -1,0 +1,62 @@
+-- The values of the tail, or of the block that was unpacked, are those of the list.
+use Rattle.std.proofs.Common.{◌≡◌, ◌≤◌, ◌*◌, ◌/◌, ◌%◌, ◌<◌, ℕ, length, drop, take, ◌∙◌, ap, arith}
+use Rattle.std.proofs.Math.Nat.{mod-lt}
+use Rattle.std.proofs.lemmas.List.{length-take}
+use Rattle.bitpack_lists.specs.Places.{HasPart}
+use Rattle.bitpack_lists.specs.inner.Searching.{value_of}
+use Rattle.bitpack_lists.proofs.lemmas.opened.BlockPlaces.{BlockFacts, block_facts, tail_part}
+use Rattle.bitpack_lists.proofs.lemmas.opened.CursorPlaces.{part_unpacked}
+use Rattle.bitpack_lists.proofs.lemmas.opened.CursorSteps.{length-first_of}
+use Rattle.bitpack_lists.proofs.opened.PackedList.read_block.Given.{Over}
+use Rattle.bitpack_lists.proofs.opened.PackedList.read_block.Goals as goal
+
+of_tail : (g : Over) (c : goal.After-slice_known-then-block-self-1 g)
+    → BlockFacts c.args.self.now g.met.P.BitPacker.some_lanes c.args.block c.read_tail.result c.read_tail.new.values
+    (drop (c.args.self.now.count % c.BLOCK_LEN-len.result) c.args.out.now)
+of_tail g c =
+    let self = c.args.self.now in
+    let n : ℕ = 32 * g.P.BitPacker.lanes in
+    let len : ℕ = c.BLOCK_LEN-len.result in
+    let whole : len ≡ n = c.BLOCK_LEN-len.ensures ∙ g.met.P.BitPacker.block_len in
+    let past : self.count / n ≤ c.args.block = rw whole at c.if-block-self.true in
+    let within : c.args.block ≤ self.count / n = rw (length-first_of (value_of self) self.count) at c.requires.block in
+    let part : HasPart self c.args.block c.read_tail.result c.read_tail.new.values =
+    tail_part self g.met.P.BitPacker.some_lanes c.args.block c.read_tail.result c.read_tail.new.values past within c.read_tail.ensures.len
+    c.read_tail.ensures.values in
+    let below : self.count % n < n = mod-lt self.count {m = n} (omega (arith, g.met.P.BitPacker.some_lanes)) in
+    let same : self.count % len ≡ self.count % n = ap (λ m. self.count % m) whole in
+    let cut : length (take (self.count % len) c.args.out.now) ≡ self.count % n = simp length-take (omega (arith, same, below, c.requires.room)) in
+    let room : c.read_tail.result ≤ length c.read_tail.new.values = omega (arith, c.read_tail.auto.values, cut, c.read_tail.ensures.len) in
+    block_facts self g.met.P.BitPacker.some_lanes c.args.block c.read_tail.result c.read_tail.new.values (drop (self.count % len) c.args.out.now) room part
+
+of_block : (g : Over) (c : goal.After-slice_known-2-1 g)
+    → BlockFacts c.args.self.now g.met.P.BitPacker.some_lanes c.args.block c.BLOCK_LEN-len.result c.unpack.new.values
+    (drop c.BLOCK_LEN-len.result c.args.out.now)
+of_block g c =
+    let self = c.args.self.now in
+    let len : ℕ = c.BLOCK_LEN-len.result in
+    let whole : len ≡ 32 * g.P.BitPacker.lanes = c.BLOCK_LEN-len.ensures ∙ g.met.P.BitPacker.block_len in
+    let part : HasPart self c.args.block len c.unpack.new.values =
+    part_unpacked self g.met.P.BitPacker.some_lanes c.args.block len c.unpack.new.values (rw whole at c.if-block-self.false) whole
+    (ap (λ m. take m c.unpack.new.values) c.BLOCK_LEN-len.ensures ∙ c.unpack.ensures.block) in
+    let room : len ≤ length c.unpack.new.values =
+    rw c.unpack.auto.values (simp length-take (omega (arith, whole, c.requires.room))) in
+    block_facts self g.met.P.BitPacker.some_lanes c.args.block len c.unpack.new.values (drop len c.args.out.now) room part
+
+pub returns-then-block-self-clause-is : goal.returns-then-block-self-clause-is
+returns-then-block-self-clause-is g c = (of_tail g c).is
+
+pub returns-then-block-self-clause-ordered : goal.returns-then-block-self-clause-ordered
+returns-then-block-self-clause-ordered g c = (of_tail g c).ordered
+
+pub returns-then-block-self-clause-few : goal.returns-then-block-self-clause-few
+returns-then-block-self-clause-few g c = (of_tail g c).few
+
+pub returns-clause-is : goal.returns-clause-is
+returns-clause-is g c = (of_block g c).is
+
+pub returns-clause-ordered : goal.returns-clause-ordered
+returns-clause-ordered g c = (of_block g c).ordered
+
+pub returns-clause-few : goal.returns-clause-few
+returns-clause-few g c = (of_block g c).few

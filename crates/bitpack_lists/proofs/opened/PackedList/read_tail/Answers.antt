@@ -1,0 +1,48 @@
+-- The values that are read are those of the tail, in either version.
+use Rattle.std.proofs.Common.{◌≡◌, ◌*◌, ◌%◌, ◌≤◌, ℕ, List, length, take, get_or, sym, ◌∙◌, ap, arith, inl}
+use Rattle.std.proofs.lemmas.List.{get_or-take, get_or_append_left, length-take, length-take-le}
+use Rattle.bitpack_lists.specs.Version3.{tail_values3}
+use Rattle.bitpack_lists.specs.inner.Searching.{blocks_of, rest_of}
+use Rattle.bitpack_lists.proofs.lemmas.opened.OpenedLists.{tail_at, tail_length, tail_word}
+use Rattle.bitpack_lists.proofs.opened.PackedList.read_tail.Goals as goal
+
+pub read_words-requires : goal.read_words-requires
+read_words-requires g c =
+    let list = c.args.self.now in
+    let whole : c.BLOCK_LEN.result ≡ 32 * g.P.BitPacker.lanes = c.BLOCK_LEN.ensures ∙ g.met.P.BitPacker.block_len in
+    let long = tail_length list g.met.P.BitPacker.some_lanes c.in-Two.is in
+    let same = ap (λ len. list.count % len) whole in
+    omega (arith, long, same, length-take (list.count % c.BLOCK_LEN.result) c.args.values.now)
+
+pub returns-in-Two-clause-values : goal.returns-in-Two-clause-values
+returns-in-Two-clause-values g c = λ k lt.
+    let list = c.args.self.now in
+    let len : ℕ = list.count % c.BLOCK_LEN.result in
+    let whole : c.BLOCK_LEN.result ≡ 32 * g.P.BitPacker.lanes = c.BLOCK_LEN.ensures ∙ g.met.P.BitPacker.block_len in
+    let same = ap (λ len. list.count % len) whole in
+    let long : length c.read_words.new.values ≡ len = c.read_words.auto.values ∙ omega (arith, length-take len c.args.values.now, c.requires.room, same) in
+    get_or_append_left c.read_words.new.values _ 0 k (omega (arith, long, lt)) ∙ c.read_words.ensures k (omega (arith, long, lt))
+    ∙ sym (tail_word list g.met.P.BitPacker.some_lanes c.in-Two.is k)
+
+-- The whole tail is lent.
+lent : (count n m : ℕ) (values : List ℕ) → m ≡ n → count % n ≤ length values → length (take (count % m) values) ≡ count % n
+lent count n m values same room = rw same (length-take-le (count % n) values room)
+
+pub unpack_tail-requires-clause-len : goal.unpack_tail-requires-clause-len
+unpack_tail-requires-clause-len g c =
+    let whole : c.BLOCK_LEN.result ≡ 32 * g.P.BitPacker.lanes = c.BLOCK_LEN.ensures ∙ g.met.P.BitPacker.block_len in
+    inl (lent c.args.self.now.count (32 * g.P.BitPacker.lanes) c.BLOCK_LEN.result c.args.values.now whole c.requires.room)
+
+pub returns-in-Three-clause-values : goal.returns-in-Three-clause-values
+returns-in-Three-clause-values g c = λ k lt.
+    let list = c.args.self.now in
+    let n : ℕ = 32 * g.P.BitPacker.lanes in
+    let whole : c.BLOCK_LEN.result ≡ n = c.BLOCK_LEN.ensures ∙ g.met.P.BitPacker.block_len in
+    let len : ℕ = list.count % c.BLOCK_LEN.result in
+    let same = ap (λ len. list.count % len) whole in
+    let given : length (take len c.args.values.now) ≡ list.count % n = lent list.count n c.BLOCK_LEN.result c.args.values.now whole c.requires.room in
+    let long : length c.unpack_tail.new.values ≡ len = c.unpack_tail.auto.values ∙ omega (arith, given, same) in
+    let all : List ℕ = tail_values3 g.P.BitPacker.lanes (blocks_of list) (list.count % n) list.kind (rest_of list) in
+    get_or_append_left c.unpack_tail.new.values _ 0 k (omega (arith, long, lt)) ∙ ap (λ zs. get_or zs k 0) c.unpack_tail.ensures
+    ∙ get_or-take (length (take len c.args.values.now)) all k 0 (omega (arith, given, same, lt))
+    ∙ sym (tail_at list g.met.P.BitPacker.some_lanes c.in-Three.is k)

@@ -1,0 +1,15 @@
+-- The groups so far have no fault, and with those that are left they are the groups.
+use Rattle.std.proofs.Common.{◌≡◌, ◌+◌, ◌-◌, ◌*◌, ◌++◌, take, length}
+use Rattle.bitpack_lists.specs.Groups.{groups_of, groups_fault, groups_codes, after_groups}
+use Rattle.bitpack_lists.proofs.v3.tail.read_groups.Given as goal
+
+abbrev pub invariant-loop-index : goal.invariant-loop-index
+invariant-loop-index l = record {
+  long : length l.codes ≡ length l.fn.codes;
+  fault : groups_fault (groups_of (length l.fn.codes)) l.block (length l.fn.codes) l.bytes
+      ≡ groups_fault (groups_of (length l.fn.codes) - l.index) (l.block + l.index) (length l.fn.codes - 32 * l.index) l.rest;
+  codes : take (32 * l.index) l.codes ++ groups_codes (groups_of (length l.fn.codes) - l.index) (length l.fn.codes - 32 * l.index) l.rest
+      ≡ groups_codes (groups_of (length l.fn.codes)) (length l.fn.codes) l.bytes;
+  rest : after_groups (groups_of (length l.fn.codes) - l.index) (length l.fn.codes - 32 * l.index) l.rest
+      ≡ after_groups (groups_of (length l.fn.codes)) (length l.fn.codes) l.bytes;
+}

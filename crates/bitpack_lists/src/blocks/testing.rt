@@ -1,0 +1,166 @@
+//! Testing the entries and the bodies of whole blocks, which versions 2 and 3 share.
+
+ghost use Rattle.std.specs.Prelude.{◌≡◌, ◌+◌, ◌-◌, ◌*◌, ◌^◌, ◌<◌, ◌≤◌, ℕ, length, slice_index, IfOk, None};
+ghost use Rattle.bitpacking.specs.declared.kind.Kind.{Kind};
+ghost use Rattle.bitpacking.specs.Codes.{values_of};
+ghost use Rattle.bitpacking.specs.Layout.{codes_of};
+ghost use Rattle.bitpack_lists.specs.Parts.{FindsFault, IsBody, whole_blocks};
+ghost use Rattle.bitpack_lists.specs.Version2.{block_fault2, blocks_fault, body_fault2, entry_fault2, first_fault, is_out, kind_at, least_below, short_of, tail_start, value_with, widths_before};
+
+use super::entry::{ENTRY_LEN, Entry};
+use super::loose::fits_smaller;
+use super::order::first_out;
+use super::reads::Reads;
+use crate::chain::{LONGEST_BLOCK, next_kind};
+use crate::header::Header;
+use crate::list_error::ListError;
+use bitpacking::{BitPacker, Kind};
+
+/// What the test of the blocks leaves: where their bodies end, the last value, the first position out of order, and the kind of what
+/// follows.
+#[derive(Clone, Copy)]
+pub(crate) struct TestedBlocks {
+    pub(crate) end: usize,
+    pub(crate) last: u32,
+    pub(crate) out: Option<usize>,
+    pub(crate) kind: Kind,
+}
+
+/// Tests the blocks of a list, after which come this many bytes or more.
+pub(crate) fn test_blocks<P: BitPacker>(
+    packer: &P,
+    header: Header,
+    tail: usize,
+    rest: &[u8],
+) -> Result<TestedBlocks, ListError>
+    requires count { header.count ≤ 2 ^ 28 }
+    requires tail { tail ≤ 4 * header.count }
+    ensures fault { FindsFault result
+        (blocks_fault P.lanes (whole_blocks P.lanes header.count) tail header.kind rest.now) }
+    ensures end { IfOk result (λ tested. tested.end
+        ≡ tail_start P.lanes (whole_blocks P.lanes header.count) rest.now) }
+    ensures room { IfOk result (λ tested. tested.end + tail ≤ length rest.now) }
+    ensures kind { IfOk result (λ tested. tested.kind
+        ≡ kind_at header.kind rest.now (whole_blocks P.lanes header.count)) }
+    // Whatever values follow.
+    ensures last { IfOk result (λ tested. (later : ℕ → ℕ) → 0 < whole_blocks P.lanes header.count
+        → value_with P.lanes (whole_blocks P.lanes header.count) header.kind rest.now later
+        (32 * P.lanes * whole_blocks P.lanes header.count - 1) ≡ tested.last) }
+    ensures out { IfOk result (λ tested. (later : ℕ → ℕ) → tested.out ≡ least_below
+        (is_out header.kind (value_with P.lanes (whole_blocks P.lanes header.count) header.kind rest.now later))
+        (32 * P.lanes * whole_blocks P.lanes header.count)) }
+{
+    let len = P::BLOCK_LEN;
+    let blocks = header.count / len;
+    test_room(rest, ENTRY_LEN * blocks + tail)?;
+    let widths = test_entries(rest, blocks)?;
+    let end = ENTRY_LEN * blocks + len / 8 * widths;
+    test_room(rest, end + tail)?;
+    let (last, out, kind) = test_bodies(packer, header, rest)?;
+    Ok(TestedBlocks {
+        end,
+        last,
+        out,
+        kind,
+    })
+}
+
+/// Tests that there are at least `end` bytes.
+fn test_room(bytes: &[u8], end: usize) -> Result<(), ListError>
+    ensures { FindsFault result (short_of end bytes.now) }
+{
+    if bytes.len() < end {
+        return Err(ListError::Short);
+    }
+    Ok(())
+}
+
+/// Tests the entries of all blocks, and returns the sum of their widths.
+fn test_entries(rest: &[u8], blocks: usize) -> Result<usize, ListError>
+    requires few { blocks ≤ 2 ^ 28 }
+    requires room { ENTRY_LEN * blocks ≤ length rest.now }
+    ensures fault { FindsFault result (first_fault (entry_fault2 rest.now) blocks) }
+    ensures widths { IfOk result (λ widths. widths ≡ widths_before rest.now blocks) }
+    ensures few { IfOk result (λ widths. widths ≤ 32 * blocks) }
+{
+    let mut reads = Reads::new();
+    let mut widths = 0;
+    for block in 0..blocks {
+        let entry = reads.entry(rest, block);
+        if entry.width > 32 {
+            return Err(ListError::BadWidth(block, entry.width));
+        }
+        if entry.offset as usize != widths {
+            return Err(ListError::BadOffset(block));
+        }
+        widths += entry.width as usize;
+    }
+    Ok(widths)
+}
+
+/// Tests the bodies of the blocks, whose entries were tested. Returns the last value of the last block, the first position out of
+/// order in the blocks, and the kind of what follows.
+fn test_bodies<P: BitPacker>(
+    packer: &P,
+    header: Header,
+    rest: &[u8],
+) -> Result<(u32, Option<usize>, Kind), ListError>
+    requires few { header.count ≤ 2 ^ 28 }
+    requires entries { first_fault (entry_fault2 rest.now) (whole_blocks P.lanes header.count) ≡ None }
+    requires room { tail_start P.lanes (whole_blocks P.lanes header.count) rest.now ≤ length rest.now }
+    ensures fault { FindsFault result
+        (first_fault (body_fault2 P.lanes (whole_blocks P.lanes header.count) header.kind rest.now)
+        (whole_blocks P.lanes header.count)) }
+    ensures last { IfOk result (λ found. (later : ℕ → ℕ) → 0 < whole_blocks P.lanes header.count
+        → value_with P.lanes (whole_blocks P.lanes header.count) header.kind rest.now later
+        (32 * P.lanes * whole_blocks P.lanes header.count - 1) ≡ found.0) }
+    ensures out { IfOk result (λ found. (later : ℕ → ℕ) → found.1 ≡ least_below
+        (is_out header.kind (value_with P.lanes (whole_blocks P.lanes header.count) header.kind rest.now later))
+        (32 * P.lanes * whole_blocks P.lanes header.count)) }
+    ensures kind { IfOk result (λ found. found.2
+        ≡ kind_at header.kind rest.now (whole_blocks P.lanes header.count)) }
+{
+    let len = P::BLOCK_LEN;
+    let blocks = header.count / len;
+    let mut kind = header.kind.first();
+    if blocks == 0 {
+        return Ok((0, None, kind));
+    }
+    let mut reads = Reads::new();
+    let mut last = 0;
+    let mut out = None;
+    let mut room = [0; LONGEST_BLOCK];
+    for block in 0..blocks {
+        let entry = reads.entry(rest, block);
+        reads.unpack(packer, kind, entry, blocks, rest, &mut room);
+        let values = &room[..len];
+        let body = entry.body(len / 32, blocks, rest);
+        test_block(len / 32, block, entry, body, values[len - 1])?;
+        out = out.or(first_out(header.kind, block * len, last, values));
+        last = entry.last;
+        kind = next_kind(kind, last);
+    }
+    Ok((last, out, kind))
+}
+
+/// Tests that the width of a block is the least that its body allows, and that it ends with the value of its entry. `last` is the
+/// value that it ends with.
+fn test_block(
+    lanes: usize,
+    block: usize,
+    entry: Entry,
+    body: &[u8],
+    last: u32,
+) -> Result<(), ListError>
+    requires { IsBody lanes entry.width body.now }
+    ensures { (kind : Kind) → last ≡ slice_index (values_of kind (codes_of lanes entry.width body.now)) (32 * lanes - 1)
+        → FindsFault result (block_fault2 lanes kind block entry.width entry.last body.now) }
+{
+    if fits_smaller(lanes, entry.width, body) {
+        return Err(ListError::LooseWidth(block, entry.width));
+    }
+    if last != entry.last {
+        return Err(ListError::BadLast(block));
+    }
+    Ok(())
+}

@@ -1,0 +1,250 @@
+//! A packed list of version 2 or 3, read in place: it borrows its text.
+
+mod blocks;
+mod common;
+mod copying;
+mod cursor;
+mod intersection;
+mod of_kind;
+mod search;
+mod tail;
+mod tail_search;
+mod versions;
+mod walk;
+
+ghost use Rattle.std.specs.Prelude.{◌≡◌, ◌^◌, ◌≤◌, drop};
+ghost use Rattle.bitpacking.specs.Bits.{AreBytes};
+ghost use Rattle.bitpack_lists.specs.declared.version.Version.{Version};
+ghost use Rattle.bitpack_lists.specs.Parts.{whole_blocks};
+ghost use Rattle.bitpack_lists.specs.Texts.{States};
+ghost use Rattle.bitpack_lists.specs.Version2.{kind_at, tail_start};
+
+use crate::blocks::entry::Entry;
+use crate::blocks::reads::Reads;
+use crate::chain::{LONGEST_BLOCK, next_kind};
+use crate::header::{HEADER_LEN, Header};
+use crate::list_error::ListError;
+use crate::list_kind::ListKind;
+use crate::v2::opening::test;
+use crate::version::Version;
+use bitpacking::{BitPacker, Kind};
+pub use common::append_common;
+pub use cursor::{Cursor, first_ahead, first_from};
+pub use intersection::intersect;
+use std::alloc::AllocError;
+
+/// A packed list whose text was tested when it was opened, so that reading it tests nothing again and cannot fail.
+#[derive(Drop)]
+pub struct PackedList<'a, P: BitPacker> {
+    packer: P,
+    version: Version,
+    kind: ListKind,
+    count: usize,
+    bytes: &'a [u8],
+    // What is after the header, and its end.
+    rest: &'a [u8],
+    tail: &'a [u8],
+    // What is packed in a tail of version 3 in place of its values.
+    tail_kind: Kind,
+    // The text has no fault, so that it is the text of a list, which is of this kind and has this count of values.
+    pub ghost are_bytes: { AreBytes bytes.now },
+    ghost few: { count ≤ 2 ^ 28 },
+    ghost states: { States version P.lanes bytes.now kind count rest.now },
+    ghost tail_is: { tail.now ≡ drop (tail_start P.lanes (whole_blocks P.lanes count) rest.now) rest.now },
+    ghost tail_kind_is: { version ≡ Version.Three → tail_kind ≡ kind_at kind rest.now (whole_blocks P.lanes count) },
+}
+
+/// A whole block of a list: which it is, its entry, and what is packed in place of its values.
+#[derive(Clone, Copy)]
+pub(crate) struct ListBlock {
+    pub(crate) number: usize,
+    pub(crate) entry: Entry,
+    pub(crate) kind: Kind,
+}
+
+/// The block of a list that was unpacked last. Before any is, it has a number that no list reaches.
+#[derive(Drop)]
+pub(crate) struct KeptBlock {
+    pub(crate) number: usize,
+    pub(crate) values: [u32; LONGEST_BLOCK],
+}
+
+impl<'a, P: BitPacker> Copy for PackedList<'a, P> {}
+
+impl<'a, P: BitPacker> Clone for PackedList<'a, P> {
+    ghost use Rattle.std.specs.Prelude.{⊤};
+    ghost use Rattle.bitpack_lists.specs.Opened.{text};
+
+    ghost is_clone = { λ list copy. text copy ≡ text list };
+
+    ghost is_infallible = { λ _. ⊤ };
+
+    fn clone(&self) -> Result<Self, AllocError> {
+        Ok(PackedList {
+            packer: self.packer,
+            version: self.version,
+            kind: self.kind,
+            count: self.count,
+            bytes: self.bytes,
+            rest: self.rest,
+            tail: self.tail,
+            tail_kind: self.tail_kind,
+        })
+    }
+}
+
+impl<'a, P: BitPacker> PackedList<'a, P> {
+    ghost use Rattle.std.specs.Prelude.{length, slice_get, IfOk, None};
+    ghost use Rattle.bitpack_lists.specs.Opened.{kind_of, text, values, version_of};
+    ghost use Rattle.bitpack_lists.specs.Parts.{BeginsWithHeader, FindsFault};
+    ghost use Rattle.bitpack_lists.specs.Texts.{IsTextOfNoOther};
+    ghost use Rattle.bitpack_lists.specs.Version2.{List2, fault2};
+
+    /// Opens a text of version 2, which is tested whole. Any bytes are taken, and no memory.
+    pub fn open(packer: P, bytes: &'a [u8]) -> Result<PackedList<'a, P>, ListError>
+        // Bytes with a fault are refused for the first, and bytes without one are opened.
+        ensures fault { FindsFault result (fault2 P.lanes bytes.now) }
+        ensures bytes { IfOk result (λ list. text list ≡ bytes.now) }
+        // The bytes are the text of this kind and these values, and of no other list.
+        ensures list { IfOk result (λ list. List2 P.lanes (kind_of list) (values list) bytes.now) }
+        ensures only { IfOk result (λ list.
+            IsTextOfNoOther Version.Two P.lanes (kind_of list) (values list) bytes.now) }
+        ensures version { IfOk result (λ list. version_of list ≡ Version.Two) }
+    {
+        let header = test(&packer, bytes)?;
+        Ok(PackedList::of_text(packer, header, bytes))
+    }
+
+    /// The list of a text of version 2 that was opened before: the blocks are not tested again. It is for a caller who keeps the
+    /// text alone, and the fact that it has no fault.
+    pub fn from_validated(packer: P, bytes: &'a [u8]) -> PackedList<'a, P>
+        requires sound { fault2 P.lanes bytes.now ≡ None }
+        ensures bytes { text result ≡ bytes.now }
+        ensures list { List2 P.lanes (kind_of result) (values result) bytes.now }
+        ensures only { IsTextOfNoOther Version.Two P.lanes (kind_of result) (values result) bytes.now }
+        ensures version { version_of result ≡ Version.Two }
+    {
+        match Header::read(2, P::BLOCK_LEN / 32, bytes) {
+            Ok(header) => PackedList::of_text(packer, header, bytes),
+            Err(_) => unreachable!(),
+        }
+    }
+
+    // The list of a text of version 2 that has this header.
+    fn of_text(packer: P, header: Header, bytes: &'a [u8]) -> PackedList<'a, P>
+        requires sound { fault2 P.lanes bytes.now ≡ None }
+        requires begins { BeginsWithHeader 2 P.lanes header.kind header.count bytes.now }
+        ensures { (text result ≡ bytes.now) × (version_of result ≡ Version.Two) }
+    {
+        let Header { kind, count } = header;
+        let rest = &bytes[HEADER_LEN..];
+        PackedList {
+            packer,
+            version: Version::Two,
+            kind,
+            count,
+            bytes,
+            rest,
+            tail: &rest[rest.len() - 4 * (count % P::BLOCK_LEN)..],
+            tail_kind: kind.first(),
+        }
+    }
+
+    /// How many values the list has.
+    pub fn len(&self) -> usize
+        ensures { result ≡ length (values self.now) }
+    {
+        self.count
+    }
+
+    /// The kind of the list.
+    pub fn kind(&self) -> ListKind
+        ensures { result ≡ kind_of self.now }
+    {
+        self.kind
+    }
+
+    /// The value at a position, or `None` from the length on. Unpacks at most one block, or the groups of the tail up to the value.
+    pub fn get(&self, position: usize) -> Option<u32>
+        ensures { result ≡ slice_get (values self.now) position }
+    {
+        if position >= self.count {
+            return None;
+        }
+        let len = P::BLOCK_LEN;
+        if position / len < self.count / len {
+            Some(self.value_in_block(position / len, position % len))
+        } else {
+            Some(self.value_in_tail(position))
+        }
+    }
+}
+
+impl<'a, P: BitPacker> PackedList<'a, P> {
+    ghost use Rattle.std.specs.Prelude.{◌+◌, ◌*◌, ◌<◌, ◌≤◌, length, take, slice_index};
+    ghost use Rattle.bitpack_lists.specs.inner.Searching.{IsListBlock, ReadsEntries, block_of_list, blocks_of, rest_of};
+    ghost use Rattle.bitpack_lists.specs.Version2.{kind_at, last_at, offset_at, width_at};
+
+    /// The value at an index of a whole block.
+    fn value_in_block(&self, number: usize, index: usize) -> u32
+        requires block { number < blocks_of self.now }
+        requires index { index < P.BLOCK_LEN }
+        ensures { result ≡ slice_index (block_of_list self.now number) index }
+    {
+        let mut reads = Reads::new();
+        let entry = self.entry(number, &mut reads);
+        let kind = self.kind_of(number, &mut reads);
+        let block = ListBlock {
+            number,
+            entry,
+            kind,
+        };
+        let mut values = [0; LONGEST_BLOCK];
+        self.unpack(block, &mut values, &mut reads);
+        values[index]
+    }
+
+    /// The kind of a block, which goes on from the last value of the block before.
+    fn kind_of(&self, block: usize, reads: &mut Reads) -> Kind
+        requires { block < blocks_of self.now }
+        ensures kind { result ≡ kind_at self.now.kind (rest_of self.now) block }
+        ensures reads { ReadsEntries reads.old reads.new }
+        ensures one { reads.new.entries ≤ reads.old.entries + 1 }
+    {
+        let first = self.kind.first();
+        if block == 0 {
+            return first;
+        }
+        next_kind(first, self.entry(block - 1, reads).last)
+    }
+
+    /// Reads the entry of a block, which is in the text.
+    pub(crate) fn entry(&self, block: usize, reads: &mut Reads) -> Entry
+        requires { block < blocks_of self.now }
+        ensures width { result.width ≡ width_at (rest_of self.now) block }
+        ensures offset { result.offset ≡ offset_at (rest_of self.now) block }
+        ensures last { result.last ≡ last_at (rest_of self.now) block }
+        ensures entries { reads.new.entries ≡ reads.old.entries + 1 }
+        ensures blocks { reads.new.blocks ≡ reads.old.blocks }
+    {
+        reads.entry(self.rest, block)
+    }
+
+    /// Unpacks a block, whose body is in the text.
+    fn unpack(&self, block: ListBlock, values: &mut [u32], reads: &mut Reads)
+        requires block { IsListBlock self.now block }
+        requires room { P.BLOCK_LEN ≤ length values.old }
+        ensures block { take P.BLOCK_LEN values.new ≡ block_of_list self.now block.number }
+        ensures entries { reads.new.entries ≡ reads.old.entries }
+        ensures blocks { reads.new.blocks ≡ reads.old.blocks + 1 }
+    {
+        reads.unpack(
+            &self.packer,
+            block.kind,
+            block.entry,
+            self.count / P::BLOCK_LEN,
+            self.rest,
+            values,
+        );
+    }
+}

@@ -1,0 +1,105 @@
+//! The blocks of an opened list by their numbers, for callers that keep their own place in it.
+
+ghost use Rattle.std.specs.Prelude.{◌≡◌, ◌≢◌, ◌+◌, ◌-◌, ◌*◌, ◌^◌, ◌<◌, ◌≤◌, ℕ, length, slice_index, take, drop, min};
+ghost use Rattle.bitpack_lists.specs.declared.list_kind.ListKind.{ListKind};
+ghost use Rattle.bitpack_lists.specs.Blocks.{IsBlockOf, IsFirstReaching, blocks_over};
+ghost use Rattle.bitpack_lists.specs.Opened.{kind_of, values};
+ghost use Rattle.bitpack_lists.specs.Parts.{whole_blocks};
+ghost use Rattle.bitpack_lists.specs.Places.{InOrder};
+ghost use Rattle.bitpack_lists.specs.Search.{HasGrown};
+
+use super::{ListBlock, PackedList};
+use super::search::DOUBLES;
+use crate::blocks::reads::Reads;
+use crate::chain::LONGEST_BLOCK;
+use bitpacking::BitPacker;
+
+impl<'a, P: BitPacker> PackedList<'a, P> {
+    /// Unpacks the block of a number to the start of a slice, and returns how many values it has. The number of all blocks means the values
+    /// that are left after them. The rest of the slice stays as it was.
+    ///
+    /// It reads at most two entries.
+    pub fn read_block(&self, block: usize, out: &mut [u32], reads: &mut Reads) -> usize
+        requires block { block ≤ whole_blocks P.lanes (length (values self.now)) }
+        requires room { 32 * P.lanes ≤ length out.old }
+        ensures is { IsBlockOf P.lanes (values self.now) block result out.new }
+        ensures ordered { kind_of self.now ≢ ListKind.Plain → InOrder (take result out.new) }
+        ensures few { 32 * P.lanes * block + result ≤ 2 ^ 28 }
+        ensures rest { drop result out.new ≡ drop result out.old }
+        ensures entries { reads.new.entries ≤ reads.old.entries + 2 }
+        ensures one { reads.new.blocks ≤ reads.old.blocks + 1 }
+        ensures grown { HasGrown reads.old reads.new }
+    {
+        let len = P::BLOCK_LEN;
+        if block >= self.count / len {
+            let tail = self.count % len;
+            return self.read_tail(&mut out[..tail]);
+        }
+        let kind = self.kind_of(block, reads);
+        let entry = self.entry(block, reads);
+        let block = ListBlock {
+            number: block,
+            entry,
+            kind,
+        };
+        self.unpack(block, &mut out[..len], reads);
+        len
+    }
+
+    /// Returns the number of the first whole block, from one on, whose last value is at least the target, or the count of whole blocks if
+    /// there is none.
+    ///
+    /// Requires a list that is sorted or strictly sorted, and a number to begin at that is at most the count of whole blocks. If this is
+    /// not 0, the value before its block has to be below the target.
+    ///
+    /// It reads at most two entries for each time that the distance doubles, and one. It unpacks nothing.
+    pub fn find_block(&self, from: usize, target: u32, reads: &mut Reads) -> usize
+        requires from { from ≤ whole_blocks P.lanes (length (values self.now)) }
+        requires ordered { kind_of self.now ≢ ListKind.Plain }
+        requires below { 0 < from → slice_index (values self.now) (32 * P.lanes * from - 1) < target }
+        ensures found { IsFirstReaching P.lanes (values self.now) target from result }
+        // To block j from block i on it reads at most twice k entries and one if j - i + 2 is at most 2 ^ k.
+        ensures entries { (k : ℕ) → result + 2 ≤ from + 2 ^ k → reads.new.entries ≤ reads.old.entries + (2 * k + 1) }
+        ensures blocks { reads.new.blocks ≡ reads.old.blocks }
+        ensures grown { HasGrown reads.old reads.new }
+    {
+        let blocks = self.count / P::BLOCK_LEN;
+        if from >= blocks {
+            return blocks;
+        }
+        let kind = self.kind_of(from, reads);
+        match self.find(from, kind, DOUBLES, target, reads) {
+            Some(block) => block.number,
+            None => blocks,
+        }
+    }
+
+    /// Writes the values from a position on to the start of a slice, as many as there are and as fit. Returns how many these are. The rest
+    /// of the slice stays as it was.
+    ///
+    /// Each block that has one of these values is unpacked once, and no other.
+    pub fn copy_from(&self, from: usize, out: &mut [u32], reads: &mut Reads) -> usize
+        ensures len { result ≡ min (length out.old) (length (values self.now) - from) }
+        ensures values { take result out.new ≡ take result (drop from (values self.now)) }
+        ensures rest { drop result out.new ≡ drop result out.old }
+        ensures none { result ≡ 0 → reads.new.blocks ≡ reads.old.blocks }
+        ensures blocks { 0 < result → reads.new.blocks ≤ reads.old.blocks + blocks_over P.lanes from result }
+        ensures grown { HasGrown reads.old reads.new }
+    {
+        if from >= self.count {
+            return 0;
+        }
+        let count = out.len().min(self.count - from);
+        let mut at_hand = [0; LONGEST_BLOCK];
+        let mut done = 0;
+        while done < count {
+            let position = from + done;
+            let index = position % P::BLOCK_LEN;
+            let len = self.read_block(position / P::BLOCK_LEN, &mut at_hand, reads);
+            let more = (len - index).min(count - done);
+            out[done..done + more].copy_from_slice(&at_hand[index..index + more]);
+            done += more;
+        }
+        count
+    }
+}

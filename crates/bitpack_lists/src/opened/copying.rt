@@ -1,0 +1,71 @@
+//! All values of an opened list, in a vector or a slice.
+
+ghost use Rattle.std.specs.Prelude.{◌≡◌, ◌+◌, ◌<◌, ◌≤◌, ◌++◌, length, take, drop, OnOk, OnErr, IfErr, vec_len, vec_capacity};
+ghost use Rattle.bitpack_lists.specs.declared.list_error.ListError.{ListError};
+ghost use Rattle.bitpack_lists.specs.Opened.{values};
+ghost use Rattle.bitpack_lists.specs.inner.Searching.{blocks_of};
+
+use super::{ListBlock, PackedList};
+use crate::blocks::reads::Reads;
+use crate::chain::next_kind;
+use crate::list_error::ListError;
+use crate::reserved::append_zeros;
+use bitpacking::BitPacker;
+
+impl<'a, P: BitPacker> PackedList<'a, P> {
+    /// Appends all values. Unpacks each block once.
+    ///
+    /// Fails only with `Memory`, if the vector cannot grow by the length of the list.
+    pub fn append_to(&self, out: &mut Vec<u32>) -> Result<(), ListError>
+        ensures ok { OnOk result (out.new.items ≡ out.old.items ++ values self.now) }
+        ensures memory { IfErr result (λ e. e ≡ ListError.Memory) }
+        ensures room { OnErr result (vec_capacity out.old < vec_len out.old + length (values self.now)) }
+        ensures unchanged { OnErr result (out.new.items ≡ out.old.items) }
+        ensures kept { OnErr result (vec_capacity out.new ≡ vec_capacity out.old) }
+    {
+        if out.reserve(self.count).is_err() {
+            return Err(ListError::Memory);
+        }
+        let from = out.len();
+        append_zeros(out, 0, self.count);
+        self.copy_to(out.slice_mut(from..));
+        Ok(())
+    }
+
+    /// Writes all values at the start of the slice, and returns their number. Unpacks each block once, and allocates nothing.
+    ///
+    /// Requires room for all values. The rest of the slice stays as it was.
+    pub fn copy_to(&self, out: &mut [u32]) -> usize
+        requires room { length (values self.now) ≤ length out.old }
+        ensures len { result ≡ length (values self.now) }
+        ensures values { take result out.new ≡ values self.now }
+        ensures rest { drop result out.new ≡ drop result out.old }
+    {
+        let count = self.count;
+        self.copy_values(&mut out[..count], &mut Reads::new());
+        count
+    }
+
+    // Unpacks each block once, straight into its place, and reads the tail.
+    fn copy_values(&self, out: &mut [u32], reads: &mut Reads)
+        requires room { length out.old ≡ self.now.count }
+        ensures values { out.new ≡ values self.now }
+        ensures blocks { reads.new.blocks ≡ reads.old.blocks + blocks_of self.now }
+    {
+        let len = P::BLOCK_LEN;
+        let first = self.kind.first();
+        let mut kind = first;
+        for number in 0..self.count / len {
+            let entry = self.entry(number, reads);
+            let block = ListBlock {
+                number,
+                entry,
+                kind,
+            };
+            self.unpack(block, &mut out[number * len..number * len + len], reads);
+            kind = next_kind(first, entry.last);
+        }
+        let tail = self.count % len;
+        self.read_tail(&mut out[self.count - tail..]);
+    }
+}

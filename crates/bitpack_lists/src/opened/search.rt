@@ -1,0 +1,203 @@
+//! The first value of a packed list that is at least another, found by halves over the entries.
+
+ghost use Rattle.std.specs.Prelude.{◌≡◌, ◌+◌, ◌*◌, ◌^◌, ◌<◌, ◌≤◌, ℕ, length, slice_index, IfSome};
+ghost use Rattle.bitpack_lists.specs.Chains;
+ghost use Rattle.bitpack_lists.specs.Search.{first_reaching};
+
+use super::{KeptBlock, ListBlock, PackedList};
+use crate::blocks::reads::Reads;
+use crate::chain::{LONGEST_BLOCK, next_kind};
+use crate::version::Version;
+use bitpacking::{BitPacker, Kind};
+
+/// The step of a search that halves all blocks, and of one that tries the nearest first.
+pub(crate) const HALVES: usize = usize::MAX;
+
+pub(crate) const DOUBLES: usize = 0;
+
+/// The number of no block.
+const NO_BLOCK: usize = usize::MAX;
+
+impl KeptBlock {
+    /// No block.
+    pub(crate) fn new() -> KeptBlock
+        ensures { result.number ≡ NO_BLOCK }
+    {
+        KeptBlock {
+            number: NO_BLOCK,
+            values: [0; LONGEST_BLOCK],
+        }
+    }
+}
+
+impl<'a, P: BitPacker> PackedList<'a, P> {
+    ghost use Rattle.std.specs.Prelude.{◌≢◌, ◌-◌, true, false};
+    ghost use Rattle.bitpack_lists.specs.declared.list_kind.ListKind.{ListKind};
+    ghost use Rattle.bitpack_lists.specs.Opened.{kind_of, values};
+    ghost use Rattle.bitpack_lists.specs.Search.{IsSearched, first_at_least, in_whole_block};
+    ghost use Rattle.bitpack_lists.specs.inner.Searching.{EndsBelow, IsFirstBlock, IsFirstFrom, IsInBlock, IsKept, IsListBlock, IsNear, KeepsBlock, KeepsOne, ReadsEntries, blocks_of, number_or_all, rest_of, value_of};
+    ghost use Rattle.bitpack_lists.specs.Parts.{first_kind};
+    ghost use Rattle.bitpack_lists.specs.Version2.{kind_at};
+
+    /// The first value that is at least the target, with its position, or `None` if every value is below it.
+    ///
+    /// The list has to be sorted or strictly sorted. Its entries are searched by halves. Unpacks at most one block, or the groups of the
+    /// tail up to the value.
+    pub fn seek(&self, target: u32, reads: &mut Reads) -> Option<(usize, u32)>
+        requires { kind_of self.now ≢ ListKind.Plain }
+        ensures found { result ≡ first_at_least (values self.now) target }
+        // The entries that it reads are at most as many as the count of whole blocks has binary digits.
+        ensures reads { IsSearched P.lanes (length (values self.now)) result reads.old reads.new }
+    {
+        let mut kept = KeptBlock::new();
+        self.seek_kept(target, &mut kept, reads)
+    }
+
+    /// As `seek`, with the block that was unpacked last at hand.
+    pub(crate) fn seek_kept(
+        &self,
+        target: u32,
+        kept: &mut KeptBlock,
+        reads: &mut Reads,
+    ) -> Option<(usize, u32)>
+        requires ordered { self.now.kind ≢ ListKind.Plain }
+        requires kept { IsKept self.now kept.old }
+        ensures found { result ≡ first_reaching (value_of self.now) self.now.count target }
+        ensures kept { KeepsOne self.now result kept.old kept.new reads.old reads.new }
+    {
+        match self.find(0, self.kind.first(), HALVES, target, reads) {
+            Some(block) => self.seek_in_block(block, target, kept, reads),
+            None => self.seek_in_tail(target),
+        }
+    }
+
+    /// The first whole block from one on, which has this kind, whose last value is at least the target. Tries the first blocks at
+    /// distances that grow from a step, and then halves.
+    pub(crate) fn find(
+        &self,
+        from: usize,
+        kind: Kind,
+        step: usize,
+        target: u32,
+        reads: &mut Reads,
+    ) -> Option<ListBlock>
+        requires from { from ≤ blocks_of self.now }
+        requires kind { kind ≡ kind_at self.now.kind (rest_of self.now) from }
+        requires before { EndsBelow self.now target from }
+        ensures found { IsFirstFrom self.now target from result }
+        ensures halves { blocks_of self.now - from ≤ 2 * step + 1
+            → (digits : ℕ) → blocks_of self.now - from < 2 ^ digits → reads.new.entries ≤ reads.old.entries + digits }
+        ensures near { step ≡ 0 → IsNear from (number_or_all self.now result) reads.old.entries reads.new.entries }
+        ensures reads { ReadsEntries reads.old reads.new }
+    {
+        let mut low = from;
+        let mut before = 0;
+        let mut high = self.count / P::BLOCK_LEN;
+        let mut found = None;
+        let mut reach = step;
+        while low < high {
+            let skip = reach.min((high - low) / 2);
+            let middle = low + skip;
+            let entry = self.entry(middle, reads);
+            if entry.last < target {
+                low = middle + 1;
+                before = entry.last;
+                reach = 2 * skip + 1;
+            } else {
+                high = middle;
+                found = Some(entry);
+            }
+        }
+        match found {
+            Some(entry) => Some(ListBlock {
+                number: low,
+                entry,
+                kind: self.kind_found(from, kind, low, before),
+            }),
+            None => None,
+        }
+    }
+
+    /// The kind of a block that was found from one on, which has this kind. If it is a later one, the block before it ends with this value.
+    #[inline(always)]
+    fn kind_found(&self, from: usize, kind: Kind, number: usize, before: u32) -> Kind
+        requires kind { (from ≤ number) × (kind ≡ kind_at self.now.kind (rest_of self.now) from) }
+        requires before { from < number → kind_at self.now.kind (rest_of self.now) number
+            ≡ Chains.next_kind (first_kind self.now.kind) before }
+        ensures { result ≡ kind_at self.now.kind (rest_of self.now) number }
+    {
+        if number == from {
+            kind
+        } else {
+            next_kind(self.kind.first(), before)
+        }
+    }
+
+    /// As `seek_kept`, if this is the first block whose last value is at least the target.
+    fn seek_in_block(
+        &self,
+        block: ListBlock,
+        target: u32,
+        kept: &mut KeptBlock,
+        reads: &mut Reads,
+    ) -> Option<(usize, u32)>
+        requires ordered { self.now.kind ≢ ListKind.Plain }
+        requires block { IsFirstBlock self.now target block }
+        requires kept { IsKept self.now kept.old }
+        ensures found { result ≡ first_reaching (value_of self.now) self.now.count target }
+        ensures inside { in_whole_block P.lanes self.now.count result ≡ true }
+        ensures within { IsInBlock self.now block.number result }
+        ensures kept { KeepsBlock self.now block.number kept.old kept.new reads.old reads.new }
+    {
+        self.keep(block, kept, reads);
+        let len = P::BLOCK_LEN;
+        first_at_least(&kept.values[..len], len * block.number, target)
+    }
+
+    /// Unpacks a block, unless it is the one at hand.
+    pub(crate) fn keep(&self, block: ListBlock, kept: &mut KeptBlock, reads: &mut Reads)
+        requires block { IsListBlock self.now block }
+        requires kept { IsKept self.now kept.old }
+        ensures kept { KeepsBlock self.now block.number kept.old kept.new reads.old reads.new }
+    {
+        if kept.number != block.number {
+            self.unpack(block, &mut kept.values, reads);
+            kept.number = block.number;
+        }
+    }
+
+    /// The first value of the tail that is at least the target, with its position. Those of the whole blocks are below it. In version 2
+    /// it reads the whole tail.
+    fn seek_in_tail(&self, target: u32) -> Option<(usize, u32)>
+        ensures found { ((k : ℕ) → k < 32 * P.lanes * blocks_of self.now → value_of self.now k < target)
+            → result ≡ first_reaching (value_of self.now) self.now.count target }
+        ensures outside { in_whole_block P.lanes self.now.count result ≡ false }
+    {
+        match self.version {
+            Version::Two => {
+                let mut values = [0; LONGEST_BLOCK];
+                let len = self.read_tail(&mut values);
+                first_at_least(&values[..len], self.count - len, target)
+            }
+            Version::Three => self.seek_in_groups(target),
+        }
+    }
+}
+
+/// The first of these values that is at least the target, with its position. They are those from a position on, and the values
+/// before them are below the target.
+pub(super) fn first_at_least(values: &[u32], start: usize, target: u32) -> Option<(usize, u32)>
+    requires { start + length values.now < 2 ^ 64 }
+    ensures within { IfSome result (λ found. (start ≤ found.0) × (found.0 < start + length values.now)) }
+    ensures found { (value : ℕ → ℕ) → ((k : ℕ) → k < start → value k < target)
+        → ((k : ℕ) → k < length values.now → value (start + k) ≡ slice_index values.now k)
+        → result ≡ first_reaching value (start + length values.now) target }
+{
+    for index in 0..values.len() {
+        let value = values[index];
+        if value >= target {
+            return Some((start + index, value));
+        }
+    }
+    None
+}

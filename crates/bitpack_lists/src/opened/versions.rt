@@ -1,0 +1,87 @@
+//! Opening texts of version 3, and of either version.
+
+ghost use Rattle.std.specs.Prelude.{◌≡◌, IfOk, None};
+ghost use Rattle.bitpack_lists.specs.declared.version.Version.{Version};
+ghost use Rattle.bitpack_lists.specs.Opened.{kind_of, text, values, version_of};
+ghost use Rattle.bitpack_lists.specs.Parts.{FindsFault};
+ghost use Rattle.bitpack_lists.specs.Texts.{IsText, IsTextOfNoOther, fault_of_either, version_in};
+ghost use Rattle.bitpack_lists.specs.Version3.{List3, fault3};
+ghost use Rattle.bitpack_lists.specs.inner.Opening3.{IsStated3};
+
+use super::PackedList;
+use crate::list_error::ListError;
+use crate::v3::opening::{StatedText, stated, test};
+use crate::version::Version;
+use bitpacking::BitPacker;
+
+/// The first byte of a text of version 3 is at least this. In versions 1 and 2 it is the number of the version.
+const FIRST_OF_3: u8 = 64;
+
+impl<'a, P: BitPacker> PackedList<'a, P> {
+    /// Opens a text of version 3, which is tested whole. Accepts any bytes, and allocates nothing.
+    ///
+    /// The list has the calls of one of version 2.
+    pub fn open3(packer: P, bytes: &'a [u8]) -> Result<PackedList<'a, P>, ListError>
+        // Bytes with a fault are refused for the first, and bytes without one are opened.
+        ensures fault { FindsFault result (fault3 P.lanes bytes.now) }
+        ensures bytes { IfOk result (λ list. text list ≡ bytes.now) }
+        // The bytes are the text of this kind and these values, and of no other list.
+        ensures list { IfOk result (λ list. List3 P.lanes (kind_of list) (values list) bytes.now) }
+        ensures only { IfOk result (λ list.
+            IsTextOfNoOther Version.Three P.lanes (kind_of list) (values list) bytes.now) }
+        ensures version { IfOk result (λ list. version_of list ≡ Version.Three) }
+    {
+        let found = test(&packer, bytes)?;
+        Ok(PackedList::of_stated(packer, found, bytes))
+    }
+
+    // The list of a text of version 3 that states this.
+    fn of_stated(packer: P, found: StatedText, bytes: &'a [u8]) -> PackedList<'a, P>
+        requires stated { IsStated3 P.lanes bytes.now found }
+        ensures { (text result ≡ bytes.now) × (version_of result ≡ Version.Three) }
+    {
+        let rest = &bytes[found.header.end..];
+        PackedList {
+            packer,
+            version: Version::Three,
+            kind: found.header.kind,
+            count: found.header.count,
+            bytes,
+            rest,
+            tail: &rest[found.start..],
+            tail_kind: found.tail_kind,
+        }
+    }
+
+    /// Opens a text of version 2 or 3, whichever its first byte says.
+    ///
+    /// Accepts any bytes, and allocates nothing. A text of version 1 is refused with `BadVersion(1)`.
+    pub fn open_any(packer: P, bytes: &'a [u8]) -> Result<PackedList<'a, P>, ListError>
+        ensures fault { FindsFault result (fault_of_either P.lanes bytes.now) }
+        ensures bytes { IfOk result (λ list. text list ≡ bytes.now) }
+        ensures list { IfOk result (λ list. IsText (version_of list) P.lanes (kind_of list) (values list) bytes.now) }
+        ensures only { IfOk result (λ list.
+            IsTextOfNoOther (version_of list) P.lanes (kind_of list) (values list) bytes.now) }
+    {
+        if bytes.is_empty() || bytes[0] < FIRST_OF_3 {
+            let list = PackedList::open(packer, bytes)?;
+            return Ok(list);
+        }
+        let list = PackedList::open3(packer, bytes)?;
+        Ok(list)
+    }
+
+    /// The list of a text of version 2 or 3 that was opened before, as [`PackedList::from_validated`] gives one of version 2.
+    pub fn from_validated_any(packer: P, bytes: &'a [u8]) -> PackedList<'a, P>
+        requires sound { fault_of_either P.lanes bytes.now ≡ None }
+        ensures bytes { text result ≡ bytes.now }
+        ensures version { version_of result ≡ version_in bytes.now }
+        ensures list { IsText (version_in bytes.now) P.lanes (kind_of result) (values result) bytes.now }
+        ensures only { IsTextOfNoOther (version_in bytes.now) P.lanes (kind_of result) (values result) bytes.now }
+    {
+        if bytes.is_empty() || bytes[0] < FIRST_OF_3 {
+            return PackedList::from_validated(packer, bytes);
+        }
+        PackedList::of_stated(packer, stated::<P>(bytes), bytes)
+    }
+}

@@ -1,0 +1,109 @@
+//! Lists into their texts.
+
+ghost use Rattle.std.specs.Prelude.{◌≡◌, ◌+◌, ◌^◌, ◌<◌, ◌≤◌, ◌++◌, ℕ, List, length, take, OnOk, OnErr, IfErr, vec_len, vec_capacity};
+ghost use Rattle.bitpacking.specs.Bits.{AreBytes};
+ghost use Rattle.bitpacking.specs.Calls.{CanPack};
+ghost use Rattle.bitpacking.specs.Width.{IsWidth};
+ghost use Rattle.bitpack_lists.specs.inner.Appending.{HasAppended};
+ghost use Rattle.bitpack_lists.specs.Chains.{LeastWidths};
+ghost use Rattle.bitpack_lists.specs.Parts.{whole_blocks};
+ghost use Rattle.bitpack_lists.specs.Version1.{Blocks1, IsPart1, List1};
+
+use crate::blocks::measuring::{KEPT_WIDTHS, text_len, width_of};
+use crate::chain::{LONGEST_BODY, next_kind};
+use crate::header::{LONGEST_LIST, Header};
+use crate::list_error::ListError;
+use crate::list_kind::ListKind;
+use crate::little_endian::write_all;
+use crate::reserved::append;
+use bitpacking::{BitPacker, Kind};
+
+/// Appends the text of the values. They may be in any order, whatever the kind.
+///
+/// A list has at most 268,435,456 values. The vector grows once at most.
+pub fn encode<P: BitPacker>(
+    packer: &P,
+    kind: ListKind,
+    values: &[u32],
+    out: &mut Vec<u8>,
+) -> Result<(), ListError>
+    // What is appended is the text of the values.
+    ensures ok { OnOk result ((text : List ℕ) × AreBytes text × List1 P.lanes kind values.now text
+        × (out.new.items ≡ out.old.items ++ text)) }
+    // Too many values are refused as such, and others only if memory runs out.
+    ensures long { 2 ^ 28 < length values.now → result ≡ Err (ListError.TooLong (length values.now)) }
+    ensures memory { length values.now ≤ 2 ^ 28 → IfErr result (λ e. e ≡ ListError.Memory) }
+    // Memory runs out only if the vector has no room for the text.
+    ensures room { length values.now ≤ 2 ^ 28 → OnErr result ((text : List ℕ) → List1 P.lanes kind values.now text
+        → vec_capacity out.old < vec_len out.old + length text) }
+    ensures unchanged { OnErr result (out.new.items ≡ out.old.items) }
+    ensures kept { OnErr result (vec_capacity out.new ≡ vec_capacity out.old) }
+{
+    if values.len() > LONGEST_LIST {
+        return Err(ListError::TooLong(values.len()));
+    }
+    let mut widths = [0; KEPT_WIDTHS];
+    if out
+        .reserve(text_len(packer, kind, values, 1, &mut widths))
+        .is_err()
+    {
+        return Err(ListError::Memory);
+    }
+    let count = values.len();
+    Header { kind, count }.write(1, P::BLOCK_LEN / 32, out);
+    write_blocks(packer, kind.first(), values, &widths, out);
+    Ok(())
+}
+
+/// Appends the blocks and the tail of the values. There is room for them. The widths are the ones that were kept.
+fn write_blocks<P: BitPacker>(
+    packer: &P,
+    kind: Kind,
+    values: &[u32],
+    widths: &[u8],
+    out: &mut Vec<u8>,
+)
+    requires widths { LeastWidths P.lanes kind values.now
+        (take (whole_blocks P.lanes (length values.now)) widths.now) }
+    requires room { (text : List ℕ) → Blocks1 P.lanes (whole_blocks P.lanes (length values.now)) kind values.now text
+        → vec_len out.old + length text ≤ vec_capacity out.old }
+    ensures { (text : List ℕ) → AreBytes text
+        → Blocks1 P.lanes (whole_blocks P.lanes (length values.now)) kind values.now text
+        → out.new.items ≡ out.old.items ++ text }
+{
+    let len = P::BLOCK_LEN;
+    let blocks = values.len() / len;
+    let mut kind = kind;
+    let mut rest = values;
+    let mut body = [0; LONGEST_BODY];
+    for index in 0..blocks {
+        let (block, after) = rest.split_at(len);
+        let width = width_of(packer, kind, block, widths, index);
+        write_block(packer, kind, block, width, &mut body, out);
+        kind = next_kind(kind, block[len - 1]);
+        rest = after;
+    }
+    write_all(rest, out);
+}
+
+/// Appends the width of a block, which is its least, and the bytes that hold it. There is room for them. They are packed
+/// in `body`.
+fn write_block<P: BitPacker>(
+    packer: &P,
+    kind: Kind,
+    block: &[u32],
+    width: u8,
+    body: &mut [u8],
+    out: &mut Vec<u8>,
+)
+    requires pack { CanPack P.lanes width kind block.now body.old }
+    requires width { IsWidth kind block.now width }
+    requires room { (part : List ℕ) → IsPart1 P.lanes kind block.now part
+        → vec_len out.old + length part ≤ vec_capacity out.old }
+    ensures part { (part : List ℕ) × AreBytes part × IsPart1 P.lanes kind block.now part
+        × HasAppended out.old out.new part }
+{
+    let size = packer.compress_kind(kind, block, body, width);
+    append(out, &[width]);
+    append(out, &body[..size]);
+}

@@ -1,0 +1,10 @@
+//! Version 3: its header, its tail in groups, opening, writing, and upgrading to it.
+
+pub(crate) mod codes;
+pub(crate) mod group;
+pub(crate) mod header;
+pub(crate) mod number;
+pub(crate) mod opening;
+pub(crate) mod tail;
+pub(crate) mod upgrading;
+pub(crate) mod writing;

@@ -1,0 +1,13 @@
+-- What was counted and what is left are together what there was; and no more were counted than the value here says, as they increase.
+use Rattle.std.proofs.Common.{◌≡◌, ℕ, ◌+◌, ◌≤◌, length, Some}
+use Rattle.bitpack_sorted.specs.Increasing.{first}
+use Rattle.bitpack_sorted.proofs.collecting.count.Given as goal
+
+abbrev pub invariant-loop-value : goal.invariant-loop-value
+invariant-loop-value g l = record {
+  all : l.counted + length (g.C.SortedCursor.rest l.cursor) ≡ length (g.C.SortedCursor.rest l.initial.cursor);
+  few : (v : ℕ) → first (g.C.SortedCursor.rest l.cursor) ≡ Some v → l.counted ≤ v;
+}
+
+abbrev pub decreases-loop-value : goal.decreases-loop-value
+decreases-loop-value g l = length (g.C.SortedCursor.rest l.cursor)

@@ -1,0 +1,7 @@
+-- Definitions that no public contract cites: what inner functions promise each other.
+pub mod Combined
+pub mod InPlace
+pub mod Leaping
+pub mod Passing
+pub mod Retaining
+pub mod Uniting

@@ -1,0 +1,150 @@
+//! The values that two cursors share.
+
+ghost use Rattle.std.specs.Prelude.{◌≡◌, ℕ, List};
+ghost use Rattle.bitpack_sorted.specs.Increasing.{shared};
+ghost use Rattle.bitpack_sorted.specs.inner.Combined.{IsLater, IsShared};
+ghost use Rattle.bitpack_sorted.specs.Fronts.{IsFront, NoneBelow};
+ghost use Rattle.bitpack_sorted.specs.IncreasingLaws.{increasing_shared};
+
+use super::sorted_cursor::SortedCursor;
+
+/// The values that two cursors share. Each seeks the value of the other until both have the same.
+#[derive(Drop)]
+pub struct And<A: SortedCursor, B: SortedCursor> {
+    one: A,
+    other: B,
+    value: Option<u32>,
+    ghost place: { IsShared value (A.rest one) (B.rest other) },
+}
+
+impl<A: SortedCursor, B: SortedCursor> And<A, B> {
+    /// A cursor over the values that both have left. Moves both to the first of them.
+    pub fn new(one: A, other: B) -> And<A, B>
+        ensures { shared (A.rest result.one) (B.rest result.other) ≡ shared (A.rest one) (B.rest other) }
+    {
+        let mut one = one;
+        let mut other = other;
+        let value = next_shared(&mut one, &mut other);
+        And { one, other, value }
+    }
+}
+
+impl<A: SortedCursor, B: SortedCursor> SortedCursor for And<A, B> {
+    ghost rest = { λ cursor. shared (A.rest cursor.one) (B.rest cursor.other) };
+
+    ghost increasing = { λ cursor. increasing_shared (A.rest cursor.one) (B.rest cursor.other) (A.increasing cursor.one) };
+
+    #[inline(always)]
+    fn value(&self) -> Option<u32> {
+        self.value
+    }
+
+    #[inline(always)]
+    fn advance(&mut self) {
+        if let Some(_value) = self.value {
+            self.one.advance();
+            self.value = next_shared(&mut self.one, &mut self.other);
+        }
+    }
+
+    #[inline(always)]
+    fn seek(&mut self, target: u32) {
+        if let Some(value) = self.value {
+            if value < target {
+                self.one.seek(target);
+                self.value = next_shared(&mut self.one, &mut self.other);
+            }
+        }
+    }
+}
+
+/// Moves both to the first value that they share, and returns it.
+pub(super) fn next_shared<A: SortedCursor, B: SortedCursor>(
+    one: &mut A,
+    other: &mut B,
+) -> Option<u32>
+    ensures rest { shared (A.rest one.new) (B.rest other.new) ≡ shared (A.rest one.old) (B.rest other.old) }
+    ensures value { IsShared result (A.rest one.new) (B.rest other.new) }
+    ensures later { IsLater (A.rest one.old) (A.rest one.new) }
+{
+    pass_at_hand(one, other);
+    meet(one, other)
+}
+
+/// Moves both to the first value that they share, and returns it. Each seeks the value of the other.
+fn meet<A: SortedCursor, B: SortedCursor>(one: &mut A, other: &mut B) -> Option<u32>
+    ensures rest { shared (A.rest one.new) (B.rest other.new) ≡ shared (A.rest one.old) (B.rest other.old) }
+    ensures value { IsShared result (A.rest one.new) (B.rest other.new) }
+    ensures later { IsLater (A.rest one.old) (A.rest one.new) }
+{
+    while let Some(wanted) = one.value() {
+        other.seek(wanted);
+        match other.value() {
+            None => return None,
+            Some(found) => {
+                if found == wanted {
+                    return Some(wanted);
+                }
+                one.seek(found);
+            }
+        }
+    }
+    None
+}
+
+/// Moves past values at hand that the two do not share, if it pays to merge these.
+#[inline(always)]
+fn pass_at_hand<A: SortedCursor, B: SortedCursor>(one: &mut A, other: &mut B)
+    ensures { (shared (A.rest one.new) (B.rest other.new) ≡ shared (A.rest one.old) (B.rest other.old))
+        × IsLater (A.rest one.old) (A.rest one.new) }
+{
+    let (target, ahead, other_ahead) = merge(one.at_hand(), other.at_hand());
+    one.seek_ahead(target, ahead);
+    other.seek_ahead(target, other_ahead);
+}
+
+/// How many values of two slices are looked at to see whether it pays to merge them.
+const FEW: usize = 8;
+
+/// Whether two slices are about as dense: some values further in each, the other is further too.
+#[inline(always)]
+fn are_even(one: &[u32], other: &[u32]) -> bool {
+    one.len() > FEW && other.len() > FEW && one[FEW] > other[2] && other[FEW] > one[2]
+}
+
+/// Merges the values at hand of two places, if it pays: returns a target below which they share no value, and how many values at hand
+/// are below it.
+#[inline(always)]
+fn merge(one: &[u32], other: &[u32]) -> (u32, usize, usize)
+    ensures { (xs ys : List ℕ) → IsFront one.now xs → IsFront other.now ys → NoneBelow result.0 xs ys }
+{
+    if are_even(one, other) {
+        merge_even(one, other)
+    } else {
+        (0, 0, 0)
+    }
+}
+
+/// As above. No branch depends on which of two values is less.
+#[inline(always)]
+fn merge_even(one: &[u32], other: &[u32]) -> (u32, usize, usize)
+    ensures { (xs ys : List ℕ) → IsFront one.now xs → IsFront other.now ys → NoneBelow result.0 xs ys }
+{
+    let mut i = 0;
+    let mut j = 0;
+    while i < one.len() && j < other.len() {
+        let (a, b) = (one[i], other[j]);
+        if a == b {
+            return (a, i, j);
+        }
+        i += if a < b { 1 } else { 0 };
+        j += if a < b { 0 } else { 1 };
+    }
+    if i < one.len() {
+        (one[i], i, j)
+    } else if j < other.len() {
+        (other[j], i, j)
+    } else {
+        (0, i, j)
+    }
+}
