@@ -12,27 +12,31 @@ import re
 from texts import at, code, end_of_braces, paths, text_of
 
 LISTS = "crates/bitpack_lists/src"
+SORTED = "crates/bitpack_sorted/src"
 C = "crates/bitpacking_c/src"
+# The crates of lists, whose functions call none of `bitpacking_c`.
+OF_LISTS = (f"{LISTS}/", f"{SORTED}/")
 TABLE = "scripts/lint/marks.txt"
 # The words of reading, by the beginning of the paths where this is so. The fields are those of a list.
 FIELDS = r"\bbytes\b|\bpacker\b|(?<=self\.)(?:rest|tail)\b"
 READING = {
     f"{LISTS}/": r"\bReads::|\bdecompress\w*|\bread_one\b|\bread_words\b",
-    f"{LISTS}/list2/packed_list": FIELDS,
+    f"{LISTS}/opened": FIELDS,
+    f"{SORTED}/": r"\bReads::|\bdecompress\w*|\bread_one\b|\bread_words\b",
     f"{C}/": r"\bReads::|\bunpack_counted\b",
 }
 MEASURING = r"\bnum_bits_kind\b|\bwidth_counted\b"
 # The functions whose reads a contract counts, or that read at most one tail, with their marks: who calls them needs no mark.
 COUNTED = {
-    f"{LISTS}/list2/reads.rt": {"entry": "record, read_one, read_one", "unpack": "record, body, decompress_kind"},
-    f"{LISTS}/list2/packed_list.rt": {"entry": "entry, rest", "unpack": "unpack, packer, rest", "clone": "packer, bytes, rest, tail"},
-    f"{LISTS}/list2/packed_list/tail.rt": {
+    f"{LISTS}/blocks/reads.rt": {"entry": "record, read_one, read_one", "unpack": "record, body, decompress_kind"},
+    f"{LISTS}/opened.rt": {"entry": "entry, rest", "unpack": "unpack, packer, rest", "clone": "packer, bytes, rest, tail"},
+    f"{LISTS}/opened/tail.rt": {
         "read_tail": "read_words, tail, unpack_tail",
         "value_in_tail": "read_one, tail, value_in_groups",
     },
-    f"{LISTS}/list2/packed_list/search.rt": {"seek_in_tail": "read_tail, first_at_least, seek_in_groups"},
+    f"{LISTS}/opened/search.rt": {"seek_in_tail": "read_tail, first_at_least, seek_in_groups"},
 }
-# What no code has, and what no code of `bitpack_lists` has.
+# What no code has, and what no code of lists has.
 NEVER = r"\bReads as\b|\btype\b[^;]*\bReads\b|\bmacro_rules\b"
 NEVER_IN_LISTS = r"(?<!fn )\bget\b"
 # The files of `bitpacking_c` that only pass on: each of their functions calls one of block.rt or chain.rt.
@@ -150,8 +154,7 @@ def all_calls(functions):
     names = functions_by_name(functions)
     for function in functions:
         for index, kind, name in calls_of(function):
-            # No function of `bitpack_lists` calls one of `bitpacking_c`.
-            others = [it for it in names.get(name, []) if it.path.startswith(LISTS) or function.path.startswith(C)]
+            others = [it for it in names.get(name, []) if it.path.startswith(OF_LISTS) or function.path.startswith(C)]
             yield from ((function, index, name, it) for it in may_call(function, kind, others))
 
 
@@ -172,7 +175,7 @@ def reached(functions, found, marked):
 
 def in_crates():
     """The code of both crates by path, and their functions."""
-    texts = {path: code(path) for folder in (LISTS, C) for path in paths(f"{folder}/**/*.rt")}
+    texts = {path: code(path) for folder in (LISTS, SORTED, C) for path in paths(f"{folder}/**/*.rt")}
     return texts, [it for path, text in texts.items() for it in functions_of(path, text)]
 
 
@@ -180,7 +183,7 @@ def words_of(functions, marked):
     """The functions that read bytes, and those that measure blocks, with their words."""
     reading = {it: direct(it, words_at(it.path)) for it in functions}
     for function, index, name, called in all_calls(functions):
-        if function.path.startswith(C) and called.path.startswith(LISTS) and "&mut Reads" in called.header:
+        if function.path.startswith(C) and called.path.startswith(OF_LISTS) and "&mut Reads" in called.header:
             reading[function].append((index, name))
     measuring = {it: direct(it, MEASURING) for it in functions}
     with_words = lambda found: {it: words for it, words in found.items() if words}
@@ -211,7 +214,7 @@ def marks_in(functions):
 
 def mark_of(function, reads, names):
     """The mark that a function has to have, if it reads bytes, or else values. `names` are the functions that it names."""
-    fields = FIELDS if function.path.startswith(f"{LISTS}/list2/packed_list") else "(?!)"
+    fields = FIELDS if function.path.startswith(f"{LISTS}/opened") else "(?!)"
     # Of all `new` that of `Reads` counts.
     calls = rf"\b(for|while|loop)\b|\b(?:(?<=\bReads::)|(?!new\b))(\w+)(?:::<[^()]*>)?\(|({fields})"
     found = re.findall(calls, function.body)
@@ -251,7 +254,7 @@ def faults_of_counted(functions, marked):
 
 def outside(path, text, named):
     """What no code has; and the words and functions that are named outside functions: in a constant, or in an import by another name."""
-    for found in re.finditer(f"{NEVER}|{NEVER_IN_LISTS}" if path.startswith(LISTS) else NEVER, text):
+    for found in re.finditer(f"{NEVER}|{NEVER_IN_LISTS}" if path.startswith(OF_LISTS) else NEVER, text):
         inside = (re.findall(r"\bfn (\w+)", text[: found.start()]) or [None])[-1]
         yield f"{at(path, text, found.start())}: {inside} names {found.group()}"
     heads = r"\buse\b[^;]*;|\bstruct \w+[^{;]*\{[^}]*\}|\bfn \w+[^{;]*[{;]"
@@ -289,5 +292,5 @@ def marks():
     yield from faults_of_counted(functions, marked)
     named = {it.name for it in {*reading, *measuring}}
     for path, text in texts.items():
-        yield from outside(path, text, {it.name for it in {*reading, *measuring} if it.path.startswith(LISTS) or path.startswith(C)})
+        yield from outside(path, text, {it.name for it in {*reading, *measuring} if it.path.startswith(OF_LISTS) or path.startswith(C)})
     yield from passed_on(passing, named)

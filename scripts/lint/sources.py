@@ -11,12 +11,13 @@
 - Each kernel of `bitpacking` is named in its own places alone, so that one packer runs no kernel of another; each width from 0 to 31 has
   code of its own.
 - The program's packers `4s` and `8s` are those that `scalar` gives; `bitpacking_c` names no `scalar`; `bitpack_lists` makes no packer but
-  the one for groups, and else takes the one that it is given.
+  the one for groups, `bitpack_sorted` none, and else they take the one that they are given.
 - The Rust crate asks for the features of each level, has the functions of each level in its table, and those of the one level of another
   processor, and takes the best level.
-- Of `bitpack_lists`, each function that reads a number or unpacks a block from bytes, sees the bytes or the packer of an opened list, or
-  makes a `Reads`, has a mark in marks.txt; and so has each that calls one, unless a contract counts what that reads, or it is of the tail. Each that measures a block, or calls one that does, has a mark too. A mark names the calls in the order of the text: so those
-  that count read once for each count, `open` tests a text once and each block of it once, and `from_validated` tests none. No other function
+- Of `bitpack_lists` and `bitpack_sorted`, each function that reads a number or unpacks a block from bytes, sees the bytes or the packer of
+  an opened list, or makes a `Reads`, has a mark in marks.txt; and so has each that calls one, unless a contract counts what that reads, or
+  it is of the tail. Each that measures a block, or calls one that does, has a mark too. A mark names the calls in the order of the text: so
+  those that count read once for each count, `open` tests a text once and each block of it once, and `from_validated` tests none. No other function
   has a mark, none of a trait needs one, and no code calls `get`.
 - So do the functions of `bitpacking_c` that call these or one with a `Reads`, with what they call in turn. Those for blocks and chains of a
   packer call one function.
@@ -29,12 +30,12 @@ import re
 import sys
 
 sys.path.insert(1, f"{sys.path[0]}/..")
-from marks import LISTS, marks
+from marks import LISTS, SORTED, marks
 from texts import at, code, end_of_braces, paths, results, text_of
 
 SOURCES = "crates/bitpacking/src"
 MEMORY = f"{SOURCES}/memory.rt"
-COUNTS = ["bitpacking/proofs/memory/Steps", "bitpack_lists/proofs/list2/reads/Reads"]
+COUNTS = ["bitpacking/proofs/memory/Steps", "bitpack_lists/proofs/blocks/reads/Reads"]
 BY_HAND = [f"crates/{count}/{name}/Proof.antt" for count in COUNTS for name in ["new", "record"]]
 COUNTED = ["pack_counted", "unpack_counted", "width_counted"]
 BY_CODES = ["pack_codes", "unpack_codes"]
@@ -63,13 +64,13 @@ CHOICE = {
     ],
     "rust/src/packers.rs": ["fn calls() -> &'static Calls { &best().$calls }"],
 }
-GROUPS = (f"{LISTS}/list3/group.rt", "BitPacker1x")
-# What code of `bitpack_lists` has once, by file: the loop of a walk, which reads no entry once nothing is wanted; where a cursor begins
+GROUPS = (f"{LISTS}/v3/group.rt", "BitPacker1x")
+# What code of lists has once, by file: the loop of a walk, which reads no entry once nothing is wanted; where a cursor begins
 # anew; and the values at hand of a list, which save a seek for each.
 SHAPES = {
-    f"{LISTS}/list2/packed_list/walk.rt": ["for number in 0..one.count / P::BLOCK_LEN { if walk.want > u32::MAX as u64 { return; }"],
-    f"{LISTS}/sorted/retaining.rt": ["if item < last { *cursor = DistinctValues::new(list.cursor()); } finds_next(cursor, item)"],
-    f"{LISTS}/sorted/distinct_values.rt": [
+    f"{LISTS}/opened/walk.rt": ["for number in 0..one.count / P::BLOCK_LEN { if walk.want > u32::MAX as u64 { return; }"],
+    f"{SORTED}/retaining.rt": ["if item < last { *cursor = DistinctValues::new(list.cursor()); } finds_next(cursor, item)"],
+    f"{SORTED}/distinct_values.rt": [
         "fn at_hand(&self) -> &[u32] { self.cursor.block() }",
         "fn seek_ahead(&mut self, target: u32, ahead: usize) { self.cursor.seek_ahead(target, ahead); }",
     ],
@@ -77,10 +78,10 @@ SHAPES = {
 # By file and name, the least and the most that a constant may be: how far a search goes step by step, how many values show whether it
 # pays to merge, and how many widths are kept to be measured once.
 BOUNDS = {
-    (f"{LISTS}/list2/packed_list/cursor.rt", "NEAR"): (4, 64),
-    (f"{LISTS}/sorted/and.rt", "FEW"): (4, 64),
-    (f"{LISTS}/measuring.rt", "KEPT_WIDTHS"): (256, 4096),
-    (f"{LISTS}/measuring.rt", "MANY_WIDTHS"): (4096, 16384),
+    (f"{LISTS}/opened/cursor.rt", "NEAR"): (4, 64),
+    (f"{SORTED}/and.rt", "FEW"): (4, 64),
+    (f"{LISTS}/blocks/measuring.rt", "KEPT_WIDTHS"): (256, 4096),
+    (f"{LISTS}/blocks/measuring.rt", "MANY_WIDTHS"): (4096, 16384),
 }
 # The trait of the packers, its three calls by kind with the counted call of each, and by name the one of the three that each of the
 # nine others calls.
@@ -218,7 +219,7 @@ def packers():
         text = code(path)
         for found in re.finditer(r"\bscalar\b", text):
             yield f"{at(path, text, found.start())}: names scalar"
-    texts = {path: code(path) for path in paths(f"{LISTS}/**/*.rt")}
+    texts = {path: code(path) for folder in (LISTS, SORTED) for path in paths(f"{folder}/**/*.rt")}
     own = {name for text in texts.values() for name in re.findall(r"\bstruct (\w+)", text)} | {"Vec"}
     for path, text in texts.items():
         for found in re.finditer(r"(\w+>?)(?:::<[^()]*>)?::new\b", text):

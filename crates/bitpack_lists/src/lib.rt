@@ -4,7 +4,8 @@
 //! texts. [`list2`] writes lists that are read in place, by search or by position, and reads them. The texts of [`list3`] are shorter for
 //! short lists, and [`list2`] reads them too.
 //!
-//! The crate `bitpack` gives these names again. The tests of chains are in `bitpack_main`, tests of lists in `bitpack_uses`.
+//! The crate `bitpack` gives these modules again, and `bitpack_sorted` combines lists by their cursors. The tests of chains are in
+//! `bitpack_main`, tests of lists in `bitpack_uses`.
 #![tactic(auto)]
 
 mod blocks;
