@@ -6,6 +6,7 @@
   namesake in these crates. It may name those of the last column, those that every file of the section may name, the files of the folders that
   it is in, and those of its own folder of the first column.
 - Each name in a last column is one that a file of the row uses.
+- The folders of `bitpack_lists`, and the files beside them, name each other one way.
 
 Then the wrong changes of scripts/mutate/edits/maps/ are tried, as scripts/mutate/changes.py says. The last line is 'N passed, M failed'.
 """
@@ -18,6 +19,8 @@ sys.path.insert(1, f"{sys.path[0]}/..")
 from texts import CHANGED, code, paths, results, text_of
 
 PAGE = "docs/MAP.md"
+# The crates whose folders are layers.
+LAYERED = ["bitpack_lists"]
 NAME = re.compile(r"`([^`]+)`")
 
 
@@ -200,5 +203,24 @@ def used():
                 yield f"{PAGE}: no file of {', '.join(row.files)} of {row.crate} names {name}"
 
 
+def below(crate):
+    """By folder of a crate, or file beside the folders, those whose files its own name."""
+    found = {}
+    for module in modules(crate):
+        named = {other.split("/")[0] for other, _ in named_by(crate, module)}
+        found.setdefault(module.split("/")[0], set()).update(named)
+    return {folder: named - {folder} for folder, named in found.items()}
+
+
+def one_way():
+    """No folder names another that names it, also through others: so a walk from call to call never comes back to a folder that it left."""
+    for crate in LAYERED:
+        reached = below(crate)
+        for through in reached:
+            for named in reached.values():
+                named.update(reached[through] if through in named else [])
+        yield from (f"crates/{crate}/src: {folder} names itself through others" for folder, named in reached.items() if folder in named)
+
+
 if __name__ == "__main__":
-    sys.exit(results([in_rows, names, used], "maps"))
+    sys.exit(results([in_rows, names, used, one_way], "maps"))

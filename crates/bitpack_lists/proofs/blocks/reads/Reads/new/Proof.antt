@@ -13,8 +13,8 @@ use denote.Triple.Entry.{on_entry}
 use denote.Triple.Walked.{ends_at}
 use Rattle.bitpacking.proofs.ForCallers.{tells, tells_last}
 use Rattle.bitpack_lists.specs.declared.blocks.reads.Reads.{Reads}
-use Rattle.bitpack_lists.specs.contracts.list2.reads.Reads as T
-use Rattle.bitpack_lists.specs.contracts.list2.reads.Reads.new as f
+use Rattle.bitpack_lists.specs.contracts.blocks.reads.Reads as T
+use Rattle.bitpack_lists.specs.contracts.blocks.reads.Reads.new as f
 use Rattle.bitpack_lists.proofs.blocks.reads.Reads.new.Statement.{statement}
 use Rattle.bitpack_lists.proofs.blocks.reads.Reads.new.Code as code
 

@@ -18,8 +18,8 @@ use denote.Steps.{nothing, opens, closes}
 use denote.Triple.Walked.{Stays, walk_of, stay_ref, stay_dropped, Goes-ref, Goes-dropped, ends_at}
 use Rattle.bitpacking.proofs.ForCallers.{tells, tells_last}
 use Rattle.bitpack_lists.specs.declared.blocks.reads.Reads.{Reads}
-use Rattle.bitpack_lists.specs.contracts.list2.reads.Reads as T
-use Rattle.bitpack_lists.specs.contracts.list2.reads.Reads.record as f
+use Rattle.bitpack_lists.specs.contracts.blocks.reads.Reads as T
+use Rattle.bitpack_lists.specs.contracts.blocks.reads.Reads.record as f
 use Rattle.bitpack_lists.proofs.blocks.reads.Reads.record.Statement.{statement}
 use Rattle.bitpack_lists.proofs.blocks.reads.Reads.record.Code as code
 
