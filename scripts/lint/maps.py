@@ -7,6 +7,7 @@
   it is in, and those of its own folder of the first column.
 - Each name in a last column is one that a file of the row uses.
 - The folders of `bitpack_lists`, and the files beside them, name each other one way.
+- The head of each lemma file of `bitpack_lists` says whom it serves.
 
 Then the wrong changes of scripts/mutate/edits/maps/ are tried, as scripts/mutate/changes.py says. The last line is 'N passed, M failed'.
 """
@@ -21,6 +22,8 @@ from texts import CHANGED, code, paths, results, text_of
 PAGE = "docs/MAP.md"
 # The crates whose folders are layers.
 LAYERED = ["bitpack_lists"]
+PROOFS = "crates/bitpack_lists/proofs"
+LEMMAS = f"{PROOFS}/lemmas"
 NAME = re.compile(r"`([^`]+)`")
 
 
@@ -222,5 +225,24 @@ def one_way():
         yield from (f"crates/{crate}/src: {folder} names itself through others" for folder, named in reached.items() if folder in named)
 
 
+def lemma_files():
+    return paths(f"{LEMMAS}/*/*.antt")
+
+
+def serves(path):
+    """The line of a lemma file that says which folders' proofs cite it, and which files' beside the folders."""
+    name = path.removeprefix("crates/").replace("/", ".").removesuffix(".antt")
+    cites = re.compile(rf"\bRattle\.{re.escape(name)}\b")
+    users = (it.removeprefix(f"{LEMMAS}/").removeprefix(f"{PROOFS}/") for it in paths(f"{PROOFS}/**/*.antt") if cites.search(text_of(it)))
+    return f"-- Serves {', '.join(sorted({it.removesuffix('.antt').split('/')[0] for it in users}))}."
+
+
+def heads():
+    for path in lemma_files():
+        right = serves(path)
+        if right not in re.match("(?:--.*\n)*", text_of(path))[0].split("\n"):
+            yield f"{path}: its head has no line {right}"
+
+
 if __name__ == "__main__":
-    sys.exit(results([in_rows, names, used, one_way], "maps"))
+    sys.exit(results([in_rows, names, used, one_way, heads], "maps"))

@@ -13,8 +13,8 @@ ghost use Rattle.bitpack_uses.specs.Failures.{FailsWith};
 ghost use Rattle.bitpack_uses.specs.Selected.{AreInAll, IsListInOrder, ids_fault};
 
 use bitpack::list2::PackedList;
-use bitpack_sorted::{And, DistinctValues, SortedCursor, collect_into};
 use bitpack::{ListError, ListKind};
+use bitpack_sorted::{And, DistinctValues, SortedCursor, collect_into};
 use bitpacking::{BitPacker, BitPacker4x};
 use std::alloc::Global;
 

@@ -8,8 +8,8 @@ ghost use Rattle.bitpack_lists.specs.Parts.{whole_blocks};
 ghost use Rattle.bitpack_lists.specs.Places.{InOrder};
 ghost use Rattle.bitpack_lists.specs.Search.{HasGrown};
 
-use super::{ListBlock, PackedList};
 use super::search::DOUBLES;
+use super::{ListBlock, PackedList};
 use crate::blocks::reads::Reads;
 use crate::chain::LONGEST_BLOCK;
 use bitpacking::BitPacker;

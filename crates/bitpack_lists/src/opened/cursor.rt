@@ -3,8 +3,8 @@
 ghost use Rattle.std.specs.Prelude.{◌≡◌, ◌≢◌, ℕ, ◌+◌, ◌-◌, ◌*◌, ◌^◌, ◌<◌, ◌≤◌, length, slice_index};
 ghost use Rattle.bitpack_lists.specs.Places.{InOrder, IsPlace, IsSoughtFrom};
 
-use super::{ListBlock, PackedList};
 use super::search::DOUBLES;
+use super::{ListBlock, PackedList};
 use crate::blocks::reads::Reads;
 use crate::chain::{LONGEST_BLOCK, next_kind};
 use crate::list_kind::ListKind;

@@ -11,7 +11,7 @@ ghost use Rattle.bitpack_lists.specs.Version1.{Blocks1, IsPart1, List1};
 
 use crate::blocks::measuring::{KEPT_WIDTHS, text_len, width_of};
 use crate::chain::{LONGEST_BODY, next_kind};
-use crate::header::{LONGEST_LIST, Header};
+use crate::header::{Header, LONGEST_LIST};
 use crate::list_error::ListError;
 use crate::list_kind::ListKind;
 use crate::little_endian::write_all;

@@ -6,8 +6,8 @@ ghost use Rattle.bitpack_lists.specs.Version3.{HasCode};
 
 use super::checks::holds;
 use bitpack::list2::{Cursor, PackedList, Reads, intersect};
-use bitpack_sorted::retain_common;
 use bitpack::{ListError, ListKind, list, list2, list3};
+use bitpack_sorted::retain_common;
 use bitpacking::BitPacker;
 use std::process::Abort;
 

@@ -1,4 +1,5 @@
 -- The entries and the bodies of values are one list of bytes in the rest of a text.
+-- Serves opened, v2, v3.
 use Rattle.std.proofs.Common.{◌≡◌, ℕ, zero, suc, ◌+◌, ◌*◌, ◌<◌, ◌≤◌, List, [], ◌∷◌, ◌++◌, length, take, drop, get_or, refl, sym, ◌∙◌, ap, arith, add-zero, take-add}
 use Rattle.std.proofs.lemmas.List.{drop-drop, get_or-drop, length-drop, take-append-drop}
 use Rattle.bitpacking.specs.Bits.{AreBytes}

@@ -1,4 +1,5 @@
 -- Searches: halves of a span, values in order, and the first that reaches a target.
+-- Serves blocks, laws, opened.
 use Rattle.std.proofs.Common.{◌≡◌, ◌≢◌, ℕ, zero, suc, ◌+◌, ◌-◌, ◌*◌, ◌/◌, ◌^◌, ◌<◌, ◌≤◌, Bool, true, false, cond, leb, Option, Some, None, refl, ◌∙◌, ap, arith, inl, inr}
 use Rattle.std.specs.Option.{option_or, option_map}
 use Rattle.std.proofs.lemmas.Bool.{cases_lt, le-leb, leb-false, lt-leb, lt-ltb, ltb-false}

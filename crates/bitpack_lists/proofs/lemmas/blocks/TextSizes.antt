@@ -1,4 +1,5 @@
 -- The length that was measured is that of the text.
+-- Serves v2, v3.
 use Rattle.std.proofs.Common.{◌≡◌, ℕ, ◌*◌, ◌≤◌, List, length, drop, refl, arith}
 use Rattle.bitpack_lists.specs.declared.list_kind.ListKind.{ListKind}
 use Rattle.bitpack_lists.specs.Parts.{tail_values, whole_blocks}

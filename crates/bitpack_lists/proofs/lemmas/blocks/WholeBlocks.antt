@@ -1,5 +1,6 @@
 -- The whole blocks of versions 2 and 3: bytes without a fault there hold the blocks that they give, and bytes that hold blocks have no
 -- fault there. What a tail gives is a parameter.
+-- Serves opened, v2, v3.
 use Rattle.std.proofs.Common.{◌≡◌, ℕ, ◌+◌, ◌-◌, ◌*◌, ◌/◌, ◌%◌, ◌^◌, ◌<◌, ◌≤◌, List, map, length, drop, get_or, Option, Some, None, refl, sym, subst, ◌∙◌, ap, arith, inl, inr}
 use Rattle.std.specs.List.{range_with_len}
 use Rattle.std.specs.Option.{option_map}

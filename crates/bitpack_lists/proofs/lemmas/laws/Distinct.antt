@@ -1,4 +1,5 @@
 -- Lists that increase: the values that they contain determine them, and there are no more than in any list that contains these.
+-- Serves ForCallers, laws.
 use Rattle.std.proofs.Common.{◌≡◌, ◌⊎◌, ◌↔◌, ℕ, zero, suc, ◌<◌, ◌≤◌, List, [], ◌∷◌, length, get_or, refl, sym, ap, inl, inr, arith, Contains}
 use Rattle.std.specs.List.{AllPairs, remove}
 use Rattle.std.specs.List.Sorted.{IsStrictlyIncreasing}
@@ -84,7 +85,7 @@ same_values (x ∷ xs) [] up up' within within' = let (k, lt, is) = within x (Co
 same_values (x ∷ xs) (y ∷ ys) up up' within within' =
     let e = same_first x xs y ys up up' within within' in
     rw (same_values xs ys (after_first x xs up) (after_first y ys up')
-        (others_same x xs y ys e up within) (others_same y ys x xs (sym e) up' within'))
+    (others_same x xs y ys e up within) (others_same y ys x xs (sym e) up' within'))
     (ap (λ (n : ℕ). n ∷ ys) (sym e))
 
 same_members : (xs ys : List ℕ) → IsStrictlyIncreasing xs → IsStrictlyIncreasing ys → ((v : ℕ) → Contains xs v ↔ Contains ys v) → xs ≡ ys

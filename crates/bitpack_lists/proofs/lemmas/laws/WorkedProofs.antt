@@ -1,4 +1,5 @@
 -- The worked texts, by computing.
+-- Serves worked_texts.
 use Rattle.std.proofs.Common.{refl}
 use Rattle.bitpacking.specs.Layout.{codes_of, place}
 use Rattle.bitpacking.specs.Words.{joined, word}

@@ -1,4 +1,5 @@
 -- Values are copied a block at a time, from a position on.
+-- Serves opened.
 use Rattle.std.proofs.Common.{◌≡◌, ℕ, ◌+◌, ◌-◌, ◌*◌, ◌/◌, ◌%◌, ◌<◌, ◌≤◌, min, List, length, drop, take, get_or, sym, ◌∙◌, ap, arith}
 use Rattle.std.proofs.Math.Nat.{div-add-mod, div-mul-le_self, mod-lt, mul-div_cancel_left}
 use Rattle.std.proofs.lemmas.Nat.{le-div}

@@ -1,4 +1,5 @@
 -- Places of a cursor in an opened list: the value there, and where a search ends.
+-- Serves ForCallers, opened.
 use Rattle.std.proofs.Common.{◌≡◌, ◌≢◌, ℕ, ◌+◌, ◌-◌, ◌*◌, ◌<◌, ◌≤◌, List, length, drop, take, get_or, Option, Some, None, sym, ◌∙◌, ap, arith, inl, inr}
 use Rattle.std.specs.List.{slice_get}
 use Rattle.std.proofs.lemmas.Bool.{cases_lt}

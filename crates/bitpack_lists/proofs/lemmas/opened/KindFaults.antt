@@ -1,4 +1,5 @@
 -- A list of the kind that is wanted has no fault, and one of another kind has.
+-- Serves opened.
 use Rattle.std.proofs.Common.{◌≡◌, not, true, Some, None, refl}
 use denote.Enum.Bare.{sameb}
 use Rattle.bitpack_lists.specs.contracts.list_kind.ListKind.{the_type}

@@ -1,4 +1,5 @@
 -- The kind and the values of an opened list are those of its text.
+-- Serves ForCallers, laws, list_buf, opened.
 use Rattle.std.proofs.Common.{◌≡◌, ℕ, ◌≤◌, List, length, drop, get_or, Some, None, sym, subst, ◌∙◌, ap, arith}
 use Rattle.bitpacking.specs.Bits.{AreBytes}
 use Rattle.bitpacking.specs.Codes.{AreWords}

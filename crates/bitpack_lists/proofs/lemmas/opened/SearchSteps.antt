@@ -1,4 +1,5 @@
 -- A search among entries: what is left after each of them, if it halves what is left, or doubles its steps first.
+-- Serves opened.
 use Rattle.std.proofs.Common.{◌≡◌, ℕ, zero, suc, ◌+◌, ◌-◌, ◌*◌, ◌/◌, ◌^◌, ◌<◌, ◌≤◌, ◌⊎◌, min, refl, arith, inl, inr}
 use Rattle.std.proofs.Math.Pow.{pow_mono}
 use Rattle.std.proofs.lemmas.Bool.{cases_lt}

@@ -1,4 +1,5 @@
 -- The first groups of a tail without a fault have none either, and their codes are the first of the tail's.
+-- Serves opened.
 use Rattle.std.proofs.Common.{◌≡◌, ℕ, zero, suc, ◌+◌, ◌*◌, ◌%◌, ◌^◌, ◌<◌, ◌≤◌, Some, None, List, [], ◌∷◌, ◌++◌, length, take, drop, refl, sym, ◌∙◌, ap, arith, append_assoc, inl, inr}
 use Rattle.std.proofs.lemmas.List.{drop-take, length-take-le, take-take, take_all}
 use Rattle.std.proofs.lemmas.List.Elements.{All-take}

@@ -1,4 +1,5 @@
 -- Values of groups, one group after the other, and the first that reaches a target.
+-- Serves opened.
 use Rattle.std.proofs.Common.{◌≡◌, ℕ, suc, ◌==◌, false, ltb, ◌+◌, ◌-◌, ◌*◌, ◌%◌, ◌^◌, min, ◌<◌, ◌≤◌, Option, Some, None, List, [], ◌∷◌, ◌++◌, length, drop, get_or, refl, sym, ◌∙◌, ap, arith, inl}
 use Rattle.std.specs.Option.{option_map, option_or}
 use Rattle.std.proofs.Math.Nat.{div-add-mod, div-lt_iff_lt-mul}

@@ -1,4 +1,5 @@
 -- Texts of version 2 or 3 and the kind that they state.
+-- Serves opened.
 use Rattle.std.proofs.Common.{◌≡◌, ℕ, ◌≤◌, List, get_or, None, ◌∙◌, ap, subst, inl, inr}
 use Rattle.std.proofs.lemmas.Bool.{cases_lt, le-ltb, lt-ltb}
 use Rattle.bitpacking.specs.Bits.{AreBytes}

@@ -1,4 +1,5 @@
 -- A text of one version is none of another, and the entries and bodies of versions 2 and 3 are the same bytes.
+-- Serves ForCallers, laws, list_buf, opened.
 use Rattle.std.proofs.Common.{◌≡◌, ◌≢◌, ℕ, ◌<◌, ◌≤◌, List, [], ◌∷◌, length, take, drop, get_or, Some, None, refl, ◌∙◌, ap, arith, false, eqb, inl, inr}
 use Rattle.std.proofs.lemmas.Bool.{cases_lt, eqb-true, false_from_ne_true, le-ltb, lt-ltb, ltb-false, not-false}
 use Rattle.bitpacking.specs.Bits.{AreBytes}

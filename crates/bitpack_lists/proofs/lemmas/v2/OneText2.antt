@@ -1,4 +1,5 @@
 -- Version 2: values have one text, and a text is that of one kind and one list.
+-- Serves ForCallers, laws, opened.
 use Rattle.std.proofs.Common.{◌≡◌, length, take, drop, sym, ◌∙◌, ap, arith}
 use Rattle.std.proofs.lemmas.List.{ext_get_or, take-append-drop}
 use Rattle.bitpack_lists.specs.Laws.{OneText2, OneList2, NoFault2}

@@ -1,4 +1,5 @@
 -- Values from codes and codes from values, one after the other.
+-- Serves opened, v3.
 use Rattle.std.proofs.Common.{◌≡◌, ℕ, ◌+◌, ◌-◌, ◌%◌, ◌^◌, List, [], ◌∷◌, Some, refl, ◌∙◌, ap, arith}
 use Rattle.bitpacking.specs.declared.kind.Kind.TheVariants.{Sorted, StrictlySorted}
 use Rattle.bitpacking.specs.Codes.{codes, values_of}

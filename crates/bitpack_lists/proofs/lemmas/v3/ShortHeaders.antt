@@ -1,4 +1,5 @@
 -- Version 3: bytes without a fault in their header begin with the header of a kind and a count, and a header is read as them.
+-- Serves laws, opened, v3.
 use Rattle.std.proofs.Common.{◌≡◌, ℕ, zero, suc, min, ◌+◌, ◌-◌, ◌*◌, ◌/◌, ◌%◌, ◌^◌, ◌<◌, ◌≤◌, Bool, true, false, cond, List, [], ◌∷◌, ◌++◌, length, take, drop, get_or, None, refl, sym, ◌∙◌, ap, arith, inl, inr, one-add}
 use Rattle.std.specs.Prelude.{◌==◌}
 use Rattle.std.proofs.lemmas.Bool.{cases_eq, cases_lt, le-ltb, lt-ltb, ltb-false, eq-eqb, eqb-true, eqb-false, ne_eqb, not-false}

@@ -1,4 +1,5 @@
 -- The order of all values of a list: that of the blocks, and that of the tail after them.
+-- Serves v2, v3.
 use Rattle.std.proofs.Common.{◌≡◌, ℕ, ◌+◌, ◌-◌, ◌*◌, ◌<◌, ◌≤◌, List, Option, ◌∙◌, ap, arith}
 use Rattle.std.specs.Option.{option_or}
 use Rattle.std.proofs.Math.Nat.{div-add-mod}

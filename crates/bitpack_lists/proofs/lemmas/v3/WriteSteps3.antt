@@ -1,4 +1,5 @@
 -- Writing a text of version 3: the codes of its tail, how long it is, and its parts one after the other.
+-- Serves blocks, v3.
 use Rattle.std.proofs.Common.{◌≡◌, ℕ, zero, suc, ◌+◌, ◌-◌, ◌*◌, ◌%◌, ◌^◌, ◌<◌, ◌≤◌, List, ◌++◌, length, take, drop, get_or, None, refl, sym, ◌∙◌, ap, arith}
 use Rattle.std.proofs.Math.Nat.{mul-div-le}
 use Rattle.std.proofs.lemmas.List.{get_or-take, length-append, length-drop, length-take-le}

@@ -3,7 +3,7 @@ use Rattle.std.proofs.Common.{◌≡◌, ◌+◌, ◌<◌, length, refl, sym, �
 use Rattle.std.specs.List.{slice_get}
 use Rattle.bitpack_lists.specs.Cursors.{position, values_of_cursor}
 use Rattle.bitpack_lists.specs.Opened.{values}
-use Rattle.bitpack_lists.proofs.lemmas.opened.CursorPlaces.{position_within}
+use Rattle.bitpack_lists.proofs.ForCallers.{position_within}
 use Rattle.bitpack_sorted.proofs.PassingLemmas.{passing_first, passing_found, passing_next, passing_none, some_at}
 use Rattle.bitpack_sorted.proofs.distinct_values.pass.Goals as goal
 
