@@ -31,7 +31,7 @@ COUNTED = {
     f"{LISTS}/blocks/reads.rt": {"entry": "record, read_one, read_one", "unpack": "record, body, decompress_kind"},
     f"{LISTS}/opened.rt": {"entry": "entry, rest", "unpack": "unpack, packer, rest", "clone": "packer, bytes, rest, tail"},
     f"{LISTS}/opened/tail.rt": {
-        "read_tail": "read_words, tail, unpack_tail",
+        "read_tail": "read_words, tail, read_front",
         "value_in_tail": "read_one, tail, value_in_groups",
     },
     f"{LISTS}/opened/search.rt": {"seek_in_tail": "read_tail, first_at_least, seek_in_groups"},

@@ -1,8 +1,8 @@
 //! The seven bytes before the blocks of a packed list of version 1 or 2: version, kind, lanes, and the count of values.
 
-ghost use Rattle.std.specs.Prelude.{◌≡◌, ◌+◌, ◌^◌, ◌≤◌, ◌<◌, OnOk, IfOk, length, vec_len, vec_capacity};
+ghost use Rattle.std.specs.Prelude.{◌≡◌, ◌+◌, ◌^◌, ◌≤◌, ◌<◌, OnOk, IfOk, length, slice_index, vec_len, vec_capacity};
 ghost use Rattle.bitpack_lists.specs.inner.Appending.{HasAppended};
-ghost use Rattle.bitpack_lists.specs.Parts.{BeginsWithHeader, FindsFault, header, header_fault};
+ghost use Rattle.bitpack_lists.specs.Parts.{BeginsWithHeader, FindsFault, count_of, header, header_fault, kind_of_byte};
 
 use crate::list_error::ListError;
 use crate::list_kind::ListKind;
@@ -23,9 +23,9 @@ pub(crate) struct Header {
 }
 
 impl Header {
-    /// Reads the header of a text of this version, for a packer of `lanes` lanes.
+    /// Tests the header of a text of this version, for a packer of `lanes` lanes.
     #[tactic(auto, unfolding(crate::specs::Parts::header_fault))]
-    pub(crate) fn read(version: u8, lanes: usize, bytes: &[u8]) -> Result<Header, ListError>
+    pub(crate) fn test(version: u8, lanes: usize, bytes: &[u8]) -> Result<Header, ListError>
         ensures fault { FindsFault result (header_fault version lanes bytes.now) }
         ensures header { IfOk result (λ found. BeginsWithHeader version lanes found.kind found.count bytes.now) }
         ensures long { OnOk result (HEADER_LEN ≤ length bytes.now) }
@@ -36,20 +36,29 @@ impl Header {
         if bytes[0] != version {
             return Err(ListError::BadVersion(bytes[0]));
         }
-        let kind = match bytes[1] {
-            0 => ListKind::Plain,
-            1 => ListKind::Sorted,
-            2 => ListKind::StrictlySorted,
-            byte => return Err(ListError::BadKind(byte)),
-        };
+        if bytes[1] > 2 {
+            return Err(ListError::BadKind(bytes[1]));
+        }
         if bytes[2] as usize != lanes {
             return Err(ListError::WrongLanes(bytes[2]));
         }
-        let count = read_one(bytes, 3) as usize;
-        if count > LONGEST_LIST {
-            return Err(ListError::TooLong(count));
+        let header = Header::of_bytes(bytes);
+        if header.count > LONGEST_LIST {
+            return Err(ListError::TooLong(header.count));
         }
-        Ok(Header { kind, count })
+        Ok(header)
+    }
+
+    /// The header that the bytes state. Tests nothing.
+    pub(crate) fn of_bytes(bytes: &[u8]) -> Header
+        requires long { HEADER_LEN ≤ length bytes.now }
+        ensures kind { result.kind ≡ kind_of_byte (slice_index bytes.now 1) }
+        ensures count { result.count ≡ count_of bytes.now }
+    {
+        Header {
+            kind: ListKind::of_byte(bytes[1]),
+            count: read_one(bytes, 3) as usize,
+        }
     }
 
     /// The bytes of the header.

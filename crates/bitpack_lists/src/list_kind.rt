@@ -1,7 +1,7 @@
 //! The kinds of packed lists.
 
 ghost use Rattle.std.specs.Prelude.{◌≡◌};
-ghost use Rattle.bitpack_lists.specs.Parts.{first_kind, kind_byte};
+ghost use Rattle.bitpack_lists.specs.Parts.{first_kind, kind_byte, kind_of_byte};
 
 use bitpacking::Kind;
 use std::fmt;
@@ -27,6 +27,17 @@ impl ListKind {
             ListKind::Plain => 0,
             ListKind::Sorted => 1,
             ListKind::StrictlySorted => 2,
+        }
+    }
+
+    /// The kind of a byte that is at most 2.
+    pub(crate) fn of_byte(byte: u8) -> ListKind
+        ensures { result ≡ kind_of_byte byte }
+    {
+        match byte {
+            0 => ListKind::Plain,
+            1 => ListKind::Sorted,
+            _ => ListKind::StrictlySorted,
         }
     }
 

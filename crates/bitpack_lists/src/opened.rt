@@ -124,10 +124,7 @@ impl<'a, P: BitPacker> PackedList<'a, P> {
         ensures only { IsTextOfNoOther Version.Two P.lanes (kind_of result) (values result) bytes.now }
         ensures version { version_of result ≡ Version.Two }
     {
-        match Header::read(2, P::BLOCK_LEN / 32, bytes) {
-            Ok(header) => PackedList::of_text(packer, header, bytes),
-            Err(_) => unreachable!(),
-        }
+        PackedList::of_text(packer, Header::of_bytes(bytes), bytes)
     }
 
     // The list of a text of version 2 that has this header.

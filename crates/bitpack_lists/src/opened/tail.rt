@@ -8,7 +8,7 @@ use super::PackedList;
 use crate::chain::LONGEST_BLOCK;
 use crate::little_endian::{read_one, read_words};
 use crate::v3::codes::to_values;
-use crate::v3::tail::{end_of_group, read_tail};
+use crate::v3::tail::{end_of_group, unpack_tail};
 use crate::version::Version;
 use bitpacking::BitPacker;
 
@@ -51,7 +51,7 @@ impl<'a, P: BitPacker> PackedList<'a, P> {
         requires ends { EndsGroup (blocks_of self.now) (tail_values P.lanes self.now.count) (length values.old) }
         ensures value { result ≡ value_of self.now (32 * P.lanes * blocks_of self.now + index) }
     {
-        self.unpack_tail(values);
+        self.read_front(values);
         values[index]
     }
 
@@ -65,21 +65,19 @@ impl<'a, P: BitPacker> PackedList<'a, P> {
         let len = self.count % P::BLOCK_LEN;
         match self.version {
             Version::Two => read_words(self.tail, &mut values[..len]),
-            Version::Three => self.unpack_tail(&mut values[..len]),
+            Version::Three => self.read_front(&mut values[..len]),
         }
         len
     }
 
     // Reads the first values of a tail of version 3, up to the end of a group.
-    fn unpack_tail(&self, values: &mut [u32])
+    fn read_front(&self, values: &mut [u32])
         requires version { self.now.version ≡ Version.Three }
         requires len { EndsGroup (blocks_of self.now) (tail_values P.lanes self.now.count) (length values.old) }
         ensures { values.new ≡ take (length values.old) (tail_values3 P.lanes (blocks_of self.now)
             (tail_values P.lanes self.now.count) self.now.kind (rest_of self.now)) }
     {
-        match read_tail(self.count / P::BLOCK_LEN, self.tail, values) {
-            Ok(_) => to_values(self.tail_kind, values),
-            Err(_) => unreachable!(),
-        }
+        unpack_tail(self.count / P::BLOCK_LEN, self.tail, values);
+        to_values(self.tail_kind, values);
     }
 }

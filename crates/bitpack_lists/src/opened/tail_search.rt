@@ -10,8 +10,8 @@ use super::PackedList;
 use super::search::first_at_least;
 use crate::chain::next_kind;
 use crate::v3::codes::to_values;
-use crate::v3::group::{LONGEST_GROUP, read_group};
-use crate::v3::number::read_number;
+use crate::v3::group::{LONGEST_GROUP, unpack_group};
+use crate::v3::number::unpack_number;
 use crate::v3::tail::next_len;
 use bitpacking::{BitPacker, Kind};
 
@@ -33,15 +33,7 @@ impl<'a, P: BitPacker> PackedList<'a, P> {
             return self.seek_after_first(target);
         }
         let tail = self.count % len;
-        let blocks = self.count / len;
-        seek_groups(
-            self.tail_kind,
-            blocks,
-            self.tail,
-            self.count - tail,
-            tail,
-            target,
-        )
+        seek_groups(self.tail_kind, self.tail, self.count - tail, tail, target)
     }
 
     /// The first value that is at least the target, with its position, in a list without a whole block.
@@ -49,33 +41,28 @@ impl<'a, P: BitPacker> PackedList<'a, P> {
         requires first { (self.now.version ≡ Version.Three) × (1 ≤ self.now.count) × (self.now.count < 32 * P.lanes) }
         ensures { result ≡ first_reaching (value_of self.now) self.now.count target }
     {
-        match read_number(self.tail) {
-            Ok((code, end)) => {
-                let mut first = [code];
-                to_values(self.tail_kind, &mut first);
-                if first[0] >= target {
-                    return Some((0, first[0]));
-                }
-                let kind = next_kind(self.tail_kind, first[0]);
-                seek_groups(kind, 0, &self.tail[end..], 1, self.count - 1, target)
-            }
-            Err(_) => unreachable!(),
+        let (code, end) = unpack_number(self.tail);
+        let mut first = [code];
+        to_values(self.tail_kind, &mut first);
+        if first[0] >= target {
+            return Some((0, first[0]));
         }
+        let kind = next_kind(self.tail_kind, first[0]);
+        seek_groups(kind, &self.tail[end..], 1, self.count - 1, target)
     }
 }
 
-/// The first value that is at least the target, with its position, in the groups of `count` values from block number `block` on. The
-/// values before the position `start` are below the target.
+/// The first value that is at least the target, with its position, in the groups of `count` values, which have no fault. The values
+/// before the position `start` are below the target.
 fn seek_groups(
     first_kind: Kind,
-    block: usize,
     bytes: &[u8],
     start: usize,
     count: usize,
     target: u32,
 ) -> Option<(usize, u32)>
-    requires few { (block ≤ 2 ^ 28) × (start ≤ 2 ^ 28) × (count ≤ 2 ^ 28) }
-    requires sound { groups_fault (groups_of count) block count bytes.now ≡ None }
+    requires few { (start ≤ 2 ^ 28) × (count ≤ 2 ^ 28) }
+    requires sound { (block : ℕ) × (groups_fault (groups_of count) block count bytes.now ≡ None) }
     ensures within { IfSome result (λ found. start ≤ found.0) }
     ensures found { (value : ℕ → ℕ) → ((k : ℕ) → k < start → value k < target)
         → ((k : ℕ) → k < count → value (start + k)
@@ -88,7 +75,7 @@ fn seek_groups(
     let mut group = [0; LONGEST_GROUP];
     for index in 0..(count + 31) / LONGEST_GROUP {
         let len = next_len(count - from);
-        let end = read_values(kind, block + index, len, rest, &mut group);
+        let end = unpack_values(kind, len, rest, &mut group);
         if let Some(found) = first_at_least(&group[..len], start + from, target) {
             return Some(found);
         }
@@ -99,20 +86,16 @@ fn seek_groups(
     None
 }
 
-/// Reads the values of a group without a fault, which are the first of `values`, and returns how many bytes it has.
-fn read_values(kind: Kind, block: usize, count: usize, bytes: &[u8], values: &mut [u32]) -> usize
-    requires count { (1 ≤ count) × (count ≤ LONGEST_GROUP) }
+/// Unpacks the values of a group without a fault, which are the first of `values`, and returns how many bytes it has.
+fn unpack_values(kind: Kind, count: usize, bytes: &[u8], values: &mut [u32]) -> usize
+    requires count { count ≤ LONGEST_GROUP }
     requires room { length values.old ≡ LONGEST_GROUP }
-    requires sound { group_fault block count bytes.now ≡ None }
+    requires sound { (block : ℕ) × (group_fault block count bytes.now ≡ None) }
     ensures values { take count values.new ≡ values_of kind (group_codes count bytes.now) }
     ensures end { result ≡ group_end count bytes.now }
     ensures within { result ≤ length bytes.now }
 {
-    match read_group(block, count, bytes, values) {
-        Ok(end) => {
-            to_values(kind, &mut values[..count]);
-            end
-        }
-        Err(_) => unreachable!(),
-    }
+    let end = unpack_group(count, bytes, values);
+    to_values(kind, &mut values[..count]);
+    end
 }

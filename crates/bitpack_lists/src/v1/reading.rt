@@ -52,7 +52,7 @@ pub(crate) fn test<P: BitPacker>(packer: &P, bytes: &[u8]) -> Result<Header, Lis
     ensures long { OnOk result (HEADER_LEN ≤ length bytes.now) }
 {
     let len = P::BLOCK_LEN;
-    let header = Header::read(1, len / 32, bytes)?;
+    let header = Header::test(1, len / 32, bytes)?;
     let blocks = header.count / len;
     let tail = 4 * (header.count % len);
     let rest = &bytes[HEADER_LEN..];

@@ -15,7 +15,7 @@ pub(crate) fn test<P: BitPacker>(packer: &P, bytes: &[u8]) -> Result<Header, Lis
     ensures fault { FindsFault result (fault2 P.lanes bytes.now) }
     ensures header { IfOk result (λ header. BeginsWithHeader 2 P.lanes header.kind header.count bytes.now) }
 {
-    let header = Header::read(2, P::BLOCK_LEN / 32, bytes)?;
+    let header = Header::test(2, P::BLOCK_LEN / 32, bytes)?;
     test_rest(packer, header, &bytes[HEADER_LEN..])?;
     Ok(header)
 }

@@ -1,12 +1,12 @@
 //! Groups of 1 to 32 codes: a width, and the first bytes of a block of one lane that holds the codes and then zeros.
 
-ghost use Rattle.std.specs.Prelude.{◌≡◌, ℕ, List, ◌+◌, ◌*◌, ◌/◌, ◌^◌, ◌≤◌, ◌∷◌, OnOk, IfOk, nat_lt, length, take};
+ghost use Rattle.std.specs.Prelude.{◌≡◌, ℕ, List, ◌+◌, ◌*◌, ◌/◌, ◌^◌, ◌≤◌, ◌∷◌, IfOk, OnOk, drop, length, nat_lt, slice_index, take};
 ghost use Rattle.std.specs.List.{list_all};
 ghost use lib.Count.{count_leading_zeros};
 ghost use Rattle.bitpacking.specs.Bits.{AreBytes};
 ghost use Rattle.bitpacking.specs.Layout.{codes_of};
 ghost use Rattle.bitpacking.specs.Width.{Least};
-ghost use Rattle.bitpack_lists.specs.Groups.{IsGroup, are_zeros, body_of, group_codes, group_end, group_fault};
+ghost use Rattle.bitpack_lists.specs.Groups.{IsGroup, all_codes, are_zeros, body_of, group_codes, group_end, group_fault};
 ghost use Rattle.bitpack_lists.specs.Parts.{FindsFault};
 
 use crate::list_error::ListError;
@@ -18,9 +18,9 @@ pub(crate) const LONGEST_GROUP: usize = 32;
 /// The most bytes of a body of one lane: 32 codes at 32 bits each.
 const LONGEST_GROUP_BODY: usize = 128;
 
-/// Reads the group of `count` codes at the front of the bytes, which is block number `block`, and returns how many bytes it has.
+/// Tests the group of `count` codes at the front of the bytes, which is block number `block`, and returns how many bytes it has.
 /// Its codes are the first of `codes`; after a refusal these may be any.
-pub(crate) fn read_group(
+pub(crate) fn test_group(
     block: usize,
     count: usize,
     bytes: &[u8],
@@ -41,18 +41,34 @@ pub(crate) fn read_group(
     if width > 32 {
         return Err(ListError::BadWidth(block, width));
     }
-    let size = group_size(count, width);
-    if rest.len() < size {
+    if rest.len() < group_size(count, width) {
         return Err(ListError::Short);
     }
-    unpack_cut(width, &rest[..size], codes);
+    let end = unpack_group(count, bytes, codes);
     if are_loose(width, &codes[..count]) {
         return Err(ListError::LooseWidth(block, width));
     }
     if !all_zeros(&codes[count..]) {
         return Err(ListError::Padding);
     }
-    Ok(1 + size)
+    Ok(end)
+}
+
+/// Unpacks the group of `count` codes at the front of the bytes, and returns how many bytes it has. Its codes are the first of
+/// `codes`.
+pub(crate) fn unpack_group(count: usize, bytes: &[u8], codes: &mut [u32]) -> usize
+    requires count { count ≤ LONGEST_GROUP }
+    requires room { length codes.old ≡ LONGEST_GROUP }
+    requires width { slice_index bytes.now 0 ≤ 32 }
+    requires within { group_end count bytes.now ≤ length bytes.now }
+    ensures codes { codes.new ≡ all_codes count (slice_index bytes.now 0) (drop 1 bytes.now) }
+    ensures end { result ≡ group_end count bytes.now }
+    ensures end_within { result ≤ length bytes.now }
+{
+    let width = bytes[0];
+    let end = 1 + group_size(count, width);
+    unpack_cut(width, &bytes[1..end], codes);
+    end
 }
 
 /// How many bytes the group of the codes has.

@@ -1,12 +1,12 @@
 //! The header of version 3: one byte of lanes, kind and a count below 15, or the count as a number after it.
 
-ghost use Rattle.std.specs.Prelude.{◌≡◌, ℕ, ◌+◌, ◌*◌, ◌^◌, ◌≤◌, IfOk, length, drop, take};
+ghost use Rattle.std.specs.Prelude.{◌≡◌, ℕ, ◌+◌, ◌*◌, ◌^◌, ◌≤◌, IfOk, None, length, drop, take};
 ghost use Rattle.bitpack_lists.specs.declared.list_kind.ListKind.{ListKind};
 ghost use Rattle.bitpack_lists.specs.Numbers.{number_end, number_value};
 ghost use Rattle.bitpack_lists.specs.Parts.{FindsFault};
 ghost use Rattle.bitpack_lists.specs.Version3.{count3, count_fault, header3, header_end, header_fault3, kind3};
 
-use super::number::{number_len, read_number, write_number};
+use super::number::{number_len, test_number, unpack_number, write_number};
 use crate::header::LONGEST_LIST;
 use crate::list_error::ListError;
 use crate::list_kind::ListKind;
@@ -23,10 +23,10 @@ pub(crate) struct ShortHeader {
 }
 
 impl ShortHeader {
-    /// Reads the header of a text, for a packer of `lanes` lanes.
+    /// Tests the header of a text, for a packer of `lanes` lanes.
     #[tactic(auto, unfolding(crate::specs::Version3::header_fault3))]
     #[inline(always)]
-    pub(crate) fn read(lanes: usize, bytes: &[u8]) -> Result<ShortHeader, ListError>
+    pub(crate) fn test(lanes: usize, bytes: &[u8]) -> Result<ShortHeader, ListError>
         ensures fault { FindsFault result (header_fault3 lanes bytes.now) }
         ensures kind { IfOk result (λ header. header.kind ≡ kind3 bytes.now) }
         ensures count { IfOk result (λ header. header.count ≡ count3 bytes.now) }
@@ -41,12 +41,10 @@ impl ShortHeader {
         if first < 64 {
             return Err(ListError::BadVersion(first));
         }
-        let kind = match first / 16 % 4 {
-            0 => ListKind::Plain,
-            1 => ListKind::Sorted,
-            2 => ListKind::StrictlySorted,
-            _ => return Err(ListError::BadKind(3)),
-        };
+        if first / 16 % 4 == 3 {
+            return Err(ListError::BadKind(3));
+        }
+        let kind = ListKind::of_byte(first / 16 % 4);
         let found = lanes_of(first / 64);
         if found as usize != lanes {
             return Err(ListError::WrongLanes(found));
@@ -59,12 +57,39 @@ impl ShortHeader {
                 end: 1,
             });
         }
-        let (count, size) = read_count(&bytes[1..])?;
+        let (count, size) = test_count(&bytes[1..])?;
         Ok(ShortHeader {
             kind,
             count,
             end: 1 + size,
         })
+    }
+
+    /// The header of a text, which has no fault.
+    pub(crate) fn of_bytes(bytes: &[u8]) -> ShortHeader
+        requires sound { (lanes : ℕ) × (header_fault3 lanes bytes.now ≡ None) }
+        ensures kind { result.kind ≡ kind3 bytes.now }
+        ensures count { result.count ≡ count3 bytes.now }
+        ensures end { result.end ≡ header_end bytes.now }
+        ensures few { result.count ≤ 2 ^ 28 }
+        ensures within { result.end ≤ length bytes.now }
+    {
+        let first = bytes[0];
+        let kind = ListKind::of_byte(first / 16 % 4);
+        let count = (first % 16) as usize;
+        if count < COUNTED {
+            return ShortHeader {
+                kind,
+                count,
+                end: 1,
+            };
+        }
+        let (count, size) = unpack_number(&bytes[1..]);
+        ShortHeader {
+            kind,
+            count: count as usize,
+            end: 1 + size,
+        }
     }
 }
 
@@ -81,16 +106,16 @@ fn lanes_of(code: u8) -> u8
     }
 }
 
-/// Reads the count at the front of the bytes, and how many bytes it has.
+/// Tests the count at the front of the bytes, and returns it and how many bytes it has.
 #[tactic(auto, unfolding(crate::specs::Version3::count_fault))]
-fn read_count(bytes: &[u8]) -> Result<(usize, usize), ListError>
+fn test_count(bytes: &[u8]) -> Result<(usize, usize), ListError>
     ensures fault { FindsFault result (count_fault bytes.now) }
     ensures value { IfOk result (λ found. found.0 ≡ number_value bytes.now) }
     ensures end { IfOk result (λ found. found.1 ≡ number_end bytes.now) }
     ensures few { IfOk result (λ found. found.0 ≤ 2 ^ 28) }
     ensures within { IfOk result (λ found. found.1 ≤ length bytes.now) }
 {
-    let (count, size) = read_number(bytes)?;
+    let (count, size) = test_number(bytes)?;
     let count = count as usize;
     if count < COUNTED {
         return Err(ListError::BadNumber);

@@ -1,6 +1,6 @@
 //! Numbers of seven bits a byte, the lowest first, with 128 added to every byte but the last.
 
-ghost use Rattle.std.specs.Prelude.{◌≡◌, ◌≤◌, IfOk, length, take};
+ghost use Rattle.std.specs.Prelude.{◌≡◌, ◌≤◌, IfOk, None, length, take};
 ghost use Rattle.bitpack_lists.specs.Numbers.{number, number_end, number_fault, number_value};
 ghost use Rattle.bitpack_lists.specs.Parts.{FindsFault};
 
@@ -9,9 +9,9 @@ use crate::list_error::ListError;
 /// The most bytes of a number.
 pub(crate) const LONGEST_NUMBER: usize = 5;
 
-/// Reads the number at the front of the bytes: its value and how many bytes it has.
+/// Tests the number at the front of the bytes, and returns its value and how many bytes it has.
 #[inline(always)]
-pub(crate) fn read_number(bytes: &[u8]) -> Result<(u32, usize), ListError>
+pub(crate) fn test_number(bytes: &[u8]) -> Result<(u32, usize), ListError>
     ensures fault { FindsFault result (number_fault bytes.now) }
     ensures value { IfOk result (λ found. found.0 ≡ number_value bytes.now) }
     ensures end { IfOk result (λ found. found.1 ≡ number_end bytes.now) }
@@ -35,6 +35,23 @@ pub(crate) fn read_number(bytes: &[u8]) -> Result<(u32, usize), ListError>
         }
     }
     Err(ListError::BadNumber)
+}
+
+/// The value of the number at the front of the bytes, which has no fault, and how many bytes it has.
+#[inline(always)]
+pub(crate) fn unpack_number(bytes: &[u8]) -> (u32, usize)
+    requires sound { number_fault bytes.now ≡ None }
+    ensures value { result.0 ≡ number_value bytes.now }
+    ensures end { result.1 ≡ number_end bytes.now }
+    ensures within { result.1 ≤ length bytes.now }
+{
+    let mut value = (bytes[0] % 128) as u64;
+    let mut index = 0;
+    while bytes[index] >= 128 {
+        index += 1;
+        value += ((bytes[index] % 128) as u64) << (7 * index);
+    }
+    (value as u32, index + 1)
 }
 
 /// How many bytes a number has.

@@ -9,7 +9,7 @@ ghost use Rattle.bitpack_lists.specs.inner.Opening3.{EntriesAreSound, IsStated3}
 use super::codes::to_values;
 use super::group::LONGEST_GROUP;
 use super::header::ShortHeader;
-use super::tail::read_tail;
+use super::tail::test_tail;
 use crate::blocks::entry::ENTRY_LEN;
 use crate::blocks::order::first_out;
 use crate::blocks::reads::Reads;
@@ -34,7 +34,7 @@ pub(crate) fn test<P: BitPacker>(packer: &P, bytes: &[u8]) -> Result<StatedText,
     ensures fault { FindsFault result (fault3 P.lanes bytes.now) }
     ensures stated { IfOk result (IsStated3 P.lanes bytes.now) }
 {
-    let header = ShortHeader::read(P::BLOCK_LEN / 32, bytes)?;
+    let header = ShortHeader::test(P::BLOCK_LEN / 32, bytes)?;
     let list = Header {
         kind: header.kind,
         count: header.count,
@@ -71,7 +71,7 @@ fn test_rest<P: BitPacker>(
     let len = header.count % P::BLOCK_LEN;
     let blocks = test_blocks(packer, header, 0, rest)?;
     let values = &mut room[..len];
-    let later = read_tail(header.count / P::BLOCK_LEN, &rest[blocks.end..], values)?;
+    let later = test_tail(header.count / P::BLOCK_LEN, &rest[blocks.end..], values)?;
     to_values(blocks.kind, values);
     let tail_out = first_out(header.kind, header.count - len, blocks.last, values);
     if let Some(position) = blocks.out.or(tail_out) {
@@ -88,17 +88,13 @@ pub(crate) fn stated<P: BitPacker>(bytes: &[u8]) -> StatedText
     requires sound { fault3 P.lanes bytes.now ≡ None }
     ensures { IsStated3 P.lanes bytes.now result }
 {
-    match ShortHeader::read(P::BLOCK_LEN / 32, bytes) {
-        Ok(header) => {
-            let blocks = header.count / P::BLOCK_LEN;
-            let (start, tail_kind) = end_of_blocks::<P>(header.kind, blocks, &bytes[header.end..]);
-            StatedText {
-                header,
-                start,
-                tail_kind,
-            }
-        }
-        Err(_) => unreachable!(),
+    let header = ShortHeader::of_bytes(bytes);
+    let blocks = header.count / P::BLOCK_LEN;
+    let (start, tail_kind) = end_of_blocks::<P>(header.kind, blocks, &bytes[header.end..]);
+    StatedText {
+        header,
+        start,
+        tail_kind,
     }
 }
 

@@ -1,20 +1,20 @@
 //! The tail of a list: its codes in groups, after the first one as a number if the list has no whole block.
 
-ghost use Rattle.std.specs.Prelude.{◌≡◌, ℕ, List, ◌+◌, ◌^◌, ◌<◌, ◌≤◌, OnOk, IfOk, min, length, take};
+ghost use Rattle.std.specs.Prelude.{◌≡◌, ℕ, List, ◌+◌, ◌^◌, ◌<◌, ◌≤◌, IfOk, None, OnOk, length, min, take};
 ghost use Rattle.bitpack_lists.specs.Groups.{AreGroups, after_groups, groups_codes, groups_fault, groups_of};
 ghost use Rattle.bitpack_lists.specs.Parts.{FindsFault};
 ghost use Rattle.bitpack_lists.specs.inner.CodeSteps.{EndsGroup};
 ghost use Rattle.bitpack_lists.specs.Version3.{IsTail3, after_tail3, tail_codes3, tail_fault3};
 
-use super::group::{LONGEST_GROUP, group_len, read_group, write_group};
-use super::number::{number_len, read_number, write_number};
+use super::group::{LONGEST_GROUP, group_len, test_group, unpack_group, write_group};
+use super::number::{number_len, test_number, unpack_number, write_number};
 use crate::list_error::ListError;
 
-/// Reads the tail of as many codes as the slice has, after `blocks` blocks, and returns the bytes after it. After a refusal the codes
+/// Tests the tail of as many codes as the slice has, after `blocks` blocks, and returns the bytes after it. After a refusal the codes
 /// may be any.
 #[tactic(auto, unfolding(crate::specs::Version3::tail_fault3, crate::specs::Version3::tail_codes3, crate::specs::Version3::after_tail3))]
 #[inline(always)]
-pub(crate) fn read_tail<'a>(
+pub(crate) fn test_tail<'a>(
     blocks: usize,
     bytes: &'a [u8],
     codes: &mut [u32],
@@ -26,21 +26,17 @@ pub(crate) fn read_tail<'a>(
     ensures rest { IfOk result (λ rest. rest.now ≡ after_tail3 blocks (length codes.old) bytes.now) }
 {
     if blocks == 0 && codes.len() > 0 {
-        let (first, size) = read_number(bytes)?;
+        let (first, size) = test_number(bytes)?;
         codes[0] = first;
-        let rest = read_groups(0, &bytes[size..], &mut codes[1..])?;
+        let rest = test_groups(0, &bytes[size..], &mut codes[1..])?;
         return Ok(rest);
     }
-    read_groups(blocks, bytes, codes)
+    test_groups(blocks, bytes, codes)
 }
 
-/// Reads the groups of as many codes as the slice has, from block number `block` on, and returns the bytes after them. After a
+/// Tests the groups of as many codes as the slice has, from block number `block` on, and returns the bytes after them. After a
 /// refusal the codes may be any.
-pub(crate) fn read_groups<'a>(
-    block: usize,
-    bytes: &'a [u8],
-    codes: &mut [u32],
-) -> Result<&'a [u8], ListError>
+fn test_groups<'a>(block: usize, bytes: &'a [u8], codes: &mut [u32]) -> Result<&'a [u8], ListError>
     requires block { block ≤ 2 ^ 28 }
     requires few { length codes.old ≤ 2 ^ 28 }
     ensures fault { FindsFault result (groups_fault (groups_of (length codes.old)) block (length codes.old) bytes.now) }
@@ -53,11 +49,46 @@ pub(crate) fn read_groups<'a>(
     for index in 0..(codes.len() + 31) / LONGEST_GROUP {
         let from = LONGEST_GROUP * index;
         let count = next_len(codes.len() - from);
-        let end = read_group(block + index, count, rest, &mut group)?;
+        let end = test_group(block + index, count, rest, &mut group)?;
         codes[from..from + count].copy_from_slice(&group[..count]);
         rest = &rest[end..];
     }
     Ok(rest)
+}
+
+/// Unpacks the tail of as many codes as the slice has, after `blocks` blocks. It has no fault.
+#[tactic(auto, unfolding(crate::specs::Version3::tail_fault3, crate::specs::Version3::tail_codes3))]
+#[inline(always)]
+pub(crate) fn unpack_tail(blocks: usize, bytes: &[u8], codes: &mut [u32])
+    requires few { length codes.old ≤ 2 ^ 28 }
+    requires sound { tail_fault3 blocks (length codes.old) bytes.now ≡ None }
+    ensures { codes.new ≡ tail_codes3 blocks (length codes.old) bytes.now }
+{
+    if blocks == 0 && codes.len() > 0 {
+        let (first, size) = unpack_number(bytes);
+        codes[0] = first;
+        unpack_groups(&bytes[size..], &mut codes[1..]);
+        return;
+    }
+    unpack_groups(bytes, codes);
+}
+
+/// Unpacks the groups of as many codes as the slice has. They have no fault.
+fn unpack_groups(bytes: &[u8], codes: &mut [u32])
+    requires few { length codes.old ≤ 2 ^ 28 }
+    requires sound { (block : ℕ)
+        × (groups_fault (groups_of (length codes.old)) block (length codes.old) bytes.now ≡ None) }
+    ensures { codes.new ≡ groups_codes (groups_of (length codes.old)) (length codes.old) bytes.now }
+{
+    let mut rest = bytes;
+    let mut group = [0; LONGEST_GROUP];
+    for index in 0..(codes.len() + 31) / LONGEST_GROUP {
+        let from = LONGEST_GROUP * index;
+        let count = next_len(codes.len() - from);
+        let end = unpack_group(count, rest, &mut group);
+        codes[from..from + count].copy_from_slice(&group[..count]);
+        rest = &rest[end..];
+    }
 }
 
 /// How many codes the next group has, if `left` codes are left.

@@ -7,7 +7,7 @@ use Rattle.bitpacking.specs.Bits.{AreBytes}
 use Rattle.bitpack_lists.specs.declared.list_kind.ListKind.{ListKind}
 use Rattle.bitpack_lists.specs.declared.list_kind.ListKind.TheVariants as lists
 use Rattle.bitpacking.specs.Words.{bytes_of_words, word}
-use Rattle.bitpack_lists.specs.Parts.{kind_byte, header, header_fault, BeginsWithHeader, count_of}
+use Rattle.bitpack_lists.specs.Parts.{kind_byte, kind_of_byte, header, header_fault, BeginsWithHeader, count_of}
 use Rattle.bitpack_lists.proofs.lemmas.blocks.PartLemmas.{AreBytes-cons, AreBytes-drop, AreBytes-word, bytes-word, word-bytes}
 
 -- A test that was passed.
@@ -15,11 +15,11 @@ pub passed : {A : Type 0} (test : Bool) (fault : A) (rest : Option A) → cond t
 passed true fault rest e = absurd cc
 passed false fault rest e = (refl, e)
 
-kind_of : (byte : ℕ) → byte ≤ 2 → (kind : ListKind) × (byte ≡ kind_byte kind)
-kind_of zero le = (lists.Plain, refl)
-kind_of (suc zero) le = (lists.Sorted, refl)
-kind_of (suc (suc zero)) le = (lists.StrictlySorted, refl)
-kind_of (suc (suc (suc byte))) le = absurd (omega arith)
+pub kind_byte-of : (code : ℕ) → code ≤ 2 → kind_byte (kind_of_byte code) ≡ code
+kind_byte-of zero le = refl
+kind_byte-of (suc zero) le = refl
+kind_byte-of (suc (suc zero)) le = refl
+kind_byte-of (suc (suc (suc code))) le = absurd (omega arith)
 
 pub kind_byte-le : (kind : ListKind) → kind_byte kind ≤ 2
 kind_byte-le lists.Plain = omega arith
@@ -107,7 +107,7 @@ header_fault-none version lanes kind count bytes begins =
     ) refl
 
 pub header_from_fault : (version lanes : ℕ) (bytes : List ℕ) → AreBytes bytes → header_fault version lanes bytes ≡ None
-    → (kind : ListKind) × BeginsWithHeader version lanes kind (count_of bytes) bytes
+    → BeginsWithHeader version lanes (kind_of_byte (get_or bytes 1 0)) (count_of bytes) bytes
 unfolding header_fault
 header_from_fault version lanes bytes small none =
     let one = passed _ _ _ none in
@@ -115,8 +115,5 @@ header_from_fault version lanes bytes small none =
     let three = passed _ _ _ two.1 in
     let four = passed _ _ _ three.1 in
     let five = passed _ _ _ four.1 in
-    let found = kind_of (get_or bytes 1 0) (ltb-false _ _ three.0) in (
-      found.0,
-      header_from_bytes version lanes found.0 bytes small (ltb-false _ _ one.0) (eqb-true _ _ (not-false _ two.0)) found.1
-          (eqb-true _ _ (not-false _ four.0)) (ltb-false _ _ five.0),
-    )
+    header_from_bytes version lanes (kind_of_byte (get_or bytes 1 0)) bytes small (ltb-false _ _ one.0) (eqb-true _ _ (not-false _ two.0))
+    (sym (kind_byte-of (get_or bytes 1 0) (ltb-false _ _ three.0))) (eqb-true _ _ (not-false _ four.0)) (ltb-false _ _ five.0)

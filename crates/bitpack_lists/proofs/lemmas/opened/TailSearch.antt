@@ -13,7 +13,7 @@ use Rattle.bitpack_lists.specs.Chains.{next_kind}
 use Rattle.bitpack_lists.specs.declared.list_error.ListError.{ListError}
 use Rattle.bitpack_lists.specs.declared.opened.PackedList.{PackedList}
 use Rattle.bitpack_lists.specs.declared.version.Version.TheVariants as versions
-use Rattle.bitpack_lists.specs.Groups.{group_codes, group_end, group_fault, groups_codes, groups_fault, groups_of}
+use Rattle.bitpack_lists.specs.Groups.{group_codes, group_end, groups_codes, groups_fault, groups_of}
 use Rattle.bitpack_lists.specs.Numbers.{number_end, number_fault, number_value}
 use Rattle.bitpack_lists.specs.Parts.{tail_values}
 use Rattle.bitpack_lists.specs.Search.{first_reaching}
@@ -22,7 +22,7 @@ use Rattle.bitpack_lists.specs.Version3.{has_first, tail_codes3, tail_fault3, ta
 use Rattle.bitpack_lists.specs.inner.CodeSteps.{sums}
 use Rattle.bitpack_lists.specs.inner.Searching.{blocks_of, rest_of, value_of}
 use Rattle.bitpack_lists.proofs.lemmas.v3.CodeLemmas.{sums-sorted, sums-strict}
-use Rattle.bitpack_lists.proofs.lemmas.blocks.GroupSteps.{codes-next, fault-here, tail-first}
+use Rattle.bitpack_lists.proofs.lemmas.blocks.GroupSteps.{codes-next, tail-first}
 use Rattle.bitpack_lists.proofs.lemmas.opened.OpenedLists.{front_values, tail_at, tail_right}
 use Rattle.bitpack_lists.proofs.lemmas.blocks.Orders.{least_below-further}
 use Rattle.bitpack_lists.proofs.lemmas.blocks.SearchLemmas.{least_below-none, reaches}
@@ -79,16 +79,7 @@ length-values_of (StrictlySorted (Some before)) xs = ap length (sym (sums-strict
 
 -- ---- one group of those that are left
 
-module _ (groups block total i len : ℕ) (rest : List ℕ) (lt : i < groups) (is : len ≡ min 32 (total - 32 * i)) where
-  pub group_right : groups_fault (groups - i) (block + i) (total - 32 * i) rest ≡ None → group_fault (block + i) len rest ≡ None
-  group_right none = either (group_fault (block + i) len rest) refl
-    where
-      either : (fault : Option ListError) → group_fault (block + i) len rest ≡ fault → group_fault (block + i) len rest ≡ None
-      either None e = e
-      either (Some fault) e =
-          let clash : Some fault ≡ None = sym (fault-here groups block total i len rest lt is fault e) ∙ none in
-          absurd cc
-
+module _ (groups total i len : ℕ) (rest : List ℕ) (lt : i < groups) (is : len ≡ min 32 (total - 32 * i)) where
   -- The values from an index on are those of the group, and then those of the groups after it.
   pub next_part : (kind : Kind) (from : ℕ) (part all : List ℕ) → 1 ≤ len → length part ≡ len → part ≡ values_of kind (group_codes len rest)
       → drop from all ≡ values_of kind (groups_codes (groups - i) (total - 32 * i) rest)
@@ -98,7 +89,7 @@ module _ (groups block total i len : ℕ) (rest : List ℕ) (lt : i < groups) (i
       let codes : List ℕ = group_codes len rest in
       let later : List ℕ = groups_codes (groups - (i + 1)) (total - 32 * (i + 1)) (drop (group_end len rest) rest) in
       let many : length codes ≡ len - 1 + 1 = omega (arith, some, long, ap length part_is, length-values_of kind codes) in
-      all_is ∙ ap (values_of kind) (codes-next groups block total i len rest lt is) ∙ values_of-append kind codes later (len - 1) many
+      all_is ∙ ap (values_of kind) (codes-next groups total i len rest lt is) ∙ values_of-append kind codes later (len - 1) many
       ∙ ap (λ zs. zs ++ values_of (next_kind kind (get_or zs (len - 1) 0)) later) (sym part_is)
 
 -- ---- a part of all values, from an index on

@@ -93,8 +93,8 @@ pub text_from_none : (lanes : ℕ) (bytes : List ℕ) → 0 < lanes → AreBytes
     → (kind : ListKind) × (values : List ℕ) × List1 lanes kind values bytes
 text_from_none lanes bytes some small none =
     let header = header_from_fault 1 lanes bytes small (header_right lanes bytes none) in
-    let found = list_from_none lanes (count_of bytes) header.0 bytes some small header.1 none in
-    (header.0, found.0, found.2)
+    let found = list_from_none lanes (count_of bytes) _ bytes some small header none in
+    (_, found.0, found.2)
 
 pub no_fault1 : NoFault1
 no_fault1 lanes bytes some small = (

@@ -42,7 +42,7 @@ pub no_fault2 : NoFault2
 no_fault2 lanes bytes some small = (
   λ none.
       let header = header_from_fault 2 lanes bytes small (header_right2 lanes bytes none) in
-      let found = list_from_none2 lanes (count_of bytes) header.0 bytes some small header.1 none in
-      (header.0, found.0, found.2),
+      let found = list_from_none2 lanes (count_of bytes) _ bytes some small header none in
+      (_, found.0, found.2),
   λ found. none_from_list2 lanes found.0 found.1 bytes some small found.2,
 )

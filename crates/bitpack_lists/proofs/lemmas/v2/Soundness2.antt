@@ -79,7 +79,7 @@ pub sound_from_none2 : (lanes : ℕ) (bytes : List ℕ) → AreBytes bytes → f
 unfolding fault2
 sound_from_none2 lanes bytes small none =
     let (right, later) = none_first (header_fault 2 lanes bytes) _ none in
-    ((header_from_fault 2 lanes bytes small right).1.few, sound_from_none lanes (count_of bytes) (kind_of_byte (get_or bytes 1 0)) (drop 7 bytes) later)
+    ((header_from_fault 2 lanes bytes small right).few, sound_from_none lanes (count_of bytes) (kind_of_byte (get_or bytes 1 0)) (drop 7 bytes) later)
 
 -- ---- from sound bytes to their values
 

@@ -1,8 +1,8 @@
 -- Groups: a body that is cut, its codes, and the tests of a reader.
--- Serves v3.
-use Rattle.std.proofs.Common.{◌≡◌, ℕ, zero, suc, ◌+◌, ◌-◌, ◌*◌, ◌%◌, ◌^◌, ◌<◌, ◌≤◌, true, false, ltb, Some, None, List, [], ◌∷◌, ◌++◌, length, take, drop, replicate, refl, sym, ◌∙◌, ap, arith}
+-- Serves opened, v3.
+use Rattle.std.proofs.Common.{◌≡◌, ℕ, zero, suc, ◌+◌, ◌-◌, ◌*◌, ◌%◌, ◌^◌, ◌<◌, ◌≤◌, true, false, ltb, Some, None, List, [], ◌∷◌, ◌++◌, length, take, drop, replicate, get_or, refl, sym, ◌∙◌, ap, arith}
 use Rattle.std.specs.List.{list_all}
-use Rattle.std.proofs.lemmas.Bool.{lt-ltb, le-ltb}
+use Rattle.std.proofs.lemmas.Bool.{lt-ltb, le-ltb, ltb-false}
 use Rattle.std.proofs.Math.Pow.{pow_mono}
 use Rattle.std.proofs.lemmas.Nat.{leading_length, mul-le, pow_pos, one_shl}
 use Rattle.std.proofs.lemmas.List.{drop-replicate, take-replicate, take-take, take_all, length-append, length-replicate, length-take-le}
@@ -13,7 +13,8 @@ use Rattle.bitpacking.specs.Width.{Fits, Least}
 use Rattle.bitpacking.specs.Layout.{codes_of, size, Layout}
 use Rattle.bitpacking.proofs.ForCallers.{same_least_width, AreBytes-take, one_layout_bytes, one_layout_codes}
 use Rattle.bitpack_lists.specs.declared.list_error.ListError.TheVariants.{Short, BadWidth, LooseWidth, Padding}
-use Rattle.bitpack_lists.specs.Groups.{group_size, padded, IsGroup, body_of, all_codes, are_loose, are_zeros, group_fault}
+use Rattle.bitpack_lists.specs.Groups.{group_size, padded, IsGroup, body_of, all_codes, are_loose, are_zeros, group_end, group_fault}
+use Rattle.bitpack_lists.proofs.lemmas.blocks.HeaderLemmas.{passed}
 
 -- ---- sizes
 
@@ -91,6 +92,17 @@ module _ (block count width : ℕ) (bytes rest : List ℕ) (is : bytes ≡ width
     unfolding group_fault
     right test =
         ap (group_fault block count) is ∙ rw (le-ltb 32 width narrow, le-ltb (length rest) (group_size count width) room, least, test) refl
+
+-- What no fault says: the width is one of a block, and the bytes go on to the end of the group.
+pub group_fits : (block count : ℕ) (bytes : List ℕ) → group_fault block count bytes ≡ None
+    → (get_or bytes 0 0 ≤ 32) × (group_end count bytes ≤ length bytes)
+unfolding group_fault
+group_fits block count [] none = absurd cc
+group_fits block count (width ∷ bytes) none =
+    let one = passed _ _ _ none in
+    let two = passed _ _ _ one.1 in
+    let room : group_size count width ≤ length bytes = ltb-false (length bytes) (group_size count width) two.0 in
+    (ltb-false 32 width one.0, omega (arith, room))
 
 -- ---- widths
 

@@ -1,6 +1,6 @@
 -- Bytes without a fault begin with the number that is read from them, and the other way round.
 -- Serves laws, v3.
-use Rattle.std.proofs.Common.{◌≡◌, ℕ, zero, suc, ◌+◌, ◌*◌, ◌/◌, ◌%◌, ◌^◌, ◌<◌, ◌≤◌, false, ltb, ◌&&◌, List, [], ◌∷◌, ◌++◌, length, take, get_or, refl, sym, ◌∙◌, ap, arith, add-one, inl, inr}
+use Rattle.std.proofs.Common.{◌≡◌, ℕ, zero, suc, ◌+◌, ◌*◌, ◌/◌, ◌%◌, ◌^◌, ◌<◌, ◌≤◌, None, false, ltb, ◌&&◌, List, [], ◌∷◌, ◌++◌, length, take, get_or, refl, sym, ◌∙◌, ap, arith, add-one, inl, inr}
 use Rattle.std.specs.Prelude.{◌==◌}
 use Rattle.std.proofs.lemmas.Bool.{lt-ltb, le-ltb, eqb-false, leb-false, cases_lt, ltb-false}
 use Rattle.std.proofs.lemmas.Nat.{pow_pos, mul-le}
@@ -168,9 +168,16 @@ number_reads_back x rest lt =
       number_end-is i bytes refl ∙ end,
     )
 
-pub one_number : OneNumber
+-- Bytes without a fault have the whole number, and no 0 at its end.
+pub record IsWhole (bytes : List ℕ) : Type 0 where
+  pub few : going_on 5 bytes < 5
+  pub within : going_on 5 bytes < length bytes
+  pub last : (get_or bytes (going_on 5 bytes) 0 == 0 && ltb 0 (going_on 5 bytes)) ≡ false
+  pub value : number_value bytes < 2 ^ 32
+
+pub whole_number : (bytes : List ℕ) → number_fault bytes ≡ None → IsWhole bytes
 unfolding number_fault
-one_number bytes small none =
+whole_number bytes none =
     let i : ℕ = going_on 5 bytes in
     let one = passed _ _ _ none in
     let two = passed _ _ _ one.1 in
@@ -178,12 +185,22 @@ one_number bytes small none =
     let four = passed _ _ _ three.1 in
     let not_five : i ≡ 5 → ⊥ = eqb-false i 5 one.0 in
     let most : i ≤ 5 = going_on-le 5 bytes in
-    let within : i < length bytes = leb-false (length bytes) i two.0 in
-    let value : number_value bytes < 2 ^ 32 = leb-false (2 ^ 32) (number_value bytes) four.0 in
+    record {
+      few = omega (arith, not_five);
+      within = leb-false (length bytes) i two.0;
+      last = three.0;
+      value = leb-false (2 ^ 32) (number_value bytes) four.0;
+    }
+
+pub one_number : OneNumber
+one_number bytes small none =
+    let i : ℕ = going_on 5 bytes in
+    let whole = whole_number bytes none in
+    let few : i < 5 = whole.few in
     let end : number_end bytes ≡ suc i = number_end-is i bytes refl ∙ add-one i in
     let is : number_value bytes ≡ joined 7 (low bytes) (suc i) = number_value-is i bytes refl ∙ ap (joined 7 (low bytes)) (add-one i) in
-    let same = read-is 4 i bytes small refl (omega (arith, not_five)) within (λ some. last_some i (get_or bytes i 0) some three.0) in (
-      value,
+    let same = read-is 4 i bytes small refl (omega (arith, few)) whole.within (λ some. last_some i (get_or bytes i 0) some whole.last) in (
+      whole.value,
       rw (end, is) same,
       λ other rest lt e.
           let back = number_reads_back other rest lt in

@@ -10,17 +10,11 @@ use Rattle.bitpack_lists.specs.Numbers.{number, number_end, number_fault, number
 use Rattle.bitpack_lists.specs.Parts.{kind_byte, kind_of_byte}
 use Rattle.bitpack_lists.specs.Version3.{HasCode, count3, count_fault, header3, header_end, header_fault3, kind3, lanes_code, lanes_of}
 use Rattle.bitpack_lists.proofs.lemmas.blocks.FaultLemmas.{none_first}
-use Rattle.bitpack_lists.proofs.lemmas.blocks.HeaderLemmas.{kind_byte-le, passed}
+use Rattle.bitpack_lists.proofs.lemmas.blocks.HeaderLemmas.{kind_byte-le, kind_byte-of, passed}
 use Rattle.bitpack_lists.proofs.lemmas.v3.NumberLaws.{number_reads_back, one_number}
 use Rattle.bitpack_lists.proofs.lemmas.v2.Soundness2.{kind_of_byte-is}
 
 -- ---- the parts of the first byte
-
-kind_byte-of : (code : ℕ) → code ≤ 2 → kind_byte (kind_of_byte code) ≡ code
-kind_byte-of zero le = refl
-kind_byte-of (suc zero) le = refl
-kind_byte-of (suc (suc zero)) le = refl
-kind_byte-of (suc (suc (suc code))) le = absurd (omega arith)
 
 lanes_code-of : (code : ℕ) → 1 ≤ code → code ≤ 3 → lanes_code (lanes_of code) ≡ code
 lanes_code-of zero some few = absurd (omega arith)
@@ -175,6 +169,20 @@ header_from_none3 lanes (byte ∷ later) small none =
             rw plain (ap (λ b. b ∷ later) head ∙ sym (small_header lanes count (kind3 (byte ∷ later)) later lt)),
           )
     ]
+
+pub some_byte : (lanes : ℕ) (bytes : List ℕ) → header_fault3 lanes bytes ≡ None → 0 < length bytes
+unfolding header_fault3
+some_byte lanes bytes none = ltb-false (length bytes) 1 (passed _ _ _ none).0
+
+-- A count that has bytes of its own has no fault.
+pub counted_right : (lanes : ℕ) (bytes : List ℕ) → header_fault3 lanes bytes ≡ None → get_or bytes 0 0 % 16 ≡ 15
+    → (number_fault (drop 1 bytes) ≡ None) × (15 ≤ number_value (drop 1 bytes)) × (number_value (drop 1 bytes) ≤ 2 ^ 28)
+counted_right lanes [] none full = absurd (omega (arith, full))
+counted_right lanes (byte ∷ later) none full =
+    let (above, other_kind, lanes_is, left_none) = first_right lanes byte later none in
+    let counted : (byte % 16 == 15) ≡ true = eq-eqb (byte % 16) 15 full in
+    let given : count_fault later ≡ None = rw counted at left_none in
+    count_right later given
 
 -- What is after the header, as code lends it.
 pub rest_lent : (bytes : List ℕ) (end : ℕ) → end ≡ header_end bytes → take (length bytes - end) (drop end bytes) ≡ drop (header_end bytes) bytes

@@ -1,20 +1,31 @@
--- A fault of the header would be one of the text.
-use Rattle.std.proofs.Common.{◌≡◌, ◌/◌, Some, None, sym, subst, ◌∙◌}
+-- The header of a text without a fault has none.
+use Rattle.std.proofs.Common.{◌≡◌, ℕ, List, None, get_or, subst}
+use Rattle.bitpacking.specs.Bits.{AreBytes}
+use Rattle.bitpacking.proofs.ForCallers.{AreBytes-from_slice}
 use Rattle.bitpack_lists.specs.Opened.{kind_of, values}
 use Rattle.bitpack_lists.specs.declared.version.Version.TheVariants as versions
 use Rattle.bitpack_lists.specs.Texts.{IsTextOfNoOther}
-use Rattle.bitpack_lists.specs.Version2.{List2}
-use Rattle.bitpack_lists.proofs.lemmas.blocks.ListLemmas.{lanes-is}
+use Rattle.bitpack_lists.specs.Parts.{BeginsWithHeader, count_of, kind_of_byte}
+use Rattle.bitpack_lists.specs.Version2.{List2, fault2}
+use Rattle.bitpack_lists.proofs.lemmas.blocks.HeaderLemmas.{header_bytes, header_from_fault}
 use Rattle.bitpack_lists.proofs.lemmas.opened.OpenedValues.{opened_list2, opened_only2}
-use Rattle.bitpack_lists.proofs.lemmas.v2.Soundness2.{header_first2}
+use Rattle.bitpack_lists.proofs.lemmas.v2.Soundness2.{header_right2}
 use Rattle.bitpack_lists.proofs.opened.PackedList.from_validated.Goals as goal
 
-pub unreachable-requires : goal.unreachable-requires
-unreachable-requires g c =
-    let whole : c.BLOCK_LEN.result / 32 ≡ g.P.BitPacker.lanes = lanes-is g.P.BitPacker.lanes c.BLOCK_LEN.result (c.BLOCK_LEN.ensures ∙ g.met.P.BitPacker.block_len) in
-    let found = header_first2 g.P.BitPacker.lanes c.args.bytes.now c.in-Err.field-0 (rw whole at c.in-Err.ensures.fault) in
-    let clash : Some c.in-Err.field-0 ≡ None = sym found ∙ c.requires.sound in
-    cc
+-- The header that is read is that of the bytes.
+module _ (lanes : ℕ) (bytes : List ℕ) (small : AreBytes bytes) (sound : fault2 lanes bytes ≡ None) where
+  begins : BeginsWithHeader 2 lanes (kind_of_byte (get_or bytes 1 0)) (count_of bytes) bytes
+  begins = header_from_fault 2 lanes bytes small (header_right2 lanes bytes sound)
+
+pub of_bytes-requires : goal.of_bytes-requires
+of_bytes-requires g c =
+    let bytes : List ℕ = c.args.bytes.now in
+    record { long = (header_bytes 2 g.P.BitPacker.lanes _ _ bytes (begins g.P.BitPacker.lanes bytes (AreBytes-from_slice bytes c.type_inv.bytes) c.requires.sound)).long }
+
+pub of_text-requires-clause-begins : goal.of_text-requires-clause-begins
+of_text-requires-clause-begins g c =
+    let bytes : List ℕ = c.args.bytes.now in
+    rw (c.of_bytes.ensures.kind, c.of_bytes.ensures.count) (begins g.P.BitPacker.lanes bytes (AreBytes-from_slice bytes c.type_inv.bytes) c.requires.sound)
 
 pub returns-clause-list : goal.returns-clause-list
 returns-clause-list g c =

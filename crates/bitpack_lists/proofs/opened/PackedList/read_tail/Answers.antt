@@ -28,8 +28,8 @@ returns-in-Two-clause-values g c = λ k lt.
 lent : (count n m : ℕ) (values : List ℕ) → m ≡ n → count % n ≤ length values → length (take (count % m) values) ≡ count % n
 lent count n m values same room = rw same (length-take-le (count % n) values room)
 
-pub unpack_tail-requires-clause-len : goal.unpack_tail-requires-clause-len
-unpack_tail-requires-clause-len g c =
+pub read_front-requires-clause-len : goal.read_front-requires-clause-len
+read_front-requires-clause-len g c =
     let whole : c.BLOCK_LEN.result ≡ 32 * g.P.BitPacker.lanes = c.BLOCK_LEN.ensures ∙ g.met.P.BitPacker.block_len in
     inl (lent c.args.self.now.count (32 * g.P.BitPacker.lanes) c.BLOCK_LEN.result c.args.values.now whole c.requires.room)
 
@@ -41,8 +41,8 @@ returns-in-Three-clause-values g c = λ k lt.
     let len : ℕ = list.count % c.BLOCK_LEN.result in
     let same = ap (λ len. list.count % len) whole in
     let given : length (take len c.args.values.now) ≡ list.count % n = lent list.count n c.BLOCK_LEN.result c.args.values.now whole c.requires.room in
-    let long : length c.unpack_tail.new.values ≡ len = c.unpack_tail.auto.values ∙ omega (arith, given, same) in
+    let long : length c.read_front.new.values ≡ len = c.read_front.auto.values ∙ omega (arith, given, same) in
     let all : List ℕ = tail_values3 g.P.BitPacker.lanes (blocks_of list) (list.count % n) list.kind (rest_of list) in
-    get_or_append_left c.unpack_tail.new.values _ 0 k (omega (arith, long, lt)) ∙ ap (λ zs. get_or zs k 0) c.unpack_tail.ensures
+    get_or_append_left c.read_front.new.values _ 0 k (omega (arith, long, lt)) ∙ ap (λ zs. get_or zs k 0) c.read_front.ensures
     ∙ get_or-take (length (take len c.args.values.now)) all k 0 (omega (arith, given, same, lt))
     ∙ sym (tail_at list g.met.P.BitPacker.some_lanes c.in-Three.is k)

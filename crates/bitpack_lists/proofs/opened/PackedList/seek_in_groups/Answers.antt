@@ -25,9 +25,11 @@ returns-then-self-eq0-clause-found g c = λ before.
 pub seek_groups-requires-clause-sound : goal.seek_groups-requires-clause-sound
 seek_groups-requires-clause-sound g c =
     let n : ℕ = 32 * g.P.BitPacker.lanes in
-    let whole : c.BLOCK_LEN-len.result ≡ n = c.BLOCK_LEN-len.ensures ∙ g.met.P.BitPacker.block_len in
-    rw whole (whole_right c.args.self.now g.met.P.BitPacker.some_lanes c.requires.version
-    (some_whole c.args.self.now.count n (omega (arith, g.met.P.BitPacker.some_lanes)) (rw whole at c.if-self-len.false)))
+    let whole : c.BLOCK_LEN-len.result ≡ n = c.BLOCK_LEN-len.ensures ∙ g.met.P.BitPacker.block_len in (
+      blocks_of c.args.self.now,
+      rw whole (whole_right c.args.self.now g.met.P.BitPacker.some_lanes c.requires.version
+          (some_whole c.args.self.now.count n (omega (arith, g.met.P.BitPacker.some_lanes)) (rw whole at c.if-self-len.false))),
+    )
 
 pub returns-clause-found : goal.returns-clause-found
 returns-clause-found g c = λ before.

@@ -12,6 +12,6 @@ returns g c = record {
       let list = c.args.self.now in
       let n : ℕ = 32 * g.P.BitPacker.lanes in
       let all : List ℕ = tail_values3 g.P.BitPacker.lanes (blocks_of list) (list.count % n) list.kind (rest_of list) in
-      ap (λ zs. get_or zs c.args.index 0) c.unpack_tail.ensures ∙ get_or-take (length c.args.values.now) all c.args.index 0 c.requires.within
+      ap (λ zs. get_or zs c.args.index 0) c.read_front.ensures ∙ get_or-take (length c.args.values.now) all c.args.index 0 c.requires.within
       ∙ sym (tail_at list g.met.P.BitPacker.some_lanes c.requires.version c.args.index);
 }

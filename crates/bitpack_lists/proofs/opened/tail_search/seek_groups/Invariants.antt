@@ -7,7 +7,7 @@ use Rattle.bitpack_lists.proofs.opened.tail_search.seek_groups.Given as goal
 abbrev pub invariant-loop-index : goal.invariant-loop-index
 invariant-loop-index l = record {
   from_is : l.from ≡ min (32 * l.index) l.count;
-  fault : groups_fault (groups_of l.count - l.index) (l.block + l.index) (l.count - 32 * l.index) l.rest ≡ None;
+  right : (block : ℕ) × (groups_fault (groups_of l.count - l.index) (block + l.index) (l.count - 32 * l.index) l.rest ≡ None);
   later : drop l.from (values_of l.fn.first_kind (groups_codes (groups_of l.count) l.count l.bytes))
       ≡ values_of l.kind (groups_codes (groups_of l.count - l.index) (l.count - 32 * l.index) l.rest);
   below : (value : ℕ → ℕ) → ((k : ℕ) → k < l.start → value k < l.target)

@@ -126,8 +126,8 @@ returns-in-Some-clause-fault g c =
     let slice = slice_is lanes count rest tested.end found.end in
     let blocks_are : count / c.BLOCK_LEN-2.result ≡ whole_blocks lanes count = ap (λ n. count / n) whole' in
     let read = fault_is lanes count kind rest _ _ _ blocks_are many slice None c.in_ok-later.ensures.fault in
-    let are = values_are lanes count kind rest _ _ _ blocks_are many slice tested.kind c.read_tail.new.codes c.to_values.new.codes found.kind c.in_ok-later.ensures.codes c.to_values.ensures in
-    let long : length c.to_values.new.codes ≡ tail_values lanes count = c.to_values.auto.codes ∙ c.read_tail.auto.codes ∙ many in
+    let are = values_are lanes count kind rest _ _ _ blocks_are many slice tested.kind c.test_tail.new.codes c.to_values.new.codes found.kind c.in_ok-later.ensures.codes c.to_values.ensures in
+    let long : length c.to_values.new.codes ≡ tail_values lanes count = c.to_values.auto.codes ∙ c.test_tail.auto.codes ∙ many in
     let order = order_is lanes count kind rest c.BLOCK_LEN.result tested.last _ c.to_values.new.codes tested.out c.first_out-tail_out.result g.met.P.BitPacker.some_lanes refl whole
     long are found.last found.out c.first_out-tail_out.ensures in
     bad_order lanes count kind rest found.fault read c.in-Some.position (sym order ∙ sym c.or.ensures ∙ c.in-Some.is)
@@ -146,8 +146,8 @@ returns-then-later-gt0-clause-fault g c =
     let slice = slice_is lanes count rest tested.end found.end in
     let blocks_are : count / c.BLOCK_LEN-2.result ≡ whole_blocks lanes count = ap (λ n. count / n) whole' in
     let read = fault_is lanes count kind rest _ _ _ blocks_are many slice None c.in_ok-later.ensures.fault in
-    let are = values_are lanes count kind rest _ _ _ blocks_are many slice tested.kind c.read_tail.new.codes c.to_values.new.codes found.kind c.in_ok-later.ensures.codes c.to_values.ensures in
-    let long : length c.to_values.new.codes ≡ tail_values lanes count = c.to_values.auto.codes ∙ c.read_tail.auto.codes ∙ many in
+    let are = values_are lanes count kind rest _ _ _ blocks_are many slice tested.kind c.test_tail.new.codes c.to_values.new.codes found.kind c.in_ok-later.ensures.codes c.to_values.ensures in
+    let long : length c.to_values.new.codes ≡ tail_values lanes count = c.to_values.auto.codes ∙ c.test_tail.auto.codes ∙ many in
     let order = order_is lanes count kind rest c.BLOCK_LEN.result tested.last _ c.to_values.new.codes tested.out c.first_out-tail_out.result g.met.P.BitPacker.some_lanes refl whole
     long are found.last found.out c.first_out-tail_out.ensures in
     let after = after_is lanes count kind rest _ _ _ blocks_are many slice _ c.in_ok-later.ensures.rest in
@@ -167,8 +167,8 @@ returns-clause-fault g c =
     let slice = slice_is lanes count rest tested.end found.end in
     let blocks_are : count / c.BLOCK_LEN-2.result ≡ whole_blocks lanes count = ap (λ n. count / n) whole' in
     let read = fault_is lanes count kind rest _ _ _ blocks_are many slice None c.in_ok-later.ensures.fault in
-    let are = values_are lanes count kind rest _ _ _ blocks_are many slice tested.kind c.read_tail.new.codes c.to_values.new.codes found.kind c.in_ok-later.ensures.codes c.to_values.ensures in
-    let long : length c.to_values.new.codes ≡ tail_values lanes count = c.to_values.auto.codes ∙ c.read_tail.auto.codes ∙ many in
+    let are = values_are lanes count kind rest _ _ _ blocks_are many slice tested.kind c.test_tail.new.codes c.to_values.new.codes found.kind c.in_ok-later.ensures.codes c.to_values.ensures in
+    let long : length c.to_values.new.codes ≡ tail_values lanes count = c.to_values.auto.codes ∙ c.test_tail.auto.codes ∙ many in
     let order = order_is lanes count kind rest c.BLOCK_LEN.result tested.last _ c.to_values.new.codes tested.out c.first_out-tail_out.result g.met.P.BitPacker.some_lanes refl whole
     long are found.last found.out c.first_out-tail_out.ensures in
     let after = after_is lanes count kind rest _ _ _ blocks_are many slice _ c.in_ok-later.ensures.rest in

@@ -2,7 +2,7 @@
 use Rattle.std.proofs.Common.{◌≡◌, ◌+◌, ◌-◌, ◌%◌, ◌<◌, suc, List, ℕ, length, drop, get_or, ap, sym, ◌∙◌, inl, inr, arith}
 use Rattle.bitpack_lists.specs.Numbers.{going_on}
 use Rattle.bitpack_lists.proofs.lemmas.v3.NumberLemmas.{going-past, going-next, value-more, number_end-is, endless, cut_off, zero_last, too_large, no_fault, joined-none, nothing_left, going-here, value-here}
-use Rattle.bitpack_lists.proofs.v3.number.read_number.Goals as goal
+use Rattle.bitpack_lists.proofs.v3.number.test_number.Goals as goal
 
 pub loop-index-init : goal.loop-index-init
 loop-index-init c = record { within = omega arith; going = omega arith; value = sym (joined-none (λ i. get_or c.args.bytes.now i 0 % 128)); below = omega arith }

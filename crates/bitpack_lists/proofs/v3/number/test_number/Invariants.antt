@@ -2,7 +2,7 @@
 use Rattle.std.proofs.Common.{◌≡◌, ◌+◌, ◌-◌, ◌*◌, ◌%◌, ◌^◌, ◌<◌, ◌≤◌, length, drop, get_or}
 use Rattle.bitpacking.specs.Words.{joined}
 use Rattle.bitpack_lists.specs.Numbers.{going_on}
-use Rattle.bitpack_lists.proofs.v3.number.read_number.Given as goal
+use Rattle.bitpack_lists.proofs.v3.number.test_number.Given as goal
 
 abbrev pub invariant-loop-index : goal.invariant-loop-index
 invariant-loop-index l = record {

@@ -1,11 +1,10 @@
 -- One group more is read.
-use Rattle.std.proofs.Common.{◌≡◌, ℕ, List, ◌+◌, ◌-◌, ◌*◌, ◌≤◌, ◌<◌, ◌++◌, min, Some, length, take, drop, sym, ◌∙◌, ap, append_assoc, arith}
+use Rattle.std.proofs.Common.{◌≡◌, ℕ, List, ◌+◌, ◌-◌, ◌*◌, ◌<◌, ◌++◌, min, Some, length, take, drop, sym, ◌∙◌, ap, arith}
 use Rattle.std.proofs.lemmas.List.{take_all, take_rest, append-nil, length-drop, length-take-le}
 use Rattle.std.proofs.lemmas.Result.{err_from_is_err_and}
-use borrow.Rule.Slice.PartMut.{put_mid}
-use Rattle.bitpack_lists.specs.Groups.{after_groups, group_codes, group_end, groups_codes, groups_fault, groups_of}
-use Rattle.bitpack_lists.proofs.lemmas.blocks.GroupSteps.{fault-here, fault-next, codes-next, after-next, length-written, written-next, no_groups-fault, no_groups-codes, no_groups-after}
-use Rattle.bitpack_lists.proofs.v3.tail.read_groups.Goals as goal
+use Rattle.bitpack_lists.specs.Groups.{after_groups, group_end, groups_fault, groups_of}
+use Rattle.bitpack_lists.proofs.lemmas.blocks.GroupSteps.{fault-here, fault-next, after-next, codes_step, no_groups-fault, no_groups-codes, no_groups-after}
+use Rattle.bitpack_lists.proofs.v3.tail.test_groups.Goals as goal
 
 pub returns-in_err-end-clause-fault : goal.returns-in_err-end-clause-fault
 returns-in_err-end-clause-fault c =
@@ -32,25 +31,19 @@ loop-index-preserved c =
     let count : k ≡ min 32 (total - 32 * i) = c.next_len-count.ensures ∙ ap (λ n. min 32 (n - 32 * i)) inv.long in
     let after : take (length rest - c.in_ok-end.end) (drop c.in_ok-end.end rest) ≡ drop (group_end k rest) rest =
     take_rest rest c.in_ok-end.end ∙ ap (λ n. drop n rest) c.in_ok-end.ensures.end in
-    let new-is : new ≡ group_codes k rest = c.copy_from_slice.ensures.after ∙ c.in_ok-end.ensures.codes in
     let size : 32 * i + k - 32 * i ≡ k = omega arith in
-    let within : 32 * i ≤ total = omega arith in
     let long : length new ≡ k =
     c.copy_from_slice.ensures.len ∙ ap (λ n. length (take n (drop (32 * i) codes))) size ∙ length-take-le k (drop (32 * i) codes) (omega (arith, length-drop (32 * i) codes)) in
-    let written : take (32 * (i + 1)) (put_mid (32 * i) (32 * i + k - 32 * i) codes new) ≡ take (32 * i) codes ++ new =
-    written-next total i k (32 * i + k - 32 * i) codes new within inv.long long count size in
-    let left : List ℕ = groups_codes (groups - (i + 1)) (total - 32 * (i + 1)) (drop (group_end k rest) rest) in
+    let step = codes_step total i k (32 * i + k - 32 * i) codes new rest _ _ lt count size inv.long long
+    (c.copy_from_slice.ensures.after ∙ c.in_ok-end.ensures.codes) after inv.codes in
     record {
-      long = length-written (32 * i) (32 * i + k - 32 * i) codes new (omega (arith, inv.long)) (long ∙ sym size) (omega (arith, inv.long)) ∙ inv.long;
+      long = step.0;
       fault =
           inv.fault ∙ fault-next groups c.args.block total i k rest lt count c.in_ok-end.ensures.fault
           ∙ ap (groups_fault (groups - (i + 1)) (c.args.block + (i + 1)) (total - 32 * (i + 1))) (sym after);
-      codes =
-          ap (λ zs. take (32 * (i + 1)) (put_mid (32 * i) (32 * i + k - 32 * i) codes new) ++ groups_codes (groups - (i + 1)) (total - 32 * (i + 1)) zs) after
-          ∙ ap (λ zs. zs ++ left) written ∙ append_assoc (take (32 * i) codes) new left ∙ ap (λ zs. take (32 * i) codes ++ (zs ++ left)) new-is
-          ∙ ap (λ zs. take (32 * i) codes ++ zs) (sym (codes-next groups c.args.block total i k rest lt count)) ∙ inv.codes;
+      codes = step.1;
       rest =
-          ap (after_groups (groups - (i + 1)) (total - 32 * (i + 1))) after ∙ sym (after-next groups c.args.block total i k rest lt count) ∙ inv.rest;
+          ap (after_groups (groups - (i + 1)) (total - 32 * (i + 1))) after ∙ sym (after-next groups total i k rest lt count) ∙ inv.rest;
     }
 
 pub returns-clause-fault : goal.returns-clause-fault

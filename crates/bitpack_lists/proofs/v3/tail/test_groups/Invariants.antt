@@ -1,7 +1,7 @@
 -- The groups so far have no fault, and with those that are left they are the groups.
 use Rattle.std.proofs.Common.{◌≡◌, ◌+◌, ◌-◌, ◌*◌, ◌++◌, take, length}
 use Rattle.bitpack_lists.specs.Groups.{groups_of, groups_fault, groups_codes, after_groups}
-use Rattle.bitpack_lists.proofs.v3.tail.read_groups.Given as goal
+use Rattle.bitpack_lists.proofs.v3.tail.test_groups.Given as goal
 
 abbrev pub invariant-loop-index : goal.invariant-loop-index
 invariant-loop-index l = record {
