@@ -5,3 +5,4 @@ pub mod opened
 pub mod v1
 pub mod v2
 pub mod v3
+pub mod writing

@@ -22,3 +22,4 @@ pub mod Version2
 pub mod Version3
 pub mod WorkedOlderTexts
 pub mod WorkedTexts
+pub mod Written

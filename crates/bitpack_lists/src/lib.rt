@@ -26,6 +26,8 @@ mod v2;
 mod v3;
 mod version;
 mod worked_texts;
+mod writing;
 
 pub use list_error::ListError;
 pub use list_kind::ListKind;
+pub use version::Version;

@@ -6,8 +6,82 @@
 //! 20 00 00 00                   the value 32
 //! ```
 
+ghost use Rattle.std.specs.Prelude.{◌≡◌, ◌+◌, ◌^◌, ◌<◌, ◌≤◌, ◌++◌, ℕ, List, length, drop, IfOk, IsOk, OnOk, OnErr, IfErr, MatchOption, None, vec_len, vec_capacity};
+ghost use Rattle.bitpacking.specs.Bits.{AreBytes};
+ghost use Rattle.bitpack_lists.specs.Version2.{List2, first_out, values_fault};
+
 pub use crate::blocks::reads::Reads;
 pub use crate::list_buf::ListBuf;
+use crate::list_error::ListError;
+use crate::list_kind::ListKind;
 pub use crate::opened::{Cursor, PackedList, append_common, first_ahead, first_from, intersect};
 pub use crate::v2::upgrading::upgrade;
-pub use crate::v2::writing::{encode, encode_to, encoded_len};
+use crate::version::Version;
+use crate::writing::{append_list, list_len, write_list};
+use bitpacking::BitPacker;
+
+/// Appends the text of the values, which have to be in the order of their kind: plain values may be in any order, sorted ones do not
+/// decrease, and strictly sorted ones increase.
+///
+/// A list has at most 268,435,456 values. The vector grows once at most.
+pub fn encode<P: BitPacker>(
+    packer: &P,
+    kind: ListKind,
+    values: &[u32],
+    out: &mut Vec<u8>,
+) -> Result<(), ListError>
+    // What is appended is the text of the values.
+    ensures ok { OnOk result ((text : List ℕ) × AreBytes text × List2 P.lanes kind values.now text
+        × (out.new.items ≡ out.old.items ++ text)) }
+    // Too many values are refused as such, values out of order at the first that is, and others only if memory runs out.
+    ensures long { 2 ^ 28 < length values.now → result ≡ Err (ListError.TooLong (length values.now)) }
+    ensures order { length values.now ≤ 2 ^ 28
+        → MatchOption (first_out kind values.now) (IfErr result (λ e. e ≡ ListError.Memory))
+        (λ position. result ≡ Err (ListError.NotSorted position)) }
+    // Memory runs out only if the vector has no room for the text.
+    ensures room { length values.now ≤ 2 ^ 28 → first_out kind values.now ≡ None
+        → OnErr result ((text : List ℕ) → List2 P.lanes kind values.now text
+        → vec_capacity out.old < vec_len out.old + length text) }
+    ensures unchanged { OnErr result (out.new.items ≡ out.old.items) }
+    ensures kept { OnErr result (vec_capacity out.new ≡ vec_capacity out.old) }
+{
+    append_list(Version::Two, packer, kind, values, out)
+}
+
+/// Writes the text of the values at the start of the slice, and returns its length in bytes. Allocates nothing.
+///
+/// The values have to be in the order of their kind, as for [`encode`]. A slice that is too short is refused with `Short`; then
+/// nothing is written. The bytes after the text stay as they were. [`encoded_len`] tells how many bytes are needed.
+pub fn encode_to<P: BitPacker>(
+    packer: &P,
+    kind: ListKind,
+    values: &[u32],
+    bytes: &mut [u8],
+) -> Result<usize, ListError>
+    // What is written is the text of the values, and what is after it stays.
+    ensures ok { IfOk result (λ len. (text : List ℕ) × AreBytes text × List2 P.lanes kind values.now text
+        × (len ≡ length text) × (bytes.new ≡ text ++ drop len bytes.old)) }
+    // Values with a fault are refused for the first, and others only if the slice is short.
+    ensures fault { MatchOption (values_fault kind values.now) (IfErr result (λ e. e ≡ ListError.Short))
+        (λ fault. result ≡ Err fault) }
+    // The slice is short only if it has no room for the text.
+    ensures room { values_fault kind values.now ≡ None
+        → OnErr result ((text : List ℕ) → List2 P.lanes kind values.now text → length bytes.old < length text) }
+    ensures unchanged { OnErr result (bytes.new ≡ bytes.old) }
+{
+    write_list(Version::Two, packer, kind, values, bytes)
+}
+
+/// The length in bytes of the text of the values, which have to be in the order of their kind, as for [`encode`].
+pub fn encoded_len<P: BitPacker>(
+    packer: &P,
+    kind: ListKind,
+    values: &[u32],
+) -> Result<usize, ListError>
+    ensures len { IfOk result (λ len. (text : List ℕ) → List2 P.lanes kind values.now text → len ≡ length text) }
+    ensures few { IfOk result (λ len. len ≤ 2 ^ 40) }
+    // Values with a fault are refused for the first.
+    ensures fault { MatchOption (values_fault kind values.now) (IsOk result) (λ fault. result ≡ Err fault) }
+{
+    list_len(Version::Two, packer, kind, values)
+}

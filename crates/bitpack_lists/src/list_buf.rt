@@ -5,8 +5,8 @@ ghost use Rattle.bitpack_lists.specs.Texts.{fault_of_either};
 
 use crate::list_error::ListError;
 use crate::list_kind::ListKind;
+use crate::list2::encode;
 use crate::opened::PackedList;
-use crate::v2::writing::encode;
 use bitpacking::BitPacker;
 use std::alloc::Global;
 

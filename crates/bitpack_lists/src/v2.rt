@@ -1,5 +1,4 @@
-//! Version 2: opening, writing, and upgrading to it.
+//! Version 2: opening and upgrading to it.
 
 pub(crate) mod opening;
 pub(crate) mod upgrading;
-pub(crate) mod writing;

@@ -1,4 +1,4 @@
-//! Version 3: its header, its tail in groups, opening, writing, and upgrading to it.
+//! Version 3: its header, its tail in groups, opening, and upgrading to it.
 
 pub(crate) mod codes;
 pub(crate) mod group;
@@ -7,4 +7,3 @@ pub(crate) mod number;
 pub(crate) mod opening;
 pub(crate) mod tail;
 pub(crate) mod upgrading;
-pub(crate) mod writing;

@@ -1,14 +1,14 @@
 -- What the calls that write packed lists answer, and what they leave in the caller's buffer.
-use Rattle.std.specs.Prelude.{◌≡◌, ℕ, ◌<◌, ℤ, pos, negsuc, not, ◌&&◌, ◌==◌, nat_lt, if◌then◌else◌, List, ◌++◌, length, drop, Option, Some, None, MatchOption, Result, Ok, Err}
+use Rattle.std.specs.Prelude.{◌≡◌, ℕ, ℤ, pos, negsuc, not, ◌&&◌, ◌==◌, nat_lt, if◌then◌else◌, List, length, Option, Some, None, MatchOption, Result, Ok, Err}
 use Rattle.std.specs.Option.{option_or}
 use Rattle.bitpack_lists.specs.declared.list_error.ListError.{ListError}
 use Rattle.bitpack_lists.specs.declared.list_error.ListError.TheVariants.{BadKind, BadVersion, NotSorted, Short}
-use Rattle.bitpack_lists.specs.declared.list_kind.ListKind.{ListKind}
 use Rattle.bitpack_lists.specs.declared.version.Version.{Version}
 use Rattle.bitpack_lists.specs.declared.version.Version.TheVariants.{Two, Three}
 use Rattle.bitpack_lists.specs.Parts.{kind_of_byte}
 use Rattle.bitpack_lists.specs.Texts.{IsText}
 use Rattle.bitpack_lists.specs.Version2.{values_fault}
+use Rattle.bitpack_lists.specs.Written.{WritesText}
 use Rattle.bitpacking_c.specs.Views.{fault_number}
 
 -- ---- what is asked for
@@ -30,18 +30,11 @@ refusal version kind values = option_or (numbers_fault version kind) (values_fau
 
 -- ---- what is written
 
--- the text was written, what is after it stays, and the answer is its length; or the buffer is short for it and is as it was
-abbrev pub WritesText : Version → ℕ → ListKind → List ℕ → List ℕ → List ℕ → Result ℕ ListError → Type 0
-WritesText version lanes kind values before after (Ok count) =
-    (text : List ℕ) × IsText version lanes kind values text × (count ≡ length text) × (after ≡ text ++ drop count before)
-WritesText version lanes kind values before after (Err error) =
-    (error ≡ Short) × (after ≡ before) × ((text : List ℕ) → IsText version lanes kind values text → length before < length text)
-
--- the text of the values was written if it has room; for a fault, the answer is the first and the buffer is as it was
+-- the text of the values is written, or they are refused; for a fault of the numbers, the answer is the first and the buffer is as it was
 abbrev pub PacksList : ℕ → ℕ → ℕ → List ℕ → List ℕ → List ℕ → Result ℕ ListError → Type 0
 PacksList lanes version kind values before after answer =
-    MatchOption (refusal version kind values)
-    (WritesText (version_of version) lanes (kind_of_byte kind) values before after answer)
+    MatchOption (numbers_fault version kind)
+    (WritesText (version_of version) lanes (kind_of_byte kind) values answer before after)
     (λ fault. (answer ≡ Err fault) × (after ≡ before))
 
 -- the answer is the length of the text of the values, or the first fault

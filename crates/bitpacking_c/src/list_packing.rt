@@ -2,10 +2,10 @@
 
 ghost use Rattle.std.specs.Prelude.{◌≡◌, ◌^◌, ◌<◌, IfOk};
 ghost use Rattle.bitpack_lists.specs.Parts.{FindsFault, kind_of_byte};
-ghost use Rattle.bitpack_lists.specs.Version3.{HasCode};
-ghost use Rattle.bitpacking_c.specs.Packs.{AnswersSize, GivesSize, PacksList, number_of_size, numbers_fault, position_after};
+ghost use Rattle.bitpacking_c.specs.Packs.{AnswersSize, GivesSize, PacksList, number_of_size, numbers_fault, position_after, version_of};
 
-use bitpack_lists::{ListError, ListKind, list2, list3};
+use bitpack_lists::writing::{list_len, write_list};
+use bitpack_lists::{ListError, ListKind, Version};
 use bitpacking::{BitPacker, BitPacker1x, BitPacker4x, BitPacker8x};
 
 /// Writes the text of the values, packed in one lane, at the start of `bytes`, and answers its length. The rest of `bytes` stays as it
@@ -102,19 +102,22 @@ pub extern "C" fn bitpacking_8x_list_size(
     answer(size(&BitPacker8x::new(), version, kind, values), position)
 }
 
-/// The kind with a number, in a version with a number.
+/// The version and the kind with these numbers.
 #[inline(always)]
-fn kind_numbered(version: u8, kind: u8) -> Result<ListKind, ListError>
+fn version_and_kind(version: u8, kind: u8) -> Result<(Version, ListKind), ListError>
     ensures fault { FindsFault result (numbers_fault version kind) }
-    ensures kind { IfOk result (λ found. found ≡ kind_of_byte kind) }
+    ensures version { IfOk result (λ found. found.0 ≡ version_of version) }
+    ensures kind { IfOk result (λ found. found.1 ≡ kind_of_byte kind) }
 {
-    if version != 2 && version != 3 {
-        return Err(ListError::BadVersion(version));
-    }
+    let found = match version {
+        2 => Version::Two,
+        3 => Version::Three,
+        _ => return Err(ListError::BadVersion(version)),
+    };
     match kind {
-        0 => Ok(ListKind::Plain),
-        1 => Ok(ListKind::Sorted),
-        2 => Ok(ListKind::StrictlySorted),
+        0 => Ok((found, ListKind::Plain)),
+        1 => Ok((found, ListKind::Sorted)),
+        2 => Ok((found, ListKind::StrictlySorted)),
         _ => Err(ListError::BadKind(kind)),
     }
 }
@@ -128,16 +131,11 @@ fn pack<P: BitPacker>(
     values: &[u32],
     bytes: &mut [u8],
 ) -> Result<usize, ListError>
-    requires lanes { HasCode P.lanes }
     ensures packs { PacksList P.lanes version kind values.now bytes.old bytes.new result }
     ensures small { IfOk result (λ count. count < 2 ^ 63) }
 {
-    let kind = kind_numbered(version, kind)?;
-    if version == 2 {
-        list2::encode_to(packer, kind, values, bytes)
-    } else {
-        list3::encode_to(packer, kind, values, bytes)
-    }
+    let (known, list_kind) = version_and_kind(version, kind)?;
+    write_list(known, packer, list_kind, values, bytes)
 }
 
 /// The length of the text of the values.
@@ -146,12 +144,8 @@ fn size<P: BitPacker>(packer: &P, version: u8, kind: u8, values: &[u32]) -> Resu
     ensures size { GivesSize P.lanes version kind values.now result }
     ensures small { IfOk result (λ size. size < 2 ^ 63) }
 {
-    let kind = kind_numbered(version, kind)?;
-    if version == 2 {
-        list2::encoded_len(packer, kind, values)
-    } else {
-        list3::encoded_len(packer, kind, values)
-    }
+    let (known, list_kind) = version_and_kind(version, kind)?;
+    list_len(known, packer, list_kind, values)
 }
 
 /// The number that C is given. The position of a value out of order is written.

@@ -17,7 +17,6 @@ pub mod RestLemmas
 pub mod RestValues
 pub mod SameBlocks
 pub mod SearchLemmas
-pub mod TextSizes
 pub mod ValueFaults
 pub mod WholeBlocks
 pub mod WriteSteps

@@ -1,11 +1,15 @@
 -- How long a text is before it is written, and what is kept of the values until then.
-use Rattle.std.specs.Prelude.{◌≡◌, ℕ, ◌+◌, ◌-◌, ◌*◌, ◌<◌, ◌≤◌, List, length, take, drop, slice_index, sum, None}
-use Rattle.bitpack_lists.specs.declared.list_kind.ListKind.{ListKind}
+use Rattle.std.specs.Prelude.{◌≡◌, ℕ, ◌+◌, ◌*◌, ◌/◌, ◌≤◌, List, length, take, drop, sum, None}
 use Rattle.bitpacking.specs.declared.kind.Kind.{Kind}
 use Rattle.bitpacking.specs.Codes.{codes}
-use Rattle.bitpack_lists.specs.Chains.{LeastWidths, next_kind}
-use Rattle.bitpack_lists.specs.Parts.{first_kind, tail_values, whole_blocks}
-use Rattle.bitpack_lists.specs.Version2.{values_fault}
+use Rattle.bitpacking.specs.Words.{bytes_of_words}
+use Rattle.bitpack_lists.specs.declared.list_kind.ListKind.{ListKind}
+use Rattle.bitpack_lists.specs.declared.version.Version.{Version}
+use Rattle.bitpack_lists.specs.declared.version.Version.TheVariants as versions
+use Rattle.bitpack_lists.specs.Chains.{LeastWidths}
+use Rattle.bitpack_lists.specs.inner.Opening.{AreEntries}
+use Rattle.bitpack_lists.specs.Parts.{first_kind, header, whole_blocks}
+use Rattle.bitpack_lists.specs.Version2.{kind_at, values_fault}
 use Rattle.bitpack_lists.specs.Version3.{IsTail3, header3}
 
 -- values without a fault, and the least widths of their first blocks, which were kept
@@ -19,27 +23,26 @@ pub record IsBlocksSize (lanes : ℕ) (kind : ListKind) (values : List ℕ) (siz
   pub long : (widths : List ℕ) → length widths ≡ whole_blocks lanes (length values) → LeastWidths lanes (first_kind kind) values widths
       → size ≡ 9 * whole_blocks lanes (length values) + 4 * lanes * sum widths
 
--- the text of version 2 of the values has `size` bytes
-pub record IsSize2 (lanes : ℕ) (kind : ListKind) (values : List ℕ) (size : ℕ) : Type 0 where
-  pub room : 7 + 9 * whole_blocks lanes (length values) + 4 * tail_values lanes (length values) ≤ size
-  pub long : (widths : List ℕ) → length widths ≡ whole_blocks lanes (length values) → LeastWidths lanes (first_kind kind) values widths
-      → size ≡ 7 + 9 * whole_blocks lanes (length values) + 4 * lanes * sum widths + 4 * tail_values lanes (length values)
+-- how many bytes a tail of `count` values has at most: four for each, one for each group, and one for the number before them
+abbrev pub tail_room : ℕ → ℕ
+tail_room count = 4 * count + count / 32 + 2
 
--- the codes of the values after the whole blocks, which go on from the last value of these
-pub record AreTailCodes (lanes : ℕ) (kind : ListKind) (values found_codes : List ℕ) : Type 0 where
-  pub front : List ℕ
-  pub left : List ℕ
-  pub found : Kind
-  pub front_is : front ≡ take (32 * lanes * whole_blocks lanes (length values)) values
-  pub left_is : left ≡ drop (32 * lanes * whole_blocks lanes (length values)) values
-  pub first : length front ≡ 0 → found ≡ first_kind kind
-  pub next : 0 < length front → found ≡ next_kind (first_kind kind) (slice_index front (length front - 1))
-  pub codes_are : found_codes ≡ codes found left
+-- the header of a version
+abbrev pub header_of : Version → ListKind → ℕ → ℕ → List ℕ
+header_of versions.Two = header 2
+header_of versions.Three = header3
 
--- the text of version 3 of the values has `size` bytes, if these are the codes of the tail
-pub record IsSize3 (lanes : ℕ) (kind : ListKind) (values found_codes : List ℕ) (size : ℕ) : Type 0 where
+-- the bytes are the tail of values of this kind that follow `blocks` whole blocks
+abbrev pub IsTailOf : Version → ℕ → Kind → List ℕ → List ℕ → Type 0
+IsTailOf versions.Two blocks kind values bytes = bytes ≡ bytes_of_words values
+IsTailOf versions.Three blocks kind values bytes = IsTail3 blocks (codes kind values) bytes
+
+-- the header and the tail of the text of the values, which has `size` bytes
+pub record IsPlanned (version : Version) (lanes : ℕ) (kind : ListKind) (values front tail : List ℕ) (size : ℕ) : Type 0 where
   pub whole : ℕ
-  pub tail : ℕ
   pub blocks : IsBlocksSize lanes kind values whole
-  pub tail_is : (bytes : List ℕ) → IsTail3 (whole_blocks lanes (length values)) found_codes bytes → length bytes ≡ tail
-  pub parts : size ≡ length (header3 kind lanes (length values)) + whole + tail
+  pub front_is : front ≡ header_of version kind lanes (length values)
+  pub tail_is : (rest : List ℕ) → AreEntries lanes (whole_blocks lanes (length values)) kind values rest
+      → IsTailOf version (whole_blocks lanes (length values)) (kind_at kind rest (whole_blocks lanes (length values)))
+      (drop (32 * lanes * whole_blocks lanes (length values)) values) tail
+  pub parts : size ≡ length front + whole + length tail

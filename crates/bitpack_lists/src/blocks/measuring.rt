@@ -68,7 +68,7 @@ pub(crate) fn blocks_len<P: BitPacker>(
     for index in 0..blocks {
         let (block, after) = rest.split_at(len);
         let width = packer.num_bits_kind(kind, block);
-        keep(widths, index, width);
+        keep_width(widths, index, width);
         size += entry_len + P::compressed_block_size(width);
         kind = next_kind(kind, block[len - 1]);
         rest = after;
@@ -77,7 +77,7 @@ pub(crate) fn blocks_len<P: BitPacker>(
 }
 
 /// Keeps the width of the block with this index, if there is a place for it.
-fn keep(widths: &mut [u8], index: usize, width: u8)
+fn keep_width(widths: &mut [u8], index: usize, width: u8)
     ensures kept { index < length widths.old → take (index + 1) widths.new ≡ take index widths.old ++ width ∷ [] }
     ensures past { length widths.old ≤ index → widths.new ≡ widths.old }
 {

@@ -141,7 +141,12 @@ pub(crate) fn header_len(count: usize) -> usize
 
 /// Writes the header of `count` values at the start of the slice, and returns its length in bytes.
 #[tactic(auto, unfolding(crate::specs::Version3::header3))]
-pub(crate) fn write_header(kind: ListKind, lanes: usize, count: usize, bytes: &mut [u8]) -> usize
+pub(crate) fn write_short_header(
+    kind: ListKind,
+    lanes: usize,
+    count: usize,
+    bytes: &mut [u8],
+) -> usize
     requires count { count ≤ 2 ^ 28 }
     requires room { length (header3 kind lanes count) ≤ length bytes.old }
     ensures len { result ≡ length (header3 kind lanes count) }

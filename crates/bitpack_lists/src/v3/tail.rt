@@ -1,14 +1,19 @@
 //! The tail of a list: its codes in groups, after the first one as a number if the list has no whole block.
 
 ghost use Rattle.std.specs.Prelude.{◌≡◌, ℕ, List, ◌+◌, ◌^◌, ◌<◌, ◌≤◌, IfOk, None, OnOk, length, min, take};
+ghost use Rattle.bitpacking.specs.Codes.{codes};
 ghost use Rattle.bitpack_lists.specs.Groups.{AreGroups, after_groups, groups_codes, groups_fault, groups_of};
 ghost use Rattle.bitpack_lists.specs.Parts.{FindsFault};
 ghost use Rattle.bitpack_lists.specs.inner.CodeSteps.{EndsGroup};
+ghost use Rattle.bitpack_lists.specs.inner.Sizes.{tail_room};
 ghost use Rattle.bitpack_lists.specs.Version3.{IsTail3, after_tail3, tail_codes3, tail_fault3};
 
+use super::codes::to_codes;
 use super::group::{LONGEST_GROUP, group_len, test_group, unpack_group, write_group};
 use super::number::{number_len, test_number, unpack_number, write_number};
+use crate::chain::LONGEST_BLOCK;
 use crate::list_error::ListError;
+use bitpacking::Kind;
 
 /// Tests the tail of as many codes as the slice has, after `blocks` blocks, and returns the bytes after it. After a refusal the codes
 /// may be any.
@@ -151,25 +156,62 @@ fn groups_len(codes: &[u32]) -> usize
     len
 }
 
-/// Writes the tail at the start of the slice: its codes follow `blocks` whole blocks.
-pub(crate) fn write_tail(blocks: usize, codes: &[u32], bytes: &mut [u8])
+/// Writes the tail of the values, which follow `blocks` whole blocks, at the start of the slice, and returns its length in bytes.
+pub(crate) fn pack_tail(kind: Kind, blocks: usize, values: &[u32], bytes: &mut [u8]) -> usize
+    requires few { length values.now ≤ LONGEST_BLOCK }
+    requires room { tail_room (length values.now) ≤ length bytes.old }
+    ensures tail { IsTail3 blocks (codes kind values.now) (take result bytes.new) }
+    ensures within { result ≤ tail_room (length values.now) }
+{
+    if values.len() < LONGEST_GROUP {
+        let room = &mut [0; LONGEST_GROUP];
+        return pack_codes(kind, blocks, values, room, bytes);
+    }
+    pack_codes(kind, blocks, values, &mut [0; LONGEST_BLOCK], bytes)
+}
+
+/// Writes the tail as [`pack_tail`] does, with room for its codes. Little room takes less time to clear.
+fn pack_codes(
+    kind: Kind,
+    blocks: usize,
+    values: &[u32],
+    room: &mut [u32],
+    bytes: &mut [u8],
+) -> usize
+    requires few { length values.now ≤ LONGEST_BLOCK }
+    requires codes { length values.now ≤ length room.old }
+    requires room { tail_room (length values.now) ≤ length bytes.old }
+    ensures tail { IsTail3 blocks (codes kind values.now) (take result bytes.new) }
+    ensures within { result ≤ tail_room (length values.now) }
+{
+    let codes = &mut room[..values.len()];
+    to_codes(kind, values, codes);
+    write_codes(blocks, codes, bytes)
+}
+
+/// Writes the codes of a tail, which follow `blocks` whole blocks, at the start of the slice, and returns the length of the tail in
+/// bytes.
+pub(crate) fn write_codes(blocks: usize, codes: &[u32], bytes: &mut [u8]) -> usize
     requires room { (tail : List ℕ) → IsTail3 blocks codes.now tail → length tail ≤ length bytes.old }
     ensures tail { (tail : List ℕ) → IsTail3 blocks codes.now tail → take (length tail) bytes.new ≡ tail }
+    ensures len { (tail : List ℕ) → IsTail3 blocks codes.now tail → result ≡ length tail }
 {
     if blocks == 0 && codes.len() > 0 {
         let end = write_number(codes[0], bytes);
-        write_groups(&codes[1..], &mut bytes[end..]);
-        return;
+        return end + write_groups(&codes[1..], &mut bytes[end..]);
     }
-    write_groups(codes, bytes);
+    write_groups(codes, bytes)
 }
 
-/// Writes the codes in groups at the start of the slice.
-fn write_groups(codes: &[u32], bytes: &mut [u8])
+/// Writes the codes in groups at the start of the slice, and returns the length of the groups in bytes.
+fn write_groups(codes: &[u32], bytes: &mut [u8]) -> usize
     requires room { (groups : List ℕ) → AreGroups (groups_of (length codes.now)) codes.now groups
         → length groups ≤ length bytes.old }
     ensures groups { (groups : List ℕ) → AreGroups (groups_of (length codes.now)) codes.now groups
         → take (length groups) bytes.new ≡ groups }
+    ensures len { (groups : List ℕ) → AreGroups (groups_of (length codes.now)) codes.now groups
+        → result ≡ length groups }
+    ensures within { result ≤ length bytes.new }
 {
     let mut end = 0;
     for index in 0..(codes.len() + 31) / LONGEST_GROUP {
@@ -177,4 +219,5 @@ fn write_groups(codes: &[u32], bytes: &mut [u8])
         let count = next_len(codes.len() - from);
         end += write_group(&codes[from..from + count], &mut bytes[end..]);
     }
+    end
 }

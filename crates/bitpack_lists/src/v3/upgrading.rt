@@ -14,8 +14,8 @@ ghost use Rattle.bitpack_lists.specs.inner.Opening.{HasBodies};
 ghost use Rattle.bitpack_lists.specs.inner.Upgrading.{IsOlderRest, IsTestedRest, States3};
 
 use super::codes::to_codes;
-use super::header::{header_len, write_header};
-use super::tail::{tail_len, write_tail};
+use super::header::{header_len, write_short_header};
+use super::tail::{tail_len, write_codes};
 use crate::blocks::entry::ENTRY_LEN;
 use crate::blocks::reads::Reads;
 use crate::chain::{LONGEST_BLOCK, next_kind};
@@ -179,7 +179,7 @@ fn append_header(kind: ListKind, lanes: usize, count: usize, out: &mut Vec<u8>)
 {
     let start = out.len();
     append_zeros(out, 0, header_len(count));
-    write_header(kind, lanes, count, out.slice_mut(start..));
+    write_short_header(kind, lanes, count, out.slice_mut(start..));
 }
 
 /// Appends the tail of these codes, which has this length, if there is room for it.
@@ -190,5 +190,5 @@ fn append_tail(blocks: usize, codes: &[u32], size: usize, out: &mut Vec<u8>)
 {
     let start = out.len();
     append_zeros(out, 0, size);
-    write_tail(blocks, codes, out.slice_mut(start..));
+    let _len = write_codes(blocks, codes, out.slice_mut(start..));
 }

@@ -1,5 +1,5 @@
 -- The blocks of values, one after the other: what is left of the values before each, and the kind of the next.
--- Serves blocks, laws, opened, v2, v3.
+-- Serves blocks, laws, opened, v2, v3, writing.
 use Rattle.std.proofs.Common.{◌≡◌, ℕ, zero, suc, ◌+◌, ◌*◌, ◌/◌, ◌^◌, ◌<◌, ◌≤◌, List, length, take, drop, get_or, refl, ◌∙◌, ap, arith, add-one}
 use Rattle.std.proofs.lemmas.List.{drop-drop, length-take, length-drop, get_or-take, get_or-drop}
 use Rattle.std.proofs.lemmas.List.Elements.{All-take, All-drop}

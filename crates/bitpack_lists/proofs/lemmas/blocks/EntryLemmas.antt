@@ -1,5 +1,5 @@
 -- Version 2: what is where in the rest of a text stays as bytes are appended; entries and bodies, one more at a time.
--- Serves blocks, laws, v2, v3.
+-- Serves blocks, laws, v2, v3, writing.
 use Rattle.std.proofs.Common.{◌≡◌, ℕ, zero, suc, ◌+◌, ◌-◌, ◌*◌, ◌^◌, ◌<◌, ◌≤◌, List, [], ◌∷◌, ◌++◌, length, drop, get_or, refl, sym, ◌∙◌, ap, arith, inl, inr, add-one}
 use Rattle.std.proofs.lemmas.Bool.{cases_lt}
 use Rattle.std.proofs.lemmas.List.{drop-append-le, take-append-le, drop_at, drop-drop, take_all, get_or_append_left, get_or-append-add, length-append, length-drop, append-nil}

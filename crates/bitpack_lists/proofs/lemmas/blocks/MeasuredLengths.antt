@@ -1,5 +1,5 @@
 -- How long a text of either version is, by the least widths of its blocks.
--- Serves blocks, chain, laws, v1, v2, v3.
+-- Serves blocks, chain, laws, v1, writing.
 use Rattle.std.proofs.Common.{◌≡◌, ℕ, zero, suc, ◌+◌, ◌-◌, ◌*◌, ◌%◌, ◌<◌, ◌≤◌, List, [], ◌∷◌, length, take, drop, get_or, sum, refl, sym, ◌∙◌, ap, arith, mul-suc, add-one, zero-add}
 use Rattle.std.proofs.Math.Nat.{mod-eq-sub-mul-div}
 use Rattle.std.proofs.Math.Seq.{drop-cons}
@@ -85,11 +85,11 @@ length-text1 lanes size_of kind values text measured list =
 -- ---- version 2
 
 -- The widths of so many entries, from one on.
-abbrev entry_widths : List ℕ → ℕ → ℕ → List ℕ
+abbrev pub entry_widths : List ℕ → ℕ → ℕ → List ℕ
 entry_widths rest i zero = []
 entry_widths rest i (suc count) = width_at rest i ∷ entry_widths rest (suc i) count
 
-length-entry_widths : (rest : List ℕ) (i count : ℕ) → length (entry_widths rest i count) ≡ count
+pub length-entry_widths : (rest : List ℕ) (i count : ℕ) → length (entry_widths rest i count) ≡ count
 length-entry_widths rest i zero = refl
 length-entry_widths rest i (suc count) = ap suc (length-entry_widths rest (suc i) count)
 
@@ -102,7 +102,7 @@ sum-entry_widths rest i (suc count) =
     let first = sum_by-cons (λ (n : ℕ). n) (width_at rest i) (entry_widths rest (suc i) count) in
     rw next (omega (arith, first, sum-entry_widths rest (suc i) count))
 
-least-entry_widths : (lanes i count blocks : ℕ) (kind : ListKind) (values rest : List ℕ) → 1 ≤ lanes → i + count ≤ blocks → AreEntries lanes blocks kind values rest
+pub least-entry_widths : (lanes i count blocks : ℕ) (kind : ListKind) (values rest : List ℕ) → 1 ≤ lanes → i + count ≤ blocks → AreEntries lanes blocks kind values rest
     → LeastWidths lanes (kind_at kind rest i) (drop (32 * lanes * i) values) (entry_widths rest i count)
 least-entry_widths lanes i zero blocks kind values rest some room are = tt
 least-entry_widths lanes i (suc count) blocks kind values rest some room are =

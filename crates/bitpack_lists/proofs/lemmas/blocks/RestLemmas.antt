@@ -1,5 +1,5 @@
 -- Version 2: entries and bodies with the tail after them are the rest of a text, and with the header before it a text; how long it is.
--- Serves blocks, laws, v2, v3.
+-- Serves laws, v2, v3, writing.
 use Rattle.std.proofs.Common.{◌≡◌, ℕ, ◌+◌, ◌-◌, ◌*◌, ◌/◌, ◌%◌, ◌^◌, ◌≤◌, List, ◌++◌, length, drop, None, refl, sym, ◌∙◌, ap, arith}
 use Rattle.std.proofs.Math.Nat.{mod-eq-sub-mul-div}
 use Rattle.std.proofs.lemmas.List.{take_at, drop_at, length-append, length-drop}

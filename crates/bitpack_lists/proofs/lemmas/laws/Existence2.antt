@@ -1,5 +1,5 @@
 -- Version 2: values in order have a text.
--- Serves ForCallers, laws.
+-- Serves ForCallers, laws, writing.
 use Rattle.std.proofs.Common.{◌≡◌, ℕ, zero, suc, ◌+◌, ◌-◌, ◌*◌, ◌^◌, ◌<◌, ◌≤◌, List, [], ◌∷◌, ◌++◌, length, drop, get_or, None, refl, ◌∙◌, arith, add-one}
 use Rattle.bitpacking.specs.declared.kind.Kind.{Kind}
 use Rattle.bitpacking.specs.Bits.{AreBytes}

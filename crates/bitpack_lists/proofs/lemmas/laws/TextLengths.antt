@@ -1,5 +1,5 @@
 -- How long texts can be: no width is above 32, and no group has more than a byte beside its codes.
--- Serves laws.
+-- Serves laws, v3, writing.
 use Rattle.std.proofs.Common.{◌≡◌, ℕ, zero, suc, ◌+◌, ◌*◌, ◌/◌, ◌^◌, ◌<◌, ◌≤◌, List, [], ◌∷◌, length, take, drop, sum, ◌∙◌, ap, arith, inl, inr}
 use Rattle.std.proofs.lemmas.Bool.{cases_lt, le-ltb, lt-ltb}
 use Rattle.std.proofs.lemmas.List.{length-append, length-drop, length-take}
@@ -82,7 +82,7 @@ groups_fit (suc groups) codes bytes words (part, rest, parts, group, more) =
     let others = groups_fit groups (drop 32 codes) rest (All-drop (λ v. v < 2 ^ 32) 32 codes words) more in
     omega (arith, first, others, ap length parts, length-append part rest, length-take 32 codes, length-drop 32 codes)
 
-tail_fits : (blocks : ℕ) (codes bytes : List ℕ) → AreWords codes → IsTail3 blocks codes bytes
+pub tail_fits : (blocks : ℕ) (codes bytes : List ℕ) → AreWords codes → IsTail3 blocks codes bytes
     → (1 ≤ blocks → length bytes ≤ 4 * length codes + (length codes + 31) / 32) × (length bytes ≤ 4 * length codes + (length codes + 30) / 32 + 1)
 tail_fits blocks [] bytes words none = (λ some. omega (arith, ap length none), omega (arith, ap length none))
 tail_fits zero (code ∷ codes) bytes words (groups, parts, are) =
@@ -99,7 +99,7 @@ number_fits x few =
       | inr large ↦ omega (arith, ap length (number_in-large 4 x large), ap length (number_in-small 3 (x / 128) (omega arith)))
     ]
 
-header_fits : (kind : ListKind) (lanes count : ℕ) → (length (header3 kind lanes count) ≤ 6) × (count < 2 ^ 14 → length (header3 kind lanes count) ≤ 3)
+pub header_fits : (kind : ListKind) (lanes count : ℕ) → (length (header3 kind lanes count) ≤ 6) × (count < 2 ^ 14 → length (header3 kind lanes count) ≤ 3)
 unfolding header3
 header_fits kind lanes count =
     elim (cases_lt count 15) [

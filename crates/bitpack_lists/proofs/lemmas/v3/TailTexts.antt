@@ -1,5 +1,5 @@
 -- Version 3: the tail of codes is read as these codes, a tail without a fault is that of the codes that are read, and codes have one tail.
--- Serves opened, v3.
+-- Serves opened, v3, writing.
 use Rattle.std.proofs.Common.{◌≡◌, ℕ, zero, suc, ◌+◌, ◌-◌, ◌*◌, ◌^◌, ◌<◌, true, false, ltb, None, List, [], ◌∷◌, ◌++◌, length, take, drop, refl, sym, ◌∙◌, ap, arith, append_assoc}
 use Rattle.std.specs.Prelude.{◌==◌}
 use Rattle.std.specs.Option.{option_or}

@@ -1,22 +1,17 @@
--- Writing a text of version 3: the codes of its tail, how long it is, and its parts one after the other.
--- Serves blocks, v3.
-use Rattle.std.proofs.Common.{◌≡◌, ℕ, zero, suc, ◌+◌, ◌-◌, ◌*◌, ◌%◌, ◌^◌, ◌<◌, ◌≤◌, List, ◌++◌, length, take, drop, get_or, None, refl, sym, ◌∙◌, ap, arith}
-use Rattle.std.proofs.Math.Nat.{mul-div-le}
+-- Writing a text: the kind of its tail. A text of version 3: how long it is, and its parts one after the other.
+-- Serves v3, writing.
+use Rattle.std.proofs.Common.{◌≡◌, ℕ, zero, suc, ◌+◌, ◌-◌, ◌*◌, ◌^◌, ◌<◌, ◌≤◌, List, ◌++◌, length, take, drop, get_or, None, refl, sym, ◌∙◌, ap, arith}
 use Rattle.std.proofs.lemmas.List.{get_or-take, length-append, length-drop, length-take-le}
-use Rattle.std.proofs.lemmas.List.Elements.{All-drop}
 use Rattle.bitpacking.specs.declared.kind.Kind.{Kind}
 use Rattle.bitpacking.specs.Codes.{AreWords, codes}
-use Rattle.bitpacking.proofs.ForCallers.{codes_are_words}
 use Rattle.bitpack_lists.specs.declared.list_kind.ListKind.{ListKind}
 use Rattle.bitpack_lists.specs.Chains.{next_kind}
 use Rattle.bitpack_lists.specs.inner.Opening.{AreEntries, HasBodies}
-use Rattle.bitpack_lists.specs.inner.Sizes.{AreTailCodes}
 use Rattle.bitpack_lists.specs.Parts.{first_kind, whole_blocks}
 use Rattle.bitpack_lists.specs.Version2.{first_out, kind_at, last_at, tail_start}
 use Rattle.bitpack_lists.specs.Version3.{IsTail3, List3, header3}
 use Rattle.bitpack_lists.proofs.lemmas.blocks.BlockLemmas.{get_or-block_of}
 use Rattle.bitpack_lists.proofs.lemmas.blocks.RestLemmas.{after_done, blocks_done}
-use Rattle.bitpack_lists.proofs.lemmas.blocks.WriteSteps.{whole_end}
 
 -- The kind of what follows whole blocks, by their last value.
 pub kind_done : (lanes blocks : ℕ) (kind : ListKind) (values front rest : List ℕ) (found : Kind) → 1 ≤ lanes → front ≡ take (32 * lanes * blocks) values
@@ -36,42 +31,6 @@ kind_done lanes (suc block) kind values front rest found some is room are first 
     ∙ ap (λ k. get_or values k 0) end ∙ sym (get_or-block_of lanes block (n - 1) values (omega (arith, some)))
     ∙ sym (are block (omega arith)).last in
     next (omega (arith, long, more, some)) ∙ ap (next_kind (first_kind kind)) last
-
--- The codes of the tail, as they are made of the values.
-pub split_is : (lanes len : ℕ) (kind : ListKind) (values front left found_codes : List ℕ) (found : Kind) → len ≡ 32 * lanes
-    → front ≡ take (length values - length values % len) values → left ≡ drop (length values - length values % len) values
-    → (length front ≡ 0 → found ≡ first_kind kind) → (0 < length front → found ≡ next_kind (first_kind kind) (get_or front (length front - 1) 0))
-    → found_codes ≡ codes found left → AreTailCodes lanes kind values found_codes
-split_is lanes len kind values front left found_codes found whole front_is left_is first next codes_are =
-    let end = whole_end lanes len (length values) whole in
-    record {
-      front = front;
-      left = left;
-      found = found;
-      front_is = front_is ∙ ap (λ n. take n values) end;
-      left_is = left_is ∙ ap (λ n. drop n values) end;
-      first = first;
-      next = next;
-      codes_are = codes_are;
-    }
-
-module _ (lanes : ℕ) (kind : ListKind) (values found_codes : List ℕ) (some : 1 ≤ lanes) (split : AreTailCodes lanes kind values found_codes) where
-  abbrev blocks : ℕ
-  blocks = whole_blocks lanes (length values)
-
-  room : 32 * lanes * blocks ≤ length values
-  room = mul-div-le (length values) (32 * lanes)
-
-  pub tail_codes : (rest : List ℕ) → AreEntries lanes blocks kind values rest
-      → found_codes ≡ codes (kind_at kind rest blocks) (drop (32 * lanes * blocks) values)
-  tail_codes rest are =
-      let kind_is = kind_done lanes blocks kind values split.front rest split.found some split.front_is room are split.first split.next in
-      split.codes_are ∙ ap (λ k. codes k split.left) kind_is ∙ ap (codes (kind_at kind rest blocks)) split.left_is
-
-  pub tail_words : AreWords values → AreWords found_codes
-  tail_words words =
-      let left_words : AreWords split.left = rw split.left_is (All-drop (λ v. v < 2 ^ 32) (32 * lanes * blocks) values words) in
-      rw split.codes_are (codes_are_words split.found split.left left_words)
 
 -- The codes of the tail, by any entries of the values.
 abbrev pub AreCodesOfTail : ℕ → ListKind → List ℕ → List ℕ → Type 0

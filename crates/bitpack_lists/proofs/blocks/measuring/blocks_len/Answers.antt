@@ -56,12 +56,12 @@ loop-index-preserved g c =
           (measured_step lanes c.args.entry_len i width c.loop-index.size c.loop-index.kind rest all (omega (arith, long, c.loop-index-test.true))
           (rw block at c.num_bits_kind-width.ensures.width) (before.measured all long are));
       kept = λ le.
-          rw (next, after, c.keep.ensures.kept (omega arith))
+          rw (next, after, c.keep_width.ensures.kept (omega arith))
           (kept_step lanes (first_kind c.args.kind) c.loop-index.kind values rest (take i c.loop-index.widths) width
           (rw block at c.num_bits_kind-width.ensures.width) (before.kept (omega arith)));
       least =
-          least_step lanes (first_kind c.args.kind) c.loop-index.kind values rest c.loop-index.widths c.keep.new.widths i width
-          (rw block at c.num_bits_kind-width.ensures.width) c.keep.ensures.kept c.keep.ensures.past before.kept before.least;
+          least_step lanes (first_kind c.args.kind) c.loop-index.kind values rest c.loop-index.widths c.keep_width.new.widths i width
+          (rw block at c.num_bits_kind-width.ensures.width) c.keep_width.ensures.kept c.keep_width.ensures.past before.kept before.least;
     }
 
 pub returns-clause-room : goal.returns-clause-room

@@ -6,7 +6,7 @@ use Rattle.std.proofs.lemmas.List.Elements.{All-drop, All-take}
 use borrow.Rule.Slice.PartMut.{put_mid}
 use Rattle.bitpacking.specs.Codes.{AreWords}
 use Rattle.bitpacking.proofs.ForCallers.{AreWords-from_slice}
-use Rattle.bitpack_lists.specs.Groups.{IsGroup, groups_of}
+use Rattle.bitpack_lists.specs.Groups.{AreGroups, IsGroup, groups_of}
 use Rattle.bitpack_lists.proofs.lemmas.blocks.ChainLemmas.{take-put_end}
 use Rattle.bitpack_lists.proofs.lemmas.blocks.GroupSteps.{length-written}
 use Rattle.bitpack_lists.proofs.lemmas.v3.TailSteps.{groups_exist, length-lent, lent_group, next_group, no_group, same_group}
@@ -87,16 +87,20 @@ loop-index-preserved c =
       long = kept ∙ before.long;
     }
 
+-- After the last group, what is written is all of them.
 pub returns : goal.returns
-returns c = record {
-  groups = λ groups are.
-      let codes : List ℕ = c.args.codes.now in
-      let i : ℕ = c.loop-index.index in
-      let end : ℕ = c.loop-index.end in
-      let bytes : List ℕ = c.loop-index.bytes in
-      let (later, left, items) = c.loop-index.invariant.written groups are in
-      let none = no_group (groups_of (length codes)) i (drop (32 * i) codes) later (omega arith) left in
-      let done : take end bytes ≡ groups = sym (append-nil (take end bytes)) ∙ ap (λ zs. take end bytes ++ zs) (sym none) ∙ items in
-      let size : length groups ≡ end = ap length (sym done) ∙ length-take-le end bytes c.loop-index.invariant.within in
-      ap (λ n. take n bytes) size ∙ done;
-}
+returns c =
+    let codes : List ℕ = c.args.codes.now in
+    let end : ℕ = c.loop-index.end in
+    let bytes : List ℕ = c.loop-index.bytes in
+    let done : (groups : List ℕ) → AreGroups (groups_of (length codes)) codes groups → take end bytes ≡ groups = λ groups are.
+    let (later, left, items) = c.loop-index.invariant.written groups are in
+    let none = no_group (groups_of (length codes)) c.loop-index.index (drop (32 * c.loop-index.index) codes) later (omega arith) left in
+    sym (append-nil (take end bytes)) ∙ ap (λ zs. take end bytes ++ zs) (sym none) ∙ items in
+    let size : (groups : List ℕ) → AreGroups (groups_of (length codes)) codes groups → end ≡ length groups = λ groups are.
+    sym (length-take-le end bytes c.loop-index.invariant.within) ∙ ap length (done groups are) in
+    record {
+      groups = λ groups are. ap (λ n. take n bytes) (sym (size groups are)) ∙ done groups are;
+      len = size;
+      within = c.loop-index.invariant.within;
+    }

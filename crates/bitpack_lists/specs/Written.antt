@@ -1,0 +1,16 @@
+-- What a call that writes a list into a slice leaves, for a version that is a value.
+use Rattle.std.specs.Prelude.{◌≡◌, ℕ, ◌<◌, ◌++◌, List, drop, length, None, Result, Err, IfErr, IfOk, MatchOption, OnErr}
+use Rattle.bitpacking.specs.Bits.{AreBytes}
+use Rattle.bitpack_lists.specs.declared.list_error.ListError.{ListError}
+use Rattle.bitpack_lists.specs.declared.list_error.ListError.TheVariants.{Short}
+use Rattle.bitpack_lists.specs.declared.list_kind.ListKind.{ListKind}
+use Rattle.bitpack_lists.specs.declared.version.Version.{Version}
+use Rattle.bitpack_lists.specs.Texts.{IsText}
+use Rattle.bitpack_lists.specs.Version2.{values_fault}
+
+-- the text of the values is written, and what is after it stays; or they have a fault, or the slice is short for the text, and nothing changed
+pub record WritesText (version : Version) (lanes : ℕ) (kind : ListKind) (values : List ℕ) (result : Result ℕ ListError) (old new : List ℕ) : Type 0 where
+  pub ok : IfOk result (λ len. (text : List ℕ) × AreBytes text × IsText version lanes kind values text × (len ≡ length text) × (new ≡ text ++ drop len old))
+  pub fault : MatchOption (values_fault kind values) (IfErr result (λ e. e ≡ Short)) (λ fault. result ≡ Err fault)
+  pub room : values_fault kind values ≡ None → OnErr result ((text : List ℕ) → IsText version lanes kind values text → length old < length text)
+  pub unchanged : OnErr result (new ≡ old)
