@@ -69,7 +69,6 @@ GROUPS = (f"{LISTS}/v3/group.rt", "BitPacker1x")
 # anew; and the values at hand of a list, which save a seek for each.
 SHAPES = {
     f"{LISTS}/opened/walk.rt": ["for number in 0..one.count / P::BLOCK_LEN { if walk.want > u32::MAX as u64 { return; }"],
-    f"{SORTED}/retaining.rt": ["if item < last { *cursor = DistinctValues::new(list.cursor()); } finds_next(cursor, item)"],
     f"{SORTED}/distinct_values.rt": [
         "fn at_hand(&self) -> &[u32] { self.cursor.block() }",
         "fn seek_ahead(&mut self, target: u32, ahead: usize) { self.cursor.seek_ahead(target, ahead); }",

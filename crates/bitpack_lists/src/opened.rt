@@ -1,7 +1,6 @@
 //! A packed list of version 2 or 3, read in place: it borrows its text.
 
 mod blocks;
-mod common;
 mod copying;
 mod cursor;
 mod intersection;
@@ -28,7 +27,6 @@ use crate::list_kind::ListKind;
 use crate::v2::opening::test;
 use crate::version::Version;
 use bitpacking::{BitPacker, Kind};
-pub use common::append_common;
 pub use cursor::{Cursor, first_ahead, first_from};
 pub use intersection::intersect;
 use std::alloc::AllocError;

@@ -3,5 +3,4 @@ pub mod Combined
 pub mod InPlace
 pub mod Leaping
 pub mod Passing
-pub mod Retaining
 pub mod Uniting

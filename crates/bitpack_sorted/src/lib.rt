@@ -36,6 +36,5 @@ pub use in_place::{intersect_in_place, subtract_in_place, unite_in_place};
 pub use increasing_slice::IncreasingSlice;
 pub use or::Or;
 pub use or_all::OrAll;
-pub use retaining::retain_common;
 pub use sorted_cursor::SortedCursor;
 pub use values::Values;

@@ -9,7 +9,7 @@ ghost use Rattle.bitpack_lists.specs.Opened.{values};
 ghost use Rattle.bitpack_lists.specs.Owned.{bytes_of_buf, values_of_buf};
 ghost use Rattle.bitpack_lists.specs.Texts.{IsText};
 
-use bitpack::list2::{ListBuf, PackedList, append_common};
+use bitpack::list2::{ListBuf, PackedList, Reads, intersect};
 use bitpack::{ListError, ListKind};
 use bitpacking::BitPacker;
 use std::alloc::Global;
@@ -29,7 +29,13 @@ pub fn shared_ids<P: BitPacker>(
     let first = PackedList::open_any_as(packer, ListKind::StrictlySorted, first)?;
     let second = PackedList::open_any_as(packer, ListKind::StrictlySorted, second)?;
     let mut shared = Vec::new(alloc);
-    append_common(&first, &second, &mut shared)?;
+    intersect(
+        &first,
+        &second,
+        &mut shared,
+        &mut Reads::new(),
+        &mut Reads::new(),
+    )?;
     Ok(shared)
 }
 

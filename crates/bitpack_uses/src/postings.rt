@@ -11,7 +11,7 @@ use crate::membership::contains;
 use bitpack::laws::{first_is_found, in_order, opened_text};
 use bitpack::list2::{ListBuf, PackedList, Reads};
 use bitpack::{ListError, ListKind};
-use bitpack_sorted::{DistinctValues, retain_common};
+use bitpack_sorted::{DistinctValues, intersect_in_place};
 use bitpacking::BitPacker;
 pub use queries::{and, and_not, first_and_rest, first_shared, or, select};
 use std::alloc::Global;
@@ -26,6 +26,7 @@ pub struct Postings<P: BitPacker> {
 
 impl<P: BitPacker> Postings<P> {
     ghost use Rattle.std.specs.Prelude.{◌≢◌, ◌↔◌, ◌^◌, ◌≤◌, ◌<◌, ℕ, List, Contains, Err, IfErr, IfOk, IsTrue, MatchOption, Some, filter, length, vec_capacity};
+    ghost use Rattle.std.specs.List.Sorted.{IsStrictlyIncreasing};
     ghost use Rattle.bitpack_lists.specs.declared.list_error.ListError.{ListError};
     ghost use Rattle.bitpack_sorted.specs.Increasing.{has};
     ghost use Rattle.bitpack_lists.specs.OfKind.{fault2_as};
@@ -150,11 +151,13 @@ impl<P: BitPacker> Postings<P> {
         Ok(ids)
     }
 
-    /// Keeps the ids that this list has too. Allocates nothing.
+    /// Keeps the ids that this list has too, of ids that increase. Allocates nothing.
     pub fn retain_in(&self, ids: &mut Vec<u32>)
+        requires increasing { IsStrictlyIncreasing ids.old.items }
         ensures kept { ids.new.items ≡ filter (has (ids_of self.now)) ids.old.items }
         ensures room { vec_capacity ids.new ≡ vec_capacity ids.old }
     {
-        retain_common(&self.as_list(), ids);
+        let kept = intersect_in_place(ids, &mut self.cursor());
+        ids.truncate(kept);
     }
 }

@@ -1,12 +1,13 @@
 //! What an intersection finds, and what it keeps if it fails.
 
-ghost use Rattle.std.specs.Prelude.{◌≡◌, ◌≢◌, ℕ, Contains, IfErr, IfOk, OnErr, vec_capacity};
+ghost use Rattle.std.specs.Prelude.{◌≡◌, ◌≢◌, ◌++◌, ℕ, Contains, IfErr, IfOk, List, OnErr, OnOk, vec_capacity};
 ghost use Rattle.bitpack_lists.specs.declared.list_error.ListError.{ListError};
 ghost use Rattle.bitpack_lists.specs.declared.list_kind.ListKind.{ListKind};
+ghost use Rattle.bitpack_lists.specs.Intersections.{IsCommon};
 ghost use Rattle.bitpack_lists.specs.Opened.{kind_of, values};
 
 use bitpack::ListError;
-use bitpack::list2::{PackedList, Reads, append_common, intersect};
+use bitpack::list2::{PackedList, Reads, intersect};
 use bitpacking::BitPacker;
 use std::alloc::Global;
 
@@ -53,8 +54,10 @@ pub fn append_uncounted<P: BitPacker, Q: BitPacker>(
 ) -> Result<(), ListError>
     requires ordered_a { kind_of a.now ≢ ListKind.Plain }
     requires ordered_b { kind_of b.now ≢ ListKind.Plain }
+    ensures shared { OnOk result ((shared : List ℕ) × IsCommon (values a.now) (values b.now) shared
+        × (out.new.items ≡ out.old.items ++ shared)) }
     ensures items { OnErr result (out.new.items ≡ out.old.items) }
     ensures room { OnErr result (vec_capacity out.new ≡ vec_capacity out.old) }
 {
-    append_common(a, b, out)
+    intersect(a, b, out, &mut Reads::new(), &mut Reads::new())
 }

@@ -4,10 +4,10 @@
 ghost use Rattle.std.specs.Prelude.{IsTrue};
 ghost use Rattle.bitpack_lists.specs.Version3.{HasCode};
 
-use super::checks::holds;
+use super::checks::{holds, is_increasing};
 use bitpack::list2::{Cursor, PackedList, Reads, intersect};
 use bitpack::{ListError, ListKind, list, list2, list3};
-use bitpack_sorted::retain_common;
+use bitpack_sorted::{DistinctValues, intersect_in_place};
 use bitpacking::BitPacker;
 use std::process::Abort;
 
@@ -216,15 +216,16 @@ pub(super) fn walk<P: BitPacker>(list: &PackedList<'_, P>) -> usize {
     walked
 }
 
-/// Keeps the items that a list has too, if it is in order.
+/// Keeps the items that a list has too, if both are in order.
 pub(super) fn retain<P: BitPacker>(
     rt: &impl Abort,
     list: &PackedList<'_, P>,
     items: &mut Vec<u32>,
 ) {
-    if list.kind() == ListKind::Plain {
-        holds(rt, false, "a list in order");
+    if list.kind() == ListKind::Plain || !is_increasing(items) {
+        holds(rt, false, "a list and items in order");
         return;
     }
-    retain_common(list, items);
+    let kept = intersect_in_place(items, &mut DistinctValues::new(list.cursor()));
+    items.truncate(kept);
 }

@@ -163,7 +163,7 @@ fn list_unpacks_once(rt: &impl Abort, alloc: Global, text: &[u8], values: &[u32]
     counted(rt, counts, [0, 0, 15], "a cursor");
     retain(rt, &list, &mut out);
     same_values(rt, &out, values);
-    counted(rt, counts, [0, 0, 20], "retain_common");
+    counted(rt, counts, [0, 0, 20], "intersect_in_place");
 }
 
 #[test]

@@ -1,6 +1,6 @@
 //! Posting lists. The texts and the ids were worked by hand.
 
-use super::checks::{holds, same_bytes, same_number, same_values};
+use super::checks::{holds, is_increasing, same_bytes, same_number, same_values};
 use crate::postings::{Postings, and, and_not, first_shared, or, select};
 use bitpack::{ListError, ListKind};
 use bitpacking::{BitPacker, BitPacker1x, BitPacker4x};
@@ -26,7 +26,10 @@ fn a_posting_list(rt: HostRuntime) {
     holds(&rt, list.next_at_least(10).is_none(), "no id after 9");
     let mut ids = list.to_vec(rt.alloc()).expect(&rt, "ids");
     same_values(&rt, &ids, &[5, 7, 9]);
-    of(&rt, rt.alloc(), BitPacker4x::new(), &[6, 7, 9, 10]).retain_in(&mut ids);
+    let other = of(&rt, rt.alloc(), BitPacker4x::new(), &[6, 7, 9, 10]);
+    if is_increasing(&ids) {
+        other.retain_in(&mut ids);
+    }
     same_values(&rt, &ids, &[7, 9]);
 }
 
