@@ -22,12 +22,9 @@ use crate::little_endian::write_words;
 use crate::reserved::append_zeros;
 use crate::v3::group::LONGEST_GROUP;
 use crate::v3::header::write_short_header;
-use crate::v3::tail::pack_tail;
+use crate::v3::tail::{LONGEST_TAIL, pack_tail};
 use crate::version::Version;
 use bitpacking::{BitPacker, Kind};
-
-/// The bytes of a tail at most: four for each value, one for each group, and one for the number before the groups.
-const LONGEST_TAIL: usize = 4 * LONGEST_BLOCK + LONGEST_BLOCK / LONGEST_GROUP + 2;
 
 /// The bytes of the tail of a short list at most. Little room takes less time to clear.
 const SHORT_TAIL: usize = 4 * LONGEST_GROUP + 2;

@@ -16,28 +16,26 @@ pub(crate) const KEPT_WIDTHS: usize = 1024;
 /// How many are kept of a list that has more blocks than that, and so takes much longer to write than this room to clear.
 pub(crate) const MANY_WIDTHS: usize = 8192;
 
-/// How many bytes a text of the values has in version 1 or 2, with `entry_len` bytes for each whole block beside its body. The least widths
-/// of its first blocks are kept.
+/// How many bytes a text of the values has in version 1, which has one byte for each whole block beside its body. The least widths of its
+/// first blocks are kept.
 pub(crate) fn text_len<P: BitPacker>(
     packer: &P,
     kind: ListKind,
     values: &[u32],
-    entry_len: usize,
     widths: &mut [u8],
 ) -> usize
     requires few { length values.now ≤ 2 ^ 28 }
-    requires entry { entry_len ≤ 9 }
-    ensures room { HEADER_LEN + entry_len * whole_blocks P.lanes (length values.now)
+    ensures room { HEADER_LEN + whole_blocks P.lanes (length values.now)
         + 4 * tail_values P.lanes (length values.now) ≤ result }
     ensures few { result ≤ 2 ^ 40 }
     ensures len { (all : List ℕ) → length all ≡ whole_blocks P.lanes (length values.now)
         → LeastWidths P.lanes (first_kind kind) values.now all
-        → result ≡ HEADER_LEN + entry_len * whole_blocks P.lanes (length values.now) + 4 * P.lanes * sum all
+        → result ≡ HEADER_LEN + whole_blocks P.lanes (length values.now) + 4 * P.lanes * sum all
         + 4 * tail_values P.lanes (length values.now) }
     ensures widths { LeastWidths P.lanes (first_kind kind) values.now
         (take (whole_blocks P.lanes (length values.now)) widths.new) }
 {
-    let size = HEADER_LEN + blocks_len(packer, kind, values, entry_len, widths);
+    let size = HEADER_LEN + blocks_len(packer, kind, values, 1, widths);
     size + 4 * (values.len() % P::BLOCK_LEN)
 }
 

@@ -44,7 +44,7 @@ pub fn encode<P: BitPacker>(
     }
     let mut widths = [0; KEPT_WIDTHS];
     if out
-        .reserve(text_len(packer, kind, values, 1, &mut widths))
+        .reserve(text_len(packer, kind, values, &mut widths))
         .is_err()
     {
         return Err(ListError::Memory);

@@ -71,16 +71,6 @@ pub(crate) fn unpack_group(count: usize, bytes: &[u8], codes: &mut [u32]) -> usi
     end
 }
 
-/// How many bytes the group of the codes has.
-pub(crate) fn group_len(codes: &[u32]) -> usize
-    requires some { 1 ≤ length codes.now }
-    requires count { length codes.now ≤ LONGEST_GROUP }
-    ensures len { (part : List ℕ) → IsGroup codes.now part → length part ≡ result }
-    ensures few { result ≤ 129 }
-{
-    1 + group_size(codes.len(), least_width(codes))
-}
-
 /// Writes the group of the codes at the start of the slice, and returns its length.
 pub(crate) fn write_group(codes: &[u32], bytes: &mut [u8]) -> usize
     requires some { 1 ≤ length codes.now }

@@ -6,7 +6,7 @@ ghost use Rattle.bitpack_lists.specs.Numbers.{number_end, number_value};
 ghost use Rattle.bitpack_lists.specs.Parts.{FindsFault};
 ghost use Rattle.bitpack_lists.specs.Version3.{count3, count_fault, header3, header_end, header_fault3, kind3};
 
-use super::number::{number_len, test_number, unpack_number, write_number};
+use super::number::{test_number, unpack_number, write_number};
 use crate::header::LONGEST_LIST;
 use crate::list_error::ListError;
 use crate::list_kind::ListKind;
@@ -126,19 +126,6 @@ fn test_count(bytes: &[u8]) -> Result<(usize, usize), ListError>
     Ok((count, size))
 }
 
-/// How many bytes the header of `count` values has.
-#[tactic(auto, unfolding(crate::specs::Version3::header3))]
-pub(crate) fn header_len(count: usize) -> usize
-    requires { count ≤ 2 ^ 28 }
-    ensures len { (kind : ListKind) (lanes : ℕ) → length (header3 kind lanes count) ≡ result }
-    ensures few { result ≤ 6 }
-{
-    if count < COUNTED {
-        return 1;
-    }
-    1 + number_len(count as u32)
-}
-
 /// Writes the header of `count` values at the start of the slice, and returns its length in bytes.
 #[tactic(auto, unfolding(crate::specs::Version3::header3))]
 pub(crate) fn write_short_header(
@@ -151,6 +138,7 @@ pub(crate) fn write_short_header(
     requires room { length (header3 kind lanes count) ≤ length bytes.old }
     ensures len { result ≡ length (header3 kind lanes count) }
     ensures header { take result bytes.new ≡ header3 kind lanes count }
+    ensures few { result ≤ 6 }
 {
     let first = 64 * lanes_code(lanes) + 16 * kind.byte();
     if count < COUNTED {

@@ -54,20 +54,6 @@ pub(crate) fn unpack_number(bytes: &[u8]) -> (u32, usize)
     (value as u32, index + 1)
 }
 
-/// How many bytes a number has.
-pub(crate) fn number_len(value: u32) -> usize
-    ensures len { result ≡ length (number value) }
-    ensures few { result ≤ LONGEST_NUMBER }
-{
-    let mut len = 1;
-    let mut left = value;
-    while left >= 128 {
-        left /= 128;
-        len += 1;
-    }
-    len
-}
-
 /// Writes the bytes of a number at the start of the slice, and returns how many they are.
 pub(crate) fn write_number(value: u32, bytes: &mut [u8]) -> usize
     requires room { length (number value) ≤ length bytes.old }

@@ -9,8 +9,8 @@ ghost use Rattle.bitpack_lists.specs.inner.Sizes.{tail_room};
 ghost use Rattle.bitpack_lists.specs.Version3.{IsTail3, after_tail3, tail_codes3, tail_fault3};
 
 use super::codes::to_codes;
-use super::group::{LONGEST_GROUP, group_len, test_group, unpack_group, write_group};
-use super::number::{number_len, test_number, unpack_number, write_number};
+use super::group::{LONGEST_GROUP, test_group, unpack_group, write_group};
+use super::number::{test_number, unpack_number, write_number};
 use crate::chain::LONGEST_BLOCK;
 use crate::list_error::ListError;
 use bitpacking::Kind;
@@ -129,32 +129,8 @@ fn before_groups(blocks: usize) -> usize
     if blocks == 0 { 1 } else { 0 }
 }
 
-/// How many bytes the tail of these codes has, after `blocks` blocks.
-pub(crate) fn tail_len(blocks: usize, codes: &[u32]) -> usize
-    requires few { length codes.now ≤ 2 ^ 28 }
-    ensures len { (bytes : List ℕ) → IsTail3 blocks codes.now bytes → length bytes ≡ result }
-    ensures few { result ≤ 2 ^ 36 }
-{
-    if blocks == 0 && codes.len() > 0 {
-        return number_len(codes[0]) + groups_len(&codes[1..]);
-    }
-    groups_len(codes)
-}
-
-/// How many bytes the groups of these codes have.
-fn groups_len(codes: &[u32]) -> usize
-    requires few { length codes.now ≤ 2 ^ 28 }
-    ensures len { (bytes : List ℕ) → AreGroups (groups_of (length codes.now)) codes.now bytes → length bytes ≡ result }
-    ensures few { result ≤ 2 ^ 35 }
-{
-    let mut len = 0;
-    for index in 0..(codes.len() + 31) / LONGEST_GROUP {
-        let from = LONGEST_GROUP * index;
-        let count = next_len(codes.len() - from);
-        len += group_len(&codes[from..from + count]);
-    }
-    len
-}
+/// The bytes of a tail at most: four for each value, one for each group, and one for the number before the groups.
+pub(crate) const LONGEST_TAIL: usize = 4 * LONGEST_BLOCK + LONGEST_BLOCK / LONGEST_GROUP + 2;
 
 /// Writes the tail of the values, which follow `blocks` whole blocks, at the start of the slice, and returns its length in bytes.
 pub(crate) fn pack_tail(kind: Kind, blocks: usize, values: &[u32], bytes: &mut [u8]) -> usize
@@ -191,7 +167,7 @@ fn pack_codes(
 
 /// Writes the codes of a tail, which follow `blocks` whole blocks, at the start of the slice, and returns the length of the tail in
 /// bytes.
-pub(crate) fn write_codes(blocks: usize, codes: &[u32], bytes: &mut [u8]) -> usize
+fn write_codes(blocks: usize, codes: &[u32], bytes: &mut [u8]) -> usize
     requires room { (tail : List ℕ) → IsTail3 blocks codes.now tail → length tail ≤ length bytes.old }
     ensures tail { (tail : List ℕ) → IsTail3 blocks codes.now tail → take (length tail) bytes.new ≡ tail }
     ensures len { (tail : List ℕ) → IsTail3 blocks codes.now tail → result ≡ length tail }

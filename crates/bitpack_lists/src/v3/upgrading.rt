@@ -1,6 +1,6 @@
 //! Makes texts of version 3 from texts of versions 1 and 2. The bytes are untrusted.
 
-ghost use Rattle.std.specs.Prelude.{◌≡◌, ◌+◌, ◌*◌, ◌^◌, ◌≤◌, ◌<◌, ◌++◌, ⊤, ℕ, List, ◌==◌, length, drop, slice_index, OnOk, OnErr, IsOk, IfOk, IfErr, MatchOption, vec_len, vec_capacity};
+ghost use Rattle.std.specs.Prelude.{◌≡◌, ◌+◌, ◌*◌, ◌^◌, ◌≤◌, ◌<◌, ◌++◌, ⊤, ℕ, List, ◌==◌, length, take, drop, slice_index, OnOk, OnErr, IsOk, IfOk, IfErr, MatchOption, vec_len, vec_capacity};
 ghost use Rattle.bitpacking.specs.Bits.{AreBytes};
 ghost use Rattle.bitpacking.specs.Codes.{AreWords, codes};
 ghost use Rattle.bitpacking.specs.Words.{bytes_of_words};
@@ -8,14 +8,13 @@ ghost use Rattle.bitpack_lists.specs.declared.list_kind.ListKind.{ListKind};
 ghost use Rattle.bitpack_lists.specs.Older.{IsOlder, older_fault};
 ghost use Rattle.bitpack_lists.specs.Parts.{whole_blocks};
 ghost use Rattle.bitpack_lists.specs.Version2.{first_out, kind_at};
-ghost use Rattle.bitpack_lists.specs.Version3.{HasCode, IsTail3, List3, header3};
+ghost use Rattle.bitpack_lists.specs.Version3.{HasCode, IsTail3, List3};
 ghost use Rattle.bitpack_lists.specs.inner.Appending.{HasAppended};
 ghost use Rattle.bitpack_lists.specs.inner.Opening.{HasBodies};
 ghost use Rattle.bitpack_lists.specs.inner.Upgrading.{IsOlderRest, IsTestedRest, States3};
 
-use super::codes::to_codes;
-use super::header::{header_len, write_short_header};
-use super::tail::{tail_len, write_codes};
+use super::header::write_short_header;
+use super::tail::{LONGEST_TAIL, pack_tail};
 use crate::blocks::entry::ENTRY_LEN;
 use crate::blocks::reads::Reads;
 use crate::chain::{LONGEST_BLOCK, next_kind};
@@ -23,7 +22,7 @@ use crate::header::{HEADER_LEN, Header};
 use crate::list_error::ListError;
 use crate::list_kind::ListKind;
 use crate::little_endian::read_words;
-use crate::reserved::{append, append_zeros};
+use crate::reserved::append;
 use crate::v1::reading;
 use crate::v2::opening;
 use crate::v2::upgrading::{copy_bodies, test_order, write_entries};
@@ -69,18 +68,18 @@ pub fn upgrade<P: BitPacker>(packer: &P, bytes: &[u8], out: &mut Vec<u8>) -> Res
     let old = test_text(packer, bytes)?;
     let rest = &bytes[HEADER_LEN..];
     let count = old.header.count;
-    let blocks = count / P::BLOCK_LEN;
     let tail = count % P::BLOCK_LEN;
-    let mut room = [0; LONGEST_BLOCK];
-    let codes = &mut room[..tail];
-    read_codes(old.tail_kind, &rest[rest.len() - 4 * tail..], codes);
-    let size = tail_len(blocks, codes);
-    if out.reserve(header_len(count) + old.whole + size).is_err() {
+    let words = &rest[rest.len() - 4 * tail..];
+    let packed = &mut [0; LONGEST_TAIL];
+    let size = pack_words(old.tail_kind, count / P::BLOCK_LEN, words, packed);
+    let header = &mut [0; HEADER_LEN];
+    let start = write_short_header(old.header.kind, P::BLOCK_LEN / 32, count, header);
+    if out.reserve(start + old.whole + size).is_err() {
         return Err(ListError::Memory);
     }
-    append_header(old.header.kind, P::BLOCK_LEN / 32, count, out);
-    write_blocks(packer, old, rest, out);
-    append_tail(blocks, codes, size, out);
+    append(out, &header[..start]);
+    append_blocks(packer, old, rest, out);
+    append(out, &packed[..size]);
     Ok(())
 }
 
@@ -141,21 +140,23 @@ fn kind_after(kind: ListKind, blocks: usize, rest: &[u8]) -> Kind
     next_kind(kind.first(), entry.last)
 }
 
-/// The codes of the tail whose values are these words.
-fn read_codes(kind: Kind, words: &[u8], codes: &mut [u32])
-    requires few { length codes.old ≤ LONGEST_BLOCK }
-    requires words { length words.now ≡ 4 * length codes.old }
-    ensures codes { (values : List ℕ) → AreWords values → words.now ≡ bytes_of_words values
-        → codes.new ≡ Rattle.bitpacking.specs.Codes.codes kind values }
+/// Writes the tail whose values are these words, which follow `blocks` whole blocks, at the start of the slice, and returns its length
+/// in bytes.
+fn pack_words(kind: Kind, blocks: usize, words: &[u8], bytes: &mut [u8]) -> usize
+    requires few { length words.now ≤ 4 * LONGEST_BLOCK }
+    requires room { LONGEST_TAIL ≤ length bytes.old }
+    ensures tail { (values : List ℕ) → AreWords values → words.now ≡ bytes_of_words values
+        → IsTail3 blocks (codes kind values) (take result bytes.new) }
+    ensures within { result ≤ LONGEST_TAIL }
 {
     let mut room = [0; LONGEST_BLOCK];
-    let values = &mut room[..codes.len()];
+    let values = &mut room[..words.len() / 4];
     read_words(words, values);
-    to_codes(kind, values, codes);
+    pack_tail(kind, blocks, values, bytes)
 }
 
 /// Appends the entries and the bodies, if there is room for them.
-fn write_blocks<P: BitPacker>(packer: &P, old: OldText, rest: &[u8], out: &mut Vec<u8>)
+fn append_blocks<P: BitPacker>(packer: &P, old: OldText, rest: &[u8], out: &mut Vec<u8>)
     requires tested { IsTestedRest old.is_two P.lanes old.header.count old.whole rest.now }
     requires room { vec_len out.old + old.whole ≤ vec_capacity out.old }
     ensures front { (values : List ℕ)
@@ -169,26 +170,4 @@ fn write_blocks<P: BitPacker>(packer: &P, old: OldText, rest: &[u8], out: &mut V
     }
     write_entries(packer, old.header, rest, out);
     let _tail = copy_bodies::<P>(old.header, rest, out);
-}
-
-/// Appends the header, if there is room for it.
-fn append_header(kind: ListKind, lanes: usize, count: usize, out: &mut Vec<u8>)
-    requires count { count ≤ 2 ^ 28 }
-    requires room { vec_len out.old + length (header3 kind lanes count) ≤ vec_capacity out.old }
-    ensures { HasAppended out.old out.new (header3 kind lanes count) }
-{
-    let start = out.len();
-    append_zeros(out, 0, header_len(count));
-    write_short_header(kind, lanes, count, out.slice_mut(start..));
-}
-
-/// Appends the tail of these codes, which has this length, if there is room for it.
-fn append_tail(blocks: usize, codes: &[u32], size: usize, out: &mut Vec<u8>)
-    requires size { (bytes : List ℕ) → IsTail3 blocks codes.now bytes → length bytes ≡ size }
-    requires room { vec_len out.old + size ≤ vec_capacity out.old }
-    ensures tail { (bytes : List ℕ) → IsTail3 blocks codes.now bytes → out.new.items ≡ out.old.items ++ bytes }
-{
-    let start = out.len();
-    append_zeros(out, 0, size);
-    let _len = write_codes(blocks, codes, out.slice_mut(start..));
 }

@@ -140,12 +140,6 @@ pub record Entered (lanes : ℕ) (kind : ListKind) (values rest : List ℕ) (blo
   pub entries : AreEntries lanes block kind values rest
   pub long : length rest ≡ 9 * block
 
--- The entries of all blocks, before the first body.
-pub entered_done : (lanes : ℕ) (kind : ListKind) (values rest : List ℕ) (blocks : ℕ) (block_kind : Kind) (offset : ℕ)
-    → Entered lanes kind values rest blocks block_kind offset → HasBodies lanes blocks kind values rest 0
-entered_done lanes kind values rest blocks block_kind offset entered =
-    record { entries = entered.entries; bodies = λ block lt. absurd (omega arith); long = omega (arith, entered.long) }
-
 pub entered_step : (lanes len width : ℕ) (kind : ListKind) (values part rest : List ℕ) (block : ℕ) (block_kind : Kind) (offset : ℕ)
     → Entered lanes kind values rest block block_kind offset → 1 ≤ lanes → len ≡ 32 * lanes → part ≡ block_of lanes values block
     → 32 * lanes * (block + 1) ≤ length values → length values ≤ 2 ^ 28 → AreWords values → IsWidth block_kind part width → width ≤ 32

@@ -73,7 +73,7 @@ widths_of_blocks lanes (suc count) kind values bytes (part, rest, e, is, more) =
 
 pub length-text1 : (lanes size_of : ℕ) (kind : ListKind) (values text : List ℕ)
     → ((all : List ℕ) → length all ≡ whole_blocks lanes (length values) → LeastWidths lanes (first_kind kind) values all
-    → size_of ≡ 7 + 1 * whole_blocks lanes (length values) + 4 * lanes * sum all + 4 * tail_values lanes (length values))
+    → size_of ≡ 7 + whole_blocks lanes (length values) + 4 * lanes * sum all + 4 * tail_values lanes (length values))
     → List1 lanes kind values text → length text ≡ size_of
 length-text1 lanes size_of kind values text measured list =
     let blocks : ℕ = whole_blocks lanes (length values) in

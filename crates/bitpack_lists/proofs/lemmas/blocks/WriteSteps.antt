@@ -6,7 +6,6 @@ use Rattle.std.proofs.Math.Seq.{drop-cons}
 use Rattle.std.proofs.lemmas.Bool.{cases_lt}
 use Rattle.std.proofs.lemmas.List.{append-nil, length-append, length-drop, get_or-take, take_all, take_rest, drop_all}
 use Rattle.std.proofs.lemmas.Nat.{mul-le}
-use borrow.Rule.Slice.PartMut.{put_mid}
 use Rattle.bitpacking.specs.declared.kind.Kind.{Kind}
 use Rattle.bitpacking.specs.Bits.{AreBytes}
 use Rattle.bitpacking.specs.Calls.{CanPack}
@@ -18,8 +17,6 @@ use Rattle.bitpack_lists.specs.Parts.{whole_blocks}
 use Rattle.bitpack_lists.specs.Version1.{IsPart1, Blocks1}
 use Rattle.bitpacking.proofs.ForCallers.{length-bytes_of_words}
 use Rattle.bitpack_lists.proofs.lemmas.blocks.PartLemmas.{AreBytes-left, AreBytes-right}
-use Rattle.bitpack_lists.proofs.lemmas.blocks.ChainLemmas.{put_end}
-use Rattle.bitpack_lists.proofs.lemmas.blocks.GroupSteps.{length-written}
 use Rattle.bitpack_lists.proofs.lemmas.v1.OneText1.{length-part, same_part}
 
 -- ---- the values that are left
@@ -151,12 +148,3 @@ whole_end lanes len count whole =
 -- A slice after its front, and how long that is.
 pub lent_after : (start : ℕ) (xs : List ℕ) → length (take (length xs - start) (drop start xs)) ≡ length xs - start
 lent_after start xs = ap length (take_rest xs start) ∙ length-drop start xs
-
--- What was written after the front of a slice, and then after the front of that.
-pub parts_are : (start end : ℕ) (xs rest later : List ℕ) → start ≤ length xs → length rest ≡ length xs - start → end ≤ length rest
-    → length later ≡ length rest - end
-    → put_mid start (length xs - start) xs (put_mid end (length rest - end) rest later) ≡ take start xs ++ (take end rest ++ later)
-parts_are start end xs rest later within long within' long' =
-    let same : length (put_mid end (length rest - end) rest later) ≡ length rest =
-    length-written end (length rest - end) rest later within' long' (omega (arith, within')) in
-    put_end start xs (put_mid end (length rest - end) rest later) within (same ∙ long) ∙ ap (λ zs. take start xs ++ zs) (put_end end rest later within' long')

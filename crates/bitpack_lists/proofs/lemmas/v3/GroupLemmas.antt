@@ -11,7 +11,7 @@ use lib.Count.{count_leading_zeros}
 use Rattle.bitpacking.specs.Bits.{AreBytes}
 use Rattle.bitpacking.specs.Width.{Fits, Least}
 use Rattle.bitpacking.specs.Layout.{codes_of, size, Layout}
-use Rattle.bitpacking.proofs.ForCallers.{same_least_width, AreBytes-take, one_layout_bytes, one_layout_codes}
+use Rattle.bitpacking.proofs.ForCallers.{AreBytes-take, one_layout_bytes, one_layout_codes}
 use Rattle.bitpack_lists.specs.declared.list_error.ListError.TheVariants.{Short, BadWidth, LooseWidth, Padding}
 use Rattle.bitpack_lists.specs.Groups.{group_size, padded, IsGroup, body_of, all_codes, are_loose, are_zeros, group_end, group_fault}
 use Rattle.bitpack_lists.proofs.lemmas.blocks.HeaderLemmas.{passed}
@@ -168,13 +168,3 @@ written-room codes width few least =
 
 pub padded-is : (codes : List ℕ) → length codes ≤ 32 → codes ++ drop (length codes) (replicate {A = ℕ} 32 0) ≡ padded codes
 padded-is codes few = ap (λ zs. codes ++ zs) (drop-replicate (length codes) 32 0)
-
--- How long a group is, by the least width of its codes.
-pub length-group : (codes part : List ℕ) (width : ℕ) → length codes ≤ 32 → Least codes width → IsGroup codes part
-    → length part ≡ 1 + group_size (length codes) width
-length-group codes part width few least group =
-    let same : group.width ≡ width = same_least_width codes width group.width least group.least in
-    let le : group_size (length codes) group.width ≤ 4 * group.width = group_size-le (length codes) group.width few in
-    let long : length group.body ≡ 4 * group.width = group.layout.byte_count ∙ omega arith in
-    ap length group.parts ∙ ap suc (length-take-le (group_size (length codes) group.width) group.body (omega (arith, le, long)))
-    ∙ ap (λ w. suc (group_size (length codes) w)) same ∙ omega arith

@@ -1,7 +1,7 @@
 -- Entries and bodies that are written side by side: one block more, and the room for it.
 -- Serves writing.
-use Rattle.std.proofs.Common.{◌≡◌, ℕ, ◌+◌, ◌*◌, ◌^◌, ◌<◌, ◌≤◌, List, [], ◌++◌, length, take, drop, sym, ◌∙◌, ap, arith, append_assoc}
-use Rattle.std.proofs.lemmas.List.{length-append, take-append-drop, take_at, append-nil}
+use Rattle.std.proofs.Common.{◌≡◌, ℕ, ◌+◌, ◌*◌, ◌^◌, ◌<◌, ◌≤◌, List, ◌++◌, length, take, drop, sym, ◌∙◌, ap, arith, append_assoc}
+use Rattle.std.proofs.lemmas.List.{length-append, take-append-drop, take_at}
 use Rattle.bitpacking.specs.declared.kind.Kind.{Kind}
 use Rattle.bitpacking.specs.Codes.{AreWords}
 use Rattle.bitpacking.specs.Layout.{Holds}
@@ -19,10 +19,6 @@ abbrev pub FilledUpto : ℕ → ℕ → ListKind → List ℕ → ℕ → List �
 FilledUpto lanes blocks kind values i front packed =
     (entries : List ℕ) → take (9 * i) entries ≡ front → length entries ≡ 9 * blocks → AreEntries lanes blocks kind values entries
     → HasBodies lanes blocks kind values (entries ++ packed) i
-
-pub filled_none : (lanes blocks : ℕ) (kind : ListKind) (values front : List ℕ) → FilledUpto lanes blocks kind values 0 front []
-filled_none lanes blocks kind values front = λ entries is long are.
-    rw (append-nil entries) (record { entries = are; bodies = λ block lt. absurd (omega arith); long = omega (arith, long) })
 
 pub filled_step : (lanes blocks i width : ℕ) (kind : ListKind) (block_kind : Kind) (values front entry packed body : List ℕ) → i < blocks
     → length front ≡ 9 * i → length entry ≡ 9 → width_at (front ++ entry) i ≡ width → block_kind ≡ kind_at kind front i

@@ -13,6 +13,3 @@ returns-in-Two-clause-header c =
     let is = c.copy_from_slice.ensures.after ∙ c.bytes.ensures in
     let seven : length c.copy_from_slice.new.self ≡ 7 = ap length is ∙ length-header 2 c.args.kind c.args.lanes c.args.count in
     rw c.in-Two.is (take_at c.copy_from_slice.new.self (drop 7 c.args.bytes.now) 7 seven ∙ is)
-
-pub returns-in-Three-clause-few : goal.returns-in-Three-clause-few
-returns-in-Three-clause-few c = omega (arith, (header_fits c.args.kind c.args.lanes c.args.count).0, c.write_short_header.ensures.len)

@@ -9,6 +9,7 @@ use Rattle.bitpack_lists.specs.Numbers.{number}
 use Rattle.bitpack_lists.specs.Parts.{kind_byte}
 use Rattle.bitpack_lists.specs.Version3.{header3, lanes_code}
 use Rattle.bitpack_lists.proofs.lemmas.blocks.ChainLemmas.{take-put_end}
+use Rattle.bitpack_lists.proofs.lemmas.laws.TextLengths.{header_fits}
 use Rattle.bitpack_lists.proofs.v3.header.write_short_header.Goals as goal
 
 small_header : (kind : ListKind) (lanes count : ℕ) → count < 15 → header3 kind lanes count ≡ (64 * lanes_code lanes + 16 * kind_byte kind + count) ∷ []
@@ -38,3 +39,6 @@ returns-clause-header c =
     (take-put_end 1 c.write_number.result bytes c.write_number.new.bytes some long
     ∙ ap (λ zs. zs ++ take c.write_number.result c.write_number.new.bytes) (take-suc-set c.args.bytes.now 0 first (omega (arith, size, some)))
     ∙ ap (λ zs. first ∷ zs) c.write_number.ensures.number)
+
+pub returns-clause-few : goal.returns-clause-few
+returns-clause-few c = omega (arith, (header_fits c.args.kind c.args.lanes c.args.count).0, ap length (large_header c.args.kind c.args.lanes c.args.count c.if-count-lt-COUNTED.false), c.write_number.ensures.len)

@@ -4,7 +4,7 @@ use Rattle.bitpack_lists.specs.Parts.{tail_values, whole_blocks}
 use Rattle.bitpack_lists.specs.inner.Upgrading.{IsOlderRest, IsTestedRest}
 use Rattle.bitpack_lists.proofs.lemmas.v2.UpgradeSteps.{enough_left}
 use Rattle.bitpack_lists.proofs.lemmas.v3.UpgradeSteps3.{front_of_two}
-use Rattle.bitpack_lists.proofs.v3.upgrading.write_blocks.Goals as goal
+use Rattle.bitpack_lists.proofs.v3.upgrading.append_blocks.Goals as goal
 
 pub returns-then-old : goal.returns-then-old
 returns-then-old g c = record {
