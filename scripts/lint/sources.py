@@ -21,8 +21,8 @@
   has a mark, none of a trait needs one, and no code calls `get`.
 - So do the functions of `bitpacking_c` that call these or one with a `Reads`, with what they call in turn. Those for blocks and chains of a
   packer call one function.
-- A walk reads no entry once nothing is wanted. The items of a vector begin a cursor anew only for one below the last. The values of a list
-  have some at hand. How far searches go step by step, and how many widths are kept, is in bounds.
+- A walk reads no entry once nothing is wanted. The items of a vector begin a cursor anew only for one below the last. A list shows
+  its current block. How far searches go step by step, and how many widths are kept, is in bounds.
 
 Then the wrong changes of scripts/mutate/edits/sources/ are tried, as scripts/mutate/changes.py says. The last line is 'N passed, M failed'.
 """
@@ -66,12 +66,12 @@ CHOICE = {
 }
 GROUPS = (f"{LISTS}/v3/group.rt", "BitPacker1x")
 # What code of lists has once, by file: the loop of a walk, which reads no entry once nothing is wanted; where a cursor begins
-# anew; and the values at hand of a list, which save a seek for each.
+# anew; and the current block of a list, which saves a seek for each of its values.
 SHAPES = {
     f"{LISTS}/opened/walk.rt": ["for number in 0..one.count / P::BLOCK_LEN { if walk.want > u32::MAX as u64 { return; }"],
     f"{SORTED}/distinct_values.rt": [
-        "fn at_hand(&self) -> &[u32] { self.cursor.block() }",
-        "fn seek_ahead(&mut self, target: u32, ahead: usize) { self.cursor.seek_ahead(target, ahead); }",
+        "fn block(&self) -> &[u32] { self.cursor.block() }",
+        "fn seek_ahead(&mut self, target: u32, ahead: usize) -> Option<u32> { self.cursor.seek_ahead(target, ahead); self.cursor.value() }",
     ],
 }
 # By file and name, the least and the most that a constant may be: how far a search goes step by step, how many values show whether it

@@ -1,10 +1,10 @@
 -- What becomes of the numbers of two lists when one of the lists moves on.
-use Rattle.std.proofs.Common.{◌≡◌, ◌⊎◌, ℕ, ◌+◌, ◌<◌, ◌≤◌, Bool, true, false, not, ◌&&◌, ◌||◌, List, [], ◌∷◌, length, Option, Some, None, refl, sym, ◌∙◌, ap, arith, inl, inr, leb}
+use Rattle.std.proofs.Common.{◌≡◌, ◌⊎◌, ℕ, ◌+◌, ◌<◌, ◌≤◌, Bool, true, false, not, ◌&&◌, ◌||◌, List, [], ◌∷◌, length, min, Option, Some, None, refl, sym, ◌∙◌, ap, arith, inl, inr, leb}
 use Rattle.std.specs.List.{filter}
 use Rattle.std.proofs.Math.Bool.{and-false}
 use Rattle.std.proofs.lemmas.Bool.{and_parts, cases_lt, cases_order, cond_both, le-leb, leb-true, lt-leb, not-true, or_from, or_left, or_parts, or_right, true≢false}
 use Rattle.bitpack_sorted.specs.Increasing.{IsIncreasing, after_first, at_least, first, has, shared, united, without}
-use Rattle.bitpack_sorted.specs.inner.Combined.{IsKept, IsShared}
+use Rattle.bitpack_sorted.specs.inner.Combined.{HaveMet, lesser_of}
 use Rattle.bitpack_sorted.specs.IncreasingLaws.{increasing_at_least, increasing_shared, increasing_united, increasing_without}
 use Rattle.bitpack_sorted.proofs.Membership.{after_least, first_has, first_head, first_is, first_least, first_none, has-at_least, has-shared, has-united, has-without, same_numbers}
 
@@ -202,11 +202,37 @@ at_least-above target xs v e =
     let among = and_parts (has xs v) (leb target v) (sym (has-at_least target xs v) ∙ first_has (at_least target xs) v e) in
     leb-true target v among.1
 
-pub IsShared-none : (xs ys : List ℕ) → first (shared xs ys) ≡ None → IsShared None xs ys
-IsShared-none xs ys e = record { is = sym e; one = λ v f. absurd cc; other = λ v f. absurd cc }
+-- ---- two cursors that have met
 
-pub IsShared-some : (xs ys : List ℕ) (w : ℕ) → first xs ≡ Some w → first ys ≡ Some w → IsShared (Some w) xs ys
-IsShared-some xs ys w e f = record { is = sym (shared-both xs ys w e f); one = λ v h. e ∙ h; other = λ v h. f ∙ h }
+-- if the second has not ended, the first is at what both share, or has ended
+met_first : (xs ys : List ℕ) (w : ℕ) → HaveMet xs ys → first ys ≡ Some w → first xs ≡ first (shared xs ys)
+met_first xs ys w met there = go (first xs) refl
+  where
+    go : (found : Option ℕ) → first xs ≡ found → first xs ≡ first (shared xs ys)
+    go None e = e ∙ sym (shared-none xs ys e)
+    go (Some v) e =
+        let same : v ≡ w = met v w e there in
+        e ∙ sym (shared-both xs ys v e (there ∙ ap Some (sym same)))
+
+pub met_begins : (xs ys : List ℕ) → HaveMet xs ys → (first ys ≡ None → ⊥) → first xs ≡ first (shared xs ys)
+met_begins xs ys met some = go (first ys) refl
+  where
+    go : (found : Option ℕ) → first ys ≡ found → first xs ≡ first (shared xs ys)
+    go None e = absurd (some e)
+    go (Some w) e = met_first xs ys w met e
+
+-- both are at the first value that they share
+pub met_both : (xs ys : List ℕ) (v : ℕ) → IsIncreasing xs → HaveMet xs ys → Some v ≡ first (shared xs ys) → (first xs ≡ Some v) × (first ys ≡ Some v)
+met_both xs ys v increasing met is = go (first ys) refl
+  where
+    go : (found : Option ℕ) → first ys ≡ found → (first xs ≡ Some v) × (first ys ≡ Some v)
+    go None e =
+        let clash : Some v ≡ None = is ∙ shared-none_other xs ys increasing e in
+        absurd cc
+    go (Some w) e =
+        let here : first xs ≡ Some v = met_first xs ys w met e ∙ sym is in
+        let same : v ≡ w = met v w here e in
+        (here, e ∙ ap Some (sym same))
 
 -- a turn of the loop that moves two cursors to a value that both have
 module _ (xs ys ys' : List ℕ) (w : ℕ) (increasing : IsIncreasing xs) (here : Some w ≡ first xs) (sought : ys' ≡ at_least w ys) where
@@ -223,9 +249,15 @@ module _ (xs ys ys' : List ℕ) (w : ℕ) (increasing : IsIncreasing xs) (here :
     pub meet_both : IsIncreasing ys' → shared xs' ys' ≡ shared xs ys
     meet_both other = ap (λ (zs : List ℕ). shared zs ys') leapt ∙ shared-one xs ys' v increasing other (sym found) ∙ meet_other
 
-pub and_next : (value : Option ℕ) (v : ℕ) (xs xs' ys : List ℕ) → IsShared value xs ys → value ≡ Some v → xs' ≡ after_first xs
-    → shared xs' ys ≡ after_first (shared xs ys)
-and_next value v xs xs' ys place e moved = ap (λ (zs : List ℕ). shared zs ys) moved ∙ shared-next xs ys v (place.one v e) (place.other v e)
+pub and_next : (xs xs' ys : List ℕ) → IsIncreasing xs → IsIncreasing xs' → HaveMet xs ys → xs' ≡ after_first xs → shared xs' ys ≡ after_first (shared xs ys)
+and_next xs xs' ys increasing rises met moved = go (first xs) refl (first ys) refl
+  where
+    go : (one : Option ℕ) → first xs ≡ one → (other : Option ℕ) → first ys ≡ other → shared xs' ys ≡ after_first (shared xs ys)
+    go None e other f = rw (moved, first_none xs e, shared-nil ys) refl
+    go (Some v) e None f = rw (first_none ys f, shared-with_nil xs increasing, shared-with_nil xs' rises) refl
+    go (Some v) e (Some w) f =
+        let same : v ≡ w = met v w e f in
+        ap (λ (zs : List ℕ). shared zs ys) moved ∙ shared-next xs ys v e (f ∙ ap Some (sym same))
 
 pub and_sought : (target : ℕ) (xs xs' ys : List ℕ) → IsIncreasing xs → xs' ≡ at_least target xs → shared xs' ys ≡ at_least target (shared xs ys)
 and_sought target xs xs' ys increasing moved = ap (λ (zs : List ℕ). shared zs ys) moved ∙ shared-seek target xs ys increasing
@@ -241,28 +273,26 @@ stays_none target xs value place e = sym (at_least-none target xs (sym place ∙
 pub stays_last : (xs : List ℕ) (value : Option ℕ) → value ≡ first xs → value ≡ None → xs ≡ after_first xs
 stays_last xs value place e = sym (after_first-none xs (sym place ∙ e))
 
-pub IsKept-none : (xs ys : List ℕ) → first xs ≡ None → IsKept None xs ys
-IsKept-none xs ys e = record { is = sym (without-none xs ys e); one = λ v f. absurd cc }
-
 -- a turn of the loop that moves a cursor to a value that another lacks
 module _ (xs ys ys' : List ℕ) (w : ℕ) (increasing : IsIncreasing xs) (here : Some w ≡ first xs) (sought : ys' ≡ at_least w ys) where
   pub part_other : without xs ys' ≡ without xs ys
   part_other = ap (without xs) sought ∙ without-other xs ys w increasing (sym here)
 
-  pub part_found : IsIncreasing ys → (first ys' ≡ Some w → ⊥) → IsKept (Some w) xs ys'
+  pub part_found : IsIncreasing ys → (first ys' ≡ Some w → ⊥) → Some w ≡ first (without xs ys')
   part_found other lacks =
       let none = at_least-lacks w ys other (λ e. lacks (ap first sought ∙ e)) in
-      let lacks' : has ys' w ≡ false = ap (λ (zs : List ℕ). has zs w) sought ∙ none in
-      record { is = sym (without-first xs ys' w (sym here) lacks'); one = λ v f. sym here ∙ f }
+      sym (without-first xs ys' w (sym here) (ap (λ (zs : List ℕ). has zs w) sought ∙ none))
 
   pub part_next : (v : ℕ) → Some v ≡ first ys' → v ≡ w → (xs' : List ℕ) → xs' ≡ after_first xs → without xs' ys' ≡ without xs ys
   part_next v found same xs' moved =
       ap (λ (zs : List ℕ). without zs ys') moved ∙ without-drop xs ys' w (sym here) (first_has ys' w (sym found ∙ ap Some same)) ∙ part_other
 
-pub and_not_next : (value : Option ℕ) (v : ℕ) (xs xs' ys : List ℕ) → IsKept value xs ys → value ≡ Some v → xs' ≡ after_first xs
-    → without xs' ys ≡ after_first (without xs ys)
-and_not_next value v xs xs' ys place e moved =
-    ap (λ (zs : List ℕ). without zs ys) moved ∙ without-next xs ys v (place.one v e) (sym place.is ∙ e)
+pub and_not_next : (xs xs' ys : List ℕ) → first xs ≡ first (without xs ys) → xs' ≡ after_first xs → without xs' ys ≡ after_first (without xs ys)
+and_not_next xs xs' ys place moved = go (first xs) refl
+  where
+    go : (found : Option ℕ) → first xs ≡ found → without xs' ys ≡ after_first (without xs ys)
+    go None e = rw (moved, first_none xs e, without-nil ys) refl
+    go (Some v) e = ap (λ (zs : List ℕ). without zs ys) moved ∙ without-next xs ys v e (sym place ∙ e)
 
 pub and_not_sought : (target : ℕ) (xs xs' ys : List ℕ) → IsIncreasing xs → xs' ≡ at_least target xs → without xs' ys ≡ at_least target (without xs ys)
 and_not_sought target xs xs' ys increasing moved = ap (λ (zs : List ℕ). without zs ys) moved ∙ without-seek target xs ys increasing
@@ -297,28 +327,59 @@ module _ (xs ys : List ℕ) (one : IsIncreasing xs) (other : IsIncreasing ys) (a
       united-first xs ys a other (or_left (has xs a) (has ys a) (first_has xs a here)) (first_least xs a one here)
       (λ w below. rw (first_none ys none) refl)
 
--- the first of both lists is not above that of either
-pub united-least : (xs ys : List ℕ) (value : Option ℕ) (v : ℕ) → IsIncreasing ys → value ≡ first (united xs ys) → value ≡ Some v → (w : ℕ) → w < v
-    → (has xs w ≡ false) × (has ys w ≡ false)
-united-least xs ys value v increasing place e w lt =
-    let none = first_least (united xs ys) v (increasing_united xs ys increasing) (sym place ∙ e) w lt in
-    or_parts (has xs w) (has ys w) (sym (has-united xs ys w) ∙ none)
+-- the lesser of two firsts is the first of both lists
+united_first : (xs ys : List ℕ) → IsIncreasing xs → IsIncreasing ys → lesser_of (first xs) (first ys) ≡ first (united xs ys)
+united_first xs ys one other = go (first xs) refl (first ys) refl
+  where
+    go : (a : Option ℕ) → first xs ≡ a → (b : Option ℕ) → first ys ≡ b → lesser_of a b ≡ first (united xs ys)
+    go None e b f = sym f ∙ ap first (sym (united-none xs ys e))
+    go (Some a) e None f = least_alone xs ys one other a e f
+    go (Some a) e (Some b) f = elim (cases_lt a b) [
+      | inl lt ↦
+          let is : min a b ≡ a = omega arith in
+          ap Some is ∙ least_one xs ys one other a e b f lt
+      | inr ge ↦
+          let is : min a b ≡ b = omega arith in
+          ap Some is ∙ least_other xs ys one other a e b f ge
+    ]
 
-pub pass_here : (xs xs' : List ℕ) (v here : ℕ) → IsIncreasing xs → Some here ≡ first xs → here ≡ v → xs' ≡ after_first xs → xs' ≡ at_least (v + 1) xs
-pass_here xs xs' v here increasing e same moved = moved ∙ after_least xs v increasing (sym e ∙ ap Some same)
+pub lesser_first : (xs ys : List ℕ) (a b : Option ℕ) → IsIncreasing xs → IsIncreasing ys → a ≡ first xs → b ≡ first ys
+    → lesser_of a b ≡ first (united xs ys)
+lesser_first xs ys a b one other here there = rw (here, there) (united_first xs ys one other)
 
-pub pass_other : (xs : List ℕ) (v here : ℕ) → IsIncreasing xs → Some here ≡ first xs → (here ≡ v → ⊥) → ((w : ℕ) → w < v → has xs w ≡ false)
-    → xs ≡ at_least (v + 1) xs
-pass_other xs v here increasing e away none = elim (cases_order here v) [
-  | inl same ↦ absurd (away same)
-  | inr (inl lt) ↦ absurd (true≢false (sym (first_has xs here (sym e)) ∙ none here lt))
-  | inr (inr gt) ↦ sym (at_least-first (v + 1) xs here increasing (sym e) (omega arith))
+pub united_alone : (xs ys : List ℕ) → IsIncreasing xs → first ys ≡ None → united xs ys ≡ xs
+united_alone xs ys increasing none =
+    rw (first_none ys none)
+    (same_numbers (united xs []) xs (increasing_united xs [] tt) increasing (λ v. has-united xs [] v ∙ or_false (has xs v)))
+  where
+    or_false : (b : Bool) → (b || false) ≡ b
+    or_false true = refl
+    or_false false = refl
+
+-- a cursor that has no value below one moves past it, if it is there
+past_value : (xs xs' : List ℕ) (v here : ℕ) → IsIncreasing xs → first xs ≡ Some here → v ≤ here → (here ≤ v → xs' ≡ after_first xs)
+    → (v < here → xs' ≡ xs) → xs' ≡ at_least (v + 1) xs
+past_value xs xs' v here increasing e least moved stayed = elim (cases_lt v here) [
+  | inl lt ↦ stayed lt ∙ sym (at_least-first (v + 1) xs here increasing e (omega arith))
+  | inr ge ↦
+      let same : here ≡ v = omega arith in
+      moved ge ∙ after_least xs v increasing (e ∙ ap Some same)
 ]
 
 pub or_next : (value : Option ℕ) (v : ℕ) (xs ys xs' ys' : List ℕ) → IsIncreasing ys → value ≡ first (united xs ys) → value ≡ Some v
     → xs' ≡ at_least (v + 1) xs → ys' ≡ at_least (v + 1) ys → united xs' ys' ≡ after_first (united xs ys)
 or_next value v xs ys xs' ys' increasing place e one other =
     rw (one, other) (united-seek (v + 1) xs ys increasing ∙ sym (after_least (united xs ys) v (increasing_united xs ys increasing) (sym place ∙ e)))
+
+-- two cursors, of which each passes its value if it is not above that of the other
+pub or_both : (xs ys xs' ys' : List ℕ) (a b : ℕ) → IsIncreasing xs → IsIncreasing ys → first xs ≡ Some a → first ys ≡ Some b
+    → (a ≤ b → xs' ≡ after_first xs) → (b < a → xs' ≡ xs) → (b ≤ a → ys' ≡ after_first ys) → (a < b → ys' ≡ ys)
+    → united xs' ys' ≡ after_first (united xs ys)
+or_both xs ys xs' ys' a b one other here there moved stayed other_moved other_stayed =
+    let place = lesser_first xs ys (Some a) (Some b) one other (sym here) (sym there) in
+    or_next (Some (min a b)) (min a b) xs ys xs' ys' other place refl
+    (past_value xs xs' (min a b) a one here (omega arith) (λ le. moved (omega arith)) (λ lt. stayed (omega arith)))
+    (past_value ys ys' (min a b) b other there (omega arith) (λ le. other_moved (omega arith)) (λ lt. other_stayed (omega arith)))
 
 pub or_sought : (target : ℕ) (xs ys xs' ys' : List ℕ) → IsIncreasing ys → xs' ≡ at_least target xs → ys' ≡ at_least target ys
     → united xs' ys' ≡ at_least target (united xs ys)

@@ -23,7 +23,7 @@ has-distinct (x ∷ xs) v = step (has-distinct xs v) (has xs x) refl (eqb x v) r
     step rest true e false f = rest
     step rest false e here f = ap (λ b. b || has (distinct xs) v) f ∙ ap (λ b. here || b) rest
 
-below_all : (low v : ℕ) (xs : List ℕ) → AllFrom low xs → v < low → has xs v ≡ false
+pub below_all : (low v : ℕ) (xs : List ℕ) → AllFrom low xs → v < low → has xs v ≡ false
 below_all low v [] from lt = refl
 below_all low v (x ∷ xs) from lt =
     let le : low ≤ x = from.0 in
@@ -46,8 +46,15 @@ distinct-first (x ∷ xs) order =
     here : (eqb x x || has xs x) ≡ true
     here = rw (eq-eqb x x refl) refl
 
+pub first_left : (xs : List ℕ) (p : ℕ) → InOrder xs → first (drop p xs) ≡ first (distinct (drop p xs))
+first_left xs p order = distinct-first (drop p xs) (IsOrdered-from (drop p xs) (InOrder-drop xs p order))
+
 pub value_here : (xs : List ℕ) (p : ℕ) → InOrder xs → slice_get xs p ≡ first (distinct (drop p xs))
-value_here xs p order = get-first p xs ∙ distinct-first (drop p xs) (IsOrdered-from (drop p xs) (InOrder-drop xs p order))
+value_here xs p order = get-first p xs ∙ first_left xs p order
+
+-- the same of a cursor that moved in its list
+pub value_moved : (xs ys : List ℕ) (p : ℕ) → ys ≡ xs → InOrder xs → slice_get ys p ≡ first (distinct (drop p ys))
+value_moved xs ys p same order = rw same (value_here xs p order)
 
 -- ---- a search
 

@@ -1,18 +1,18 @@
--- Values at hand, and what two places do not share, once their values at hand are merged.
-use Rattle.std.proofs.Common.{◌≡◌, ◌⊎◌, ℕ, zero, suc, ◌+◌, ◌<◌, ◌≤◌, Bool, true, false, ◌&&◌, ◌||◌, List, [], ◌∷◌, length, take, drop, get_or, refl, sym, ◌∙◌, ap, arith, inl, inr, leb, eqb}
+-- Current blocks, and what two places do not share, once their blocks are merged.
+use Rattle.std.proofs.Common.{◌≡◌, ◌⊎◌, ℕ, zero, suc, ◌+◌, ◌<◌, ◌≤◌, Bool, true, false, ◌&&◌, ◌||◌, List, [], ◌∷◌, length, take, drop, get_or, Some, None, refl, sym, ◌∙◌, ap, arith, inl, inr, leb, eqb}
 use Rattle.std.proofs.Math.Bool.{and-false}
 use Rattle.std.proofs.lemmas.Bool.{cases_lt, eq-eqb, eqb-true, false_from_ne_true, false≢true, le-leb, lt-leb, or_right, true≢false}
-use Rattle.std.proofs.lemmas.List.{get_or-take, length-take, take_all}
+use Rattle.std.proofs.lemmas.List.{get_or-take, length-drop, length-take, take_all}
 use Rattle.bitpack_lists.specs.Places.{InOrder}
-use Rattle.bitpack_sorted.specs.Increasing.{IsIncreasing, at_least, has, shared}
+use Rattle.bitpack_sorted.specs.Increasing.{IsIncreasing, at_least, first, has, shared}
 use Rattle.bitpack_sorted.specs.IncreasingLaws.{increasing_at_least, increasing_shared}
 use Rattle.bitpack_sorted.specs.Distinct.{distinct}
 use Rattle.bitpack_sorted.specs.DistinctLaws.{InOrder-drop}
 use Rattle.bitpack_sorted.specs.Fronts.{IsFront, NoneBelow}
-use Rattle.bitpack_sorted.proofs.DistinctLemmas.{has-distinct}
-use Rattle.bitpack_sorted.proofs.Membership.{has-at_least, has-shared, same_numbers}
+use Rattle.bitpack_sorted.proofs.DistinctLemmas.{first_left, has-distinct}
+use Rattle.bitpack_sorted.proofs.Membership.{first_has, first_least, has-at_least, has-shared, same_numbers}
 
--- ---- the values at hand of a list in order
+-- ---- the current block of a list in order
 
 has-at : (xs : List ℕ) (k : ℕ) → k < length xs → has xs (get_or xs k 0) ≡ true
 has-at [] k lt = absurd (omega arith)
@@ -30,8 +30,11 @@ place-of (x ∷ xs) v e = step (place-of xs v) (eqb x v) refl e
         let (k, lt, same) = later g in
         (suc k, omega arith, same)
 
-front_take : (n : ℕ) (zs ws : List ℕ) → ((v : ℕ) → has ws v ≡ has zs v) → InOrder zs → IsFront (take n zs) ws
-front_take n zs ws same order = record {
+front_take : (n : ℕ) (zs ws : List ℕ) → ((v : ℕ) → has ws v ≡ has zs v) → InOrder zs → first (take n zs) ≡ first ws → IsFront (take n zs) ws
+front_take n zs ws same order begins = record {
+  first = begins;
+  ordered = λ i j le lt.
+      omega (arith, get_or-take n zs i 0 (omega (arith, near j lt)), get_or-take n zs j 0 (near j lt), order i j le (inside j lt));
   among = λ k lt. ap (has ws) (get_or-take n zs k 0 (near k lt)) ∙ same (get_or zs k 0) ∙ has-at zs k (inside k lt);
   whole = λ k v lt here less.
       let (j, within, at_j) = place-of zs v (sym (same v) ∙ here) in
@@ -50,11 +53,66 @@ front_take n zs ws same order = record {
     sooner j k within at_j below (inl lt) = lt
     sooner j k within at_j below (inr le) = absurd (omega (arith, order k j le within))
 
-pub distinct_front : (n p : ℕ) (xs : List ℕ) → InOrder xs → IsFront (take n (drop p xs)) (distinct (drop p xs))
-distinct_front n p xs order = front_take n (drop p xs) (distinct (drop p xs)) (has-distinct (drop p xs)) (InOrder-drop xs p order)
+first_take : (n : ℕ) (zs : List ℕ) → (0 < length zs → 0 < n) → first (take n zs) ≡ first zs
+first_take zero [] some = refl
+first_take (suc n) [] some = refl
+first_take zero (z ∷ zs) some = absurd (omega (arith, some (omega arith)))
+first_take (suc n) (z ∷ zs) some = refl
+
+pub distinct_front : (n p : ℕ) (xs : List ℕ) → InOrder xs → (p < length xs → 0 < n) → IsFront (take n (drop p xs)) (distinct (drop p xs))
+distinct_front n p xs order some =
+    front_take n (drop p xs) (distinct (drop p xs)) (has-distinct (drop p xs)) (InOrder-drop xs p order)
+    (first_take n (drop p xs) (λ lt. some (omega (arith, length-drop p xs))) ∙ first_left xs p order)
 
 pub slice_front : (xs : List ℕ) → InOrder xs → IsFront xs xs
-slice_front xs order = rw (take_all (length xs) xs (omega arith)) at (front_take (length xs) xs xs (λ v. refl) order)
+slice_front xs order =
+    rw (take_all (length xs) xs (omega arith)) at
+    (front_take (length xs) xs xs (λ v. refl) order (ap first (take_all (length xs) xs (omega arith))))
+
+-- ---- the block of a cursor that is made of others
+
+pub front_none : (xs : List ℕ) → first xs ≡ None → IsFront [] xs
+front_none xs none = record {
+  first = sym none;
+  ordered = λ i j le lt. absurd (omega arith);
+  among = λ k lt. absurd (omega arith);
+  whole = λ k v lt here less. absurd (omega arith);
+}
+
+-- one value, the first
+pub front_first : (block xs zs : List ℕ) → IsFront block xs → first xs ≡ first zs → IsIncreasing zs → IsFront (take 1 block) zs
+front_first [] xs zs front same increasing = front_none zs (sym (front.first ∙ same))
+front_first (x ∷ block) xs zs front same increasing =
+    let is : first zs ≡ Some x = sym (front.first ∙ same) in
+    record {
+      first = sym is;
+      ordered = λ i j le lt.
+          let i_is : i ≡ 0 = omega arith in
+          let j_is : j ≡ 0 = omega arith in
+          rw (i_is, j_is) (omega arith);
+      among = λ k lt.
+          let k_is : k ≡ 0 = omega arith in
+          rw k_is (first_has zs x is);
+      whole = λ k v lt here less.
+          let k_is : k ≡ 0 = omega arith in
+          let below : v < x = rw k_is at less in
+          absurd (true≢false (sym here ∙ first_least zs x increasing is v below));
+    }
+
+pub first_at : (block : List ℕ) → 0 < length block → first block ≡ Some (get_or block 0 0)
+first_at [] lt = absurd (omega arith)
+first_at (x ∷ block) lt = refl
+
+pub some_length : (xs : List ℕ) → (first xs ≡ None → ⊥) → 0 < length xs
+some_length [] some = absurd (some refl)
+some_length (x ∷ xs) some = omega arith
+
+pub front_some : (block xs : List ℕ) → IsFront block xs → (first xs ≡ None → ⊥) → 0 < length block
+front_some block xs front some = some_length block (λ none. some (sym front.first ∙ none))
+
+pub first_of_none : (block : List ℕ) → length block ≡ 0 → first block ≡ None
+first_of_none [] e = refl
+first_of_none (x ∷ block) e = absurd (omega arith)
 
 -- ---- a merge
 

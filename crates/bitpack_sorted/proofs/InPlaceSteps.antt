@@ -5,7 +5,7 @@ use Rattle.std.proofs.lemmas.Bool.{cases_lt, lt-leb}
 use Rattle.std.proofs.lemmas.List.{append_assoc, drop-drop, drop-set-lt, drop_more, length-drop, take_more_set}
 use Rattle.bitpack_sorted.specs.Increasing.{IsIncreasing, at_least, first, has, shared, without}
 use Rattle.bitpack_sorted.specs.IncreasingLaws.{IsIncreasing-from}
-use Rattle.bitpack_sorted.specs.inner.Combined.{IsLater, IsShared}
+use Rattle.bitpack_sorted.specs.inner.Combined.{IsLater}
 use Rattle.bitpack_sorted.specs.inner.InPlace.{IsNextShared}
 use Rattle.bitpack_sorted.proofs.Combining.{at_least-first, part_other, shared-cons, without-dropped, without-kept}
 use Rattle.bitpack_sorted.proofs.Membership.{first_has, first_head, first_none}
@@ -40,10 +40,10 @@ later_sought target xs ys increasing sought =
 -- ---- the next value that others have too
 
 module _ (values : List ℕ) (from : ℕ) (xs ys zs ys' : List ℕ) (is : xs ≡ drop from values) (rest : shared zs ys' ≡ shared xs ys) where
-  pub next_none : IsShared None zs ys' → shared (drop from values) ys ≡ []
-  next_none place = ap (λ xs. shared xs ys) (sym is) ∙ sym rest ∙ first_none (shared zs ys') (sym place.is)
+  pub next_none : None ≡ first (shared zs ys') → shared (drop from values) ys ≡ []
+  next_none none = ap (λ xs. shared xs ys) (sym is) ∙ sym rest ∙ first_none (shared zs ys') (sym none)
 
-  module _ (later : IsLater xs zs) (v : ℕ) (place : IsShared (Some v) zs ys') where
+  module _ (later : IsLater xs zs) (v : ℕ) (here : first zs ≡ Some v) (other : first ys' ≡ Some v) where
     at : ℕ
     at = from + later.0
 
@@ -52,22 +52,22 @@ module _ (values : List ℕ) (from : ℕ) (xs ys zs ys' : List ℕ) (is : xs ≡
 
     within : from + later.0 < length values
     within =
-        let head = first_head zs v (place.one v refl) in
+        let head = first_head zs v here in
         let some : 0 < length zs = rw head (omega arith) in
         omega (arith, length-drop (from + later.0) values, ap length there, some)
 
     pub next_some : (index : ℕ) → index ≡ length values - length zs → IsNextShared values from ys ys' index
     next_some index e =
-        let here : index ≡ from + later.0 = omega (arith, e, within, length-drop (from + later.0) values, ap length there) in
+        let at_index : index ≡ from + later.0 = omega (arith, e, within, length-drop (from + later.0) values, ap length there) in
         let parts : drop index values ≡ get_or values index 0 ∷ drop (index + 1) values = drop_more values index 0 (omega (arith, within)) in
-        let split : zs ≡ get_or values index 0 ∷ drop (index + 1) values = there ∙ ap (λ i. drop i values) (sym here) ∙ parts in
-        let head : first (get_or values index 0 ∷ drop (index + 1) values) ≡ Some v = ap first (sym split) ∙ place.one v refl in
+        let split : zs ≡ get_or values index 0 ∷ drop (index + 1) values = there ∙ ap (λ i. drop i values) (sym at_index) ∙ parts in
+        let head : first (get_or values index 0 ∷ drop (index + 1) values) ≡ Some v = ap first (sym split) ∙ here in
         let same : get_or values index 0 ≡ v = cc in
         record {
           forward = omega arith;
           within = omega (arith, within);
           shares = ap (λ xs. shared xs ys) (sym is) ∙ sym rest ∙ ap (λ zs. shared zs ys') split
-              ∙ shared-cons (get_or values index 0) (drop (index + 1) values) ys' (rw same (first_has ys' v (place.other v refl)));
+              ∙ shared-cons (get_or values index 0) (drop (index + 1) values) ys' (rw same (first_has ys' v other));
         }
 
 -- ---- one value that is moved to the front

@@ -1,7 +1,7 @@
 -- Which numbers are in all of many lists, or in any, and what becomes of them when one of the lists changes.
 use Rattle.std.proofs.Common.{◌≡◌, ◌⊎◌, ℕ, zero, suc, ◌+◌, ◌<◌, ◌≤◌, true, false, ◌&&◌, ◌||◌, List, [], ◌∷◌, length, get_or, set, Option, Some, None, refl, sym, ◌∙◌, ap, arith, inl, inr, leb, eqb}
 use Rattle.std.proofs.Math.Bool.{and-false}
-use Rattle.std.proofs.lemmas.Bool.{cases_lt, cases_order, eq-eqb, le-leb, lt-leb, ne_eqb, or_from, or_right}
+use Rattle.std.proofs.lemmas.Bool.{cases_lt, cases_order, eq-eqb, le-leb, lt-leb, ne_eqb, or_from, or_parts, or_right}
 use Rattle.bitpack_sorted.specs.Increasing.{IsIncreasing, at_least, first, has}
 use Rattle.bitpack_sorted.specs.IncreasingLaws.{increasing_at_least}
 use Rattle.bitpack_sorted.specs.Many.{all_have, any_has, from_value, shared_by_all, united_all}
@@ -45,6 +45,11 @@ any_has-true (xs ∷ lists) (suc i) v lt here = or_right (has xs v) (any_has lis
 pub any_has-false : (lists : List (List ℕ)) (v : ℕ) → ((k : ℕ) → k < length lists → has (get_or lists k []) v ≡ false) → any_has lists v ≡ false
 any_has-false [] v each = refl
 any_has-false (xs ∷ lists) v each = or_from (has xs v) (any_has lists v) (each 0 (omega arith)) (any_has-false lists v (λ k lt. each (suc k) (omega arith)))
+
+pub any_has-none : (lists : List (List ℕ)) (i v : ℕ) → i < length lists → any_has lists v ≡ false → has (get_or lists i []) v ≡ false
+any_has-none [] i v lt none = absurd (omega arith)
+any_has-none (xs ∷ lists) zero v lt none = (or_parts (has xs v) (any_has lists v) none).0
+any_has-none (xs ∷ lists) (suc i) v lt none = any_has-none lists i v (omega arith) (or_parts (has xs v) (any_has lists v) none).1
 
 -- ---- a value, and the numbers above it
 

@@ -1,30 +1,17 @@
 -- Steps of the loops that move many cursors, where each has a list of numbers left.
-use Rattle.std.proofs.Common.{◌≡◌, ◌⊎◌, ℕ, ◌+◌, ◌<◌, ◌≤◌, Bool, true, false, ◌&&◌, List, [], ◌∷◌, length, get_or, set, map, min, Option, Some, None, refl, sym, ◌∙◌, ap, arith, inl, inr, leb}
+use Rattle.std.proofs.Common.{◌≡◌, ◌⊎◌, ℕ, zero, suc, ◌+◌, ◌<◌, ◌≤◌, Bool, true, false, ◌&&◌, List, [], ◌∷◌, length, get_or, set, map, Option, Some, None, refl, sym, ◌∙◌, ap, arith, inl, inr, leb}
 use Rattle.std.specs.Prelude.{slice_set}
-use Rattle.std.proofs.Math.Bool.{and-false}
-use Rattle.std.proofs.lemmas.Bool.{cases_eq, cases_lt, lt-leb, le-leb, true≢false}
+use Rattle.std.proofs.lemmas.Bool.{cases_eq, cases_lt, false≢true, ltb-false, ltb-true, le-leb, true≢false}
 use Rattle.std.proofs.lemmas.List.{get_or-map, get_or-set_other, get_or-set_same, length-map, length-set, map-set}
 use Rattle.bitpack_sorted.specs.Increasing.{IsIncreasing, after_first, at_least, first, has}
-use Rattle.bitpack_sorted.specs.IncreasingLaws.{increasing_at_least}
 use Rattle.bitpack_sorted.specs.Many.{all_have, from_value, shared_by_all, united_all}
 use Rattle.bitpack_sorted.specs.ManyLaws.{increasing_shared_by_all, increasing_united_all}
-use Rattle.bitpack_sorted.specs.inner.Leaping.{IsBefore, IsLeaping, IsLeapt, IsNearer, IsUniting, lesser_of}
-use Rattle.bitpack_sorted.proofs.Combining.{at_least-above, at_least-same, stays_first, stays_none}
-use Rattle.bitpack_sorted.proofs.ManyLemmas.{all_have-false, all_have-set, all_have-true, any_has-false, any_has-true, from_value-first, has-united_all, met_none, met_some, shared_by_all-first, shared_by_all-none, shared_by_all-seek, united_all-seek}
-use Rattle.bitpack_sorted.proofs.Membership.{first_has, first_is, first_least, first_none, has-at_least, same_numbers}
+use Rattle.bitpack_sorted.specs.inner.Leaping.{IsBefore, IsLeaping, IsLeapt, IsLeastAt, IsLed, IsNearer, IsUniting, is_lesser}
+use Rattle.bitpack_sorted.proofs.Combining.{after_first-none, at_least-above, at_least-first, at_least-none, at_least-same}
+use Rattle.bitpack_sorted.proofs.ManyLemmas.{all_have-false, all_have-set, all_have-true, any_has-false, any_has-none, any_has-true, from_value-first, has-shared_by_all, has-united_all, met_none, met_some, shared_by_all-first, shared_by_all-none, shared_by_all-seek, united_all-seek}
+use Rattle.bitpack_sorted.proofs.Membership.{after_least, first_has, first_is, first_least, first_none, has-at_least}
 
 -- ---- one cursor that passes values
-
-pub pass_first : (v here : ℕ) (xs : List ℕ) → first xs ≡ Some here → here ≤ v → at_least (v + 1) (after_first xs) ≡ at_least (v + 1) xs
-unfolding at_least
-pass_first v here [] e le = absurd cc
-pass_first v here (x ∷ xs) e le =
-    let same : x ≡ here = cc in
-    rw (lt-leb (v + 1) x (omega arith)) refl
-
-at_least-skip : (target v : ℕ) (xs : List ℕ) → v < target → at_least target (v ∷ xs) ≡ at_least target xs
-unfolding at_least
-at_least-skip target v xs lt = rw (lt-leb target v lt) refl
 
 pub at_least-zero : (xs : List ℕ) → IsIncreasing xs → at_least 0 xs ≡ xs
 at_least-zero xs increasing = at_least-same 0 xs increasing (λ v lt. absurd (omega arith))
@@ -39,9 +26,9 @@ module _ {X : Type 0} (rest : X → List ℕ) where
   row_at : (xs : List X) (i : ℕ) (d : X) → i < length xs → get_or (map rest xs) i [] ≡ rest (get_or xs i d)
   row_at xs i d lt = get_or-map rest xs i d [] lt
 
-  -- a cursor that was changed, when it is read again
-  row_again : (xs : List X) (i : ℕ) (y d : X) → i < length xs → rest (get_or (slice_set xs i y) i d) ≡ rest y
-  row_again xs i y d lt = ap rest (get_or-set_same xs i y d lt)
+  -- whatever the default
+  pub row_same : (xs : List X) (i : ℕ) (d e : X) → i < length xs → rest (get_or xs i d) ≡ rest (get_or xs i e)
+  row_same xs i d e lt = sym (row_at xs i d lt) ∙ row_at xs i e lt
 
 -- ---- leaps
 
@@ -68,8 +55,8 @@ module _ (target i : ℕ) (old new : List (List ℕ)) (leaping : IsLeaping targe
     count = leap_count;
     same = leap_same;
     here = λ k upto. elim (cases_eq k i) [
-      | inl same ↦ ap (λ n. has (get_or (set new i xs) n []) target) same ∙ ap (λ zs. has zs target) (get_or-set_same new i xs [] lt) ∙ first_has xs target e
-      | inr other ↦ ap (λ zs. has zs target) (get_or-set_other new i k xs [] other) ∙ leaping.here k (omega arith)
+      | inl same ↦ ap (λ n. first (get_or (set new i xs) n [])) same ∙ ap first (get_or-set_same new i xs [] lt) ∙ e
+      | inr other ↦ ap first (get_or-set_other new i k xs [] other) ∙ leaping.here k (omega arith)
     ];
   }
 
@@ -80,6 +67,7 @@ module _ (target i : ℕ) (old new : List (List ℕ)) (leaping : IsLeaping targe
     before = λ v le before. leap_lacks v (ap (λ zs. has zs v) (first_none xs e));
     forward = λ found f. absurd cc;
     here = λ f. absurd cc;
+    led = λ f some. absurd cc;
   }
 
   leap_some : (found : ℕ) → IsIncreasing xs → first xs ≡ Some found → (found ≡ target → ⊥) → IsLeapt target (Some found) old (set new i xs)
@@ -94,33 +82,31 @@ module _ (target i : ℕ) (old new : List (List ℕ)) (leaping : IsLeaping targe
     here = λ f.
         let same : found ≡ target = cc in
         absurd (away same);
+    led = λ f some.
+        let same : found ≡ target = cc in
+        absurd (away same);
   }
 
 -- the same of cursors, each of which has such a list
 module _ {X : Type 0} (rest : X → List ℕ) (target i : ℕ) (old : List (List ℕ)) (xs : List X) (leaping : IsLeaping target i old (map rest xs))
-    (d y e : X) (lt : i < length xs) (sought : rest y ≡ at_least target (rest (get_or xs i d))) where
+    (d y : X) (lt : i < length xs) (sought : rest y ≡ at_least target (rest (get_or xs i d))) where
   moved_row : rest y ≡ at_least target (get_or (map rest xs) i [])
   moved_row = sought ∙ ap (at_least target) (sym (row_at rest xs i d lt))
 
   lt_row : i < length (map rest xs)
   lt_row = omega (arith, length-map xs rest)
 
-  same_first : (value : Option ℕ) → value ≡ first (rest (get_or (slice_set xs i y) i e)) → first (rest y) ≡ value
-  same_first value is = ap first (sym (row_again rest xs i y e lt)) ∙ sym is
+  pub leap_to_none : None ≡ first (rest y) → IsLeapt target None old (map rest (slice_set xs i y))
+  leap_to_none is = rw (map-set rest xs i y) (leap_none target i old (map rest xs) leaping lt_row (rest y) moved_row (sym is))
 
-  pub leap_to_none : None ≡ first (rest (get_or (slice_set xs i y) i e)) → IsLeapt target None old (map rest (slice_set xs i y))
-  leap_to_none is =
-      rw (map-set rest xs i y) (leap_none target i old (map rest xs) leaping lt_row (rest y) moved_row (same_first None is))
-
-  pub leap_to_some : (found : ℕ) → IsIncreasing (rest y) → Some found ≡ first (rest (get_or (slice_set xs i y) i e)) → (found ≡ target → ⊥)
+  pub leap_to_some : (found : ℕ) → IsIncreasing (rest y) → Some found ≡ first (rest y) → (found ≡ target → ⊥)
       → IsLeapt target (Some found) old (map rest (slice_set xs i y))
   leap_to_some found rises is away =
-      rw (map-set rest xs i y) (leap_some target i old (map rest xs) leaping lt_row (rest y) moved_row found rises (same_first (Some found) is) away)
+      rw (map-set rest xs i y) (leap_some target i old (map rest xs) leaping lt_row (rest y) moved_row found rises (sym is) away)
 
-  pub leap_on : (found : ℕ) → Some found ≡ first (rest (get_or (slice_set xs i y) i e)) → found ≡ target
-      → IsLeaping target (i + 1) old (map rest (slice_set xs i y))
+  pub leap_on : (found : ℕ) → Some found ≡ first (rest y) → found ≡ target → IsLeaping target (i + 1) old (map rest (slice_set xs i y))
   leap_on found is same =
-      rw (map-set rest xs i y) (leap_step target i old (map rest xs) leaping lt_row (rest y) moved_row (same_first (Some found) is ∙ ap Some same))
+      rw (map-set rest xs i y) (leap_step target i old (map rest xs) leaping lt_row (rest y) moved_row (sym is ∙ ap Some same))
 
 pub leap_done : (target i : ℕ) (old new : List (List ℕ)) → IsLeaping target i old new → length new ≤ i → IsLeapt target (Some target) old new
 leap_done target i old new leaping all = record {
@@ -130,7 +116,8 @@ leap_done target i old new leaping all = record {
   forward = λ found e.
       let same : target ≡ found = cc in
       omega arith;
-  here = λ e. all_have-true new target (λ k lt. leaping.here k (omega arith));
+  here = λ e. all_have-true new target (λ k lt. first_has (get_or new k []) target (leaping.here k (omega arith)));
+  led = λ e some. leaping.here 0 (omega arith);
 }
 
 -- ---- leaps one after the other
@@ -152,13 +139,39 @@ module _ {X : Type 0} (rest : X → List ℕ) (rises : (x : X) → IsIncreasing 
         ];
       }
 
-  pub meet_here : (found : ℕ) → value ≡ Some found → found ≡ wanted
-      → from_value (Some wanted) (shared_by_all (map rest zs)) ≡ at_least target (shared_by_all (map rest xs))
-  meet_here found e same =
-      met_some target (map rest xs) (map rest zs) nearer.some (increasing_shared_by_all rest rises xs) wanted (leapt.count ∙ nearer.count)
-      (increasing_shared_by_all rest rises zs) nearer.forward
-      (sym (nearer.same wanted (omega arith)) ∙ sym (leapt.same wanted (omega arith)) ∙ leapt.here (e ∙ ap Some same)) nearer.before
-      (λ v le. leapt.same v le ∙ nearer.same v le)
+  -- all are at the value
+  module _ (found : ℕ) (e : value ≡ Some found) (same : found ≡ wanted) where
+    all_here : all_have (map rest zs) wanted ≡ true
+    all_here = leapt.here (e ∙ ap Some same)
+
+    lead_here : first (get_or (map rest zs) 0 []) ≡ Some wanted
+    lead_here = leapt.led (e ∙ ap Some same) (omega (arith, leapt.count, nearer.count, nearer.some))
+
+    pub meet_first : Some wanted ≡ first (shared_by_all (map rest zs))
+    meet_first =
+        let some : 0 < length (map rest zs) = omega (arith, leapt.count, nearer.count, nearer.some) in
+        let rises_all = increasing_shared_by_all rest rises zs in
+        sym (first_is (shared_by_all (map rest zs)) wanted rises_all (has-shared_by_all (map rest zs) wanted some ∙ all_here)
+        (λ w lt. has-shared_by_all (map rest zs) w some
+        ∙ all_have-false (map rest zs) 0 w some (first_least (get_or (map rest zs) 0 []) wanted (lead_rises some) lead_here w lt)))
+      where
+        lead_rises : 0 < length (map rest zs) → IsIncreasing (get_or (map rest zs) 0 [])
+        lead_rises some = rises_at zs
+          where
+            rises_at : (xs : List X) → IsIncreasing (get_or (map rest xs) 0 [])
+            rises_at [] = tt
+            rises_at (x ∷ xs) = rises x
+
+    pub meet_led : IsLed (map rest zs)
+    meet_led = lead_here ∙ meet_first
+
+    pub meet_here : shared_by_all (map rest zs) ≡ at_least target (shared_by_all (map rest xs))
+    meet_here =
+        sym (from_value-first (Some wanted) (shared_by_all (map rest zs)) (increasing_shared_by_all rest rises zs) meet_first)
+        ∙ met_some target (map rest xs) (map rest zs) nearer.some (increasing_shared_by_all rest rises xs) wanted (leapt.count ∙ nearer.count)
+        (increasing_shared_by_all rest rises zs) nearer.forward
+        (sym (nearer.same wanted (omega arith)) ∙ sym (leapt.same wanted (omega arith)) ∙ all_here) nearer.before
+        (λ v le. leapt.same v le ∙ nearer.same v le)
 
   pub meet_end : value ≡ None → [] ≡ at_least target (shared_by_all (map rest xs))
   meet_end e =
@@ -180,9 +193,16 @@ pub shared_of_none : {X : Type 0} (rest : X → List ℕ) (xs : List X) → leng
 shared_of_none rest [] e = shared_by_all-none [] refl
 shared_of_none rest (x ∷ xs) e = absurd (omega arith)
 
+pub led_none : {X : Type 0} (rest : X → List ℕ) (xs : List X) → length xs ≡ 0 → IsLed (map rest xs)
+led_none rest [] e = ap first (sym (shared_of_none rest [] refl))
+led_none rest (x ∷ xs) e = absurd (omega arith)
+
 module _ {X : Type 0} (rest : X → List ℕ) (rises : (x : X) → IsIncreasing (rest x)) (xs : List X) (d : X) (some : length xs ≡ 0 → ⊥) where
   first_row : get_or (map rest xs) 0 [] ≡ rest (get_or xs 0 d)
   first_row = row_at rest xs 0 d (omega (arith, some))
+
+  pub lead_is : IsLed (map rest xs) → first (rest (get_or xs 0 d)) ≡ first (shared_by_all (map rest xs))
+  lead_is led = ap first (sym first_row) ∙ led
 
   pub lead_none : None ≡ first (rest (get_or xs 0 d)) → shared_by_all (map rest xs) ≡ []
   lead_none e = shared_by_all-none (map rest xs) (ap first first_row ∙ sym e)
@@ -199,100 +219,161 @@ module _ {X : Type 0} (rest : X → List ℕ) (rises : (x : X) → IsIncreasing 
       ∙ shared_by_all-seek target (map rest xs) (rest y) (omega (arith, length-map xs rest, some)) (increasing_shared_by_all rest rises xs)
       (rw (sym (map-set rest xs 0 y)) (increasing_shared_by_all rest rises (slice_set xs 0 y))) (sought ∙ ap (at_least target) (sym first_row))
 
--- ---- a value and the numbers above it, as a cursor
-
-pub value_first : (value : Option ℕ) (xs : List ℕ) → value ≡ first (from_value value xs)
-value_first None xs = refl
-value_first (Some v) xs = refl
-
-module _ (target : ℕ) (value : Option ℕ) (v : ℕ) (xs : List ℕ) (is : value ≡ Some v) where
-  pub value_stays : IsIncreasing (from_value value xs) → target ≤ v → from_value value xs ≡ at_least target (from_value value xs)
-  value_stays increasing le = stays_first target (from_value value xs) value v increasing (value_first value xs) is le
-
-  pub value_sought : IsIncreasing xs → v < target → at_least target xs ≡ at_least target (from_value value xs)
-  value_sought increasing lt = rw is (twice ∙ sym (at_least-skip target v (at_least (v + 1) xs) lt))
+  -- the first cursor leaves the value that all share
+  pub lead_next : IsLed (map rest xs) → (y : X) → rest y ≡ after_first (rest (get_or xs 0 d))
+      → shared_by_all (map rest (slice_set xs 0 y)) ≡ after_first (shared_by_all (map rest xs))
+  lead_next led y moved = go (first (rest (get_or xs 0 d))) refl
     where
-      twice : at_least target xs ≡ at_least target (at_least (v + 1) xs)
-      twice =
-          same_numbers (at_least target xs) (at_least target (at_least (v + 1) xs)) (increasing_at_least target xs increasing)
-          (increasing_at_least target (at_least (v + 1) xs) (increasing_at_least (v + 1) xs increasing))
-          (λ w. has-at_least target xs w ∙ each w (cases_lt w target)
-          ∙ sym (has-at_least target (at_least (v + 1) xs) w ∙ ap (λ b. b && leb target w) (has-at_least (v + 1) xs w)))
-        where
-          each : (w : ℕ) → (w < target) ⊎ (target ≤ w) → (has xs w && leb target w) ≡ ((has xs w && leb (v + 1) w) && leb target w)
-          each w (inl under) = rw (lt-leb target w under) (and-false (has xs w) ∙ sym (and-false (has xs w && leb (v + 1) w)))
-          each w (inr over) = rw (le-leb target w over, le-leb (v + 1) w (omega arith)) (and_one (has xs w))
-            where
-              and_one : (b : Bool) → (b && true) ≡ ((b && true) && true)
-              and_one true = refl
-              and_one false = refl
+      at_row : first (rest (get_or xs 0 d)) ≡ first (shared_by_all (map rest xs))
+      at_row = lead_is led
 
-pub value_none : (target : ℕ) (value : Option ℕ) (xs : List ℕ) → value ≡ None → from_value value xs ≡ at_least target (from_value value xs)
-value_none target value xs is = stays_none target (from_value value xs) value (value_first value xs) is
+      go : (found : Option ℕ) → first (rest (get_or xs 0 d)) ≡ found
+          → shared_by_all (map rest (slice_set xs 0 y)) ≡ after_first (shared_by_all (map rest xs))
+      go None e =
+          let stays = moved ∙ after_first-none (rest (get_or xs 0 d)) e ∙ sym (at_least-none 0 (rest (get_or xs 0 d)) e) in
+          lead_passes 0 y stays
+          ∙ at_least-none 0 (shared_by_all (map rest xs)) (sym at_row ∙ e)
+          ∙ sym (after_first-none (shared_by_all (map rest xs)) (sym at_row ∙ e))
+      go (Some v) e =
+          lead_passes (v + 1) y (moved ∙ after_least (rest (get_or xs 0 d)) v (rises (get_or xs 0 d)) e)
+          ∙ sym (after_least (shared_by_all (map rest xs)) v (increasing_shared_by_all rest rises xs) (sym at_row ∙ e))
 
 -- ---- the least of many
-
-lesser_before : (a b : Option ℕ) (v : ℕ) → IsBefore v (lesser_of a b) → IsBefore v a × IsBefore v b
-lesser_before None b v before = (tt, before)
-lesser_before (Some a) None v before = (before, tt)
-lesser_before (Some a) (Some b) v before = (omega arith, omega arith)
-
-lesser_is : (a b : Option ℕ) (v : ℕ) → lesser_of a b ≡ Some v → (a ≡ Some v) ⊎ (b ≡ Some v)
-lesser_is None b v e = inr e
-lesser_is (Some a) None v e = inl e
-lesser_is (Some a) (Some b) v e =
-    let least : min a b ≡ v = cc in
-    elim (cases_lt a b) [
-      | inl lt ↦ inl (ap Some (omega arith))
-      | inr ge ↦ inr (ap Some (omega arith))
-    ]
 
 first_before : (xs : List ℕ) (v : ℕ) → IsIncreasing xs → IsBefore v (first xs) → has xs v ≡ false
 first_before [] v increasing before = refl
 first_before (x ∷ xs) v increasing before = first_least (x ∷ xs) x increasing refl v before
 
-module _ (target i : ℕ) (value : Option ℕ) (old new : List (List ℕ)) (uniting : IsUniting target i value old new) (lt : i < length new) (xs : List ℕ)
-    (rises : IsIncreasing xs) (sought : xs ≡ at_least target (get_or new i [])) where
-  same_row : get_or (set new i xs) i [] ≡ xs
-  same_row = get_or-set_same new i xs [] lt
+before_both : (v : ℕ) (here value : Option ℕ) → is_lesser here value ≡ true → IsBefore v here → IsBefore v value
+before_both v None value less before = absurd (false≢true less)
+before_both v (Some a) None less before = tt
+before_both v (Some a) (Some b) less before =
+    let lt : a < b = ltb-true a b less in
+    omega arith
 
-  other_row : (k : ℕ) → (k ≡ i → ⊥) → get_or (set new i xs) k [] ≡ get_or new k []
-  other_row k away = get_or-set_other new i k xs [] away
+before_other : (v : ℕ) (here value : Option ℕ) → is_lesser here value ≡ false → IsBefore v value → IsBefore v here
+before_other v None value less before = tt
+before_other v (Some a) None less before = absurd (true≢false less)
+before_other v (Some a) (Some b) less before =
+    let ge : b ≤ a = ltb-false a b less in
+    omega arith
 
-  unite_step : (least : Option ℕ) → least ≡ lesser_of value (first xs) → IsUniting target (i + 1) least old (set new i xs)
-  unite_step least is = record {
-    count = length-set new i xs ∙ uniting.count;
-    moved = λ k upto. elim (cases_eq k i) [
-      | inl same ↦ rw same (same_row ∙ sought ∙ ap (at_least target) (uniting.ahead i (omega arith)))
-      | inr other ↦ other_row k other ∙ uniting.moved k (omega arith)
-    ];
-    ahead = λ k from. other_row k (λ e. omega arith) ∙ uniting.ahead k (omega arith);
-    before = λ k v upto before.
-        let both = lesser_before value (first xs) v (rw is at before) in
-        elim (cases_eq k i) [
-          | inl same ↦ rw same (ap (λ zs. has zs v) same_row ∙ first_before xs v rises both.1)
-          | inr other ↦ ap (λ zs. has zs v) (other_row k other) ∙ uniting.before k v (omega arith) both.0
-        ];
-    here = λ v e. elim (lesser_is value (first xs) v (sym is ∙ e)) [
-      | inl before ↦
-          let (k, upto, has_it) = uniting.here v before in
-          (k, omega arith, ap (λ zs. has zs v) (other_row k (λ e. omega arith)) ∙ has_it)
-      | inr now ↦ (i, omega arith, ap (λ zs. has zs v) same_row ∙ first_has xs v now)
-    ];
+-- a turn, in which the list at index i lost the numbers below the target, and no other list changed
+module _ (target i at : ℕ) (value : Option ℕ) (old new new' : List (List ℕ)) (uniting : IsUniting target i at value old new)
+    (count : length new' ≡ length new) (others : (k : ℕ) → (k ≡ i → ⊥) → get_or new' k [] ≡ get_or new k [])
+    (sought : get_or new' i [] ≡ at_least target (get_or new i [])) (rises : IsIncreasing (get_or new' i [])) where
+  united_rows : (k : ℕ) → k < i + 1 → get_or new' k [] ≡ at_least target (get_or old k [])
+  united_rows k upto = elim (cases_eq k i) [
+    | inl same ↦ rw same (sought ∙ ap (at_least target) (uniting.ahead i (omega arith)))
+    | inr other ↦ others k other ∙ uniting.moved k (omega arith)
+  ]
+
+  rows_ahead : (k : ℕ) → i + 1 ≤ k → get_or new' k [] ≡ get_or old k []
+  rows_ahead k from = others k (λ e. omega arith) ∙ uniting.ahead k (omega arith)
+
+  before_rows : (v : ℕ) → IsBefore v value → IsBefore v (first (get_or new' i [])) → (k : ℕ) → k < i + 1 → has (get_or new' k []) v ≡ false
+  before_rows v before before_here k upto = elim (cases_eq k i) [
+    | inl same ↦ rw same (first_before (get_or new' i []) v rises before_here)
+    | inr other ↦ ap (λ zs. has zs v) (others k other) ∙ uniting.before k v (omega arith) before
+  ]
+
+  unite_taken : is_lesser (first (get_or new' i [])) value ≡ true → IsUniting target (i + 1) i (first (get_or new' i [])) old new'
+  unite_taken less = record {
+    count = count ∙ uniting.count;
+    moved = united_rows;
+    ahead = rows_ahead;
+    before = λ k v upto before. before_rows v (before_both v (first (get_or new' i [])) value less before) before k upto;
+    here = λ v e. (omega arith, e);
   }
 
--- the same of cursors
-module _ {X : Type 0} (rest : X → List ℕ) (target i : ℕ) (value : Option ℕ) (old : List (List ℕ)) (xs : List X)
-    (uniting : IsUniting target i value old (map rest xs)) (d y e : X) (lt : i < length xs) (rises : IsIncreasing (rest y))
-    (sought : rest y ≡ at_least target (rest (get_or xs i d))) where
-  pub unite_on : (least here : Option ℕ) → here ≡ first (rest (get_or (slice_set xs i y) i e)) → least ≡ lesser_of value here
-      → IsUniting target (i + 1) least old (map rest (slice_set xs i y))
-  unite_on least here is e' =
-      rw (map-set rest xs i y)
-      (unite_step target i value old (map rest xs) uniting (omega (arith, length-map xs rest)) (rest y) rises
-      (sought ∙ ap (at_least target) (sym (row_at rest xs i d lt))) least (e' ∙ ap (lesser_of value) (is ∙ ap first (row_again rest xs i y e lt))))
+  unite_left : is_lesser (first (get_or new' i [])) value ≡ false → IsUniting target (i + 1) at value old new'
+  unite_left less = record {
+    count = count ∙ uniting.count;
+    moved = united_rows;
+    ahead = rows_ahead;
+    before = λ k v upto before. before_rows v before (before_other v (first (get_or new' i [])) value less before) k upto;
+    here = λ v e.
+        let (sooner, is) = uniting.here v e in
+        (omega arith, ap first (others at (λ same. omega arith)) ∙ is);
+  }
 
-pub unite_begin : (target : ℕ) (old : List (List ℕ)) → IsUniting target 0 None old old
+-- the value that is here is the least so far, or it is not
+abbrev pub HasTurned : ℕ → ℕ → ℕ → Option ℕ → Option ℕ → List (List ℕ) → List (List ℕ) → Type 0
+HasTurned target i at value here old new =
+    (is_lesser here value ≡ true → IsUniting target (i + 1) i here old new) × (is_lesser here value ≡ false → IsUniting target (i + 1) at value old new)
+
+-- the same of cursors, of which one moved
+module _ {X : Type 0} (rest : X → List ℕ) (target i at : ℕ) (value : Option ℕ) (old : List (List ℕ)) (xs : List X)
+    (uniting : IsUniting target i at value old (map rest xs)) (d y : X) (lt : i < length xs) (rises : IsIncreasing (rest y))
+    (sought : rest y ≡ at_least target (rest (get_or xs i d))) (here : Option ℕ) (is : here ≡ first (rest y)) where
+  new_row : get_or (map rest (slice_set xs i y)) i [] ≡ rest y
+  new_row = ap (λ zs. get_or zs i []) (map-set rest xs i y) ∙ get_or-set_same (map rest xs) i (rest y) [] (omega (arith, length-map xs rest))
+
+  other_rows : (k : ℕ) → (k ≡ i → ⊥) → get_or (map rest (slice_set xs i y)) k [] ≡ get_or (map rest xs) k []
+  other_rows k away = ap (λ zs. get_or zs k []) (map-set rest xs i y) ∙ get_or-set_other (map rest xs) i k (rest y) [] away
+
+  same_count : length (map rest (slice_set xs i y)) ≡ length (map rest xs)
+  same_count = ap length (map-set rest xs i y) ∙ length-set (map rest xs) i (rest y)
+
+  row_sought : get_or (map rest (slice_set xs i y)) i [] ≡ at_least target (get_or (map rest xs) i [])
+  row_sought = new_row ∙ sought ∙ ap (at_least target) (sym (row_at rest xs i d lt))
+
+  first_here : first (get_or (map rest (slice_set xs i y)) i []) ≡ here
+  first_here = ap first new_row ∙ sym is
+
+  pub unite_moved : HasTurned target i at value here old (map rest (slice_set xs i y))
+  unite_moved = (
+    λ less.
+        rw first_here at
+        (unite_taken target i at value old (map rest xs) (map rest (slice_set xs i y)) uniting same_count other_rows row_sought (rw new_row rises)
+        (ap (λ zs. is_lesser zs value) first_here ∙ less)),
+    λ less.
+        unite_left target i at value old (map rest xs) (map rest (slice_set xs i y)) uniting same_count other_rows row_sought (rw new_row rises)
+        (ap (λ zs. is_lesser zs value) first_here ∙ less),
+  )
+
+-- the same of cursors, of which one stays or leaves the least value of all
+module _ {X : Type 0} (rest : X → List ℕ) (rises : (x : X) → IsIncreasing (rest x)) (v i at : ℕ) (value : Option ℕ) (old : List (List ℕ)) (xs : List X)
+    (uniting : IsUniting (v + 1) i at value old (map rest xs)) (d : X) (lt : i < length xs) (place : first (united_all old) ≡ Some v) where
+  row_is : get_or (map rest xs) i [] ≡ rest (get_or xs i d)
+  row_is = row_at rest xs i d lt
+
+  none_below : (w : ℕ) → w < v → has (rest (get_or xs i d)) w ≡ false
+  none_below w less =
+      ap (λ zs. has zs w) (sym row_is ∙ uniting.ahead i (omega arith))
+      ∙ any_has-none old i w (omega (arith, lt, uniting.count, length-map xs rest))
+      (sym (has-united_all old w) ∙ first_least (united_all old) v (increasing_united_all old) place w less)
+
+  pub row_leaves : (here : ℕ) → Some here ≡ first (rest (get_or xs i d)) → here ≤ v → (y : X) → rest y ≡ after_first (rest (get_or xs i d))
+      → rest y ≡ at_least (v + 1) (rest (get_or xs i d))
+  row_leaves here e le y moved = elim (cases_lt here v) [
+    | inl less ↦ absurd (true≢false (sym (first_has (rest (get_or xs i d)) here (sym e)) ∙ none_below here less))
+    | inr ge ↦
+        let same : here ≡ v = omega arith in
+        moved ∙ after_least (rest (get_or xs i d)) v (rises (get_or xs i d)) (sym e ∙ ap Some same)
+  ]
+
+  row_stays : (found : Option ℕ) → found ≡ first (rest (get_or xs i d)) → ((here : ℕ) → found ≡ Some here → v < here)
+      → rest (get_or xs i d) ≡ at_least (v + 1) (rest (get_or xs i d))
+  row_stays None e above = sym (at_least-none (v + 1) (rest (get_or xs i d)) (sym e))
+  row_stays (Some here) e above = sym (at_least-first (v + 1) (rest (get_or xs i d)) here (rises (get_or xs i d)) (sym e) (omega (arith, above here refl)))
+
+  pub unite_stays : (here : Option ℕ) → here ≡ first (rest (get_or xs i d)) → ((found : ℕ) → here ≡ Some found → v < found)
+      → HasTurned (v + 1) i at value here old (map rest xs)
+  unite_stays here e above =
+      let sought : get_or (map rest xs) i [] ≡ at_least (v + 1) (get_or (map rest xs) i []) = rw row_is (row_stays here e above) in
+      let rises_here : IsIncreasing (get_or (map rest xs) i []) = rw row_is (rises (get_or xs i d)) in
+      let first_here : first (get_or (map rest xs) i []) ≡ here = ap first row_is ∙ sym e in (
+        λ less.
+            rw first_here at
+            (unite_taken (v + 1) i at value old (map rest xs) (map rest xs) uniting refl (λ k away. refl) sought rises_here
+            (ap (λ zs. is_lesser zs value) first_here ∙ less)),
+        λ less.
+            unite_left (v + 1) i at value old (map rest xs) (map rest xs) uniting refl (λ k away. refl) sought rises_here
+            (ap (λ zs. is_lesser zs value) first_here ∙ less),
+      )
+
+pub unite_begin : (target : ℕ) (old : List (List ℕ)) → IsUniting target 0 0 None old old
 unite_begin target old = record {
   count = refl;
   moved = λ k lt. absurd (omega arith);
@@ -301,15 +382,33 @@ unite_begin target old = record {
   here = λ v e. absurd cc;
 }
 
-pub unite_end : (target i : ℕ) (value : Option ℕ) (old new : List (List ℕ)) → IsUniting target i value old new → i ≡ length new
-    → from_value value (united_all new) ≡ at_least target (united_all old)
-unite_end target i value old new uniting all =
-    from_value-first value (united_all new) (increasing_united_all new) (least value refl)
-    ∙ united_all-seek target old new uniting.count (λ k lt. uniting.moved k (omega (arith, uniting.count)))
-  where
-    least : (found : Option ℕ) → value ≡ found → found ≡ first (united_all new)
-    least None e = sym (none_first (united_all new) (λ v. has-united_all new v ∙ any_has-false new v (λ k lt. uniting.before k v (omega arith) (rw e tt))))
-    least (Some v) e =
-        let (k, upto, here) = uniting.here v e in
-        sym (first_is (united_all new) v (increasing_united_all new) (has-united_all new v ∙ any_has-true new k v (omega arith) here)
-        (λ w lt. has-united_all new w ∙ any_has-false new w (λ k' lt'. uniting.before k' w (omega arith) (rw e lt))))
+get_or_after : (lists : List (List ℕ)) (k : ℕ) → length lists ≤ k → get_or lists k [] ≡ []
+get_or_after [] k le = refl
+get_or_after (xs ∷ lists) zero le = absurd (omega arith)
+get_or_after (xs ∷ lists) (suc k) le = get_or_after lists k (omega arith)
+
+module _ (target i at : ℕ) (value : Option ℕ) (old new : List (List ℕ)) (uniting : IsUniting target i at value old new) (all : i ≡ length new) where
+  pub unite_end : united_all new ≡ at_least target (united_all old)
+  unite_end = united_all-seek target old new uniting.count (λ k lt. uniting.moved k (omega (arith, uniting.count)))
+
+  least_of_all : (found : Option ℕ) → value ≡ found → found ≡ first (united_all new)
+  least_of_all None e = sym (none_first (united_all new) (λ v. has-united_all new v ∙ any_has-false new v (λ k lt. uniting.before k v (omega arith) (rw e tt))))
+  least_of_all (Some v) e =
+      let (sooner, here) = uniting.here v e in
+      sym (first_is (united_all new) v (increasing_united_all new)
+      (has-united_all new v ∙ any_has-true new at v (omega arith) (first_has (get_or new at []) v here))
+      (λ w lt. has-united_all new w ∙ any_has-false new w (λ k' lt'. uniting.before k' w (omega arith) (rw e lt))))
+
+  first_of_row : (found : Option ℕ) → value ≡ found → first (get_or new at []) ≡ found
+  first_of_row None e = elim (cases_lt at i) [
+    | inl lt ↦ none_first (get_or new at []) (λ v. uniting.before at v lt (rw e tt))
+    | inr ge ↦ ap first (get_or_after new at (omega arith))
+  ]
+  first_of_row (Some v) e = (uniting.here v e).1
+
+  pub unite_least : IsLeastAt at new
+  unite_least = first_of_row value refl ∙ least_of_all value refl
+
+pub least_is : {X : Type 0} (rest : X → List ℕ) (xs : List X) (at : ℕ) (d : X) → at < length xs → IsLeastAt at (map rest xs)
+    → first (rest (get_or xs at d)) ≡ first (united_all (map rest xs))
+least_is rest xs at d lt is = ap first (sym (row_at rest xs at d lt)) ∙ is

@@ -5,7 +5,6 @@ use Rattle.std.proofs.lemmas.Bool.{cases_lt, or_cases, true≢false}
 use Rattle.std.proofs.lemmas.List.{append_assoc, drop-drop, drop_all, drop_at, length-drop, length-take-le}
 use Rattle.bitpack_sorted.specs.Increasing.{IsIncreasing, at_least, first, has, united}
 use Rattle.bitpack_sorted.specs.inner.Combined.{IsLater}
-use Rattle.bitpack_sorted.specs.inner.InPlace.{IsNextUnited}
 use Rattle.bitpack_sorted.proofs.Combining.{or_next, shorter_at_least}
 use Rattle.bitpack_sorted.proofs.InPlaceSteps.{later_sought}
 use Rattle.bitpack_sorted.proofs.Membership.{first_has, first_head, first_least, has-united}
@@ -19,18 +18,6 @@ at_end values count start le e =
     (ap (drop start) (append_assoc (take start values) (take count values) (drop (start + count) values))
     ∙ drop_at (take start values) (take count values ++ drop (start + count) values) start (length-take-le start values (omega arith))
     ∙ ap (λ rest. take count values ++ rest) (drop_all (start + count) values (omega arith)) ∙ append-nil (take count values))
-
--- the end of a list begins where its length says
-end_at : (m : ℕ) (values ends : List ℕ) → ends ≡ drop m values → ends ≡ drop (length values - length ends) values
-end_at m values ends is = elim (cases_lt m (length values)) [
-  | inl lt ↦
-      let e : m ≡ length values - length ends = omega (arith, lt, length-drop m values, ap length is) in
-      is ∙ ap (λ i. drop i values) e
-  | inr ge ↦
-      let none : ends ≡ [] = is ∙ drop_all m values ge in
-      let e : length values ≤ length values - length ends = rw none (omega arith) in
-      none ∙ sym (drop_all (length values - length ends) values e)
-]
 
 -- what is above a value that is there is less
 fewer_above : (v : ℕ) (xs : List ℕ) → IsIncreasing xs → has xs v ≡ true → length (at_least (v + 1) xs) < length xs
@@ -64,21 +51,3 @@ module _ (xs ys : List ℕ) (one : IsIncreasing xs) (other : IsIncreasing ys) (v
         | inl is ↦ omega (arith, ap length moved, fewer_above v xs one is, no_more ys ys' later')
         | inr is ↦ omega (arith, ap length moved', fewer_above v ys other is, no_more xs xs' later)
       ]
-
-  module _ (values : List ℕ) (from : ℕ) (is : xs ≡ drop from values) where
-    ends : xs' ≡ drop (length values - length xs') values
-    ends = end_at (from + later.0) values xs' (later.1 ∙ ap (drop later.0) is ∙ drop-drop later.0 from values)
-
-    pub enough : length xs' ≤ length values
-    enough = omega (arith, no_more xs xs' later, ap length is, length-drop from values)
-
-    pub next_united : (len : ℕ) → len ≡ length xs' → from ≤ length values → IsNextUnited values from ys ys' (v, length values - len)
-    next_united len e within =
-        let long : length xs ≡ length values - from = ap length is ∙ length-drop from values in
-        record {
-          forward = omega (arith, e, long, within, no_more xs xs' later);
-          within = omega arith;
-          fewer = omega (arith, e, long, within, enough, fewer_both);
-          are = ap (λ xs. united xs ys) (sym is) ∙ first_parts
-              ∙ ap (λ xs. v ∷ united xs ys') (ends ∙ ap (λ n. drop (length values - n) values) (sym e));
-        }

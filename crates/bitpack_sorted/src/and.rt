@@ -1,11 +1,12 @@
 //! The values that two cursors share.
 
 ghost use Rattle.std.specs.Prelude.{◌≡◌, ℕ, List};
-ghost use Rattle.bitpack_sorted.specs.Increasing.{shared};
-ghost use Rattle.bitpack_sorted.specs.inner.Combined.{IsLater, IsShared};
+ghost use Rattle.bitpack_sorted.specs.Increasing.{first, shared};
+ghost use Rattle.bitpack_sorted.specs.inner.Combined.{HaveMet, IsLater};
 ghost use Rattle.bitpack_sorted.specs.Fronts.{IsFront, NoneBelow};
 ghost use Rattle.bitpack_sorted.specs.IncreasingLaws.{increasing_shared};
 
+use super::first_alone::first_alone;
 use super::sorted_cursor::SortedCursor;
 
 /// The values that two cursors share. Each seeks the value of the other until both have the same.
@@ -13,8 +14,7 @@ use super::sorted_cursor::SortedCursor;
 pub struct And<A: SortedCursor, B: SortedCursor> {
     one: A,
     other: B,
-    value: Option<u32>,
-    ghost place: { IsShared value (A.rest one) (B.rest other) },
+    ghost met: { HaveMet (A.rest one) (B.rest other) },
 }
 
 impl<A: SortedCursor, B: SortedCursor> And<A, B> {
@@ -24,8 +24,8 @@ impl<A: SortedCursor, B: SortedCursor> And<A, B> {
     {
         let mut one = one;
         let mut other = other;
-        let value = next_shared(&mut one, &mut other);
-        And { one, other, value }
+        next_shared(&mut one, &mut other);
+        And { one, other }
     }
 }
 
@@ -35,70 +35,59 @@ impl<A: SortedCursor, B: SortedCursor> SortedCursor for And<A, B> {
     ghost increasing = { λ cursor. increasing_shared (A.rest cursor.one) (B.rest cursor.other) (A.increasing cursor.one) };
 
     #[inline(always)]
-    fn value(&self) -> Option<u32> {
-        self.value
+    fn block(&self) -> &[u32] {
+        if self.other.value().is_none() {
+            return &[];
+        }
+        first_alone(self.one.block())
     }
 
     #[inline(always)]
-    fn advance(&mut self) {
-        if let Some(_value) = self.value {
-            self.one.advance();
-            self.value = next_shared(&mut self.one, &mut self.other);
-        }
+    fn advance(&mut self) -> Option<u32> {
+        self.one.advance();
+        next_shared(&mut self.one, &mut self.other)
     }
 
     #[inline(always)]
-    fn seek(&mut self, target: u32) {
-        if let Some(value) = self.value {
-            if value < target {
-                self.one.seek(target);
-                self.value = next_shared(&mut self.one, &mut self.other);
-            }
-        }
+    fn seek(&mut self, target: u32) -> Option<u32> {
+        self.one.seek(target);
+        next_shared(&mut self.one, &mut self.other)
     }
 }
 
-/// Moves both to the first value that they share, and returns it.
+/// Moves both to the first value that they share, and returns it. Each seeks the value of the other.
 pub(super) fn next_shared<A: SortedCursor, B: SortedCursor>(
     one: &mut A,
     other: &mut B,
 ) -> Option<u32>
     ensures rest { shared (A.rest one.new) (B.rest other.new) ≡ shared (A.rest one.old) (B.rest other.old) }
-    ensures value { IsShared result (A.rest one.new) (B.rest other.new) }
+    ensures value { result ≡ first (shared (A.rest one.new) (B.rest other.new)) }
+    ensures met { HaveMet (A.rest one.new) (B.rest other.new) }
     ensures later { IsLater (A.rest one.old) (A.rest one.new) }
 {
-    pass_at_hand(one, other);
-    meet(one, other)
-}
-
-/// Moves both to the first value that they share, and returns it. Each seeks the value of the other.
-fn meet<A: SortedCursor, B: SortedCursor>(one: &mut A, other: &mut B) -> Option<u32>
-    ensures rest { shared (A.rest one.new) (B.rest other.new) ≡ shared (A.rest one.old) (B.rest other.old) }
-    ensures value { IsShared result (A.rest one.new) (B.rest other.new) }
-    ensures later { IsLater (A.rest one.old) (A.rest one.new) }
-{
-    while let Some(wanted) = one.value() {
-        other.seek(wanted);
-        match other.value() {
+    pass_unshared(one, other);
+    let mut next = one.value();
+    while let Some(wanted) = next {
+        match other.seek(wanted) {
             None => return None,
             Some(found) => {
                 if found == wanted {
                     return Some(wanted);
                 }
-                one.seek(found);
+                next = one.seek(found);
             }
         }
     }
     None
 }
 
-/// Moves past values at hand that the two do not share, if it pays to merge these.
+/// Moves past values of the current blocks that the two do not share, if it pays to merge these.
 #[inline(always)]
-fn pass_at_hand<A: SortedCursor, B: SortedCursor>(one: &mut A, other: &mut B)
+fn pass_unshared<A: SortedCursor, B: SortedCursor>(one: &mut A, other: &mut B)
     ensures { (shared (A.rest one.new) (B.rest other.new) ≡ shared (A.rest one.old) (B.rest other.old))
         × IsLater (A.rest one.old) (A.rest one.new) }
 {
-    let (target, ahead, other_ahead) = merge(one.at_hand(), other.at_hand());
+    let (target, ahead, other_ahead) = merge(one.block(), other.block());
     one.seek_ahead(target, ahead);
     other.seek_ahead(target, other_ahead);
 }
@@ -112,7 +101,7 @@ fn are_even(one: &[u32], other: &[u32]) -> bool {
     one.len() > FEW && other.len() > FEW && one[FEW] > other[2] && other[FEW] > one[2]
 }
 
-/// Merges the values at hand of two places, if it pays: returns a target below which they share no value, and how many values at hand
+/// Merges the current blocks of two places, if it pays: returns a target below which they share no value, and how many values of each
 /// are below it.
 #[inline(always)]
 fn merge(one: &[u32], other: &[u32]) -> (u32, usize, usize)

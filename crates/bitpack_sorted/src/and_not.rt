@@ -1,10 +1,10 @@
 //! The values of one cursor that another lacks.
 
 ghost use Rattle.std.specs.Prelude.{◌≡◌};
-ghost use Rattle.bitpack_sorted.specs.Increasing.{without};
-ghost use Rattle.bitpack_sorted.specs.inner.Combined.{IsKept};
+ghost use Rattle.bitpack_sorted.specs.Increasing.{first, without};
 ghost use Rattle.bitpack_sorted.specs.IncreasingLaws.{increasing_without};
 
+use super::first_alone::first_alone;
 use super::sorted_cursor::SortedCursor;
 
 /// The values of one cursor that another lacks. The second seeks each value of the first.
@@ -12,8 +12,8 @@ use super::sorted_cursor::SortedCursor;
 pub struct AndNot<A: SortedCursor, B: SortedCursor> {
     one: A,
     other: B,
-    value: Option<u32>,
-    ghost place: { IsKept value (A.rest one) (B.rest other) },
+    // The first is at a value that the second lacks, or at its end.
+    ghost place: { first (A.rest one) ≡ first (without (A.rest one) (B.rest other)) },
 }
 
 impl<A: SortedCursor, B: SortedCursor> AndNot<A, B> {
@@ -23,8 +23,8 @@ impl<A: SortedCursor, B: SortedCursor> AndNot<A, B> {
     {
         let mut one = one;
         let mut other = other;
-        let value = skip_shared(&mut one, &mut other);
-        AndNot { one, other, value }
+        skip_shared(&mut one, &mut other);
+        AndNot { one, other }
     }
 }
 
@@ -34,43 +34,38 @@ impl<A: SortedCursor, B: SortedCursor> SortedCursor for AndNot<A, B> {
     ghost increasing = { λ cursor. increasing_without (A.rest cursor.one) (B.rest cursor.other) (A.increasing cursor.one) };
 
     #[inline(always)]
-    fn value(&self) -> Option<u32> {
-        self.value
+    fn block(&self) -> &[u32] {
+        first_alone(self.one.block())
     }
 
     #[inline(always)]
-    fn advance(&mut self) {
-        if let Some(_value) = self.value {
-            self.one.advance();
-            self.value = skip_shared(&mut self.one, &mut self.other);
-        }
+    fn advance(&mut self) -> Option<u32> {
+        self.one.advance();
+        skip_shared(&mut self.one, &mut self.other)
     }
 
     #[inline(always)]
-    fn seek(&mut self, target: u32) {
-        if let Some(value) = self.value {
-            if value < target {
-                self.one.seek(target);
-                self.value = skip_shared(&mut self.one, &mut self.other);
-            }
-        }
+    fn seek(&mut self, target: u32) -> Option<u32> {
+        self.one.seek(target);
+        skip_shared(&mut self.one, &mut self.other)
     }
 }
 
 /// Moves the first to its first value that the second lacks, and returns it.
 fn skip_shared<A: SortedCursor, B: SortedCursor>(one: &mut A, other: &mut B) -> Option<u32>
     ensures rest { without (A.rest one.new) (B.rest other.new) ≡ without (A.rest one.old) (B.rest other.old) }
-    ensures value { IsKept result (A.rest one.new) (B.rest other.new) }
+    ensures value { result ≡ first (A.rest one.new) }
+    ensures kept { result ≡ first (without (A.rest one.new) (B.rest other.new)) }
 {
-    while let Some(wanted) = one.value() {
-        other.seek(wanted);
-        match other.value() {
+    let mut next = one.value();
+    while let Some(wanted) = next {
+        match other.seek(wanted) {
             None => return Some(wanted),
             Some(found) => {
                 if found != wanted {
                     return Some(wanted);
                 }
-                one.advance();
+                next = one.advance();
             }
         }
     }

@@ -16,9 +16,10 @@ pub fn collect_into<C: SortedCursor>(cursor: &mut C, out: &mut Vec<u32>) -> Resu
     ensures room { OnErr result (vec_capacity out.old < vec_len out.old + length (C.rest cursor.old)) }
     ensures full { OnErr result (vec_capacity out.old ≤ vec_len out.new) }
 {
-    while let Some(value) = cursor.value() {
+    let mut next = cursor.value();
+    while let Some(value) = next {
         out.push(value)?;
-        cursor.advance();
+        next = cursor.advance();
     }
     Ok(())
 }
@@ -41,14 +42,15 @@ pub fn collect_to<C: SortedCursor>(cursor: &mut C, out: &mut [u32]) -> usize
     ensures rest { (result ≤ length out.old) × (drop result out.new ≡ drop result out.old) }
     ensures whole { length (C.rest cursor.old) ≤ length out.old → C.rest cursor.new ≡ [] }
 {
+    let mut next = cursor.value();
     let mut written = 0;
     while written < out.len() {
-        let Some(value) = cursor.value() else {
+        let Some(value) = next else {
             return written;
         };
         out[written] = value;
         written += 1;
-        cursor.advance();
+        next = cursor.advance();
     }
     written
 }
@@ -58,10 +60,11 @@ pub fn count<C: SortedCursor>(cursor: &mut C) -> usize
     ensures count { result ≡ length (C.rest cursor.old) }
     ensures end { C.rest cursor.new ≡ [] }
 {
+    let mut next = cursor.value();
     let mut counted = 0;
-    while let Some(_value) = cursor.value() {
+    while let Some(_value) = next {
         counted += 1;
-        cursor.advance();
+        next = cursor.advance();
     }
     counted
 }

@@ -1,6 +1,6 @@
 //! A sorted cursor over a packed list.
 
-ghost use Rattle.std.specs.Prelude.{◌≡◌, ◌+◌};
+ghost use Rattle.std.specs.Prelude.{◌≡◌, ◌+◌, slice_get};
 ghost use Rattle.bitpack_lists.specs.Cursors.{position, values_left, values_of_cursor};
 ghost use Rattle.bitpack_lists.specs.Places.{InOrder, IsSoughtFrom};
 ghost use Rattle.bitpack_sorted.specs.Distinct.{distinct};
@@ -37,45 +37,43 @@ impl<'a, P: BitPacker> SortedCursor for DistinctValues<'a, P> {
     ghost increasing = { λ ids. increasing_rest (values_of_cursor ids.cursor) (position ids.cursor) ids.ordered };
 
     #[inline(always)]
-    fn value(&self) -> Option<u32> {
-        self.cursor.value()
-    }
-
-    #[inline(always)]
-    fn advance(&mut self) {
-        if let Some(value) = self.cursor.value() {
-            pass(&mut self.cursor, value);
-        }
-    }
-
-    #[inline(always)]
-    fn seek(&mut self, target: u32) {
-        self.cursor.seek(target);
-    }
-
-    #[inline(always)]
-    fn at_hand(&self) -> &[u32] {
+    fn block(&self) -> &[u32] {
         self.cursor.block()
     }
 
     #[inline(always)]
-    fn seek_ahead(&mut self, target: u32, ahead: usize) {
+    fn advance(&mut self) -> Option<u32> {
+        let value = self.cursor.value()?;
+        next_above(&mut self.cursor, value)
+    }
+
+    #[inline(always)]
+    fn seek(&mut self, target: u32) -> Option<u32> {
+        self.cursor.seek(target);
+        self.cursor.value()
+    }
+
+    #[inline(always)]
+    fn seek_ahead(&mut self, target: u32, ahead: usize) -> Option<u32> {
         self.cursor.seek_ahead(target, ahead);
+        self.cursor.value()
     }
 }
 
-/// Moves value by value to the first above this one.
+/// Moves value by value to the first above this one, and returns it.
 #[inline(always)]
-fn pass<P: BitPacker>(cursor: &mut Cursor<'_, P>, value: u32)
+fn next_above<P: BitPacker>(cursor: &mut Cursor<'_, P>, value: u32) -> Option<u32>
     requires { InOrder (values_of_cursor cursor.old) }
     ensures list { cursor.new.list ≡ cursor.old.list }
     ensures sought { IsSoughtFrom (values_of_cursor cursor.old) (value + 1)
         (position cursor.old) (position cursor.new) }
+    ensures value { result ≡ slice_get (values_of_cursor cursor.new) (position cursor.new) }
 {
     while let Some(here) = cursor.value() {
         if here > value {
-            return;
+            return Some(here);
         }
         cursor.advance();
     }
+    None
 }

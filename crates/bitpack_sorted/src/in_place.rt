@@ -4,14 +4,13 @@ ghost use Rattle.std.specs.Prelude.{◌≡◌, ◌+◌, ◌≤◌, IfSome, List,
 ghost use Rattle.std.specs.List.Sorted.{IsStrictlyIncreasing};
 ghost use Rattle.bitpack_sorted.specs.Increasing.{shared, united, without};
 ghost use Rattle.bitpack_sorted.specs.InFront.{AreInFront};
-ghost use Rattle.bitpack_sorted.specs.inner.InPlace.{IsNextShared, IsNextUnited, IsRoomBefore};
+ghost use Rattle.bitpack_sorted.specs.inner.InPlace.{IsNextShared, IsRoomBefore};
 
 use super::and::next_shared;
 use super::increasing_slice::IncreasingSlice;
-use super::or::{least, pass};
 use super::retaining::finds_next;
 use super::sorted_cursor::SortedCursor;
-use super::uniting::{Place, unite_at_hand};
+use super::uniting::{Place, move_rest, unite_block};
 
 /// Keeps the values of a slice that a cursor has too: moves them to the front, in their order. Returns how many these are.
 ///
@@ -82,28 +81,23 @@ pub fn unite_in_place<C: SortedCursor>(values: &mut [u32], count: usize, cursor:
 {
     let start = values.len() - count;
     values.copy_within(0..count, start);
-    merge_to_front(values, start, cursor)
+    unite_to_front(values, start, cursor)
 }
 
-/// Merges the values from an index on with a cursor, and writes them to the front. Returns how many these are.
-fn merge_to_front<C: SortedCursor>(values: &mut [u32], start: usize, cursor: &mut C) -> usize
+/// Unites the values from an index on with a cursor, and writes them to the front. Returns how many these are.
+fn unite_to_front<C: SortedCursor>(values: &mut [u32], start: usize, cursor: &mut C) -> usize
     requires { IsRoomBefore start values.old (C.rest cursor.old) }
     ensures { AreInFront result (united (drop start values.old) (C.rest cursor.old)) values.new }
 {
-    let mut written = 0;
-    let mut from = start;
-    while let Some((value, next)) = next_united_from(values, from, cursor) {
-        values[written] = value;
-        let done = Place {
-            written: written + 1,
-            from: next,
-            last: value,
-        };
-        let place = unite_at_hand(values, done, cursor);
-        written = place.written;
-        from = place.from;
+    let mut place = Place {
+        written: 0,
+        from: start,
+        low: 0,
+    };
+    while let Some(_value) = cursor.value() {
+        place = unite_block(values, place, cursor);
     }
-    written
+    move_rest(values, place)
 }
 
 /// The first index from one on whose value a cursor has too. Moves the cursor there.
@@ -119,24 +113,4 @@ fn next_shared_from<C: SortedCursor>(values: &[u32], from: usize, cursor: &mut C
         None => None,
         Some(_value) => Some(values.len() - ahead.len()),
     }
-}
-
-/// The first value that is left from an index on or in a cursor, and the index of the values after it. Moves the cursor past it.
-#[inline(always)]
-fn next_united_from<C: SortedCursor>(
-    values: &[u32],
-    from: usize,
-    cursor: &mut C,
-) -> Option<(u32, usize)>
-    requires { (from ≤ length values.now) × IsStrictlyIncreasing (drop from values.now) }
-    ensures none { result ≡ None → united (drop from values.now) (C.rest cursor.old) ≡ [] }
-    ensures some { IfSome result (IsNextUnited values.now from (C.rest cursor.old) (C.rest cursor.new)) }
-{
-    let mut ahead = IncreasingSlice::new(&values[from..]);
-    let Some(value) = least(&ahead, cursor) else {
-        return None;
-    };
-    pass(&mut ahead, value);
-    pass(cursor, value);
-    Some((value, values.len() - ahead.len()))
 }

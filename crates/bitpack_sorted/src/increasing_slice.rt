@@ -38,34 +38,29 @@ impl<'a> SortedCursor for IncreasingSlice<'a> {
     ghost increasing = { λ slice. IsIncreasing-from slice.values.now slice.rising };
 
     #[inline(always)]
-    fn value(&self) -> Option<u32> {
-        match self.values {
-            [] => None,
-            [value, ..] => Some(*value),
-        }
-    }
-
-    #[inline(always)]
-    fn advance(&mut self) {
-        if self.values.len() > 0 {
-            self.values = &self.values[1..];
-        }
-    }
-
-    #[inline(always)]
-    fn seek(&mut self, target: u32) {
-        let from = first_from(self.values, 0, target);
-        self.values = &self.values[from..];
-    }
-
-    #[inline(always)]
-    fn at_hand(&self) -> &[u32] {
+    fn block(&self) -> &[u32] {
         self.values
     }
 
     #[inline(always)]
-    fn seek_ahead(&mut self, target: u32, ahead: usize) {
+    fn advance(&mut self) -> Option<u32> {
+        if self.values.len() > 0 {
+            self.values = &self.values[1..];
+        }
+        self.value()
+    }
+
+    #[inline(always)]
+    fn seek(&mut self, target: u32) -> Option<u32> {
+        let from = first_from(self.values, 0, target);
+        self.values = &self.values[from..];
+        self.value()
+    }
+
+    #[inline(always)]
+    fn seek_ahead(&mut self, target: u32, ahead: usize) -> Option<u32> {
         let from = first_ahead(self.values, 0, ahead, target);
         self.values = &self.values[from..];
+        self.value()
     }
 }

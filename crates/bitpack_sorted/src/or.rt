@@ -1,9 +1,11 @@
 //! The values that at least one of two cursors has.
 
-ghost use Rattle.std.specs.Prelude.{◌≡◌, ◌+◌, ◌<◌, ℕ, false};
-ghost use Rattle.bitpack_sorted.specs.Increasing.{at_least, first, has, united};
+ghost use Rattle.std.specs.Prelude.{◌≡◌};
+ghost use Rattle.bitpack_sorted.specs.Increasing.{united};
+ghost use Rattle.bitpack_sorted.specs.inner.Combined.{lesser_of};
 ghost use Rattle.bitpack_sorted.specs.IncreasingLaws.{increasing_united};
 
+use super::first_alone::first_alone;
 use super::sorted_cursor::SortedCursor;
 
 /// The values that at least one of two cursors has, each once.
@@ -11,8 +13,6 @@ use super::sorted_cursor::SortedCursor;
 pub struct Or<A: SortedCursor, B: SortedCursor> {
     one: A,
     other: B,
-    value: Option<u32>,
-    ghost place: { value ≡ first (united (A.rest one) (B.rest other)) },
 }
 
 impl<A: SortedCursor, B: SortedCursor> Or<A, B> {
@@ -20,8 +20,7 @@ impl<A: SortedCursor, B: SortedCursor> Or<A, B> {
     pub fn new(one: A, other: B) -> Or<A, B>
         ensures { united (A.rest result.one) (B.rest result.other) ≡ united (A.rest one) (B.rest other) }
     {
-        let value = least(&one, &other);
-        Or { one, other, value }
+        Or { one, other }
     }
 }
 
@@ -31,52 +30,55 @@ impl<A: SortedCursor, B: SortedCursor> SortedCursor for Or<A, B> {
     ghost increasing = { λ cursor. increasing_united (A.rest cursor.one) (B.rest cursor.other) (B.increasing cursor.other) };
 
     #[inline(always)]
-    fn value(&self) -> Option<u32> {
-        self.value
-    }
-
-    #[inline(always)]
-    fn advance(&mut self) {
-        if let Some(value) = self.value {
-            pass(&mut self.one, value);
-            pass(&mut self.other, value);
-            self.value = least(&self.one, &self.other);
+    fn block(&self) -> &[u32] {
+        let one = self.one.block();
+        let other = self.other.block();
+        if one.len() == 0 {
+            return other;
+        }
+        if other.len() == 0 {
+            return one;
+        }
+        if other[0] < one[0] {
+            first_alone(other)
+        } else {
+            first_alone(one)
         }
     }
 
     #[inline(always)]
-    fn seek(&mut self, target: u32) {
-        if let Some(value) = self.value {
-            if value < target {
-                self.one.seek(target);
-                self.other.seek(target);
-                self.value = least(&self.one, &self.other);
+    fn advance(&mut self) -> Option<u32> {
+        match (self.one.value(), self.other.value()) {
+            (Some(a), Some(b)) => {
+                let one = if a <= b { self.one.advance() } else { Some(a) };
+                let other = if b <= a {
+                    self.other.advance()
+                } else {
+                    Some(b)
+                };
+                lesser(one, other)
             }
+            (Some(_value), None) => self.one.advance(),
+            (None, _) => self.other.advance(),
         }
+    }
+
+    #[inline(always)]
+    fn seek(&mut self, target: u32) -> Option<u32> {
+        let one = self.one.seek(target);
+        let other = self.other.seek(target);
+        lesser(one, other)
     }
 }
 
-/// The first value that either has.
+/// The lesser of two values, or the one that there is.
 #[inline(always)]
-pub(super) fn least<A: SortedCursor, B: SortedCursor>(one: &A, other: &B) -> Option<u32>
-    ensures { result ≡ first (united (A.rest one.now) (B.rest other.now)) }
+fn lesser(one: Option<u32>, other: Option<u32>) -> Option<u32>
+    ensures { result ≡ lesser_of one other }
 {
-    match (one.value(), other.value()) {
+    match (one, other) {
         (Some(a), Some(b)) => Some(if a < b { a } else { b }),
         (Some(a), None) => Some(a),
         (None, b) => b,
-    }
-}
-
-/// Moves past a value if the cursor is at it. The cursor has no value below it.
-#[inline(always)]
-pub(super) fn pass<C: SortedCursor>(cursor: &mut C, value: u32)
-    requires { (v : ℕ) → v < value → has (C.rest cursor.old) v ≡ false }
-    ensures { C.rest cursor.new ≡ at_least (value + 1) (C.rest cursor.old) }
-{
-    if let Some(here) = cursor.value() {
-        if here == value {
-            cursor.advance();
-        }
     }
 }

@@ -1,12 +1,12 @@
 //! The values that at least one of any number of cursors has.
 
-ghost use Rattle.std.specs.Prelude.{◌≡◌, ◌+◌, map};
-ghost use Rattle.bitpack_sorted.specs.Increasing.{at_least};
-ghost use Rattle.bitpack_sorted.specs.inner.Leaping.{lesser_of};
-ghost use Rattle.bitpack_sorted.specs.Many.{from_value, united_all};
-ghost use Rattle.bitpack_sorted.specs.ManyLaws.{increasing_from_value, increasing_united_all};
+ghost use Rattle.std.specs.Prelude.{◌≡◌, Some, map};
+ghost use Rattle.bitpack_sorted.specs.Increasing.{after_first, at_least, first};
+ghost use Rattle.bitpack_sorted.specs.inner.Leaping.{IsLeastAt, is_lesser};
+ghost use Rattle.bitpack_sorted.specs.Many.{united_all};
+ghost use Rattle.bitpack_sorted.specs.ManyLaws.{increasing_united_all};
 
-use super::passing::pass_over;
+use super::first_alone::first_alone;
 use super::sorted_cursor::SortedCursor;
 
 /// The values that at least one cursor of a vector has, each once. If the vector is empty, there are none.
@@ -15,83 +15,102 @@ use super::sorted_cursor::SortedCursor;
 #[derive(Drop)]
 pub struct OrAll<C: SortedCursor> {
     cursors: Vec<C>,
-    value: Option<u32>,
+    // The index of a cursor at the least value that is left.
+    least: usize,
+    ghost place: { IsLeastAt least (map C.rest cursors.items) },
 }
 
 impl<C: SortedCursor> OrAll<C> {
     /// A cursor over the values left in any.
     pub fn new(cursors: Vec<C>) -> OrAll<C>
-        ensures { from_value result.value (united_all (map C.rest result.cursors.items))
-            ≡ united_all (map C.rest cursors.items) }
+        ensures { united_all (map C.rest result.cursors.items) ≡ united_all (map C.rest cursors.items) }
     {
         let mut cursors = cursors;
-        let value = least_from(&mut cursors, 0);
-        OrAll { cursors, value }
+        let least = least_from(&mut cursors, 0);
+        OrAll { cursors, least }
     }
 }
 
 impl<C: SortedCursor> SortedCursor for OrAll<C> {
-    ghost rest = { λ cursor. from_value cursor.value (united_all (map C.rest cursor.cursors.items)) };
+    ghost rest = { λ cursor. united_all (map C.rest cursor.cursors.items) };
 
-    ghost increasing = { λ cursor. increasing_from_value cursor.value (united_all (map C.rest cursor.cursors.items))
-        (increasing_united_all (map C.rest cursor.cursors.items)) };
-
-    #[inline(always)]
-    fn value(&self) -> Option<u32> {
-        self.value
-    }
+    ghost increasing = { λ cursor. increasing_united_all (map C.rest cursor.cursors.items) };
 
     #[inline(always)]
-    fn advance(&mut self) {
-        if let Some(value) = self.value {
-            self.value = least_above(&mut self.cursors, value);
+    fn block(&self) -> &[u32] {
+        if self.least < self.cursors.len() {
+            first_alone(self.cursors[self.least].block())
+        } else {
+            &[]
         }
     }
 
     #[inline(always)]
-    fn seek(&mut self, target: u32) {
-        if let Some(value) = self.value {
-            if value < target {
-                self.value = least_from(&mut self.cursors, target);
+    fn advance(&mut self) -> Option<u32> {
+        let value = self.value()?;
+        self.least = least_above(&mut self.cursors, value);
+        self.value()
+    }
+
+    #[inline(always)]
+    fn seek(&mut self, target: u32) -> Option<u32> {
+        self.least = least_from(&mut self.cursors, target);
+        self.value()
+    }
+}
+
+/// Moves each that is at a value past it, and returns the index of one at the least value that is left. No cursor has a value below.
+fn least_above<C: SortedCursor>(cursors: &mut [C], value: u32) -> usize
+    requires { first (united_all (map C.rest cursors.old)) ≡ Some value }
+    ensures rest { united_all (map C.rest cursors.new) ≡ after_first (united_all (map C.rest cursors.old)) }
+    ensures least { IsLeastAt result (map C.rest cursors.new) }
+{
+    let mut at = 0;
+    let mut least = None;
+    for index in 0..cursors.len() {
+        let here = match cursors[index].value() {
+            Some(here) => {
+                if here > value {
+                    Some(here)
+                } else {
+                    cursors[index].advance()
+                }
             }
+            None => None,
+        };
+        if is_lesser(here, least) {
+            at = index;
+            least = here;
         }
     }
+    at
 }
 
-/// Moves each past a value, and returns the least value that is left.
-fn least_above<C: SortedCursor>(cursors: &mut [C], value: u32) -> Option<u32>
-    ensures { from_value result (united_all (map C.rest cursors.new))
-        ≡ at_least (value + 1) (united_all (map C.rest cursors.old)) }
+/// Moves each to a target, and returns the index of one at the least value that is left.
+fn least_from<C: SortedCursor>(cursors: &mut [C], target: u32) -> usize
+    ensures rest { united_all (map C.rest cursors.new) ≡ at_least target (united_all (map C.rest cursors.old)) }
+    ensures least { IsLeastAt result (map C.rest cursors.new) }
 {
+    let mut at = 0;
     let mut least = None;
     for index in 0..cursors.len() {
-        pass_over(&mut cursors[index], value);
-        least = lesser(least, cursors[index].value());
+        let here = cursors[index].seek(target);
+        if is_lesser(here, least) {
+            at = index;
+            least = here;
+        }
     }
-    least
+    at
 }
 
-/// Moves each to a target, and returns the least value that is left.
-fn least_from<C: SortedCursor>(cursors: &mut [C], target: u32) -> Option<u32>
-    ensures { from_value result (united_all (map C.rest cursors.new))
-        ≡ at_least target (united_all (map C.rest cursors.old)) }
-{
-    let mut least = None;
-    for index in 0..cursors.len() {
-        cursors[index].seek(target);
-        least = lesser(least, cursors[index].value());
-    }
-    least
-}
-
-/// The lesser of two values, or the one that there is.
+/// Whether there is a value that is less than another, or the only one.
 #[inline(always)]
-fn lesser(one: Option<u32>, other: Option<u32>) -> Option<u32>
-    ensures { result ≡ lesser_of one other }
+fn is_lesser(one: Option<u32>, other: Option<u32>) -> bool
+    ensures { result ≡ is_lesser one other }
 {
     match (one, other) {
-        (Some(a), Some(b)) => Some(if a < b { a } else { b }),
-        (Some(a), None) => Some(a),
-        (None, b) => b,
+        (Some(a), Some(b)) => a < b,
+        (Some(_value), None) => true,
+        (None, _) => false,
     }
 }

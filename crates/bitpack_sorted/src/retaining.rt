@@ -10,8 +10,7 @@ pub(super) fn finds_next<C: SortedCursor>(cursor: &mut C, item: u32) -> bool
     ensures found { result ≡ has (C.rest cursor.old) item }
     ensures rest { C.rest cursor.new ≡ at_least item (C.rest cursor.old) }
 {
-    cursor.seek(item);
-    match cursor.value() {
+    match cursor.seek(item) {
         Some(here) => here == item,
         None => false,
     }

@@ -6,38 +6,55 @@ ghost use Rattle.bitpack_sorted.specs.Increasing.{IsIncreasing, after_first, at_
 
 /// A place in increasing values that only moves forward.
 ///
-/// Each call costs what it costs the type that implements it; none allocates and none fails.
+/// Each call costs what it costs the type that implements it; none allocates and none fails. A move returns the value that is then here.
+///
+/// <!-- crates/bitpack_uses/src/tests/doc_examples.rt -->
+/// ```rust
+/// let mut cursor = IncreasingSlice::new(&[3, 5, 9, 12]);
+/// assert_eq!(rt; cursor.value(), Some(3));
+/// assert_eq!(rt; cursor.advance(), Some(5));
+/// assert_eq!(rt; cursor.seek(6), Some(9));
+/// assert_eq!(rt; cursor.block()[..], [9, 12][..]);
+/// assert_eq!(rt; cursor.seek(13), None);
+/// ```
 pub trait SortedCursor: Drop {
     // The values from here on. They increase, so each is there once.
     ghost rest: { Self → List ℕ };
 
+    /// The current block: the first of the values from here on, in order, such as the rest of a block of a list. It has at least one
+    /// value, except at the end. A value that is repeated there may be too.
+    fn block(&self) -> &[u32]
+        ensures { IsFront result.now (rest self.now) };
+
     /// The value here, or `None` after the last.
-    fn value(&self) -> Option<u32>
-        ensures { result ≡ first (rest self.now) };
-
-    /// Moves to the next value. After the last value it stays.
-    fn advance(&mut self)
-        ensures { rest self.new ≡ after_first (rest self.old) };
-
-    /// Moves to the first value from here on that is at least the target, or to the end if there is none. Never moves back.
-    fn seek(&mut self, target: u32)
-        ensures { rest self.new ≡ at_least target (rest self.old) };
-
-    /// The values from here on that are at hand, such as the rest of a block. A value that is repeated there may be too. The slice
-    /// may be empty anywhere, and is if a type does not say otherwise.
     #[inline(always)]
-    fn at_hand(&self) -> &[u32]
-        ensures { IsFront result.now (rest self.now) }
+    fn value(&self) -> Option<u32>
+        ensures { result ≡ first (rest self.now) }
     {
-        &[]
+        match self.block() {
+            [] => None,
+            [value, ..] => Some(*value),
+        }
     }
 
-    /// As `seek`. It is faster if the value is `ahead` values at hand ahead of this place.
+    /// Moves to the next value and returns it. After the last value it stays.
+    fn advance(&mut self) -> Option<u32>
+        ensures rest { rest self.new ≡ after_first (rest self.old) }
+        ensures value { result ≡ first (rest self.new) };
+
+    /// Moves to the first value from here on that is at least the target and returns it, or moves to the end if there is none. Never
+    /// moves back.
+    fn seek(&mut self, target: u32) -> Option<u32>
+        ensures rest { rest self.new ≡ at_least target (rest self.old) }
+        ensures value { result ≡ first (rest self.new) };
+
+    /// As `seek`. It is faster if the value is `ahead` values of the current block ahead of this place.
     #[inline(always)]
-    fn seek_ahead(&mut self, target: u32, _ahead: usize)
-        ensures { rest self.new ≡ at_least target (rest self.old) }
+    fn seek_ahead(&mut self, target: u32, _ahead: usize) -> Option<u32>
+        ensures rest { rest self.new ≡ at_least target (rest self.old) }
+        ensures value { result ≡ first (rest self.new) }
     {
-        self.seek(target);
+        self.seek(target)
     }
 
     ghost increasing: { (cursor : Self) → IsIncreasing (rest cursor) };

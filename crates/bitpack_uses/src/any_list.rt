@@ -28,16 +28,16 @@ impl<'a> SortedCursor for AnyList<'a> {
       | Loose c ↦ IsIncreasing-from c.values.now c.rising
     ] };
 
-    fn value(&self) -> Option<u32> {
+    fn block(&self) -> &[u32] {
         match self {
-            AnyList::One(cursor) => cursor.value(),
-            AnyList::Four(cursor) => cursor.value(),
-            AnyList::Eight(cursor) => cursor.value(),
-            AnyList::Loose(cursor) => cursor.value(),
+            AnyList::One(cursor) => cursor.block(),
+            AnyList::Four(cursor) => cursor.block(),
+            AnyList::Eight(cursor) => cursor.block(),
+            AnyList::Loose(cursor) => cursor.block(),
         }
     }
 
-    fn advance(&mut self) {
+    fn advance(&mut self) -> Option<u32> {
         match self {
             AnyList::One(cursor) => cursor.advance(),
             AnyList::Four(cursor) => cursor.advance(),
@@ -46,7 +46,7 @@ impl<'a> SortedCursor for AnyList<'a> {
         }
     }
 
-    fn seek(&mut self, target: u32) {
+    fn seek(&mut self, target: u32) -> Option<u32> {
         match self {
             AnyList::One(cursor) => cursor.seek(target),
             AnyList::Four(cursor) => cursor.seek(target),
@@ -55,16 +55,7 @@ impl<'a> SortedCursor for AnyList<'a> {
         }
     }
 
-    fn at_hand(&self) -> &[u32] {
-        match self {
-            AnyList::One(cursor) => cursor.at_hand(),
-            AnyList::Four(cursor) => cursor.at_hand(),
-            AnyList::Eight(cursor) => cursor.at_hand(),
-            AnyList::Loose(cursor) => cursor.at_hand(),
-        }
-    }
-
-    fn seek_ahead(&mut self, target: u32, ahead: usize) {
+    fn seek_ahead(&mut self, target: u32, ahead: usize) -> Option<u32> {
         match self {
             AnyList::One(cursor) => cursor.seek_ahead(target, ahead),
             AnyList::Four(cursor) => cursor.seek_ahead(target, ahead),

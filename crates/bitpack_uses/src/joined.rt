@@ -27,15 +27,15 @@ impl<A: SortedCursor, B: SortedCursor> SortedCursor for Joined<A, B> {
       | FirstOnly c ↦ increasing_without (A.rest c.one) (B.rest c.other) (A.increasing c.one)
     ] };
 
-    fn value(&self) -> Option<u32> {
+    fn block(&self) -> &[u32] {
         match self {
-            Joined::Both(cursor) => cursor.value(),
-            Joined::Either(cursor) => cursor.value(),
-            Joined::FirstOnly(cursor) => cursor.value(),
+            Joined::Both(cursor) => cursor.block(),
+            Joined::Either(cursor) => cursor.block(),
+            Joined::FirstOnly(cursor) => cursor.block(),
         }
     }
 
-    fn advance(&mut self) {
+    fn advance(&mut self) -> Option<u32> {
         match self {
             Joined::Both(cursor) => cursor.advance(),
             Joined::Either(cursor) => cursor.advance(),
@@ -43,7 +43,7 @@ impl<A: SortedCursor, B: SortedCursor> SortedCursor for Joined<A, B> {
         }
     }
 
-    fn seek(&mut self, target: u32) {
+    fn seek(&mut self, target: u32) -> Option<u32> {
         match self {
             Joined::Both(cursor) => cursor.seek(target),
             Joined::Either(cursor) => cursor.seek(target),

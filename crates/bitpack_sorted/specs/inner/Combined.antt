@@ -1,17 +1,16 @@
--- What a combined cursor keeps of the values that its parts have left.
-use Rattle.std.specs.Prelude.{◌≡◌, ℕ, List, drop, Option, Some}
-use Rattle.bitpack_sorted.specs.Increasing.{first, shared, without}
+-- Where the parts of a combined cursor are, by the values that they have left.
+use Rattle.std.specs.Prelude.{◌≡◌, ℕ, min, List, drop, Option, Some, None}
+use Rattle.bitpack_sorted.specs.Increasing.{first}
 
--- the value is the first that both have left, and both are at it
-pub record IsShared (value : Option ℕ) (xs ys : List ℕ) : Type 0 where
-  pub is : value ≡ first (shared xs ys)
-  pub one : (v : ℕ) → value ≡ Some v → first xs ≡ Some v
-  pub other : (v : ℕ) → value ≡ Some v → first ys ≡ Some v
+-- both are at the same value, or one of them is at its end
+abbrev pub HaveMet : List ℕ → List ℕ → Type 0
+HaveMet xs ys = (v w : ℕ) → first xs ≡ Some v → first ys ≡ Some w → v ≡ w
 
--- the value is the first that the second lacks, and the first is at it
-pub record IsKept (value : Option ℕ) (xs ys : List ℕ) : Type 0 where
-  pub is : value ≡ first (without xs ys)
-  pub one : (v : ℕ) → value ≡ Some v → first xs ≡ Some v
+-- the lesser of two values, or the one that there is
+abbrev pub lesser_of : Option ℕ → Option ℕ → Option ℕ
+lesser_of None other = other
+lesser_of (Some a) None = Some a
+lesser_of (Some a) (Some b) = Some (min a b)
 
 -- what is left after some of what was left
 abbrev pub IsLater : List ℕ → List ℕ → Type 0

@@ -55,6 +55,16 @@ fn values_of_two_cursors(rt: HostRuntime) {
 }
 
 #[test]
+fn moves_of_a_sorted_cursor(rt: HostRuntime) {
+    let mut cursor = IncreasingSlice::new(&[3, 5, 9, 12]);
+    assert_eq!(rt; cursor.value(), Some(3));
+    assert_eq!(rt; cursor.advance(), Some(5));
+    assert_eq!(rt; cursor.seek(6), Some(9));
+    assert_eq!(rt; cursor.block()[..], [9, 12][..]);
+    assert_eq!(rt; cursor.seek(13), None);
+}
+
+#[test]
 fn first_value_from_a_position(rt: HostRuntime) {
     // From position 1 on, 9 is the first value that is at least 6.
     assert_eq!(rt; first_from(&[3, 5, 9, 12], 1, 6), 2);

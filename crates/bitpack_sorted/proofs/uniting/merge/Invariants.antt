@@ -1,5 +1,5 @@
--- Some of what was still to come is done, and what was passed at hand is. Each turn passes a value of the slice or at hand.
-use Rattle.std.proofs.Common.{ℕ, ◌+◌, ◌-◌, ◌<◌, ◌≤◌, get_or, length}
+-- Some of what was still to come is done, and what was passed of the block is. Each turn passes a value of the slice or of the block, and writes one at most.
+use Rattle.std.proofs.Common.{ℕ, ◌+◌, ◌-◌, ◌^◌, ◌<◌, ◌≤◌, get_or, length}
 use Rattle.bitpack_sorted.specs.Increasing.{at_least}
 use Rattle.bitpack_sorted.specs.inner.Uniting.{IsUnitedTo}
 use Rattle.bitpack_sorted.proofs.uniting.merge.Given as goal
@@ -8,9 +8,12 @@ abbrev pub invariant-loop-place : goal.invariant-loop-place
 invariant-loop-place g l =
     let others = g.C.SortedCursor.rest l.cursor in
     record {
-      united : IsUnitedTo l.initial.values others l.initial.place l.values (at_least (l.place.last + 1) others) l.place;
-      before : (k : ℕ) → k < l.passed → get_or l.hand k 0 ≤ l.place.last;
+      united : IsUnitedTo l.initial.values others l.initial.place l.values (at_least l.place.low others) l.place;
+      before : (k : ℕ) → k < l.passed → get_or l.block k 0 < l.place.low;
+      steps : l.place.written + l.initial.place.from ≤ l.initial.place.written + l.place.from + l.passed;
+      some : l.initial.place.from < l.place.from + l.passed → 0 < l.place.low;
+      bound : l.place.low ≤ 2 ^ 32;
     }
 
 abbrev pub decreases-loop-place : goal.decreases-loop-place
-decreases-loop-place g l = (length l.values - l.place.from) + (length l.hand - l.passed)
+decreases-loop-place g l = (length l.values - l.place.from) + (length l.block - l.passed)

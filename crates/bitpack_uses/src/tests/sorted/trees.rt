@@ -197,21 +197,36 @@ impl<'a, A: Tree<'a>, B: Tree<'a>> Tree<'a> for Joined<A, B> {
     }
 }
 
-/// Moves a cursor by `advance` or `seek`. Returns the set of what it has left.
+/// Moves a cursor by `advance` or `seek`, which returns its next value. Returns the set of what it has left.
 fn moved<C: SortedCursor>(rt: &impl Abort, cursor: &mut C, set: Set, numbers: &mut Numbers) -> Set {
     let Some(number) = least(&set) else {
         holds(rt, cursor.value().is_none(), "at the end");
+        holds(rt, cursor.block().is_empty(), "a block at the end");
         return set;
     };
     let value = FIRST.wrapping_add(number);
     holds(rt, cursor.value() == Some(value), "the least number");
-    if numbers.below(2) == 0 {
-        cursor.advance();
-        return from_number(set, number.wrapping_add(1));
-    }
-    let step = numbers.below(60);
-    cursor.seek(value.saturating_add(step));
-    from_number(set, number.wrapping_add(step).min(COUNT - 1))
+    holds(
+        rt,
+        cursor.block().first() == Some(&value),
+        "the first of a block",
+    );
+    let (found, left) = if numbers.below(2) == 0 {
+        (cursor.advance(), from_number(set, number.wrapping_add(1)))
+    } else {
+        let step = numbers.below(60);
+        let found = cursor.seek(value.saturating_add(step));
+        (
+            found,
+            from_number(set, number.wrapping_add(step).min(COUNT - 1)),
+        )
+    };
+    let expected = match least(&left) {
+        Some(number) => Some(FIRST.wrapping_add(number)),
+        None => None,
+    };
+    holds(rt, found == expected, "the value that a move returns");
+    left
 }
 
 /// A tree is moved a few times. Then it has the numbers that are left of its set, in order.

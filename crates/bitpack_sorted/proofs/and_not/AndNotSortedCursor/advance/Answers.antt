@@ -1,17 +1,10 @@
 -- The first is at the value, and leaves it.
 use Rattle.std.proofs.Common.{◌∙◌}
-use Rattle.bitpack_sorted.specs.Increasing.{without}
-use Rattle.bitpack_sorted.proofs.Combining.{and_not_next, stays_last}
+use Rattle.bitpack_sorted.proofs.Combining.{and_not_next}
 use Rattle.bitpack_sorted.proofs.and_not.AndNotSortedCursor.advance.Goals as goal
 
-pub returns-in-Some : goal.returns-in-Some
-returns-in-Some g c =
+pub returns-clause-rest : goal.returns-clause-rest
+returns-clause-rest g c =
     let self = c.args.self.now in
-    c.skip_shared-self.ensures.rest
-    ∙ and_not_next self.value c.in-Some._value (g.A.SortedCursor.rest self.one) (g.A.SortedCursor.rest c.advance.new.self) (g.B.SortedCursor.rest self.other) self.place
-    c.in-Some.is c.advance.ensures
-
-pub returns-in_default : goal.returns-in_default
-returns-in_default g c =
-    let self = c.args.self.now in
-    stays_last (without (g.A.SortedCursor.rest self.one) (g.B.SortedCursor.rest self.other)) self.value self.place.is c.in_default.is
+    c.skip_shared.ensures.rest
+    ∙ and_not_next (g.A.SortedCursor.rest self.one) (g.A.SortedCursor.rest c.advance.new.self) (g.B.SortedCursor.rest self.other) self.place c.advance.ensures.rest

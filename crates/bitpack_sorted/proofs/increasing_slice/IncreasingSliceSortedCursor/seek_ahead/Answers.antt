@@ -8,8 +8,8 @@ first_ahead-from-requires-clause-order c = increasing_order c.args.self.now.valu
 pub invariant_of-self : goal.invariant_of-self
 invariant_of-self c = record { rising = increasing_from c.first_ahead-from.result c.args.self.now.values.now c.args.self.now.rising }
 
-pub returns : goal.returns
-returns c =
+pub returns-clause-rest : goal.returns-clause-rest
+returns-clause-rest c =
     let found = c.first_ahead-from.ensures in
     sought_slice c.args.target c.first_ahead-from.result c.args.self.now.values.now c.args.self.now.rising
     (record { forward = found.forward; within = found.within; before = found.before; enough = found.enough })
