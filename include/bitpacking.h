@@ -213,7 +213,8 @@ ptrdiff_t bitpacking_8x_unpack_all_strictly_sorted(uint32_t initial, const uint8
  *
  * A view is set to BITPACKING_LIST_EMPTY or bitpacking_list_empty() before anything else, or all of it to zero: each is the empty list.
  * Then it is opened, as often as one likes. It has a pointer to the bytes, and no memory of its own. The caller keeps the bytes where
- * they are, unchanged, for as long as the view or a copy of it is used. Only the open functions may write its fields.
+ * they are, unchanged, for as long as the view or a copy of it is used. Only bitpacking_list_open may write its fields: later calls trust
+ * what it found, which is in the view too, as they trust the bytes.
  *
  * The library tests the bytes once, at opening. Later calls trust them. If the bytes change, a call may read or write outside its
  * buffers. Keep them in memory that nothing writes. Replace a file by renaming a new one, and never write into one that is mapped; a
@@ -224,13 +225,23 @@ ptrdiff_t bitpacking_8x_unpack_all_strictly_sorted(uint32_t initial, const uint8
  *     if (bitpacking_list_open(bytes, bytes_len, &list) < 0) return -1;
  *     if (bitpacking_list_get(&list, 1000, &value)) ...
  */
+typedef struct bitpacking_list_outline {
+    size_t header_len;
+    size_t len;
+    size_t tail_start;
+    uint32_t before_tail;
+    uint8_t version;
+    uint8_t kind;
+} bitpacking_list_outline;
+
 typedef struct bitpacking_list {
     const uint8_t *bytes;
     size_t bytes_len;
+    bitpacking_list_outline found;
     uint8_t lanes;
 } bitpacking_list;
 
-#define BITPACKING_LIST_EMPTY {NULL, 0, 0}
+#define BITPACKING_LIST_EMPTY {NULL, 0, {0, 0, 0, 0, 0, 0}, 0}
 
 /* The kinds of a list. The values of a sorted list do not decrease, and the values of a strictly sorted one increase. */
 #define BITPACKING_PLAIN 0
@@ -256,15 +267,10 @@ static inline bitpacking_list bitpacking_list_empty(void)
  * faults below, in the order of docs/FORMAT.md, and then the view is as it was. */
 ptrdiff_t bitpacking_list_open(const uint8_t *bytes, size_t bytes_len, bitpacking_list *view);
 
-/* As above, for a text of version 2 and the packer of 1, 4 or 8 lanes: any other version or packer is a fault. */
-ptrdiff_t bitpacking_1x_list_open(const uint8_t *bytes, size_t bytes_len, bitpacking_list *view);
-ptrdiff_t bitpacking_4x_list_open(const uint8_t *bytes, size_t bytes_len, bitpacking_list *view);
-ptrdiff_t bitpacking_8x_list_open(const uint8_t *bytes, size_t bytes_len, bitpacking_list *view);
-
 #define BITPACKING_LIST_SHORT (-21)       /* bytes are missing */
 #define BITPACKING_LIST_BAD_VERSION (-22) /* the text is of another version */
 #define BITPACKING_LIST_BAD_KIND (-23)    /* the kind is none; in a search or a set call: the list is plain, and has no order */
-#define BITPACKING_LIST_WRONG_LANES (-24) /* the text is of another packer */
+#define BITPACKING_LIST_WRONG_LANES (-24) /* the lanes are of no packer */
 #define BITPACKING_LIST_TOO_LONG (-25)    /* more than 268,435,456 values */
 #define BITPACKING_LIST_BAD_WIDTH (-26)   /* a width is above BITPACKING_MAX_WIDTH */
 #define BITPACKING_LIST_LOOSE_WIDTH (-27) /* a width is not the least of its block */
@@ -296,7 +302,7 @@ ptrdiff_t bitpacking_list_range(const bitpacking_list *view, size_t from, uint32
 /* Searches a sorted or strictly sorted list for the first value that is at least target. Writes its position, the value, and
  * returns 1. If every value is below the target it returns 0, and for a plain list BITPACKING_LIST_BAD_KIND; then nothing is
  * written. Compare the answer with `== 1`: in an `if`, BITPACKING_LIST_BAD_KIND is true as well. The call unpacks at most one block. It
- * reads at most as many entries as the count of whole blocks has binary digits, and in a list of version 3 the last entry twice more. */
+ * reads at most as many entries as the count of whole blocks has binary digits. */
 int32_t bitpacking_list_seek(const bitpacking_list *view, uint32_t target, size_t *position, uint32_t *item);
 
 /* A place in an opened list that only moves forward. It has the values of the block at hand, and no memory of its own.

@@ -1,7 +1,7 @@
 #!/usr/bin/env python3
 """Compares the types and the names of what the functions for C take: those of crates/bitpacking_c with those that include/bitpacking.h
 declares, and with those by which rust/src/calls.rs calls them. A slice `x` is a pointer `x` and a length `x_len`. The fields of
-`bitpacking_list` and `bitpacking_cursor` are compared with `ListView` and `ListCursor` too, and the limits of blocks with those of
+`bitpacking_list`, `bitpacking_list_outline` and `bitpacking_cursor` are compared with `ListView`, `ListOutline` and `ListCursor` too, and the limits of blocks with those of
 crates/bitpacking. The header is read as it is written: it has to name each function in a prototype, which no macro makes.
 
 The header, the archive and the Rust crate have the version of CHANGELOG.md.
@@ -22,10 +22,15 @@ C_TYPES = {
     "i32": "int32_t",
     "usize": "size_t",
     "isize": "ptrdiff_t",
+    "ListOutline": "bitpacking_list_outline",
     "ListView": "bitpacking_list",
     "ListCursor": "bitpacking_cursor",
 }
-STRUCTS = {"ListView": "crates/bitpacking_c/src/list_view.rt", "ListCursor": "crates/bitpacking_c/src/list_cursor.rt"}
+STRUCTS = {
+    "ListOutline": "crates/bitpack_lists/src/list2/packed_list/outline.rt",
+    "ListView": "crates/bitpacking_c/src/list_view.rt",
+    "ListCursor": "crates/bitpacking_c/src/list_cursor.rt",
+}
 HEADER = "include/bitpacking.h"
 CALLS = "rust/src/calls.rs"
 LIMITS = "crates/bitpacking/src/limits.rt"
@@ -64,7 +69,7 @@ def exported():
     """Of each function of the crate what it returns and its parameters, in C; and the fields of a view."""
     found = {}
     for name, path in STRUCTS.items():
-        fields = re.search(rf"\bstruct {name}<'a> \{{(.*?)(?:pub ghost|\}})", code(path), re.S)
+        fields = re.search(rf"\bstruct {name}(?:<'a>)? \{{(.*?)(?:pub ghost|\}})", code(path), re.S)
         found[C_TYPES[name]] = parameters(fields[1])
     for path in paths("crates/bitpacking_c/src/*.rt"):
         functions = re.findall(r'extern "C" fn (\w+)(?:<[^>]*>)?\(([^)]*)\)(?: -> (\w+))?', text_of(path))

@@ -150,7 +150,7 @@ static void lists(void)
         int index;
         uint8_t byte;
         ptrdiff_t fault;
-    } faults[] = {{0, 1, BITPACKING_LIST_BAD_VERSION}, {1, 3, BITPACKING_LIST_BAD_KIND},   {2, 4, BITPACKING_LIST_WRONG_LANES},
+    } faults[] = {{0, 1, BITPACKING_LIST_BAD_VERSION}, {1, 3, BITPACKING_LIST_BAD_KIND},   {2, 2, BITPACKING_LIST_WRONG_LANES},
                   {6, 17, BITPACKING_LIST_TOO_LONG},   {7, 33, BITPACKING_LIST_BAD_WIDTH}, {7, 1, BITPACKING_LIST_SHORT},
                   {8, 1, BITPACKING_LIST_BAD_OFFSET},  {12, 30, BITPACKING_LIST_BAD_LAST}, {16, 31, BITPACKING_LIST_NOT_SORTED}};
     bitpacking_list list = BITPACKING_LIST_EMPTY;
@@ -167,17 +167,15 @@ static void lists(void)
     text[20] = 0;
     for (i = 0; i < sizeof faults / sizeof *faults; i++) {
         text[faults[i].index] = faults[i].byte;
-        EXPECT(bitpacking_1x_list_open(text, 20, &list), faults[i].fault);
+        EXPECT(bitpacking_list_open(text, 20, &list), faults[i].fault);
         text[faults[i].index] = right[faults[i].index];
     }
-    EXPECT(bitpacking_1x_list_open(text, 19, &list), BITPACKING_LIST_SHORT);
-    EXPECT(bitpacking_1x_list_open(text, 21, &list), BITPACKING_LIST_TRAILING);
-    EXPECT(bitpacking_1x_list_open(loose, 20, &list), BITPACKING_LIST_LOOSE_WIDTH);
-    EXPECT(bitpacking_1x_list_open(NULL, 0, &list), BITPACKING_LIST_SHORT);
-    EXPECT(bitpacking_4x_list_open(text, 20, &list), BITPACKING_LIST_WRONG_LANES);
-    EXPECT(bitpacking_8x_list_open(text, 20, &list), BITPACKING_LIST_WRONG_LANES);
+    EXPECT(bitpacking_list_open(text, 19, &list), BITPACKING_LIST_SHORT);
+    EXPECT(bitpacking_list_open(text, 21, &list), BITPACKING_LIST_TRAILING);
+    EXPECT(bitpacking_list_open(loose, 20, &list), BITPACKING_LIST_LOOSE_WIDTH);
+    EXPECT(bitpacking_list_open(NULL, 0, &list), BITPACKING_LIST_SHORT);
     EXPECT(bitpacking_list_len(&list), 0); /* as it was */
-    EXPECT(bitpacking_1x_list_open(text, 20, &list), 0);
+    EXPECT(bitpacking_list_open(text, 20, &list), 0);
     EXPECT(bitpacking_list_len(&list), 33);
     EXPECT(bitpacking_list_kind(&list), 2);
     for (i = 0; i < 33; i++) {
@@ -223,7 +221,6 @@ static void lists_of_version_3(void)
         EXPECT(bitpacking_list_open(i == 0 ? no_bytes : faults[i].bytes, faults[i].len, &list), faults[i].fault);
     EXPECT(bitpacking_list_open(padded, 4, &list), BITPACKING_LIST_PADDING);
     EXPECT(list.bytes == NULL && list.bytes_len == 0 && list.lanes == 0, 1);
-    EXPECT(bitpacking_1x_list_open(right, 12, &list), BITPACKING_LIST_BAD_VERSION);
     EXPECT(bitpacking_list_open(right, 12, &list), 0);
     EXPECT(bitpacking_list_len(&list), 33);
     EXPECT(bitpacking_list_kind(&list), 2);
@@ -247,8 +244,7 @@ static void lists_of_version_3(void)
 /* A list worked by hand for each packer: two whole blocks and one value after them, strictly sorted.
    The gaps of the first block are 1 and 2 in turn, the codes 0 and 1: in one lane the bits 01010101, in more all bits of every other lane.
    The gaps of the second are 4, the codes 3: each bit is set. */
-static void whole_blocks(uint8_t lanes, size_t len, size_t one_bit, size_t two_bits,
-                         ptrdiff_t (*open)(const uint8_t *, size_t, bitpacking_list *))
+static void whole_blocks(uint8_t lanes, size_t len, size_t one_bit, size_t two_bits)
 {
     enum { LONGEST = BITPACKING_8X_BLOCK_LEN };
     uint8_t text[7 + 2 * 9 + BITPACKING_8X_BLOCK_SIZE(1 + 2) + 4] = {2, 2, 0, 0, 0, 0, 0, /* version, kind, lanes, count */
@@ -275,7 +271,7 @@ static void whole_blocks(uint8_t lanes, size_t len, size_t one_bit, size_t two_b
     text[size++] = (uint8_t)(values[count - 1] % 256);
     text[size++] = (uint8_t)(values[count - 1] / 256);
     size += 2;
-    EXPECT(open(text, size, &list), 0);
+    EXPECT(bitpacking_list_open(text, size, &list), 0);
     EXPECT(bitpacking_list_len(&list), (ptrdiff_t)count);
     EXPECT(bitpacking_list_kind(&list), 2);
     for (i = 0; i < count; i++) {
@@ -300,7 +296,7 @@ static void short_lists(void)
     uint32_t value = 77;
     size_t position = 78;
 
-    EXPECT(bitpacking_4x_list_open(four, 11, &list), 0);
+    EXPECT(bitpacking_list_open(four, 11, &list), 0);
     EXPECT(bitpacking_list_kind(&list), 1);
     EXPECT(bitpacking_list_get(&list, 0, &value), 1);
     EXPECT(value, 5);
@@ -309,7 +305,7 @@ static void short_lists(void)
     EXPECT(bitpacking_list_seek(&list, 3, &position, &value), 1);
     EXPECT(value, 5);
     EXPECT(position, 0);
-    EXPECT(bitpacking_8x_list_open(eight, 11, &list), 0);
+    EXPECT(bitpacking_list_open(eight, 11, &list), 0);
     EXPECT(bitpacking_list_kind(&list), 0);
     EXPECT(bitpacking_list_get(&list, 0, &value), 1);
     EXPECT(value, 6);
@@ -318,9 +314,9 @@ static void short_lists(void)
 
 int main(void)
 {
-    whole_blocks(1, BITPACKING_1X_BLOCK_LEN, BITPACKING_1X_BLOCK_SIZE(1), BITPACKING_1X_BLOCK_SIZE(1 + 1), bitpacking_1x_list_open);
-    whole_blocks(4, BITPACKING_4X_BLOCK_LEN, BITPACKING_4X_BLOCK_SIZE(1), BITPACKING_4X_BLOCK_SIZE(1 + 1), bitpacking_4x_list_open);
-    whole_blocks(8, BITPACKING_8X_BLOCK_LEN, BITPACKING_8X_BLOCK_SIZE(1), BITPACKING_8X_BLOCK_SIZE(1 + 1), bitpacking_8x_list_open);
+    whole_blocks(1, BITPACKING_1X_BLOCK_LEN, BITPACKING_1X_BLOCK_SIZE(1), BITPACKING_1X_BLOCK_SIZE(1 + 1));
+    whole_blocks(4, BITPACKING_4X_BLOCK_LEN, BITPACKING_4X_BLOCK_SIZE(1), BITPACKING_4X_BLOCK_SIZE(1 + 1));
+    whole_blocks(8, BITPACKING_8X_BLOCK_LEN, BITPACKING_8X_BLOCK_SIZE(1), BITPACKING_8X_BLOCK_SIZE(1 + 1));
     worked();
     none();
     constants();

@@ -115,7 +115,7 @@ static size_t pack(uint8_t *bytes)
     }
     size = packers[below(3)]((uint8_t)(2 + below(2)), kind, packed, count, bytes, LONGEST, &position);
     right.values = values;
-    expect(size > 0 && plain_read(&right, bytes, (size_t)size, 0) == NONE && right.kind == kind && right.count == count
+    expect(size > 0 && plain_read(&right, bytes, (size_t)size) == NONE && right.kind == kind && right.count == count
            && memcmp(values, packed, 4 * count) == 0, "another list is packed");
     return size > 0 ? (size_t)size : 0;
 }
@@ -265,23 +265,17 @@ static void walks(const bitpacking_list *view, const plain_list *right)
     }
 }
 
-/* Opens a damaged text, as one of any packer and as one of a packer, and compares. */
+/* Opens a damaged text and compares. */
 static void compare(void)
 {
-    static ptrdiff_t (*const opens[3])(const uint8_t *, size_t, bitpacking_list *) = {bitpacking_1x_list_open, bitpacking_4x_list_open,
-                                                                                      bitpacking_8x_list_open};
     uint8_t *bytes = at_end ? bytes_room + LONGEST - text_len : bytes_room;
-    bitpacking_list view = BITPACKING_LIST_EMPTY, one = BITPACKING_LIST_EMPTY;
+    bitpacking_list view = BITPACKING_LIST_EMPTY;
     plain_list right = {0};
-    size_t packer = below(3);
     enum fault fault;
 
     right.values = values;
     memcpy(bytes, text, text_len);
-    fault = plain_read(&right, text, text_len, packer == 0 ? 1 : 4 * (uint32_t)packer);
-    expect(opens[packer](bytes, text_len, &one) == (fault ? -20 - (ptrdiff_t)fault : 0), "a packer gives another answer");
-    expect(one.bytes == (fault ? NULL : bytes) && one.bytes_len == (fault ? 0 : text_len), "a packer opens another list");
-    fault = plain_read(&right, text, text_len, 0);
+    fault = plain_read(&right, text, text_len);
     expect(bitpacking_list_open(bytes, text_len, &view) == (fault ? -20 - (ptrdiff_t)fault : 0), "another answer");
     expect(view.bytes == (fault ? NULL : bytes) && view.lanes == (fault ? 0 : right.lanes), "another list is opened");
     by_fault[fault]++;
@@ -311,7 +305,7 @@ static void keep(char *column[COLUMNS])
 
     text_len = read_bytes(column[3], text);
     right.values = values;
-    fault = plain_read(&right, text, text_len, 0);
+    fault = plain_read(&right, text, text_len);
     if (table == REFUSED) {
         int said = atoi(column[1]);
 

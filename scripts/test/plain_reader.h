@@ -127,7 +127,7 @@ static enum fault in_order(plain_list *list)
 }
 
 /* Reads a text of version 2. Lanes of 0 are those that the text names. */
-static enum fault read2(plain_list *list, uint32_t lanes)
+static enum fault read2(plain_list *list)
 {
     uint32_t named, count;
     size_t tail;
@@ -137,7 +137,7 @@ static enum fault read2(plain_list *list, uint32_t lanes)
     NEED(list->text[0] == 2, VERSION, BAD_VERSION);
     NEED(list->text[1] <= 2, KIND, BAD_KIND);
     named = list->text[2];
-    NEED(lanes ? named == lanes : named == 1 || named == 4 || named == 8, LANES, WRONG_LANES);
+    NEED(named == 1 || named == 4 || named == 8, LANES, WRONG_LANES);
     count = word_at(list->text + 3);
     NEED(count <= 268435456, COUNT, TOO_LONG);
     list->kind = list->text[1], list->lanes = named, list->at = 7;
@@ -216,11 +216,11 @@ static enum fault read3(plain_list *list)
     return fault ? fault : in_order(list);
 }
 
-/* Reads a text of version 2 of so many lanes; or if they are 0, of version 2 or 3, of the lanes that it names. */
-static enum fault plain_read(plain_list *list, const uint8_t *text, size_t len, uint32_t lanes)
+/* Reads a text of version 2 or 3, of the lanes that it names. */
+static enum fault plain_read(plain_list *list, const uint8_t *text, size_t len)
 {
     list->text = text, list->len = len, list->at = list->count = 0;
-    return lanes == 0 && len > 0 && text[0] >= 64 ? read3(list) : read2(list, lanes);
+    return len > 0 && text[0] >= 64 ? read3(list) : read2(list);
 }
 
 #endif

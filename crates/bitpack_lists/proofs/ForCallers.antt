@@ -9,8 +9,9 @@ pub use Rattle.bitpack_lists.proofs.lemmas.blocks.HeaderLemmas.{header_bytes}
 pub use Rattle.bitpack_lists.proofs.lemmas.blocks.ListLemmas.{text_of}
 pub use Rattle.bitpack_lists.proofs.lemmas.v1.Soundness1.{one_list1, one_text1, text_from_none}
 pub use Rattle.bitpack_lists.proofs.lemmas.v2.OneText2.{no_fault2, one_list2, one_text2}
-pub use Rattle.bitpack_lists.proofs.lemmas.opened.OpenedValues.{kind_is, opened_list2, values_are}
+pub use Rattle.bitpack_lists.proofs.lemmas.opened.OpenedValues.{kind_is, opened_list, opened_list2, opened_only, values_are}
 pub use Rattle.bitpack_lists.proofs.lemmas.laws.OrderLaws.{first_is_found, neither_falls, sorted_is_order, strict_is_order}
+pub use Rattle.bitpack_lists.proofs.lemmas.opened.OutlineSteps.{outline_is}
 pub use Rattle.bitpack_lists.proofs.lemmas.blocks.PartLemmas.{AreBytes-nil}
 pub use Rattle.bitpack_lists.proofs.lemmas.laws.Existence2.{text_of2}
 pub use Rattle.bitpack_lists.proofs.lemmas.blocks.ValueFaults.{few_values, in_order}

@@ -11,6 +11,7 @@ pub mod Numbers
 pub mod OfKind
 pub mod Older
 pub mod Opened
+pub mod Outlines
 pub mod Owned
 pub mod Parts
 pub mod Places

@@ -5,6 +5,7 @@ mod copying;
 mod cursor;
 mod intersection;
 mod of_kind;
+mod outline;
 mod search;
 mod tail;
 mod tail_search;
@@ -29,6 +30,7 @@ use crate::version::Version;
 use bitpacking::{BitPacker, Kind};
 pub use cursor::{Cursor, first_ahead, first_from};
 pub use intersection::intersect;
+pub use outline::ListOutline;
 use std::alloc::AllocError;
 
 /// A packed list whose text was tested when it was opened, so that reading it tests nothing again and cannot fail.

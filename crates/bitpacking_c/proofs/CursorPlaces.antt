@@ -9,21 +9,9 @@ use Rattle.std.proofs.lemmas.Option.{slice_get-get_or, slice_get_past}
 use Rattle.bitpack_lists.specs.declared.list_kind.ListKind.{ListKind}
 use Rattle.bitpack_lists.specs.Blocks.{IsBlockOf, IsFirstReaching, IsPlaceOf}
 use Rattle.bitpack_lists.specs.Places.{InOrder, IsSoughtFrom}
-use Rattle.bitpack_lists.specs.Texts.{IsText, version_in}
 use Rattle.bitpack_lists.specs.declared.list_kind.ListKind.TheVariants as lists
 use Rattle.bitpacking_c.specs.Cursors.{SaysSome, SeeksOn}
 use Rattle.bitpacking_c.specs.Views.{IsListOf}
-
--- Of some lanes, a list is that of a text.
-pub listed : (lanes : ℕ) (bytes : List ℕ) (kind : ListKind) (all : List ℕ) → 1 ≤ lanes → IsText (version_in bytes) lanes kind all bytes
-    → IsListOf lanes bytes kind all
-listed zero bytes kind all some is = absurd (omega arith)
-listed (suc lane) bytes kind all some is = is
-
-pub text_of_listed : (lanes : ℕ) (bytes : List ℕ) (kind : ListKind) (all : List ℕ) → 1 ≤ lanes → IsListOf lanes bytes kind all
-    → IsText (version_in bytes) lanes kind all bytes
-text_of_listed zero bytes kind all some is = absurd (omega arith)
-text_of_listed (suc lane) bytes kind all some is = is
 
 -- A list of no lanes is empty.
 pub none_of_zero : (lanes : ℕ) (bytes : List ℕ) (kind : ListKind) (all : List ℕ) → IsListOf lanes bytes kind all → lanes ≡ 0 → length all ≡ 0

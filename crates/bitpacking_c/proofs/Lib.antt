@@ -3,3 +3,4 @@ pub mod CursorPlaces
 pub mod PackLemmas
 pub mod SetSteps
 pub mod UnionSteps
+pub mod ViewLemmas

@@ -24,17 +24,6 @@ use Rattle.bitpacking_c.specs.Views.{IsListOf}
 
 -- ---- one list
 
--- a list of some lanes is a text
-pub text_of_list : (lanes other : ℕ) (bytes : List ℕ) (kind : ListKind) (values : List ℕ) → lanes ≡ other → 1 ≤ other → IsListOf lanes bytes kind values
-    → IsText (version_in bytes) other kind values bytes
-text_of_list zero other bytes kind values e some is = absurd (omega (arith, e, some))
-text_of_list (suc lane) other bytes kind values e some is = subst (λ lanes. IsText (version_in bytes) lanes kind values bytes) e is
-
-pub list_of_text : (lanes other : ℕ) (bytes : List ℕ) (kind : ListKind) (values : List ℕ) → lanes ≡ other → 1 ≤ other
-    → IsText (version_in bytes) other kind values bytes → IsListOf lanes bytes kind values
-list_of_text zero other bytes kind values e some is = absurd (omega (arith, e, some))
-list_of_text (suc lane) other bytes kind values e some is = subst (λ lanes. IsText (version_in bytes) lanes kind values bytes) (sym e) is
-
 pub length-distinct : (xs : List ℕ) → length (distinct xs) ≤ length xs
 length-distinct [] = omega arith
 length-distinct (x ∷ xs) =
@@ -68,9 +57,14 @@ ordered_text : (version : Version) (lanes : ℕ) (kind : ListKind) (values bytes
 ordered_text versions.Two lanes kind values bytes is = is.ordered
 ordered_text versions.Three lanes kind values bytes is = is.ordered
 
-pub strict_text : (version : Version) (lanes : ℕ) (kind : ListKind) (values bytes : List ℕ) → kind ≡ StrictlySorted
+strict_text : (version : Version) (lanes : ℕ) (kind : ListKind) (values bytes : List ℕ) → kind ≡ StrictlySorted
     → IsText version lanes kind values bytes → IsStrictlyIncreasing values
 strict_text version lanes kind values bytes strict is = (strict_is_order values).0 (rw strict at (ordered_text version lanes kind values bytes is))
+
+pub strict_list : (lanes : ℕ) (kind : ListKind) (values bytes : List ℕ) → kind ≡ StrictlySorted → IsListOf lanes bytes kind values
+    → IsStrictlyIncreasing values
+strict_list zero kind values bytes strict is = absurd cc
+strict_list (suc lane) kind values bytes strict is = strict_text (version_in bytes) (suc lane) kind values bytes strict is
 
 -- ---- the list at an index
 

@@ -1,5 +1,5 @@
 -- What the inner functions know of a block that they read from the bytes of a view, whichever list these are.
-use Rattle.std.specs.Prelude.{◌≢◌, ℕ, ◌+◌, ◌-◌, ◌*◌, ◌^◌, ◌<◌, ◌≤◌, List, length, slice_index, take}
+use Rattle.std.specs.Prelude.{◌≡◌, ◌≢◌, ℕ, ◌+◌, ◌-◌, ◌*◌, ◌^◌, ◌<◌, ◌≤◌, List, length, slice_index, take}
 use Rattle.bitpack_lists.specs.declared.list_kind.ListKind.{ListKind}
 use Rattle.bitpack_lists.specs.declared.list_kind.ListKind.TheVariants as lists
 use Rattle.bitpack_lists.specs.Blocks.{IsBlockOf, IsFirstReaching}
@@ -38,3 +38,16 @@ module _ (lanes : ℕ) (bytes : List ℕ) where
     pub sorted : AreOrdered → InOrder (take len out)
     pub few : 32 * lanes * block + len ≤ 2 ^ 28
     pub short : len ≤ 256
+
+  -- a block can be found from one on, into room for one
+  pub record CanFind (target from : ℕ) (out : List ℕ) : Type 0 where
+    pub ordered : AreOrdered
+    pub within : HasBlock from
+    pub below : IsAfterBelow target from
+    pub room : length out ≡ 256
+
+  -- it was found and read
+  pub record HasFound (target from block len : ℕ) (out : List ℕ) : Type 0 where
+    pub forward : from ≤ block
+    pub found : IsFound target from block
+    pub read : HasRead block len out

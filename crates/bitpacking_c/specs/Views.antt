@@ -1,8 +1,10 @@
 -- What the calls on packed lists answer. A list that is read in place is of version 2 or 3.
-use Rattle.std.specs.Prelude.{◌≡◌, ℕ, zero, suc, ◌+◌, ◌/◌, ◌<◌, ◌≤◌, ℤ, pos, negsuc, ◌==◌, nat_lt, if◌then◌else◌, List, [], ◌++◌, length, drop, slice_get, slice_index, Option, Some, None, MatchOption}
+use Rattle.std.specs.Prelude.{◌≡◌, ◌≢◌, ℕ, zero, suc, ◌+◌, ◌/◌, ◌<◌, ◌≤◌, ℤ, pos, negsuc, ◌==◌, nat_lt, if◌then◌else◌, List, [], ◌++◌, length, drop, slice_get, slice_index, Option, Some, None, MatchOption}
 use Rattle.bitpack_lists.specs.declared.list_error.ListError.{ListError}
 use Rattle.bitpack_lists.specs.declared.list_kind.ListKind.{ListKind}
 use Rattle.bitpack_lists.specs.declared.list_kind.ListKind.TheVariants.{Plain}
+use Rattle.bitpack_lists.specs.declared.opened.outline.ListOutline.{ListOutline}
+use Rattle.bitpack_lists.specs.Outlines.{IsOutline}
 use Rattle.bitpack_lists.specs.Parts.{number_of}
 use Rattle.bitpack_lists.specs.Search.{first_at_least}
 use Rattle.bitpack_lists.specs.Texts.{IsText, fault_of_either, version_in}
@@ -14,6 +16,10 @@ use Rattle.bitpack_lists.specs.Version3.{lanes_of}
 abbrev pub IsListOf : ℕ → List ℕ → ListKind → List ℕ → Type 0
 IsListOf zero bytes kind values = (kind ≡ Plain) × (values ≡ [])
 IsListOf (suc lane) bytes kind values = IsText (version_in bytes) (suc lane) kind values bytes
+
+-- opening the bytes found this; at 0 lanes nothing was opened, and the list is empty
+abbrev pub WasFound : ℕ → List ℕ → ListOutline → Type 0
+WasFound lanes bytes found = (lanes ≢ 0 → IsOutline lanes bytes found) × (lanes ≡ 0 → (found.len ≡ 0) × (found.kind ≡ 0))
 
 -- the lanes that a text says: 1 in place of any but 4 and 8
 abbrev pub known_lanes : ℕ → ℕ

@@ -1,14 +1,13 @@
 //! The calls on cursors, and the values of a list from a position on.
 
-ghost use Rattle.std.specs.Prelude.{◌≡◌, ◌+◌, ◌-◌, ℕ, ℤ, List, None, length, slice_get};
+ghost use Rattle.std.specs.Prelude.{◌≡◌, ◌+◌, ◌-◌, ℕ, ℤ, List, length, slice_get};
 ghost use Rattle.bitpack_lists.specs.declared.list_kind.ListKind.{ListKind};
-ghost use Rattle.bitpack_lists.specs.Texts.{IsText, fault_of_either, version_in};
 ghost use Rattle.bitpacking_c.specs.Cursors.{Advances, IsListOfCursor, SeeksOn, UnpacksFrom, UnpacksOver, left_at_hand, position};
 ghost use Rattle.bitpacking_c.specs.Views.{Gets, IsListOf};
 
 use crate::list_cursor::ListCursor;
 use crate::list_view::ListView;
-use bitpack_lists::list2::{PackedList, Reads};
+use bitpack_lists::list2::Reads;
 use bitpacking::{BitPacker, BitPacker1x, BitPacker4x, BitPacker8x};
 
 /// Sets a cursor to the first value of a list. Unpacks at most one block.
@@ -89,26 +88,26 @@ pub extern "C" fn bitpacking_list_range(
     let mut reads = Reads::new();
     match view.lanes {
         0 => 0,
-        1 => unpack_from(BitPacker1x::new(), view.bytes, from, values, &mut reads),
-        4 => unpack_from(BitPacker4x::new(), view.bytes, from, values, &mut reads),
-        _ => unpack_from(BitPacker8x::new(), view.bytes, from, values, &mut reads),
+        1 => unpack_from(BitPacker1x::new(), view, from, values, &mut reads),
+        4 => unpack_from(BitPacker4x::new(), view, from, values, &mut reads),
+        _ => unpack_from(BitPacker8x::new(), view, from, values, &mut reads),
     }
 }
 
-/// Unpacks a text of a packer from a position on.
+/// Unpacks the list of a view from a position on, for its packer.
 #[inline(always)]
 fn unpack_from<P: BitPacker>(
     packer: P,
-    bytes: &[u8],
+    view: &ListView<'_>,
     from: usize,
     values: &mut [u32],
     reads: &mut Reads,
 ) -> isize
-    requires { fault_of_either P.lanes bytes.now ≡ None }
-    ensures values { (kind : ListKind) (all : List ℕ) → IsText (version_in bytes.now) P.lanes kind all bytes.now
+    requires { view.now.lanes ≡ P.lanes }
+    ensures values { (kind : ListKind) (all : List ℕ) → IsListOf view.now.lanes view.now.bytes.now kind all
         → UnpacksFrom from all values.old values.new result }
     ensures blocks { UnpacksOver P.lanes from result reads.old.blocks reads.new.blocks }
 {
-    let list = PackedList::from_validated_any(packer, bytes);
+    let list = view.list(packer);
     list.copy_from(from, values, reads) as isize
 }

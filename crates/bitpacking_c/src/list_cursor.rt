@@ -50,10 +50,7 @@ impl<'a> ListCursor<'a> {
         ensures none { result.list.lanes ≡ 0 }
     {
         ListCursor {
-            list: ListView {
-                bytes: &[],
-                lanes: 0,
-            },
+            list: ListView::empty(),
             block: 0,
             index: 0,
             len: 0,
@@ -69,10 +66,7 @@ impl<'a> ListCursor<'a> {
         ensures blocks { AtMostOne reads.old.blocks reads.new.blocks }
     {
         let len = read_block(view, 0, &mut self.values, reads);
-        self.list = ListView {
-            bytes: view.bytes,
-            lanes: view.lanes,
-        };
+        self.list = view.again();
         self.block = 0;
         self.index = 0;
         self.len = len;

@@ -12,13 +12,11 @@ ghost use Rattle.bitpack_sorted.specs.Increasing.{has};
 ghost use Rattle.bitpack_sorted.specs.InFront.{AreInFront};
 ghost use Rattle.bitpack_sorted.specs.Many.{all_have, united_all};
 ghost use Rattle.bitpack_sorted.specs.Remaining.{remaining};
-ghost use Rattle.bitpack_lists.specs.Texts.{IsText, fault_of_either, version_in};
 ghost use Rattle.bitpacking_c.specs.Sets.{Adds, AreListsOf, CanAdd, FitsIn, HasLength, HasRoom, Intersects, IsInOrder, Leaves, Lists, Subtracts, Unites, all_distinct, all_values, any_plain, others_have, shortest_len, total_len, values_at};
 ghost use Rattle.bitpacking_c.specs.Views.{IsListOf};
 
 use super::list_view::{ListView, bitpacking_list_len, kind};
 use bitpack_lists::ListKind;
-use bitpack_lists::list2::PackedList;
 use bitpack_sorted::{
     DistinctValues, collect_to, intersect_in_place, subtract_in_place, unite_in_place,
 };
@@ -184,7 +182,7 @@ fn distinct_of<'a, P: BitPacker>(packer: P, view: &ListView<'a>) -> DistinctValu
         → remaining result ≡ distinct all }
     ensures some { (kind : ListKind) × (all : List ℕ) × IsListOf view.now.lanes view.now.bytes.now kind all }
 {
-    DistinctValues::new(PackedList::from_validated_any(packer, view.bytes).cursor())
+    DistinctValues::new(view.list(packer).cursor())
 }
 
 /// Writes the values of a list, each once, and returns how many these are.
@@ -206,7 +204,7 @@ fn copy_distinct_of<P: BitPacker>(packer: P, view: &ListView<'_>, out: &mut [u32
     requires room { IsInOrder view.now × FitsIn (length out.old) view.now }
     ensures { Adds view.now [] out.new result }
 {
-    let list = PackedList::from_validated_any(packer, view.bytes);
+    let list = view.list(packer);
     if list.kind() == ListKind::StrictlySorted {
         return list.copy_to(out);
     }

@@ -2,14 +2,14 @@
 
 ghost use Rattle.std.specs.Prelude.{◌≡◌, ◌≢◌, ℕ, List, None, length, slice_get, pos};
 ghost use Rattle.bitpack_lists.specs.declared.list_kind.ListKind.{ListKind};
+ghost use Rattle.bitpack_lists.specs.Opened.{kind_of, values};
 ghost use Rattle.bitpack_lists.specs.Parts.{kind_byte};
 ghost use Rattle.bitpack_lists.specs.Search.{IsSearched, first_at_least};
-ghost use Rattle.bitpack_lists.specs.Texts.{IsText, fault_of_either, version_in};
-ghost use Rattle.bitpack_lists.specs.Version2.{fault2};
-ghost use Rattle.bitpacking_c.specs.Views.{Gets, IsListOf, Seeks, UnpacksList, fault_number, fault_of_any, lanes_in};
+ghost use Rattle.bitpack_lists.specs.Texts.{fault_of_either};
+ghost use Rattle.bitpacking_c.specs.Views.{Gets, IsListOf, Seeks, UnpacksList, WasFound, fault_number, fault_of_any, lanes_in};
 
-use bitpack_lists::list2::{PackedList, Reads};
-use bitpack_lists::{ListError, ListKind};
+use bitpack_lists::ListKind;
+use bitpack_lists::list2::{ListOutline, PackedList, Reads};
 use bitpacking::{BitPacker, BitPacker1x, BitPacker4x, BitPacker8x};
 
 /// The first byte of a text of version 3 is at least this. Divided by this, it is the number that means the lanes.
@@ -22,52 +22,56 @@ const FIRST_OF_3: u8 = 64;
 #[derive(Drop)]
 pub struct ListView<'a> {
     pub(crate) bytes: &'a [u8],
+    // What opening found.
+    found: ListOutline,
     pub(crate) lanes: u8,
     // The bytes have no fault for the packer of this many lanes.
     pub ghost sound: { lanes ≢ 0 → fault_of_either lanes bytes.now ≡ None },
     pub ghost known: { lanes ≢ 0 → lanes ≢ 1 → lanes ≢ 4 → lanes ≡ 8 },
+    // What opening the bytes found is what is kept.
+    ghost was_found: { WasFound lanes bytes.now found },
 }
 
-/// Opens a text of a packer of `lanes` lanes.
-#[inline(always)]
-fn open<'a, P: BitPacker>(packer: P, lanes: u8, bytes: &'a [u8], view: &mut ListView<'a>) -> isize
-    requires lanes { lanes ≡ P.lanes }
-    requires known { lanes ≢ 1 → lanes ≢ 4 → lanes ≡ 8 }
-    ensures answer { result ≡ fault_number (fault2 P.lanes bytes.now) }
-    ensures opened { fault2 P.lanes bytes.now ≡ None → (view.new.bytes.now ≡ bytes.now) × (view.new.lanes ≡ lanes) }
-    ensures unchanged { fault2 P.lanes bytes.now ≢ None → view.new ≡ view.old }
-{
-    keep(PackedList::open(packer, bytes).err(), lanes, bytes, view)
-}
+impl<'a> ListView<'a> {
+    /// The empty list: the view that is all zero.
+    pub(crate) fn empty() -> ListView<'a>
+        ensures { result.lanes ≡ 0 }
+    {
+        ListView {
+            bytes: &[],
+            found: ListOutline {
+                header_len: 0,
+                len: 0,
+                tail_start: 0,
+                before_tail: 0,
+                version: 0,
+                kind: 0,
+            },
+            lanes: 0,
+        }
+    }
 
-/// Opens a text of version 2 that was packed in one lane, which is tested whole. Answers 0, or the number of the first fault.
-#[unsafe(no_mangle)]
-pub extern "C" fn bitpacking_1x_list_open<'a>(bytes: &'a [u8], view: &mut ListView<'a>) -> isize
-    ensures answer { result ≡ fault_number (fault2 1 bytes.now) }
-    ensures opened { fault2 1 bytes.now ≡ None → (view.new.bytes.now ≡ bytes.now) × (view.new.lanes ≡ 1) }
-    ensures unchanged { fault2 1 bytes.now ≢ None → view.new ≡ view.old }
-{
-    open(BitPacker1x::new(), 1, bytes, view)
-}
+    /// A copy of this view.
+    pub(crate) fn again(&self) -> ListView<'a>
+        ensures { (result.bytes.now ≡ self.now.bytes.now) × (result.lanes ≡ self.now.lanes) }
+    {
+        ListView {
+            bytes: self.bytes,
+            found: self.found,
+            lanes: self.lanes,
+        }
+    }
 
-/// Opens a text that was packed in four lanes, as [`bitpacking_1x_list_open`] does.
-#[unsafe(no_mangle)]
-pub extern "C" fn bitpacking_4x_list_open<'a>(bytes: &'a [u8], view: &mut ListView<'a>) -> isize
-    ensures answer { result ≡ fault_number (fault2 4 bytes.now) }
-    ensures opened { fault2 4 bytes.now ≡ None → (view.new.bytes.now ≡ bytes.now) × (view.new.lanes ≡ 4) }
-    ensures unchanged { fault2 4 bytes.now ≢ None → view.new ≡ view.old }
-{
-    open(BitPacker4x::new(), 4, bytes, view)
-}
-
-/// Opens a text that was packed in eight lanes, as [`bitpacking_1x_list_open`] does.
-#[unsafe(no_mangle)]
-pub extern "C" fn bitpacking_8x_list_open<'a>(bytes: &'a [u8], view: &mut ListView<'a>) -> isize
-    ensures answer { result ≡ fault_number (fault2 8 bytes.now) }
-    ensures opened { fault2 8 bytes.now ≡ None → (view.new.bytes.now ≡ bytes.now) × (view.new.lanes ≡ 8) }
-    ensures unchanged { fault2 8 bytes.now ≢ None → view.new ≡ view.old }
-{
-    open(BitPacker8x::new(), 8, bytes, view)
+    /// The list, for its packer. Reads none of the bytes.
+    #[inline(always)]
+    pub(crate) fn list<P: BitPacker>(&self, packer: P) -> PackedList<'a, P>
+        requires { self.now.lanes ≡ P.lanes }
+        ensures list { IsListOf self.now.lanes self.now.bytes.now (kind_of result) (values result) }
+        ensures only { (kind : ListKind) (all : List ℕ) → IsListOf self.now.lanes self.now.bytes.now kind all
+            → (kind_of result ≡ kind) × (values result ≡ all) }
+    {
+        PackedList::from_outline(packer, self.bytes, self.found)
+    }
 }
 
 /// Opens a text of version 2 or 3 of any packer, as it says itself. It is tested whole. Answers 0, or the number of the first fault.
@@ -79,20 +83,15 @@ pub extern "C" fn bitpacking_list_open<'a>(bytes: &'a [u8], view: &mut ListView<
     ensures unchanged { fault_of_any bytes.now ≢ None → view.new ≡ view.old }
 {
     match stated_lanes(bytes) {
-        1 => open_any(BitPacker1x::new(), 1, bytes, view),
-        4 => open_any(BitPacker4x::new(), 4, bytes, view),
-        _ => open_any(BitPacker8x::new(), 8, bytes, view),
+        1 => open(BitPacker1x::new(), 1, bytes, view),
+        4 => open(BitPacker4x::new(), 4, bytes, view),
+        _ => open(BitPacker8x::new(), 8, bytes, view),
     }
 }
 
 /// Opens a text of version 2 or 3 of a packer of this many lanes.
 #[inline(always)]
-fn open_any<'a, P: BitPacker>(
-    packer: P,
-    lanes: u8,
-    bytes: &'a [u8],
-    view: &mut ListView<'a>,
-) -> isize
+fn open<'a, P: BitPacker>(packer: P, lanes: u8, bytes: &'a [u8], view: &mut ListView<'a>) -> isize
     requires lanes { lanes ≡ P.lanes }
     requires known { lanes ≢ 1 → lanes ≢ 4 → lanes ≡ 8 }
     ensures answer { result ≡ fault_number (fault_of_either P.lanes bytes.now) }
@@ -100,29 +99,17 @@ fn open_any<'a, P: BitPacker>(
         → (view.new.bytes.now ≡ bytes.now) × (view.new.lanes ≡ lanes) }
     ensures unchanged { fault_of_either P.lanes bytes.now ≢ None → view.new ≡ view.old }
 {
-    keep(
-        PackedList::open_any(packer, bytes).err(),
-        lanes,
-        bytes,
-        view,
-    )
-}
-
-/// Keeps the bytes in the view if they have no fault, and answers with the number of their fault.
-#[inline(always)]
-fn keep<'a>(fault: Option<ListError>, lanes: u8, bytes: &'a [u8], view: &mut ListView<'a>) -> isize
-    requires sound { fault ≡ None → fault_of_either lanes bytes.now ≡ None }
-    requires known { lanes ≢ 1 → lanes ≢ 4 → lanes ≡ 8 }
-    ensures answer { result ≡ fault_number fault }
-    ensures opened { fault ≡ None → (view.new.bytes.now ≡ bytes.now) × (view.new.lanes ≡ lanes) }
-    ensures unchanged { fault ≢ None → view.new ≡ view.old }
-{
-    match fault {
-        Some(fault) => -20 - fault.number() as isize,
-        None => {
-            *view = ListView { bytes, lanes };
+    match PackedList::open_any(packer, bytes) {
+        Ok(list) => {
+            let found = list.outline();
+            *view = ListView {
+                bytes,
+                found,
+                lanes,
+            };
             0
         }
+        Err(fault) => -20 - fault.number() as isize,
     }
 }
 
@@ -154,12 +141,7 @@ pub extern "C" fn bitpacking_list_len(view: &ListView<'_>) -> usize
     ensures { (kind : ListKind) (values : List ℕ) → IsListOf view.now.lanes view.now.bytes.now kind values
         → result ≡ length values }
 {
-    match view.lanes {
-        0 => 0,
-        1 => PackedList::from_validated_any(BitPacker1x::new(), view.bytes).len(),
-        4 => PackedList::from_validated_any(BitPacker4x::new(), view.bytes).len(),
-        _ => PackedList::from_validated_any(BitPacker8x::new(), view.bytes).len(),
-    }
+    view.found.len
 }
 
 /// The kind of the list.
@@ -167,12 +149,7 @@ pub(crate) fn kind(view: &ListView<'_>) -> ListKind
     ensures { (kind : ListKind) (values : List ℕ) → IsListOf view.now.lanes view.now.bytes.now kind values
         → result ≡ kind }
 {
-    match view.lanes {
-        0 => ListKind::Plain,
-        1 => PackedList::from_validated_any(BitPacker1x::new(), view.bytes).kind(),
-        4 => PackedList::from_validated_any(BitPacker4x::new(), view.bytes).kind(),
-        _ => PackedList::from_validated_any(BitPacker8x::new(), view.bytes).kind(),
-    }
+    view.found.list_kind()
 }
 
 /// The kind of the list: 0 for plain, 1 for sorted, 2 for strictly sorted.
@@ -195,9 +172,9 @@ fn value(view: &ListView<'_>, position: usize) -> Option<u32>
 {
     match view.lanes {
         0 => None,
-        1 => PackedList::from_validated_any(BitPacker1x::new(), view.bytes).get(position),
-        4 => PackedList::from_validated_any(BitPacker4x::new(), view.bytes).get(position),
-        _ => PackedList::from_validated_any(BitPacker8x::new(), view.bytes).get(position),
+        1 => view.list(BitPacker1x::new()).get(position),
+        4 => view.list(BitPacker4x::new()).get(position),
+        _ => view.list(BitPacker8x::new()).get(position),
     }
 }
 
@@ -225,20 +202,20 @@ pub extern "C" fn bitpacking_list_unpack(view: &ListView<'_>, values: &mut [u32]
 {
     match view.lanes {
         0 => 0,
-        1 => unpack(BitPacker1x::new(), view.bytes, values),
-        4 => unpack(BitPacker4x::new(), view.bytes, values),
-        _ => unpack(BitPacker8x::new(), view.bytes, values),
+        1 => unpack(BitPacker1x::new(), view, values),
+        4 => unpack(BitPacker4x::new(), view, values),
+        _ => unpack(BitPacker8x::new(), view, values),
     }
 }
 
-/// Unpacks a text of a packer.
+/// Unpacks the list of a view, for its packer.
 #[inline(always)]
-fn unpack<P: BitPacker>(packer: P, bytes: &[u8], values: &mut [u32]) -> isize
-    requires { fault_of_either P.lanes bytes.now ≡ None }
-    ensures { (kind : ListKind) (all : List ℕ) → IsText (version_in bytes.now) P.lanes kind all bytes.now
+fn unpack<P: BitPacker>(packer: P, view: &ListView<'_>, values: &mut [u32]) -> isize
+    requires { view.now.lanes ≡ P.lanes }
+    ensures { (kind : ListKind) (all : List ℕ) → IsListOf view.now.lanes view.now.bytes.now kind all
         → UnpacksList all values.old values.new result }
 {
-    let list = PackedList::from_validated_any(packer, bytes);
+    let list = view.list(packer);
     if values.len() < list.len() {
         return -3;
     }
@@ -256,9 +233,9 @@ fn first_at_least(view: &ListView<'_>, target: u32, reads: &mut Reads) -> Option
 {
     match view.lanes {
         0 => None,
-        1 => PackedList::from_validated_any(BitPacker1x::new(), view.bytes).seek(target, reads),
-        4 => PackedList::from_validated_any(BitPacker4x::new(), view.bytes).seek(target, reads),
-        _ => PackedList::from_validated_any(BitPacker8x::new(), view.bytes).seek(target, reads),
+        1 => view.list(BitPacker1x::new()).seek(target, reads),
+        4 => view.list(BitPacker4x::new()).seek(target, reads),
+        _ => view.list(BitPacker8x::new()).seek(target, reads),
     }
 }
 
@@ -287,8 +264,7 @@ fn seek(
 }
 
 /// Writes the position and the value of the first value that is at least the target, and answers 1. If every value is below it, it
-/// answers 0, and for a plain list, which has no order, -23; both write nothing. At most one block is unpacked. In version 3 the last entry
-/// is read twice more than the search reads it.
+/// answers 0, and for a plain list, which has no order, -23; both write nothing. At most one block is unpacked.
 #[unsafe(no_mangle)]
 pub extern "C" fn bitpacking_list_seek(
     view: &ListView<'_>,

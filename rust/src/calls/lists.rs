@@ -8,12 +8,30 @@ use crate::list::PackedList;
 /// The values of the longest block.
 pub(crate) const LONGEST_BLOCK: usize = 256;
 
+/// What opening found.
+#[repr(C)]
+#[derive(Clone, Copy)]
+pub(crate) struct ListOutline {
+    header_len: usize,
+    len: usize,
+    tail_start: usize,
+    before_tail: u32,
+    version: u8,
+    kind: u8,
+}
+
+impl ListOutline {
+    /// That of the empty list.
+    const EMPTY: Self = ListOutline { header_len: 0, len: 0, tail_start: 0, before_tail: 0, version: 0, kind: 0 };
+}
+
 /// A packed list that was opened, as the functions see it.
 #[repr(C)]
 #[derive(Clone, Copy)]
 pub(crate) struct ListView<'a> {
     bytes: *const u8,
     bytes_len: usize,
+    found: ListOutline,
     lanes: u8,
     borrowed: PhantomData<&'a [u8]>,
 }
@@ -25,7 +43,7 @@ unsafe impl Sync for ListView<'_> {}
 
 impl ListView<'_> {
     /// The empty list.
-    const EMPTY: Self = ListView { bytes: std::ptr::null(), bytes_len: 0, lanes: 0, borrowed: PhantomData };
+    const EMPTY: Self = ListView { bytes: std::ptr::null(), bytes_len: 0, found: ListOutline::EMPTY, lanes: 0, borrowed: PhantomData };
 
     /// How many values a block of an opened list has.
     pub(crate) fn block_len(&self) -> usize {
@@ -65,7 +83,7 @@ impl ListCursor<'_> {
 pub(crate) type Layout = (&'static str, usize, Vec<(&'static str, usize, usize)>);
 
 #[cfg(test)]
-pub(crate) fn layouts() -> [Layout; 2] {
+pub(crate) fn layouts() -> [Layout; 3] {
     use std::mem::{offset_of, size_of};
 
     fn size_of_field<T, F>(_: fn(T) -> F) -> usize {
@@ -78,7 +96,8 @@ pub(crate) fn layouts() -> [Layout; 2] {
         }};
     }
     [
-        layout!("bitpacking_list", ListView<'static>: bytes bytes_len lanes),
+        layout!("bitpacking_list_outline", ListOutline: header_len len tail_start before_tail version kind),
+        layout!("bitpacking_list", ListView<'static>: bytes bytes_len found lanes),
         layout!("bitpacking_cursor", ListCursor<'static>: list block index len values ordered),
     ]
 }

@@ -7,6 +7,7 @@ pub mod CursorSteps
 pub mod KindFaults
 pub mod OpenedLists
 pub mod OpenedValues
+pub mod OutlineSteps
 pub mod SearchSteps
 pub mod TailFronts
 pub mod TailSearch

@@ -6,49 +6,44 @@ use Rattle.bitpack_sorted.specs.DistinctLaws.{increasing_rest}
 use Rattle.bitpack_sorted.specs.Increasing.{has}
 use Rattle.bitpack_lists.specs.Opened.{kind_of, values}
 use Rattle.bitpack_sorted.specs.Remaining.{remaining}
-use Rattle.bitpack_lists.specs.Texts.{version_in}
 use Rattle.bitpack_sorted.proofs.ForCallers.{has-distinct, strictly_from_increasing}
 use Rattle.std.proofs.lemmas.List.{length-take-le}
-use Rattle.bitpacking_c.proofs.SetSteps.{length-distinct, list_of_text, strict_text, text_of_list, written_all}
+use Rattle.bitpacking_c.proofs.SetSteps.{length-distinct, strict_list, written_all}
 use Rattle.bitpacking_c.proofs.list_sets.copy_distinct_of.Goals as goal
 
 pub copy_to-requires : goal.copy_to-requires
 copy_to-requires g c =
-    let list = c.from_validated_any-list.result in
+    let list = c.list-list.result in
     let view = c.args.view.now in
     record {
       room = c.requires.room.1 (kind_of list) (values list)
-          (list_of_text view.lanes g.P.BitPacker.lanes view.bytes.now (kind_of list) (values list) c.requires.lanes g.met.P.BitPacker.some_lanes
-          c.from_validated_any-list.ensures.list);
+          c.list-list.ensures.list;
     }
 
 pub returns-then-eq : goal.returns-then-eq
 returns-then-eq g c =
     let view = c.args.view.now in
-    let list = c.from_validated_any-list.result in
+    let list = c.list-list.result in
     let bytes = c.args.view.now.bytes.now in
     let strict : kind_of list ≡ StrictlySorted = search rules in
-    let here = list_of_text view.lanes g.P.BitPacker.lanes view.bytes.now (kind_of list) (values list) c.requires.lanes g.met.P.BitPacker.some_lanes
-    c.from_validated_any-list.ensures.list in
+    let here = c.list-list.ensures.list in
     let room = c.requires.room.1 (kind_of list) (values list) here in
     record {
       leaves = record {
         few = omega (arith, c.copy_to.ensures.len, c.copy_to.auto.out, room);
         increasing = rw c.copy_to.ensures.values
-            (strict_text (version_in bytes) g.P.BitPacker.lanes (kind_of list) (values list) bytes strict c.from_validated_any-list.ensures.list);
+            (strict_list view.lanes (kind_of list) (values list) bytes strict c.list-list.ensures.list);
         members = λ kind all is v.
-            let text = text_of_list view.lanes g.P.BitPacker.lanes view.bytes.now kind all c.requires.lanes g.met.P.BitPacker.some_lanes is in
-            ap (λ xs. has xs v) (c.copy_to.ensures.values ∙ (c.from_validated_any-list.ensures.only kind all text).1);
+            ap (λ xs. has xs v) (c.copy_to.ensures.values ∙ (c.list-list.ensures.only kind all is).1);
       };
       few = λ most fits. omega (arith, c.copy_to.ensures.len, fits (kind_of list) (values list) here);
     }
 
 pub returns : goal.returns
 returns g c =
-    let list = c.from_validated_any-list.result in
+    let list = c.list-list.result in
     let view = c.args.view.now in
-    let is = list_of_text view.lanes g.P.BitPacker.lanes view.bytes.now (kind_of list) (values list) c.requires.lanes g.met.P.BitPacker.some_lanes
-    c.from_validated_any-list.ensures.list in
+    let is = c.list-list.ensures.list in
     let old = remaining c.distinct_of.result in
     let done : take c.collect_to.result c.collect_to.new.out ≡ old =
     written_all (take c.collect_to.result c.collect_to.new.out) (remaining c.collect_to.new.cursor) old (values list) (length c.args.out.now)
