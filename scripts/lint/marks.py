@@ -34,7 +34,7 @@ COUNTED = {
         "read_tail": "read_words, tail, read_front",
         "value_in_tail": "read_one, tail, value_in_groups",
     },
-    f"{LISTS}/opened/search.rt": {"seek_in_tail": "read_tail, first_at_least, seek_in_groups"},
+    f"{LISTS}/opened/search.rt": {"seek_in_tail": "read_tail, first_in_slice, seek_in_groups"},
 }
 # What no code has, and what no code of lists has.
 NEVER = r"\bReads as\b|\btype\b[^;]*\bReads\b|\bmacro_rules\b"

@@ -27,7 +27,7 @@ C_TYPES = {
     "ListCursor": "bitpacking_cursor",
 }
 STRUCTS = {
-    "ListOutline": "crates/bitpack_lists/src/list2/packed_list/outline.rt",
+    "ListOutline": "crates/bitpack_lists/src/opened/outline.rt",
     "ListView": "crates/bitpacking_c/src/list_view.rt",
     "ListCursor": "crates/bitpacking_c/src/list_cursor.rt",
 }

@@ -25,7 +25,7 @@ use crate::chain::{LONGEST_BLOCK, next_kind};
 use crate::header::{HEADER_LEN, Header};
 use crate::list_error::ListError;
 use crate::list_kind::ListKind;
-use crate::v2::opening::test;
+use crate::v2::opening::test_version2;
 use crate::version::Version;
 use bitpacking::{BitPacker, Kind};
 pub use cursor::{Cursor, first_ahead, first_from};
@@ -111,7 +111,7 @@ impl<'a, P: BitPacker> PackedList<'a, P> {
             IsTextOfNoOther Version.Two P.lanes (kind_of list) (values list) bytes.now) }
         ensures version { IfOk result (λ list. version_of list ≡ Version.Two) }
     {
-        let header = test(&packer, bytes)?;
+        let header = test_version2(&packer, bytes)?;
         Ok(PackedList::of_text(packer, header, bytes))
     }
 
@@ -190,7 +190,7 @@ impl<'a, P: BitPacker> PackedList<'a, P> {
     {
         let mut reads = Reads::new();
         let entry = self.entry(number, &mut reads);
-        let kind = self.kind_of(number, &mut reads);
+        let kind = self.kind_of_block(number, &mut reads);
         let block = ListBlock {
             number,
             entry,
@@ -202,7 +202,7 @@ impl<'a, P: BitPacker> PackedList<'a, P> {
     }
 
     /// The kind of a block, which goes on from the last value of the block before.
-    fn kind_of(&self, block: usize, reads: &mut Reads) -> Kind
+    fn kind_of_block(&self, block: usize, reads: &mut Reads) -> Kind
         requires { block < blocks_of self.now }
         ensures kind { result ≡ kind_at self.now.kind (rest_of self.now) block }
         ensures reads { ReadsEntries reads.old reads.new }

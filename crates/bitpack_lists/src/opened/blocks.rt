@@ -35,7 +35,7 @@ impl<'a, P: BitPacker> PackedList<'a, P> {
             let tail = self.count % len;
             return self.read_tail(&mut out[..tail]);
         }
-        let kind = self.kind_of(block, reads);
+        let kind = self.kind_of_block(block, reads);
         let entry = self.entry(block, reads);
         let block = ListBlock {
             number: block,
@@ -67,7 +67,7 @@ impl<'a, P: BitPacker> PackedList<'a, P> {
         if from >= blocks {
             return blocks;
         }
-        let kind = self.kind_of(from, reads);
+        let kind = self.kind_of_block(from, reads);
         match self.find(from, kind, DOUBLES, target, reads) {
             Some(block) => block.number,
             None => blocks,

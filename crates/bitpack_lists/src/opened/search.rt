@@ -149,13 +149,13 @@ impl<'a, P: BitPacker> PackedList<'a, P> {
         ensures within { IsInBlock self.now block.number result }
         ensures kept { KeepsBlock self.now block.number kept.old kept.new reads.old reads.new }
     {
-        self.keep(block, kept, reads);
+        self.cache_block(block, kept, reads);
         let len = P::BLOCK_LEN;
-        first_at_least(&kept.values[..len], len * block.number, target)
+        first_in_slice(&kept.values[..len], len * block.number, target)
     }
 
     /// Unpacks a block, unless it is the one at hand.
-    pub(crate) fn keep(&self, block: ListBlock, kept: &mut KeptBlock, reads: &mut Reads)
+    pub(crate) fn cache_block(&self, block: ListBlock, kept: &mut KeptBlock, reads: &mut Reads)
         requires block { IsListBlock self.now block }
         requires kept { IsKept self.now kept.old }
         ensures kept { KeepsBlock self.now block.number kept.old kept.new reads.old reads.new }
@@ -177,7 +177,7 @@ impl<'a, P: BitPacker> PackedList<'a, P> {
             Version::Two => {
                 let mut values = [0; LONGEST_BLOCK];
                 let len = self.read_tail(&mut values);
-                first_at_least(&values[..len], self.count - len, target)
+                first_in_slice(&values[..len], self.count - len, target)
             }
             Version::Three => self.seek_in_groups(target),
         }
@@ -186,7 +186,7 @@ impl<'a, P: BitPacker> PackedList<'a, P> {
 
 /// The first of these values that is at least the target, with its position. They are those from a position on, and the values
 /// before them are below the target.
-pub(super) fn first_at_least(values: &[u32], start: usize, target: u32) -> Option<(usize, u32)>
+pub(super) fn first_in_slice(values: &[u32], start: usize, target: u32) -> Option<(usize, u32)>
     requires { start + length values.now < 2 ^ 64 }
     ensures within { IfSome result (λ found. (start ≤ found.0) × (found.0 < start + length values.now)) }
     ensures found { (value : ℕ → ℕ) → ((k : ℕ) → k < start → value k < target)

@@ -7,7 +7,7 @@ ghost use Rattle.bitpack_lists.specs.Search.{first_reaching};
 ghost use Rattle.bitpack_lists.specs.inner.Searching.{blocks_of, value_of};
 
 use super::PackedList;
-use super::search::first_at_least;
+use super::search::first_in_slice;
 use crate::chain::next_kind;
 use crate::v3::codes::to_values;
 use crate::v3::group::{LONGEST_GROUP, unpack_group};
@@ -76,7 +76,7 @@ fn seek_groups(
     for index in 0..(count + 31) / LONGEST_GROUP {
         let len = next_len(count - from);
         let end = unpack_values(kind, len, rest, &mut group);
-        if let Some(found) = first_at_least(&group[..len], start + from, target) {
+        if let Some(found) = first_in_slice(&group[..len], start + from, target) {
             return Some(found);
         }
         kind = next_kind(kind, group[len - 1]);

@@ -10,7 +10,7 @@ ghost use Rattle.bitpack_lists.specs.inner.Opening3.{IsStated3};
 
 use super::PackedList;
 use crate::list_error::ListError;
-use crate::v3::opening::{StatedText, stated, test};
+use crate::v3::opening::{StatedText, stated, test_version3};
 use crate::version::Version;
 use bitpacking::BitPacker;
 
@@ -31,7 +31,7 @@ impl<'a, P: BitPacker> PackedList<'a, P> {
             IsTextOfNoOther Version.Three P.lanes (kind_of list) (values list) bytes.now) }
         ensures version { IfOk result (λ list. version_of list ≡ Version.Three) }
     {
-        let found = test(&packer, bytes)?;
+        let found = test_version3(&packer, bytes)?;
         Ok(PackedList::of_stated(packer, found, bytes))
     }
 

@@ -37,7 +37,7 @@ pub fn decode<P: BitPacker>(
     // A refusal takes no room either, whatever the header promises.
     ensures kept { OnErr result (vec_capacity out.new ≡ vec_capacity out.old) }
 {
-    let header = test(packer, bytes)?;
+    let header = test_version1(packer, bytes)?;
     if out.reserve(header.count).is_err() {
         return Err(ListError::Memory);
     }
@@ -46,7 +46,7 @@ pub fn decode<P: BitPacker>(
 }
 
 /// Tests the whole text.
-pub(crate) fn test<P: BitPacker>(packer: &P, bytes: &[u8]) -> Result<Header, ListError>
+pub(crate) fn test_version1<P: BitPacker>(packer: &P, bytes: &[u8]) -> Result<Header, ListError>
     ensures fault { FindsFault result (fault1 P.lanes bytes.now) }
     ensures header { IfOk result (λ header. BeginsWithHeader 1 P.lanes header.kind header.count bytes.now) }
     ensures long { OnOk result (HEADER_LEN ≤ length bytes.now) }
@@ -59,12 +59,12 @@ pub(crate) fn test<P: BitPacker>(packer: &P, bytes: &[u8]) -> Result<Header, Lis
     if rest.len() < blocks + tail {
         return Err(ListError::Short);
     }
-    test_blocks(packer, blocks, tail, rest)?;
+    test_chain(packer, blocks, tail, rest)?;
     Ok(header)
 }
 
 /// Tests the blocks and how many bytes follow them.
-fn test_blocks<P: BitPacker>(
+fn test_chain<P: BitPacker>(
     packer: &P,
     blocks: usize,
     tail: usize,
@@ -74,7 +74,7 @@ fn test_blocks<P: BitPacker>(
 {
     let mut rest = bytes;
     for block in 0..blocks {
-        rest = test_block(packer, block, rest)?;
+        rest = test_first_block(packer, block, rest)?;
     }
     if rest.len() < tail {
         return Err(ListError::Short);
@@ -86,7 +86,7 @@ fn test_blocks<P: BitPacker>(
 }
 
 /// Tests the block at the front of the bytes, and returns the bytes after it.
-fn test_block<'a, P: BitPacker>(
+fn test_first_block<'a, P: BitPacker>(
     packer: &P,
     block: usize,
     bytes: &'a [u8],

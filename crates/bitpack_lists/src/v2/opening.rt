@@ -11,17 +11,21 @@ use crate::list_error::ListError;
 use bitpacking::BitPacker;
 
 /// Tests the whole text, and returns its header.
-pub(crate) fn test<P: BitPacker>(packer: &P, bytes: &[u8]) -> Result<Header, ListError>
+pub(crate) fn test_version2<P: BitPacker>(packer: &P, bytes: &[u8]) -> Result<Header, ListError>
     ensures fault { FindsFault result (fault2 P.lanes bytes.now) }
     ensures header { IfOk result (λ header. BeginsWithHeader 2 P.lanes header.kind header.count bytes.now) }
 {
     let header = Header::test(2, P::BLOCK_LEN / 32, bytes)?;
-    test_rest(packer, header, &bytes[HEADER_LEN..])?;
+    test_blocks_and_words(packer, header, &bytes[HEADER_LEN..])?;
     Ok(header)
 }
 
 /// Tests what is after the header.
-fn test_rest<P: BitPacker>(packer: &P, header: Header, rest: &[u8]) -> Result<(), ListError>
+fn test_blocks_and_words<P: BitPacker>(
+    packer: &P,
+    header: Header,
+    rest: &[u8],
+) -> Result<(), ListError>
     requires { header.count ≤ 2 ^ 28 }
     ensures { FindsFault result (rest_fault2 P.lanes header.kind header.count rest.now) }
 {

@@ -18,7 +18,7 @@ use crate::header::{HEADER_LEN, Header};
 use crate::list_error::ListError;
 use crate::list_kind::ListKind;
 use crate::reserved::append;
-use crate::v1::reading::{test, unpack_block};
+use crate::v1::reading::{test_version1, unpack_block};
 use bitpacking::{BitPacker, Kind};
 
 /// Converts a version 1 list to version 2 and appends the result.
@@ -44,7 +44,7 @@ pub fn upgrade<P: BitPacker>(packer: &P, bytes: &[u8], out: &mut Vec<u8>) -> Res
     ensures unchanged { OnErr result (out.new.items ≡ out.old.items) }
     ensures kept { OnErr result (vec_capacity out.new ≡ vec_capacity out.old) }
 {
-    let header = test(packer, bytes)?;
+    let header = test_version1(packer, bytes)?;
     let rest = &bytes[HEADER_LEN..];
     if let Err(position) = test_order(packer, header, rest) {
         return Err(ListError::NotSorted(position));

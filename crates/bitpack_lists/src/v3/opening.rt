@@ -30,7 +30,7 @@ pub(crate) struct StatedText {
 
 /// Tests the whole text.
 #[tactic(auto, unfolding(crate::specs::Version3::fault3))]
-pub(crate) fn test<P: BitPacker>(packer: &P, bytes: &[u8]) -> Result<StatedText, ListError>
+pub(crate) fn test_version3<P: BitPacker>(packer: &P, bytes: &[u8]) -> Result<StatedText, ListError>
     ensures fault { FindsFault result (fault3 P.lanes bytes.now) }
     ensures stated { IfOk result (IsStated3 P.lanes bytes.now) }
 {
@@ -42,9 +42,9 @@ pub(crate) fn test<P: BitPacker>(packer: &P, bytes: &[u8]) -> Result<StatedText,
     let rest = &bytes[header.end..];
     // For a short tail little room is enough, which takes less time to clear.
     let tested = if header.count % P::BLOCK_LEN < LONGEST_GROUP {
-        test_rest(packer, list, rest, &mut [0; LONGEST_GROUP])
+        test_blocks_and_groups(packer, list, rest, &mut [0; LONGEST_GROUP])
     } else {
-        test_rest(packer, list, rest, &mut [0; LONGEST_BLOCK])
+        test_blocks_and_groups(packer, list, rest, &mut [0; LONGEST_BLOCK])
     };
     let blocks = tested?;
     Ok(StatedText {
@@ -56,7 +56,7 @@ pub(crate) fn test<P: BitPacker>(packer: &P, bytes: &[u8]) -> Result<StatedText,
 
 /// Tests what is after the header, with room for the values of the tail.
 #[inline(always)]
-fn test_rest<P: BitPacker>(
+fn test_blocks_and_groups<P: BitPacker>(
     packer: &P,
     header: Header,
     rest: &[u8],
@@ -83,14 +83,14 @@ fn test_rest<P: BitPacker>(
     Ok(blocks)
 }
 
-/// What a text without a fault states, as `test` returns it. Only the header and the last entry are read.
+/// What a text without a fault states, as `test_version3` returns it. Only the header and the last entry are read.
 pub(crate) fn stated<P: BitPacker>(bytes: &[u8]) -> StatedText
     requires sound { fault3 P.lanes bytes.now ≡ None }
     ensures { IsStated3 P.lanes bytes.now result }
 {
     let header = ShortHeader::of_bytes(bytes);
     let blocks = header.count / P::BLOCK_LEN;
-    let (start, tail_kind) = end_of_blocks::<P>(header.kind, blocks, &bytes[header.end..]);
+    let (start, tail_kind) = start_of_tail::<P>(header.kind, blocks, &bytes[header.end..]);
     StatedText {
         header,
         start,
@@ -99,7 +99,7 @@ pub(crate) fn stated<P: BitPacker>(bytes: &[u8]) -> StatedText
 }
 
 /// Where the tail begins, and what is packed there in place of values. Reads the last entry.
-fn end_of_blocks<P: BitPacker>(kind: ListKind, blocks: usize, rest: &[u8]) -> (usize, Kind)
+fn start_of_tail<P: BitPacker>(kind: ListKind, blocks: usize, rest: &[u8]) -> (usize, Kind)
     requires entries { EntriesAreSound P.lanes blocks rest.now }
     ensures start { result.0 ≡ tail_start P.lanes blocks rest.now }
     ensures kind { result.1 ≡ kind_at kind rest.now blocks }

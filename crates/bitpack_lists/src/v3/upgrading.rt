@@ -96,7 +96,7 @@ fn test_text<P: BitPacker>(packer: &P, bytes: &[u8]) -> Result<OldText, ListErro
         × IsOlderRest old.is_two P.lanes kind old.header.count values (drop HEADER_LEN bytes.now)) }
 {
     if is_two(bytes) {
-        let header = opening::test(packer, bytes)?;
+        let header = opening::test_version2(packer, bytes)?;
         let rest = &bytes[HEADER_LEN..];
         return Ok(OldText {
             is_two: true,
@@ -105,7 +105,7 @@ fn test_text<P: BitPacker>(packer: &P, bytes: &[u8]) -> Result<OldText, ListErro
             tail_kind: kind_after(header.kind, header.count / P::BLOCK_LEN, rest),
         });
     }
-    let header = reading::test(packer, bytes)?;
+    let header = reading::test_version1(packer, bytes)?;
     let rest = &bytes[HEADER_LEN..];
     let words = 4 * (header.count % P::BLOCK_LEN);
     match test_order(packer, header, rest) {

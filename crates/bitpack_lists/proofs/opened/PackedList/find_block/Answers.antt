@@ -35,8 +35,8 @@ returns-in-Some-clause-found g c =
 
 pub returns-in-Some-clause-entries : goal.returns-in-Some-clause-entries
 returns-in-Some-clause-entries g c = λ k far.
-    let few = near_few c.args.from c.in-Some.block.number c.kind_of-kind.new.reads.entries c.find.new.reads.entries (c.in-Some.ensures.near refl) k far in
-    omega (arith, few, c.kind_of-kind.ensures.one)
+    let few = near_few c.args.from c.in-Some.block.number c.kind_of_block-kind.new.reads.entries c.find.new.reads.entries (c.in-Some.ensures.near refl) k far in
+    omega (arith, few, c.kind_of_block-kind.ensures.one)
 
 pub returns-in-None-clause-found : goal.returns-in-None-clause-found
 returns-in-None-clause-found g c =
@@ -50,6 +50,6 @@ returns-in-None-clause-found g c =
 pub returns-in-None-clause-entries : goal.returns-in-None-clause-entries
 returns-in-None-clause-entries g c = λ k far.
     let whole : c.BLOCK_LEN.result ≡ 32 * g.P.BitPacker.lanes = c.BLOCK_LEN.ensures ∙ g.met.P.BitPacker.block_len in
-    let few = near_few c.args.from (blocks_of c.args.self.now) c.kind_of-kind.new.reads.entries c.find.new.reads.entries (c.in-None.ensures.near refl) k
+    let few = near_few c.args.from (blocks_of c.args.self.now) c.kind_of_block-kind.new.reads.entries c.find.new.reads.entries (c.in-None.ensures.near refl) k
     (rw whole at far) in
-    omega (arith, few, c.kind_of-kind.ensures.one)
+    omega (arith, few, c.kind_of_block-kind.ensures.one)

@@ -7,11 +7,11 @@ pub returns-clause-found : goal.returns-clause-found
 returns-clause-found g c =
     let whole : c.BLOCK_LEN-len.result ≡ 32 * g.P.BitPacker.lanes = c.BLOCK_LEN-len.ensures ∙ g.met.P.BitPacker.block_len in
     let block = c.requires.block in
-    let keeps = c.keep.ensures.kept in
+    let keeps = c.cache_block.ensures.kept in
     let kept = keeps.kept (rw keeps.number block.is.within) in
-    let values = ap (λ len. take len c.keep.new.kept.values) whole ∙ rw keeps.number at kept in
+    let values = ap (λ len. take len c.cache_block.new.kept.values) whole ∙ rw keeps.number at kept in
     opened_search c.args.self.now g.met.P.BitPacker.some_lanes c.requires.ordered c.args.target c.args.block.number block.before block.is.within block.enough
-    c.BLOCK_LEN-len.result (take c.BLOCK_LEN-len.result c.keep.new.kept.values) c.first_at_least.result whole values c.first_at_least.ensures.found
+    c.BLOCK_LEN-len.result (take c.BLOCK_LEN-len.result c.cache_block.new.kept.values) c.first_in_slice.result whole values c.first_in_slice.ensures.found
 
 pub returns-clause-inside : goal.returns-clause-inside
 returns-clause-inside g c =

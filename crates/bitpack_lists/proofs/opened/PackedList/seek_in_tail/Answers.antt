@@ -18,7 +18,7 @@ returns-in-Two-clause-found g c = λ before.
     let few = few_in_tail g.P.BitPacker.lanes list.count g.met.P.BitPacker.some_lanes g.met.P.BitPacker.few_lanes in
     let long : length (take len read) ≡ len = omega (arith, length-take len read, c.read_tail-len.auto.values, c.read_tail-len.ensures.len, few) in
     let all : list.count - len + length (take len read) ≡ list.count = omega (arith, long, start, parts) in
-    c.first_at_least.ensures.found (value_of list) (λ k lt. before k (omega (arith, lt, start)))
+    c.first_in_slice.ensures.found (value_of list) (λ k lt. before k (omega (arith, lt, start)))
     (λ k lt.
     let within = rw long at lt in
     ap (λ p. value_of list (p + k)) start ∙ sym (get_or-take len read k 0 within ∙ c.read_tail-len.ensures.values k within))

@@ -40,7 +40,7 @@ returns-in-Some-clause-found c = λ value before each.
     let long : length part ≡ len = length-take-le len group (omega (arith, is, c.unpack_values-end.auto.values, c.next_len-len.array_long)) in
     let parts = next_part (groups_of count) count i len rest lt is c.loop-index.kind from part all (omega (arith, is, lt)) long
     c.unpack_values-end.ensures.values inv.later in
-    let here = c.first_at_least.ensures.found value (λ k below. inv.below value before each k below)
+    let here = c.first_in_slice.ensures.found value (λ k below. inv.below value before each k below)
     (part_values value c.args.start from count all part _ parts (omega (arith, long, is, inv.from_is, lt)) each) in
     sym (found_further value c.args.target (c.args.start + from + length part) (c.args.start + count) c.in-Some.found (omega (arith, long, is, inv.from_is, lt))
     (sym here ∙ c.in-Some.is))
@@ -79,7 +79,7 @@ loop-index-preserved c =
           ∙ ap (λ k. values_of k (groups_codes (groups - (i + 1)) (count - 32 * (i + 1)) (drop (group_end len rest) rest))) kind_is
           ∙ ap (λ zs. values_of kind (groups_codes (groups - (i + 1)) (count - 32 * (i + 1)) zs)) (sym after);
       below = λ value before each k below.
-          let here = c.first_at_least.ensures.found value (λ k below. inv.below value before each k below)
+          let here = c.first_in_slice.ensures.found value (λ k below. inv.below value before each k below)
           (part_values value c.args.start from count all part _ parts (omega (arith, long, is, inv.from_is, lt)) each) in
           all_below value c.args.target (c.args.start + from + length part) (sym here ∙ c.in_default.is) k (omega (arith, below, long));
     }

@@ -23,8 +23,8 @@ entries_sound lanes blocks bytes slice some small none slice_is blocks_are =
 pub of_bytes-header-requires : goal.of_bytes-header-requires
 of_bytes-header-requires g c = record { sound = (g.P.BitPacker.lanes, header_right3 g.P.BitPacker.lanes c.args.bytes.now c.requires.sound) }
 
-pub end_of_blocks-start-requires : goal.end_of_blocks-start-requires
-end_of_blocks-start-requires g c =
+pub start_of_tail-start-requires : goal.start_of_tail-start-requires
+start_of_tail-start-requires g c =
     let lanes : ℕ = g.P.BitPacker.lanes in
     let bytes : List ℕ = c.args.bytes.now in
     let whole : c.BLOCK_LEN.result ≡ 32 * lanes = c.BLOCK_LEN.ensures ∙ g.met.P.BitPacker.block_len in

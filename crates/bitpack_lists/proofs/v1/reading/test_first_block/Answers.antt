@@ -4,7 +4,7 @@ use Rattle.bitpacking.specs.Layout.{size}
 use Rattle.bitpack_lists.specs.Parts.{is_loose}
 use Rattle.bitpack_lists.proofs.lemmas.blocks.ListLemmas.{lanes-is}
 use Rattle.bitpack_lists.proofs.lemmas.blocks.FaultLemmas.{front-is, no_byte, wide, missing, loose, right}
-use Rattle.bitpack_lists.proofs.v1.reading.test_block.Goals as goal
+use Rattle.bitpack_lists.proofs.v1.reading.test_first_block.Goals as goal
 
 pub returns-in_default-clause-fault : goal.returns-in_default-clause-fault
 returns-in_default-clause-fault g c = no_byte g.P.BitPacker.lanes c.args.block c.args.bytes.now c.in_default.len_below

@@ -15,7 +15,7 @@ use Rattle.bitpack_lists.specs.Parts.{tail_values, whole_blocks}
 use Rattle.bitpack_lists.specs.Version2.{blocks_fault, is_out, kind_at, least_below, tail_start, value_with}
 use Rattle.bitpack_lists.specs.Version3.{after_tail3, rest_fault3, tail_codes3, tail_fault3, tail_values3, value_at3}
 use Rattle.bitpack_lists.proofs.lemmas.v3.TailOrder.{order_of_all}
-use Rattle.bitpack_lists.proofs.v3.opening.test_rest.Goals as goal
+use Rattle.bitpack_lists.proofs.v3.opening.test_blocks_and_groups.Goals as goal
 
 -- ---- the faults in their order
 

@@ -2,7 +2,7 @@
 use Rattle.std.proofs.Common.{◌≡◌, ◌+◌, ◌<◌, ℕ, length, get_or, None}
 use Rattle.bitpack_lists.specs.Version2.{least_below}
 use Rattle.bitpack_lists.proofs.lemmas.blocks.SearchLemmas.{reaches}
-use Rattle.bitpack_lists.proofs.opened.search.first_at_least.Given as goal
+use Rattle.bitpack_lists.proofs.opened.search.first_in_slice.Given as goal
 
 abbrev pub invariant-loop-index : goal.invariant-loop-index
 invariant-loop-index l = (value : ℕ → ℕ) → ((k : ℕ) → k < l.start → value k < l.target)

@@ -6,7 +6,7 @@ use Rattle.std.proofs.lemmas.Result.{err_from_is_err_and}
 use Rattle.bitpack_lists.specs.declared.list_error.ListError.{ListError}
 use Rattle.bitpack_lists.specs.Version1.{blocks_fault1, after_block1}
 use Rattle.bitpack_lists.proofs.lemmas.blocks.FaultLemmas.{blocks_left, no_blocks_left, tail_short, tail_long, tail_right}
-use Rattle.bitpack_lists.proofs.v1.reading.test_blocks.Goals as goal
+use Rattle.bitpack_lists.proofs.v1.reading.test_chain.Goals as goal
 
 pub loop-block-init : goal.loop-block-init
 loop-block-init g c = ap (λ n. blocks_fault1 g.P.BitPacker.lanes c.args.tail 0 n c.args.bytes.now) (sym (sub-zero c.args.blocks))

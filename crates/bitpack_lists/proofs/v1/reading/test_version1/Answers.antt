@@ -9,7 +9,7 @@ use Rattle.bitpack_lists.specs.Version1.{fault1, body_fault1, blocks_fault1}
 use Rattle.bitpack_lists.proofs.lemmas.blocks.FaultLemmas.{header_first, body_next, body_short, body_blocks}
 use Rattle.bitpack_lists.proofs.lemmas.blocks.HeaderLemmas.{header_bytes}
 use Rattle.bitpack_lists.proofs.lemmas.blocks.ListLemmas.{lanes-is}
-use Rattle.bitpack_lists.proofs.v1.reading.test.Goals as goal
+use Rattle.bitpack_lists.proofs.v1.reading.test_version1.Goals as goal
 
 -- What comes after a right header of so many values.
 module _ (lanes len count : ℕ) (kind : ListKind) (bytes rest : List ℕ) (whole : len ≡ 32 * lanes) (is : rest ≡ take (length bytes - 7) (drop 7 bytes))
@@ -48,15 +48,15 @@ returns-then-rest-blocks-clause-fault g c =
     short g.P.BitPacker.lanes c.BLOCK_LEN-len.result header.count header.kind bytes (take (length bytes - 7) (drop 7 bytes))
     (c.BLOCK_LEN-len.ensures ∙ g.met.P.BitPacker.block_len) refl c.in_ok-header.ensures.fault c.in_ok-header.ensures.header c.if-rest-blocks.true
 
-pub returns-in_err-test_blocks-clause-fault : goal.returns-in_err-test_blocks-clause-fault
-returns-in_err-test_blocks-clause-fault g c =
+pub returns-in_err-test_chain-clause-fault : goal.returns-in_err-test_chain-clause-fault
+returns-in_err-test_chain-clause-fault g c =
     let bytes : List ℕ = c.args.bytes.now in
     let header = c.in_ok-header.header in
-    let p = err_from_is_err_and c.from_residual-in_err-test_blocks.result c.from_residual-in_err-test_blocks.ensures.1 in
+    let p = err_from_is_err_and c.from_residual-in_err-test_chain.result c.from_residual-in_err-test_chain.ensures.1 in
     rw (p.1, p.2)
     (blocks g.P.BitPacker.lanes c.BLOCK_LEN-len.result header.count header.kind bytes (take (length bytes - 7) (drop 7 bytes))
     (c.BLOCK_LEN-len.ensures ∙ g.met.P.BitPacker.block_len) refl c.in_ok-header.ensures.fault c.in_ok-header.ensures.header c.if-rest-blocks.false
-    ∙ c.in_err-test_blocks.ensures)
+    ∙ c.in_err-test_chain.ensures)
 
 pub returns-clause-fault : goal.returns-clause-fault
 returns-clause-fault g c =
@@ -64,4 +64,4 @@ returns-clause-fault g c =
     let header = c.in_ok-header.header in
     blocks g.P.BitPacker.lanes c.BLOCK_LEN-len.result header.count header.kind bytes (take (length bytes - 7) (drop 7 bytes))
     (c.BLOCK_LEN-len.ensures ∙ g.met.P.BitPacker.block_len) refl c.in_ok-header.ensures.fault c.in_ok-header.ensures.header c.if-rest-blocks.false
-    ∙ c.in_ok-test_blocks.ensures
+    ∙ c.in_ok-test_chain.ensures

@@ -1,7 +1,7 @@
 -- Each value is tested in turn.
 use Rattle.std.proofs.Common.{◌≡◌, ◌+◌, ◌≤◌, ◌<◌, Some, sym, ◌∙◌, ap, arith, add-zero}
 use Rattle.bitpack_lists.proofs.lemmas.blocks.SearchLemmas.{first_found, none_before, none_next}
-use Rattle.bitpack_lists.proofs.opened.search.first_at_least.Goals as goal
+use Rattle.bitpack_lists.proofs.opened.search.first_in_slice.Goals as goal
 
 pub loop-index-init : goal.loop-index-init
 loop-index-init c = λ value before each. rw (add-zero c.args.start) (none_before value c.args.target c.args.start before)

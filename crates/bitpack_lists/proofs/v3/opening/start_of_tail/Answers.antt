@@ -2,7 +2,7 @@
 use Rattle.std.proofs.Common.{◌≡◌, ℕ, suc, ◌+◌, ◌-◌, ◌*◌, ◌/◌, ◌<◌, List, None, refl, sym, subst, ◌∙◌, arith}
 use Rattle.bitpack_lists.specs.Version2.{entry_fault2, first_fault, offset_at, tail_start, width_at}
 use Rattle.bitpack_lists.proofs.lemmas.blocks.RestValues.{offset_entry}
-use Rattle.bitpack_lists.proofs.v3.opening.end_of_blocks.Goals as goal
+use Rattle.bitpack_lists.proofs.v3.opening.start_of_tail.Goals as goal
 
 after_last : (lanes len last : ℕ) (rest : List ℕ) → len ≡ 32 * lanes → first_fault (entry_fault2 rest) (suc last) ≡ None
     → 9 * suc last + len / 8 * (offset_at rest last + width_at rest last) ≡ tail_start lanes (suc last) rest
