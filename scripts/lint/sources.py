@@ -68,7 +68,7 @@ GROUPS = (f"{LISTS}/v3/group.rt", "BitPacker1x")
 # What code of lists has once, by file: the loop of a walk, which reads no entry once nothing is wanted; where a cursor begins
 # anew; and the current block of a list, which saves a seek for each of its values.
 SHAPES = {
-    f"{LISTS}/opened/walk.rt": ["for number in 0..one.count / P::BLOCK_LEN { if walk.want > u32::MAX as u64 { return; }"],
+    f"{LISTS}/opened/intersection.rt": ["for number in 0..one.count / P::BLOCK_LEN { if walk.want > u32::MAX as u64 { return; }"],
     f"{SORTED}/distinct_values.rt": [
         "fn block(&self) -> &[u32] { self.cursor.block() }",
         "fn seek_ahead(&mut self, target: u32, ahead: usize) -> Option<u32> { self.cursor.seek_ahead(target, ahead); self.cursor.value() }",

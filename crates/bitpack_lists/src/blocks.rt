@@ -1,7 +1,5 @@
 //! What all versions share of whole blocks: their entries, widths and order.
 
-pub(crate) mod entry;
-pub(crate) mod loose;
 pub(crate) mod measuring;
 pub(crate) mod order;
 pub(crate) mod reads;

@@ -6,6 +6,7 @@ ghost use Rattle.bitpacking.specs.Layout.{size};
 ghost use Rattle.bitpacking.specs.Calls.{CanPack, CanUnpack, IsPacked, IsUnpacked};
 ghost use Rattle.bitpack_lists.specs.Chains.{CanPackChain, Chained, IsChainSize, Loose, PacksChain};
 
+use crate::list_kind::next_kind;
 use bitpacking::{BitPacker, Kind};
 
 /// The most values of a block: 32 in each of 8 lanes.
@@ -108,15 +109,4 @@ pub fn unpack_all<P: BitPacker>(
         block_kind = next_kind(block_kind, unpacked[len - 1]);
     }
     read
-}
-
-/// The kind of the block after one of this kind that ends with this value.
-pub(crate) fn next_kind(kind: Kind, last: u32) -> Kind
-    ensures { result ≡ Rattle.bitpack_lists.specs.Chains.next_kind kind last }
-{
-    match kind {
-        Kind::Plain => Kind::Plain,
-        Kind::Sorted(_) => Kind::Sorted(last),
-        Kind::StrictlySorted(_) => Kind::StrictlySorted(Some(last)),
-    }
 }

@@ -6,7 +6,7 @@ ghost use Rattle.bitpack_lists.specs.Parts.{BeginsWithHeader, FindsFault, count_
 
 use crate::list_error::ListError;
 use crate::list_kind::ListKind;
-use crate::little_endian::read_one;
+use crate::numbers::read_one;
 use crate::reserved::append;
 
 /// The bytes of a header.

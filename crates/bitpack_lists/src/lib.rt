@@ -18,7 +18,7 @@ pub mod list3;
 mod list_buf;
 mod list_error;
 mod list_kind;
-mod little_endian;
+mod numbers;
 mod opened;
 mod reserved;
 mod v1;

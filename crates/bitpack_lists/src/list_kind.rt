@@ -1,6 +1,7 @@
 //! The kinds of packed lists.
 
 ghost use Rattle.std.specs.Prelude.{◌≡◌};
+ghost use Rattle.bitpack_lists.specs.Chains;
 ghost use Rattle.bitpack_lists.specs.Parts.{first_kind, kind_byte, kind_of_byte};
 
 use bitpacking::Kind;
@@ -60,5 +61,16 @@ impl fmt::Display for ListKind {
             ListKind::Sorted => "sorted",
             ListKind::StrictlySorted => "strictly sorted",
         })
+    }
+}
+
+/// The kind of the block after one of this kind that ends with this value.
+pub(crate) fn next_kind(kind: Kind, last: u32) -> Kind
+    ensures { result ≡ Rattle.bitpack_lists.specs.Chains.next_kind kind last }
+{
+    match kind {
+        Kind::Plain => Kind::Plain,
+        Kind::Sorted(_) => Kind::Sorted(last),
+        Kind::StrictlySorted(_) => Kind::StrictlySorted(Some(last)),
     }
 }

@@ -8,9 +8,7 @@ mod of_kind;
 mod outline;
 mod search;
 mod tail;
-mod tail_search;
 mod versions;
-mod walk;
 
 ghost use Rattle.std.specs.Prelude.{◌≡◌, ◌^◌, ◌≤◌, drop};
 ghost use Rattle.bitpacking.specs.Bits.{AreBytes};
@@ -19,12 +17,11 @@ ghost use Rattle.bitpack_lists.specs.Parts.{whole_blocks};
 ghost use Rattle.bitpack_lists.specs.Texts.{States};
 ghost use Rattle.bitpack_lists.specs.Version2.{kind_at, tail_start};
 
-use crate::blocks::entry::Entry;
-use crate::blocks::reads::Reads;
-use crate::chain::{LONGEST_BLOCK, next_kind};
+use crate::blocks::reads::{Entry, Reads};
+use crate::chain::LONGEST_BLOCK;
 use crate::header::{HEADER_LEN, Header};
 use crate::list_error::ListError;
-use crate::list_kind::ListKind;
+use crate::list_kind::{ListKind, next_kind};
 use crate::v2::opening::test_version2;
 use crate::version::Version;
 use bitpacking::{BitPacker, Kind};

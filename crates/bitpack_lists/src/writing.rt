@@ -11,14 +11,14 @@ ghost use Rattle.bitpack_lists.specs.inner.Appending.{AppendsText};
 ghost use Rattle.bitpack_lists.specs.inner.Opening.{HasBodies};
 ghost use Rattle.bitpack_lists.specs.inner.Sizes.{AreReady, IsBlocksSize, IsPlanned, IsTailOf, header_of, tail_room};
 
-use crate::blocks::entry::{ENTRY_LEN, Entry};
 use crate::blocks::measuring::{KEPT_WIDTHS, MANY_WIDTHS, blocks_len, width_of};
 use crate::blocks::order;
-use crate::chain::{LONGEST_BLOCK, next_kind};
+use crate::blocks::reads::{ENTRY_LEN, Entry};
+use crate::chain::LONGEST_BLOCK;
 use crate::header::{HEADER_LEN, Header};
 use crate::list_error::ListError;
-use crate::list_kind::ListKind;
-use crate::little_endian::write_words;
+use crate::list_kind::{ListKind, next_kind};
+use crate::numbers::write_words;
 use crate::reserved::append_zeros;
 use crate::v3::group::LONGEST_GROUP;
 use crate::v3::header::write_short_header;

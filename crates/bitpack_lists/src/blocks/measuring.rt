@@ -5,9 +5,8 @@ ghost use Rattle.bitpacking.specs.Width.{IsWidth};
 ghost use Rattle.bitpack_lists.specs.Chains.{LeastWidths};
 ghost use Rattle.bitpack_lists.specs.Parts.{first_kind, tail_values, whole_blocks};
 
-use crate::chain::next_kind;
 use crate::header::HEADER_LEN;
-use crate::list_kind::ListKind;
+use crate::list_kind::{ListKind, next_kind};
 use bitpacking::{BitPacker, Kind};
 
 /// How many widths are kept from the measuring of a list to its writing. Blocks after those are measured twice.

@@ -9,7 +9,7 @@ ghost use Rattle.bitpack_lists.specs.inner.Opening.{IsOrdered, is_fall};
 use crate::header::LONGEST_LIST;
 use crate::list_error::ListError;
 use crate::list_kind::ListKind;
-use crate::little_endian::read_one;
+use crate::numbers::read_one;
 
 /// Tests that a list can have these values: they are not too many, and in the order of their kind.
 pub(crate) fn test_values(kind: ListKind, values: &[u32]) -> Result<(), ListError>

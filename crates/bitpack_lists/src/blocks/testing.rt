@@ -1,19 +1,19 @@
 //! Testing the entries and the bodies of whole blocks, which versions 2 and 3 share.
 
-ghost use Rattle.std.specs.Prelude.{◌≡◌, ◌+◌, ◌-◌, ◌*◌, ◌^◌, ◌<◌, ◌≤◌, ℕ, length, slice_index, IfOk, None};
+ghost use Rattle.std.specs.Prelude.{◌≡◌, ◌+◌, ◌-◌, ◌*◌, ◌^◌, ◌<◌, ◌≤◌, ℕ, length, slice_index, IfOk, None, ◌/◌, ◌%◌, Decides};
 ghost use Rattle.bitpacking.specs.declared.kind.Kind.{Kind};
 ghost use Rattle.bitpacking.specs.Codes.{values_of};
 ghost use Rattle.bitpacking.specs.Layout.{codes_of};
-ghost use Rattle.bitpack_lists.specs.Parts.{FindsFault, IsBody, whole_blocks};
+ghost use Rattle.bitpack_lists.specs.Parts.{FindsFault, IsBody, whole_blocks, is_loose};
 ghost use Rattle.bitpack_lists.specs.Version2.{block_fault2, blocks_fault, body_fault2, entry_fault2, first_fault, is_out, kind_at, least_below, short_of, tail_start, value_with, widths_before};
+ghost use Rattle.bitpacking.specs.Bits.{bit_of};
 
-use super::entry::{ENTRY_LEN, Entry};
-use super::loose::fits_smaller;
 use super::order::first_out;
-use super::reads::Reads;
-use crate::chain::{LONGEST_BLOCK, next_kind};
+use super::reads::{ENTRY_LEN, Entry, Reads};
+use crate::chain::LONGEST_BLOCK;
 use crate::header::Header;
 use crate::list_error::ListError;
+use crate::list_kind::next_kind;
 use bitpacking::{BitPacker, Kind};
 
 /// What the test of the blocks leaves: where their bodies end, the last value, the first position out of order, and the kind of what
@@ -163,4 +163,40 @@ fn test_block(
         return Err(ListError::BadLast(block));
     }
     Ok(())
+}
+
+/// Whether the codes of a body fit a smaller width: none of them has the highest bit of this one. In most bodies one of the first
+/// codes has it.
+#[inline(always)]
+pub(crate) fn fits_smaller(lanes: usize, width: u8, body: &[u8]) -> bool
+    requires { IsBody lanes width body.now }
+    ensures { result ≡ is_loose lanes width body.now }
+{
+    if width == 0 {
+        return false;
+    }
+    let width = width as usize;
+    for row in 0..32 {
+        if has_bit(lanes, row * width + (width - 1), body) {
+            return false;
+        }
+    }
+    true
+}
+
+/// Whether some lane has this bit.
+#[inline(always)]
+fn has_bit(lanes: usize, bit: usize, body: &[u8]) -> bool
+    requires lanes { lanes ≤ 8 }
+    requires bit { bit < 32 * 32 }
+    requires room { 4 * (lanes * (bit / 32)) + 4 * lanes ≤ length body.now }
+    ensures { Decides result ((lane : ℕ) × (lane < lanes)
+        × (bit_of body.now (32 * (lanes * (bit / 32) + lane) + bit % 32) ≡ 1)) }
+{
+    let from = 4 * (lanes * (bit / 32)) + bit % 32 / 8;
+    let mut bytes = 0;
+    for lane in 0..lanes {
+        bytes |= body[from + 4 * lane];
+    }
+    bytes >> (bit % 8) & 1 == 1
 }

@@ -7,8 +7,8 @@ ghost use Rattle.bitpack_lists.specs.inner.Searching.{blocks_of};
 
 use super::{ListBlock, PackedList};
 use crate::blocks::reads::Reads;
-use crate::chain::next_kind;
 use crate::list_error::ListError;
+use crate::list_kind::next_kind;
 use crate::reserved::append_zeros;
 use bitpacking::BitPacker;
 

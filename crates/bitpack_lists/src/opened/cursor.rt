@@ -6,8 +6,8 @@ ghost use Rattle.bitpack_lists.specs.Places.{InOrder, IsPlace, IsSoughtFrom};
 use super::search::DOUBLES;
 use super::{ListBlock, PackedList};
 use crate::blocks::reads::Reads;
-use crate::chain::{LONGEST_BLOCK, next_kind};
-use crate::list_kind::ListKind;
+use crate::chain::LONGEST_BLOCK;
+use crate::list_kind::{ListKind, next_kind};
 use bitpacking::{BitPacker, Kind};
 
 /// A place in an opened list that only moves forward. It has the values of the block at hand, and so takes about 1 KB.

@@ -7,8 +7,7 @@ ghost use Rattle.bitpack_lists.specs.Parts.{kind_of_byte};
 ghost use Rattle.bitpack_lists.specs.Texts.{version_in};
 
 use super::PackedList;
-use crate::chain::next_kind;
-use crate::list_kind::ListKind;
+use crate::list_kind::{ListKind, next_kind};
 use crate::version::Version;
 use bitpacking::{BitPacker, Kind};
 

@@ -6,7 +6,8 @@ ghost use Rattle.bitpack_lists.specs.Search.{first_reaching};
 
 use super::{KeptBlock, ListBlock, PackedList};
 use crate::blocks::reads::Reads;
-use crate::chain::{LONGEST_BLOCK, next_kind};
+use crate::chain::LONGEST_BLOCK;
+use crate::list_kind::next_kind;
 use crate::version::Version;
 use bitpacking::{BitPacker, Kind};
 

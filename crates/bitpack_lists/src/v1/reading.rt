@@ -6,12 +6,11 @@ ghost use Rattle.bitpack_lists.specs.inner.Appending.{HasAppended};
 ghost use Rattle.bitpack_lists.specs.Parts.{BeginsWithHeader, FindsFault, count_of, first_kind, whole_blocks};
 ghost use Rattle.bitpack_lists.specs.Version1.{Blocks1, IsRead1, IsRight, IsSound1, List1, after_block1, block_fault1, blocks_fault1, fault1};
 
-use crate::blocks::loose::fits_smaller;
-use crate::chain::next_kind;
+use crate::blocks::testing::fits_smaller;
 use crate::header::{HEADER_LEN, Header};
 use crate::list_error::ListError;
-use crate::list_kind::ListKind;
-use crate::little_endian::read_all;
+use crate::list_kind::{ListKind, next_kind};
+use crate::numbers::read_all;
 use crate::reserved::append_zeros;
 use bitpacking::{BitPacker, Kind};
 

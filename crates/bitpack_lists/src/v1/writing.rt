@@ -10,11 +10,11 @@ ghost use Rattle.bitpack_lists.specs.Parts.{whole_blocks};
 ghost use Rattle.bitpack_lists.specs.Version1.{Blocks1, IsPart1, List1};
 
 use crate::blocks::measuring::{KEPT_WIDTHS, text_len, width_of};
-use crate::chain::{LONGEST_BODY, next_kind};
+use crate::chain::LONGEST_BODY;
 use crate::header::{Header, LONGEST_LIST};
 use crate::list_error::ListError;
-use crate::list_kind::ListKind;
-use crate::little_endian::write_all;
+use crate::list_kind::{ListKind, next_kind};
+use crate::numbers::write_all;
 use crate::reserved::append;
 use bitpacking::{BitPacker, Kind};
 

@@ -11,8 +11,8 @@ ghost use Rattle.bitpack_lists.specs.inner.Appending.{HasAppended};
 ghost use Rattle.bitpack_lists.specs.inner.Opening.{AreEntries, HasBodies};
 ghost use Rattle.bitpack_lists.specs.inner.Upgrading.{IsRest1, IsTested1};
 
-use crate::blocks::entry::{ENTRY_LEN, Entry};
 use crate::blocks::order::{first_out, first_out_of_words};
+use crate::blocks::reads::{ENTRY_LEN, Entry};
 use crate::chain::LONGEST_BLOCK;
 use crate::header::{HEADER_LEN, Header};
 use crate::list_error::ListError;

@@ -6,10 +6,10 @@ ghost use Rattle.bitpack_lists.specs.Numbers.{number_end, number_value};
 ghost use Rattle.bitpack_lists.specs.Parts.{FindsFault};
 ghost use Rattle.bitpack_lists.specs.Version3.{count3, count_fault, header3, header_end, header_fault3, kind3};
 
-use super::number::{test_number, unpack_number, write_number};
 use crate::header::LONGEST_LIST;
 use crate::list_error::ListError;
 use crate::list_kind::ListKind;
+use crate::numbers::{test_number, unpack_number, write_number};
 
 /// A count that is below this is in the first byte.
 const COUNTED: usize = 15;

@@ -6,18 +6,16 @@ ghost use Rattle.bitpack_lists.specs.Version2.{kind_at, tail_start};
 ghost use Rattle.bitpack_lists.specs.Version3.{fault3, rest_fault3};
 ghost use Rattle.bitpack_lists.specs.inner.Opening3.{EntriesAreSound, IsStated3};
 
-use super::codes::to_values;
 use super::group::LONGEST_GROUP;
 use super::header::ShortHeader;
-use super::tail::test_tail;
-use crate::blocks::entry::ENTRY_LEN;
+use super::tail::{test_tail, to_values};
 use crate::blocks::order::first_out;
-use crate::blocks::reads::Reads;
+use crate::blocks::reads::{ENTRY_LEN, Reads};
 use crate::blocks::testing::{TestedBlocks, test_blocks};
-use crate::chain::{LONGEST_BLOCK, next_kind};
+use crate::chain::LONGEST_BLOCK;
 use crate::header::Header;
 use crate::list_error::ListError;
-use crate::list_kind::ListKind;
+use crate::list_kind::{ListKind, next_kind};
 use bitpacking::{BitPacker, Kind};
 
 /// What a text without a fault states: its header, where its tail begins after that, and what is packed there in place of values.

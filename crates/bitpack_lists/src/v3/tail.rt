@@ -1,18 +1,17 @@
 //! The tail of a list: its codes in groups, after the first one as a number if the list has no whole block.
 
 ghost use Rattle.std.specs.Prelude.{◌≡◌, ℕ, List, ◌+◌, ◌^◌, ◌<◌, ◌≤◌, IfOk, None, OnOk, length, min, take};
-ghost use Rattle.bitpacking.specs.Codes.{codes};
+ghost use Rattle.bitpacking.specs.Codes.{codes, values_of};
 ghost use Rattle.bitpack_lists.specs.Groups.{AreGroups, after_groups, groups_codes, groups_fault, groups_of};
 ghost use Rattle.bitpack_lists.specs.Parts.{FindsFault};
-ghost use Rattle.bitpack_lists.specs.inner.CodeSteps.{EndsGroup};
+ghost use Rattle.bitpack_lists.specs.inner.CodeSteps.{EndsGroup, gaps, sums};
 ghost use Rattle.bitpack_lists.specs.inner.Sizes.{tail_room};
 ghost use Rattle.bitpack_lists.specs.Version3.{IsTail3, after_tail3, tail_codes3, tail_fault3};
 
-use super::codes::to_codes;
 use super::group::{LONGEST_GROUP, test_group, unpack_group, write_group};
-use super::number::{test_number, unpack_number, write_number};
 use crate::chain::LONGEST_BLOCK;
 use crate::list_error::ListError;
+use crate::numbers::{test_number, unpack_number, write_number};
 use bitpacking::Kind;
 
 /// Tests the tail of as many codes as the slice has, after `blocks` blocks, and returns the bytes after it. After a refusal the codes
@@ -196,4 +195,51 @@ fn write_groups(codes: &[u32], bytes: &mut [u8]) -> usize
         end += write_group(&codes[from..from + count], &mut bytes[end..]);
     }
     end
+}
+
+/// The codes of the values.
+pub(crate) fn to_codes(kind: Kind, values: &[u32], out: &mut [u32])
+    requires { length out.old ≡ length values.now }
+    ensures { out.new ≡ codes kind values.now }
+{
+    match kind {
+        Kind::Plain => out.copy_from_slice(values),
+        Kind::Sorted(initial) => take_apart(initial, 0, values, out),
+        Kind::StrictlySorted(initial) => { take_apart(initial.unwrap_or(u32::MAX), 1, values, out) }
+    }
+}
+
+/// Each value less the one before it, and so much less.
+fn take_apart(before: u32, less: u32, values: &[u32], out: &mut [u32])
+    requires { length out.old ≡ length values.now }
+    ensures { out.new ≡ gaps before less values.now }
+{
+    let mut last = before;
+    for index in 0..values.len() {
+        let value = values[index];
+        out[index] = value.wrapping_sub(last).wrapping_sub(less);
+        last = value;
+    }
+}
+
+/// Puts the values that have these codes in their place.
+pub(crate) fn to_values(kind: Kind, codes: &mut [u32])
+    ensures { codes.new ≡ values_of kind codes.old }
+{
+    match kind {
+        Kind::Plain => {}
+        Kind::Sorted(initial) => add_up(initial, 0, codes),
+        Kind::StrictlySorted(initial) => add_up(initial.unwrap_or(u32::MAX), 1, codes),
+    }
+}
+
+/// Adds each code, and so much more, to the value before it.
+fn add_up(before: u32, more: u32, codes: &mut [u32])
+    ensures { codes.new ≡ sums before more codes.old }
+{
+    let mut last = before;
+    for index in 0..codes.len() {
+        last = last.wrapping_add(codes[index]).wrapping_add(more);
+        codes[index] = last;
+    }
 }

@@ -15,13 +15,12 @@ ghost use Rattle.bitpack_lists.specs.inner.Upgrading.{IsOlderRest, IsTestedRest,
 
 use super::header::write_short_header;
 use super::tail::{LONGEST_TAIL, pack_tail};
-use crate::blocks::entry::ENTRY_LEN;
-use crate::blocks::reads::Reads;
-use crate::chain::{LONGEST_BLOCK, next_kind};
+use crate::blocks::reads::{ENTRY_LEN, Reads};
+use crate::chain::LONGEST_BLOCK;
 use crate::header::{HEADER_LEN, Header};
 use crate::list_error::ListError;
-use crate::list_kind::ListKind;
-use crate::little_endian::read_words;
+use crate::list_kind::{ListKind, next_kind};
+use crate::numbers::read_words;
 use crate::reserved::append;
 use crate::v1::reading;
 use crate::v2::opening;

@@ -1,9 +1,0 @@
--- The values before the index were met.
-use Rattle.bitpack_lists.specs.inner.Walks.{AreNext, IsWalking, Stage, further}
-use Rattle.bitpack_lists.proofs.opened.walk.walk_values.Given as goal
-
-abbrev pub invariant-loop-index : goal.invariant-loop-index
-invariant-loop-index g l = record {
-  walking : (stage : Stage) → AreNext stage l.values → IsWalking l.other stage l.initial.walk l.initial.out l.initial.other_reads
-      → IsWalking l.other (further stage l.index) l.walk l.out l.other_reads;
-}
