@@ -9,12 +9,6 @@ ghost use Rattle.bitpack_lists.specs.Chains.{CanPackChain, Chained, IsChainSize,
 use crate::list_kind::next_kind;
 use bitpacking::{BitPacker, Kind};
 
-/// The most values of a block: 32 in each of 8 lanes.
-pub(crate) const LONGEST_BLOCK: usize = 256;
-
-/// The most bytes of a block: its values at 32 bits each.
-pub(crate) const LONGEST_BODY: usize = 1024;
-
 /// Packs blocks of one kind, each at its least width, and returns the number of bytes written.
 ///
 /// The widths go into `widths`, one for each block. The first block has `kind`; each one after it has the same kind with

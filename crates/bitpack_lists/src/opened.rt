@@ -18,13 +18,12 @@ ghost use Rattle.bitpack_lists.specs.Texts.{States};
 ghost use Rattle.bitpack_lists.specs.Version2.{kind_at, tail_start};
 
 use crate::blocks::reads::{Entry, Reads};
-use crate::chain::LONGEST_BLOCK;
 use crate::header::{HEADER_LEN, Header};
 use crate::list_error::ListError;
 use crate::list_kind::{ListKind, next_kind};
 use crate::v2::opening::test_version2;
 use crate::version::Version;
-use bitpacking::{BitPacker, Kind};
+use bitpacking::{BitPacker, Kind, MAX_BLOCK_LEN};
 pub use cursor::{Cursor, first_ahead, first_from};
 pub use intersection::intersect;
 pub use outline::ListOutline;
@@ -63,7 +62,7 @@ pub(crate) struct ListBlock {
 #[derive(Drop)]
 pub(crate) struct KeptBlock {
     pub(crate) number: usize,
-    pub(crate) values: [u32; LONGEST_BLOCK],
+    pub(crate) values: [u32; MAX_BLOCK_LEN],
 }
 
 impl<'a, P: BitPacker> Copy for PackedList<'a, P> {}
@@ -193,7 +192,7 @@ impl<'a, P: BitPacker> PackedList<'a, P> {
             entry,
             kind,
         };
-        let mut values = [0; LONGEST_BLOCK];
+        let mut values = [0; MAX_BLOCK_LEN];
         self.unpack(block, &mut values, &mut reads);
         values[index]
     }

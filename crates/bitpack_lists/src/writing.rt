@@ -14,7 +14,6 @@ ghost use Rattle.bitpack_lists.specs.inner.Sizes.{AreReady, IsBlocksSize, IsPlan
 use crate::blocks::measuring::{KEPT_WIDTHS, MANY_WIDTHS, blocks_len, width_of};
 use crate::blocks::order;
 use crate::blocks::reads::{ENTRY_LEN, Entry};
-use crate::chain::LONGEST_BLOCK;
 use crate::header::{HEADER_LEN, Header};
 use crate::list_error::ListError;
 use crate::list_kind::{ListKind, next_kind};
@@ -24,7 +23,7 @@ use crate::v3::group::LONGEST_GROUP;
 use crate::v3::header::write_short_header;
 use crate::v3::tail::{LONGEST_TAIL, pack_tail};
 use crate::version::Version;
-use bitpacking::{BitPacker, Kind};
+use bitpacking::{BitPacker, Kind, MAX_BLOCK_LEN};
 
 /// The bytes of the tail of a short list at most. Little room takes less time to clear.
 const SHORT_TAIL: usize = 4 * LONGEST_GROUP + 2;
@@ -236,7 +235,7 @@ fn write_tail(
     values: &[u32],
     bytes: &mut [u8],
 ) -> usize
-    requires few { length values.now ≤ LONGEST_BLOCK }
+    requires few { length values.now ≤ MAX_BLOCK_LEN }
     requires room { tail_room (length values.now) ≤ length bytes.old }
     ensures tail { IsTailOf version blocks kind values.now (take result bytes.new) }
     ensures within { result ≤ length bytes.new }

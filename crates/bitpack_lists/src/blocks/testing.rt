@@ -10,11 +10,10 @@ ghost use Rattle.bitpacking.specs.Bits.{bit_of};
 
 use super::order::first_out;
 use super::reads::{ENTRY_LEN, Entry, Reads};
-use crate::chain::LONGEST_BLOCK;
 use crate::header::Header;
 use crate::list_error::ListError;
 use crate::list_kind::next_kind;
-use bitpacking::{BitPacker, Kind};
+use bitpacking::{BitPacker, Kind, MAX_BLOCK_LEN};
 
 /// What the test of the blocks leaves: where their bodies end, the last value, the first position out of order, and the kind of what
 /// follows.
@@ -129,7 +128,7 @@ fn test_bodies<P: BitPacker>(
     let mut reads = Reads::new();
     let mut last = 0;
     let mut out = None;
-    let mut room = [0; LONGEST_BLOCK];
+    let mut room = [0; MAX_BLOCK_LEN];
     for block in 0..blocks {
         let entry = reads.entry(rest, block);
         reads.unpack(packer, kind, entry, blocks, rest, &mut room);

@@ -11,8 +11,7 @@ ghost use Rattle.bitpack_lists.specs.Search.{HasGrown};
 use super::search::DOUBLES;
 use super::{ListBlock, PackedList};
 use crate::blocks::reads::Reads;
-use crate::chain::LONGEST_BLOCK;
-use bitpacking::BitPacker;
+use bitpacking::{BitPacker, MAX_BLOCK_LEN};
 
 impl<'a, P: BitPacker> PackedList<'a, P> {
     /// Unpacks the block of a number to the start of a slice, and returns how many values it has. The number of all blocks means the values
@@ -90,7 +89,7 @@ impl<'a, P: BitPacker> PackedList<'a, P> {
             return 0;
         }
         let count = out.len().min(self.count - from);
-        let mut at_hand = [0; LONGEST_BLOCK];
+        let mut at_hand = [0; MAX_BLOCK_LEN];
         let mut done = 0;
         while done < count {
             let position = from + done;

@@ -6,9 +6,8 @@ ghost use Rattle.bitpack_lists.specs.Places.{InOrder, IsPlace, IsSoughtFrom};
 use super::search::DOUBLES;
 use super::{ListBlock, PackedList};
 use crate::blocks::reads::Reads;
-use crate::chain::LONGEST_BLOCK;
 use crate::list_kind::{ListKind, next_kind};
-use bitpacking::{BitPacker, Kind};
+use bitpacking::{BitPacker, Kind, MAX_BLOCK_LEN};
 
 /// A place in an opened list that only moves forward. It has the values of the block at hand, and so takes about 1 KB.
 ///
@@ -31,7 +30,7 @@ pub struct Cursor<'a, P: BitPacker> {
     block: usize,
     index: usize,
     len: usize,
-    values: [u32; LONGEST_BLOCK],
+    values: [u32; MAX_BLOCK_LEN],
     reads: Reads,
     pub ghost place: { IsPlace list block index len values reads.blocks },
 }
@@ -57,7 +56,7 @@ impl<'a, P: BitPacker> PackedList<'a, P> {
         ensures first { position result ≡ 0 }
         ensures unpacked { unpacked result ≤ 1 }
     {
-        let mut values = [0; LONGEST_BLOCK];
+        let mut values = [0; MAX_BLOCK_LEN];
         let mut reads = Reads::new();
         let first = self.whole_block(0, self.kind.first(), &mut reads);
         let (_, len) = self.read_part(first, &mut values, &mut reads);
@@ -107,7 +106,7 @@ impl<'a, P: BitPacker> PackedList<'a, P> {
         reads: &mut Reads,
     ) -> (usize, usize)
         requires is { IfSome part (IsListBlock self.now) }
-        requires room { length values.old ≡ LONGEST_BLOCK }
+        requires room { length values.old ≡ MAX_BLOCK_LEN }
         ensures number { result.0 ≡ number_or_all self.now part }
         ensures part { HasPart self.now result.0 result.1 values.new }
         ensures block { result.0 < blocks_of self.now → reads.new.blocks ≡ reads.old.blocks + 1 }
@@ -369,7 +368,7 @@ pub fn first_from(values: &[u32], from: usize, target: u32) -> usize
 /// a value, so that the compiler compares several at once.
 #[inline(always)]
 fn count_below(values: &[u32], target: u32) -> usize
-    requires { (length values.now ≤ LONGEST_BLOCK) × InOrder values.now }
+    requires { (length values.now ≤ MAX_BLOCK_LEN) × InOrder values.now }
     ensures { IsSoughtFrom values.now target 0 result }
 {
     let mut below = 0u32;

@@ -12,10 +12,9 @@ ghost use Rattle.bitpack_lists.specs.inner.Walks.{Appends, AreNext, Begun, IsWal
 
 use super::{KeptBlock, ListBlock, PackedList};
 use crate::blocks::reads::Reads;
-use crate::chain::LONGEST_BLOCK;
 use crate::list_error::ListError;
 use crate::list_kind::next_kind;
-use bitpacking::BitPacker;
+use bitpacking::{BitPacker, MAX_BLOCK_LEN};
 
 /// Appends the values that both lists have, in increasing order and each once. The lists may be of two packers.
 ///
@@ -127,7 +126,7 @@ fn walk_block<P: BitPacker, Q: BitPacker>(
     ensures reads { UnpacksOne reads.old reads.new }
 {
     if block.entry.last as u64 >= walk.want {
-        let mut values = [0; LONGEST_BLOCK];
+        let mut values = [0; MAX_BLOCK_LEN];
         one.unpack(block, &mut values, reads);
         walk_values(&values[..P::BLOCK_LEN], other, walk, out, other_reads);
     }
@@ -148,7 +147,7 @@ fn walk_tail<P: BitPacker, Q: BitPacker>(
         begun (32 * P.lanes * blocks_of one.now) blocks walk.old out.old other_reads.old
         → IsWalkingOver one.now other.now begun one.now.count blocks walk.new out.new other_reads.new }
 {
-    let mut values = [0; LONGEST_BLOCK];
+    let mut values = [0; MAX_BLOCK_LEN];
     let tail = one.read_tail(&mut values);
     walk_values(&values[..tail], other, walk, out, other_reads);
 }

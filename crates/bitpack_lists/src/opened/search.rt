@@ -6,10 +6,9 @@ ghost use Rattle.bitpack_lists.specs.Search.{first_reaching};
 
 use super::{KeptBlock, ListBlock, PackedList};
 use crate::blocks::reads::Reads;
-use crate::chain::LONGEST_BLOCK;
 use crate::list_kind::next_kind;
 use crate::version::Version;
-use bitpacking::{BitPacker, Kind};
+use bitpacking::{BitPacker, Kind, MAX_BLOCK_LEN};
 
 /// The step of a search that halves all blocks, and of one that tries the nearest first.
 pub(crate) const HALVES: usize = usize::MAX;
@@ -26,7 +25,7 @@ impl KeptBlock {
     {
         KeptBlock {
             number: NO_BLOCK,
-            values: [0; LONGEST_BLOCK],
+            values: [0; MAX_BLOCK_LEN],
         }
     }
 }
@@ -176,7 +175,7 @@ impl<'a, P: BitPacker> PackedList<'a, P> {
     {
         match self.version {
             Version::Two => {
-                let mut values = [0; LONGEST_BLOCK];
+                let mut values = [0; MAX_BLOCK_LEN];
                 let len = self.read_tail(&mut values);
                 first_in_slice(&values[..len], self.count - len, target)
             }

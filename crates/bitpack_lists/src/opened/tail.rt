@@ -9,13 +9,12 @@ ghost use Rattle.bitpack_lists.specs.Search.{first_reaching};
 
 use super::PackedList;
 use super::search::first_in_slice;
-use crate::chain::LONGEST_BLOCK;
 use crate::list_kind::next_kind;
 use crate::numbers::{read_one, read_words, unpack_number};
 use crate::v3::group::{LONGEST_GROUP, unpack_group};
 use crate::v3::tail::{end_of_group, next_len, to_values, unpack_tail};
 use crate::version::Version;
-use bitpacking::{BitPacker, Kind};
+use bitpacking::{BitPacker, Kind, MAX_BLOCK_LEN};
 
 impl<'a, P: BitPacker> PackedList<'a, P> {
     ghost use Rattle.bitpack_lists.specs.declared.version.Version.{Version};
@@ -44,7 +43,7 @@ impl<'a, P: BitPacker> PackedList<'a, P> {
     {
         let len = P::BLOCK_LEN;
         let end = end_of_group(self.count / len, self.count % len, index);
-        let mut values = [0; LONGEST_BLOCK];
+        let mut values = [0; MAX_BLOCK_LEN];
         self.value_in_front(index, &mut values[..end])
     }
 

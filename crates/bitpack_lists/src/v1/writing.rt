@@ -10,13 +10,12 @@ ghost use Rattle.bitpack_lists.specs.Parts.{whole_blocks};
 ghost use Rattle.bitpack_lists.specs.Version1.{Blocks1, IsPart1, List1};
 
 use crate::blocks::measuring::{KEPT_WIDTHS, text_len, width_of};
-use crate::chain::LONGEST_BODY;
 use crate::header::{Header, LONGEST_LIST};
 use crate::list_error::ListError;
 use crate::list_kind::{ListKind, next_kind};
 use crate::numbers::write_all;
 use crate::reserved::append;
-use bitpacking::{BitPacker, Kind};
+use bitpacking::{BitPacker, Kind, MAX_BLOCK_SIZE};
 
 /// Appends the text of the values. They may be in any order, whatever the kind.
 ///
@@ -75,7 +74,7 @@ fn write_blocks<P: BitPacker>(
     let blocks = values.len() / len;
     let mut kind = kind;
     let mut rest = values;
-    let mut body = [0; LONGEST_BODY];
+    let mut body = [0; MAX_BLOCK_SIZE];
     for index in 0..blocks {
         let (block, after) = rest.split_at(len);
         let width = width_of(packer, kind, block, widths, index);

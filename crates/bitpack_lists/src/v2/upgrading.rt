@@ -13,13 +13,12 @@ ghost use Rattle.bitpack_lists.specs.inner.Upgrading.{IsRest1, IsTested1};
 
 use crate::blocks::order::{first_out, first_out_of_words};
 use crate::blocks::reads::{ENTRY_LEN, Entry};
-use crate::chain::LONGEST_BLOCK;
 use crate::header::{HEADER_LEN, Header};
 use crate::list_error::ListError;
 use crate::list_kind::ListKind;
 use crate::reserved::append;
 use crate::v1::reading::{test_version1, unpack_block};
-use bitpacking::{BitPacker, Kind};
+use bitpacking::{BitPacker, Kind, MAX_BLOCK_LEN};
 
 /// Converts a version 1 list to version 2 and appends the result.
 ///
@@ -82,7 +81,7 @@ pub(crate) fn test_order<P: BitPacker>(
     let mut kind = header.kind.first();
     let mut rest = bytes;
     let mut last = 0;
-    let mut room = [0; LONGEST_BLOCK];
+    let mut room = [0; MAX_BLOCK_LEN];
     for index in 0..blocks {
         let block = &mut room[..len];
         (kind, rest) = unpack_block(packer, kind, rest, block);
@@ -116,7 +115,7 @@ pub(crate) fn write_entries<P: BitPacker>(
     let mut kind = header.kind.first();
     let mut rest = bytes;
     let mut offset = 0;
-    let mut room = [0; LONGEST_BLOCK];
+    let mut room = [0; MAX_BLOCK_LEN];
     for _ in 0..header.count / len {
         let width = rest[0];
         let block = &mut room[..len];

@@ -12,11 +12,10 @@ use super::tail::{test_tail, to_values};
 use crate::blocks::order::first_out;
 use crate::blocks::reads::{ENTRY_LEN, Reads};
 use crate::blocks::testing::{TestedBlocks, test_blocks};
-use crate::chain::LONGEST_BLOCK;
 use crate::header::Header;
 use crate::list_error::ListError;
 use crate::list_kind::{ListKind, next_kind};
-use bitpacking::{BitPacker, Kind};
+use bitpacking::{BitPacker, Kind, MAX_BLOCK_LEN};
 
 /// What a text without a fault states: its header, where its tail begins after that, and what is packed there in place of values.
 #[derive(Clone, Copy)]
@@ -42,7 +41,7 @@ pub(crate) fn test_version3<P: BitPacker>(packer: &P, bytes: &[u8]) -> Result<St
     let tested = if header.count % P::BLOCK_LEN < LONGEST_GROUP {
         test_blocks_and_groups(packer, list, rest, &mut [0; LONGEST_GROUP])
     } else {
-        test_blocks_and_groups(packer, list, rest, &mut [0; LONGEST_BLOCK])
+        test_blocks_and_groups(packer, list, rest, &mut [0; MAX_BLOCK_LEN])
     };
     let blocks = tested?;
     Ok(StatedText {

@@ -9,10 +9,9 @@ ghost use Rattle.bitpack_lists.specs.inner.Sizes.{tail_room};
 ghost use Rattle.bitpack_lists.specs.Version3.{IsTail3, after_tail3, tail_codes3, tail_fault3};
 
 use super::group::{LONGEST_GROUP, test_group, unpack_group, write_group};
-use crate::chain::LONGEST_BLOCK;
 use crate::list_error::ListError;
 use crate::numbers::{test_number, unpack_number, write_number};
-use bitpacking::Kind;
+use bitpacking::{Kind, MAX_BLOCK_LEN};
 
 /// Tests the tail of as many codes as the slice has, after `blocks` blocks, and returns the bytes after it. After a refusal the codes
 /// may be any.
@@ -129,11 +128,11 @@ fn before_groups(blocks: usize) -> usize
 }
 
 /// The bytes of a tail at most: four for each value, one for each group, and one for the number before the groups.
-pub(crate) const LONGEST_TAIL: usize = 4 * LONGEST_BLOCK + LONGEST_BLOCK / LONGEST_GROUP + 2;
+pub(crate) const LONGEST_TAIL: usize = 4 * MAX_BLOCK_LEN + MAX_BLOCK_LEN / LONGEST_GROUP + 2;
 
 /// Writes the tail of the values, which follow `blocks` whole blocks, at the start of the slice, and returns its length in bytes.
 pub(crate) fn pack_tail(kind: Kind, blocks: usize, values: &[u32], bytes: &mut [u8]) -> usize
-    requires few { length values.now ≤ LONGEST_BLOCK }
+    requires few { length values.now ≤ MAX_BLOCK_LEN }
     requires room { tail_room (length values.now) ≤ length bytes.old }
     ensures tail { IsTail3 blocks (codes kind values.now) (take result bytes.new) }
     ensures within { result ≤ tail_room (length values.now) }
@@ -142,7 +141,7 @@ pub(crate) fn pack_tail(kind: Kind, blocks: usize, values: &[u32], bytes: &mut [
         let room = &mut [0; LONGEST_GROUP];
         return pack_codes(kind, blocks, values, room, bytes);
     }
-    pack_codes(kind, blocks, values, &mut [0; LONGEST_BLOCK], bytes)
+    pack_codes(kind, blocks, values, &mut [0; MAX_BLOCK_LEN], bytes)
 }
 
 /// Writes the tail as [`pack_tail`] does, with room for its codes. Little room takes less time to clear.
@@ -153,7 +152,7 @@ fn pack_codes(
     room: &mut [u32],
     bytes: &mut [u8],
 ) -> usize
-    requires few { length values.now ≤ LONGEST_BLOCK }
+    requires few { length values.now ≤ MAX_BLOCK_LEN }
     requires codes { length values.now ≤ length room.old }
     requires room { tail_room (length values.now) ≤ length bytes.old }
     ensures tail { IsTail3 blocks (codes kind values.now) (take result bytes.new) }

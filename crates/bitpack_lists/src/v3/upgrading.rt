@@ -16,7 +16,6 @@ ghost use Rattle.bitpack_lists.specs.inner.Upgrading.{IsOlderRest, IsTestedRest,
 use super::header::write_short_header;
 use super::tail::{LONGEST_TAIL, pack_tail};
 use crate::blocks::reads::{ENTRY_LEN, Reads};
-use crate::chain::LONGEST_BLOCK;
 use crate::header::{HEADER_LEN, Header};
 use crate::list_error::ListError;
 use crate::list_kind::{ListKind, next_kind};
@@ -25,7 +24,7 @@ use crate::reserved::append;
 use crate::v1::reading;
 use crate::v2::opening;
 use crate::v2::upgrading::{copy_bodies, test_order, write_entries};
-use bitpacking::{BitPacker, Kind};
+use bitpacking::{BitPacker, Kind, MAX_BLOCK_LEN};
 
 /// The first byte of a text of version 2.
 const FIRST_OF_2: u8 = 2;
@@ -142,13 +141,13 @@ fn kind_after(kind: ListKind, blocks: usize, rest: &[u8]) -> Kind
 /// Writes the tail whose values are these words, which follow `blocks` whole blocks, at the start of the slice, and returns its length
 /// in bytes.
 fn pack_words(kind: Kind, blocks: usize, words: &[u8], bytes: &mut [u8]) -> usize
-    requires few { length words.now ≤ 4 * LONGEST_BLOCK }
+    requires few { length words.now ≤ 4 * MAX_BLOCK_LEN }
     requires room { LONGEST_TAIL ≤ length bytes.old }
     ensures tail { (values : List ℕ) → AreWords values → words.now ≡ bytes_of_words values
         → IsTail3 blocks (codes kind values) (take result bytes.new) }
     ensures within { result ≤ LONGEST_TAIL }
 {
-    let mut room = [0; LONGEST_BLOCK];
+    let mut room = [0; MAX_BLOCK_LEN];
     let values = &mut room[..words.len() / 4];
     read_words(words, values);
     pack_tail(kind, blocks, values, bytes)
