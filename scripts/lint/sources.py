@@ -41,7 +41,7 @@ COUNTED = ["pack_counted", "unpack_counted", "width_counted"]
 BY_CODES = ["pack_codes", "unpack_codes"]
 # The kernels of `bitpacking`: in which functions of which files each may be named, and nowhere else.
 KERNELS = {
-    "Rolled": {"bitpacker4x.rt": COUNTED, "bitpacker8x.rt": COUNTED},
+    "Rolled": {"bitpacker4x.rt": COUNTED, "bitpacker8x.rt": COUNTED, "dispatch/slices.rt": BY_CODES},
     "ByWidth": {f"bitpacker{lanes}x.rt": COUNTED for lanes in (1, 4, 8)},
     "Unrolled": {"dispatch/by_width.rt": ["pack_at", "unpack_at"]},
     "Widths": {"dispatch/by_width.rt": BY_CODES},

@@ -5,8 +5,8 @@ ghost use Rattle.bitpacking.specs.Calls.{CanPackCodes, CanUnpack, MovesToPack};
 ghost use Rattle.bitpacking.specs.inner.Kernels.{PackedCodes, UnpackedCodes};
 ghost use Rattle.bitpacking.specs.Moves.{Moves};
 
-mod any_width;
 mod by_width;
+mod slices;
 
 use crate::kinds::sinks::Sink;
 use crate::kinds::transformers::Transformer;
@@ -14,8 +14,8 @@ use crate::memory::Steps;
 use bitpacking_register::Register;
 pub(crate) use by_width::ByWidth;
 
-/// Packs and unpacks the codes of a block: wraps the slices in the sources and targets that a kernel takes, and chooses the
-/// kernel by the width.
+/// Packs and unpacks the codes of a block at any width. `ByWidth` calls types that are nested: each `AtWidths` hands a width that is
+/// none of its four to the next. `Rolled` is the last of them.
 ///
 /// The value before the block is passed, and not a transformer or a sink: those would be passed through memory.
 pub(crate) trait Dispatch {

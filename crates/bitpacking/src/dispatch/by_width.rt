@@ -6,6 +6,7 @@ ghost use Rattle.bitpacking.specs.Moves.{Moves};
 ghost use Rattle.std.specs.Prelude.{◌+◌};
 
 use crate::dispatch::Dispatch;
+use crate::dispatch::slices::{pack_slices, unpack_slices};
 use crate::kernel::rolled::Rolled;
 use crate::kernel::unrolled::Unrolled;
 use crate::kinds::sinks::Sink;
@@ -117,7 +118,7 @@ fn pack_at<R: Register, T: Transformer<R>, const WIDTH: u8>(
         compressed.old compressed.new result }
     ensures counts { MovesToPack steps.old steps.new WIDTH }
 {
-    Unrolled::pack_codes::<R, T>(start, decompressed, compressed, WIDTH, steps)
+    pack_slices::<Unrolled, R, T>(start, decompressed, compressed, WIDTH, steps)
 }
 
 // Unpacks the codes of a block by the unrolled loops, at a width that the compiler knows.
@@ -132,5 +133,5 @@ fn unpack_at<R: Register, S: Sink<R>, const WIDTH: u8>(
         compressed.now decompressed.old decompressed.new result }
     ensures counts { Moves steps.old steps.new WIDTH 32 (32 + WIDTH) }
 {
-    Unrolled::unpack_codes::<R, S>(start, compressed, decompressed, WIDTH, steps)
+    unpack_slices::<Unrolled, R, S>(start, compressed, decompressed, WIDTH, steps)
 }
