@@ -11,7 +11,7 @@ ghost use Rattle.bitpack_lists.specs.inner.Appending.{AppendsText};
 ghost use Rattle.bitpack_lists.specs.inner.Opening.{HasBodies};
 ghost use Rattle.bitpack_lists.specs.inner.Sizes.{AreReady, IsBlocksSize, IsPlanned, IsTailOf, header_of, tail_room};
 
-use crate::blocks::measuring::{KEPT_WIDTHS, MANY_WIDTHS, blocks_len, width_of};
+use crate::blocks::measuring::{FEW_WIDTHS, KEPT_WIDTHS, MANY_WIDTHS, blocks_len, width_of};
 use crate::blocks::order;
 use crate::blocks::reads::{ENTRY_LEN, Entry};
 use crate::header::{HEADER_LEN, Header};
@@ -51,7 +51,12 @@ pub(crate) fn append_list<P: BitPacker>(
         return append_planned(version, packer, kind, values, &mut [0; 0], tail, out);
     }
     let tail = &mut [0; LONGEST_TAIL];
-    if values.len() <= KEPT_WIDTHS * P::BLOCK_LEN {
+    let blocks = values.len() / P::BLOCK_LEN;
+    if blocks <= FEW_WIDTHS {
+        let widths = &mut [0; FEW_WIDTHS];
+        return append_planned(version, packer, kind, values, widths, tail, out);
+    }
+    if blocks <= KEPT_WIDTHS {
         let widths = &mut [0; KEPT_WIDTHS];
         return append_planned(version, packer, kind, values, widths, tail, out);
     }
@@ -108,7 +113,12 @@ pub fn write_list<P: BitPacker>(
         return write_planned(version, packer, kind, values, &mut [0; 0], tail, bytes);
     }
     let tail = &mut [0; LONGEST_TAIL];
-    if values.len() <= KEPT_WIDTHS * P::BLOCK_LEN {
+    let blocks = values.len() / P::BLOCK_LEN;
+    if blocks <= FEW_WIDTHS {
+        let widths = &mut [0; FEW_WIDTHS];
+        return write_planned(version, packer, kind, values, widths, tail, bytes);
+    }
+    if blocks <= KEPT_WIDTHS {
         let widths = &mut [0; KEPT_WIDTHS];
         return write_planned(version, packer, kind, values, widths, tail, bytes);
     }

@@ -12,7 +12,10 @@ use bitpacking::{BitPacker, Kind};
 /// How many widths are kept from the measuring of a list to its writing. Blocks after those are measured twice.
 pub(crate) const KEPT_WIDTHS: usize = 1024;
 
-/// How many are kept of a list that has more blocks than that, and so takes much longer to write than this room to clear.
+/// How many are kept of a list that has no more blocks than that. Little room takes less time to clear.
+pub(crate) const FEW_WIDTHS: usize = 64;
+
+/// How many are kept of a list that has more blocks than `KEPT_WIDTHS`, and so takes much longer to write than this room to clear.
 pub(crate) const MANY_WIDTHS: usize = 8192;
 
 /// How many bytes a text of the values has in version 1, which has one byte for each whole block beside its body. The least widths of its
