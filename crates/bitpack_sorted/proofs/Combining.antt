@@ -2,7 +2,7 @@
 use Rattle.std.proofs.Common.{◌≡◌, ◌⊎◌, ℕ, ◌+◌, ◌<◌, ◌≤◌, Bool, true, false, not, ◌&&◌, ◌||◌, List, [], ◌∷◌, length, min, Option, Some, None, refl, sym, ◌∙◌, ap, arith, inl, inr, leb}
 use Rattle.std.specs.List.{filter}
 use Rattle.std.proofs.Math.Bool.{and-false}
-use Rattle.std.proofs.lemmas.Bool.{and_parts, cases_lt, cases_order, cond_both, le-leb, leb-true, lt-leb, not-true, or_from, or_left, or_parts, or_right, true≢false}
+use Rattle.std.proofs.lemmas.Bool.{and_parts, cases_lt, cases_order, cond_both, le-leb, leb-true, lt-leb, not-true, or_from, or_left, or_right}
 use Rattle.bitpack_sorted.specs.Increasing.{IsIncreasing, after_first, at_least, first, has, shared, united, without}
 use Rattle.bitpack_sorted.specs.inner.Combined.{HaveMet, lesser_of}
 use Rattle.bitpack_sorted.specs.IncreasingLaws.{increasing_at_least, increasing_shared, increasing_united, increasing_without}
@@ -261,17 +261,6 @@ and_next xs xs' ys increasing rises met moved = go (first xs) refl (first ys) re
 
 pub and_sought : (target : ℕ) (xs xs' ys : List ℕ) → IsIncreasing xs → xs' ≡ at_least target xs → shared xs' ys ≡ at_least target (shared xs ys)
 and_sought target xs xs' ys increasing moved = ap (λ (zs : List ℕ). shared zs ys) moved ∙ shared-seek target xs ys increasing
-
--- a cursor that is at a target or after it, or has nothing left, stays
-pub stays_first : (target : ℕ) (xs : List ℕ) (value : Option ℕ) (v : ℕ) → IsIncreasing xs → value ≡ first xs → value ≡ Some v → target ≤ v
-    → xs ≡ at_least target xs
-stays_first target xs value v increasing place e le = sym (at_least-first target xs v increasing (sym place ∙ e) le)
-
-pub stays_none : (target : ℕ) (xs : List ℕ) (value : Option ℕ) → value ≡ first xs → value ≡ None → xs ≡ at_least target xs
-stays_none target xs value place e = sym (at_least-none target xs (sym place ∙ e))
-
-pub stays_last : (xs : List ℕ) (value : Option ℕ) → value ≡ first xs → value ≡ None → xs ≡ after_first xs
-stays_last xs value place e = sym (after_first-none xs (sym place ∙ e))
 
 -- a turn of the loop that moves a cursor to a value that another lacks
 module _ (xs ys ys' : List ℕ) (w : ℕ) (increasing : IsIncreasing xs) (here : Some w ≡ first xs) (sought : ys' ≡ at_least w ys) where

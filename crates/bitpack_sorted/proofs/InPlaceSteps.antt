@@ -15,9 +15,6 @@ use Rattle.bitpack_sorted.proofs.SliceSteps.{IsStrictlyIncreasing-drop}
 
 -- ---- what is left
 
-pub later_none : (xs : List ℕ) → IsLater xs xs
-later_none xs = (0, refl)
-
 pub later_more : (xs ys zs : List ℕ) → IsLater xs ys → IsLater ys zs → IsLater xs zs
 later_more xs ys zs (m, one) (n, more) = (m + n, more ∙ ap (drop n) one ∙ drop-drop n m xs)
 

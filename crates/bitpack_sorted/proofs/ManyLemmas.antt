@@ -1,13 +1,13 @@
 -- Which numbers are in all of many lists, or in any, and what becomes of them when one of the lists changes.
-use Rattle.std.proofs.Common.{◌≡◌, ◌⊎◌, ℕ, zero, suc, ◌+◌, ◌<◌, ◌≤◌, true, false, ◌&&◌, ◌||◌, List, [], ◌∷◌, length, get_or, set, Option, Some, None, refl, sym, ◌∙◌, ap, arith, inl, inr, leb, eqb}
+use Rattle.std.proofs.Common.{◌≡◌, ◌⊎◌, ℕ, zero, suc, ◌<◌, ◌≤◌, Bool, true, false, ◌&&◌, ◌||◌, List, [], ◌∷◌, length, get_or, set, Some, None, refl, sym, ◌∙◌, ap, arith, inl, inr, leb}
 use Rattle.std.proofs.Math.Bool.{and-false}
-use Rattle.std.proofs.lemmas.Bool.{cases_lt, cases_order, eq-eqb, le-leb, lt-leb, ne_eqb, or_from, or_parts, or_right}
+use Rattle.std.proofs.lemmas.Bool.{cases_lt, le-leb, lt-leb, or_from, or_parts, or_right}
 use Rattle.bitpack_sorted.specs.Increasing.{IsIncreasing, at_least, first, has}
 use Rattle.bitpack_sorted.specs.IncreasingLaws.{increasing_at_least}
-use Rattle.bitpack_sorted.specs.Many.{all_have, any_has, from_value, shared_by_all, united_all}
-use Rattle.bitpack_sorted.specs.ManyLaws.{increasing_from_value, increasing_united_all}
+use Rattle.bitpack_sorted.specs.Many.{all_have, any_has, shared_by_all, united_all}
+use Rattle.bitpack_sorted.specs.ManyLaws.{increasing_united_all}
 use Rattle.bitpack_sorted.proofs.Combining.{and_swap, at_least-same, united-seek}
-use Rattle.bitpack_sorted.proofs.Membership.{after_least, first_head, first_least, first_none, has-at_least, has-filter, has-united, same_numbers}
+use Rattle.bitpack_sorted.proofs.Membership.{first_least, first_none, has-at_least, has-filter, has-united, same_numbers}
 
 -- ---- which numbers are in all, or in any
 
@@ -51,13 +51,6 @@ any_has-none [] i v lt none = absurd (omega arith)
 any_has-none (xs ∷ lists) zero v lt none = (or_parts (has xs v) (any_has lists v) none).0
 any_has-none (xs ∷ lists) (suc i) v lt none = any_has-none lists i v (omega arith) (or_parts (has xs v) (any_has lists v) none).1
 
--- ---- a value, and the numbers above it
-
-pub from_value-first : (value : Option ℕ) (xs : List ℕ) → IsIncreasing xs → value ≡ first xs → from_value value xs ≡ xs
-from_value-first None xs increasing e = sym (first_none xs (sym e))
-from_value-first (Some v) xs increasing e =
-    ap (λ (zs : List ℕ). v ∷ zs) (sym (after_least xs v increasing (sym e))) ∙ sym (first_head xs v (sym e))
-
 -- ---- lists that are sought
 
 pub united_all-seek : (target : ℕ) (old new : List (List ℕ)) → length new ≡ length old
@@ -81,26 +74,25 @@ module _ (target : ℕ) (old new : List (List ℕ)) (some : 0 < length old) (inc
       each v (inl lt) = rw (lt-leb target v lt) (and-false (all_have old v))
       each v (inr le) = rw (none v le) refl
 
-  pub met_some : (w : ℕ) → length new ≡ length old → IsIncreasing (shared_by_all new) → target ≤ w → all_have old w ≡ true
+  pub met_some : (w : ℕ) → length new ≡ length old → IsIncreasing (shared_by_all new) → target ≤ w → ((v : ℕ) → v < w → all_have new v ≡ false)
       → ((v : ℕ) → target ≤ v → v < w → all_have old v ≡ false) → ((v : ℕ) → w ≤ v → all_have new v ≡ all_have old v)
-      → from_value (Some w) (shared_by_all new) ≡ at_least target (shared_by_all old)
-  met_some w count rises le here before same =
-      same_numbers (from_value (Some w) (shared_by_all new)) (at_least target (shared_by_all old))
-      (increasing_from_value (Some w) (shared_by_all new) rises) (increasing_at_least target (shared_by_all old) increasing)
-      (λ v. ap (λ b. eqb w v || b) (has-at_least (w + 1) (shared_by_all new) v ∙ ap (λ b. b && leb (w + 1) v) (has-shared_by_all new v (omega arith)))
-      ∙ each v (cases_order v w)
+      → shared_by_all new ≡ at_least target (shared_by_all old)
+  met_some w count rises le none before same =
+      same_numbers (shared_by_all new) (at_least target (shared_by_all old)) rises (increasing_at_least target (shared_by_all old) increasing)
+      (λ v. has-shared_by_all new v (omega arith) ∙ each v (cases_lt v w)
       ∙ sym (has-at_least target (shared_by_all old) v ∙ ap (λ b. b && leb target v) (has-shared_by_all old v some)))
     where
       below : (v : ℕ) → v < w → (v < target) ⊎ (target ≤ v) → false ≡ (all_have old v && leb target v)
       below v lt (inl under) = rw (lt-leb target v under) (sym (and-false (all_have old v)))
       below v lt (inr over) = rw (before v over lt) refl
 
-      each : (v : ℕ) → (v ≡ w) ⊎ ((v < w) ⊎ (w < v)) → (eqb w v || (all_have new v && leb (w + 1) v)) ≡ (all_have old v && leb target v)
-      each v (inl e) = rw (e, eq-eqb w w refl, here, le-leb target w le) refl
-      each v (inr (inl lt)) =
-          rw (ne_eqb w v (λ e. omega arith), lt-leb (w + 1) v (omega arith), and-false (all_have new v)) (below v lt (cases_lt v target))
-      each v (inr (inr gt)) =
-          rw (ne_eqb w v (λ e. omega arith), le-leb (w + 1) v (omega arith), le-leb target v (omega arith), same v (omega arith)) refl
+      and_true : (b : Bool) → b ≡ (b && true)
+      and_true true = refl
+      and_true false = refl
+
+      each : (v : ℕ) → (v < w) ⊎ (w ≤ v) → all_have new v ≡ (all_have old v && leb target v)
+      each v (inl lt) = none v lt ∙ below v lt (cases_lt v target)
+      each v (inr ge) = rw (le-leb target v (omega arith)) (same v ge ∙ and_true (all_have old v))
 
 -- ---- the first list alone
 

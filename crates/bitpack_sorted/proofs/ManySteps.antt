@@ -1,17 +1,17 @@
 -- Steps of the loops that move many cursors, where each has a list of numbers left.
-use Rattle.std.proofs.Common.{◌≡◌, ◌⊎◌, ℕ, zero, suc, ◌+◌, ◌<◌, ◌≤◌, Bool, true, false, ◌&&◌, List, [], ◌∷◌, length, get_or, set, map, Option, Some, None, refl, sym, ◌∙◌, ap, arith, inl, inr, leb}
+use Rattle.std.proofs.Common.{◌≡◌, ℕ, zero, suc, ◌+◌, ◌<◌, ◌≤◌, Bool, true, false, ◌&&◌, List, [], ◌∷◌, length, get_or, set, map, Option, Some, None, refl, sym, ◌∙◌, ap, arith, inl, inr}
 use Rattle.std.specs.Prelude.{slice_set}
 use Rattle.std.proofs.lemmas.Bool.{cases_eq, cases_lt, false≢true, ltb-false, ltb-true, le-leb, true≢false}
 use Rattle.std.proofs.lemmas.List.{get_or-map, get_or-set_other, get_or-set_same, length-map, length-set, map-set}
 use Rattle.bitpack_sorted.specs.Increasing.{IsIncreasing, after_first, at_least, first, has}
-use Rattle.bitpack_sorted.specs.Many.{all_have, from_value, shared_by_all, united_all}
+use Rattle.bitpack_sorted.specs.Many.{all_have, shared_by_all, united_all}
 use Rattle.bitpack_sorted.specs.ManyLaws.{increasing_shared_by_all, increasing_united_all}
 use Rattle.bitpack_sorted.specs.inner.Leaping.{IsBefore, IsLeaping, IsLeapt, IsLeastAt, IsLed, IsNearer, IsUniting, is_lesser}
 use Rattle.bitpack_sorted.proofs.Combining.{after_first-none, at_least-above, at_least-first, at_least-none, at_least-same}
-use Rattle.bitpack_sorted.proofs.ManyLemmas.{all_have-false, all_have-set, all_have-true, any_has-false, any_has-none, any_has-true, from_value-first, has-shared_by_all, has-united_all, met_none, met_some, shared_by_all-first, shared_by_all-none, shared_by_all-seek, united_all-seek}
+use Rattle.bitpack_sorted.proofs.ManyLemmas.{all_have-false, all_have-set, all_have-true, any_has-false, any_has-none, any_has-true, has-shared_by_all, has-united_all, met_none, met_some, shared_by_all-first, shared_by_all-none, shared_by_all-seek, united_all-seek}
 use Rattle.bitpack_sorted.proofs.Membership.{after_least, first_has, first_is, first_least, first_none, has-at_least}
 
--- ---- one cursor that passes values
+-- ---- the first of some numbers
 
 pub at_least-zero : (xs : List ℕ) → IsIncreasing xs → at_least 0 xs ≡ xs
 at_least-zero xs increasing = at_least-same 0 xs increasing (λ v lt. absurd (omega arith))
@@ -147,31 +147,28 @@ module _ {X : Type 0} (rest : X → List ℕ) (rises : (x : X) → IsIncreasing 
     lead_here : first (get_or (map rest zs) 0 []) ≡ Some wanted
     lead_here = leapt.led (e ∙ ap Some same) (omega (arith, leapt.count, nearer.count, nearer.some))
 
+    some_lists : 0 < length (map rest zs)
+    some_lists = omega (arith, leapt.count, nearer.count, nearer.some)
+
+    none_before : (v : ℕ) → v < wanted → all_have (map rest zs) v ≡ false
+    none_before v lt = all_have-false (map rest zs) 0 v some_lists (first_least (get_or (map rest zs) 0 []) wanted (rises_at zs) lead_here v lt)
+      where
+        rises_at : (xs : List X) → IsIncreasing (get_or (map rest xs) 0 [])
+        rises_at [] = tt
+        rises_at (x ∷ xs) = rises x
+
     pub meet_first : Some wanted ≡ first (shared_by_all (map rest zs))
     meet_first =
-        let some : 0 < length (map rest zs) = omega (arith, leapt.count, nearer.count, nearer.some) in
-        let rises_all = increasing_shared_by_all rest rises zs in
-        sym (first_is (shared_by_all (map rest zs)) wanted rises_all (has-shared_by_all (map rest zs) wanted some ∙ all_here)
-        (λ w lt. has-shared_by_all (map rest zs) w some
-        ∙ all_have-false (map rest zs) 0 w some (first_least (get_or (map rest zs) 0 []) wanted (lead_rises some) lead_here w lt)))
-      where
-        lead_rises : 0 < length (map rest zs) → IsIncreasing (get_or (map rest zs) 0 [])
-        lead_rises some = rises_at zs
-          where
-            rises_at : (xs : List X) → IsIncreasing (get_or (map rest xs) 0 [])
-            rises_at [] = tt
-            rises_at (x ∷ xs) = rises x
+        sym (first_is (shared_by_all (map rest zs)) wanted (increasing_shared_by_all rest rises zs)
+        (has-shared_by_all (map rest zs) wanted some_lists ∙ all_here) (λ w lt. has-shared_by_all (map rest zs) w some_lists ∙ none_before w lt))
 
     pub meet_led : IsLed (map rest zs)
     meet_led = lead_here ∙ meet_first
 
     pub meet_here : shared_by_all (map rest zs) ≡ at_least target (shared_by_all (map rest xs))
     meet_here =
-        sym (from_value-first (Some wanted) (shared_by_all (map rest zs)) (increasing_shared_by_all rest rises zs) meet_first)
-        ∙ met_some target (map rest xs) (map rest zs) nearer.some (increasing_shared_by_all rest rises xs) wanted (leapt.count ∙ nearer.count)
-        (increasing_shared_by_all rest rises zs) nearer.forward
-        (sym (nearer.same wanted (omega arith)) ∙ sym (leapt.same wanted (omega arith)) ∙ all_here) nearer.before
-        (λ v le. leapt.same v le ∙ nearer.same v le)
+        met_some target (map rest xs) (map rest zs) nearer.some (increasing_shared_by_all rest rises xs) wanted (leapt.count ∙ nearer.count)
+        (increasing_shared_by_all rest rises zs) nearer.forward none_before nearer.before (λ v le. leapt.same v le ∙ nearer.same v le)
 
   pub meet_end : value ≡ None → [] ≡ at_least target (shared_by_all (map rest xs))
   meet_end e =

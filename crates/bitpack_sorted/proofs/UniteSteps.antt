@@ -2,7 +2,7 @@
 use Rattle.std.proofs.Common.{◌≡◌, ℕ, ◌+◌, ◌-◌, ◌<◌, ◌≤◌, true, ◌||◌, List, [], ◌∷◌, ◌++◌, append-nil, length, drop, take, Option, Some, refl, sym, subst, ◌∙◌, ap, arith, inl, inr}
 use Rattle.std.specs.List.{copy_within}
 use Rattle.std.proofs.lemmas.Bool.{cases_lt, or_cases, true≢false}
-use Rattle.std.proofs.lemmas.List.{append_assoc, drop-drop, drop_all, drop_at, length-drop, length-take-le}
+use Rattle.std.proofs.lemmas.List.{append_assoc, drop_all, drop_at, length-drop, length-take-le}
 use Rattle.bitpack_sorted.specs.Increasing.{IsIncreasing, at_least, first, has, united}
 use Rattle.bitpack_sorted.specs.inner.Combined.{IsLater}
 use Rattle.bitpack_sorted.proofs.Combining.{or_next, shorter_at_least}

@@ -1,8 +1,7 @@
 -- A slice that is united with others in its place: a turn of a merge writes the first value that is still to come, or passes one at hand
 -- that was written.
-use Rattle.std.proofs.Common.{◌≡◌, ◌⊎◌, ℕ, add-zero, ◌+◌, ◌-◌, ◌^◌, ◌<◌, ◌≤◌, Bool, true, false, ◌&&◌, ◌||◌, List, [], ◌∷◌, ◌++◌, length, drop, take, get_or, set, max, min, None, Some, refl, sym, ◌∙◌, ap, arith, inl, inr, leb, append-nil}
+use Rattle.std.proofs.Common.{◌≡◌, ◌⊎◌, ℕ, add-zero, ◌+◌, ◌-◌, ◌^◌, ◌<◌, ◌≤◌, Bool, true, false, ◌&&◌, List, [], ◌∷◌, ◌++◌, length, drop, take, get_or, set, max, min, None, Some, refl, sym, ◌∙◌, ap, arith, inl, inr, leb}
 use Rattle.std.specs.List.{copy_within}
-use Rattle.std.specs.List.Sorted.{IsStrictlyIncreasing}
 use Rattle.std.proofs.Math.Bool.{and-false}
 use Rattle.std.proofs.lemmas.Bool.{and_parts, cases_lt, false_from_ne_true, le-leb, leb-true, lt-leb, or_left, or_parts, true≢false}
 use Rattle.std.proofs.lemmas.List.{drop_all, drop_more, length-append, length-drop, length-set, length-take-le, take-set, take_at}

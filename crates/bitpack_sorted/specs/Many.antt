@@ -1,7 +1,7 @@
 -- The numbers that all of many lists have, and those that any has.
-use Rattle.std.specs.Prelude.{ℕ, ◌+◌, Bool, true, false, ◌&&◌, ◌||◌, List, [], ◌∷◌, Option, Some, None}
+use Rattle.std.specs.Prelude.{ℕ, Bool, true, false, ◌&&◌, ◌||◌, List, [], ◌∷◌}
 use Rattle.std.specs.List.{filter}
-use Rattle.bitpack_sorted.specs.Increasing.{at_least, has, united}
+use Rattle.bitpack_sorted.specs.Increasing.{has, united}
 
 -- whether each list has a number
 abbrev pub all_have : List (List ℕ) → ℕ → Bool
@@ -22,8 +22,3 @@ shared_by_all (xs ∷ lists) = filter (all_have lists) xs
 unfoldable pub united_all : List (List ℕ) → List ℕ
 united_all [] = []
 united_all (xs ∷ lists) = united xs (united_all lists)
-
--- a value and the numbers above it, or none
-abbrev pub from_value : Option ℕ → List ℕ → List ℕ
-from_value None xs = []
-from_value (Some v) xs = v ∷ at_least (v + 1) xs

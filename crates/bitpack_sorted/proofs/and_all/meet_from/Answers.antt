@@ -1,5 +1,5 @@
 -- The value that is wanted grows until all cursors are at it, or one has no value left.
-use Rattle.std.proofs.Common.{◌≡◌, List, ℕ, [], length, map, refl, sym, subst, ◌∙◌, ap, arith}
+use Rattle.std.proofs.Common.{◌≡◌, [], length, map, refl, sym, subst, ◌∙◌, ap, arith}
 use Rattle.std.proofs.lemmas.List.{length-map, with_items_is}
 use Rattle.bitpack_sorted.specs.Increasing.{at_least, first}
 use Rattle.bitpack_sorted.specs.Many.{shared_by_all}

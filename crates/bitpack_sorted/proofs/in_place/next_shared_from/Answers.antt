@@ -1,5 +1,5 @@
 -- The values from the index on are those of a slice, which moves on to its end.
-use Rattle.std.proofs.Common.{◌≡◌, ◌-◌, Some, drop, length, sym, ◌∙◌, ap}
+use Rattle.std.proofs.Common.{◌≡◌, ◌-◌, drop, length, ◌∙◌, ap}
 use Rattle.bitpack_sorted.proofs.Combining.{met_both}
 use Rattle.bitpack_sorted.proofs.InPlaceSteps.{next_some}
 use Rattle.bitpack_sorted.proofs.SliceSteps.{from_index}

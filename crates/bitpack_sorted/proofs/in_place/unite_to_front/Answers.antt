@@ -1,5 +1,5 @@
 -- Each turn merges a block. At the end the values that are still to come are those of the slice.
-use Rattle.std.proofs.Common.{◌≡◌, ◌+◌, ℕ, List, ◌++◌, drop, take, refl, sym, ◌∙◌, ap, arith}
+use Rattle.std.proofs.Common.{◌≡◌, ◌++◌, drop, take, refl, sym, ◌∙◌, ap, arith}
 use Rattle.bitpack_sorted.specs.Increasing.{united}
 use Rattle.bitpack_sorted.specs.IncreasingLaws.{IsIncreasing-from, increasing_united}
 use Rattle.bitpack_sorted.proofs.Combining.{united_alone}

@@ -1,5 +1,5 @@
 -- The first cursor is at the first value that all share.
-use Rattle.std.proofs.Common.{map, sym, ◌∙◌, ap, arith}
+use Rattle.std.proofs.Common.{map, ◌∙◌, ap, arith}
 use Rattle.bitpack_sorted.specs.Increasing.{first}
 use Rattle.bitpack_sorted.specs.Many.{shared_by_all}
 use Rattle.bitpack_sorted.specs.ManyLaws.{increasing_shared_by_all}

@@ -1,5 +1,5 @@
 -- What either has above the value is left.
-use Rattle.std.proofs.Common.{◌≡◌, List, ℕ, min, Option, Some, None, sym, ◌∙◌, ap, arith}
+use Rattle.std.proofs.Common.{◌≡◌, None, sym, ◌∙◌, ap, arith}
 use Rattle.bitpack_sorted.specs.Increasing.{after_first, first}
 use Rattle.bitpack_sorted.proofs.Combining.{lesser_first, or_both, united-none, united_alone}
 use Rattle.bitpack_sorted.proofs.or.OrSortedCursor.advance.Goals.{then-a-b, else-a-b, then-b-a, else-b-a}

@@ -1,5 +1,5 @@
 -- The cursor at the index is at the least value of all.
-use Rattle.std.proofs.Common.{map, sym, ◌∙◌, ap, arith}
+use Rattle.std.proofs.Common.{map, ◌∙◌, ap, arith}
 use Rattle.bitpack_sorted.specs.Increasing.{first}
 use Rattle.bitpack_sorted.specs.Many.{united_all}
 use Rattle.bitpack_sorted.specs.ManyLaws.{increasing_united_all}
