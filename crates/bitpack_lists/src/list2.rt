@@ -14,7 +14,9 @@ pub use crate::blocks::reads::Reads;
 pub use crate::list_buf::ListBuf;
 use crate::list_error::ListError;
 use crate::list_kind::ListKind;
-pub use crate::opened::{Cursor, ListOutline, PackedList, first_ahead, first_from, intersect};
+pub use crate::opened::{
+    Cursor, ListOutline, PackedList, count_below, first_ahead, first_from, intersect,
+};
 pub use crate::v2::upgrading::upgrade;
 use crate::version::Version;
 use crate::writing::{append_list, list_len, write_list};

@@ -24,7 +24,7 @@ use crate::list_kind::{ListKind, next_kind};
 use crate::v2::opening::test_version2;
 use crate::version::Version;
 use bitpacking::{BitPacker, Kind, MAX_BLOCK_LEN};
-pub use cursor::{Cursor, first_ahead, first_from};
+pub use cursor::{Cursor, count_below, first_ahead, first_from};
 pub use intersection::intersect;
 pub use outline::ListOutline;
 use std::alloc::AllocError;

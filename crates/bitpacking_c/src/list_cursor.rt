@@ -9,7 +9,7 @@ ghost use Rattle.bitpacking_c.specs.Views.{IsListOf};
 use crate::list_blocks::{find_block, read_block};
 use crate::list_view::{ListView, kind};
 use bitpack_lists::ListKind;
-use bitpack_lists::list2::{Reads, first_from};
+use bitpack_lists::list2::{Reads, count_below, first_from};
 use bitpacking::MAX_BLOCK_LEN;
 
 /// A place in an opened list that only moves forward. It borrows the bytes of the list, as its view does.
@@ -175,12 +175,12 @@ impl<'a> ListCursor<'a> {
             self.index = first_from(&self.values[..self.len], self.index, target);
             return 1;
         }
-        self.leap(target, reads);
+        self.seek_in_later_blocks(target, reads);
         if self.index < self.len { 1 } else { 0 }
     }
 
     // Seeks if no value at hand is at least the target.
-    fn leap(&mut self, target: u32, reads: &mut Reads)
+    fn seek_in_later_blocks(&mut self, target: u32, reads: &mut Reads)
         requires ordered { self.old.ordered ≢ 0 }
         requires below { self.old.index < self.old.len → slice_index self.old.values (self.old.len - 1) < target }
         ensures sought { (kind : ListKind) (all : List ℕ) → IsListOfCursor self.old kind all
@@ -197,7 +197,7 @@ impl<'a> ListCursor<'a> {
             );
             self.block = block;
             self.len = len;
-            self.index = first_from(&self.values[..len], 0, target);
+            self.index = count_below(&self.values[..len], target);
         } else {
             self.index = self.len;
         }

@@ -59,7 +59,7 @@ impl<'a, P: BitPacker> PackedList<'a, P> {
         let mut values = [0; MAX_BLOCK_LEN];
         let mut reads = Reads::new();
         let first = self.whole_block(0, self.kind.first(), &mut reads);
-        let (_, len) = self.read_part(first, &mut values, &mut reads);
+        let (_, len) = self.read_block_or_tail(first, &mut values, &mut reads);
         Cursor {
             list: PackedList {
                 packer: self.packer,
@@ -99,7 +99,7 @@ impl<'a, P: BitPacker> PackedList<'a, P> {
 
     /// Unpacks a block, or reads the values of the tail if there is none. Returns its number, or the count of all blocks, and how many
     /// values these are.
-    fn read_part(
+    fn read_block_or_tail(
         &self,
         part: Option<ListBlock>,
         values: &mut [u32],
@@ -223,7 +223,9 @@ impl<'a, P: BitPacker> Cursor<'a, P> {
             let number = self.block + 1;
             let kind = self.kind_after();
             let next = self.list.whole_block(number, kind, &mut self.reads);
-            let (_, len) = self.list.read_part(next, &mut self.values, &mut self.reads);
+            let (_, len) = self
+                .list
+                .read_block_or_tail(next, &mut self.values, &mut self.reads);
             self.block = number;
             self.index = 0;
             self.len = len;
@@ -247,7 +249,7 @@ impl<'a, P: BitPacker> Cursor<'a, P> {
         if self.index < self.len && self.values[self.len - 1] >= target {
             self.index = first_from(&self.values[..self.len], self.index, target);
         } else {
-            self.leap(target);
+            self.seek_in_later_blocks(target);
         }
     }
 
@@ -261,12 +263,12 @@ impl<'a, P: BitPacker> Cursor<'a, P> {
         if self.index < self.len && self.values[self.len - 1] >= target {
             self.index = first_ahead(&self.values[..self.len], self.index, ahead, target);
         } else {
-            self.leap(target);
+            self.seek_in_later_blocks(target);
         }
     }
 
     // Seeks if no value at hand is at least the target.
-    fn leap(&mut self, target: u32)
+    fn seek_in_later_blocks(&mut self, target: u32)
         requires ordered { InOrder (values_of_cursor self.old) }
         requires below { self.old.index < self.old.len → slice_index self.old.values (self.old.len - 1) < target }
         ensures moved { HasMoved self.old self.new }
@@ -284,7 +286,7 @@ impl<'a, P: BitPacker> Cursor<'a, P> {
             .find(self.block + 1, kind, DOUBLES, target, &mut self.reads);
         let (number, len) = self
             .list
-            .read_part(found, &mut self.values, &mut self.reads);
+            .read_block_or_tail(found, &mut self.values, &mut self.reads);
         self.block = number;
         self.len = len;
         self.index = count_below(&self.values[..len], target);
@@ -367,7 +369,7 @@ pub fn first_from(values: &[u32], from: usize, target: u32) -> usize
 /// How many values of a block are below the target: the first index whose value is not, as the values are in order. No branch depends on
 /// a value, so that the compiler compares several at once.
 #[inline(always)]
-fn count_below(values: &[u32], target: u32) -> usize
+pub fn count_below(values: &[u32], target: u32) -> usize
     requires { (length values.now ≤ MAX_BLOCK_LEN) × InOrder values.now }
     ensures { IsSoughtFrom values.now target 0 result }
 {

@@ -39,9 +39,9 @@ invariant_of-self c =
 pub returns-then-self-2-clause-moved : goal.returns-then-self-2-clause-moved
 returns-then-self-2-clause-moved c = λ kind all is.
     let self = c.args.self.now in
-    let next = c.leap.new.self in
-    let here = rw (← c.leap.ensures.step.list) at is in
+    let next = c.seek_in_later_blocks.new.self in
+    let here = rw (← c.seek_in_later_blocks.ensures.step.list) at is in
     let none = none_of_zero next.list.lanes next.list.bytes.now kind all here in
     let lt = below_total next.list.lanes all none next.block next.index next.len next.values (next.place kind all here) c.if-self-2.true in
-    seeks_on kind all c.args.target _ _ _ ((self.kind kind all is).1 c.if-self-eq0.false) (c.leap.ensures.sought kind all is)
+    seeks_on kind all c.args.target _ _ _ ((self.kind kind all is).1 c.if-self-eq0.false) (c.seek_in_later_blocks.ensures.sought kind all is)
     ((λ _. refl), (λ le. absurd (omega (arith, lt, le))))

@@ -2,7 +2,7 @@
 use Rattle.std.proofs.Common.{◌≡◌, ◌+◌, ◌*◌, ◌/◌, ◌<◌, ◌≤◌, ℕ, length, refl, ◌∙◌, ap, arith, rules}
 use Rattle.bitpack_lists.proofs.lemmas.opened.CursorPlaces.{ends_below, part_order, place_later, sought_later, sought_listed, sought_none, sought_part}
 use Rattle.bitpack_lists.proofs.lemmas.opened.SearchSteps.{near_few}
-use Rattle.bitpack_lists.proofs.opened.cursor.Cursor.leap.Goals as goal
+use Rattle.bitpack_lists.proofs.opened.cursor.Cursor.seek_in_later_blocks.Goals as goal
 
 pub returns-then-self-BLOCK_LEN-clause-sought : goal.returns-then-self-BLOCK_LEN-clause-sought
 returns-then-self-BLOCK_LEN-clause-sought g c =
@@ -25,14 +25,14 @@ pub count_below-self-requires : goal.count_below-self-requires
 count_below-self-requires g c =
     let self = c.args.self.now in (
       search rules,
-      part_order self.list g.met.P.BitPacker.some_lanes c.read_part-number.result.0 c.read_part-number.result.1
-          c.read_part-number.new.values c.read_part-number.ensures.part c.requires.ordered,
+      part_order self.list g.met.P.BitPacker.some_lanes c.read_block_or_tail-number.result.0 c.read_block_or_tail-number.result.1
+          c.read_block_or_tail-number.new.values c.read_block_or_tail-number.ensures.part c.requires.ordered,
     )
 
 pub invariant_of-self-2 : goal.invariant_of-self-2
 invariant_of-self-2 g c =
     let self = c.args.self.now in
-    let part = c.read_part-number in
+    let part = c.read_block_or_tail-number in
     let room : part.result.1 ≤ length part.new.values = omega (arith, part.ensures.part.len_is, g.met.P.BitPacker.few_lanes) in
     let found = c.count_below-self.ensures in
     let next = sought_part self.list c.args.target (self.block + 1) part.result.0 c.find-found.result c.find-found.ensures.found part.ensures.number in
@@ -47,7 +47,7 @@ invariant_of-self-2 g c =
 pub returns-clause-sought : goal.returns-clause-sought
 returns-clause-sought g c =
     let self = c.args.self.now in
-    let part = c.read_part-number in
+    let part = c.read_block_or_tail-number in
     let room : part.result.1 ≤ length part.new.values = omega (arith, part.ensures.part.len_is, g.met.P.BitPacker.few_lanes) in
     let found = c.count_below-self.ensures in
     let next = sought_part self.list c.args.target (self.block + 1) part.result.0 c.find-found.result c.find-found.ensures.found part.ensures.number in
@@ -59,7 +59,7 @@ returns-clause-sought g c =
 pub returns-clause-entries : goal.returns-clause-entries
 returns-clause-entries g c = λ k near.
     let self = c.args.self.now in
-    let part = c.read_part-number in
+    let part = c.read_block_or_tail-number in
     let far = rw (← part.ensures.number) at (c.find-found.ensures.near refl) in
     let few = near_few (self.block + 1) part.result.0 self.reads.entries c.find-found.new.reads.entries far k (omega (arith, near)) in
     omega (arith, few, part.ensures.entries)

@@ -2,7 +2,7 @@
 use Rattle.std.proofs.Common.{take, ◌∙◌, ap}
 use Rattle.bitpack_lists.specs.inner.Searching.{IsListBlock}
 use Rattle.bitpack_lists.proofs.lemmas.opened.CursorPlaces.{part_unpacked}
-use Rattle.bitpack_lists.proofs.opened.PackedList.read_part.Goals as goal
+use Rattle.bitpack_lists.proofs.opened.PackedList.read_block_or_tail.Goals as goal
 
 pub returns-in-Some-clause-part : goal.returns-in-Some-clause-part
 returns-in-Some-clause-part g c =
