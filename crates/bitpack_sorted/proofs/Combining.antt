@@ -249,6 +249,13 @@ module _ (xs ys ys' : List ℕ) (w : ℕ) (increasing : IsIncreasing xs) (here :
     pub meet_both : IsIncreasing ys' → shared xs' ys' ≡ shared xs ys
     meet_both other = ap (λ (zs : List ℕ). shared zs ys') leapt ∙ shared-one xs ys' v increasing other (sym found) ∙ meet_other
 
+-- the second has ended
+pub ended_next : (xs ys : List ℕ) → IsIncreasing xs → first ys ≡ None → shared xs ys ≡ after_first (shared xs ys)
+ended_next xs ys increasing e = sym (after_first-none (shared xs ys) (shared-none_other xs ys increasing e))
+
+pub ended_sought : (target : ℕ) (xs ys : List ℕ) → IsIncreasing xs → first ys ≡ None → shared xs ys ≡ at_least target (shared xs ys)
+ended_sought target xs ys increasing e = sym (at_least-none target (shared xs ys) (shared-none_other xs ys increasing e))
+
 pub and_next : (xs xs' ys : List ℕ) → IsIncreasing xs → IsIncreasing xs' → HaveMet xs ys → xs' ≡ after_first xs → shared xs' ys ≡ after_first (shared xs ys)
 and_next xs xs' ys increasing rises met moved = go (first xs) refl (first ys) refl
   where

@@ -44,12 +44,18 @@ impl<A: SortedCursor, B: SortedCursor> SortedCursor for And<A, B> {
 
     #[inline(always)]
     fn advance(&mut self) -> Option<u32> {
+        if self.other.value().is_none() {
+            return None;
+        }
         self.one.advance();
         next_shared(&mut self.one, &mut self.other)
     }
 
     #[inline(always)]
     fn seek(&mut self, target: u32) -> Option<u32> {
+        if self.other.value().is_none() {
+            return None;
+        }
         self.one.seek(target);
         next_shared(&mut self.one, &mut self.other)
     }
