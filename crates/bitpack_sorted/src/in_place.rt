@@ -2,13 +2,12 @@
 
 ghost use Rattle.std.specs.Prelude.{◌≡◌, ◌+◌, ◌≤◌, IfSome, List, None, [], drop, length, take};
 ghost use Rattle.std.specs.List.Sorted.{IsStrictlyIncreasing};
-ghost use Rattle.bitpack_sorted.specs.Increasing.{shared, united, without};
+ghost use Rattle.bitpack_sorted.specs.Increasing.{at_least, has, shared, united, without};
 ghost use Rattle.bitpack_sorted.specs.InFront.{AreInFront};
 ghost use Rattle.bitpack_sorted.specs.inner.InPlace.{IsNextShared, IsRoomBefore};
 
 use super::and::next_shared;
 use super::increasing_slice::IncreasingSlice;
-use super::retaining::finds_next;
 use super::sorted_cursor::SortedCursor;
 use super::uniting::{Place, move_rest, unite_block};
 
@@ -112,5 +111,16 @@ fn next_shared_from<C: SortedCursor>(values: &[u32], from: usize, cursor: &mut C
     match next_shared(&mut ahead, cursor) {
         None => None,
         Some(_value) => Some(values.len() - ahead.len()),
+    }
+}
+
+/// Whether an item is among the values from the place of a cursor on. Moves there.
+fn finds_next<C: SortedCursor>(cursor: &mut C, item: u32) -> bool
+    ensures found { result ≡ has (C.rest cursor.old) item }
+    ensures rest { C.rest cursor.new ≡ at_least item (C.rest cursor.old) }
+{
+    match cursor.seek(item) {
+        Some(here) => here == item,
+        None => false,
     }
 }

@@ -22,7 +22,6 @@ mod in_place;
 mod increasing_slice;
 mod or;
 mod or_all;
-mod retaining;
 mod sorted_cursor;
 mod uniting;
 mod values;

@@ -1,6 +1,6 @@
 -- The item is there if the first value from there on is it.
 use Rattle.bitpack_sorted.proofs.RetainSteps.{found_none, found_some}
-use Rattle.bitpack_sorted.proofs.retaining.finds_next.Goals as goal
+use Rattle.bitpack_sorted.proofs.in_place.finds_next.Goals as goal
 
 pub returns-in-Some-clause-found : goal.returns-in-Some-clause-found
 returns-in-Some-clause-found g c =
