@@ -2,8 +2,8 @@
 //!
 //! [`chain`] packs many blocks of one kind end to end. [`list`] writes a list of any length as one text, and reads untrusted
 //! texts. [`list2`] writes lists that are read in place, by search or by position, and reads them. The texts of [`list3`] are shorter for
-//! short lists, and [`list2`] reads them too. [`writing`] writes a list of either version to a slice, for callers whose version is a value.
-//!
+//! short lists, and [`list2`] reads them too. [`writing`] writes a list of either version to a slice, for callers whose version is a
+//! value.
 //!
 //! The crate `bitpack` gives these modules again, and `bitpack_sorted` combines lists by their cursors. The tests of chains are in
 //! `bitpack_main`, tests of lists in `bitpack_uses`.
@@ -27,7 +27,7 @@ mod v2;
 mod v3;
 mod version;
 mod worked_texts;
-mod writing;
+pub mod writing;
 
 pub use list_error::ListError;
 pub use list_kind::ListKind;

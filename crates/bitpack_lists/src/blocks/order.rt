@@ -65,7 +65,6 @@ pub(crate) fn first_out(
 
 /// Whether the values are in order after the one before them. Most lists are, so that no position is looked for.
 fn are_ordered(kind: ListKind, position: usize, before: u32, values: &[u32]) -> bool
-    requires { position + length values.now < 2 ^ 64 }
     ensures { result ≡ true → (all : ℕ → ℕ) → IsOrdered kind all position before
         → ((k : ℕ) → k < length values.now → all (position + k) ≡ slice_index values.now k)
         → least_below (Rattle.bitpack_lists.specs.Version2.is_out kind all) (position + length values.now) ≡ None }

@@ -110,9 +110,8 @@ fn lanes_of(code: u8) -> u8
 #[tactic(auto, unfolding(crate::specs::Version3::count_fault))]
 fn test_count(bytes: &[u8]) -> Result<(usize, usize), ListError>
     ensures fault { FindsFault result (count_fault bytes.now) }
-    ensures value { IfOk result (λ found. found.0 ≡ number_value bytes.now) }
+    ensures value { IfOk result (λ found. (found.0 ≡ number_value bytes.now) × (found.0 ≤ 2 ^ 28)) }
     ensures end { IfOk result (λ found. found.1 ≡ number_end bytes.now) }
-    ensures few { IfOk result (λ found. found.0 ≤ 2 ^ 28) }
     ensures within { IfOk result (λ found. found.1 ≤ length bytes.now) }
 {
     let (count, size) = test_number(bytes)?;

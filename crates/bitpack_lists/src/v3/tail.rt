@@ -41,7 +41,6 @@ pub(crate) fn test_tail<'a>(
 /// refusal the codes may be any.
 fn test_groups<'a>(block: usize, bytes: &'a [u8], codes: &mut [u32]) -> Result<&'a [u8], ListError>
     requires block { block ≤ 2 ^ 28 }
-    requires few { length codes.old ≤ 2 ^ 28 }
     ensures fault { FindsFault result (groups_fault (groups_of (length codes.old)) block (length codes.old) bytes.now) }
     ensures codes { OnOk result (codes.new ≡ groups_codes (groups_of (length codes.old)) (length codes.old) bytes.now) }
     ensures rest { IfOk result (λ rest. rest.now
@@ -63,7 +62,6 @@ fn test_groups<'a>(block: usize, bytes: &'a [u8], codes: &mut [u32]) -> Result<&
 #[tactic(auto, unfolding(crate::specs::Version3::tail_fault3, crate::specs::Version3::tail_codes3))]
 #[inline(always)]
 pub(crate) fn unpack_tail(blocks: usize, bytes: &[u8], codes: &mut [u32])
-    requires few { length codes.old ≤ 2 ^ 28 }
     requires sound { tail_fault3 blocks (length codes.old) bytes.now ≡ None }
     ensures { codes.new ≡ tail_codes3 blocks (length codes.old) bytes.now }
 {
@@ -78,7 +76,6 @@ pub(crate) fn unpack_tail(blocks: usize, bytes: &[u8], codes: &mut [u32])
 
 /// Unpacks the groups of as many codes as the slice has. They have no fault.
 fn unpack_groups(bytes: &[u8], codes: &mut [u32])
-    requires few { length codes.old ≤ 2 ^ 28 }
     requires sound { (block : ℕ)
         × (groups_fault (groups_of (length codes.old)) block (length codes.old) bytes.now ≡ None) }
     ensures { codes.new ≡ groups_codes (groups_of (length codes.old)) (length codes.old) bytes.now }
@@ -152,7 +149,6 @@ fn pack_codes(
     room: &mut [u32],
     bytes: &mut [u8],
 ) -> usize
-    requires few { length values.now ≤ MAX_BLOCK_LEN }
     requires codes { length values.now ≤ length room.old }
     requires room { tail_room (length values.now) ≤ length bytes.old }
     ensures tail { IsTail3 blocks (codes kind values.now) (take result bytes.new) }

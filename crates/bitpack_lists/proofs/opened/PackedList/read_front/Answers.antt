@@ -4,10 +4,10 @@ use Rattle.bitpacking.specs.Codes.{values_of}
 use Rattle.bitpack_lists.proofs.lemmas.opened.OpenedLists.{front_right, front_values}
 use Rattle.bitpack_lists.proofs.opened.PackedList.read_front.Goals as goal
 
-pub unpack_tail-requires-clause-sound : goal.unpack_tail-requires-clause-sound
-unpack_tail-requires-clause-sound g c =
+pub unpack_tail-requires : goal.unpack_tail-requires
+unpack_tail-requires g c =
     let whole : c.BLOCK_LEN.result ≡ 32 * g.P.BitPacker.lanes = c.BLOCK_LEN.ensures ∙ g.met.P.BitPacker.block_len in
-    rw whole (front_right c.args.self.now g.met.P.BitPacker.some_lanes c.requires.version (length c.args.values.now) c.requires.len)
+    rw whole (record { sound = front_right c.args.self.now g.met.P.BitPacker.some_lanes c.requires.version (length c.args.values.now) c.requires.len })
 
 pub returns : goal.returns
 returns g c =
