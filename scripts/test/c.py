@@ -64,9 +64,9 @@ PROGRAMS = {
     QUERIES: "2917 searches, 242 pairs, 104 refusals\n",
     # Of a fixed seed and these tables: other rows give other numbers.
     DAMAGED: "50000 damaged lists: "
-    "10673 opened, 12282 Short, 1915 BadVersion, 2185 BadKind, 1181 WrongLanes, "
-    "1419 TooLong, 2419 BadWidth, 925 LooseWidth, 2482 BadOffset, 2853 BadLast, "
-    "2478 NotSorted, 5676 Trailing, 2681 BadNumber, 831 Padding\n",
+    "10726 opened, 12209 Short, 1982 BadVersion, 2245 BadKind, 1286 WrongLanes, "
+    "1366 TooLong, 2391 BadWidth, 925 LooseWidth, 2404 BadOffset, 2965 BadLast, "
+    "2437 NotSorted, 5484 Trailing, 2702 BadNumber, 878 Padding\n",
     # The lists of the tables that are in order: each alone, n ^ 2 pairs, and as many triples of 17 of them, by three calls.
     SETS: "471 lists, 681675 combined\n",
 }
@@ -88,9 +88,9 @@ VECTORS[QUERIES] = ["seek", "seek3", "intersect", "union", "difference", "refuse
 # The same of a million damaged lists.
 MILLION = (
     "1000000 damaged lists: "
-    "215154 opened, 242569 Short, 39260 BadVersion, 43157 BadKind, 25068 WrongLanes, "
-    "27643 TooLong, 47016 BadWidth, 18662 LooseWidth, 48512 BadOffset, 59704 BadLast, "
-    "49888 NotSorted, 112028 Trailing, 54252 BadNumber, 17087 Padding\n"
+    "215861 opened, 243212 Short, 39093 BadVersion, 43089 BadKind, 25045 WrongLanes, "
+    "27213 TooLong, 46937 BadWidth, 18473 LooseWidth, 48210 BadOffset, 59707 BadLast, "
+    "49640 NotSorted, 112045 Trailing, 54207 BadNumber, 17268 Padding\n"
 )
 
 
