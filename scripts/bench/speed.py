@@ -21,7 +21,7 @@ sys.path.insert(1, f"{sys.path[0]}/..")
 from common import ROOT
 
 HERE = f"{ROOT}/scripts/bench/speed"
-CRATES = ["bitpacking_register", "bitpacking", "bitpack_lists"]
+CRATES = ["bitpacking_register", "bitpacking", "bitpack_lists", "bitpack_sorted"]
 
 
 def functions(text):
@@ -96,7 +96,7 @@ def copied(folder, name, text):
     with open(f"{ROOT}/crates.txt", encoding="utf-8") as file:
         lines = [line for line in file if line.split(":")[0].strip() in CRATES]
     with open(f"{folder}/crates.txt", "w", encoding="utf-8") as file:
-        file.writelines([*lines, f"{name} staticlib: bitpacking bitpack_lists\n"])
+        file.writelines([*lines, f"{name} staticlib: bitpacking bitpack_lists bitpack_sorted\n"])
     shutil.copyfile(f"{ROOT}/HANDLES", f"{folder}/HANDLES")
 
 
