@@ -4,6 +4,7 @@ mod DistinctLemmas
 pub mod ForCallers
 mod FrontLemmas
 mod InPlaceSteps
+mod LeastSteps
 mod ManyLemmas
 mod ManySteps
 mod Membership

@@ -5,7 +5,8 @@ use Rattle.bitpack_sorted.specs.Increasing.{first}
 use Rattle.bitpack_sorted.specs.ManyLaws.{increasing_united_all}
 use Rattle.bitpack_sorted.specs.Many.{united_all}
 use Rattle.bitpack_sorted.proofs.Membership.{after_least}
-use Rattle.bitpack_sorted.proofs.ManySteps.{HasTurned, row_leaves, row_same, unite_begin, unite_end, unite_least, unite_moved, unite_stays}
+use Rattle.bitpack_sorted.proofs.LeastSteps.{HasTurned, row_leaves, unite_begin, unite_end, unite_least, unite_moved, unite_stays}
+use Rattle.bitpack_sorted.proofs.ManySteps.{row_same}
 use Rattle.bitpack_sorted.proofs.or_all.least_above.Goals.{then-is_lesser, else-is_lesser}
 use Rattle.bitpack_sorted.proofs.or_all.least_above.Goals as goal
 

@@ -1,7 +1,7 @@
 -- Each turn moves one cursor, and its value may be the least.
 use Rattle.std.proofs.Common.{map, sym, ◌∙◌, arith}
 use Rattle.std.proofs.lemmas.List.{length-map}
-use Rattle.bitpack_sorted.proofs.ManySteps.{unite_begin, unite_end, unite_least, unite_moved}
+use Rattle.bitpack_sorted.proofs.LeastSteps.{unite_begin, unite_end, unite_least, unite_moved}
 use Rattle.bitpack_sorted.proofs.or_all.least_from.Goals.{then-is_lesser, else-is_lesser}
 use Rattle.bitpack_sorted.proofs.or_all.least_from.Goals as goal
 

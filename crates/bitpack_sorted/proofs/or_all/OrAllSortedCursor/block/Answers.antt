@@ -4,7 +4,7 @@ use Rattle.bitpack_sorted.specs.Increasing.{first}
 use Rattle.bitpack_sorted.specs.Many.{united_all}
 use Rattle.bitpack_sorted.specs.ManyLaws.{increasing_united_all}
 use Rattle.bitpack_sorted.proofs.FrontLemmas.{front_first}
-use Rattle.bitpack_sorted.proofs.ManySteps.{least_is}
+use Rattle.bitpack_sorted.proofs.LeastSteps.{least_is}
 use Rattle.bitpack_sorted.proofs.or_all.OrAllSortedCursor.block.Goals as goal
 
 pub returns-then-self-len : goal.returns-then-self-len
