@@ -11,9 +11,9 @@ use crate::list_kind::{ListKind, next_kind};
 use crate::version::Version;
 use bitpacking::{BitPacker, Kind};
 
-/// What opening a text found: what its header says, where the tail begins, and the value before the tail.
+/// What opening found in a text: its version, kind and lengths, the start of the tail, and the value before the tail.
 ///
-/// With the bytes it makes the list again without reading any of them. Zeros are the outline of no text.
+/// [`PackedList::from_outline`] makes the list again from it and the bytes, and reads none of them. Zeros are the outline of no text.
 #[repr(C)]
 #[derive(Clone, Copy)]
 pub struct ListOutline {
