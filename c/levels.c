@@ -2,6 +2,7 @@
    that the header declares. */
 #include <cpuid.h>
 
+#define BITPACKING_NO_INLINE
 #include "bitpacking.h"
 
 /* What the levels add, as bits of the registers of the instruction cpuid. */

@@ -2,7 +2,8 @@
  *
  * The functions are in a static library; docs/C.md of the repository says how to build it. libbitpacking.a chooses the level of the
  * processor, and libbitpacking_c.a has one level. An installed libbitpacking_c.a is one of these. Three functions are `static inline` here,
- * and in no archive: bitpacking_list_empty, bitpacking_cursor_block and bitpacking_error_text.
+ * and in no archive: bitpacking_list_empty, bitpacking_cursor_block and bitpacking_error_text. Four steps of cursors are in the archive,
+ * and `static inline` here too: see bitpacking_cursor_value_inline.
  *
  * What each call of the archive returns and writes is proved for all arguments that meet these rules:
  *
@@ -77,6 +78,9 @@ uint32_t bitpacking_version(void);
 #define BITPACKING_BAD_WIDTH (-2)  /* a width is above BITPACKING_MAX_WIDTH */
 #define BITPACKING_SHORT (-3)      /* too few bytes, to write or to read */
 #define BITPACKING_UNFIT (-4)      /* a code of the block does not fit the width */
+
+/* Why bitpacking_list_gather did not work. */
+#define BITPACKING_BAD_POSITION (-5) /* a position is not in the list */
 
 uint32_t bitpacking_no_initial(void);
 
@@ -299,6 +303,13 @@ ptrdiff_t bitpacking_list_unpack(const bitpacking_list *view, uint32_t *values, 
  * after them stay as they were. Each block that has one of them is unpacked once, and no other. */
 ptrdiff_t bitpacking_list_range(const bitpacking_list *view, size_t from, uint32_t *values, size_t values_len);
 
+/* Writes the value at each position to the same index of values, and returns their number, positions_len. The positions may be in any order,
+ * and one may come twice. Values after them stay as they were. A block is unpacked once for each run of positions that are in it, so that
+ * increasing positions unpack each block at most once.
+ * The first of: SHORT: values_len is below positions_len; BAD_POSITION: one of the positions is not in the list. */
+ptrdiff_t bitpacking_list_gather(const bitpacking_list *view, const size_t *positions, size_t positions_len,
+                                 uint32_t *values, size_t values_len);
+
 /* Searches a sorted or strictly sorted list for the first value that is at least target. Writes its position, the value, and
  * returns 1. If every value is below the target it returns 0, and for a plain list BITPACKING_LIST_BAD_KIND; then nothing is
  * written. Compare the answer with `== 1`: in an `if`, BITPACKING_LIST_BAD_KIND is true as well. The call unpacks at most one block. It
@@ -353,6 +364,52 @@ static inline size_t bitpacking_cursor_block(const bitpacking_cursor *cursor, co
 /* Moves past the values of bitpacking_cursor_block, to the next block. */
 void bitpacking_cursor_skip_block(bitpacking_cursor *cursor);
 
+/* The inline forms of bitpacking_cursor_value, _position, _advance and _seek. They do what the functions of the archive do, and call these
+ * to move to another block. A call of one of the four names is a call of its inline form, unless BITPACKING_NO_INLINE is defined before
+ * this header is included; (bitpacking_cursor_value)(..) always calls the archive. What the archive does is proved. These forms are tested,
+ * not proved: they trust that only the functions for cursors wrote the fields. */
+static inline int32_t bitpacking_cursor_value_inline(const bitpacking_cursor *cursor, uint32_t *item)
+{
+    if (cursor->index >= cursor->len)
+        return 0;
+    *item = cursor->values[cursor->index];
+    return 1;
+}
+
+static inline size_t bitpacking_cursor_position_inline(const bitpacking_cursor *cursor)
+{
+    return 32 * (size_t)cursor->list.lanes * cursor->block + cursor->index;
+}
+
+static inline int32_t bitpacking_cursor_advance_inline(bitpacking_cursor *cursor)
+{
+    if (cursor->index + 1 < cursor->len) {
+        cursor->index++;
+        return 1;
+    }
+    return (bitpacking_cursor_advance)(cursor);
+}
+
+static inline int32_t bitpacking_cursor_seek_inline(bitpacking_cursor *cursor, uint32_t target)
+{
+    size_t index = cursor->index, left = cursor->len - index, end = index + (left < 8 ? left : 8);
+
+    for (; cursor->ordered && index < end; index++) {
+        if (cursor->values[index] >= target) {
+            cursor->index = index;
+            return 1;
+        }
+    }
+    return (bitpacking_cursor_seek)(cursor, target);
+}
+
+#ifndef BITPACKING_NO_INLINE
+#define bitpacking_cursor_value(cursor, item) bitpacking_cursor_value_inline(cursor, item)
+#define bitpacking_cursor_position(cursor) bitpacking_cursor_position_inline(cursor)
+#define bitpacking_cursor_advance(cursor) bitpacking_cursor_advance_inline(cursor)
+#define bitpacking_cursor_seek(cursor, target) bitpacking_cursor_seek_inline(cursor, target)
+#endif
+
 /* list_pack: writes a packed list of the values at the start of bytes, and returns its number of bytes. Bytes after those stay as they
  * were. version is BITPACKING_LIST_VERSION_2 or _3, and kind is BITPACKING_PLAIN, _SORTED or _STRICTLY_SORTED.
  * The first of: LIST_BAD_VERSION; LIST_BAD_KIND; LIST_TOO_LONG; LIST_NOT_SORTED, and then *position is the position of the first value
@@ -383,6 +440,8 @@ static inline const char *bitpacking_error_text(ptrdiff_t number)
         return "The buffer is too short.";
     case BITPACKING_UNFIT:
         return "A value does not fit the width.";
+    case BITPACKING_BAD_POSITION:
+        return "A position is not in the list.";
     case BITPACKING_LIST_SHORT:
         return "Bytes of the list are missing.";
     case BITPACKING_LIST_BAD_VERSION:
@@ -425,7 +484,8 @@ static inline const char *bitpacking_error_text(ptrdiff_t number)
 /* The values that all lists have. Room that is always enough: the length of the shortest list. */
 ptrdiff_t bitpacking_list_intersect(const bitpacking_list *views, size_t views_len, uint32_t *out, size_t out_len);
 
-/* The values that any list has. Room that is always enough: the sum of the lengths. It is fastest if the longest list is last. */
+/* The values that any list has. Room that is always enough: the sum of the lengths. A few lists are merged in turn, which is fastest if the
+ * longest is last; the values of many are sorted; dense ones set bits in windows of numbers. */
 ptrdiff_t bitpacking_list_unite(const bitpacking_list *views, size_t views_len, uint32_t *out, size_t out_len);
 
 /* The values of the first list that no other has. Room that is always enough: the length of the first list. */

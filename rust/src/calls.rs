@@ -247,6 +247,14 @@ macro_rules! lists {
             fn unpack(view: *const ListView<'_>, values: *mut u32, values_len: usize) -> isize;
             #[link_name = concat!($prefix, "list_range")]
             fn range(view: *const ListView<'_>, from: usize, values: *mut u32, values_len: usize) -> isize;
+            #[link_name = concat!($prefix, "list_gather")]
+            fn gather(
+                view: *const ListView<'_>,
+                positions: *const usize,
+                positions_len: usize,
+                values: *mut u32,
+                values_len: usize,
+            ) -> isize;
             #[link_name = concat!($prefix, "list_intersect")]
             fn intersect(views: *const ListView<'_>, views_len: usize, out: *mut u32, out_len: usize) -> isize;
             #[link_name = concat!($prefix, "list_unite")]
@@ -272,6 +280,7 @@ macro_rules! lists {
             seek,
             unpack,
             range,
+            gather,
             intersect,
             unite,
             subtract,

@@ -106,6 +106,25 @@ impl<'a> PackedList<'a> {
         best().lists.get(&self.view, position)
     }
 
+    /// The value at each position, or `None` if one of them is not in the list. The positions may be in any order, and one may come twice.
+    ///
+    /// A block is unpacked once for each run of positions that are in it, so that increasing positions unpack each block at most once.
+    ///
+    /// ```
+    /// use bitpacking::list::{encode, Kind, PackedList};
+    ///
+    /// let bytes = encode(Kind::Plain, &[5, 3, 8, 2])?;
+    /// let list = PackedList::open(&bytes)?;
+    /// assert_eq!(list.get_many(&[3, 0, 3]), Some(vec![2, 5, 2]));
+    /// assert_eq!(list.get_many(&[0, 4]), None);
+    /// # Ok::<(), bitpacking::list::Error>(())
+    /// ```
+    pub fn get_many(&self, positions: &[usize]) -> Option<Vec<u32>> {
+        let mut values = vec![0; positions.len()];
+        best().lists.gather(&self.view, positions, &mut values).ok()?;
+        Some(values)
+    }
+
     /// The first value that is at least `target`, with its position; or `None` if every value is below it. Unpacks one block at
     /// most.
     ///

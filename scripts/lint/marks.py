@@ -29,12 +29,13 @@ MEASURING = r"\bnum_bits_kind\b|\bwidth_counted\b"
 # The functions whose reads a contract counts, or that read at most one tail, with their marks: who calls them needs no mark.
 COUNTED = {
     f"{LISTS}/blocks/reads.rt": {"entry": "record, read_one, read_one", "unpack": "record, body, decompress_kind"},
-    f"{LISTS}/opened.rt": {"entry": "entry, rest", "unpack": "unpack, packer, rest", "clone": "packer, bytes, rest, tail"},
+    f"{LISTS}/opened.rt": {"entry": "entry, rest", "unpack_as": "unpack, packer, rest", "clone": "packer, bytes, rest, tail"},
     f"{LISTS}/opened/tail.rt": {
         "read_tail": "read_words, tail, read_front",
         "value_in_tail": "read_one, tail, value_in_groups",
     },
-    f"{LISTS}/opened/search.rt": {"seek_in_tail": "read_tail, first_in_slice, seek_in_groups"},
+    f"{LISTS}/opened/search.rt": {"seek_in_tail": "read_tail, first_in_block, seek_in_groups"},
+    f"{C}/list_blocks.rt": {"read_in": "list, read_next", "find_in": "list, find_next"},
 }
 # What no code has, and what no code of lists has.
 NEVER = r"\bReads as\b|\btype\b[^;]*\bReads\b|\bmacro_rules\b"

@@ -31,6 +31,7 @@ STRUCTS = {
     "ListView": "crates/bitpacking_c/src/list_view.rt",
     "ListCursor": "crates/bitpacking_c/src/list_cursor.rt",
 }
+PLACE = "crates/bitpack_lists/src/opened/place.rt"
 HEADER = "include/bitpacking.h"
 CALLS = "rust/src/calls.rs"
 LIMITS = "crates/bitpacking/src/limits.rt"
@@ -65,12 +66,15 @@ def parameters(text):
     return [parameter for name, written in found for parameter in in_c(written.strip(), name)]
 
 
+def fields(name, path):
+    """The fields of a struct as they are written, with those of a place in place of it."""
+    found = re.search(rf"\bstruct {name}(?:<'a>)? \{{(.*?)(?:\bghost\b|\}})", code(path), re.S)[1].removesuffix("pub ")
+    return re.sub(r"\bplace: Place,", lambda _: fields("Place", PLACE), found)
+
+
 def exported():
     """Of each function of the crate what it returns and its parameters, in C; and the fields of a view."""
-    found = {}
-    for name, path in STRUCTS.items():
-        fields = re.search(rf"\bstruct {name}(?:<'a>)? \{{(.*?)(?:pub ghost|\}})", code(path), re.S)
-        found[C_TYPES[name]] = parameters(fields[1])
+    found = {C_TYPES[name]: parameters(fields(name, path)) for name, path in STRUCTS.items()}
     for path in paths("crates/bitpacking_c/src/*.rt"):
         functions = re.findall(r'extern "C" fn (\w+)(?:<[^>]*>)?\(([^)]*)\)(?: -> (\w+))?', text_of(path))
         found.update({name: (in_c(returned) if returned else ["void"]) + parameters(given) for name, given, returned in functions})

@@ -77,7 +77,7 @@ SHAPES = {
 # By file and name, the least and the most that a constant may be: how far a search goes step by step, how many values show whether it
 # pays to merge, and how many widths are kept to be measured once.
 BOUNDS = {
-    (f"{LISTS}/opened/cursor.rt", "NEAR"): (4, 64),
+    (f"{LISTS}/opened/in_slice.rt", "NEAR"): (4, 64),
     (f"{SORTED}/and.rt", "FEW"): (4, 64),
     (f"{LISTS}/blocks/measuring.rt", "KEPT_WIDTHS"): (256, 4096),
     (f"{LISTS}/blocks/measuring.rt", "MANY_WIDTHS"): (4096, 16384),

@@ -84,6 +84,19 @@ static void make(int kind, uint32_t *values, size_t count, int greatest)
         values[count - 1] = UINT32_MAX;
 }
 
+/* A cursor that the inline forms moved is where the archive moves another. */
+static void same_place(const bitpacking_cursor *cursor, const bitpacking_cursor *other)
+{
+    uint32_t value = 7, other_value = 7;
+    EXPECT(cursor->block, other->block);
+    EXPECT(cursor->index, other->index);
+    EXPECT(cursor->len, other->len);
+    EXPECT(bitpacking_cursor_position(cursor), (bitpacking_cursor_position)(other));
+    EXPECT(bitpacking_cursor_value(cursor, &value), (bitpacking_cursor_value)(other, &other_value));
+    EXPECT(value, other_value);
+    EXPECT(memcmp(cursor->values, other->values, sizeof cursor->values), 0);
+}
+
 static void at_place(const bitpacking_cursor *cursor, const uint32_t *values, size_t count, size_t at)
 {
     uint32_t value = 7;
@@ -100,10 +113,10 @@ static void at_place(const bitpacking_cursor *cursor, const uint32_t *values, si
 
 static void moves(const bitpacking_list *list, int kind, const uint32_t *values, size_t count)
 {
-    bitpacking_cursor cursor, copy;
+    bitpacking_cursor cursor, copy, other; /* the archive moves the other one */
     size_t at = 0, i, copied = 0;
     memset(&cursor, 0, sizeof cursor);
-    copy = cursor;
+    copy = other = cursor;
     at_place(&cursor, values, 0, 0); /* at the end of an empty list */
     EXPECT(bitpacking_cursor_advance(&cursor), 0);
     EXPECT(bitpacking_cursor_seek(&cursor, 0), BITPACKING_LIST_BAD_KIND);
@@ -114,17 +127,21 @@ static void moves(const bitpacking_list *list, int kind, const uint32_t *values,
         uint32_t target = next_number() % 4 == 0 || count == 0 ? next_number() * 256 : values[next_number() % count] + next_number() % 3 - 1;
         if (i == 0 || next_number() % 40 == 0) {
             bitpacking_cursor_start(&cursor, list);
+            bitpacking_cursor_start(&other, list);
             at = 0;
         }
         at_place(&cursor, values, count, at);
+        same_place(&cursor, &other);
         switch (next_number() % 5) {
         case 0:
             at += bitpacking_cursor_block(&cursor, &block);
             bitpacking_cursor_skip_block(&cursor);
+            bitpacking_cursor_skip_block(&other);
             break;
         case 1:
             if (kind == 0) {
                 EXPECT(bitpacking_cursor_seek(&cursor, target), BITPACKING_LIST_BAD_KIND);
+                EXPECT((bitpacking_cursor_seek)(&other, target), BITPACKING_LIST_BAD_KIND);
                 break;
             }
             if (next_number() % 8 == 0)
@@ -132,6 +149,7 @@ static void moves(const bitpacking_list *list, int kind, const uint32_t *values,
             while (at < count && values[at] < target)
                 at++;
             EXPECT(bitpacking_cursor_seek(&cursor, target), at < count);
+            EXPECT((bitpacking_cursor_seek)(&other, target), at < count);
             break;
         case 2:
             copy = cursor;
@@ -148,7 +166,9 @@ static void moves(const bitpacking_list *list, int kind, const uint32_t *values,
         default:
             at += at < count;
             EXPECT(bitpacking_cursor_advance(&cursor), at < count);
+            EXPECT((bitpacking_cursor_advance)(&other), at < count);
         }
+        same_place(&cursor, &other);
         at_place(&cursor, values, count, at);
     }
 }
@@ -168,6 +188,34 @@ static void ranges(const bitpacking_list *list, const uint32_t *values, size_t c
     }
     EXPECT(bitpacking_list_range(list, (size_t)-1, out, 1), 0);
     EXPECT(bitpacking_list_range(list, 0, NULL, 0), 0);
+}
+
+/* Values at many positions: in any order, one twice, none, and one that is not in the list. */
+static void gathers(const bitpacking_list *list, const uint32_t *values, size_t count)
+{
+    static uint32_t out[MOST + 3];
+    static size_t positions[MOST];
+    size_t turn, many, i;
+    for (turn = 0; turn < 30 && count > 0; turn++) {
+        many = turn == 0 ? 0 : next_number() % (count + 1);
+        for (i = 0; i < many; i++)
+            positions[i] = turn % 3 == 0 ? count - 1 - i : turn % 3 == 1 ? i : next_number() % count;
+        memset(out, 5, sizeof out);
+        EXPECT(bitpacking_list_gather(list, positions, many, out, many + turn % 2), many);
+        for (i = 0; i < MOST + 3; i++)
+            EXPECT(out[i], i < many ? values[positions[i]] : 0x05050505);
+        memset(out, 5, sizeof out);
+        if (many > 0) {
+            EXPECT(bitpacking_list_gather(list, positions, many, out, many - 1), BITPACKING_SHORT);
+            positions[next_number() % many] = turn % 2 == 0 ? count : (size_t)-1 - next_number();
+            EXPECT(bitpacking_list_gather(list, positions, many, out, many), BITPACKING_BAD_POSITION);
+        }
+        for (i = 0; i < MOST + 3; i++)
+            EXPECT(out[i], 0x05050505);
+    }
+    positions[0] = count;
+    EXPECT(bitpacking_list_gather(list, positions, 1, out, 1), BITPACKING_BAD_POSITION);
+    EXPECT(bitpacking_list_gather(list, NULL, 0, NULL, 0), 0);
 }
 
 int main(void)
@@ -192,17 +240,21 @@ int main(void)
                     EXPECT(bitpacking_list_open(text, size, &list), 0);
                     moves(&list, kind, values, counts[count]);
                     ranges(&list, values, counts[count]);
+                    gathers(&list, values, counts[count]);
                 }
     memset(&list, 0, sizeof list);
     moves(&list, 0, values, 0);
     ranges(&list, values, 0);
+    gathers(&list, values, 0);
     for (i = 0; i < 33; i++)
         values[i] = (uint32_t)i;
     EXPECT(bitpacking_list_open(one, sizeof one, &list), 0);
     moves(&list, 2, values, 33);
     ranges(&list, values, 33);
+    gathers(&list, values, 33);
     EXPECT(bitpacking_list_open(four, sizeof four, &list), 0);
     moves(&list, 2, few, 4);
     ranges(&list, few, 4);
+    gathers(&list, few, 4);
     return EXIT_SUCCESS;
 }

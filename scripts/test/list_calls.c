@@ -152,6 +152,7 @@ static void texts(void)
         {BITPACKING_BAD_WIDTH, "A width is above 32."},
         {BITPACKING_SHORT, "The buffer is too short."},
         {BITPACKING_UNFIT, "A value does not fit the width."},
+        {BITPACKING_BAD_POSITION, "A position is not in the list."},
         {BITPACKING_LIST_SHORT, "Bytes of the list are missing."},
         {BITPACKING_LIST_BAD_VERSION, "The version of the list is not supported."},
         {BITPACKING_LIST_BAD_KIND, "The kind of the list is wrong."},

@@ -1,10 +1,10 @@
 /* Reads the tables vectors/lists2.tsv and lists3.tsv, one after the other: rows "kind, lanes, values, bytes". Combines each list in order
-   alone, with each other, and with each two of a few, and compares what the calls on many lists write with the tables' values. Prints
-   what is wrong, and last how many lists it read and how often it combined some. */
+   alone, with each other, and with each two of a few, and compares what the calls on many lists write with the tables' values. It also
+   unites up to 64 at a time, chosen at random. Prints what is wrong, and last how many lists it read and how often it combined some. */
 #include "bitpacking.h"
 #include "tables.h"
 
-enum { MOST = 1000, FEW = 16, LONGEST = 1 << 15, BYTES = 1 << 22, VALUES = 1 << 20, GUARD = 0x5A5A5A5A };
+enum { MOST = 1000, FEW = 16, MANY = 64, TRIALS = 4000, LONGEST = 1 << 15, BYTES = 1 << 22, VALUES = 1 << 20, GUARD = 0x5A5A5A5A };
 
 static uint8_t bytes[BYTES];
 static uint32_t values[VALUES], expected[LONGEST], out[LONGEST + 1];
@@ -44,7 +44,7 @@ static int has(size_t list, uint32_t value)
 static void compare(const char *what, ptrdiff_t (*call)(const bitpacking_list *, size_t, uint32_t *, size_t), const size_t *which,
                     size_t len, size_t found, size_t room)
 {
-    bitpacking_list views[4];
+    bitpacking_list views[MANY + 1];
     size_t i;
 
     for (i = 0; i < len; i++)
@@ -82,7 +82,7 @@ static size_t expect_values(const size_t *which, size_t len, int wanted)
 /* Expects the values that any of the lists has. Returns how many these are. */
 static size_t expect_all(const size_t *which, size_t len)
 {
-    size_t at[3] = {0, 0, 0}, found = 0, i;
+    size_t at[MANY] = {0}, found = 0, i;
 
     for (;; found++) {
         const uint32_t *least = NULL;
@@ -112,6 +112,29 @@ static void combine(size_t a, size_t b, size_t c, size_t len)
     compare("what all have", bitpacking_list_intersect, which, len, expect_values(which, len, 1), shortest);
     compare("what the first has and no other", bitpacking_list_subtract, which, len, expect_values(which, len, 0), lists[a].len);
     compare("what any has", bitpacking_list_unite, which, len, expect_all(which, len), total);
+}
+
+static uint32_t below(size_t limit)
+{
+    static uint64_t state = 1;
+
+    state = state * 6364136223846793005u + 1442695040888963407u;
+    return (uint32_t)((state >> 32) * limit >> 32);
+}
+
+/* Unites up to a number of lists at random, as many as there is room for. Often one is the empty list, and some stand twice. */
+static void unite_many(size_t most)
+{
+    size_t which[MANY] = {0}, total = 0, len = 0, i, list;
+
+    for (i = 0; i < most; i++) {
+        list = below(count);
+        if (total + lists[list].len <= LONGEST) {
+            total += lists[list].len;
+            which[len++] = list;
+        }
+    }
+    compare("what any of many has", bitpacking_list_unite, which, len, expect_all(which, len), total);
 }
 
 static void read_list(char *column[COLUMNS])
@@ -147,6 +170,8 @@ int main(void)
         for (b = 0; b < count; b += count / FEW)
             for (c = 0; c < count; c += count / FEW)
                 combine(a, b, c, 3);
+    for (a = 0; a < TRIALS; a++)
+        unite_many(a % MANY + 1);
     expect(bitpacking_list_intersect(NULL, 0, NULL, 0) == 0 && bitpacking_list_unite(NULL, 0, NULL, 0) == 0
                && bitpacking_list_subtract(NULL, 0, NULL, 0) == 0,
            "no list", 0, 0, 0);

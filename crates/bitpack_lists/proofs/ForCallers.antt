@@ -3,7 +3,9 @@
 use Rattle.std.proofs.Common.{◌≡◌, ◌+◌, ◌*◌, ◌<◌, ◌≤◌, ℕ, List, length, take, get_or, sum, arith}
 use Rattle.std.proofs.lemmas.List.Sums.{sum_by_more, sum_by_more_le}
 use Rattle.std.proofs.lemmas.Nat.{mul-le}
-pub use Rattle.bitpack_lists.proofs.lemmas.opened.CursorPlaces.{position_within}
+pub use Rattle.bitpack_lists.proofs.lemmas.opened.BlockPlaces.{position_within}
+pub use Rattle.bitpack_lists.proofs.lemmas.opened.CursorPlaces.{inside_of, left_values, value_at}
+pub use Rattle.bitpack_lists.proofs.lemmas.opened.ReadParts.{in_order_from_kind}
 pub use Rattle.bitpack_lists.proofs.lemmas.laws.Distinct.{common_is_short, one_common}
 pub use Rattle.bitpack_lists.proofs.lemmas.blocks.HeaderLemmas.{header_bytes}
 pub use Rattle.bitpack_lists.proofs.lemmas.blocks.ListLemmas.{text_of}

@@ -1,5 +1,6 @@
 -- The blocks of a list by their numbers. What is left after all blocks is a shorter one, whose number is the count of blocks.
-use Rattle.std.specs.Prelude.{◌≡◌, ℕ, ◌+◌, ◌-◌, ◌*◌, ◌/◌, ◌<◌, ◌≤◌, min, List, length, slice_index}
+use Rattle.std.specs.Prelude.{◌≡◌, ℕ, ◌+◌, ◌-◌, ◌*◌, ◌/◌, ◌^◌, ◌<◌, ◌≤◌, min, List, length, slice_index, take}
+use Rattle.bitpack_lists.specs.Places.{InOrder}
 use Rattle.bitpack_lists.specs.Parts.{whole_blocks}
 
 module _ (lanes : ℕ) (values : List ℕ) where
@@ -29,3 +30,25 @@ module _ (lanes : ℕ) (values : List ℕ) where
 -- how many blocks hold the `count` values from a position on
 abbrev pub blocks_over : ℕ → ℕ → ℕ → ℕ
 blocks_over lanes from count = (from + count - 1) / (32 * lanes) + 1 - from / (32 * lanes)
+
+-- ---- what a caller knows of a block that was read, of each list that this may be
+module _ (lanes : ℕ) (Has : List ℕ → Type 0) where
+  -- the list has the block of a number, or ends before it
+  abbrev pub HasBlock : ℕ → Type 0
+  HasBlock block = (all : List ℕ) → Has all → block ≤ whole_blocks lanes (length all)
+
+  -- this is the last value before a block
+  abbrev pub IsBefore : ℕ → ℕ → Type 0
+  IsBefore block last = (all : List ℕ) → Has all → 0 < block → slice_index all (32 * lanes * block - 1) ≡ last
+
+  -- these are the values of a block, and in order if the list is
+  pub record HasRead (Ordered : Type 0) (block len : ℕ) (out : List ℕ) : Type 0 where
+    pub is : (all : List ℕ) → Has all → IsBlockOf lanes all block len out
+    pub ordered : Ordered → InOrder (take len out)
+    pub few : 32 * lanes * block + len ≤ 2 ^ 28
+    pub short : len ≤ 256
+
+  -- at most one more block was unpacked, and none for what is left after all blocks
+  pub record ReadsOne (block before after : ℕ) : Type 0 where
+    pub one : (before ≤ after) × (after ≤ before + 1)
+    pub rest : ((all : List ℕ) → Has all → whole_blocks lanes (length all) ≤ block) → after ≡ before

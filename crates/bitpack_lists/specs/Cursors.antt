@@ -1,21 +1,22 @@
 -- What a cursor shows: its position, the values of its list, and the blocks that it unpacked; and what a move leaves.
-use Rattle.std.specs.Prelude.{◌≡◌, ℕ, ◌+◌, ◌-◌, ◌*◌, ◌≤◌, List, drop}
+use Rattle.std.specs.Prelude.{◌≡◌, ℕ, ◌+◌, ◌-◌, ◌≤◌, List, drop}
 use Rattle.bitpacking.specs.declared.bit_packer.BitPacker.{Ghosts}
 use Rattle.bitpack_lists.specs.declared.opened.cursor.Cursor.{Cursor}
+use Rattle.bitpack_lists.specs.Moves.{position_of}
 use Rattle.bitpack_lists.specs.Opened.{values}
 
 module _ {P : Type 0} {members : Ghosts P} (cursor : Cursor P members) where
   -- how many values are before it
   abbrev pub position : ℕ
-  position = 32 * members.lanes * cursor.block + cursor.index
+  position = position_of members.lanes cursor.place
 
   -- the number of the block at hand, or the count of blocks in the tail
   abbrev pub block_number : ℕ
-  block_number = cursor.block
+  block_number = cursor.place.block
 
   -- how many values at hand are left
   abbrev pub left_at_hand : ℕ
-  left_at_hand = cursor.len - cursor.index
+  left_at_hand = cursor.place.len - cursor.place.index
 
   -- the values of its list
   abbrev pub values_of_cursor : List ℕ

@@ -7,6 +7,7 @@ pub mod inner
 pub mod Intersections
 pub mod Laws
 pub mod Laws3
+pub mod Moves
 pub mod Numbers
 pub mod OfKind
 pub mod Older
@@ -15,6 +16,7 @@ pub mod Outlines
 pub mod Owned
 pub mod Parts
 pub mod Places
+pub mod Positions
 pub mod Room
 pub mod Search
 pub mod Texts

@@ -15,7 +15,8 @@ pub use crate::list_buf::ListBuf;
 use crate::list_error::ListError;
 use crate::list_kind::ListKind;
 pub use crate::opened::{
-    Cursor, ListOutline, PackedList, count_below, first_ahead, first_from, intersect,
+    Cursor, ListOutline, PackedList, Place, ReadBlocks, count_below, first_ahead, first_from,
+    intersect,
 };
 pub use crate::v2::upgrading::upgrade;
 use crate::version::Version;

@@ -3,9 +3,15 @@
 mod blocks;
 mod copying;
 mod cursor;
+mod gathering;
+mod getting;
+mod halving;
+mod in_slice;
 mod intersection;
 mod of_kind;
 mod outline;
+mod place;
+mod read_blocks;
 mod search;
 mod tail;
 mod versions;
@@ -24,9 +30,12 @@ use crate::list_kind::{ListKind, next_kind};
 use crate::v2::opening::test_version2;
 use crate::version::Version;
 use bitpacking::{BitPacker, Kind, MAX_BLOCK_LEN};
-pub use cursor::{Cursor, count_below, first_ahead, first_from};
+pub use cursor::Cursor;
+pub use in_slice::{count_below, first_ahead, first_from};
 pub use intersection::intersect;
 pub use outline::ListOutline;
+pub use place::Place;
+pub use read_blocks::ReadBlocks;
 use std::alloc::AllocError;
 
 /// A packed list whose text was tested when it was opened, so that reading it tests nothing again and cannot fail.
@@ -175,27 +184,10 @@ impl<'a, P: BitPacker> PackedList<'a, P> {
 
 impl<'a, P: BitPacker> PackedList<'a, P> {
     ghost use Rattle.std.specs.Prelude.{◌+◌, ◌*◌, ◌<◌, ◌≤◌, length, take, slice_index};
+    ghost use Rattle.bitpacking.specs.Codes.{start, values_of};
     ghost use Rattle.bitpack_lists.specs.inner.Searching.{IsListBlock, ReadsEntries, block_of_list, blocks_of, rest_of};
+    ghost use Rattle.bitpack_lists.specs.inner.BlockCodes.{codes_of_list};
     ghost use Rattle.bitpack_lists.specs.Version2.{kind_at, last_at, offset_at, width_at};
-
-    /// The value at an index of a whole block.
-    fn value_in_block(&self, number: usize, index: usize) -> u32
-        requires block { number < blocks_of self.now }
-        requires index { index < P.BLOCK_LEN }
-        ensures { result ≡ slice_index (block_of_list self.now number) index }
-    {
-        let mut reads = Reads::new();
-        let entry = self.entry(number, &mut reads);
-        let kind = self.kind_of_block(number, &mut reads);
-        let block = ListBlock {
-            number,
-            entry,
-            kind,
-        };
-        let mut values = [0; MAX_BLOCK_LEN];
-        self.unpack(block, &mut values, &mut reads);
-        values[index]
-    }
 
     /// The kind of a block, which goes on from the last value of the block before.
     fn kind_of_block(&self, block: usize, reads: &mut Reads) -> Kind
@@ -231,9 +223,18 @@ impl<'a, P: BitPacker> PackedList<'a, P> {
         ensures entries { reads.new.entries ≡ reads.old.entries }
         ensures blocks { reads.new.blocks ≡ reads.old.blocks + 1 }
     {
+        self.unpack_as(block, block.kind, values, reads);
+    }
+
+    // Unpacks a block as one of a kind, which need not be its own.
+    fn unpack_as(&self, block: ListBlock, kind: Kind, values: &mut [u32], reads: &mut Reads)
+        requires can { IsListBlock self.now block × (start kind < 2 ^ 32) × (P.BLOCK_LEN ≤ length values.old) }
+        ensures block { take P.BLOCK_LEN values.new ≡ values_of kind (codes_of_list self.now block.number) }
+        ensures reads { (reads.new.entries ≡ reads.old.entries) × (reads.new.blocks ≡ reads.old.blocks + 1) }
+    {
         reads.unpack(
             &self.packer,
-            block.kind,
+            kind,
             block.entry,
             self.count / P::BLOCK_LEN,
             self.rest,

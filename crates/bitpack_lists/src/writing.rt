@@ -14,7 +14,7 @@ ghost use Rattle.bitpack_lists.specs.inner.Sizes.{AreReady, IsBlocksSize, IsPlan
 use crate::blocks::measuring::{FEW_WIDTHS, KEPT_WIDTHS, MANY_WIDTHS, blocks_len, width_of};
 use crate::blocks::order;
 use crate::blocks::reads::{ENTRY_LEN, Entry};
-use crate::header::{HEADER_LEN, Header};
+use crate::header::{HEADER_LEN, Header, LONGEST_LIST};
 use crate::list_error::ListError;
 use crate::list_kind::{ListKind, next_kind};
 use crate::numbers::write_words;
@@ -173,12 +173,18 @@ pub fn list_len<P: BitPacker>(
     ensures fault { MatchOption (values_fault kind values.now) (IsOk result) (λ fault. result ≡ Err fault) }
 {
     let header = &mut [0; HEADER_LEN];
+    if values.len() < LONGEST_GROUP {
+        let tail = &mut [0; SHORT_TAIL];
+        let short = plan_text(version, packer, kind, values, &mut [0; 0], header, tail)?;
+        return Ok(short.size);
+    }
     let tail = &mut [0; LONGEST_TAIL];
-    let plan = plan_text(version, packer, kind, values, &mut [0; 0], header, tail)?;
+    let widths = &mut [0; FEW_WIDTHS];
+    let plan = plan_text(version, packer, kind, values, widths, header, tail)?;
     Ok(plan.size)
 }
 
-/// Tests the values and measures their text. Its header and its tail are written here; the least widths of the first blocks are
+/// Measures the text of the values and tests their order. Its header and its tail are written here; the least widths of the first blocks are
 /// kept.
 fn plan_text<P: BitPacker>(
     version: Version,
@@ -199,10 +205,13 @@ fn plan_text<P: BitPacker>(
     ensures tail { IfOk result (λ plan. plan.tail ≤ length tail.new) }
     ensures ready { OnOk result (AreReady P.lanes kind values.now widths.new) }
 {
-    order::test_values(kind, values)?;
     let len = P::BLOCK_LEN;
     let count = values.len();
+    if count > LONGEST_LIST {
+        return Err(ListError::TooLong(count));
+    }
     let blocks = blocks_len(packer, kind, values, ENTRY_LEN, widths);
+    order::test_values(packer, kind, values, widths)?;
     let (front, left) = values.split_at(count - count % len);
     let header_len = write_header(version, kind, len / 32, count, header);
     let tail_len = write_tail(version, kind_of_tail(kind, front), count / len, left, tail);

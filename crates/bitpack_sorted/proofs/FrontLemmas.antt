@@ -14,12 +14,15 @@ use Rattle.bitpack_sorted.proofs.Membership.{first_has, first_least, has-at_leas
 
 -- ---- the current block of a list in order
 
-has-at : (xs : List ℕ) (k : ℕ) → k < length xs → has xs (get_or xs k 0) ≡ true
+pub has-at : (xs : List ℕ) (k : ℕ) → k < length xs → has xs (get_or xs k 0) ≡ true
 has-at [] k lt = absurd (omega arith)
 has-at (x ∷ xs) zero lt = rw (eq-eqb x x refl) refl
 has-at (x ∷ xs) (suc k) lt = or_right (eqb x (get_or xs k 0)) (has xs (get_or xs k 0)) (has-at xs k (omega arith))
 
-place-of : (xs : List ℕ) (v : ℕ) → has xs v ≡ true → (k : ℕ) × (k < length xs) × (get_or xs k 0 ≡ v)
+pub has_at_is : (xs : List ℕ) (k v : ℕ) → k < length xs → get_or xs k 0 ≡ v → has xs v ≡ true
+has_at_is xs k v lt e = rw (← e) (has-at xs k lt)
+
+pub place-of : (xs : List ℕ) (v : ℕ) → has xs v ≡ true → (k : ℕ) × (k < length xs) × (get_or xs k 0 ≡ v)
 place-of [] v e = absurd (false≢true e)
 place-of (x ∷ xs) v e = step (place-of xs v) (eqb x v) refl e
   where

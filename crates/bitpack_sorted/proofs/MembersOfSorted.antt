@@ -50,7 +50,7 @@ rises (x ∷ xs) (suc k) increasing lt = rises xs k increasing.1 (omega arith)
 pub strictly_from_increasing : (xs : List ℕ) → IsIncreasing xs → IsStrictlyIncreasing xs
 strictly_from_increasing xs increasing k lt = rw add-one (rises xs k increasing (omega arith))
 
-same_tests : (a b : Bool) → (a ≡ true → b ≡ true) → (b ≡ true → a ≡ true) → a ≡ b
+pub same_tests : (a b : Bool) → (a ≡ true → b ≡ true) → (b ≡ true → a ≡ true) → a ≡ b
 same_tests true b to back = sym (to refl)
 same_tests false true to back = back refl
 same_tests false false to back = refl

@@ -23,6 +23,9 @@ IsStrictlyIncreasing-drop n xs increasing k lt =
 pub increasing_from : (n : ℕ) (xs : List ℕ) → IsStrictlyIncreasing xs → IsStrictlyIncreasing (take (length xs - n) (drop n xs))
 increasing_from n xs increasing = rw (from_index n xs) (IsStrictlyIncreasing-drop n xs increasing)
 
+pub increasing_from_on : (n : ℕ) (xs : List ℕ) → IsStrictlyIncreasing (drop n xs) → IsStrictlyIncreasing (take (length xs - n) (drop n xs))
+increasing_from_on n xs increasing = rw (from_index n xs) increasing
+
 pub increasing_order : (xs : List ℕ) → IsStrictlyIncreasing xs → InOrder xs
 increasing_order xs increasing i j le within = elim (cases_lt i j) [
   | inl lt ↦

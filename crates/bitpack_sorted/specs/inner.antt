@@ -2,5 +2,6 @@
 pub mod Combined
 pub mod InPlace
 pub mod Leaping
+pub mod Marks
 pub mod Passing
 pub mod Uniting

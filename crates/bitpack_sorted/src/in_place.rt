@@ -1,15 +1,17 @@
 //! The increasing values of a slice, combined with a cursor in their place.
 
-ghost use Rattle.std.specs.Prelude.{◌≡◌, ◌+◌, ◌≤◌, IfSome, List, None, [], drop, length, take};
+ghost use Rattle.std.specs.Prelude.{◌≡◌, ◌+◌, ◌≤◌, IfSome, None, drop, length, take};
 ghost use Rattle.std.specs.List.Sorted.{IsStrictlyIncreasing};
-ghost use Rattle.bitpack_sorted.specs.Increasing.{at_least, has, shared, united, without};
+ghost use Rattle.bitpack_sorted.specs.Fronts.{IsFront};
+ghost use Rattle.bitpack_sorted.specs.Increasing.{shared, united, without};
 ghost use Rattle.bitpack_sorted.specs.InFront.{AreInFront};
-ghost use Rattle.bitpack_sorted.specs.inner.InPlace.{IsNextShared, IsRoomBefore};
+ghost use Rattle.bitpack_sorted.specs.inner.InPlace.{AreLacked, IsNextFrom, IsRoomBefore};
 
-use super::and::next_shared;
-use super::increasing_slice::IncreasingSlice;
+use super::marks::{Filtered, keep_in_block};
 use super::sorted_cursor::SortedCursor;
 use super::uniting::{Place, move_rest, unite_block};
+use bitpack_lists::list2::first_from;
+use bitpacking::MAX_BLOCK_LEN;
 
 /// Keeps the values of a slice that a cursor has too: moves them to the front, in their order. Returns how many these are.
 ///
@@ -26,19 +28,20 @@ pub fn intersect_in_place<C: SortedCursor>(values: &mut [u32], cursor: &mut C) -
     requires { IsStrictlyIncreasing values.old }
     ensures { AreInFront result (shared values.old (C.rest cursor.old)) values.new }
 {
-    let mut kept = 0;
-    let mut from = 0;
-    while let Some(index) = next_shared_from(values, from, cursor) {
-        values[kept] = values[index];
-        kept += 1;
-        from = index + 1;
+    let mut done = Filtered { kept: 0, from: 0 };
+    while let Some(next) = next_from(values, done.from, cursor) {
+        let here = Filtered {
+            kept: done.kept,
+            from: next,
+        };
+        done = keep_in_block(values, here, first_part(cursor), false);
     }
-    kept
+    done.kept
 }
 
 /// Keeps the values of a slice that a cursor lacks: moves them to the front, in their order. Returns how many these are.
 ///
-/// The values increase. What is after those that are kept is of no use. The cursor seeks each value. Allocates nothing.
+/// The values increase. What is after those that are kept is of no use. The cursor seeks values that it may have. Allocates nothing.
 ///
 /// <!-- crates/bitpack_uses/src/tests/doc_examples.rt -->
 /// ```rust
@@ -50,15 +53,19 @@ pub fn subtract_in_place<C: SortedCursor>(values: &mut [u32], cursor: &mut C) ->
     requires { IsStrictlyIncreasing values.old }
     ensures { AreInFront result (without values.old (C.rest cursor.old)) values.new }
 {
-    let mut kept = 0;
-    for index in 0..values.len() {
-        let value = values[index];
-        if !finds_next(cursor, value) {
-            values[kept] = value;
-            kept += 1;
-        }
+    let mut done = Filtered { kept: 0, from: 0 };
+    while done.from < values.len() {
+        let Some(_here) = cursor.seek(values[done.from]) else {
+            let rest = Place {
+                written: done.kept,
+                from: done.from,
+                low: 0,
+            };
+            return move_rest(values, rest);
+        };
+        done = keep_in_block(values, done, first_part(cursor), true);
     }
-    kept
+    done.kept
 }
 
 /// Adds the values of a cursor to the first `count` values of a slice, which increase. Then the values of both are at the front, in
@@ -99,28 +106,29 @@ fn unite_to_front<C: SortedCursor>(values: &mut [u32], start: usize, cursor: &mu
     move_rest(values, place)
 }
 
-/// The first index from one on whose value a cursor has too. Moves the cursor there.
+/// Moves a cursor to the value at an index, or to the next that it has. Returns the index of the last value that is at most that, or `None`
+/// if the cursor has none of the values from the index on.
 #[inline(always)]
-fn next_shared_from<C: SortedCursor>(values: &[u32], from: usize, cursor: &mut C) -> Option<usize>
+fn next_from<C: SortedCursor>(values: &[u32], from: usize, cursor: &mut C) -> Option<usize>
     requires within { from ≤ length values.now }
     requires increasing { IsStrictlyIncreasing (drop from values.now) }
-    ensures none { result ≡ None → shared (drop from values.now) (C.rest cursor.old) ≡ [] }
-    ensures some { IfSome result (IsNextShared values.now from (C.rest cursor.old) (C.rest cursor.new)) }
+    ensures none { result ≡ None → AreLacked (C.rest cursor.old) values.now from (length values.now) }
+    ensures some { IfSome result (IsNextFrom values.now from (C.rest cursor.old) (C.rest cursor.new)) }
 {
-    let mut ahead = IncreasingSlice::new(&values[from..]);
-    match next_shared(&mut ahead, cursor) {
-        None => None,
-        Some(_value) => Some(values.len() - ahead.len()),
+    if from >= values.len() {
+        return None;
     }
+    let here = cursor.seek(values[from])?;
+    let to = first_from(&values[from..], 0, here);
+    Some(from + to.saturating_sub(1))
 }
 
-/// Whether an item is among the values from the place of a cursor on. Moves there.
-fn finds_next<C: SortedCursor>(cursor: &mut C, item: u32) -> bool
-    ensures found { result ≡ has (C.rest cursor.old) item }
-    ensures rest { C.rest cursor.new ≡ at_least item (C.rest cursor.old) }
+/// The first values of the current block of a cursor, as many as a block of a list may have.
+#[inline(always)]
+fn first_part<C: SortedCursor>(cursor: &C) -> &[u32]
+    ensures front { IsFront result.now (C.rest cursor.now) }
+    ensures few { length result.now ≤ MAX_BLOCK_LEN }
 {
-    match cursor.seek(item) {
-        Some(here) => here == item,
-        None => false,
-    }
+    let block = cursor.block();
+    &block[..block.len().min(MAX_BLOCK_LEN)]
 }

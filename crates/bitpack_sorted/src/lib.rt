@@ -9,7 +9,7 @@
 //! ```
 //!
 //! [`Values`] is an iterator over the values that such a cursor has left. [`collect_into`] appends them to a vector, and [`count`]
-//! counts them.
+//! counts them. [`sort_distinct`] sorts a slice and drops repeats.
 #![tactic(auto)]
 
 mod and;
@@ -20,9 +20,11 @@ mod distinct_values;
 mod first_alone;
 mod in_place;
 mod increasing_slice;
+mod marks;
 mod or;
 mod or_all;
 mod sorted_cursor;
+mod sorting;
 mod uniting;
 mod values;
 
@@ -36,4 +38,5 @@ pub use increasing_slice::IncreasingSlice;
 pub use or::Or;
 pub use or_all::OrAll;
 pub use sorted_cursor::SortedCursor;
+pub use sorting::sort_distinct;
 pub use values::Values;

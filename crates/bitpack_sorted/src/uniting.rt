@@ -102,7 +102,7 @@ fn copy<C: SortedCursor>(values: &mut [u32], place: Place, cursor: &C) -> (Place
 
 /// 1 if a value is at least another, and 0 if not.
 #[inline(always)]
-fn one_if_from(low: u64, value: u32) -> usize
+pub(super) fn one_if_from(low: u64, value: u32) -> usize
     ensures from { low ≤ value → result ≡ 1 }
     ensures below { value < low → result ≡ 0 }
 {

@@ -9,6 +9,7 @@ mod id_set;
 mod members;
 mod owned_lists;
 mod packed_lists;
+mod positions;
 mod postings;
 mod query;
 mod shared_values;

@@ -1,5 +1,5 @@
 -- Steps of the calls on many lists.
-use Rattle.std.proofs.Common.{◌≡◌, ◌≢◌, inl, inr, ℕ, zero, suc, ◌+◌, ◌<◌, ◌≤◌, ◌&&◌, Bool, not, ◌||◌, true, false, add-one, List, [], ◌∷◌, ◌++◌, None, append-nil, get_or, length, take, ℤ, pos, All, refl, sym, subst, ◌∙◌, ap, arith}
+use Rattle.std.proofs.Common.{if◌then◌else◌, ◌≡◌, ◌≢◌, inl, inr, ℕ, zero, suc, ◌+◌, ◌<◌, ◌≤◌, ◌&&◌, Bool, not, ◌||◌, true, false, add-one, List, [], ◌∷◌, ◌++◌, None, append-nil, get_or, length, take, ℤ, pos, All, refl, sym, subst, ◌∙◌, ap, arith}
 use Rattle.std.specs.List.{HoldsAt, filter}
 use Rattle.std.specs.List.Sorted.{IsStrictlyIncreasing}
 use Rattle.std.proofs.lemmas.List.{length-take-le, take_all}
@@ -30,18 +30,14 @@ length-distinct (x ∷ xs) =
     let rest = length-distinct xs in
     cond_both (has xs x) (distinct xs) (x ∷ distinct xs) (λ (ys : List ℕ). length ys ≤ length (x ∷ xs)) (λ _. omega (arith, rest)) (λ _. omega (arith, rest))
 
-kept_members : (kept old rest all : List ℕ) → kept ≡ shared old rest → rest ≡ distinct all → (v : ℕ) → has kept v ≡ (has old v && has all v)
-kept_members kept old rest all is left v =
-    ap (λ xs. has xs v) is ∙ has-shared old rest v ∙ ap (λ xs. has old v && has xs v) left ∙ ap (λ b. has old v && b) (has-distinct all v)
-
--- a list that keeps what it has too
-pub leaves_shared : (view : ListView) (old rest after : List ℕ) (count : ℕ) → AreInFront count (shared old rest) after
-    → ((kind : ListKind) (all : List ℕ) → IsListOf view.lanes view.bytes.now kind all → rest ≡ distinct all)
-    → Leaves view (λ all v. has old v && has all v) after count
-leaves_shared view old rest after count front is = record {
+-- what is kept by a list that has it too
+pub keeps_shared : (lacking : Bool) → lacking ≡ false → (view : ListView) (old rest after : List ℕ) (count : ℕ) → AreInFront count (shared old rest) after
+    → ((kind : ListKind) (all : List ℕ) → IsListOf view.lanes view.bytes.now kind all → (v : ℕ) → has rest v ≡ has all v)
+    → Leaves view (λ all v. has old v && (if lacking then not (has all v) else has all v)) after count
+keeps_shared lacking lacks view old rest after count front is = record {
   few = front.few;
   increasing = front.increasing;
-  members = λ kind all of v. kept_members (take count after) old rest all front.are (is kind all of) v;
+  members = λ kind all of v. rw lacks (ap (λ xs. has xs v) front.are ∙ has-shared old rest v ∙ ap (λ b. has old v && b) (is kind all of v));
 }
 
 -- what was written is all, if there was room
@@ -262,18 +258,14 @@ intersects_none (view ∷ views) lists out are e = absurd (omega (arith, e))
 
 -- ---- what the first list has and no other
 
-left_members : (kept old rest all : List ℕ) → kept ≡ without old rest → rest ≡ distinct all → (v : ℕ) → has kept v ≡ (has old v && not (has all v))
-left_members kept old rest all is left v =
-    ap (λ xs. has xs v) is ∙ has-without old rest v ∙ ap (λ xs. has old v && not (has xs v)) left ∙ ap (λ b. has old v && not b) (has-distinct all v)
-
--- a list that keeps what it lacks
-pub leaves_others : (view : ListView) (old rest after : List ℕ) (count : ℕ) → AreInFront count (without old rest) after
-    → ((kind : ListKind) (all : List ℕ) → IsListOf view.lanes view.bytes.now kind all → rest ≡ distinct all)
-    → Leaves view (λ all v. has old v && not (has all v)) after count
-leaves_others view old rest after count front is = record {
+-- what is kept by a list that lacks it
+pub keeps_others : (lacking : Bool) → lacking ≡ true → (view : ListView) (old rest after : List ℕ) (count : ℕ) → AreInFront count (without old rest) after
+    → ((kind : ListKind) (all : List ℕ) → IsListOf view.lanes view.bytes.now kind all → (v : ℕ) → has rest v ≡ has all v)
+    → Leaves view (λ all v. has old v && (if lacking then not (has all v) else has all v)) after count
+keeps_others lacking lacks view old rest after count front is = record {
   few = front.few;
   increasing = front.increasing;
-  members = λ kind all of v. left_members (take count after) old rest all front.are (is kind all of) v;
+  members = λ kind all of v. rw lacks (ap (λ xs. has xs v) front.are ∙ has-without old rest v ∙ ap (λ b. has old v && not b) (is kind all of v));
 }
 
 and_not : (a b c : Bool) → ((a && not b) && not c) ≡ (a && not (b || c))
@@ -281,7 +273,7 @@ and_not true true c = refl
 and_not true false c = refl
 and_not false b c = refl
 
-or_assoc : (a b c : Bool) → ((a || b) || c) ≡ (a || (b || c))
+pub or_assoc : (a b c : Bool) → ((a || b) || c) ≡ (a || (b || c))
 or_assoc true b c = refl
 or_assoc false b c = refl
 

@@ -1,8 +1,9 @@
 -- Steps of the call that unites many lists.
-use Rattle.std.proofs.Common.{◌≡◌, ℕ, zero, suc, ◌+◌, ◌-◌, ◌<◌, ◌≤◌, ◌==◌, ◌||◌, Bool, add-one, nat_lt, if◌then◌else◌, List, [], ◌∷◌, drop, get_or, length, take, refl, sym, ◌∙◌, ap, arith}
+use Rattle.std.proofs.Common.{◌≡◌, ℕ, zero, suc, ◌+◌, ◌-◌, ◌<◌, ◌≤◌, ◌==◌, ◌||◌, Bool, add-one, nat_lt, if◌then◌else◌, List, [], ◌∷◌, ◌++◌, drop, get_or, length, take, refl, sym, ◌∙◌, ap, arith}
 use Rattle.std.specs.List.Sorted.{IsStrictlyIncreasing}
 use Rattle.std.proofs.lemmas.Bool.{cond_both}
-use Rattle.std.proofs.lemmas.List.{drop_more, length-take-le}
+use Rattle.std.proofs.Math.Seq.{take-append-add}
+use Rattle.std.proofs.lemmas.List.{drop_more, length-append, length-take-le, take-append-le}
 use Rattle.bitpack_lists.specs.declared.list_kind.ListKind.{ListKind}
 use Rattle.bitpack_sorted.specs.Distinct.{distinct}
 use Rattle.bitpack_sorted.specs.Increasing.{has, insert, united}
@@ -14,7 +15,7 @@ use Rattle.bitpack_sorted.proofs.ForCallers.{has-distinct, has-united, has-unite
 use Rattle.bitpacking_c.specs.declared.list_view.ListView.{ListView}
 use Rattle.bitpacking_c.specs.Sets.{Adds, AreListsOf, CanAdd, FitsIn, HasLength, HasRoom, Lists, all_distinct, all_values, total_len, values_at}
 use Rattle.bitpacking_c.specs.Views.{IsListOf}
-use Rattle.bitpacking_c.proofs.SetSteps.{any_has-more, has-any_distinct, length-distinct}
+use Rattle.bitpacking_c.proofs.SetSteps.{any_has-more, has-any_distinct, length-distinct, or_assoc}
 
 -- ---- one list more
 
@@ -26,7 +27,7 @@ length-insert x (y ∷ ys) =
     (λ _. omega arith)
     (λ _. cond_both (x == y) (y ∷ ys) (y ∷ insert x ys) (λ (zs : List ℕ). length zs ≤ 1 + length (y ∷ ys)) (λ _. omega arith) (λ _. omega (arith, rest)))
 
-length-united : (xs ys : List ℕ) → length (united xs ys) ≤ length xs + length ys
+pub length-united : (xs ys : List ℕ) → length (united xs ys) ≤ length xs + length ys
 unfolding united
 length-united [] ys = omega arith
 length-united (x ∷ xs) ys = omega (arith, length-insert x (united xs ys), length-united xs ys)
@@ -88,7 +89,23 @@ total_more [] i lt = absurd (omega (arith, lt))
 total_more (list ∷ lists) zero lt = refl
 total_more (list ∷ lists) (suc i) lt = rw add-one (rw add-one at (total_more lists i (omega arith)))
 
+-- ---- values after others
+
+-- what was written after the first values of a slice
+pub written_after : (xs ys zs all : List ℕ) (count more : ℕ) → count ≡ length xs → more ≤ length ys → take more ys ≡ all
+    → take (count + more) (xs ++ (ys ++ zs)) ≡ xs ++ all
+written_after xs ys zs all count more is within are =
+    ap (λ n. take (n + more) (xs ++ (ys ++ zs))) is ∙ take-append-add xs (ys ++ zs) more
+    ∙ ap (λ front. xs ++ front) (take-append-le more ys zs within ∙ are)
+
+pub within_after : (xs ys zs : List ℕ) (count more : ℕ) → count ≡ length xs → more ≤ length ys → count + more ≤ length (xs ++ (ys ++ zs))
+within_after xs ys zs count more is within = omega (arith, is, within, length-append xs (ys ++ zs), length-append ys zs)
+
 -- ---- what any list has
+
+pub has-append : (xs ys : List ℕ) (v : ℕ) → has (xs ++ ys) v ≡ (has xs v || has ys v)
+has-append [] ys v = refl
+has-append (x ∷ xs) ys v = ap (λ b. (x == v) || b) (has-append xs ys v) ∙ sym (or_assoc (x == v) (has xs v) (has ys v))
 
 pub united_more : (now before : Bool) (lists : Lists) (i v : ℕ) → i < length (all_values lists) → now ≡ (before || has (values_at lists i) v)
     → before ≡ any_has (take i (all_values lists)) v → now ≡ any_has (take (i + 1) (all_values lists)) v

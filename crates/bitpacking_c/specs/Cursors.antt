@@ -1,30 +1,32 @@
 -- What the calls on cursors and on a part of a list answer.
-use Rattle.std.specs.Prelude.{◌≡◌, ℕ, ◌+◌, ◌-◌, ◌*◌, ◌<◌, ◌≤◌, ℤ, pos, negsuc, min, List, ◌++◌, length, drop, take}
+use Rattle.std.specs.Prelude.{◌≡◌, ℕ, ◌+◌, ◌-◌, ◌<◌, ◌≤◌, ℤ, pos, negsuc, min, List, ◌++◌, length, drop, take}
 use Rattle.bitpack_lists.specs.declared.list_kind.ListKind.{ListKind}
 use Rattle.bitpack_lists.specs.declared.list_kind.ListKind.TheVariants.{Plain}
 use Rattle.bitpack_lists.specs.Blocks.{blocks_over}
+use Rattle.bitpack_lists.specs.declared.blocks.reads.Reads.{Reads}
+use Rattle.bitpack_lists.specs.Moves.{MovesOn, position_of}
 use Rattle.bitpack_lists.specs.Places.{IsSoughtFrom}
-use Rattle.bitpacking_c.specs.Blocks.{AtMostOne}
+use Rattle.bitpacking_c.specs.Blocks.{AreOrdered, HasValues}
 use Rattle.bitpacking_c.specs.declared.list_cursor.ListCursor.{ListCursor}
 use Rattle.bitpacking_c.specs.Views.{IsListOf}
 
 -- how many values are before a cursor
 abbrev pub position : ListCursor → ℕ
-position cursor = 32 * cursor.list.lanes * cursor.block + cursor.index
+position cursor = position_of cursor.list.lanes cursor.place
 
 -- how many values at hand are left
 abbrev pub left_at_hand : ListCursor → ℕ
-left_at_hand cursor = cursor.len - cursor.index
+left_at_hand cursor = cursor.place.len - cursor.place.index
 
 -- a list that the cursor is in
 abbrev pub IsListOfCursor : ListCursor → ListKind → List ℕ → Type 0
 IsListOfCursor cursor = IsListOf cursor.list.lanes cursor.list.bytes.now
 
 -- a cursor moved in its list, and at most one more block was unpacked: the one that it moved to, and none if it stayed in its block
-pub record MovesAhead (old new : ListCursor) (before after : ℕ) : Type 0 where
+pub record MovesAhead (old new : ListCursor) (before after : Reads) : Type 0 where
   pub list : new.list ≡ old.list
-  pub later : after + old.block ≤ before + new.block
-  pub one : AtMostOne before after
+  pub moved : MovesOn old.list.lanes (HasValues old.list.lanes old.list.bytes.now) (AreOrdered old.list.lanes old.list.bytes.now)
+      old.place new.place before after
 
 -- the answer says whether a value is at a position
 abbrev pub SaysSome : List ℕ → ℕ → ℤ → Type 0

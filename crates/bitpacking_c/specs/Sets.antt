@@ -1,11 +1,12 @@
 -- What the calls on many packed lists answer: the values that all have, that any has, or that the first has and no other.
-use Rattle.std.specs.Prelude.{◌≡◌, ◌≢◌, ℕ, zero, suc, not, ◌<◌, ◌≤◌, ℤ, pos, negsuc, min, Bool, true, false, ◌||◌, List, [], ◌∷◌, length, map, take, ◌+◌, ◌-◌, ⊤}
+use Rattle.std.specs.Prelude.{◌≡◌, ◌≢◌, ℕ, zero, suc, not, ◌<◌, ◌≤◌, ℤ, pos, negsuc, min, Bool, true, false, ◌||◌, List, [], ◌∷◌, ◌++◌, length, map, take, ◌+◌, ◌-◌, ⊤}
 use Rattle.std.specs.List.{AllZip, filter, slice_index_or}
 use Rattle.std.specs.List.Sorted.{IsStrictlyIncreasing}
 use Rattle.bitpack_lists.specs.declared.list_kind.ListKind.{ListKind}
 use Rattle.bitpack_lists.specs.declared.list_kind.ListKind.TheVariants.{Plain, Sorted, StrictlySorted}
 use Rattle.bitpack_sorted.specs.Distinct.{distinct}
 use Rattle.bitpack_sorted.specs.Increasing.{has}
+use Rattle.bitpack_sorted.specs.InFront.{AreInFront}
 use Rattle.bitpack_sorted.specs.Many.{any_has, shared_by_all, united_all}
 use Rattle.bitpacking_c.specs.declared.list_view.ListView.{ListView}
 use Rattle.bitpacking_c.specs.Views.{IsListOf}
@@ -101,6 +102,17 @@ pub record CanAdd (view : ListView) (count : ℕ) (values : List ℕ) : Type 0 w
 pub record Adds (view : ListView) (before after : List ℕ) (count : ℕ) : Type 0 where
   pub leaves : Leaves view (λ all v. has before v || has all v) after count
   pub few : (room : ℕ) → FitsIn room view → count ≤ length before + room
+
+-- the values in front are the ones that were there before, and then the view's list; no more are added than the list has
+pub record Appends (view : ListView) (before after : List ℕ) (count : ℕ) : Type 0 where
+  pub within : count ≤ length after
+  pub are : (kind : ListKind) (all : List ℕ) → IsListOf view.lanes view.bytes.now kind all → take count after ≡ before ++ all
+  pub few : (room : ℕ) → FitsIn room view → count ≤ length before + room
+
+-- the values that any list of views has are in front
+pub record HasUnion (views : List ListView) (after : List ℕ) (count : ℕ) : Type 0 where
+  pub few : count ≤ length after
+  pub united : (lists : Lists) → AreListsOf views lists → AreInFront count (united_all (all_distinct lists)) after
 
 -- ---- answers
 

@@ -11,11 +11,14 @@ mod block;
 mod call_error;
 mod chain;
 mod cursor_calls;
+mod gather_calls;
 mod list_blocks;
 mod list_cursor;
 mod list_packing;
 mod list_sets;
+mod list_sorting;
 mod list_view;
+mod list_windows;
 mod no_initial;
 mod version;
 

@@ -1,29 +1,51 @@
-//! The blocks of the list of a view by their numbers, of whichever packer it is.
+//! The list of a view is read block by block, of whichever packer it is.
 
-ghost use Rattle.std.specs.Prelude.{◌≡◌, length};
-ghost use Rattle.bitpacking_c.specs.Blocks.{AtMostOne, CanFind, HasBlock, HasFound, HasRead};
+ghost use Rattle.std.specs.Prelude.{◌≡◌, ◌+◌, ◌*◌, ◌^◌, ◌<◌, ◌≤◌, ℕ, List, length};
+ghost use Rattle.bitpack_lists.specs.Blocks.{HasBlock, HasRead, IsBefore, IsFirstReaching, ReadsOne};
+ghost use Rattle.bitpacking_c.specs.Blocks.{AreOrdered, HasValues};
+ghost use Rattle.bitpacking_c.specs.ViewLaws.{none_of_zero};
 
 use crate::list_view::ListView;
-use bitpack_lists::list2::Reads;
+use bitpack_lists::list2::{ReadBlocks, Reads};
 use bitpacking::{BitPacker, BitPacker1x, BitPacker4x, BitPacker8x, MAX_BLOCK_LEN};
 
-/// Unpacks the block of a number, or what is left after all blocks, and returns how many values it has.
-pub(crate) fn read_block(
-    view: &ListView<'_>,
-    block: usize,
-    out: &mut [u32],
-    reads: &mut Reads,
-) -> usize
-    requires block { HasBlock view.now.lanes view.now.bytes.now block }
-    requires room { length out.old ≡ MAX_BLOCK_LEN }
-    ensures read { HasRead view.now.lanes view.now.bytes.now block result out.new }
-    ensures one { AtMostOne reads.old.blocks reads.new.blocks }
-{
-    match view.lanes {
-        0 => 0,
-        1 => read_in(BitPacker1x::new(), view, block, out, reads),
-        4 => read_in(BitPacker4x::new(), view, block, out, reads),
-        _ => read_in(BitPacker8x::new(), view, block, out, reads),
+impl<'a> ReadBlocks for ListView<'a> {
+    ghost lanes = { λ view. view.lanes };
+
+    ghost has = { λ view all. HasValues view.lanes view.bytes.now all };
+
+    ghost ordered = { λ view. AreOrdered view.lanes view.bytes.now };
+
+    ghost none = { λ view all has none. none_of_zero view.lanes view.bytes.now all has none };
+
+    #[inline(always)]
+    fn block_len(&self) -> usize {
+        32 * self.lanes as usize
+    }
+
+    fn read_next(&self, block: usize, before: u32, out: &mut [u32], reads: &mut Reads) -> usize {
+        match self.lanes {
+            0 => 0,
+            1 => read_in(BitPacker1x::new(), self, block, before, out, reads),
+            4 => read_in(BitPacker4x::new(), self, block, before, out, reads),
+            _ => read_in(BitPacker8x::new(), self, block, before, out, reads),
+        }
+    }
+
+    fn find_next(
+        &self,
+        from: usize,
+        before: u32,
+        target: u32,
+        out: &mut [u32],
+        reads: &mut Reads,
+    ) -> (usize, usize) {
+        match self.lanes {
+            0 => (0, 0),
+            1 => find_in(BitPacker1x::new(), self, from, before, target, out, reads),
+            4 => find_in(BitPacker4x::new(), self, from, before, target, out, reads),
+            _ => find_in(BitPacker8x::new(), self, from, before, target, out, reads),
+        }
     }
 }
 
@@ -33,37 +55,20 @@ fn read_in<P: BitPacker>(
     packer: P,
     view: &ListView<'_>,
     block: usize,
+    before: u32,
     out: &mut [u32],
     reads: &mut Reads,
 ) -> usize
     requires lanes { view.now.lanes ≡ P.lanes }
-    requires block { HasBlock view.now.lanes view.now.bytes.now block }
+    requires block { HasBlock view.now.lanes (HasValues view.now.lanes view.now.bytes.now) block }
+    requires before { IsBefore view.now.lanes (HasValues view.now.lanes view.now.bytes.now) block before }
     requires room { length out.old ≡ MAX_BLOCK_LEN }
-    ensures read { HasRead view.now.lanes view.now.bytes.now block result out.new }
-    ensures one { AtMostOne reads.old.blocks reads.new.blocks }
+    ensures read { HasRead view.now.lanes (HasValues view.now.lanes view.now.bytes.now)
+        (AreOrdered view.now.lanes view.now.bytes.now) block result out.new }
+    ensures one { ReadsOne view.now.lanes (HasValues view.now.lanes view.now.bytes.now) block
+        reads.old.blocks reads.new.blocks }
 {
-    view.list(packer).read_block(block, out, reads)
-}
-
-/// Finds the first block from one on whose last value is at least the target, and unpacks it, or what is left after all blocks. Returns
-/// its number, and how many values it has.
-pub(crate) fn find_block(
-    view: &ListView<'_>,
-    from: usize,
-    target: u32,
-    out: &mut [u32],
-    reads: &mut Reads,
-) -> (usize, usize)
-    requires { CanFind view.now.lanes view.now.bytes.now target from out.old }
-    ensures found { HasFound view.now.lanes view.now.bytes.now target from result.0 result.1 out.new }
-    ensures one { AtMostOne reads.old.blocks reads.new.blocks }
-{
-    match view.lanes {
-        0 => (0, 0),
-        1 => find_in(BitPacker1x::new(), view, from, target, out, reads),
-        4 => find_in(BitPacker4x::new(), view, from, target, out, reads),
-        _ => find_in(BitPacker8x::new(), view, from, target, out, reads),
-    }
+    view.list(packer).read_next(block, before, out, reads)
 }
 
 /// Finds and reads a block of the list of a view, for its packer.
@@ -72,17 +77,26 @@ fn find_in<P: BitPacker>(
     packer: P,
     view: &ListView<'_>,
     from: usize,
+    before: u32,
     target: u32,
     out: &mut [u32],
     reads: &mut Reads,
 ) -> (usize, usize)
     requires lanes { view.now.lanes ≡ P.lanes }
-    requires can { CanFind view.now.lanes view.now.bytes.now target from out.old }
-    ensures found { HasFound view.now.lanes view.now.bytes.now target from result.0 result.1 out.new }
-    ensures one { AtMostOne reads.old.blocks reads.new.blocks }
+    requires ordered { AreOrdered view.now.lanes view.now.bytes.now }
+    requires block { HasBlock view.now.lanes (HasValues view.now.lanes view.now.bytes.now) from }
+    requires before { IsBefore view.now.lanes (HasValues view.now.lanes view.now.bytes.now) from before }
+    requires below { (all : List ℕ) → HasValues view.now.lanes view.now.bytes.now all → before < target }
+    requires room { length out.old ≡ MAX_BLOCK_LEN }
+    ensures forward { from ≤ result.0 }
+    ensures found { (all : List ℕ) → HasValues view.now.lanes view.now.bytes.now all
+        → IsFirstReaching view.now.lanes all target from result.0 }
+    ensures read { HasRead view.now.lanes (HasValues view.now.lanes view.now.bytes.now)
+        (AreOrdered view.now.lanes view.now.bytes.now) result.0 result.1 out.new }
+    ensures one { ReadsOne view.now.lanes (HasValues view.now.lanes view.now.bytes.now) result.0
+        reads.old.blocks reads.new.blocks }
+    ensures entries { (k : ℕ) → result.0 + 2 ≤ from + 2 ^ k → reads.new.entries ≤ reads.old.entries + 2 * k }
 {
-    let list = view.list(packer);
-    let number = list.find_block(from, target, reads);
-    let len = list.read_block(number, out, reads);
-    (number, len)
+    view.list(packer)
+        .find_next(from, before, target, out, reads)
 }

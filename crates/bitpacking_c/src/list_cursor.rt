@@ -1,16 +1,14 @@
-//! A place in an opened list, in the caller's memory: it has the view, and the values of the block at hand.
+//! A cursor of C: a place in an opened list, in the caller's memory, with the view.
 
-ghost use Rattle.std.specs.Prelude.{◌≡◌, ◌≢◌, ◌+◌, ◌*◌, ◌^◌, ◌≤◌, ℕ, List, take};
+ghost use Rattle.std.specs.Prelude.{◌≡◌, ◌≢◌, ℕ, List};
 ghost use Rattle.bitpack_lists.specs.declared.list_kind.ListKind.{ListKind};
-ghost use Rattle.bitpack_lists.specs.Blocks.{IsPlaceOf};
-ghost use Rattle.bitpack_lists.specs.Places.{InOrder};
+ghost use Rattle.bitpack_lists.specs.Moves.{IsAt};
+ghost use Rattle.bitpacking_c.specs.Blocks.{AreOrdered, HasValues};
 ghost use Rattle.bitpacking_c.specs.Views.{IsListOf};
 
-use crate::list_blocks::{find_block, read_block};
 use crate::list_view::{ListView, kind};
 use bitpack_lists::ListKind;
-use bitpack_lists::list2::{Reads, count_below, first_from};
-use bitpacking::MAX_BLOCK_LEN;
+use bitpack_lists::list2::{Place, Reads};
 
 /// A place in an opened list that only moves forward. It borrows the bytes of the list, as its view does.
 ///
@@ -21,27 +19,17 @@ use bitpacking::MAX_BLOCK_LEN;
 #[derive(Drop)]
 pub struct ListCursor<'a> {
     list: ListView<'a>,
-    // The number of the block at hand, or of all blocks; the place among its values, and how many these are.
-    block: usize,
-    index: usize,
-    len: usize,
-    values: [u32; MAX_BLOCK_LEN],
+    place: Place,
     // Not 0 if the list is sorted or strictly sorted.
     ordered: u8,
-    pub ghost place: { (kind : ListKind) (all : List ℕ) → IsListOf list.lanes list.bytes.now kind all
-        → IsPlaceOf list.lanes all block index len values },
-    pub ghost kind: { (kind : ListKind) (all : List ℕ) → IsListOf list.lanes list.bytes.now kind all
+    ghost at: { IsAt list.lanes (HasValues list.lanes list.bytes.now) (AreOrdered list.lanes list.bytes.now) place },
+    ghost kind: { (kind : ListKind) (all : List ℕ) → IsListOf list.lanes list.bytes.now kind all
         → (ordered ≡ 0 → kind ≡ ListKind.Plain) × (ordered ≢ 0 → kind ≢ ListKind.Plain) },
-    pub ghost sorted: { ordered ≢ 0 → InOrder (take len values) },
-    pub ghost inside: { index ≤ len },
-    pub ghost short: { len ≤ 256 },
-    pub ghost few: { 32 * list.lanes * block + len ≤ 2 ^ 28 },
 }
 
 impl<'a> ListCursor<'a> {
-    ghost use Rattle.std.specs.Prelude.{◌-◌, ◌<◌, true, false, length, drop, slice_get, slice_index};
-    ghost use Rattle.bitpack_lists.specs.Places.{IsSoughtFrom};
-    ghost use Rattle.bitpacking_c.specs.Blocks.{AtMostOne};
+    ghost use Rattle.std.specs.Prelude.{◌+◌, ◌<◌, ◌≤◌, true, false, length, take, drop, slice_get};
+    ghost use Rattle.bitpack_lists.specs.Blocks.{ReadsOne};
     ghost use Rattle.bitpacking_c.specs.Cursors.{Advances, IsListOfCursor, MovesAhead, SeeksOn, left_at_hand, position};
 
     /// At the end of an empty list: the cursor that is all zero.
@@ -51,10 +39,7 @@ impl<'a> ListCursor<'a> {
     {
         ListCursor {
             list: ListView::empty(),
-            block: 0,
-            index: 0,
-            len: 0,
-            values: [0; MAX_BLOCK_LEN],
+            place: Place::empty(),
             ordered: 0,
         }
     }
@@ -63,17 +48,12 @@ impl<'a> ListCursor<'a> {
     pub(crate) fn start(&mut self, view: &ListView<'a>, reads: &mut Reads)
         ensures list { (self.new.list.bytes.now ≡ view.now.bytes.now) × (self.new.list.lanes ≡ view.now.lanes) }
         ensures first { position self.new ≡ 0 }
-        ensures blocks { AtMostOne reads.old.blocks reads.new.blocks }
+        ensures one { ReadsOne view.now.lanes (HasValues view.now.lanes view.now.bytes.now) 0
+            reads.old.blocks reads.new.blocks }
     {
-        let len = read_block(view, 0, &mut self.values, reads);
+        self.place.start(view, reads);
         self.list = view.again();
-        self.block = 0;
-        self.index = 0;
-        self.len = len;
-        self.ordered = match kind(view) {
-            ListKind::Plain => 0,
-            _ => 1,
-        };
+        self.ordered = ordered(view);
     }
 
     /// The value here, or `None` after the last.
@@ -82,10 +62,20 @@ impl<'a> ListCursor<'a> {
         ensures { (kind : ListKind) (all : List ℕ) → IsListOfCursor self.now kind all
             → result ≡ slice_get all (position self.now) }
     {
-        if self.index < self.len {
-            Some(self.values[self.index])
-        } else {
-            None
+        self.place.value()
+    }
+
+    /// Whether there is a value here.
+    #[inline(always)]
+    fn has_value(&self) -> bool
+        ensures yes { result ≡ true → (kind : ListKind) (all : List ℕ) → IsListOfCursor self.now kind all
+            → position self.now < length all }
+        ensures no { result ≡ false → (kind : ListKind) (all : List ℕ) → IsListOfCursor self.now kind all
+            → length all ≤ position self.now }
+    {
+        match self.place.value() {
+            Some(_) => true,
+            None => false,
         }
     }
 
@@ -93,10 +83,10 @@ impl<'a> ListCursor<'a> {
     pub(crate) fn position(&self) -> usize
         ensures { result ≡ position self.now }
     {
-        32 * self.list.lanes as usize * self.block + self.index
+        self.place.position(&self.list)
     }
 
-    /// The values from here to the end of the block at hand. There are none only after the last value.
+    /// The values from here to the end of the current block. There are none only after the last value.
     pub fn block(&self) -> &[u32]
         ensures values { (kind : ListKind) (all : List ℕ) → IsListOfCursor self.now kind all
             → result.now ≡ take (length result.now) (drop (position self.now) all) }
@@ -104,7 +94,7 @@ impl<'a> ListCursor<'a> {
             → position self.now < length all → 0 < length result.now }
         ensures len { length result.now ≡ left_at_hand self.now }
     {
-        &self.values[self.index..self.len]
+        self.place.block()
     }
 
     /// Moves to the next value. After the last value it stays.
@@ -112,53 +102,19 @@ impl<'a> ListCursor<'a> {
     pub(crate) fn advance(&mut self, reads: &mut Reads) -> i32
         ensures moved { (kind : ListKind) (all : List ℕ) → IsListOfCursor self.old kind all
             → Advances all (position self.old) (position self.new) result }
-        ensures step { MovesAhead self.old self.new reads.old.blocks reads.new.blocks }
+        ensures step { MovesAhead self.old self.new reads.old reads.new }
     {
-        if self.index + 1 < self.len {
-            self.index += 1;
-            return 1;
-        }
-        self.next_block(reads);
-        if self.index < self.len { 1 } else { 0 }
+        self.place.advance(&self.list, reads);
+        if self.has_value() { 1 } else { 0 }
     }
 
     /// Moves past the values of `block`.
     pub(crate) fn skip_block(&mut self, reads: &mut Reads)
         ensures moved { (kind : ListKind) (all : List ℕ) → IsListOfCursor self.old kind all
             → position self.new ≡ position self.old + left_at_hand self.old }
-        ensures step { MovesAhead self.old self.new reads.old.blocks reads.new.blocks }
+        ensures step { MovesAhead self.old self.new reads.old reads.new }
     {
-        if self.index < self.len {
-            self.index = self.len - 1;
-            self.next_block(reads);
-        }
-    }
-
-    // Moves from the last value at hand to the next block, or to the end.
-    fn next_block(&mut self, reads: &mut Reads)
-        requires { self.old.len ≤ self.old.index + 1 }
-        ensures next { (kind : ListKind) (all : List ℕ) → IsListOfCursor self.old kind all
-            → position self.old < length all → position self.new ≡ position self.old + 1 }
-        ensures end { (kind : ListKind) (all : List ℕ) → IsListOfCursor self.old kind all
-            → length all ≤ position self.old → position self.new ≡ position self.old }
-        ensures step { MovesAhead self.old self.new reads.old.blocks reads.new.blocks }
-    {
-        if self.is_whole() {
-            let next = self.block + 1;
-            self.len = read_block(&self.list, next, &mut self.values, reads);
-            self.block = next;
-            self.index = 0;
-        } else {
-            self.index = self.len;
-        }
-    }
-
-    // Whether the block at hand is a whole one: what is left after all blocks is shorter.
-    fn is_whole(&self) -> bool
-        ensures yes { result ≡ true → (self.now.len ≡ 32 * self.now.list.lanes) × (0 < self.now.len) }
-        ensures no { result ≡ false → self.now.len ≡ 32 * self.now.list.lanes → self.now.len ≡ 0 }
-    {
-        self.len > 0 && self.len == 32 * self.list.lanes as usize
+        self.place.skip_block(&self.list, reads);
     }
 
     /// Moves to the first value from here on that is at least the target, or to the end. In a plain list it stays.
@@ -166,40 +122,23 @@ impl<'a> ListCursor<'a> {
     pub(crate) fn seek(&mut self, target: u32, reads: &mut Reads) -> i32
         ensures moved { (kind : ListKind) (all : List ℕ) → IsListOfCursor self.old kind all
             → SeeksOn kind all target (position self.old) (position self.new) result }
-        ensures step { MovesAhead self.old self.new reads.old.blocks reads.new.blocks }
+        ensures step { MovesAhead self.old self.new reads.old reads.new }
     {
         if self.ordered == 0 {
             return -23;
         }
-        if self.index < self.len && self.values[self.len - 1] >= target {
-            self.index = first_from(&self.values[..self.len], self.index, target);
-            return 1;
-        }
-        self.seek_in_later_blocks(target, reads);
-        if self.index < self.len { 1 } else { 0 }
+        self.place.seek(&self.list, target, 0, reads);
+        if self.has_value() { 1 } else { 0 }
     }
+}
 
-    // Seeks if no value at hand is at least the target.
-    fn seek_in_later_blocks(&mut self, target: u32, reads: &mut Reads)
-        requires ordered { self.old.ordered ≢ 0 }
-        requires below { self.old.index < self.old.len → slice_index self.old.values (self.old.len - 1) < target }
-        ensures sought { (kind : ListKind) (all : List ℕ) → IsListOfCursor self.old kind all
-            → IsSoughtFrom all target (position self.old) (position self.new) }
-        ensures step { MovesAhead self.old self.new reads.old.blocks reads.new.blocks }
-    {
-        if self.is_whole() {
-            let (block, len) = find_block(
-                &self.list,
-                self.block + 1,
-                target,
-                &mut self.values,
-                reads,
-            );
-            self.block = block;
-            self.len = len;
-            self.index = count_below(&self.values[..len], target);
-        } else {
-            self.index = self.len;
-        }
+/// 0 if the list of a view is plain, and else 1.
+fn ordered(view: &ListView<'_>) -> u8
+    ensures { (kind : ListKind) (all : List ℕ) → IsListOf view.now.lanes view.now.bytes.now kind all
+        → (result ≡ 0 → kind ≡ ListKind.Plain) × (result ≢ 0 → kind ≢ ListKind.Plain) }
+{
+    match kind(view) {
+        ListKind::Plain => 0,
+        _ => 1,
     }
 }

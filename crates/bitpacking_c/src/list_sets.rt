@@ -3,24 +3,26 @@
 //! The caller's room is the work space. The values of one list are written to it, and each further list takes some away, or adds some,
 //! in their place.
 
-ghost use Rattle.std.specs.Prelude.{◌≡◌, ◌≢◌, ℕ, ◌<◌, ◌≤◌, ◌&&◌, not, false, true, List, [], None, All, length, slice_index, take};
+ghost use Rattle.std.specs.Prelude.{◌≡◌, ◌≢◌, ℕ, ◌<◌, ◌≤◌, ◌&&◌, if◌then◌else◌, not, false, true, List, [], None, All, length, slice_index, take};
 ghost use Rattle.std.specs.List.{HoldsAt};
 ghost use Rattle.std.specs.List.Sorted.{IsStrictlyIncreasing};
 ghost use Rattle.bitpack_lists.specs.declared.list_kind.ListKind.{ListKind};
 ghost use Rattle.bitpack_sorted.specs.Distinct.{distinct};
 ghost use Rattle.bitpack_sorted.specs.Increasing.{has};
-ghost use Rattle.bitpack_sorted.specs.InFront.{AreInFront};
-ghost use Rattle.bitpack_sorted.specs.Many.{all_have, united_all};
+ghost use Rattle.bitpack_sorted.specs.Many.{all_have};
 ghost use Rattle.bitpack_sorted.specs.Remaining.{remaining};
-ghost use Rattle.bitpacking_c.specs.Sets.{Adds, AreListsOf, CanAdd, FitsIn, HasLength, HasRoom, Intersects, IsInOrder, Leaves, Lists, Subtracts, Unites, all_distinct, all_values, any_plain, others_have, shortest_len, total_len, values_at};
+ghost use Rattle.bitpacking_c.specs.Sets.{Adds, AreListsOf, CanAdd, FitsIn, HasLength, HasRoom, HasUnion, Intersects, IsInOrder, Leaves, Lists, Subtracts, Unites, all_values, any_plain, others_have, shortest_len, total_len, values_at};
 ghost use Rattle.bitpacking_c.specs.Views.{IsListOf};
 
+use super::list_sorting::{is_quick_in_turn, unite_by_sorting};
 use super::list_view::{ListView, bitpacking_list_len, kind};
+use super::list_windows::{is_dense, unite_by_windows};
 use bitpack_lists::ListKind;
 use bitpack_sorted::{
-    DistinctValues, collect_to, intersect_in_place, subtract_in_place, unite_in_place,
+    DistinctValues, IncreasingSlice, collect_to, intersect_in_place, subtract_in_place,
+    unite_in_place,
 };
-use bitpacking::{BitPacker, BitPacker1x, BitPacker4x, BitPacker8x};
+use bitpacking::{BitPacker, BitPacker1x, BitPacker4x, BitPacker8x, MAX_BLOCK_LEN};
 
 /// Writes the values that all of the lists have to the front of `out`, each once and in increasing order, and answers their number.
 /// If a list is plain it answers -23, and if there is less room than the length of the shortest list -3; then it writes nothing.
@@ -54,15 +56,15 @@ fn intersect(views: &[ListView<'_>], shortest: usize, out: &mut [u32]) -> usize
     let mut kept = copy_distinct(&views[shortest], out);
     for index in 0..views.len() {
         if index != shortest {
-            kept = keep_shared(&views[index], &mut out[..kept]);
+            kept = filter_by(&views[index], &mut out[..kept], false);
         }
     }
     kept
 }
 
 /// Writes the values that any of the lists has to the front of `out`, each once and in increasing order, and answers their number.
-/// If a list is plain it answers -23, and if there is less room than the sum of the lengths -3; then it writes nothing. It merges the
-/// lists in turn, and is fastest if the longest is last.
+/// If a list is plain it answers -23, and if there is less room than the sum of the lengths -3; then it writes nothing. It merges a few
+/// lists in turn, which is fastest if the longest is last, and sorts the values of many.
 #[unsafe(no_mangle)]
 pub extern "C" fn bitpacking_list_unite(views: &[ListView<'_>], out: &mut [u32]) -> isize
     ensures { (lists : Lists) → AreListsOf views.now lists → Unites lists out.old out.new result }
@@ -73,15 +75,19 @@ pub extern "C" fn bitpacking_list_unite(views: &[ListView<'_>], out: &mut [u32])
     if !has_room(views, out.len()) {
         return -3;
     }
-    unite(views, out) as isize
+    if is_dense(views) {
+        return unite_by_windows(views, out) as isize;
+    }
+    if is_quick_in_turn(views) {
+        return unite_in_turn(views, out) as isize;
+    }
+    unite_by_sorting(views, out) as isize
 }
 
-/// Writes what any of the lists has. Returns how many values this is.
-fn unite(views: &[ListView<'_>], out: &mut [u32]) -> usize
+/// Writes what any of the lists has, adding one list after the other. Returns how many values this is.
+fn unite_in_turn(views: &[ListView<'_>], out: &mut [u32]) -> usize
     requires { All IsInOrder views.now × HasRoom views.now (length out.old) }
-    ensures few { result ≤ length out.old }
-    ensures united { (lists : Lists) → AreListsOf views.now lists
-        → AreInFront result (united_all (all_distinct lists)) out.new }
+    ensures { HasUnion views.now out.new result }
 {
     let mut written = 0;
     for index in 0..views.len() {
@@ -120,7 +126,7 @@ fn subtract(views: &[ListView<'_>], out: &mut [u32]) -> usize
 {
     let mut kept = copy_distinct(&views[0], out);
     for index in 1..views.len() {
-        kept = keep_others(&views[index], &mut out[..kept]);
+        kept = filter_by(&views[index], &mut out[..kept], true);
     }
     kept
 }
@@ -175,7 +181,7 @@ fn has_plain(views: &[ListView<'_>]) -> bool
 
 /// The values of a list of a packer, each once.
 #[inline(always)]
-fn distinct_of<'a, P: BitPacker>(packer: P, view: &ListView<'a>) -> DistinctValues<'a, P>
+pub(crate) fn distinct_of<'a, P: BitPacker>(packer: P, view: &ListView<'a>) -> DistinctValues<'a, P>
     requires lanes { view.now.lanes ≡ P.lanes }
     requires ordered { IsInOrder view.now }
     ensures values { (kind : ListKind) (all : List ℕ) → IsListOf view.now.lanes view.now.bytes.now kind all
@@ -211,29 +217,58 @@ fn copy_distinct_of<P: BitPacker>(packer: P, view: &ListView<'_>, out: &mut [u32
     collect_to(&mut distinct_of(packer, view), out)
 }
 
-/// Keeps the values that a list has too, and returns how many these are.
-fn keep_shared(view: &ListView<'_>, values: &mut [u32]) -> usize
+/// Keeps the values that a list has too, or those that it lacks, and returns how many these are.
+fn filter_by(view: &ListView<'_>, values: &mut [u32], lacking: bool) -> usize
     requires { IsInOrder view.now × IsStrictlyIncreasing values.old }
-    ensures { Leaves view.now (λ all v. has values.old v && has all v) values.new result }
+    ensures { Leaves view.now (λ all v. has values.old v && (if lacking then not (has all v) else has all v))
+        values.new result }
 {
+    if bitpacking_list_len(view) <= MAX_BLOCK_LEN {
+        return filter_by_few(view, values, lacking);
+    }
     match view.lanes {
-        0 => 0,
-        1 => intersect_in_place(values, &mut distinct_of(BitPacker1x::new(), view)),
-        4 => intersect_in_place(values, &mut distinct_of(BitPacker4x::new(), view)),
-        _ => intersect_in_place(values, &mut distinct_of(BitPacker8x::new(), view)),
+        0 => if lacking { values.len() } else { 0 },
+        1 => filter_by_list_of(BitPacker1x::new(), view, values, lacking),
+        4 => filter_by_list_of(BitPacker4x::new(), view, values, lacking),
+        _ => filter_by_list_of(BitPacker8x::new(), view, values, lacking),
     }
 }
 
-/// Keeps the values that a list lacks, and returns how many these are.
-fn keep_others(view: &ListView<'_>, values: &mut [u32]) -> usize
-    requires { IsInOrder view.now × IsStrictlyIncreasing values.old }
-    ensures { Leaves view.now (λ all v. has values.old v && not (has all v)) values.new result }
+/// As above, for a list of a packer.
+#[inline(never)]
+fn filter_by_list_of<P: BitPacker>(
+    packer: P,
+    view: &ListView<'_>,
+    values: &mut [u32],
+    lacking: bool,
+) -> usize
+    requires { (view.now.lanes ≡ P.lanes) × IsInOrder view.now × IsStrictlyIncreasing values.old }
+    ensures { Leaves view.now (λ all v. has values.old v && (if lacking then not (has all v) else has all v))
+        values.new result }
 {
-    match view.lanes {
-        0 => values.len(),
-        1 => subtract_in_place(values, &mut distinct_of(BitPacker1x::new(), view)),
-        4 => subtract_in_place(values, &mut distinct_of(BitPacker4x::new(), view)),
-        _ => subtract_in_place(values, &mut distinct_of(BitPacker8x::new(), view)),
+    let mut cursor = distinct_of(packer, view);
+    if lacking {
+        subtract_in_place(values, &mut cursor)
+    } else {
+        intersect_in_place(values, &mut cursor)
+    }
+}
+
+/// As above, for a list with as many values as a block or fewer. These are unpacked: to start a cursor takes longer.
+#[inline(never)]
+fn filter_by_few(view: &ListView<'_>, values: &mut [u32], lacking: bool) -> usize
+    requires few { IsInOrder view.now × FitsIn MAX_BLOCK_LEN view.now }
+    requires increasing { IsStrictlyIncreasing values.old }
+    ensures { Leaves view.now (λ all v. has values.old v && (if lacking then not (has all v) else has all v))
+        values.new result }
+{
+    let mut all = [0; MAX_BLOCK_LEN];
+    let len = copy_distinct(view, &mut all);
+    let mut few = IncreasingSlice::new(&all[..len]);
+    if lacking {
+        subtract_in_place(values, &mut few)
+    } else {
+        intersect_in_place(values, &mut few)
     }
 }
 

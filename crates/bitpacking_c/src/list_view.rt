@@ -166,7 +166,7 @@ pub extern "C" fn bitpacking_list_kind(view: &ListView<'_>) -> u8
 }
 
 /// The value at a position.
-fn value(view: &ListView<'_>, position: usize) -> Option<u32>
+pub(crate) fn value(view: &ListView<'_>, position: usize) -> Option<u32>
     ensures { (kind : ListKind) (values : List ℕ) → IsListOf view.now.lanes view.now.bytes.now kind values
         → result ≡ slice_get values position }
 {

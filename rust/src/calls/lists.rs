@@ -143,6 +143,7 @@ pub(crate) struct Lists {
     pub(crate) seek: unsafe extern "C" fn(*const ListView<'_>, u32, *mut usize, *mut u32) -> i32,
     pub(crate) unpack: unsafe extern "C" fn(*const ListView<'_>, *mut u32, usize) -> isize,
     pub(crate) range: unsafe extern "C" fn(*const ListView<'_>, usize, *mut u32, usize) -> isize,
+    pub(crate) gather: unsafe extern "C" fn(*const ListView<'_>, *const usize, usize, *mut u32, usize) -> isize,
     pub(crate) intersect: Combine,
     pub(crate) unite: Combine,
     pub(crate) subtract: Combine,
@@ -214,6 +215,13 @@ impl Lists {
         // SAFETY: a view that was opened; the pointer and the length of a slice that is borrowed by `&mut`.
         let count = unsafe { (self.range)(view, from, values.as_mut_ptr(), values.len()) };
         counted(count).unwrap_or(0)
+    }
+
+    /// Writes the value at each position, or nothing if one is not in the list.
+    pub(crate) fn gather(&self, view: &ListView<'_>, positions: &[usize], values: &mut [u32]) -> Result<usize, i32> {
+        let (from, room) = (positions.as_ptr(), values.len());
+        // SAFETY: a view that was opened; pointers and lengths of slices. What is written is borrowed by `&mut`.
+        counted(unsafe { (self.gather)(view, from, positions.len(), values.as_mut_ptr(), room) })
     }
 
     pub(crate) fn start<'a>(&self, view: &ListView<'a>) -> ListCursor<'a> {

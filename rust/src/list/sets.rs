@@ -32,8 +32,8 @@ pub fn intersect(lists: &[PackedList<'_>]) -> Result<Vec<u32>, Error> {
     combined(best().lists.intersect, lists, shortest)
 }
 
-/// The values that are in at least one list, in increasing order and each once. The lists may be in any order: the shortest are merged
-/// first.
+/// The values that are in at least one list, in increasing order and each once. The lists may be in any order. A few are merged, the
+/// shortest first; the values of many are sorted, or set bits if they are dense, so the time is never quadratic.
 ///
 /// # Errors
 ///
@@ -48,7 +48,7 @@ pub fn intersect(lists: &[PackedList<'_>]) -> Result<Vec<u32>, Error> {
 /// # Ok::<(), bitpacking::list::Error>(())
 /// ```
 pub fn union(lists: &[PackedList<'_>]) -> Result<Vec<u32>, Error> {
-    // The call merges its lists in turn. Shortest first, it merges the fewest values.
+    // The call merges a few lists in turn. Shortest first, it merges the fewest values.
     let mut lists = lists.to_vec();
     lists.sort_unstable_by_key(PackedList::len);
     combined(best().lists.unite, &lists, lists.iter().map(PackedList::len).sum())

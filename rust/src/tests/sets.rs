@@ -49,6 +49,26 @@ fn any_number_of_lists() {
     });
 }
 
+/// As many lists as a union does not merge in turn, some of them empty: 17, and up to 400 of up to 40 values.
+#[test]
+fn unions_of_many_lists() {
+    at_each_level(|| {
+        let mut numbers = Numbers(5);
+        for count in [17, 18, 40, 100, 400] {
+            let (mut texts, mut sets) = (Vec::new(), Sets::new());
+            for index in 0..count {
+                let kind = [Kind::Sorted, Kind::StrictlySorted][numbers.below(2) as usize];
+                let len = if count == 17 { 300 } else { [0, 1, 20, 40][numbers.below(4) as usize] };
+                let values = values(&mut numbers, kind, len, [2, 40, 100_000][index % 3], index % 5 == 0);
+                texts.push(encoded(FORMS[numbers.below(6) as usize], kind, &values).unwrap());
+                sets.push(values.into_iter().collect());
+            }
+            let lists: Vec<PackedList<'_>> = texts.iter().map(|text| PackedList::open(text).unwrap()).collect();
+            assert_eq!(union(&lists), Ok(plain_union(&sets)));
+        }
+    });
+}
+
 /// The list itself, twice; and the empty list beside others.
 #[test]
 fn equal_and_empty_lists() {

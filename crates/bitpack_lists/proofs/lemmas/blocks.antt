@@ -2,6 +2,7 @@
 pub mod BlockLemmas
 pub mod BlockValues
 pub mod ChainLemmas
+pub mod CodeLemmas
 pub mod EntryLemmas
 pub mod FaultLemmas
 pub mod GroupSteps
@@ -17,6 +18,7 @@ pub mod RestLemmas
 pub mod RestValues
 pub mod SameBlocks
 pub mod SearchLemmas
+pub mod SumsOfCodes
 pub mod ValueFaults
 pub mod WholeBlocks
 pub mod WriteSteps

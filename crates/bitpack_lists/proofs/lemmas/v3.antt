@@ -1,5 +1,4 @@
 -- Lemmas of version 3: its header, numbers, groups and tail.
-pub mod CodeLemmas
 pub mod GroupLaws
 pub mod GroupLemmas
 pub mod NumberLaws

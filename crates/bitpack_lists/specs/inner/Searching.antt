@@ -1,5 +1,5 @@
 -- What the inner functions of a search know of an opened list.
-use Rattle.std.specs.Prelude.{◌≡◌, ℕ, suc, ◌+◌, ◌*◌, ◌^◌, ◌<◌, ◌≤◌, true, false, List, take, Option, Some, None, IfSome}
+use Rattle.std.specs.Prelude.{◌≡◌, ℕ, suc, ◌+◌, ◌-◌, ◌*◌, ◌^◌, ◌<◌, ◌≤◌, min, true, false, List, slice_index, take, Option, Some, None, IfSome}
 use Rattle.bitpacking.specs.declared.bit_packer.BitPacker.{Ghosts}
 use Rattle.bitpack_lists.specs.declared.opened.ListBlock.{ListBlock}
 use Rattle.bitpack_lists.specs.declared.opened.KeptBlock.{KeptBlock}
@@ -37,6 +37,12 @@ module _ {P : Type 0} {members : Ghosts P} (list : PackedList P members) where
     pub width : block.entry.width ≡ width_at (rest_of list) block.number
     pub offset : block.entry.offset ≡ offset_at (rest_of list) block.number
     pub kind_is : block.kind ≡ kind_at list.kind (rest_of list) block.number
+
+  -- what was read is the values of a block, or after all blocks the tail
+  pub record HasPart (block len : ℕ) (out : List ℕ) : Type 0 where
+    pub within : block ≤ blocks_of list
+    pub len_is : len ≡ min (32 * members.lanes) (list.count - 32 * members.lanes * block)
+    pub values_are : (k : ℕ) → k < len → slice_index out k ≡ value_of list (32 * members.lanes * block + k)
 
   -- the block before this one ends with a value below the target
   abbrev pub EndsBelow : ℕ → ℕ → Type 0

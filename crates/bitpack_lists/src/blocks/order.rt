@@ -1,27 +1,75 @@
 //! The order of the values of a list, a part of them at a time.
 
-ghost use Rattle.std.specs.Prelude.{◌≡◌, ◌+◌, ◌-◌, ◌*◌, ◌^◌, ◌<◌, ◌≤◌, ℕ, true, false, length, slice_index, None};
+ghost use Rattle.std.specs.Prelude.{◌≡◌, ◌+◌, ◌-◌, ◌*◌, ◌^◌, ◌<◌, ◌≤◌, ℕ, List, true, false, length, take, slice_index, IfSome, None};
+ghost use Rattle.bitpacking.specs.Codes.{codes, start, values_of};
+ghost use Rattle.bitpacking.specs.Width.{Fits};
 ghost use Rattle.bitpacking.specs.Words.{word};
-ghost use Rattle.bitpack_lists.specs.Parts.{FindsFault};
+ghost use Rattle.bitpack_lists.specs.Chains.{LeastWidths};
+ghost use Rattle.bitpack_lists.specs.Parts.{FindsFault, first_kind, whole_blocks};
 ghost use Rattle.bitpack_lists.specs.Version2.{is_out, least_below, values_fault};
-ghost use Rattle.bitpack_lists.specs.inner.Opening.{IsOrdered, is_fall};
+ghost use Rattle.bitpack_lists.specs.inner.Opening.{GoesOn, IsOrdered, IsRising, is_fall};
 
-use crate::header::LONGEST_LIST;
 use crate::list_error::ListError;
-use crate::list_kind::ListKind;
+use crate::list_kind::{ListKind, next_kind};
 use crate::numbers::read_one;
+use bitpacking::{BitPacker, Kind, MAX_BLOCK_LEN};
 
-/// Tests that a list can have these values: they are not too many, and in the order of their kind.
-pub(crate) fn test_values(kind: ListKind, values: &[u32]) -> Result<(), ListError>
+/// Tests the order of the values of a list. The least widths of its first blocks were kept. If they show the order of a block, only its
+/// last value is read.
+pub(crate) fn test_values<P: BitPacker>(
+    _packer: &P,
+    kind: ListKind,
+    values: &[u32],
+    widths: &[u8],
+) -> Result<(), ListError>
+    requires few { length values.now ≤ 2 ^ 28 }
+    requires widths { LeastWidths P.lanes (first_kind kind) values.now
+        (take (whole_blocks P.lanes (length values.now)) widths.now) }
     ensures { FindsFault result (values_fault kind values.now) }
 {
-    if values.len() > LONGEST_LIST {
-        return Err(ListError::TooLong(values.len()));
+    let len = P::BLOCK_LEN;
+    let mut block_kind = kind.first();
+    let mut before = 0;
+    let mut left = values;
+    let kept = widths.len().min(values.len() / len);
+    for index in 0..kept {
+        let (block, after) = left.split_at(len);
+        let width = widths[index];
+        let out = first_out_of_block(kind, block_kind, width, len * index, before, block);
+        if let Some(position) = out {
+            return Err(ListError::NotSorted(position));
+        }
+        before = block[len - 1];
+        block_kind = next_kind(block_kind, before);
+        left = after;
     }
-    if let Some(position) = first_out(kind, 0, 0, values) {
+    if let Some(position) = first_out(kind, values.len() - left.len(), before, left) {
         return Err(ListError::NotSorted(position));
     }
     Ok(())
+}
+
+/// The first position out of order in a block, whose codes fit a width. The values before it are in order, and `before` is the last.
+fn first_out_of_block(
+    list: ListKind,
+    kind: Kind,
+    width: u8,
+    position: usize,
+    before: u32,
+    block: &[u32],
+) -> Option<usize>
+    requires fits { (width ≤ 32) × Fits (codes kind block.now) width }
+    requires len { (1 ≤ length block.now) × (length block.now ≤ MAX_BLOCK_LEN) }
+    requires few { position + length block.now < 2 ^ 64 }
+    requires next { GoesOn list position before kind }
+    ensures { (all : ℕ → ℕ) → IsOrdered list all position before
+        → ((k : ℕ) → k < length block.now → all (position + k) ≡ slice_index block.now k)
+        → result ≡ least_below (Rattle.bitpack_lists.specs.Version2.is_out list all) (position + length block.now) }
+{
+    if ends_in_order(kind, width, block.len(), block[block.len() - 1]) {
+        return None;
+    }
+    first_out(list, position, before, block)
 }
 
 /// Whether the value at a position is out of order after the one before it.
@@ -99,6 +147,39 @@ fn falls(strict: bool, values: &[u32]) -> bool
         };
     }
     falls
+}
+
+/// Whether the last value of a block shows that all its values are in order, after the one before the block. They are if their steps
+/// are at most 2 ^ 32 together, so that they wrap at most once, and the last value is above the one before the block (in a sorted list:
+/// not below). `width` is the width of the codes, and `len` how many they are.
+pub(crate) fn ends_in_order(kind: Kind, width: u8, len: usize, last: u32) -> bool
+    requires { (width ≤ 32) × (1 ≤ len) × (len ≤ MAX_BLOCK_LEN) }
+    ensures { result ≡ true → (codes : List ℕ) → length codes ≡ len → Fits codes width → start kind < 2 ^ 32
+        → slice_index (values_of kind codes) (len - 1) ≡ last → IsRising kind (values_of kind codes) }
+{
+    match kind {
+        Kind::Plain => true,
+        Kind::Sorted(initial) => is_narrow(width, len) && initial <= last,
+        Kind::StrictlySorted(initial) => is_narrow(width, len) && is_above(initial, last),
+    }
+}
+
+/// Whether a value is above the one before its block, if there is one.
+fn is_above(before: Option<u32>, last: u32) -> bool
+    ensures { result ≡ true → IfSome before (λ before. before < last) }
+{
+    match before {
+        None => true,
+        Some(before) => before < last,
+    }
+}
+
+/// Whether `len` numbers of this width are at most 2 ^ 32 together.
+fn is_narrow(width: u8, len: usize) -> bool
+    requires { (width ≤ 32) × (len ≤ MAX_BLOCK_LEN) }
+    ensures { result ≡ true → len * 2 ^ width ≤ 2 ^ 32 }
+{
+    (len as u64) << width <= 1 << 32
 }
 
 /// As above, of `count` values, given as their bytes.

@@ -1,14 +1,15 @@
 //! Testing the entries and the bodies of whole blocks, which versions 2 and 3 share.
 
-ghost use Rattle.std.specs.Prelude.{◌≡◌, ◌+◌, ◌-◌, ◌*◌, ◌^◌, ◌<◌, ◌≤◌, ℕ, length, slice_index, IfOk, None, ◌/◌, ◌%◌, Decides};
+ghost use Rattle.std.specs.Prelude.{◌≡◌, ◌+◌, ◌-◌, ◌*◌, ◌^◌, ◌<◌, ◌≤◌, ◌&&◌, ℕ, List, length, nat_lt, slice_index, sum, IfOk, None, ◌/◌, ◌%◌, Decides};
 ghost use Rattle.bitpacking.specs.declared.kind.Kind.{Kind};
 ghost use Rattle.bitpacking.specs.Codes.{values_of};
 ghost use Rattle.bitpacking.specs.Layout.{codes_of};
+ghost use Rattle.bitpacking.specs.Width.{Fits};
 ghost use Rattle.bitpack_lists.specs.Parts.{FindsFault, IsBody, whole_blocks, is_loose};
 ghost use Rattle.bitpack_lists.specs.Version2.{block_fault2, blocks_fault, body_fault2, entry_fault2, first_fault, is_out, kind_at, least_below, short_of, tail_start, value_with, widths_before};
 ghost use Rattle.bitpacking.specs.Bits.{bit_of};
 
-use super::order::first_out;
+use super::order::{ends_in_order, first_out};
 use super::reads::{ENTRY_LEN, Entry, Reads};
 use crate::header::Header;
 use crate::list_error::ListError;
@@ -131,37 +132,80 @@ fn test_bodies<P: BitPacker>(
     let mut room = [0; MAX_BLOCK_LEN];
     for block in 0..blocks {
         let entry = reads.entry(rest, block);
-        reads.unpack(packer, kind, entry, blocks, rest, &mut room);
-        let values = &room[..len];
-        let body = entry.body(len / 32, blocks, rest);
-        test_block(len / 32, block, entry, body, values[len - 1])?;
-        out = out.or(first_out(header.kind, block * len, last, values));
+        reads.unpack(packer, Kind::Plain, entry, blocks, rest, &mut room);
+        test_block(block, entry, kind, &room[..len])?;
+        if !ends_in_order(kind, entry.width, len, entry.last) {
+            reads.unpack(packer, kind, entry, blocks, rest, &mut room);
+            out = out.or(first_out(header.kind, block * len, last, &room[..len]));
+        }
         last = entry.last;
         kind = next_kind(kind, last);
     }
     Ok((last, out, kind))
 }
 
-/// Tests that the width of a block is the least that its body allows, and that it ends with the value of its entry. `last` is the
-/// value that it ends with.
-fn test_block(
-    lanes: usize,
-    block: usize,
-    entry: Entry,
-    body: &[u8],
-    last: u32,
-) -> Result<(), ListError>
-    requires { IsBody lanes entry.width body.now }
-    ensures { (kind : Kind) → last ≡ slice_index (values_of kind (codes_of lanes entry.width body.now)) (32 * lanes - 1)
-        → FindsFault result (block_fault2 lanes kind block entry.width entry.last body.now) }
+/// Tests that the width of a block is the least of its codes, and that the block, of this kind, ends with the value of its entry.
+fn test_block(block: usize, entry: Entry, kind: Kind, codes: &[u32]) -> Result<(), ListError>
+    requires { (entry.width ≤ 32) × (1 ≤ length codes.now) × (length codes.now ≤ MAX_BLOCK_LEN) }
+    ensures { (lanes : ℕ) (body : List ℕ) → length codes.now ≡ 32 * lanes
+        → codes.now ≡ codes_of lanes entry.width body
+        → FindsFault result (block_fault2 lanes kind block entry.width entry.last body) }
 {
-    if fits_smaller(lanes, entry.width, body) {
+    let totals = add_codes(codes);
+    if fits_less(entry.width, totals.bits) {
         return Err(ListError::LooseWidth(block, entry.width));
     }
-    if last != entry.last {
+    if last_value(kind, codes, totals.sum) != entry.last {
         return Err(ListError::BadLast(block));
     }
     Ok(())
+}
+
+/// The codes of a block together: their sum modulo 2 ^ 32, and each bit that one of them has.
+#[derive(Clone, Copy)]
+struct Totals {
+    sum: u32,
+    bits: u32,
+}
+
+/// The codes together. No branch depends on a code, so that the compiler adds several at once.
+#[inline(always)]
+fn add_codes(codes: &[u32]) -> Totals
+    ensures sum { result.sum ≡ sum codes.now % 2 ^ 32 }
+    ensures above { (width : ℕ) → result.bits < 2 ^ width → Fits codes.now width }
+    ensures below { (width : ℕ) → Fits codes.now width → result.bits < 2 ^ width }
+{
+    let mut sum: u32 = 0;
+    let mut bits = 0;
+    for index in 0..codes.len() {
+        sum = sum.wrapping_add(codes[index]);
+        bits |= codes[index];
+    }
+    Totals { sum, bits }
+}
+
+/// Whether codes with these bits fit a smaller width.
+fn fits_less(width: u8, bits: u32) -> bool
+    requires { width ≤ 32 }
+    ensures { result ≡ (nat_lt 0 width && nat_lt bits (2 ^ (width - 1))) }
+{
+    width > 0 && bits < 1 << (width - 1)
+}
+
+/// The last value of the block of this kind that has these codes, with this sum.
+fn last_value(kind: Kind, codes: &[u32], total: u32) -> u32
+    requires codes { (1 ≤ length codes.now) × (length codes.now ≤ MAX_BLOCK_LEN) }
+    requires total { total ≡ sum codes.now % 2 ^ 32 }
+    ensures { result ≡ slice_index (values_of kind codes.now) (length codes.now - 1) }
+{
+    match kind {
+        Kind::Plain => codes[codes.len() - 1],
+        Kind::Sorted(initial) => initial.wrapping_add(total),
+        Kind::StrictlySorted(initial) => {
+            let start = initial.unwrap_or(u32::MAX);
+            start.wrapping_add(total).wrapping_add(codes.len() as u32)
+        }
+    }
 }
 
 /// Whether the codes of a body fit a smaller width: none of them has the highest bit of this one. In most bodies one of the first

@@ -1,17 +1,56 @@
 //! The blocks of an opened list by their numbers, for callers that keep their own place in it.
 
-ghost use Rattle.std.specs.Prelude.{◌≡◌, ◌≢◌, ◌+◌, ◌-◌, ◌*◌, ◌^◌, ◌<◌, ◌≤◌, ℕ, length, slice_index, take, drop, min};
+ghost use Rattle.std.specs.Prelude.{◌≡◌, ◌≢◌, ◌+◌, ◌-◌, ◌*◌, ◌^◌, ◌<◌, ◌≤◌, ℕ, length, slice_index, take, drop, min, IfSome};
+ghost use native.Mathlib.Omega.{arith};
 ghost use Rattle.bitpack_lists.specs.declared.list_kind.ListKind.{ListKind};
 ghost use Rattle.bitpack_lists.specs.Blocks.{IsBlockOf, IsFirstReaching, blocks_over};
 ghost use Rattle.bitpack_lists.specs.Opened.{kind_of, values};
 ghost use Rattle.bitpack_lists.specs.Parts.{whole_blocks};
 ghost use Rattle.bitpack_lists.specs.Places.{InOrder};
 ghost use Rattle.bitpack_lists.specs.Search.{HasGrown};
+ghost use Rattle.bitpack_lists.specs.Version2.{kind_at};
+ghost use Rattle.bitpack_lists.specs.inner.Searching.{HasPart, IsListBlock, ReadsEntries, blocks_of, number_or_all, rest_of};
 
+use super::read_blocks::ReadBlocks;
 use super::search::DOUBLES;
 use super::{ListBlock, PackedList};
 use crate::blocks::reads::Reads;
-use bitpacking::{BitPacker, MAX_BLOCK_LEN};
+use crate::list_kind::next_kind;
+use bitpacking::{BitPacker, Kind, MAX_BLOCK_LEN};
+
+impl<'a, P: BitPacker> ReadBlocks for PackedList<'a, P> {
+    ghost lanes = { λ _. P.lanes };
+
+    ghost has = { λ list all. all ≡ values list };
+
+    ghost ordered = { λ list. InOrder (values list) };
+
+    ghost none = { λ list all has none. absurd (omega (arith, P.some_lanes, none)) };
+
+    #[inline(always)]
+    fn block_len(&self) -> usize {
+        P::BLOCK_LEN
+    }
+
+    fn read_next(&self, block: usize, before: u32, out: &mut [u32], reads: &mut Reads) -> usize {
+        let part = self.whole_block(block, self.kind_after(block, before), reads);
+        let (_, len) = self.read_block_or_tail(part, out, reads);
+        len
+    }
+
+    fn find_next(
+        &self,
+        from: usize,
+        before: u32,
+        target: u32,
+        out: &mut [u32],
+        reads: &mut Reads,
+    ) -> (usize, usize) {
+        let kind = self.kind_after(from, before);
+        let part = self.find(from, kind, DOUBLES, target, reads);
+        self.read_block_or_tail(part, out, reads)
+    }
+}
 
 impl<'a, P: BitPacker> PackedList<'a, P> {
     /// Unpacks the block of a number to the start of a slice, and returns how many values it has. The number of all blocks means the values
@@ -100,5 +139,63 @@ impl<'a, P: BitPacker> PackedList<'a, P> {
             done += more;
         }
         count
+    }
+
+    /// The kind of a block, by the last value before it.
+    #[inline(always)]
+    fn kind_after(&self, block: usize, before: u32) -> Kind
+        requires block { block ≤ blocks_of self.now }
+        requires before { 0 < block → slice_index (values self.now) (32 * P.lanes * block - 1) ≡ before }
+        ensures { result ≡ kind_at self.now.kind (rest_of self.now) block }
+    {
+        let first = self.kind.first();
+        if block == 0 {
+            first
+        } else {
+            next_kind(first, before)
+        }
+    }
+
+    /// A block of this kind, or `None` after all blocks. Reads its entry.
+    fn whole_block(&self, number: usize, kind: Kind, reads: &mut Reads) -> Option<ListBlock>
+        requires number { number ≤ blocks_of self.now }
+        requires kind { kind ≡ kind_at self.now.kind (rest_of self.now) number }
+        ensures is { IfSome result (IsListBlock self.now) }
+        ensures number { number_or_all self.now result ≡ number }
+        ensures reads { ReadsEntries reads.old reads.new }
+    {
+        if number >= self.count / P::BLOCK_LEN {
+            return None;
+        }
+        Some(ListBlock {
+            number,
+            entry: self.entry(number, reads),
+            kind,
+        })
+    }
+
+    /// Unpacks a block, or reads the values of the tail if there is none. Returns its number, or the count of all blocks, and how many
+    /// values these are.
+    fn read_block_or_tail(
+        &self,
+        part: Option<ListBlock>,
+        values: &mut [u32],
+        reads: &mut Reads,
+    ) -> (usize, usize)
+        requires is { IfSome part (IsListBlock self.now) }
+        requires room { length values.old ≡ MAX_BLOCK_LEN }
+        ensures number { result.0 ≡ number_or_all self.now part }
+        ensures part { HasPart self.now result.0 result.1 values.new }
+        ensures block { result.0 < blocks_of self.now → reads.new.blocks ≡ reads.old.blocks + 1 }
+        ensures tail { blocks_of self.now ≤ result.0 → reads.new.blocks ≡ reads.old.blocks }
+        ensures entries { reads.new.entries ≡ reads.old.entries }
+    {
+        match part {
+            Some(block) => {
+                self.unpack(block, values, reads);
+                (block.number, P::BLOCK_LEN)
+            }
+            None => (self.count / P::BLOCK_LEN, self.read_tail(values)),
+        }
     }
 }

@@ -2,8 +2,11 @@
 
 ghost use Rattle.std.specs.Prelude.{◌≡◌, ◌+◌, ◌*◌, ◌^◌, ◌<◌, ◌≤◌, ℕ, length, slice_index, IfSome};
 ghost use Rattle.bitpack_lists.specs.Chains;
+ghost use Rattle.bitpack_lists.specs.Places.{InOrder};
 ghost use Rattle.bitpack_lists.specs.Search.{first_reaching};
+ghost use Rattle.bitpack_lists.specs.inner.Seeking.{IsFirstIn};
 
+use super::in_slice::count_below;
 use super::{KeptBlock, ListBlock, PackedList};
 use crate::blocks::reads::Reads;
 use crate::list_kind::next_kind;
@@ -14,6 +17,12 @@ use bitpacking::{BitPacker, Kind, MAX_BLOCK_LEN};
 pub(crate) const HALVES: usize = usize::MAX;
 
 pub(crate) const DOUBLES: usize = 0;
+
+/// Up to this count of blocks a search by halves without branches is faster than one with branches: the entries are in the cache.
+const CACHED_BLOCKS: usize = 1 << 14;
+
+/// The length of the blocks of four lanes. Less room is cleared for these.
+pub(super) const SHORT_BLOCK_LEN: usize = 128;
 
 /// The number of no block.
 const NO_BLOCK: usize = usize::MAX;
@@ -36,6 +45,7 @@ impl<'a, P: BitPacker> PackedList<'a, P> {
     ghost use Rattle.bitpack_lists.specs.Opened.{kind_of, values};
     ghost use Rattle.bitpack_lists.specs.Search.{IsSearched, first_at_least, in_whole_block};
     ghost use Rattle.bitpack_lists.specs.inner.Searching.{EndsBelow, IsFirstBlock, IsFirstFrom, IsInBlock, IsKept, IsListBlock, IsNear, KeepsBlock, KeepsOne, ReadsEntries, blocks_of, number_or_all, rest_of, value_of};
+    ghost use Rattle.bitpack_lists.specs.inner.Seeking.{HalvesTo};
     ghost use Rattle.bitpack_lists.specs.Parts.{first_kind};
     ghost use Rattle.bitpack_lists.specs.Version2.{kind_at};
 
@@ -49,8 +59,25 @@ impl<'a, P: BitPacker> PackedList<'a, P> {
         // The entries that it reads are at most as many as the count of whole blocks has binary digits.
         ensures reads { IsSearched P.lanes (length (values self.now)) result reads.old reads.new }
     {
-        let mut kept = KeptBlock::new();
-        self.seek_kept(target, &mut kept, reads)
+        if P::BLOCK_LEN <= SHORT_BLOCK_LEN {
+            self.seek_in_room(target, &mut [0; SHORT_BLOCK_LEN], reads)
+        } else {
+            self.seek_in_room(target, &mut [0; MAX_BLOCK_LEN], reads)
+        }
+    }
+
+    /// As `seek`, with room for the values of a block.
+    fn seek_in_room(&self, target: u32, room: &mut [u32], reads: &mut Reads) -> Option<(usize, u32)>
+        requires can { (kind_of self.now ≢ ListKind.Plain) × (P.BLOCK_LEN ≤ length room.old) }
+        ensures { (result ≡ first_at_least (values self.now) target)
+            × IsSearched P.lanes (length (values self.now)) result reads.old reads.new }
+    {
+        let Some(block) = self.first_block(target, reads) else {
+            return self.seek_in_tail(target);
+        };
+        self.unpack(block, room, reads);
+        let len = P::BLOCK_LEN;
+        first_in_block(&room[..len], len * block.number, target)
     }
 
     /// As `seek`, with the block that was unpacked last at hand.
@@ -65,9 +92,20 @@ impl<'a, P: BitPacker> PackedList<'a, P> {
         ensures found { result ≡ first_reaching (value_of self.now) self.now.count target }
         ensures kept { KeepsOne self.now result kept.old kept.new reads.old reads.new }
     {
-        match self.find(0, self.kind.first(), HALVES, target, reads) {
+        match self.first_block(target, reads) {
             Some(block) => self.seek_in_block(block, target, kept, reads),
             None => self.seek_in_tail(target),
+        }
+    }
+
+    /// The first whole block whose last value is at least the target.
+    fn first_block(&self, target: u32, reads: &mut Reads) -> Option<ListBlock>
+        ensures { HalvesTo self.now target result reads.old reads.new }
+    {
+        if self.count / P::BLOCK_LEN <= CACHED_BLOCKS {
+            self.find_by_halves(target, reads)
+        } else {
+            self.find(0, self.kind.first(), HALVES, target, reads)
         }
     }
 
@@ -151,7 +189,7 @@ impl<'a, P: BitPacker> PackedList<'a, P> {
     {
         self.cache_block(block, kept, reads);
         let len = P::BLOCK_LEN;
-        first_in_slice(&kept.values[..len], len * block.number, target)
+        first_in_block(&kept.values[..len], len * block.number, target)
     }
 
     /// Unpacks a block, unless it is the one at hand.
@@ -169,6 +207,7 @@ impl<'a, P: BitPacker> PackedList<'a, P> {
     /// The first value of the tail that is at least the target, with its position. Those of the whole blocks are below it. In version 2
     /// it reads the whole tail.
     fn seek_in_tail(&self, target: u32) -> Option<(usize, u32)>
+        requires { self.now.kind ≢ ListKind.Plain }
         ensures found { ((k : ℕ) → k < 32 * P.lanes * blocks_of self.now → value_of self.now k < target)
             → result ≡ first_reaching (value_of self.now) self.now.count target }
         ensures outside { in_whole_block P.lanes self.now.count result ≡ false }
@@ -177,10 +216,25 @@ impl<'a, P: BitPacker> PackedList<'a, P> {
             Version::Two => {
                 let mut values = [0; MAX_BLOCK_LEN];
                 let len = self.read_tail(&mut values);
-                first_in_slice(&values[..len], self.count - len, target)
+                first_in_block(&values[..len], self.count - len, target)
             }
             Version::Three => self.seek_in_groups(target),
         }
+    }
+}
+
+/// The first value of a block that is at least the target, with its position, as `first_in_slice` finds it. The values are in order, and no
+/// branch depends on one.
+fn first_in_block(values: &[u32], start: usize, target: u32) -> Option<(usize, u32)>
+    requires few { start + length values.now < 2 ^ 64 }
+    requires order { (length values.now ≤ MAX_BLOCK_LEN) × InOrder values.now }
+    ensures { IsFirstIn values.now start target result }
+{
+    let index = count_below(values, target);
+    if index < values.len() {
+        Some((start + index, values[index]))
+    } else {
+        None
     }
 }
 

@@ -1,13 +1,20 @@
 -- Values of a slice that are combined with others in their place.
-use Rattle.std.specs.Prelude.{◌≡◌, ℕ, ◌+◌, ◌<◌, ◌≤◌, List, ◌∷◌, drop, length, slice_index}
+use Rattle.std.specs.Prelude.{◌≡◌, ◌≢◌, ℕ, ◌<◌, ◌≤◌, true, false, List, None, drop, length, slice_index}
 use Rattle.std.specs.List.Sorted.{IsStrictlyIncreasing}
-use Rattle.bitpack_sorted.specs.Increasing.{shared}
+use Rattle.bitpack_sorted.specs.Increasing.{at_least, first, has}
 
--- from one index on the value at another is the first that others have too; `new` are the others that are left then
-pub record IsNextShared (values : List ℕ) (from : ℕ) (old new : List ℕ) (index : ℕ) : Type 0 where
+-- others lack the values from one index to another
+abbrev pub AreLacked : List ℕ → List ℕ → ℕ → ℕ → Type 0
+AreLacked others values from to = (q : ℕ) → from ≤ q → q < to → has others (slice_index values q) ≡ false
+
+-- others lack the values from one index to another, whose value is at most the first of those that are left then
+pub record IsNextFrom (values : List ℕ) (from : ℕ) (old new : List ℕ) (index : ℕ) : Type 0 where
   pub forward : from ≤ index
   pub within : index < length values
-  pub shares : shared (drop from values) old ≡ slice_index values index ∷ shared (drop (index + 1) values) new
+  pub lacked : AreLacked old values from index
+  pub sought : new ≡ at_least (slice_index values from) old
+  pub some : first new ≢ None
+  pub reached : (v : ℕ) → has new v ≡ true → slice_index values index ≤ v
 
 -- the values from one index on increase, and there is room for the others before them
 pub record IsRoomBefore (from : ℕ) (values others : List ℕ) : Type 0 where

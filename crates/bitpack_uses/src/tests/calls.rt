@@ -164,6 +164,18 @@ pub(super) fn value_at<P: BitPacker>(list: &PackedList<'_, P>, position: usize) 
     list.get(position)
 }
 
+/// The values at many positions, or `None` if there is no room for them.
+pub(super) fn values_at<P: BitPacker>(
+    list: &PackedList<'_, P>,
+    positions: &[usize],
+    out: &mut [u32],
+) -> Option<Result<(), usize>> {
+    if out.len() < positions.len() {
+        return None;
+    }
+    Some(list.get_many(positions, out, &mut Reads::new()))
+}
+
 /// Seeks in a list, which has to be in order.
 pub(super) fn seek<P: BitPacker>(
     rt: &impl Abort,

@@ -1,9 +1,9 @@
 //! The examples of doc comments of `bitpack_lists`, which have these lines.
 
-use bitpack::list2::{ListBuf, PackedList, first_from};
+use bitpack::list2::{ListBuf, PackedList, Reads, first_from};
 use bitpack_sorted::{
-    And, IncreasingSlice, SortedCursor, Values, collect_to, intersect_in_place, subtract_in_place,
-    unite_in_place,
+    And, IncreasingSlice, SortedCursor, Values, collect_to, intersect_in_place, sort_distinct,
+    subtract_in_place, unite_in_place,
 };
 use bitpacking::{BitPacker, BitPacker1x};
 
@@ -18,6 +18,15 @@ fn owned_list(rt: HostRuntime) {
     // `bytes` is the `Vec<u8>` of the sorted list 3, 5, 9, 12.
     let list = ListBuf::open(BitPacker1x::new(), bytes).expect(&rt, "a list");
     assert_eq!(rt; list.as_list().get(3), Some(12));
+}
+
+#[test]
+fn values_at_positions(rt: HostRuntime) {
+    let list = PackedList::open(BitPacker1x::new(), &LIST).expect(&rt, "a list");
+    // `list` is 3, 5, 9, 12.
+    let mut values = [0; 3];
+    let found = list.get_many(&[3, 0, 3], &mut values, &mut Reads::new());
+    assert_eq!(rt; (found, values), (Ok(()), [12, 3, 12]));
 }
 
 #[test]
@@ -97,4 +106,11 @@ fn values_in_either(rt: HostRuntime) {
     let mut ids = [3, 5, 9, 0, 0];
     let all = unite_in_place(&mut ids, 3, &mut IncreasingSlice::new(&[5, 7]));
     assert_eq!(rt; ids[..all], [3, 5, 7, 9][..]);
+}
+
+#[test]
+fn values_sorted(rt: HostRuntime) {
+    let mut ids = [9, 3, 12, 3, 5];
+    let distinct = sort_distinct(&mut ids);
+    assert_eq!(rt; ids[..distinct], [3, 5, 9, 12][..]);
 }

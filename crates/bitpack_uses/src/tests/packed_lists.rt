@@ -20,3 +20,4 @@ mod upgrade;
 mod upgrade3;
 mod upgrade_memory;
 mod walk;
+mod wide_blocks;

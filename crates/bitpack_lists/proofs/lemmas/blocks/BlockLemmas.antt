@@ -12,7 +12,7 @@ use Rattle.bitpack_lists.specs.Chains.{next_kind}
 use Rattle.bitpack_lists.specs.Parts.{first_kind}
 use Rattle.bitpack_lists.specs.Version2.{block_of, kind_at, last_at}
 
-next_next : (kind : Kind) (one two : ℕ) → next_kind (next_kind kind one) two ≡ next_kind kind two
+pub next_next : (kind : Kind) (one two : ℕ) → next_kind (next_kind kind one) two ≡ next_kind kind two
 next_next blocks.Plain one two = refl
 next_next (blocks.Sorted initial) one two = refl
 next_next (blocks.StrictlySorted initial) one two = refl

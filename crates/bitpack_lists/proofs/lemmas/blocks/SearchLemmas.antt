@@ -1,11 +1,11 @@
 -- Searches: halves of a span, values in order, and the first that reaches a target.
 -- Serves blocks, laws, opened.
-use Rattle.std.proofs.Common.{◌≡◌, ◌≢◌, ℕ, zero, suc, ◌+◌, ◌-◌, ◌*◌, ◌/◌, ◌^◌, ◌<◌, ◌≤◌, Bool, true, false, cond, leb, Option, Some, None, refl, ◌∙◌, ap, arith, inl, inr}
+use Rattle.std.proofs.Common.{◌≡◌, ◌≢◌, ℕ, zero, suc, ◌+◌, ◌-◌, ◌*◌, ◌/◌, ◌^◌, ◌<◌, ◌≤◌, Bool, true, false, cond, leb, List, length, get_or, Option, Some, None, refl, ◌∙◌, ap, arith, inl, inr}
 use Rattle.std.specs.Option.{option_or, option_map}
 use Rattle.std.proofs.lemmas.Bool.{cases_lt, le-leb, leb-false, lt-leb, lt-ltb, ltb-false}
 use Rattle.bitpack_lists.specs.declared.list_kind.ListKind.{ListKind}
 use Rattle.bitpack_lists.specs.declared.list_kind.ListKind.TheVariants as lists
-use Rattle.bitpack_lists.specs.inner.Opening.{is_fall}
+use Rattle.bitpack_lists.specs.inner.Opening.{NeverFalls, is_fall}
 use Rattle.bitpack_lists.specs.Search.{first_reaching}
 use Rattle.bitpack_lists.specs.Version2.{is_out, least_below}
 use Rattle.bitpack_lists.proofs.lemmas.blocks.Orders.{least_below-found, least_below-further, least_below-next, least_below-same}
@@ -107,6 +107,19 @@ is_out-from_fall false value position before next is is' e =
 is_out-from_fall true value position before next is is' e =
     let one : position + 1 - 1 ≡ position = omega arith in
     rw (lt-ltb 0 (position + 1) (omega arith), one, is, is') e
+
+-- If the first is in order and none falls after its neighbour, each is in order.
+module _ (strict : Bool) (kind : ListKind) (all : ℕ → ℕ) (position : ℕ) (values : List ℕ) (is : kind ≡ cond strict lists.StrictlySorted lists.Sorted)
+    (are : (k : ℕ) → k < length values → all (position + k) ≡ get_or values k 0) (first : is_out kind all position ≡ false)
+    (falls : NeverFalls strict values) where
+  pub each_in_order : (k : ℕ) → k < length values → is_out kind all (position + k) ≡ false
+  each_in_order zero lt =
+      let here : position + 0 ≡ position = omega arith in
+      rw here first
+  each_in_order (suc k) lt =
+      let here : position + k + 1 ≡ position + suc k = omega arith in
+      let next : all (position + k + 1) ≡ get_or values (k + 1) 0 = ap all here ∙ are (suc k) lt ∙ ap (λ i. get_or values i 0) (omega arith) in
+      rw (← here, is) (is_out-from_fall strict all (position + k) _ _ (are k (omega arith)) next (falls k (omega arith)))
 
 -- Where the last value of the block before is below the target, so are all before the block.
 pub before_block : (n block target count : ℕ) (value : ℕ → ℕ) → ((i j : ℕ) → i ≤ j → j < count → value i ≤ value j) → 1 ≤ n → n * block ≤ count

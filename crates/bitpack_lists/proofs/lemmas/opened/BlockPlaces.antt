@@ -1,17 +1,27 @@
 -- The blocks of an opened list are those of the list of its values.
--- Serves opened.
-use Rattle.std.proofs.Common.{◌≡◌, ◌≢◌, ℕ, ◌+◌, ◌-◌, ◌*◌, ◌%◌, ◌^◌, ◌<◌, ◌≤◌, ◌++◌, List, length, take, get_or, sym, ◌∙◌, arith}
+-- Serves ForCallers, opened.
+use Rattle.std.proofs.Common.{◌≡◌, ◌≢◌, ℕ, zero, suc, ◌+◌, ◌-◌, ◌*◌, ◌%◌, ◌^◌, ◌<◌, ◌≤◌, ◌++◌, min, List, length, take, get_or, refl, sym, ◌∙◌, ap, arith, inl, inr}
 use Rattle.std.proofs.Math.Nat.{div-add-mod}
+use Rattle.std.proofs.lemmas.Bool.{cases_lt}
 use Rattle.std.proofs.lemmas.List.{get_or_append_left, take-append-le}
 use Rattle.bitpacking.specs.declared.bit_packer.BitPacker.{Ghosts}
+use Rattle.bitpack_lists.specs.declared.blocks.reads.Reads.{Reads}
 use Rattle.bitpack_lists.specs.declared.opened.PackedList.{PackedList}
+use Rattle.bitpack_lists.specs.declared.opened.cursor.Cursor.{Cursor}
+use Rattle.bitpack_lists.specs.declared.opened.place.Place.{Place}
 use Rattle.bitpack_lists.specs.declared.list_kind.ListKind.TheVariants as lists
-use Rattle.bitpack_lists.specs.Blocks.{IsBlockOf, IsFirstReaching}
+use Rattle.bitpack_lists.specs.Blocks.{HasRead, IsBlockOf, IsFirstReaching, ReadsOne}
+use Rattle.bitpack_lists.specs.Chains.{next_kind}
+use Rattle.bitpack_lists.specs.Cursors.{position, values_of_cursor}
+use Rattle.bitpack_lists.specs.Moves.{MovesOn}
 use Rattle.bitpack_lists.specs.Opened.{kind_of, values}
-use Rattle.bitpack_lists.specs.Places.{HasPart, InOrder}
-use Rattle.bitpack_lists.specs.Version2.{last_at}
-use Rattle.bitpack_lists.specs.inner.Searching.{EndsBelow, IsFirstFrom, blocks_of, number_or_all, rest_of, value_of}
-use Rattle.bitpack_lists.proofs.lemmas.opened.CursorPlaces.{before_part, in_order_from_kind, part_order, sought_part}
+use Rattle.bitpack_lists.specs.Parts.{first_kind}
+use Rattle.bitpack_lists.specs.Places.{InOrder}
+use Rattle.bitpack_lists.specs.Version2.{kind_at, last_at}
+use Rattle.bitpack_lists.specs.inner.Searching.{EndsBelow, HasPart, IsFirstFrom, blocks_of, number_or_all, rest_of, value_of}
+use Rattle.bitpack_lists.proofs.lemmas.blocks.BlockLemmas.{kind_at_after}
+use Rattle.bitpack_lists.proofs.lemmas.opened.ReadParts.{before_part, in_order_from_kind, part_order, sought_part}
+use Rattle.bitpack_lists.proofs.lemmas.opened.CursorPlaces.{at_most}
 use Rattle.bitpack_lists.proofs.lemmas.opened.CursorSteps.{get_or-first_of, left_tail, left_within, length-first_of, part_end}
 use Rattle.bitpack_lists.proofs.lemmas.opened.OpenedLists.{opened_last}
 
@@ -28,18 +38,53 @@ module _ {P : Type 0} {members : Ghosts P} (list : PackedList P members) (some :
     pub ordered : kind_of list ≢ lists.Plain → InOrder (take len (at_hand ++ rest))
     pub few : n * block + len ≤ 2 ^ 28
 
-  -- The values of a part are those of the block, whatever comes after them.
-  block_listed : (block len : ℕ) (at_hand rest : List ℕ) → len ≤ length at_hand → HasPart list block len at_hand
-      → IsBlockOf members.lanes (values list) block len (at_hand ++ rest)
-  block_listed block len at_hand rest room part =
+  -- The values of a part are those of the block.
+  part_listed : (block len : ℕ) (out : List ℕ) → HasPart list block len out → IsBlockOf members.lanes (values list) block len out
+  part_listed block len out part =
       let within : n * block + len ≤ list.count = omega (arith, left_within n list.count (omega arith) block part.within, part.len_is) in
       record {
         within = rw long part.within;
         len_is = rw long part.len_is;
         values_are = λ k lt.
-            get_or_append_left at_hand rest 0 k (omega arith) ∙ part.values_are k lt
-            ∙ sym (get_or-first_of (value_of list) list.count (n * block + k) (omega (arith, within)));
+            part.values_are k lt ∙ sym (get_or-first_of (value_of list) list.count (n * block + k) (omega (arith, within)));
       }
+
+  -- They are so whatever comes after them.
+  block_listed : (block len : ℕ) (at_hand rest : List ℕ) → len ≤ length at_hand → HasPart list block len at_hand
+      → IsBlockOf members.lanes (values list) block len (at_hand ++ rest)
+  block_listed block len at_hand rest room part =
+      let is = part_listed block len at_hand part in
+      record {
+        within = is.within;
+        len_is = is.len_is;
+        values_are = λ k lt. get_or_append_left at_hand rest 0 k (omega arith) ∙ is.values_are k lt;
+      }
+
+  abbrev pub Has : List ℕ → Type 0
+  Has all = all ≡ values list
+
+  -- What a caller knows of a part that was read.
+  pub part_read : members.lanes ≤ 8 → (block len : ℕ) (out : List ℕ) → HasPart list block len out
+      → HasRead members.lanes Has (InOrder (values list)) block len out
+  part_read lanes block len out part = record {
+    is = λ all is. rw is (part_listed block len out part);
+    ordered = λ ordered. part_order list some block len out part ordered;
+    few = omega (arith, left_within n list.count (omega arith) block part.within, part.len_is, list.few);
+    short = omega (arith, part.len_is);
+  }
+
+  -- One block was unpacked for it, and none for the tail.
+  pub reads_one : (block before after : ℕ) → (block < blocks_of list → after ≡ before + 1) → (blocks_of list ≤ block → after ≡ before)
+      → ReadsOne members.lanes Has block before after
+  reads_one block before after one none = record {
+    one = elim (cases_lt block (blocks_of list)) [
+      | inl lt ↦ (omega (arith, one lt), omega (arith, one lt))
+      | inr past ↦ (omega (arith, none past), omega (arith, none past))
+    ];
+    rest = λ past.
+        let here : blocks_of list ≤ block = rw long at (past (values list) refl) in
+        none here;
+  }
 
   -- Those of a list in order are in order, and no list is long.
   pub block_facts : (block len : ℕ) (at_hand rest : List ℕ) → len ≤ length at_hand → HasPart list block len at_hand → BlockFacts block len at_hand rest
@@ -78,7 +123,33 @@ module _ {P : Type 0} {members : Ghosts P} (list : PackedList P members) (some :
       let here : get_or (values list) (n * before + (n - 1)) 0 < target = rw at least in
       rw (last_listed before (omega (arith, e))) at here
 
-  pub reaching_listed : kind_of list ≢ lists.Plain → (target from number : ℕ) (found : _) → IsFirstFrom list target from found
+  -- Each block up to the current one was unpacked at most once, at the start and after each move.
+  pub once_first : (place : Place) (before after : Reads) → place.block ≡ 0 → before.blocks ≡ 0
+      → ReadsOne members.lanes Has 0 before.blocks after.blocks → after.blocks ≤ min (place.block + 1) (blocks_of list)
+  once_first place before after first none reads = elim (cases_lt 0 (blocks_of list)) [
+    | inl lt ↦ omega (arith, first, none, reads.one)
+    | inr past ↦ omega (arith, none, reads.rest (λ all is. rw (is, long) past))
+  ]
+
+  pub once_kept : (old new : Place) (before after : Reads) → before.blocks ≤ min (old.block + 1) (blocks_of list)
+      → MovesOn members.lanes Has (InOrder (values list)) old new before after → after.blocks ≤ min (new.block + 1) (blocks_of list)
+  once_kept old new before after once moved = elim (cases_lt new.block (blocks_of list)) [
+    | inl lt ↦ omega (arith, once, moved.later)
+    | inr past ↦ omega (arith, once, moved.later, moved.reads.rest (λ all is. rw (is, long) past))
+  ]
+
+  -- The kind of a block goes on from the last value before it.
+  pub kind_from : (block last : ℕ) → block ≤ blocks_of list → 0 < block → get_or (values list) (n * block - 1) 0 ≡ last
+      → next_kind (first_kind list.kind) last ≡ kind_at list.kind (rest_of list) block
+  kind_from zero last within later is = absurd (omega arith)
+  kind_from (suc before) last within later is =
+      let at : n * before + (n - 1) ≡ n * suc before - 1 = omega arith in
+      let same : last ≡ last_at (rest_of list) before =
+      sym is ∙ ap (λ i. get_or (values list) i 0) (sym at) ∙ last_listed before (omega arith) in
+      let next : before + 1 ≡ suc before = omega arith in
+      rw next at (kind_at_after list.kind (rest_of list) before last same)
+
+  pub reaching_listed : InOrder (values list) → (target from number : ℕ) (found : _) → IsFirstFrom list target from found
       → number ≡ number_or_all list found → number ≤ blocks_of list → IsFirstReaching members.lanes (values list) target from number
   reaching_listed ordered target from number found is same within =
       let next = sought_part list target from number found is same in
@@ -86,10 +157,17 @@ module _ {P : Type 0} {members : Ghosts P} (list : PackedList P members) (some :
         forward = next.0;
         within = rw long within;
         before = λ k lt.
-            let least = before_part list some (in_order_from_kind list some ordered) target number next.1.0 within k lt in
+            let least = before_part list some ordered target number next.1.0 within k lt in
             let inside : k < list.count = omega (arith, left_within n list.count (omega arith) number within) in
             rw (get_or-first_of (value_of list) list.count k inside) least;
         enough = λ lt.
             let here : number < blocks_of list = rw long at lt in
             rw (last_listed number here) (next.1.1 here);
       }
+
+-- a cursor is at a value of its list, or after the last
+pub position_within : {P : Type 0} {members : Ghosts P} (cursor : Cursor P members) → 1 ≤ members.lanes → position cursor ≤ length (values_of_cursor cursor)
+position_within {members = members} cursor some =
+    let place = cursor.place in
+    let all : List ℕ = values_of_cursor cursor in
+    at_most members.lanes all (λ none. absurd (omega (arith, some, none))) place.block place.index place.len place.values (cursor.at.here all refl)

@@ -11,7 +11,7 @@ use Rattle.bitpack_lists.specs.Groups.{AreGroups, groups_of}
 use Rattle.bitpack_lists.specs.Numbers.{number}
 use Rattle.bitpack_lists.specs.Version3.{IsTail3, after_tail3, tail_codes3, tail_fault3}
 use Rattle.bitpack_lists.specs.inner.CodeSteps.{EndsGroup, before_groups, sums}
-use Rattle.bitpack_lists.proofs.lemmas.v3.CodeLemmas.{sums-sorted, sums-strict}
+use Rattle.bitpack_lists.proofs.lemmas.blocks.CodeLemmas.{sums-sorted, sums-strict}
 use Rattle.bitpack_lists.proofs.lemmas.v3.TailSteps.{groups_of_tail, tail_of_groups}
 use Rattle.bitpack_lists.proofs.lemmas.v3.TailTexts.{tail_is_read, tail_reads_back}
 

@@ -21,7 +21,7 @@ use Rattle.bitpack_lists.specs.Version2.{least_below}
 use Rattle.bitpack_lists.specs.Version3.{has_first, tail_codes3, tail_fault3, tail_values3}
 use Rattle.bitpack_lists.specs.inner.CodeSteps.{sums}
 use Rattle.bitpack_lists.specs.inner.Searching.{blocks_of, rest_of, value_of}
-use Rattle.bitpack_lists.proofs.lemmas.v3.CodeLemmas.{sums-sorted, sums-strict}
+use Rattle.bitpack_lists.proofs.lemmas.blocks.CodeLemmas.{sums-sorted, sums-strict}
 use Rattle.bitpack_lists.proofs.lemmas.blocks.GroupSteps.{codes-next, tail-first}
 use Rattle.bitpack_lists.proofs.lemmas.opened.OpenedLists.{front_values, tail_at, tail_right}
 use Rattle.bitpack_lists.proofs.lemmas.blocks.Orders.{least_below-further}

@@ -5,13 +5,13 @@ use Rattle.std.proofs.Math.Nat.{mul-div-le}
 use Rattle.bitpack_lists.specs.Parts.{whole_blocks}
 use Rattle.bitpack_lists.specs.inner.Sizes.{header_of}
 use Rattle.bitpack_lists.proofs.lemmas.blocks.ListLemmas.{lanes-is}
-use Rattle.bitpack_lists.proofs.lemmas.blocks.ValueFaults.{few_values}
+use Rattle.bitpack_lists.proofs.lemmas.blocks.ValueFaults.{few_values, too_many}
 use Rattle.bitpack_lists.proofs.lemmas.blocks.WriteSteps.{whole_end}
 use Rattle.bitpack_lists.proofs.lemmas.v3.WriteSteps3.{kind_done}
 use Rattle.bitpack_lists.proofs.writing.plan_text.Goals as goal
 
-pub blocks_len-blocks-requires-clause-few : goal.blocks_len-blocks-requires-clause-few
-blocks_len-blocks-requires-clause-few g c = few_values c.args.kind c.args.values.now c.in_ok-test_values.ensures
+pub returns-then-count-gt-LONGEST_LIST-clause-fault : goal.returns-then-count-gt-LONGEST_LIST-clause-fault
+returns-then-count-gt-LONGEST_LIST-clause-fault g c = too_many c.args.kind c.args.values.now c.if-count-gt-LONGEST_LIST.true
 
 pub write_header-header_len-requires-clause-count : goal.write_header-header_len-requires-clause-count
 write_header-header_len-requires-clause-count g c = few_values c.args.kind c.args.values.now c.in_ok-test_values.ensures

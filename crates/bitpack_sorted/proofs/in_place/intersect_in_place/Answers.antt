@@ -1,41 +1,50 @@
--- Each turn moves one value to the front, which is behind the values to come.
-use Rattle.std.proofs.Common.{◌≡◌, ◌+◌, ◌<◌, ℕ, List, ◌++◌, drop, length, set, slice_index, take, refl, sym, ◌∙◌, ap, arith}
-use Rattle.std.proofs.lemmas.List.{length-set}
-use Rattle.bitpack_sorted.specs.Increasing.{shared}
-use Rattle.bitpack_sorted.specs.IncreasingLaws.{IsIncreasing-from, increasing_shared}
-use Rattle.bitpack_sorted.proofs.InPlaceSteps.{increasing_ahead, increasing_done, none_left, one_kept, still_ahead}
+-- Each turn filters as far as the current block of the cursor reaches.
+use Rattle.std.proofs.Common.{◌<◌, ◌≤◌, ℕ, List, false, length, arith, refl}
+use Rattle.bitpack_sorted.specs.inner.Marks.{AreKept, keeps}
+use Rattle.bitpack_sorted.proofs.FilterSteps.{all_kept}
+use Rattle.bitpack_sorted.proofs.FilteringSteps.{ahead_increasing, filtering_more, lacked_kept, shared_are}
+use Rattle.bitpack_sorted.proofs.FrontLemmas.{front_some}
 use Rattle.bitpack_sorted.proofs.in_place.intersect_in_place.Goals as goal
 
-pub loop-index-preserved : goal.loop-index-preserved
-loop-index-preserved g c =
-    let values : List ℕ = c.loop-index.values in
-    let kept = c.loop-index.kept in
-    let index = c.in-Some.index in
-    let value = slice_index values index in
-    let rest = g.C.SortedCursor.rest c.next_shared_from.new.cursor in
-    let found = c.in-Some.ensures.some in
-    let before : kept < index + 1 = omega (arith, c.loop-index.invariant.few, found.forward) in
-    let room : kept < length values = omega (arith, c.loop-index.invariant.few, found.forward, found.within) in
-    record {
-      few = omega (arith, before);
-      within = omega (arith, length-set values kept value, found.within);
-      increasing = increasing_ahead values c.loop-index.from kept value (index + 1) c.loop-index.invariant.increasing (omega (arith, found.forward)) before;
-      all = ap (λ ahead. take (kept + 1) (set values kept value) ++ shared ahead rest) (still_ahead values kept value (index + 1) before)
-          ∙ one_kept values kept value (shared (drop (index + 1) values) rest) room
-          ∙ ap (λ rest. take kept values ++ rest) (sym found.shares)
-          ∙ c.loop-index.invariant.all;
-    }
+pub keep_in_block-done-requires-clause-increasing : goal.keep_in_block-done-requires-clause-increasing
+keep_in_block-done-requires-clause-increasing g c =
+    let all : List ℕ = g.C.SortedCursor.rest c.args.cursor.now in
+    let rest : List ℕ = g.C.SortedCursor.rest c.loop-next.cursor in
+    let old : List ℕ = c.args.values.now in
+    let ys : List ℕ = c.loop-next.values in
+    let next = c.in-Some.ensures.some in
+    let within : c.in-Some.next ≤ length ys = omega (arith, next.within) in
+    let kept : AreKept (keeps false all) old ys c.loop-next.done.kept c.in-Some.next =
+    lacked_kept all rest old ys c.loop-next.done.kept c.loop-next.done.from c.in-Some.next c.requires c.loop-next.invariant next.forward within next.lacked in
+    ahead_increasing (keeps false all) old ys c.loop-next.done.kept c.in-Some.next c.requires kept
+
+pub loop-next-preserved : goal.loop-next-preserved
+loop-next-preserved g c =
+    let all : List ℕ = g.C.SortedCursor.rest c.args.cursor.now in
+    let rest : List ℕ = g.C.SortedCursor.rest c.loop-next.cursor in
+    let rest' : List ℕ = g.C.SortedCursor.rest c.next_from.new.cursor in
+    let old : List ℕ = c.args.values.now in
+    let ys : List ℕ = c.loop-next.values in
+    let next = c.in-Some.ensures.some in
+    let within : c.in-Some.next ≤ length ys = omega (arith, next.within) in
+    let from_in : c.loop-next.done.from < length ys = omega (arith, next.within, next.forward) in
+    let block : List ℕ = c.first_part.result.now in
+    let some : 0 < length block = front_some block rest' c.first_part.ensures.front next.some in
+    let kept : AreKept (keeps false all) old ys c.loop-next.done.kept c.in-Some.next =
+    lacked_kept all rest old ys c.loop-next.done.kept c.loop-next.done.from c.in-Some.next c.requires c.loop-next.invariant next.forward within next.lacked in
+    filtering_more false all rest old ys c.loop-next.done.kept c.loop-next.done.from c.requires c.loop-next.invariant from_in rest' next.sought
+    block c.first_part.ensures.front some c.in-Some.next next.forward next.within kept c.keep_in_block-done.new.values c.keep_in_block-done.result.kept
+    c.keep_in_block-done.result.from c.keep_in_block-done.ensures.forward.0 c.keep_in_block-done.ensures.filters
 
 pub returns : goal.returns
 returns g c =
-    let values = c.args.values.now in
-    let rest = g.C.SortedCursor.rest c.args.cursor.now in
-    let left = c.loop-index.invariant in
-    let front : take c.loop-index.kept c.loop-index.values ≡ shared values rest =
-    none_left (take c.loop-index.kept c.loop-index.values) _ (shared values rest) left.all (c.in_default.ensures.none refl) in
-    record {
-      few = omega (arith, left.few, left.within);
-      are = front;
-      increasing = increasing_done (take c.loop-index.kept c.loop-index.values) (shared values rest)
-          (increasing_shared values rest (IsIncreasing-from values c.requires)) front;
-    }
+    let all : List ℕ = g.C.SortedCursor.rest c.args.cursor.now in
+    let rest : List ℕ = g.C.SortedCursor.rest c.loop-next.cursor in
+    let old : List ℕ = c.args.values.now in
+    let ys : List ℕ = c.loop-next.values in
+    let s = c.loop-next.invariant in
+    let whole : AreKept (keeps false all) old ys c.loop-next.done.kept (length ys) =
+    lacked_kept all rest old ys c.loop-next.done.kept c.loop-next.done.from (length ys) c.requires s (omega (arith, s.are.within, s.are.long)) (omega arith)
+    (c.in_default.ensures.none refl) in
+    shared_are old ys all c.loop-next.done.kept c.requires (omega (arith, s.are.behind, s.are.within, s.are.long))
+    (all_kept (keeps false all) old ys c.loop-next.done.kept (length ys) whole (omega (arith, s.are.long)))

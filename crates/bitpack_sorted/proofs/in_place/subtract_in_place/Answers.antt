@@ -1,61 +1,55 @@
--- Each turn moves one value to the front, or leaves it out.
-use Rattle.std.proofs.Common.{◌≡◌, ◌+◌, ◌<◌, ◌≤◌, ℕ, List, [], ◌++◌, true, false, drop, get_or, length, set, take, refl, sym, ◌∙◌, ap, arith, rules}
-use Rattle.std.proofs.lemmas.List.{drop_all}
-use Rattle.bitpack_sorted.specs.Increasing.{has, without}
-use Rattle.bitpack_sorted.specs.IncreasingLaws.{IsIncreasing-from, increasing_without}
-use Rattle.bitpack_sorted.proofs.Combining.{without-nil}
-use Rattle.bitpack_sorted.proofs.InPlaceSteps.{increasing_ahead, increasing_done, increasing_rest, none_left, one_kept, still_ahead, value_kept, value_taken}
-use Rattle.bitpack_sorted.proofs.in_place.subtract_in_place.Goals.{then-not-finds_next, else-not-finds_next}
+-- Each turn filters as far as the current block of the cursor reaches; if nothing is left, all that is still to come is kept.
+use Rattle.std.proofs.Common.{◌≡◌, ◌<◌, ℕ, List, true, not, Some, None, length, get_or, sym, ◌∙◌, ap, arith}
+use Rattle.bitpack_sorted.specs.Increasing.{first}
+use Rattle.bitpack_sorted.specs.inner.Marks.{keeps}
+use Rattle.bitpack_sorted.proofs.FilterSteps.{all_kept, rest_kept}
+use Rattle.bitpack_sorted.proofs.FilteringSteps.{ahead_increasing, filtering_more, front_reached, rest_lacked, without_are}
+use Rattle.bitpack_sorted.proofs.FrontLemmas.{front_some}
 use Rattle.bitpack_sorted.proofs.in_place.subtract_in_place.Goals as goal
 
-pub loop-index-preserved : goal.loop-index-preserved
-loop-index-preserved g c =
-    let values : List ℕ = c.loop-index.values in
-    let kept = c.loop-index.kept in
-    let index : ℕ = c.loop-index.index in
-    let value = get_or values index 0 in
-    let others = g.C.SortedCursor.rest c.loop-index.cursor in
-    let rest = g.C.SortedCursor.rest c.finds_next.new.cursor in
-    let so_far = c.loop-index.invariant in
-    let within : index < length values = omega (arith, c.loop-index-test.true, c.loop-index.auto.values) in
-    elim c.if-not-finds_next.branch [
-      | then-not-finds_next w ↦
-          let lacks : false ≡ has others value = search rules in
-          let before : kept < index + 1 = omega (arith, so_far.few) in
-          rw (w.values-is, w.kept-is)
-          (record {
-            few = omega (arith, so_far.few);
-            increasing = increasing_ahead values index kept value (index + 1) so_far.increasing (omega arith) before;
-            all = ap (λ ahead. take (kept + 1) (set values kept value) ++ without ahead rest) (still_ahead values kept value (index + 1) before)
-                ∙ one_kept values kept value (without (drop (index + 1) values) rest) (omega (arith, so_far.few, within))
-                ∙ ap (λ rest. take kept values ++ rest) (sym (value_kept values index value others rest within refl so_far.increasing c.finds_next.ensures.rest lacks))
-                ∙ so_far.all;
-          })
-      | else-not-finds_next w ↦
-          let found : true ≡ has others value = search rules in
-          rw (w.values-is, w.kept-is)
-          (record {
-            few = omega (arith, so_far.few);
-            increasing = increasing_rest values index (index + 1) so_far.increasing (omega arith);
-            all = ap (λ rest. take kept values ++ rest) (sym (value_taken values index value others rest within refl so_far.increasing c.finds_next.ensures.rest found))
-                ∙ so_far.all;
-          })
-    ]
+pub returns-in_default : goal.returns-in_default
+returns-in_default g c =
+    let all : List ℕ = g.C.SortedCursor.rest c.args.cursor.now in
+    let rest : List ℕ = g.C.SortedCursor.rest c.loop-done.cursor in
+    let rest' : List ℕ = g.C.SortedCursor.rest c.seek.new.self in
+    let old : List ℕ = c.args.values.now in
+    let ys : List ℕ = c.loop-done.values in
+    let s = c.loop-done.invariant in
+    let none : first rest' ≡ None = sym c.in_default.ensures.value in
+    let lacked = rest_lacked true all rest old ys c.loop-done.done.kept c.loop-done.done.from c.requires s c.loop-done-test.true rest' c.seek.ensures.rest none in
+    without_are old c.move_rest.new.values all c.move_rest.result c.requires c.move_rest.ensures.few
+    (c.move_rest.ensures.are ∙ rest_kept (keeps true all) old ys c.loop-done.done.kept c.loop-done.done.from s.are (λ q le lt. ap not (lacked q le lt)))
 
--- nothing is to come at the end
-ended : (values ys : List ℕ) (index : ℕ) → length values ≤ index → without (drop index values) ys ≡ []
-ended values ys index all = ap (λ xs. without xs ys) (drop_all index values all) ∙ without-nil ys
+pub keep_in_block-done-requires-clause-increasing : goal.keep_in_block-done-requires-clause-increasing
+keep_in_block-done-requires-clause-increasing g c =
+    let all : List ℕ = g.C.SortedCursor.rest c.args.cursor.now in
+    ahead_increasing (keeps true all) c.args.values.now c.loop-done.values c.loop-done.done.kept c.loop-done.done.from c.requires c.loop-done.invariant.are
+
+pub keep_in_block-done-requires-clause-reached : goal.keep_in_block-done-requires-clause-reached
+keep_in_block-done-requires-clause-reached g c =
+    let rest' : List ℕ = g.C.SortedCursor.rest c.seek.new.self in
+    let block : List ℕ = c.first_part.result.now in
+    front_reached (get_or c.loop-done.values c.loop-done.done.from 0) (g.C.SortedCursor.rest c.loop-done.cursor) rest' block c.seek.ensures.rest c.first_part.ensures.front
+    (front_some block rest' c.first_part.ensures.front (λ none. let clash : Some c.in-Some._here ≡ None = c.in-Some.ensures.value ∙ none in cc))
+
+pub loop-done-preserved : goal.loop-done-preserved
+loop-done-preserved g c =
+    let all : List ℕ = g.C.SortedCursor.rest c.args.cursor.now in
+    let rest : List ℕ = g.C.SortedCursor.rest c.loop-done.cursor in
+    let rest' : List ℕ = g.C.SortedCursor.rest c.seek.new.self in
+    let old : List ℕ = c.args.values.now in
+    let ys : List ℕ = c.loop-done.values in
+    let block : List ℕ = c.first_part.result.now in
+    let some : 0 < length block = front_some block rest' c.first_part.ensures.front (λ none. let clash : Some c.in-Some._here ≡ None = c.in-Some.ensures.value ∙ none in cc) in
+    filtering_more true all rest old ys c.loop-done.done.kept c.loop-done.done.from c.requires c.loop-done.invariant c.loop-done-test.true rest' c.seek.ensures.rest
+    block c.first_part.ensures.front some c.loop-done.done.from (omega arith) c.loop-done-test.true c.loop-done.invariant.are c.keep_in_block-done.new.values
+    c.keep_in_block-done.result.kept c.keep_in_block-done.result.from c.keep_in_block-done.ensures.forward.0 c.keep_in_block-done.ensures.filters
 
 pub returns : goal.returns
 returns g c =
-    let values : List ℕ = c.loop-index.values in
-    let old = c.args.values.now in
-    let others = g.C.SortedCursor.rest c.args.cursor.now in
-    let front : take c.loop-index.kept values ≡ without old others =
-    none_left (take c.loop-index.kept values) _ (without old others) c.loop-index.invariant.all
-    (ended values (g.C.SortedCursor.rest c.loop-index.cursor) c.loop-index.index (omega (arith, c.loop-index-test.false, c.loop-index.auto.values))) in
-    record {
-      few = omega (arith, c.loop-index.invariant.few, c.loop-index.auto.index-end, c.loop-index.auto.values);
-      are = front;
-      increasing = increasing_done (take c.loop-index.kept values) (without old others) (increasing_without old others (IsIncreasing-from old c.requires)) front;
-    }
+    let all : List ℕ = g.C.SortedCursor.rest c.args.cursor.now in
+    let old : List ℕ = c.args.values.now in
+    let ys : List ℕ = c.loop-done.values in
+    let s = c.loop-done.invariant in
+    without_are old ys all c.loop-done.done.kept c.requires (omega (arith, s.are.behind, s.are.within, s.are.long))
+    (all_kept (keeps true all) old ys c.loop-done.done.kept c.loop-done.done.from s.are (omega (arith, c.loop-done-test.false, s.are.long)))

@@ -1,13 +1,11 @@
--- What is kept is in front, and with what is still to come it is what the cursor lacks.
-use Rattle.std.proofs.Common.{◌≡◌, ◌++◌, ◌≤◌, drop, take}
-use Rattle.std.specs.List.Sorted.{IsStrictlyIncreasing}
-use Rattle.bitpack_sorted.specs.Increasing.{without}
+-- The values before an index are filtered.
+use Rattle.std.proofs.Common.{◌-◌, true, length}
+use Rattle.bitpack_sorted.proofs.FilteringSteps.{IsFiltering}
 use Rattle.bitpack_sorted.proofs.in_place.subtract_in_place.Given as goal
 
-abbrev pub invariant-loop-index : goal.invariant-loop-index
-invariant-loop-index g l = record {
-  few : l.kept ≤ l.index;
-  increasing : IsStrictlyIncreasing (drop l.index l.values);
-  all : take l.kept l.values ++ without (drop l.index l.values) (g.C.SortedCursor.rest l.cursor)
-      ≡ without l.initial.values (g.C.SortedCursor.rest l.initial.cursor);
-}
+abbrev pub invariant-loop-done : goal.invariant-loop-done
+invariant-loop-done g l =
+    IsFiltering true (g.C.SortedCursor.rest l.initial.cursor) (g.C.SortedCursor.rest l.cursor) l.initial.values l.values l.done.kept l.done.from
+
+abbrev pub decreases-loop-done : goal.decreases-loop-done
+decreases-loop-done g l = length l.initial.values - l.done.from

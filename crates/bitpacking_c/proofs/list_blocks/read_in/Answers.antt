@@ -1,22 +1,38 @@
 -- The bytes are the text of one list, and the block is of it.
-use Rattle.std.proofs.Common.{List, ℕ, subst, arith}
-use Rattle.bitpack_lists.specs.Blocks.{IsBlockOf}
+use Rattle.std.proofs.Common.{◌≡◌, ◌-◌, ◌*◌, ◌<◌, ◌≤◌, length, get_or}
 use Rattle.bitpack_lists.specs.Opened.{kind_of, values}
+use Rattle.bitpack_lists.specs.Parts.{whole_blocks}
+use Rattle.bitpack_lists.specs.Places.{InOrder}
+use Rattle.bitpack_lists.proofs.ForCallers.{in_order_from_kind}
+use Rattle.bitpacking_c.specs.Blocks.{HasValues}
+use Rattle.bitpacking_c.proofs.CursorPlaces.{one_of_each, read_of_each}
 use Rattle.bitpacking_c.proofs.list_blocks.read_in.Goals as goal
 
-pub read_block-requires-clause-block : goal.read_block-requires-clause-block
-read_block-requires-clause-block g c = rw c.requires.lanes at (c.requires.block (kind_of c.list.result) (values c.list.result) c.list.ensures.list)
+pub read_next-requires-clause-block : goal.read_next-requires-clause-block
+read_next-requires-clause-block g c =
+    let list = c.list in
+    let within : c.args.block ≤ whole_blocks g.P.BitPacker.lanes (length (values list.result)) =
+    rw c.requires.lanes at (c.requires.block (values list.result) (kind_of list.result, list.ensures.list)) in
+    λ all same. rw same within
+
+pub read_next-requires-clause-before : goal.read_next-requires-clause-before
+read_next-requires-clause-before g c =
+    let list = c.list in
+    let last : 0 < c.args.block → get_or (values list.result) (32 * g.P.BitPacker.lanes * c.args.block - 1) 0 ≡ c.args.before =
+    rw c.requires.lanes at (c.requires.before (values list.result) (kind_of list.result, list.ensures.list)) in
+    λ all same. rw same last
 
 pub returns-clause-read : goal.returns-clause-read
 returns-clause-read g c =
     let list = c.list in
-    let read = c.read_block.ensures in
-    record {
-      is = λ kind all is.
-          rw c.requires.lanes
-          (subst (λ (xs : List ℕ). IsBlockOf g.P.BitPacker.lanes xs c.args.block c.read_block.result c.read_block.new.out)
-          (list.ensures.only kind all is).1 read.is);
-      sorted = λ ordered. read.ordered (ordered (kind_of list.result) (values list.result) list.ensures.list);
-      few = rw c.requires.lanes read.few;
-      short = omega (arith, read.is.len_is, g.met.P.BitPacker.few_lanes);
-    }
+    let is : HasValues c.args.view.now.lanes c.args.view.now.bytes.now (values list.result) = (kind_of list.result, list.ensures.list) in
+    read_of_each c.args.view.now.lanes c.args.view.now.bytes.now (values list.result) is (λ kind all is. (list.ensures.only kind all is).1)
+    (InOrder (values list.result)) c.args.block c.read_next.result c.read_next.new.out
+    (λ are. in_order_from_kind list.result g.met.P.BitPacker.some_lanes (are (kind_of list.result) (values list.result) list.ensures.list))
+    (rw c.requires.lanes c.read_next.ensures.read)
+
+pub returns-clause-one : goal.returns-clause-one
+returns-clause-one g c =
+    let list = c.list in
+    one_of_each c.args.view.now.lanes c.args.view.now.bytes.now (values list.result) (kind_of list.result, list.ensures.list)
+    (λ kind all is. (list.ensures.only kind all is).1) c.args.block _ _ (rw c.requires.lanes c.read_next.ensures.one)

@@ -41,7 +41,7 @@ loop-index-preserved c =
     λ lists are. let count = count_of_values views lists are in omega (arith, count, c.loop-index-test.true) in
     elim c.if-index-shortest.branch [
       | then-index-shortest w ↦
-          let called = w.keep_shared-kept in
+          let called = w.filter_by-kept in
           let view = w.index-views-index.result in
           let here : get_or views i view ≡ view = search rules in
           let front : take called.result c.if-index-shortest.out ≡ take called.result called.new.values =

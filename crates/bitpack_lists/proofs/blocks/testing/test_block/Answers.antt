@@ -1,18 +1,56 @@
--- The tests in their order find the first fault of a body.
-use Rattle.std.proofs.Common.{sym, ◌∙◌}
+-- The tests in their order find the first fault of a body, by its codes together.
+use Rattle.std.proofs.Common.{◌≡◌, ℕ, ◌-◌, ◌*◌, ◌^◌, ◌<◌, Bool, true, false, ltb, ◌&&◌, List, length, get_or, refl, sym, ◌∙◌, ap}
+use Rattle.std.specs.List.{list_all}
+use Rattle.std.proofs.lemmas.Bool.{lt-ltb, ltb-true}
+use Rattle.bitpacking.specs.declared.kind.Kind.{Kind}
+use Rattle.bitpacking.specs.Codes.{values_of}
+use Rattle.bitpacking.specs.Layout.{codes_of}
+use Rattle.bitpacking.specs.Width.{Fits}
+use Rattle.bitpack_lists.specs.Parts.{is_loose}
+use Rattle.bitpack_lists.proofs.lemmas.blocks.LooseLemmas.{Decides-fits}
 use Rattle.bitpack_lists.proofs.lemmas.blocks.RestFaults.{loose_body, other_last, right_body}
 use Rattle.bitpack_lists.proofs.blocks.testing.test_block.Goals as goal
 
-pub returns-then-fits_smaller : goal.returns-then-fits_smaller
-returns-then-fits_smaller c = λ kind last.
-    loose_body c.args.lanes kind c.args.block c.args.entry.width c.args.entry.last c.args.body.now (sym c.fits_smaller.ensures ∙ c.if-fits_smaller.true)
+same_truth : (one other : Bool) → (one ≡ true → other ≡ true) → (other ≡ true → one ≡ true) → one ≡ other
+same_truth true other to from = sym (to refl)
+same_truth false true to from = from refl
+same_truth false false to from = refl
 
-pub returns-then-last-entry : goal.returns-then-last-entry
-returns-then-last-entry c = λ kind last.
-    other_last c.args.lanes kind c.args.block c.args.entry.width c.args.entry.last c.args.body.now (sym c.fits_smaller.ensures ∙ c.if-fits_smaller.false)
-    (λ e. c.if-last-entry.true (last ∙ e))
+-- Codes fit a smaller width exactly if all their bits do.
+loose_is : (lanes width bits : ℕ) (body codes : List ℕ) → ((w : ℕ) → bits < 2 ^ w → Fits codes w) → ((w : ℕ) → Fits codes w → bits < 2 ^ w)
+    → codes ≡ codes_of lanes width body → is_loose lanes width body ≡ (ltb 0 width && ltb bits (2 ^ (width - 1)))
+unfolding is_loose
+loose_is lanes width bits body codes above below are =
+    let w : ℕ = width - 1 in
+    let decides = Decides-fits codes w in
+    ap (λ xs. ltb 0 width && list_all (λ code. ltb code (2 ^ w)) xs) (sym are)
+    ∙ ap (λ b. ltb 0 width && b) (same_truth (list_all (λ code. ltb code (2 ^ w)) codes) (ltb bits (2 ^ w))
+    (λ all. lt-ltb bits (2 ^ w) (below w (decides.0 all))) (λ small. decides.1 (above w (ltb-true bits (2 ^ w) small))))
+
+-- The last value is that of the block.
+ends : (lanes width value : ℕ) (kind : Kind) (body codes : List ℕ) → length codes ≡ 32 * lanes → codes ≡ codes_of lanes width body
+    → value ≡ get_or (values_of kind codes) (length codes - 1) 0 → get_or (values_of kind (codes_of lanes width body)) (32 * lanes - 1) 0 ≡ value
+ends lanes width value kind body codes long are is =
+    ap (λ n. get_or (values_of kind (codes_of lanes width body)) (n - 1) 0) (sym long)
+    ∙ ap (λ xs. get_or (values_of kind xs) (length codes - 1) 0) (sym are) ∙ sym is
+
+pub returns-then-fits_less : goal.returns-then-fits_less
+returns-then-fits_less c = λ lanes body long are.
+    let totals = c.add_codes-totals.ensures in
+    loose_body lanes c.args.kind c.args.block c.args.entry.width c.args.entry.last body
+    (loose_is lanes c.args.entry.width c.add_codes-totals.result.bits body c.args.codes.now totals.above totals.below are ∙ sym c.fits_less.ensures ∙ c.if-fits_less.true)
+
+pub returns-then-last_value-entry : goal.returns-then-last_value-entry
+returns-then-last_value-entry c = λ lanes body long are.
+    let totals = c.add_codes-totals.ensures in
+    other_last lanes c.args.kind c.args.block c.args.entry.width c.args.entry.last body
+    (loose_is lanes c.args.entry.width c.add_codes-totals.result.bits body c.args.codes.now totals.above totals.below are ∙ sym c.fits_less.ensures ∙ c.if-fits_less.false)
+    (λ e. c.if-last_value-entry.true
+    (sym (ends lanes c.args.entry.width c.last_value.result c.args.kind body c.args.codes.now long are c.last_value.ensures) ∙ e))
 
 pub returns : goal.returns
-returns c = λ kind last.
-    right_body c.args.lanes kind c.args.block c.args.entry.width c.args.entry.last c.args.body.now (sym c.fits_smaller.ensures ∙ c.if-fits_smaller.false)
-    (sym last ∙ c.if-last-entry.false)
+returns c = λ lanes body long are.
+    let totals = c.add_codes-totals.ensures in
+    right_body lanes c.args.kind c.args.block c.args.entry.width c.args.entry.last body
+    (loose_is lanes c.args.entry.width c.add_codes-totals.result.bits body c.args.codes.now totals.above totals.below are ∙ sym c.fits_less.ensures ∙ c.if-fits_less.false)
+    (ends lanes c.args.entry.width c.last_value.result c.args.kind body c.args.codes.now long are c.last_value.ensures ∙ c.if-last_value-entry.false)

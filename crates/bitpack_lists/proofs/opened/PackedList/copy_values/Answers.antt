@@ -4,11 +4,11 @@ use Rattle.std.proofs.Math.Nat.{div-add-mod}
 use Rattle.std.proofs.lemmas.List.{length-drop, length-take}
 use Rattle.bitpack_lists.specs.Chains.{next_kind}
 use Rattle.bitpack_lists.specs.Opened.{first_of}
-use Rattle.bitpack_lists.specs.Places.{HasPart}
+use Rattle.bitpack_lists.specs.inner.Searching.{HasPart}
 use Rattle.bitpack_lists.specs.inner.Searching.{blocks_of, value_of}
 use Rattle.bitpack_lists.proofs.lemmas.blocks.ChainLemmas.{length-block}
 use Rattle.bitpack_lists.proofs.lemmas.opened.CopySteps.{copied_block, copied_tail}
-use Rattle.bitpack_lists.proofs.lemmas.opened.CursorPlaces.{part_unpacked}
+use Rattle.bitpack_lists.proofs.lemmas.opened.ReadParts.{part_unpacked}
 use Rattle.bitpack_lists.proofs.lemmas.opened.CursorSteps.{part_end}
 use Rattle.bitpack_lists.proofs.opened.PackedList.copy_values.Goals as goal
 

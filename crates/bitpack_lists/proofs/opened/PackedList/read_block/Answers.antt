@@ -2,10 +2,10 @@
 use Rattle.std.proofs.Common.{◌≡◌, ◌≤◌, ◌*◌, ◌/◌, ◌%◌, ◌<◌, ℕ, length, drop, take, ◌∙◌, ap, arith}
 use Rattle.std.proofs.Math.Nat.{mod-lt}
 use Rattle.std.proofs.lemmas.List.{length-take}
-use Rattle.bitpack_lists.specs.Places.{HasPart}
+use Rattle.bitpack_lists.specs.inner.Searching.{HasPart}
 use Rattle.bitpack_lists.specs.inner.Searching.{value_of}
 use Rattle.bitpack_lists.proofs.lemmas.opened.BlockPlaces.{BlockFacts, block_facts, tail_part}
-use Rattle.bitpack_lists.proofs.lemmas.opened.CursorPlaces.{part_unpacked}
+use Rattle.bitpack_lists.proofs.lemmas.opened.ReadParts.{part_unpacked}
 use Rattle.bitpack_lists.proofs.lemmas.opened.CursorSteps.{length-first_of}
 use Rattle.bitpack_lists.proofs.opened.PackedList.read_block.Given.{Over}
 use Rattle.bitpack_lists.proofs.opened.PackedList.read_block.Goals as goal

@@ -1,7 +1,7 @@
 -- The values are those of the block, or of the tail.
 use Rattle.std.proofs.Common.{take, ◌∙◌, ap}
 use Rattle.bitpack_lists.specs.inner.Searching.{IsListBlock}
-use Rattle.bitpack_lists.proofs.lemmas.opened.CursorPlaces.{part_unpacked}
+use Rattle.bitpack_lists.proofs.lemmas.opened.ReadParts.{part_unpacked}
 use Rattle.bitpack_lists.proofs.opened.PackedList.read_block_or_tail.Goals as goal
 
 pub returns-in-Some-clause-part : goal.returns-in-Some-clause-part

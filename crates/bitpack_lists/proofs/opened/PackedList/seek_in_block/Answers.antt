@@ -1,17 +1,40 @@
 -- The first value that reaches the target is in the first block whose last value does.
-use Rattle.std.proofs.Common.{◌≡◌, ◌*◌, take, ◌∙◌, ap}
+use Rattle.std.proofs.Common.{◌≡◌, ◌*◌, ℕ, List, take, ◌∙◌, ap, arith}
+use Rattle.std.proofs.lemmas.List.{length-take}
+use Rattle.bitpack_lists.specs.inner.Searching.{block_of_list}
+use Rattle.bitpack_lists.proofs.lemmas.opened.ReadParts.{in_order_from_kind, part_order, part_unpacked}
 use Rattle.bitpack_lists.proofs.lemmas.opened.OpenedLists.{opened_inside, opened_search}
 use Rattle.bitpack_lists.proofs.opened.PackedList.seek_in_block.Goals as goal
+
+-- What is kept is the block of the number.
+kept_values : (len n number at : ℕ) (block : ℕ → List ℕ) (kept : List ℕ) → len ≡ n → at ≡ number → take n kept ≡ block at → take len kept ≡ block number
+kept_values len n number at block kept whole same is = ap (λ m. take m kept) whole ∙ is ∙ ap block same
+
+pub first_in_block-requires-clause-order : goal.first_in_block-requires-clause-order
+first_in_block-requires-clause-order g c =
+    let self = c.args.self.now in
+    let some = g.met.P.BitPacker.some_lanes in
+    let whole : c.BLOCK_LEN-len.result ≡ 32 * g.P.BitPacker.lanes = c.BLOCK_LEN-len.ensures ∙ g.met.P.BitPacker.block_len in
+    let keeps = c.cache_block.ensures.kept in
+    let values : take c.BLOCK_LEN-len.result c.cache_block.new.kept.values ≡ block_of_list self c.args.block.number =
+    kept_values c.BLOCK_LEN-len.result (32 * g.P.BitPacker.lanes) c.args.block.number c.cache_block.new.kept.number (block_of_list self)
+    c.cache_block.new.kept.values whole keeps.number (keeps.kept (rw keeps.number c.requires.block.is.within)) in
+    let part = part_unpacked self some c.args.block.number c.BLOCK_LEN-len.result c.cache_block.new.kept.values c.requires.block.is.within whole values in (
+      omega (arith, length-take c.BLOCK_LEN-len.result c.cache_block.new.kept.values, whole, g.met.P.BitPacker.few_lanes),
+      part_order self some c.args.block.number c.BLOCK_LEN-len.result c.cache_block.new.kept.values part (in_order_from_kind self some c.requires.ordered),
+    )
 
 pub returns-clause-found : goal.returns-clause-found
 returns-clause-found g c =
     let whole : c.BLOCK_LEN-len.result ≡ 32 * g.P.BitPacker.lanes = c.BLOCK_LEN-len.ensures ∙ g.met.P.BitPacker.block_len in
     let block = c.requires.block in
+    let self = c.args.self.now in
     let keeps = c.cache_block.ensures.kept in
-    let kept = keeps.kept (rw keeps.number block.is.within) in
-    let values = ap (λ len. take len c.cache_block.new.kept.values) whole ∙ rw keeps.number at kept in
-    opened_search c.args.self.now g.met.P.BitPacker.some_lanes c.requires.ordered c.args.target c.args.block.number block.before block.is.within block.enough
-    c.BLOCK_LEN-len.result (take c.BLOCK_LEN-len.result c.cache_block.new.kept.values) c.first_in_slice.result whole values c.first_in_slice.ensures.found
+    let values : take c.BLOCK_LEN-len.result c.cache_block.new.kept.values ≡ block_of_list self c.args.block.number =
+    kept_values c.BLOCK_LEN-len.result (32 * g.P.BitPacker.lanes) c.args.block.number c.cache_block.new.kept.number (block_of_list self)
+    c.cache_block.new.kept.values whole keeps.number (keeps.kept (rw keeps.number c.requires.block.is.within)) in
+    opened_search self g.met.P.BitPacker.some_lanes c.requires.ordered c.args.target c.args.block.number block.before block.is.within block.enough
+    c.BLOCK_LEN-len.result (take c.BLOCK_LEN-len.result c.cache_block.new.kept.values) c.first_in_block.result whole values c.first_in_block.ensures.found
 
 pub returns-clause-inside : goal.returns-clause-inside
 returns-clause-inside g c =

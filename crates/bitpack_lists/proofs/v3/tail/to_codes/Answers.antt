@@ -2,7 +2,7 @@
 use Rattle.std.proofs.Common.{◌∙◌, Some, ap, sym}
 use Rattle.bitpacking.specs.declared.kind.Kind.TheVariants.{StrictlySorted}
 use Rattle.bitpacking.specs.Codes.{codes}
-use Rattle.bitpack_lists.proofs.lemmas.v3.CodeLemmas.{gaps-sorted, gaps-strict}
+use Rattle.bitpack_lists.proofs.lemmas.blocks.CodeLemmas.{gaps-sorted, gaps-strict}
 use Rattle.bitpack_lists.proofs.v3.tail.to_codes.Goals as goal
 
 pub returns-in-Sorted : goal.returns-in-Sorted

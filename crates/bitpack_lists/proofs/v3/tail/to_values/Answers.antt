@@ -2,7 +2,7 @@
 use Rattle.std.proofs.Common.{◌∙◌, ◌%◌, ◌^◌, ℕ, ap, refl, sym}
 use Rattle.std.specs.Prelude.{unwrap_or}
 use Rattle.bitpacking.specs.Codes.{values_of}
-use Rattle.bitpack_lists.proofs.lemmas.v3.CodeLemmas.{sums-sorted, sums-strict}
+use Rattle.bitpack_lists.proofs.lemmas.blocks.CodeLemmas.{sums-sorted, sums-strict}
 use Rattle.bitpack_lists.proofs.v3.tail.to_values.Goals as goal
 
 pub returns-in-Sorted : goal.returns-in-Sorted

@@ -1,5 +1,5 @@
 -- A list that is not plain is in order.
-use Rattle.bitpack_lists.proofs.lemmas.opened.CursorPlaces.{in_order_from_kind}
+use Rattle.bitpack_lists.proofs.lemmas.opened.ReadParts.{in_order_from_kind}
 use Rattle.bitpack_lists.proofs.opened.cursor.Cursor.is_in_order.Goals as goal
 
 pub returns-in_default-clause-sorted : goal.returns-in_default-clause-sorted

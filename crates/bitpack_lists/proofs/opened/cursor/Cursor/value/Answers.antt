@@ -1,13 +1,13 @@
 -- The value is that of the place.
-use Rattle.bitpack_lists.proofs.lemmas.opened.CursorPlaces.{place_none, place_some}
+use Rattle.std.proofs.Common.{◌≡◌, length, refl, ◌∙◌, arith}
+use Rattle.bitpack_lists.specs.Opened.{values}
+use Rattle.bitpack_lists.proofs.lemmas.opened.CursorPlaces.{value_at}
 use Rattle.bitpack_lists.proofs.opened.cursor.Cursor.value.Goals as goal
 
-pub returns-then-self : goal.returns-then-self
-returns-then-self g c =
+pub returns : goal.returns
+returns g c =
     let self = c.args.self.now in
-    place_some self.list g.met.P.BitPacker.some_lanes self.block self.index self.len self.values self.reads.blocks self.place c.if-self.true
-
-pub returns-else-self : goal.returns-else-self
-returns-else-self g c =
-    let self = c.args.self.now in
-    place_none self.list g.met.P.BitPacker.some_lanes self.block self.index self.len self.values self.reads.blocks self.place c.if-self.false
+    let place = self.place in
+    let none : g.P.BitPacker.lanes ≡ 0 → length (values self.list) ≡ 0 = λ no. absurd (omega (arith, no, g.met.P.BitPacker.some_lanes)) in
+    c.value.ensures
+    ∙ value_at g.P.BitPacker.lanes (values self.list) none place.block place.index place.len place.values (self.at.here (values self.list) refl) place.room

@@ -1,0 +1,33 @@
+-- Windows of numbers, a bit for each, and what was written of those whose bits are set.
+use Rattle.std.specs.Prelude.{◌≡◌, ℕ, ◌+◌, ◌*◌, ◌/◌, ◌%◌, ◌^◌, ◌<◌, ◌≤◌, ◌==◌, Bool, true, false, ◌||◌, List, length, slice_index, take}
+use Rattle.std.specs.Int.{bit_at}
+use Rattle.bitpack_sorted.specs.Increasing.{IsIncreasing, has}
+
+-- whether a bit of a word is set
+abbrev pub is_set : ℕ → ℕ → Bool
+is_set word place = bit_at word place == 1
+
+-- whether the bit of a number of a window is set
+abbrev pub in_window : List ℕ → ℕ → Bool
+in_window window b = is_set (slice_index window (b / 64)) (b % 64)
+
+-- the first number of a window; each has 65,536 numbers
+abbrev pub base_of : ℕ → ℕ
+base_of number = number * 65536
+
+-- the bits of the numbers for which a test is true were set, and after the window it is true of none before the next; past all there is none
+pub record Marks (test : ℕ → Bool) (number : ℕ) (before after : List ℕ) (next : ℕ) : Type 0 where
+  pub marked : (b : ℕ) → b < 65536 → in_window after b ≡ (in_window before b || test (base_of number + b))
+  pub between : (v : ℕ) → base_of number + 65536 ≤ v → v < next → test v ≡ false
+  pub past : 2 ^ 32 ≤ next → (v : ℕ) → base_of number + 65536 ≤ v → test v ≡ false
+
+-- the values in front are the numbers below `low` for which a test is true, in order, or the first of them if there is no room for all
+pub record HasWritten (test : ℕ → Bool) (low : ℕ) (out : List ℕ) (count : ℕ) : Type 0 where
+  pub increasing : IsIncreasing (take count out)
+  pub below : (v : ℕ) → has (take count out) v ≡ true → v < low
+  pub sound : (v : ℕ) → has (take count out) v ≡ true → test v ≡ true
+  pub whole : count < length out → (v : ℕ) → v < low → test v ≡ true → has (take count out) v ≡ true
+
+-- what a call writes after numbers below `low`, up to `high`
+abbrev pub Writes : ℕ → ℕ → (ℕ → Bool) → List ℕ → ℕ → List ℕ → ℕ → Type 0
+Writes low high test before written after count = HasWritten test low before written → HasWritten test high after count

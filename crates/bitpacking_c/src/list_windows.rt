@@ -1,0 +1,208 @@
+//! The union of dense lists by windows of 65,536 numbers: each list sets the bits of its values, and then the numbers of set bits are written.
+
+ghost use Rattle.std.specs.Prelude.{◌≡◌, ℕ, ◌+◌, ◌*◌, ◌^◌, ◌<◌, ◌≤◌, ◌==◌, ◌||◌, Bool, true, false, All, List, length};
+ghost use Rattle.bitpack_lists.specs.declared.list_kind.ListKind.{ListKind};
+ghost use Rattle.bitpack_sorted.specs.Fronts.{IsFront};
+ghost use Rattle.bitpack_sorted.specs.Increasing.{at_least, first, has};
+ghost use Rattle.bitpack_sorted.specs.Many.{any_has};
+ghost use Rattle.bitpacking_c.specs.Sets.{AreListsOf, HasRoom, HasUnion, IsInOrder, Lists, all_values};
+ghost use Rattle.bitpacking_c.specs.Views.{IsListOf};
+ghost use Rattle.bitpacking_c.specs.Windows.{Marks, Writes, base_of, in_window, is_set};
+
+use super::list_sets::distinct_of;
+use super::list_view::{ListView, bitpacking_list_len, value};
+use bitpack_sorted::SortedCursor;
+use bitpacking::{BitPacker, BitPacker1x, BitPacker4x, BitPacker8x};
+
+/// How many numbers a window has, and the words of their bits.
+const WINDOW: u32 = 65536;
+
+const WORDS: usize = 1024;
+
+/// What a list and the words of a window cost, and what a value gains for each list after two, but no more than for many: in 2 nanoseconds.
+const LIST_COST: usize = 250;
+
+const WINDOW_COST: usize = 7000;
+
+const MOST_GAIN: usize = 9;
+
+/// If lists have fewer values than this on average, their first and last values are not worth a look.
+const SHORT: usize = 128;
+
+/// Whether windows are quicker than the other ways, as there are many values for the numbers from the first to the last. Only time depends on
+/// the answer.
+pub(crate) fn is_dense(views: &[ListView<'_>]) -> bool {
+    let count = count(views);
+    if count / SHORT < views.len() {
+        return false;
+    }
+    let mut first = u32::MAX;
+    let mut last = 0;
+    for view in views {
+        let end = bitpacking_list_len(view).saturating_sub(1);
+        first = value(view, 0).unwrap_or(first).min(first);
+        last = value(view, end).unwrap_or(last).max(last);
+    }
+    let windows = (last.saturating_sub(first) / WINDOW) as usize + 1;
+    let cost = views
+        .len()
+        .saturating_mul(LIST_COST)
+        .saturating_add(WINDOW_COST);
+    let gain = views.len().min(MOST_GAIN + 2).saturating_sub(2);
+    windows.saturating_mul(cost) < count.saturating_mul(gain)
+}
+
+/// How many values all lists have.
+fn count(views: &[ListView<'_>]) -> usize {
+    let mut count = 0usize;
+    for view in views {
+        count = count.saturating_add(bitpacking_list_len(view));
+    }
+    count
+}
+
+/// Writes what any of the lists has. Returns how many values this is.
+pub(crate) fn unite_by_windows(views: &[ListView<'_>], out: &mut [u32]) -> usize
+    requires { All IsInOrder views.now × HasRoom views.now (length out.old) }
+    ensures { HasUnion views.now out.new result }
+{
+    let mut window = [0u64; WORDS];
+    let mut written = 0;
+    let mut next = 0u64;
+    while next < 1 << 32 {
+        let number = (next / 65536) as u32;
+        next = mark_all(views, number, &mut window);
+        written = write_window(&mut window, number, out, written);
+    }
+    written
+}
+
+/// Sets the bits of the values that any list has in a window. Returns a number after it that none of their later values is below.
+fn mark_all(views: &[ListView<'_>], number: u32, window: &mut [u64]) -> u64
+    requires { All IsInOrder views.now × (number < 65536) × (length window.old ≡ 1024) }
+    ensures after { base_of number + 65536 ≤ result }
+    ensures marks { (lists : Lists) → AreListsOf views.now lists
+        → Marks (any_has (all_values lists)) number window.old window.new result }
+{
+    let mut next = 1 << 32;
+    for index in 0..views.len() {
+        next = mark_list(&views[index], number, window).min(next);
+    }
+    next
+}
+
+/// Sets the bits of the values of a list.
+fn mark_list(view: &ListView<'_>, number: u32, window: &mut [u64]) -> u64
+    requires { IsInOrder view.now × (number < 65536) × (length window.old ≡ 1024) }
+    ensures after { base_of number + 65536 ≤ result }
+    ensures marks { (kind : ListKind) (all : List ℕ) → IsListOf view.now.lanes view.now.bytes.now kind all
+        → Marks (has all) number window.old window.new result }
+{
+    match view.lanes {
+        0 => 1 << 32,
+        1 => mark(&mut distinct_of(BitPacker1x::new(), view), number, window),
+        4 => mark(&mut distinct_of(BitPacker4x::new(), view), number, window),
+        _ => mark(&mut distinct_of(BitPacker8x::new(), view), number, window),
+    }
+}
+
+/// Sets the bits of the values of a cursor, block by block.
+fn mark<C: SortedCursor>(cursor: &mut C, number: u32, window: &mut [u64]) -> u64
+    requires { (number < 65536) × (length window.old ≡ 1024) }
+    ensures { (base_of number + 65536 ≤ result) × Marks (has (C.rest cursor.old)) number window.old window.new result }
+{
+    let mut next = cursor.seek(number * WINDOW);
+    while let Some(value) = next {
+        if value / WINDOW != number {
+            return wide(value);
+        }
+        let block = cursor.block();
+        set_bits(block, number, window);
+        let last = block[block.len() - 1].min(number * WINDOW + (WINDOW - 1));
+        let ahead = block.len() - 1;
+        next = pass(cursor, last, ahead);
+    }
+    1 << 32
+}
+
+/// A value as a number of 64 bits.
+#[inline(always)]
+fn wide(value: u32) -> u64
+    ensures { (result ≡ value) × (result < 2 ^ 32) }
+{
+    value as u64
+}
+
+/// Moves a cursor past a value. It is faster if the value is `ahead` values ahead.
+fn pass<C: SortedCursor>(cursor: &mut C, last: u32, ahead: usize) -> Option<u32>
+    ensures rest { C.rest cursor.new ≡ at_least (last + 1) (C.rest cursor.old) }
+    ensures value { result ≡ first (C.rest cursor.new) }
+{
+    let here = cursor.seek_ahead(last, ahead);
+    if let Some(value) = here {
+        if value == last {
+            return cursor.advance();
+        }
+    }
+    here
+}
+
+/// Sets the bits of those values that are in a window. No branch depends on a value.
+fn set_bits(values: &[u32], number: u32, window: &mut [u64])
+    requires { length window.old ≡ 1024 }
+    ensures { (b : ℕ) → b < 65536
+        → in_window window.new b ≡ (in_window window.old b || has values.now (base_of number + b)) }
+{
+    for index in 0..values.len() {
+        let value = values[index];
+        let at = (value % WINDOW / 64) as usize;
+        window[at] = with_bit(window[at], value % 64, value / WINDOW == number);
+    }
+}
+
+/// A word with a bit set, if it is in the window.
+#[inline(always)]
+fn with_bit(word: u64, place: u32, inside: bool) -> u64
+    requires { place < 64 }
+    ensures set { inside ≡ true → (k : ℕ) → is_set result k ≡ (is_set word k || (k == place)) }
+    ensures same { inside ≡ false → result ≡ word }
+{
+    if inside { word | (1 << place) } else { word }
+}
+
+/// Writes the numbers of the bits that are set in a window after the first `written` values of a slice, and clears the window. Returns
+/// how many values there are then. If the slice is full, it writes no more.
+fn write_window(window: &mut [u64], number: u32, out: &mut [u32], written: usize) -> usize
+    requires { (number < 65536) × (length window.old ≡ 1024) × (written ≤ length out.old) }
+    ensures within { result ≤ length out.new }
+    ensures cleared { (b : ℕ) → b < 65536 → in_window window.new b ≡ false }
+    ensures writes { (test : ℕ → Bool) → ((b : ℕ) → b < 65536 → test (base_of number + b) ≡ in_window window.old b)
+        → Writes (base_of number) (base_of number + 65536) test out.old written out.new result }
+{
+    let mut count = written;
+    for index in 0..WORDS {
+        let base = number * WINDOW + index as u32 * 64;
+        count = write_word(window[index], base, out, count);
+        window[index] = 0;
+    }
+    count
+}
+
+/// Writes the numbers of the bits that are set in a word, in order.
+#[inline(always)]
+fn write_word(word: u64, base: u32, out: &mut [u32], written: usize) -> usize
+    requires { (base + 64 ≤ 2 ^ 32) × (written ≤ length out.old) }
+    ensures within { result ≤ length out.new }
+    ensures writes { (test : ℕ → Bool) → ((j : ℕ) → j < 64 → test (base + j) ≡ is_set word j)
+        → Writes base (base + 64) test out.old written out.new result }
+{
+    let mut left = word;
+    let mut count = written;
+    while left != 0 && count < out.len() {
+        let place = left.trailing_zeros();
+        out[count] = base + place;
+        left = left & !(1 << place);
+        count += 1;
+    }
+    count
+}
