@@ -212,27 +212,27 @@ impl<'a, P: BitPacker> PackedList<'a, P> {
         ensures entries { reads.new.entries ≡ reads.old.entries + 1 }
         ensures blocks { reads.new.blocks ≡ reads.old.blocks }
     {
-        reads.entry(self.rest, block)
+        reads.read_entry(self.rest, block)
     }
 
     /// Unpacks a block, whose body is in the text.
-    fn unpack(&self, block: ListBlock, values: &mut [u32], reads: &mut Reads)
+    fn unpack_block(&self, block: ListBlock, values: &mut [u32], reads: &mut Reads)
         requires block { IsListBlock self.now block }
         requires room { P.BLOCK_LEN ≤ length values.old }
         ensures block { take P.BLOCK_LEN values.new ≡ block_of_list self.now block.number }
         ensures entries { reads.new.entries ≡ reads.old.entries }
         ensures blocks { reads.new.blocks ≡ reads.old.blocks + 1 }
     {
-        self.unpack_as(block, block.kind, values, reads);
+        self.unpack_block_as(block, block.kind, values, reads);
     }
 
     // Unpacks a block as one of a kind, which need not be its own.
-    fn unpack_as(&self, block: ListBlock, kind: Kind, values: &mut [u32], reads: &mut Reads)
+    fn unpack_block_as(&self, block: ListBlock, kind: Kind, values: &mut [u32], reads: &mut Reads)
         requires can { IsListBlock self.now block × (start kind < 2 ^ 32) × (P.BLOCK_LEN ≤ length values.old) }
         ensures block { take P.BLOCK_LEN values.new ≡ values_of kind (codes_of_list self.now block.number) }
         ensures reads { (reads.new.entries ≡ reads.old.entries) × (reads.new.blocks ≡ reads.old.blocks + 1) }
     {
-        reads.unpack(
+        reads.unpack_body(
             &self.packer,
             kind,
             block.entry,

@@ -91,7 +91,7 @@ impl Reads {
     {}
 
     /// Reads the entry of a block. The bytes are those after a header.
-    pub(crate) fn entry(&mut self, rest: &[u8], block: usize) -> Entry
+    pub(crate) fn read_entry(&mut self, rest: &[u8], block: usize) -> Entry
         requires { ENTRY_LEN * block + ENTRY_LEN ≤ length rest.now }
         ensures width { result.width ≡ width_at rest.now block }
         ensures offset { result.offset ≡ offset_at rest.now block }
@@ -109,7 +109,7 @@ impl Reads {
     }
 
     /// Unpacks the block of an entry, in a list of `blocks` blocks. The bytes are the ones after a header.
-    pub(crate) fn unpack<P: BitPacker>(
+    pub(crate) fn unpack_body<P: BitPacker>(
         &mut self,
         packer: &P,
         kind: Kind,

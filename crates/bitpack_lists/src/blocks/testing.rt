@@ -86,7 +86,7 @@ fn test_entries(rest: &[u8], blocks: usize) -> Result<usize, ListError>
     let mut reads = Reads::new();
     let mut widths = 0;
     for block in 0..blocks {
-        let entry = reads.entry(rest, block);
+        let entry = reads.read_entry(rest, block);
         if entry.width > 32 {
             return Err(ListError::BadWidth(block, entry.width));
         }
@@ -131,11 +131,11 @@ fn test_bodies<P: BitPacker>(
     let mut out = None;
     let mut room = [0; MAX_BLOCK_LEN];
     for block in 0..blocks {
-        let entry = reads.entry(rest, block);
-        reads.unpack(packer, Kind::Plain, entry, blocks, rest, &mut room);
+        let entry = reads.read_entry(rest, block);
+        reads.unpack_body(packer, Kind::Plain, entry, blocks, rest, &mut room);
         test_block(block, entry, kind, &room[..len])?;
         if !ends_in_order(kind, entry.width, len, entry.last) {
-            reads.unpack(packer, kind, entry, blocks, rest, &mut room);
+            reads.unpack_body(packer, kind, entry, blocks, rest, &mut room);
             out = out.or(first_out(header.kind, block * len, last, &room[..len]));
         }
         last = entry.last;

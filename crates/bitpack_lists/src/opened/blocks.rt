@@ -80,7 +80,7 @@ impl<'a, P: BitPacker> PackedList<'a, P> {
             entry,
             kind,
         };
-        self.unpack(block, &mut out[..len], reads);
+        self.unpack_block(block, &mut out[..len], reads);
         len
     }
 
@@ -192,7 +192,7 @@ impl<'a, P: BitPacker> PackedList<'a, P> {
     {
         match part {
             Some(block) => {
-                self.unpack(block, values, reads);
+                self.unpack_block(block, values, reads);
                 (block.number, P::BLOCK_LEN)
             }
             None => (self.count / P::BLOCK_LEN, self.read_tail(values)),

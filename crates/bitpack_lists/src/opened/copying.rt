@@ -62,7 +62,7 @@ impl<'a, P: BitPacker> PackedList<'a, P> {
                 entry,
                 kind,
             };
-            self.unpack(block, &mut out[number * len..number * len + len], reads);
+            self.unpack_block(block, &mut out[number * len..number * len + len], reads);
             kind = next_kind(first, entry.last);
         }
         let tail = self.count % len;

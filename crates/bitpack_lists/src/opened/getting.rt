@@ -39,7 +39,7 @@ impl<'a, P: BitPacker> PackedList<'a, P> {
             entry,
             kind,
         };
-        self.unpack_as(block, Kind::Plain, room, &mut reads);
+        self.unpack_block_as(block, Kind::Plain, room, &mut reads);
         value_of_codes(kind, &room[..P::BLOCK_LEN], index)
     }
 }

@@ -127,7 +127,7 @@ fn walk_block<P: BitPacker, Q: BitPacker>(
 {
     if block.entry.last as u64 >= walk.want {
         let mut values = [0; MAX_BLOCK_LEN];
-        one.unpack(block, &mut values, reads);
+        one.unpack_block(block, &mut values, reads);
         walk_values(&values[..P::BLOCK_LEN], other, walk, out, other_reads);
     }
 }

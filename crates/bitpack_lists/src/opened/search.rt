@@ -75,7 +75,7 @@ impl<'a, P: BitPacker> PackedList<'a, P> {
         let Some(block) = self.first_block(target, reads) else {
             return self.seek_in_tail(target);
         };
-        self.unpack(block, room, reads);
+        self.unpack_block(block, room, reads);
         let len = P::BLOCK_LEN;
         first_in_block(&room[..len], len * block.number, target)
     }
@@ -199,7 +199,7 @@ impl<'a, P: BitPacker> PackedList<'a, P> {
         ensures kept { KeepsBlock self.now block.number kept.old kept.new reads.old reads.new }
     {
         if kept.number != block.number {
-            self.unpack(block, &mut kept.values, reads);
+            self.unpack_block(block, &mut kept.values, reads);
             kept.number = block.number;
         }
     }

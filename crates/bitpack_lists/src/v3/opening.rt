@@ -104,7 +104,7 @@ fn start_of_tail<P: BitPacker>(kind: ListKind, blocks: usize, rest: &[u8]) -> (u
     if blocks == 0 {
         return (0, kind.first());
     }
-    let entry = Reads::new().entry(rest, blocks - 1);
+    let entry = Reads::new().read_entry(rest, blocks - 1);
     let widths = entry.offset as usize + entry.width as usize;
     let start = ENTRY_LEN * blocks + P::BLOCK_LEN / 8 * widths;
     (start, next_kind(kind.first(), entry.last))

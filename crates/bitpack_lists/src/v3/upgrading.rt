@@ -134,7 +134,7 @@ fn kind_after(kind: ListKind, blocks: usize, rest: &[u8]) -> Kind
         return kind.first();
     }
     let mut reads = Reads::new();
-    let entry = reads.entry(rest, blocks - 1);
+    let entry = reads.read_entry(rest, blocks - 1);
     next_kind(kind.first(), entry.last)
 }
 

@@ -28,34 +28,34 @@ loop-block-init g c =
     let none : 32 * g.P.BitPacker.lanes * 0 ≡ 0 = omega arith in
     record { kind = c.first-kind.ensures; right = refl; ends = λ before e. absurd (omega (arith, e)); last = λ later lt. absurd (omega arith); out = λ later. rw none refl }
 
-pub unpack-requires-clause-width : goal.unpack-requires-clause-width
-unpack-requires-clause-width g c =
+pub unpack_body-requires-clause-width : goal.unpack_body-requires-clause-width
+unpack_body-requires-clause-width g c =
     let whole : c.BLOCK_LEN-len.result ≡ 32 * g.P.BitPacker.lanes = c.BLOCK_LEN-len.ensures ∙ g.met.P.BitPacker.block_len in
-    rw c.entry-entry.ensures.width (narrow_entry g.P.BitPacker.lanes (whole_blocks g.P.BitPacker.lanes c.args.header.count) c.args.rest.now c.requires.entries
+    rw c.read_entry-entry.ensures.width (narrow_entry g.P.BitPacker.lanes (whole_blocks g.P.BitPacker.lanes c.args.header.count) c.args.rest.now c.requires.entries
     c.loop-block.block (rw whole at c.loop-block-test.true))
 
-pub unpack-requires-clause-body : goal.unpack-requires-clause-body
-unpack-requires-clause-body g c =
+pub unpack_body-requires-clause-body : goal.unpack_body-requires-clause-body
+unpack_body-requires-clause-body g c =
     let whole : c.BLOCK_LEN-len.result ≡ 32 * g.P.BitPacker.lanes = c.BLOCK_LEN-len.ensures ∙ g.met.P.BitPacker.block_len in
-    rw (c.entry-entry.ensures.offset, c.entry-entry.ensures.width, whole)
+    rw (c.read_entry-entry.ensures.offset, c.read_entry-entry.ensures.width, whole)
     (body_room g.P.BitPacker.lanes (whole_blocks g.P.BitPacker.lanes c.args.header.count) c.args.rest.now c.requires.entries
     c.loop-block.block (rw whole at c.loop-block-test.true) c.requires.room)
 
-pub unpack-requires-then-not-ends_in_order-clause-width : goal.unpack-requires-then-not-ends_in_order-clause-width
-unpack-requires-then-not-ends_in_order-clause-width g c =
+pub unpack_body-requires-then-not-ends_in_order-clause-width : goal.unpack_body-requires-then-not-ends_in_order-clause-width
+unpack_body-requires-then-not-ends_in_order-clause-width g c =
     let whole : c.BLOCK_LEN-len.result ≡ 32 * g.P.BitPacker.lanes = c.BLOCK_LEN-len.ensures ∙ g.met.P.BitPacker.block_len in
-    rw c.entry-entry.ensures.width (narrow_entry g.P.BitPacker.lanes (whole_blocks g.P.BitPacker.lanes c.args.header.count) c.args.rest.now c.requires.entries
+    rw c.read_entry-entry.ensures.width (narrow_entry g.P.BitPacker.lanes (whole_blocks g.P.BitPacker.lanes c.args.header.count) c.args.rest.now c.requires.entries
     c.loop-block.block (rw whole at c.loop-block-test.true))
 
-pub unpack-requires-then-not-ends_in_order-clause-body : goal.unpack-requires-then-not-ends_in_order-clause-body
-unpack-requires-then-not-ends_in_order-clause-body g c =
+pub unpack_body-requires-then-not-ends_in_order-clause-body : goal.unpack_body-requires-then-not-ends_in_order-clause-body
+unpack_body-requires-then-not-ends_in_order-clause-body g c =
     let whole : c.BLOCK_LEN-len.result ≡ 32 * g.P.BitPacker.lanes = c.BLOCK_LEN-len.ensures ∙ g.met.P.BitPacker.block_len in
-    rw (c.entry-entry.ensures.offset, c.entry-entry.ensures.width, whole)
+    rw (c.read_entry-entry.ensures.offset, c.read_entry-entry.ensures.width, whole)
     (body_room g.P.BitPacker.lanes (whole_blocks g.P.BitPacker.lanes c.args.header.count) c.args.rest.now c.requires.entries
     c.loop-block.block (rw whole at c.loop-block-test.true) c.requires.room)
 
-pub unpack-requires-then-not-ends_in_order-clause-start : goal.unpack-requires-then-not-ends_in_order-clause-start
-unpack-requires-then-not-ends_in_order-clause-start g c =
+pub unpack_body-requires-then-not-ends_in_order-clause-start : goal.unpack_body-requires-then-not-ends_in_order-clause-start
+unpack_body-requires-then-not-ends_in_order-clause-start g c =
     rw c.loop-block.invariant.kind (start-kind_at c.args.header.kind c.args.rest.now c.loop-block.block (AreBytes-from_slice c.args.rest.now c.type_inv.rest))
 
 pub test_block-requires : goal.test_block-requires
@@ -63,14 +63,14 @@ test_block-requires g c =
     let whole : c.BLOCK_LEN-len.result ≡ 32 * g.P.BitPacker.lanes = c.BLOCK_LEN-len.ensures ∙ g.met.P.BitPacker.block_len in
     let width = narrow_entry g.P.BitPacker.lanes (whole_blocks g.P.BitPacker.lanes c.args.header.count) c.args.rest.now c.requires.entries
     c.loop-block.block (rw whole at c.loop-block-test.true) in
-    (rw c.entry-entry.ensures.width width, search rules, search rules)
+    (rw c.read_entry-entry.ensures.width width, search rules, search rules)
 
 pub ends_in_order-requires : goal.ends_in_order-requires
 ends_in_order-requires g c =
     let whole : c.BLOCK_LEN-len.result ≡ 32 * g.P.BitPacker.lanes = c.BLOCK_LEN-len.ensures ∙ g.met.P.BitPacker.block_len in
     let width = narrow_entry g.P.BitPacker.lanes (whole_blocks g.P.BitPacker.lanes c.args.header.count) c.args.rest.now c.requires.entries
     c.loop-block.block (rw whole at c.loop-block-test.true) in
-    (rw c.entry-entry.ensures.width width, omega (arith, whole, g.met.P.BitPacker.some_lanes), omega (arith, whole, g.met.P.BitPacker.few_lanes))
+    (rw c.read_entry-entry.ensures.width width, omega (arith, whole, g.met.P.BitPacker.some_lanes), omega (arith, whole, g.met.P.BitPacker.few_lanes))
 
 -- The block with this number, whose entry was read, and what was unpacked of it.
 module _ (lanes len full blocks width offset last block : ℕ) (kind : ListKind) (block_kind : Kind) (rest room : List ℕ) (whole : len ≡ 32 * lanes)
@@ -173,16 +173,16 @@ returns-in_err-test_block-clause-fault g c =
     let block : ℕ = c.loop-block.block in
     let blocks : ℕ = whole_blocks lanes c.args.header.count in
     let before = c.loop-block.invariant in
-    let entry = c.entry-entry.result in
-    let read = c.entry-entry.ensures in
+    let entry = c.read_entry-entry.result in
+    let read = c.read_entry-entry.ensures in
     let whole : c.BLOCK_LEN-len.result ≡ 32 * lanes = c.BLOCK_LEN-len.ensures ∙ g.met.P.BitPacker.block_len in
     let lt : block < blocks = rw whole at c.loop-block-test.true in
     let are = codes_are lanes c.BLOCK_LEN-len.result g.P.BitPacker.BLOCK_LEN blocks entry.width entry.offset entry.last block kind
-    c.loop-block.kind rest c.unpack.new.values whole g.met.P.BitPacker.block_len before.kind read.width read.offset read.last c.requires.entries lt c.requires.room
-    (rw whole at c.unpack.ensures.block) in
+    c.loop-block.kind rest c.unpack_body.new.values whole g.met.P.BitPacker.block_len before.kind read.width read.offset read.last c.requires.entries lt c.requires.room
+    (rw whole at c.unpack_body.ensures.block) in
     let found = finds lanes c.BLOCK_LEN-len.result g.P.BitPacker.BLOCK_LEN blocks entry.width entry.offset entry.last block kind
-    c.loop-block.kind rest c.unpack.new.values whole g.met.P.BitPacker.block_len before.kind read.width read.offset read.last c.requires.entries lt c.requires.room
-    (λ fault. fault ≡ Some c.in_err-test_block.field-0.0) (take c.BLOCK_LEN-len.result c.unpack.new.values) are c.in_err-test_block.ensures in
+    c.loop-block.kind rest c.unpack_body.new.values whole g.met.P.BitPacker.block_len before.kind read.width read.offset read.last c.requires.entries lt c.requires.room
+    (λ fault. fault ≡ Some c.in_err-test_block.field-0.0) (take c.BLOCK_LEN-len.result c.unpack_body.new.values) are c.in_err-test_block.ensures in
     let p = err_from_is_err_and c.from_residual.result c.from_residual.ensures.1 in
     rw (p.1, p.2)
     (first_fault-found (body_fault2 lanes blocks kind rest) block blocks c.in_err-test_block.field-0.0 lt before.right found)
@@ -197,17 +197,17 @@ loop-block-preserved g c =
     let block : ℕ = c.loop-block.block in
     let blocks : ℕ = whole_blocks lanes c.args.header.count in
     let before = c.loop-block.invariant in
-    let entry = c.entry-entry.result in
-    let read = c.entry-entry.ensures in
+    let entry = c.read_entry-entry.result in
+    let read = c.read_entry-entry.ensures in
     let whole : c.BLOCK_LEN-len.result ≡ 32 * lanes = c.BLOCK_LEN-len.ensures ∙ g.met.P.BitPacker.block_len in
     let lt : block < blocks = rw whole at c.loop-block-test.true in
     let are = codes_are lanes c.BLOCK_LEN-len.result g.P.BitPacker.BLOCK_LEN blocks entry.width entry.offset entry.last block kind
-    c.loop-block.kind rest c.unpack.new.values whole g.met.P.BitPacker.block_len before.kind read.width read.offset read.last c.requires.entries lt c.requires.room
-    (rw whole at c.unpack.ensures.block) in
+    c.loop-block.kind rest c.unpack_body.new.values whole g.met.P.BitPacker.block_len before.kind read.width read.offset read.last c.requires.entries lt c.requires.room
+    (rw whole at c.unpack_body.ensures.block) in
     let none : body_fault2 lanes blocks kind rest block ≡ None =
     finds lanes c.BLOCK_LEN-len.result g.P.BitPacker.BLOCK_LEN blocks entry.width entry.offset entry.last block kind
-    c.loop-block.kind rest c.unpack.new.values whole g.met.P.BitPacker.block_len before.kind read.width read.offset read.last c.requires.entries lt c.requires.room
-    (λ fault. fault ≡ None) (take c.BLOCK_LEN-len.result c.unpack.new.values) are c.in_ok-test_block.ensures in
+    c.loop-block.kind rest c.unpack_body.new.values whole g.met.P.BitPacker.block_len before.kind read.width read.offset read.last c.requires.entries lt c.requires.room
+    (λ fault. fault ≡ None) (take c.BLOCK_LEN-len.result c.unpack_body.new.values) are c.in_ok-test_block.ensures in
     let right = body_right lanes (kind_at kind rest block) block (width_at rest block) (last_at rest block) (body_at lanes blocks rest block) none in
     let size_of = length-block_at lanes blocks rest c.requires.entries block lt kind c.requires.room small in
     let upto : 32 * lanes * block ≤ 32 * lanes * (block + 1) = omega arith in
@@ -215,15 +215,15 @@ loop-block-preserved g c =
     λ later. elim c.if-not-ends_in_order.branch [
       | then-not-ends_in_order w ↦
           let unpacked = unpacked_is lanes c.BLOCK_LEN-len.result g.P.BitPacker.BLOCK_LEN blocks entry.width entry.offset entry.last block kind
-          c.loop-block.kind rest w.unpack-then-not-ends_in_order.new.values whole g.met.P.BitPacker.block_len before.kind read.width read.offset read.last
-          c.requires.entries lt c.requires.room (rw whole at w.unpack-then-not-ends_in_order.ensures.block) in
+          c.loop-block.kind rest w.unpack_body-then-not-ends_in_order.new.values whole g.met.P.BitPacker.block_len before.kind read.width read.offset read.last
+          c.requires.entries lt c.requires.room (rw whole at w.unpack_body-then-not-ends_in_order.ensures.block) in
           w.out-is ∙ w.or-out.ensures
           ∙ least_below-or (is_out kind (value_with lanes blocks kind rest later)) (32 * lanes * block) (32 * lanes * (block + 1)) c.loop-block.out w.first_out.result upto
-          (before.out later) (out_is lanes c.BLOCK_LEN-len.result blocks block c.loop-block.last kind rest (take c.BLOCK_LEN-len.result w.unpack-then-not-ends_in_order.new.values)
+          (before.out later) (out_is lanes c.BLOCK_LEN-len.result blocks block c.loop-block.last kind rest (take c.BLOCK_LEN-len.result w.unpack_body-then-not-ends_in_order.new.values)
           w.first_out.result later some whole lt unpacked size_of (before.last later) w.first_out.ensures)
       | else-not-ends_in_order w ↦
           let rising = rising_is lanes c.BLOCK_LEN-len.result g.P.BitPacker.BLOCK_LEN blocks entry.width entry.offset entry.last block kind
-          c.loop-block.kind rest c.unpack.new.values whole g.met.P.BitPacker.block_len before.kind read.width read.offset read.last c.requires.entries lt c.requires.room
+          c.loop-block.kind rest c.unpack_body.new.values whole g.met.P.BitPacker.block_len before.kind read.width read.offset read.last c.requires.entries lt c.requires.room
           (c.ends_in_order.ensures w.if-not-ends_in_order.false) small right.1 in
           w.out-is ∙ sym (option_or-none c.loop-block.out)
           ∙ least_below-or (is_out kind (value_with lanes blocks kind rest later)) (32 * lanes * block) (32 * lanes * (block + 1)) c.loop-block.out None upto

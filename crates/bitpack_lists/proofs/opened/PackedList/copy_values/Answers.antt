@@ -19,21 +19,21 @@ loop-number-preserved g c =
     let n : ℕ = 32 * g.P.BitPacker.lanes in
     let i : ℕ = c.loop-number.number in
     let out : List ℕ = c.loop-number.out in
-    let block : List ℕ = c.unpack.new.values in
+    let block : List ℕ = c.unpack_block.new.values in
     let before = c.loop-number.invariant in
     let some = g.met.P.BitPacker.some_lanes in
     let whole : len ≡ n = c.BLOCK_LEN-len.ensures ∙ g.met.P.BitPacker.block_len in
     let lt : i < blocks_of self = rw whole at c.loop-number-test.true in
     let room : n * i + n ≤ length out = omega (arith, part_end n self.count (omega arith) i lt, c.requires.room) in
-    let long : length block ≡ n = c.unpack.auto.values ∙ length-block n len i (i + 1) out whole (omega arith) (omega arith) in
+    let long : length block ≡ n = c.unpack_block.auto.values ∙ length-block n len i (i + 1) out whole (omega arith) (omega arith) in
     let part : HasPart self i len block =
-    part_unpacked self some i len block lt whole (ap (λ m. take m block) c.BLOCK_LEN-len.ensures ∙ c.unpack.ensures.block) in
+    part_unpacked self some i len block lt whole (ap (λ m. take m block) c.BLOCK_LEN-len.ensures ∙ c.unpack_block.ensures.block) in
     record {
       values = copied_block (value_of self) n len i out block whole (omega arith) long before.values (λ k inside. part.values_are k (omega arith));
       kind_is =
           rw add-one
           (c.next_kind-kind.ensures ∙ ap (λ k. next_kind k c.entry-entry.result.last) c.first-first.ensures ∙ ap (next_kind _) c.entry-entry.ensures.last);
-      blocks = omega (arith, c.unpack.ensures.blocks, c.entry-entry.ensures.blocks, before.blocks);
+      blocks = omega (arith, c.unpack_block.ensures.blocks, c.entry-entry.ensures.blocks, before.blocks);
     }
 
 pub returns-clause-values : goal.returns-clause-values

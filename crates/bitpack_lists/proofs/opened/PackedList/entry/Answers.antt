@@ -3,7 +3,7 @@ use Rattle.std.proofs.Common.{arith}
 use Rattle.bitpack_lists.proofs.lemmas.opened.OpenedLists.{opened_room}
 use Rattle.bitpack_lists.proofs.opened.PackedList.entry.Goals as goal
 
-pub entry-requires : goal.entry-requires
-entry-requires g c =
+pub read_entry-requires : goal.read_entry-requires
+read_entry-requires g c =
     let room = opened_room c.args.self.now g.met.P.BitPacker.some_lanes in
     omega (arith, room, c.requires)

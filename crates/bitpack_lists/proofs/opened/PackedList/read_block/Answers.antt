@@ -30,18 +30,18 @@ of_tail g c =
     block_facts self g.met.P.BitPacker.some_lanes c.args.block c.read_tail.result c.read_tail.new.values (drop (self.count % len) c.args.out.now) room part
 
 of_block : (g : Over) (c : goal.After-slice_known-2-1 g)
-    → BlockFacts c.args.self.now g.met.P.BitPacker.some_lanes c.args.block c.BLOCK_LEN-len.result c.unpack.new.values
+    → BlockFacts c.args.self.now g.met.P.BitPacker.some_lanes c.args.block c.BLOCK_LEN-len.result c.unpack_block.new.values
     (drop c.BLOCK_LEN-len.result c.args.out.now)
 of_block g c =
     let self = c.args.self.now in
     let len : ℕ = c.BLOCK_LEN-len.result in
     let whole : len ≡ 32 * g.P.BitPacker.lanes = c.BLOCK_LEN-len.ensures ∙ g.met.P.BitPacker.block_len in
-    let part : HasPart self c.args.block len c.unpack.new.values =
-    part_unpacked self g.met.P.BitPacker.some_lanes c.args.block len c.unpack.new.values (rw whole at c.if-block-self.false) whole
-    (ap (λ m. take m c.unpack.new.values) c.BLOCK_LEN-len.ensures ∙ c.unpack.ensures.block) in
-    let room : len ≤ length c.unpack.new.values =
-    rw c.unpack.auto.values (simp length-take (omega (arith, whole, c.requires.room))) in
-    block_facts self g.met.P.BitPacker.some_lanes c.args.block len c.unpack.new.values (drop len c.args.out.now) room part
+    let part : HasPart self c.args.block len c.unpack_block.new.values =
+    part_unpacked self g.met.P.BitPacker.some_lanes c.args.block len c.unpack_block.new.values (rw whole at c.if-block-self.false) whole
+    (ap (λ m. take m c.unpack_block.new.values) c.BLOCK_LEN-len.ensures ∙ c.unpack_block.ensures.block) in
+    let room : len ≤ length c.unpack_block.new.values =
+    rw c.unpack_block.auto.values (simp length-take (omega (arith, whole, c.requires.room))) in
+    block_facts self g.met.P.BitPacker.some_lanes c.args.block len c.unpack_block.new.values (drop len c.args.out.now) room part
 
 pub returns-then-block-self-clause-is : goal.returns-then-block-self-clause-is
 returns-then-block-self-clause-is g c = (of_tail g c).is

@@ -13,11 +13,11 @@ first_in_block-requires-clause-order g c =
     let self = c.args.self.now in
     let some = g.met.P.BitPacker.some_lanes in
     let whole : c.BLOCK_LEN-len.result ≡ 32 * g.P.BitPacker.lanes = c.BLOCK_LEN-len.ensures ∙ g.met.P.BitPacker.block_len in
-    let values = ap (λ len. take len c.unpack.new.values) c.BLOCK_LEN-len.ensures ∙ c.unpack.ensures.block in
+    let values = ap (λ len. take len c.unpack_block.new.values) c.BLOCK_LEN-len.ensures ∙ c.unpack_block.ensures.block in
     let number = c.in-Some.block.number in
-    let part = part_unpacked self some number c.BLOCK_LEN-len.result c.unpack.new.values c.in-Some.ensures.found.is.within whole values in (
-      omega (arith, length-take c.BLOCK_LEN-len.result c.unpack.new.values, whole, g.met.P.BitPacker.few_lanes),
-      part_order self some number c.BLOCK_LEN-len.result c.unpack.new.values part (in_order_from_kind self some c.requires.can.0),
+    let part = part_unpacked self some number c.BLOCK_LEN-len.result c.unpack_block.new.values c.in-Some.ensures.found.is.within whole values in (
+      omega (arith, length-take c.BLOCK_LEN-len.result c.unpack_block.new.values, whole, g.met.P.BitPacker.few_lanes),
+      part_order self some number c.BLOCK_LEN-len.result c.unpack_block.new.values part (in_order_from_kind self some c.requires.can.0),
     )
 
 pub returns-in_default : goal.returns-in_default
@@ -41,27 +41,27 @@ returns g c =
     let self = c.args.self.now in
     let some = g.met.P.BitPacker.some_lanes in
     let whole : c.BLOCK_LEN-len.result ≡ 32 * g.P.BitPacker.lanes = c.BLOCK_LEN-len.ensures ∙ g.met.P.BitPacker.block_len in
-    let values = ap (λ len. take len c.unpack.new.values) c.BLOCK_LEN-len.ensures ∙ c.unpack.ensures.block in
+    let values = ap (λ len. take len c.unpack_block.new.values) c.BLOCK_LEN-len.ensures ∙ c.unpack_block.ensures.block in
     let count = sym (length-values self) in
     let block = c.in-Some.ensures in
     let first = block.found in
     let number = c.in-Some.block.number in
     let found =
     opened_search self some c.requires.can.0 c.args.target number first.before first.is.within (first.enough first.is.within)
-    c.BLOCK_LEN-len.result (take c.BLOCK_LEN-len.result c.unpack.new.values) c.first_in_block.result whole values c.first_in_block.ensures.found in
+    c.BLOCK_LEN-len.result (take c.BLOCK_LEN-len.result c.unpack_block.new.values) c.first_in_block.result whole values c.first_in_block.ensures.found in
     let inside = opened_inside self some c.requires.can.0 c.args.target number first.before first.is.within (first.enough first.is.within) in (
       found ∙ first_listed self c.args.target,
       record {
-        entries = λ digits fits. omega (arith, block.halves digits (rw count fits), c.unpack.ensures.entries);
-        blocks = omega (arith, block.reads.blocks, c.unpack.ensures.blocks);
+        entries = λ digits fits. omega (arith, block.halves digits (rw count fits), c.unpack_block.ensures.entries);
+        blocks = omega (arith, block.reads.blocks, c.unpack_block.ensures.blocks);
         outside = λ e.
             let here = ap (in_whole_block g.P.BitPacker.lanes self.count) found ∙ inside in
             let there = ap (λ n. in_whole_block g.P.BitPacker.lanes n c.first_in_block.result) count ∙ e in
             let clash : true ≡ false = sym here ∙ there in
             absurd cc;
         grown = record {
-          entries = omega (arith, block.reads.entries, c.unpack.ensures.entries);
-          blocks = omega (arith, block.reads.blocks, c.unpack.ensures.blocks);
+          entries = omega (arith, block.reads.entries, c.unpack_block.ensures.entries);
+          blocks = omega (arith, block.reads.blocks, c.unpack_block.ensures.blocks);
         };
       },
     )

@@ -15,7 +15,7 @@ walk_values-requires g c =
     let last : ℕ = c.args.block.entry.last in
     let blocks : ℕ = c.args.reads.now.blocks in
     let (long, next) = next_block list g.met.P.BitPacker.some_lanes over.ordered
-    begun number (blocks + 1) (last + 1) (take c.BLOCK_LEN.result c.unpack.new.values) c.requires.block.within (rw c.BLOCK_LEN.ensures c.unpack.ensures.block) in (
+    begun number (blocks + 1) (last + 1) (take c.BLOCK_LEN.result c.unpack_block.new.values) c.requires.block.within (rw c.BLOCK_LEN.ensures c.unpack_block.ensures.block) in (
       stage_of (values_in list) begun (32 * g.P.BitPacker.lanes * number) (blocks + 1) (last + 1),
       next,
       record {
@@ -37,7 +37,7 @@ returns-then-block-walk-clause-walking g c = λ begun over.
     let last : ℕ = c.args.block.entry.last in
     let blocks : ℕ = c.args.reads.now.blocks in
     let (long, next) = next_block list g.met.P.BitPacker.some_lanes over.ordered
-    begun number (blocks + 1) (last + 1) (take c.BLOCK_LEN.result c.unpack.new.values) c.requires.block.within (rw c.BLOCK_LEN.ensures c.unpack.ensures.block) in
+    begun number (blocks + 1) (last + 1) (take c.BLOCK_LEN.result c.unpack_block.new.values) c.requires.block.within (rw c.BLOCK_LEN.ensures c.unpack_block.ensures.block) in
     let after = c.walk_values.ensures.walking (stage_of (values_in list) begun (n * number) (blocks + 1) (last + 1)) next (record {
       ordered = before.ordered;
       kept = before.kept;
@@ -46,7 +46,7 @@ returns-then-block-walk-clause-walking g c = λ begun over.
           c.args.walk.now.kept.number c.args.out.now.items (vec_capacity c.args.out.now) blocks c.args.other_reads.now 0 before.walked (blocks + 1) (last + 1) refl
           (omega arith) (omega (arith, c.if-block-walk.true));
     }) in
-    let end : n * number + length (take c.BLOCK_LEN.result c.unpack.new.values) ≡ n * (number + 1) = omega (arith, long) in
+    let end : n * number + length (take c.BLOCK_LEN.result c.unpack_block.new.values) ≡ n * (number + 1) = omega (arith, long) in
     let due : last + 1 ≡ (values_in list).value (n * number + (n - 1)) + 1 =
     ap (λ x. x + 1) (c.requires.last
     ∙ sym (opened_last list g.met.P.BitPacker.some_lanes number c.requires.block.within)) in
@@ -56,7 +56,7 @@ returns-then-block-walk-clause-walking g c = λ begun over.
         ordered = after.ordered;
         kept = after.kept;
         walked =
-            rw c.unpack.ensures.blocks
+            rw c.unpack_block.ensures.blocks
             (walked_block g.Q.BitPacker.lanes (values_in list) (values_in c.args.other.now) begun (n * (number + 1)) c.walk_values.new.walk.want
             c.walk_values.new.walk.kept.number c.walk_values.new.out.items (vec_capacity c.walk_values.new.out) (blocks + 1) c.walk_values.new.other_reads (last + 1)
             (rw end at after.walked) (n * number + (n - 1)) (omega (arith, g.met.P.BitPacker.some_lanes)) due);

@@ -7,7 +7,7 @@ use Rattle.bitpacking.specs.Layout.{codes_of, size}
 use Rattle.bitpacking.proofs.ForCallers.{AreWords-from_slice}
 use Rattle.bitpack_lists.proofs.lemmas.blocks.BlockValues.{values_of-held}
 use Rattle.bitpack_lists.proofs.lemmas.blocks.ListLemmas.{lanes-is}
-use Rattle.bitpack_lists.proofs.blocks.reads.Reads.unpack.Goals as goal
+use Rattle.bitpack_lists.proofs.blocks.reads.Reads.unpack_body.Goals as goal
 
 pub body-body-requires : goal.body-body-requires
 body-body-requires g c =

@@ -3,16 +3,16 @@ use Rattle.std.proofs.Common.{◌≡◌, ◌*◌, ℕ, ◌∙◌}
 use Rattle.bitpack_lists.specs.inner.Searching.{blocks_of, rest_of}
 use Rattle.bitpack_lists.proofs.lemmas.opened.OpenedLists.{opened_sound}
 use Rattle.bitpack_lists.proofs.lemmas.blocks.RestValues.{body_room, narrow_entry}
-use Rattle.bitpack_lists.proofs.opened.PackedList.unpack_as.Goals as goal
+use Rattle.bitpack_lists.proofs.opened.PackedList.unpack_block_as.Goals as goal
 
-pub unpack-requires-clause-width : goal.unpack-requires-clause-width
-unpack-requires-clause-width g c =
+pub unpack_body-requires-clause-width : goal.unpack_body-requires-clause-width
+unpack_body-requires-clause-width g c =
     let list = c.args.self.now in
     let sound = opened_sound list g.met.P.BitPacker.some_lanes in
     rw c.requires.can.0.width (narrow_entry g.P.BitPacker.lanes (blocks_of list) (rest_of list) sound.entries c.args.block.number c.requires.can.0.within)
 
-pub unpack-requires-clause-body : goal.unpack-requires-clause-body
-unpack-requires-clause-body g c =
+pub unpack_body-requires-clause-body : goal.unpack_body-requires-clause-body
+unpack_body-requires-clause-body g c =
     let lanes : ℕ = g.P.BitPacker.lanes in
     let list = c.args.self.now in
     let sound = opened_sound list g.met.P.BitPacker.some_lanes in
