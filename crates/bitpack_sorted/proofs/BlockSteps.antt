@@ -2,8 +2,8 @@
 use Rattle.std.proofs.Common.{ap, bit_or, drop, take, ◌+◌, ◌*◌, ◌%◌, ◌^◌, ◌≡◌, ◌⊎◌, ℕ, ◌-◌, ◌<◌, ◌≤◌, true, List, length, get_or, sym, ◌∙◌, arith, inl, inr}
 use Rattle.std.specs.Int.{bit_at}
 use Rattle.std.specs.List.Sorted.{IsStrictlyIncreasing}
-use Rattle.std.proofs.lemmas.Bool.{cases_Bool, cases_lt, false≢true}
-use Rattle.std.proofs.lemmas.List.{get_or-drop, length-drop}
+use Rattle.std.proofs.lemmas.Bool.{cases_Bool, cases_lt, false_from_ne_true, false≢true, true≢false}
+use Rattle.std.proofs.lemmas.List.{get_or-drop, get_or-take, length-drop, length-take}
 use Rattle.std.proofs.lemmas.List.Kept.{AllPairs-from_increasing}
 use Rattle.std.proofs.lemmas.Nat.Bits.{bit_at-lt, bit_at-zero}
 use Rattle.bitpack_lists.specs.Places.{InOrder, IsSoughtFrom}
@@ -24,6 +24,50 @@ none_marked_yet values block passed some is = record {
   low = λ q lt. absurd (omega arith);
   below = λ j lt. omega (arith, is.below (length values - 1) j (omega arith) lt);
 }
+
+-- ---- one value, and a block that has none below it
+
+first_alone : (block : List ℕ) (v : ℕ) → 0 < length block → InOrder block → v ≤ get_or block 0 0 → has (take 1 (drop 0 block)) v ≡ has block v
+first_alone block v some ordered low = elim (cases_Bool (has block v)) [
+  | inl here ↦
+      let (j, lt, e) = place-of block v here in
+      let least = ordered 0 j (omega arith) lt in
+      let one : 0 < length (take 1 (drop 0 block)) = omega (arith, length-take 1 (drop 0 block), length-drop 0 block) in
+      has_at_is (take 1 (drop 0 block)) 0 v one (get_or-take 1 (drop 0 block) 0 0 (omega arith) ∙ get_or-drop 0 block 0 0 ∙ omega (arith, e, least, low)) ∙ sym here
+  | inr lacks ↦ false_from_ne_true (has (take 1 (drop 0 block)) v) (λ there.
+      let (j, lt, e) = place-of (take 1 (drop 0 block)) v there in
+      let zero_is : j ≡ 0 = omega (arith, length-take 1 (drop 0 block)) in
+      let first_is : get_or (take 1 (drop 0 block)) j 0 ≡ get_or block 0 0 =
+      ap (λ k. get_or (take 1 (drop 0 block)) k 0) zero_is ∙ get_or-take 1 (drop 0 block) 0 0 (omega arith) ∙ get_or-drop 0 block 0 0 in
+      absurd (true≢false (sym (has_at_is block 0 v some (sym first_is ∙ e)) ∙ lacks))) ∙ sym lacks
+]
+
+pub first_marked : (values block : List ℕ) (from bits : ℕ) → from < length values → 0 < length block → InOrder block → get_or values from 0 ≤ get_or block 0 0
+    → IsAmong 1 bits values from block 0 → HasMarked (take 1 (drop from values)) block 1 0 bits
+first_marked values block from bits within some ordered low m = record {
+  each = λ q lt.
+      let zero_is : q ≡ 0 = omega (arith, long) in
+      rw zero_is (m.each 0 (omega arith) ∙ ap (λ k. mark_of (has (take 1 (drop 0 block)) (get_or values k 0))) (omega arith)
+      ∙ ap mark_of (first_alone block (get_or values from 0) some ordered low) ∙ ap (λ v. mark_of (has block v)) (sym here));
+  from_in = omega (arith, long);
+  low = λ q lt.
+      let zero_is : q ≡ 0 = omega arith in
+      let last = ordered 0 (length block - 1) (omega arith) (omega (arith, some)) in
+      rw zero_is (omega (arith, here, low, last));
+  end = λ lt. absurd (omega (arith, long, lt));
+  passed_in = omega arith;
+  below = λ j lt. absurd (omega arith);
+}
+  where
+    long : length (take 1 (drop from values)) ≡ 1
+    long = omega (arith, length-take 1 (drop from values), length-drop from values)
+
+    here : get_or (take 1 (drop from values)) 0 0 ≡ get_or values from 0
+    here =
+        let e : from + 0 ≡ from = omega arith in
+        get_or-take 1 (drop from values) 0 0 (omega arith) ∙ get_or-drop from values 0 0 ∙ ap (λ k. get_or values k 0) e
+
+-- ---- marks of a whole block
 
 -- if the bits of all that the block has are set, they are the marks
 marks_each : (values block : List ℕ) (from passed bits : ℕ) → AreMarked values block from passed bits

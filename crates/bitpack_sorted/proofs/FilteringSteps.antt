@@ -44,12 +44,12 @@ block_has block rest front some v low = elim (cases_Bool (has block v)) [
       | inr above ↦ has_at_is block (length block - 1) v (omega arith) (omega (arith, above, low))
     ]
 
--- what is left from a target on begins a block that reaches it
-pub front_reached : (target : ℕ) (rest rest' block : List ℕ) → rest' ≡ at_least target rest → IsFront block rest' → 0 < length block → target ≤ last_of block
+-- what is left from a target on begins a block that has none below it
+pub front_reached : (target : ℕ) (rest rest' block : List ℕ) → rest' ≡ at_least target rest → IsFront block rest' → 0 < length block → target ≤ get_or block 0 0
 front_reached target rest rest' block sought front some =
-    let there = front.among (length block - 1) (omega (arith, some)) in
-    leb-true target (last_of block) (and_parts (has rest (last_of block)) (leb target (last_of block))
-    (sym (ap (λ xs. has xs (last_of block)) sought ∙ has-at_least target rest (last_of block)) ∙ there)).1
+    let there = front.among 0 some in
+    leb-true target (get_or block 0 0) (and_parts (has rest (get_or block 0 0)) (leb target (get_or block 0 0))
+    (sym (ap (λ xs. has xs (get_or block 0 0)) sought ∙ has-at_least target rest (get_or block 0 0)) ∙ there)).1
 
 -- ---- a turn
 

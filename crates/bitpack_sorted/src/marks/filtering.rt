@@ -1,10 +1,11 @@
 //! Values of a slice that are kept in their place if a block has them, or lacks them.
 
-ghost use Rattle.std.specs.Prelude.{◌+◌, ◌<◌, ◌≤◌, drop, length, slice_index, take};
+ghost use Rattle.std.specs.Prelude.{◌≡◌, ◌+◌, ◌<◌, ◌≤◌, drop, length, slice_index, take};
 ghost use Rattle.std.specs.List.Sorted.{IsStrictlyIncreasing};
 ghost use Rattle.bitpack_sorted.specs.inner.Marks.{CanMark, Filters, HasMarked, IsBlock, IsPassed, last_of};
 
-use super::keeping::keep_marked;
+use super::group::same;
+use super::keeping::{keep_each, keep_marked};
 use super::marking::{Marks, marks_of};
 
 /// How many values are kept in front, and the index of those that are still to come.
@@ -14,7 +15,8 @@ pub(crate) struct Filtered {
     pub(crate) from: usize,
 }
 
-/// Of the values from an index on, as far as a block reaches, keeps those that it has, or those that it lacks.
+/// Of the values from an index on, as far as a block reaches, keeps those that it has, or those that it lacks. None of the block is below
+/// the first of them.
 pub(crate) fn keep_in_block(
     values: &mut [u32],
     done: Filtered,
@@ -24,11 +26,16 @@ pub(crate) fn keep_in_block(
     requires place { (done.kept ≤ done.from) × (done.from < length values.old) }
     requires increasing { IsStrictlyIncreasing (drop done.from values.old) }
     requires block { IsBlock block.now }
-    requires reached { slice_index values.old done.from ≤ last_of block.now }
+    requires first { slice_index values.old done.from ≤ slice_index block.now 0 }
     ensures forward { (done.from < result.from) × (result.from ≤ length values.new) }
     ensures filters { Filters lacking block.now values.old done.kept done.from values.new result.kept result.from }
 {
     let last = block[block.len() - 1];
+    let next = done.from + 1;
+    // Values that are far apart have most blocks to themselves.
+    if next < values.len() && values[next] > last {
+        return keep_first(values, done, block, lacking);
+    }
     let mut kept = done.kept;
     let mut from = done.from;
     let mut passed = 0;
@@ -41,6 +48,25 @@ pub(crate) fn keep_in_block(
         passed = marks.passed;
     }
     Filtered { kept, from }
+}
+
+/// Keeps the value at an index if a block has it, or if it lacks it. None of the block is below that value.
+#[inline(always)]
+fn keep_first(values: &mut [u32], done: Filtered, block: &[u32], lacking: bool) -> Filtered
+    requires place { (done.kept ≤ done.from) × (done.from < length values.old) }
+    requires increasing { IsStrictlyIncreasing (drop done.from values.old) }
+    requires block { IsBlock block.now }
+    requires first { slice_index values.old done.from ≤ slice_index block.now 0 }
+    ensures from { result.from ≡ done.from + 1 }
+    ensures long { length values.new ≡ length values.old }
+    ensures filters { Filters lacking block.now values.old done.kept done.from values.new result.kept result.from }
+{
+    let here = same(values, done.from, block, 0);
+    let bits = if lacking { !here } else { here };
+    Filtered {
+        kept: keep_each(values, done.kept, done.from, 1, bits),
+        from: done.from + 1,
+    }
 }
 
 /// Which of up to 64 values from an index on a block has, as `marks_of` says.

@@ -1,5 +1,5 @@
 -- Each turn filters as far as the current block of the cursor reaches.
-use Rattle.std.proofs.Common.{◌<◌, ◌≤◌, ℕ, List, false, length, arith, refl}
+use Rattle.std.proofs.Common.{◌<◌, ◌≤◌, ℕ, List, false, length, get_or, arith, refl}
 use Rattle.bitpack_sorted.specs.inner.Marks.{AreKept, keeps}
 use Rattle.bitpack_sorted.proofs.FilterSteps.{all_kept}
 use Rattle.bitpack_sorted.proofs.FilteringSteps.{ahead_increasing, filtering_more, lacked_kept, shared_are}
@@ -17,6 +17,13 @@ keep_in_block-done-requires-clause-increasing g c =
     let kept : AreKept (keeps false all) old ys c.loop-next.done.kept c.in-Some.next =
     lacked_kept all rest old ys c.loop-next.done.kept c.loop-next.done.from c.in-Some.next c.requires c.loop-next.invariant next.forward within next.lacked in
     ahead_increasing (keeps false all) old ys c.loop-next.done.kept c.in-Some.next c.requires kept
+
+pub keep_in_block-done-requires-clause-first : goal.keep_in_block-done-requires-clause-first
+keep_in_block-done-requires-clause-first g c =
+    let rest' : List ℕ = g.C.SortedCursor.rest c.next_from.new.cursor in
+    let block : List ℕ = c.first_part.result.now in
+    let next = c.in-Some.ensures.some in
+    next.reached (get_or block 0 0) (c.first_part.ensures.front.among 0 (front_some block rest' c.first_part.ensures.front next.some))
 
 pub loop-next-preserved : goal.loop-next-preserved
 loop-next-preserved g c =

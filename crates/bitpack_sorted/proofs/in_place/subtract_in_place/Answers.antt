@@ -25,8 +25,8 @@ keep_in_block-done-requires-clause-increasing g c =
     let all : List ℕ = g.C.SortedCursor.rest c.args.cursor.now in
     ahead_increasing (keeps true all) c.args.values.now c.loop-done.values c.loop-done.done.kept c.loop-done.done.from c.requires c.loop-done.invariant.are
 
-pub keep_in_block-done-requires-clause-reached : goal.keep_in_block-done-requires-clause-reached
-keep_in_block-done-requires-clause-reached g c =
+pub keep_in_block-done-requires-clause-first : goal.keep_in_block-done-requires-clause-first
+keep_in_block-done-requires-clause-first g c =
     let rest' : List ℕ = g.C.SortedCursor.rest c.seek.new.self in
     let block : List ℕ = c.first_part.result.now in
     front_reached (get_or c.loop-done.values c.loop-done.done.from 0) (g.C.SortedCursor.rest c.loop-done.cursor) rest' block c.seek.ensures.rest c.first_part.ensures.front
