@@ -491,6 +491,18 @@ ptrdiff_t bitpacking_list_unite(const bitpacking_list *views, size_t views_len, 
 /* The values of the first list that no other has. Room that is always enough: the length of the first list. */
 ptrdiff_t bitpacking_list_subtract(const bitpacking_list *views, size_t views_len, uint32_t *out, size_t out_len);
 
+/* How many values the first two calls return for the same views, without room for the values: each is counted once, and without views the
+ * answer is 0. Neither allocates memory.
+ *
+ * BITPACKING_LIST_BAD_KIND: one of the lists is plain. A view that is BITPACKING_LIST_EMPTY or all zero is plain too. */
+
+/* How many values all lists have. It seeks the values of the shortest list in the others, 1,024 at a time: about 6 KB of stack. */
+ptrdiff_t bitpacking_list_count_common(const bitpacking_list *views, size_t views_len);
+
+/* How many values any list has. It counts values of dense lists in windows of 65,536 numbers, and others in rounds of 4,096 values or more:
+ * about 34 KB of stack. Each round starts each list again: for many short lists it takes longer than bitpacking_list_unite. */
+ptrdiff_t bitpacking_list_count_any(const bitpacking_list *views, size_t views_len);
+
 #ifdef __cplusplus
 }
 #endif

@@ -177,6 +177,65 @@ static void texts(void)
     EXPECT((ptrdiff_t)others, 201 - COUNT);
 }
 
+/* A list of values that step by a number, each `times` times. */
+static bitpacking_list steps(int packer, uint8_t *bytes, size_t room, uint32_t first, uint32_t step, size_t len, size_t times)
+{
+    static uint32_t values[MOST];
+    bitpacking_list list = BITPACKING_LIST_EMPTY;
+    const uint8_t kind = times == 1 ? BITPACKING_STRICTLY_SORTED : BITPACKING_SORTED;
+    size_t position, i;
+    ptrdiff_t size;
+
+    for (i = 0; i < len; i++)
+        values[i] = first + step * (uint32_t)(i / times);
+    size = packs[packer](BITPACKING_LIST_VERSION_3, kind, values, len, bytes, room, &position);
+    EXPECT(size > 0, 1);
+    EXPECT(bitpacking_list_open(bytes, (size_t)size, &list), 0);
+    return list;
+}
+
+/* Values that are counted. By hand: 3, 3, 5, 5, 7, 7 and 5, 7, 9, 11 share 5 and 7, and have 3, 5, 7, 9, 11 together. Of 16,512 values, steps of
+   260,000 go up to 4,292,860,000, and so never meet those that begin at another number below that; each twice, they are 8,256. */
+static void counts(int packer)
+{
+    static uint8_t bytes[5][BITPACKING_LIST_ROOM(MOST)];
+    bitpacking_list views[6], few[3];
+    size_t i;
+
+    few[0] = steps(packer, bytes[0], sizeof bytes[0], 3, 2, 6, 2);
+    few[1] = steps(packer, bytes[1], sizeof bytes[1], 5, 2, 4, 1);
+    few[2] = bitpacking_list_empty();
+    EXPECT(bitpacking_list_count_common(few, 0), 0);
+    EXPECT(bitpacking_list_count_any(few, 0), 0);
+    EXPECT(bitpacking_list_count_common(few, 1), 3);
+    EXPECT(bitpacking_list_count_any(few, 1), 3);
+    EXPECT(bitpacking_list_count_common(few, 2), 2);
+    EXPECT(bitpacking_list_count_any(few, 2), 5);
+    EXPECT(bitpacking_list_count_common(few, 3), BITPACKING_LIST_BAD_KIND);
+    EXPECT(bitpacking_list_count_any(few, 3), BITPACKING_LIST_BAD_KIND);
+    EXPECT(bitpacking_list_count_common(few + 2, 1), BITPACKING_LIST_BAD_KIND);
+    EXPECT(bitpacking_list_count_any(few + 2, 1), BITPACKING_LIST_BAD_KIND);
+    for (i = 0; i < 4; i++)
+        views[i] = steps(packer, bytes[i], sizeof bytes[i], UINT32_MAX - 4292860000u - (uint32_t)i, 260000, MOST, 1);
+    views[4] = views[0];
+    EXPECT(bitpacking_list_count_any(views, 1), MOST);
+    EXPECT(bitpacking_list_count_common(views, 2), 0);
+    EXPECT(bitpacking_list_count_any(views, 2), 2 * MOST);
+    EXPECT(bitpacking_list_count_any(views, 5), 4 * MOST);
+    EXPECT(bitpacking_list_count_common(views, 5), 0);
+    views[1] = views[4];
+    EXPECT(bitpacking_list_count_common(views, 2), MOST);
+    EXPECT(bitpacking_list_count_any(views, 2), MOST);
+    views[5] = steps(packer, bytes[4], sizeof bytes[4], UINT32_MAX - 4292860000u, 260000, MOST, 2);
+    EXPECT(bitpacking_list_count_any(views + 5, 1), MOST / 2);
+    EXPECT(bitpacking_list_count_common(views + 4, 2), MOST / 2);
+    EXPECT(bitpacking_list_count_any(views + 3, 3), 2 * MOST);
+    for (i = 0; i < 3; i++)
+        views[i] = steps(packer, bytes[i], sizeof bytes[i], 70000 + 4 * (uint32_t)i, 2, MOST, 1);
+    EXPECT(bitpacking_list_count_any(views, 3), MOST + 4);
+    EXPECT(bitpacking_list_count_common(views, 3), MOST - 4);
+}
+
 int main(void)
 {
     int packer;
@@ -188,6 +247,7 @@ int main(void)
         errors(packer);
         empty(packer);
         rooms(packer);
+        counts(packer);
     }
     texts();
     return failed;

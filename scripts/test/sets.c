@@ -1,6 +1,7 @@
 /* Reads the tables vectors/lists2.tsv and lists3.tsv, one after the other: rows "kind, lanes, values, bytes". Combines each list in order
-   alone, with each other, and with each two of a few, and compares what the calls on many lists write with the tables' values. It also
-   unites up to 64 at a time, chosen at random. Prints what is wrong, and last how many lists it read and how often it combined some. */
+   alone, with each other, and with each two of a few, and compares what the calls on many lists write and count with the tables' values. It
+   also unites up to 64 at a time, chosen at random. Prints what is wrong, and last how many lists it read and how often it combined some, and
+   counted. */
 #include "bitpacking.h"
 #include "tables.h"
 
@@ -15,7 +16,7 @@ static struct {
     bitpacking_list view;
 } lists[MOST];
 static bitpacking_list plain;
-static unsigned long combined;
+static unsigned long combined, counted;
 static int failed;
 
 static void expect(int right, const char *what, size_t a, size_t b, size_t c)
@@ -38,6 +39,20 @@ static int has(size_t list, uint32_t value)
             high = middle;
     }
     return low < lists[list].len && lists[list].values[low] == value;
+}
+
+/* Whether a call counts so many values, and says if a list is plain. */
+static void compare_count(const char *what, ptrdiff_t (*call)(const bitpacking_list *, size_t), const size_t *which, size_t len, size_t found)
+{
+    bitpacking_list views[MANY + 1];
+    size_t i;
+
+    for (i = 0; i < len; i++)
+        views[i] = lists[which[i]].view;
+    expect(call(views, len) == (ptrdiff_t)found, what, which[0], which[1], which[2]);
+    views[len] = plain;
+    expect(call(views, len + 1) == BITPACKING_LIST_BAD_KIND, "a plain list is counted", which[0], which[1], which[2]);
+    counted++;
 }
 
 /* Whether the values are in front, with as much room as is always enough; and what is written with less, and beside a plain list. */
@@ -101,7 +116,7 @@ static size_t expect_all(const size_t *which, size_t len)
 
 static void combine(size_t a, size_t b, size_t c, size_t len)
 {
-    size_t which[3], shortest = lists[a].len, total = 0, i;
+    size_t which[3], shortest = lists[a].len, total = 0, found, i;
 
     which[0] = a, which[1] = b, which[2] = c;
     for (i = 0; i < len; i++) {
@@ -109,9 +124,13 @@ static void combine(size_t a, size_t b, size_t c, size_t len)
         if (lists[which[i]].len < shortest)
             shortest = lists[which[i]].len;
     }
-    compare("what all have", bitpacking_list_intersect, which, len, expect_values(which, len, 1), shortest);
+    found = expect_values(which, len, 1);
+    compare("what all have", bitpacking_list_intersect, which, len, found, shortest);
+    compare_count("how many all have", bitpacking_list_count_common, which, len, found);
     compare("what the first has and no other", bitpacking_list_subtract, which, len, expect_values(which, len, 0), lists[a].len);
-    compare("what any has", bitpacking_list_unite, which, len, expect_all(which, len), total);
+    found = expect_all(which, len);
+    compare("what any has", bitpacking_list_unite, which, len, found, total);
+    compare_count("how many any has", bitpacking_list_count_any, which, len, found);
 }
 
 static uint32_t below(size_t limit)
@@ -125,7 +144,7 @@ static uint32_t below(size_t limit)
 /* Unites up to a number of lists at random, as many as there is room for. Often one is the empty list, and some stand twice. */
 static void unite_many(size_t most)
 {
-    size_t which[MANY] = {0}, total = 0, len = 0, i, list;
+    size_t which[MANY] = {0}, total = 0, len = 0, found, i, list;
 
     for (i = 0; i < most; i++) {
         list = below(count);
@@ -134,7 +153,11 @@ static void unite_many(size_t most)
             which[len++] = list;
         }
     }
-    compare("what any of many has", bitpacking_list_unite, which, len, expect_all(which, len), total);
+    found = expect_all(which, len);
+    compare("what any of many has", bitpacking_list_unite, which, len, found, total);
+    compare_count("how many any of many has", bitpacking_list_count_any, which, len, found);
+    found = len == 0 ? 0 : expect_values(which, len, 1);
+    compare_count("how many all of many have", bitpacking_list_count_common, which, len, found);
 }
 
 static void read_list(char *column[COLUMNS])
@@ -173,8 +196,9 @@ int main(void)
     for (a = 0; a < TRIALS; a++)
         unite_many(a % MANY + 1);
     expect(bitpacking_list_intersect(NULL, 0, NULL, 0) == 0 && bitpacking_list_unite(NULL, 0, NULL, 0) == 0
-               && bitpacking_list_subtract(NULL, 0, NULL, 0) == 0,
+               && bitpacking_list_subtract(NULL, 0, NULL, 0) == 0 && bitpacking_list_count_common(NULL, 0) == 0
+               && bitpacking_list_count_any(NULL, 0) == 0,
            "no list", 0, 0, 0);
-    printf("%lu lists, %lu combined\n", (unsigned long)count, combined);
+    printf("%lu lists, %lu combined, %lu counted\n", (unsigned long)count, combined, counted);
     return failed;
 }

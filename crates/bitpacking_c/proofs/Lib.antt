@@ -1,8 +1,12 @@
 pub mod ChainLengths
+pub mod ChunkSteps
+pub mod CountSteps
 pub mod CursorPlaces
+pub mod GatherSteps
 pub mod MarkSteps
 pub mod PackLemmas
 pub mod SetSteps
+pub mod SettleSteps
 pub mod UnionSteps
 pub mod ViewLemmas
 pub mod WindowSteps

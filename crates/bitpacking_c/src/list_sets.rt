@@ -132,7 +132,7 @@ fn subtract(views: &[ListView<'_>], out: &mut [u32]) -> usize
 }
 
 /// The index and the length of the first list that is not longer than another.
-fn shortest(views: &[ListView<'_>]) -> (usize, usize)
+pub(crate) fn shortest(views: &[ListView<'_>]) -> (usize, usize)
     requires { 0 < length views.now }
     ensures within { result.0 < length views.now }
     ensures at { HoldsAt (HasLength result.1) views.now result.0 }
@@ -167,7 +167,7 @@ fn has_room(views: &[ListView<'_>], room: usize) -> bool
 }
 
 /// Whether a list is plain.
-fn has_plain(views: &[ListView<'_>]) -> bool
+pub(crate) fn has_plain(views: &[ListView<'_>]) -> bool
     ensures plain { (lists : Lists) → AreListsOf views.now lists → result ≡ any_plain lists }
     ensures ordered { result ≡ false → All IsInOrder views.now }
 {
@@ -218,7 +218,7 @@ fn copy_distinct_of<P: BitPacker>(packer: P, view: &ListView<'_>, out: &mut [u32
 }
 
 /// Keeps the values that a list has too, or those that it lacks, and returns how many these are.
-fn filter_by(view: &ListView<'_>, values: &mut [u32], lacking: bool) -> usize
+pub(crate) fn filter_by(view: &ListView<'_>, values: &mut [u32], lacking: bool) -> usize
     requires { IsInOrder view.now × IsStrictlyIncreasing values.old }
     ensures { Leaves view.now (λ all v. has values.old v && (if lacking then not (has all v) else has all v))
         values.new result }

@@ -17,7 +17,7 @@ use bitpacking::{BitPacker, BitPacker1x, BitPacker4x, BitPacker8x};
 /// How many numbers a window has, and the words of their bits.
 const WINDOW: u32 = 65536;
 
-const WORDS: usize = 1024;
+pub(crate) const WORDS: usize = 1024;
 
 /// What a list and the words of a window cost, and what a value gains for each list after two, but no more than for many: in 2 nanoseconds.
 const LIST_COST: usize = 250;
@@ -78,7 +78,7 @@ pub(crate) fn unite_by_windows(views: &[ListView<'_>], out: &mut [u32]) -> usize
 }
 
 /// Sets the bits of the values that any list has in a window. Returns a number after it that none of their later values is below.
-fn mark_all(views: &[ListView<'_>], number: u32, window: &mut [u64]) -> u64
+pub(crate) fn mark_all(views: &[ListView<'_>], number: u32, window: &mut [u64]) -> u64
     requires { All IsInOrder views.now × (number < 65536) × (length window.old ≡ 1024) }
     ensures after { base_of number + 65536 ≤ result }
     ensures marks { (lists : Lists) → AreListsOf views.now lists
@@ -134,7 +134,7 @@ fn wide(value: u32) -> u64
 }
 
 /// Moves a cursor past a value. It is faster if the value is `ahead` values ahead.
-fn pass<C: SortedCursor>(cursor: &mut C, last: u32, ahead: usize) -> Option<u32>
+pub(crate) fn pass<C: SortedCursor>(cursor: &mut C, last: u32, ahead: usize) -> Option<u32>
     ensures rest { C.rest cursor.new ≡ at_least (last + 1) (C.rest cursor.old) }
     ensures value { result ≡ first (C.rest cursor.new) }
 {
