@@ -30,14 +30,19 @@ length-distinct (x ∷ xs) =
     let rest = length-distinct xs in
     cond_both (has xs x) (distinct xs) (x ∷ distinct xs) (λ (ys : List ℕ). length ys ≤ length (x ∷ xs)) (λ _. omega (arith, rest)) (λ _. omega (arith, rest))
 
--- what is kept by a list that has it too
-pub keeps_shared : (lacking : Bool) → lacking ≡ false → (view : ListView) (old rest after : List ℕ) (count : ℕ) → AreInFront count (shared old rest) after
+-- what is kept by a list that has it too, or that lacks it
+pub keeps : (lacking : Bool) (view : ListView) (old rest after : List ℕ) (count : ℕ) → AreInFront count (if lacking then without old rest else shared old rest) after
     → ((kind : ListKind) (all : List ℕ) → IsListOf view.lanes view.bytes.now kind all → (v : ℕ) → has rest v ≡ has all v)
     → Leaves view (λ all v. has old v && (if lacking then not (has all v) else has all v)) after count
-keeps_shared lacking lacks view old rest after count front is = record {
+keeps true view old rest after count front is = record {
   few = front.few;
   increasing = front.increasing;
-  members = λ kind all of v. rw lacks (ap (λ xs. has xs v) front.are ∙ has-shared old rest v ∙ ap (λ b. has old v && b) (is kind all of v));
+  members = λ kind all of v. ap (λ xs. has xs v) front.are ∙ has-without old rest v ∙ ap (λ b. has old v && not b) (is kind all of v);
+}
+keeps false view old rest after count front is = record {
+  few = front.few;
+  increasing = front.increasing;
+  members = λ kind all of v. ap (λ xs. has xs v) front.are ∙ has-shared old rest v ∙ ap (λ b. has old v && b) (is kind all of v);
 }
 
 -- what was written is all, if there was room
@@ -227,7 +232,7 @@ all_shared done lists some increasing other members =
     count (list ∷ lists) some = omega arith
 
 -- the values of a list in order increase, once each is there once
-rising : (lanes : ℕ) (bytes : List ℕ) (kind : ListKind) (values : List ℕ) → kind ≢ Plain → IsListOf lanes bytes kind values → IsIncreasing (distinct values)
+pub rising : (lanes : ℕ) (bytes : List ℕ) (kind : ListKind) (values : List ℕ) → kind ≢ Plain → IsListOf lanes bytes kind values → IsIncreasing (distinct values)
 rising zero bytes kind values other is = absurd (other is.0)
 rising (suc lane) bytes kind values other is =
     let none = ordered_text (version_in bytes) (suc lane) kind values bytes is in
@@ -257,16 +262,6 @@ intersects_none [] (list ∷ lists) out are e = absurd are
 intersects_none (view ∷ views) lists out are e = absurd (omega (arith, e))
 
 -- ---- what the first list has and no other
-
--- what is kept by a list that lacks it
-pub keeps_others : (lacking : Bool) → lacking ≡ true → (view : ListView) (old rest after : List ℕ) (count : ℕ) → AreInFront count (without old rest) after
-    → ((kind : ListKind) (all : List ℕ) → IsListOf view.lanes view.bytes.now kind all → (v : ℕ) → has rest v ≡ has all v)
-    → Leaves view (λ all v. has old v && (if lacking then not (has all v) else has all v)) after count
-keeps_others lacking lacks view old rest after count front is = record {
-  few = front.few;
-  increasing = front.increasing;
-  members = λ kind all of v. rw lacks (ap (λ xs. has xs v) front.are ∙ has-without old rest v ∙ ap (λ b. has old v && not b) (is kind all of v));
-}
 
 and_not : (a b c : Bool) → ((a && not b) && not c) ≡ (a && not (b || c))
 and_not true true c = refl

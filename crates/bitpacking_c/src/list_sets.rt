@@ -7,19 +7,17 @@ ghost use Rattle.std.specs.Prelude.{◌≡◌, ◌≢◌, ℕ, ◌<◌, ◌≤�
 ghost use Rattle.std.specs.List.{HoldsAt};
 ghost use Rattle.std.specs.List.Sorted.{IsStrictlyIncreasing};
 ghost use Rattle.bitpack_lists.specs.declared.list_kind.ListKind.{ListKind};
-ghost use Rattle.bitpack_sorted.specs.Distinct.{distinct};
-ghost use Rattle.bitpack_sorted.specs.Increasing.{has};
+ghost use Rattle.bitpack_sorted.specs.Increasing.{has, shared, without};
+ghost use Rattle.bitpack_sorted.specs.InFront.{AreInFront};
 ghost use Rattle.bitpack_sorted.specs.Many.{all_have};
-ghost use Rattle.bitpack_sorted.specs.Remaining.{remaining};
 ghost use Rattle.bitpacking_c.specs.Sets.{Adds, AreListsOf, CanAdd, FitsIn, HasLength, HasRoom, HasUnion, Intersects, IsInOrder, Leaves, Lists, Subtracts, Unites, all_values, any_plain, others_have, shortest_len, total_len, values_at};
-ghost use Rattle.bitpacking_c.specs.Views.{IsListOf};
 
 use super::list_sorting::{is_quick_in_turn, unite_by_sorting};
-use super::list_view::{ListView, bitpacking_list_len, kind};
+use super::list_view::{ListView, bitpacking_list_len, distinct_of, kind};
 use super::list_windows::{is_dense, unite_by_windows};
 use bitpack_lists::ListKind;
 use bitpack_sorted::{
-    DistinctValues, IncreasingSlice, collect_to, intersect_in_place, subtract_in_place,
+    IncreasingSlice, SortedCursor, collect_to, intersect_in_place, subtract_in_place,
     unite_in_place,
 };
 use bitpacking::{BitPacker, BitPacker1x, BitPacker4x, BitPacker8x, MAX_BLOCK_LEN};
@@ -179,18 +177,6 @@ pub(crate) fn has_plain(views: &[ListView<'_>]) -> bool
     false
 }
 
-/// The values of a list of a packer, each once.
-#[inline(always)]
-pub(crate) fn distinct_of<'a, P: BitPacker>(packer: P, view: &ListView<'a>) -> DistinctValues<'a, P>
-    requires lanes { view.now.lanes ≡ P.lanes }
-    requires ordered { IsInOrder view.now }
-    ensures values { (kind : ListKind) (all : List ℕ) → IsListOf view.now.lanes view.now.bytes.now kind all
-        → remaining result ≡ distinct all }
-    ensures some { (kind : ListKind) × (all : List ℕ) × IsListOf view.now.lanes view.now.bytes.now kind all }
-{
-    DistinctValues::new(view.list(packer).cursor())
-}
-
 /// Writes the values of a list, each once, and returns how many these are.
 fn copy_distinct(view: &ListView<'_>, out: &mut [u32]) -> usize
     requires { IsInOrder view.now × FitsIn (length out.old) view.now }
@@ -246,12 +232,7 @@ fn filter_by_list_of<P: BitPacker>(
     ensures { Leaves view.now (λ all v. has values.old v && (if lacking then not (has all v) else has all v))
         values.new result }
 {
-    let mut cursor = distinct_of(packer, view);
-    if lacking {
-        subtract_in_place(values, &mut cursor)
-    } else {
-        intersect_in_place(values, &mut cursor)
-    }
+    filter_by_cursor(&mut distinct_of(packer, view), values, lacking)
 }
 
 /// As above, for a list with as many values as a block or fewer. These are unpacked: to start a cursor takes longer.
@@ -264,16 +245,25 @@ fn filter_by_few(view: &ListView<'_>, values: &mut [u32], lacking: bool) -> usiz
 {
     let mut all = [0; MAX_BLOCK_LEN];
     let len = copy_distinct(view, &mut all);
-    let mut few = IncreasingSlice::new(&all[..len]);
+    filter_by_cursor(&mut IncreasingSlice::new(&all[..len]), values, lacking)
+}
+
+/// Keeps the values that a cursor has too, or those that it lacks.
+#[inline(always)]
+fn filter_by_cursor<C: SortedCursor>(cursor: &mut C, values: &mut [u32], lacking: bool) -> usize
+    requires { IsStrictlyIncreasing values.old }
+    ensures { AreInFront result (if lacking then without values.old (C.rest cursor.old)
+        else shared values.old (C.rest cursor.old)) values.new }
+{
     if lacking {
-        subtract_in_place(values, &mut few)
+        subtract_in_place(values, cursor)
     } else {
-        intersect_in_place(values, &mut few)
+        intersect_in_place(values, cursor)
     }
 }
 
 /// Adds the values of a list to the first `count` of a slice, and returns how many these are together.
-fn add_distinct(view: &ListView<'_>, count: usize, values: &mut [u32]) -> usize
+pub(crate) fn add_distinct(view: &ListView<'_>, count: usize, values: &mut [u32]) -> usize
     requires { CanAdd view.now count values.old }
     ensures { Adds view.now (take count values.old) values.new result }
 {

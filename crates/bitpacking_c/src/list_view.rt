@@ -6,10 +6,13 @@ ghost use Rattle.bitpack_lists.specs.Opened.{kind_of, values};
 ghost use Rattle.bitpack_lists.specs.Parts.{kind_byte};
 ghost use Rattle.bitpack_lists.specs.Search.{IsSearched, first_at_least};
 ghost use Rattle.bitpack_lists.specs.Texts.{fault_of_either};
+ghost use Rattle.bitpack_sorted.specs.Distinct.{distinct};
+ghost use Rattle.bitpack_sorted.specs.Remaining.{remaining};
 ghost use Rattle.bitpacking_c.specs.Views.{Gets, IsListOf, Seeks, UnpacksList, WasFound, fault_number, fault_of_any, lanes_in};
 
 use bitpack_lists::ListKind;
 use bitpack_lists::list2::{ListOutline, PackedList, Reads};
+use bitpack_sorted::DistinctValues;
 use bitpacking::{BitPacker, BitPacker1x, BitPacker4x, BitPacker8x};
 
 /// The first byte of a text of version 3 is at least this. Divided by this, it is the number that means the lanes.
@@ -163,6 +166,19 @@ pub extern "C" fn bitpacking_list_kind(view: &ListView<'_>) -> u8
         ListKind::Sorted => 1,
         ListKind::StrictlySorted => 2,
     }
+}
+
+/// The values of a list of a packer, each once.
+#[inline(always)]
+pub(crate) fn distinct_of<'a, P: BitPacker>(packer: P, view: &ListView<'a>) -> DistinctValues<'a, P>
+    requires lanes { view.now.lanes ≡ P.lanes }
+    requires ordered { (kind : ListKind) (all : List ℕ) → IsListOf view.now.lanes view.now.bytes.now kind all
+        → kind ≢ ListKind.Plain }
+    ensures values { (kind : ListKind) (all : List ℕ) → IsListOf view.now.lanes view.now.bytes.now kind all
+        → remaining result ≡ distinct all }
+    ensures some { (kind : ListKind) × (all : List ℕ) × IsListOf view.now.lanes view.now.bytes.now kind all }
+{
+    DistinctValues::new(view.list(packer).cursor())
 }
 
 /// The value at a position.

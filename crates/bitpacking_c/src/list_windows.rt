@@ -9,8 +9,7 @@ ghost use Rattle.bitpacking_c.specs.Sets.{AreListsOf, HasRoom, HasUnion, IsInOrd
 ghost use Rattle.bitpacking_c.specs.Views.{IsListOf};
 ghost use Rattle.bitpacking_c.specs.Windows.{Marks, Writes, base_of, in_window, is_set};
 
-use super::list_sets::distinct_of;
-use super::list_view::{ListView, bitpacking_list_len, value};
+use super::list_view::{ListView, bitpacking_list_len, distinct_of, value};
 use bitpack_sorted::SortedCursor;
 use bitpacking::{BitPacker, BitPacker1x, BitPacker4x, BitPacker8x};
 

@@ -1,6 +1,6 @@
 -- The list of the view is in order.
 use Rattle.bitpack_lists.specs.Opened.{kind_of, values}
-use Rattle.bitpacking_c.proofs.list_sets.distinct_of.Goals as goal
+use Rattle.bitpacking_c.proofs.list_view.distinct_of.Goals as goal
 
 pub new-requires : goal.new-requires
 new-requires g c =
