@@ -10,8 +10,8 @@ ghost use Rattle.bitpacking_c.specs.Sets.{AreListsOf, IsInOrder, Lists, all_valu
 ghost use Rattle.bitpacking_c.specs.Windows.{in_window, is_set};
 
 use super::list_rounds::count_by_rounds;
-use super::list_sets::{distinct_of, filter_by, has_plain, shortest};
-use super::list_view::ListView;
+use super::list_sets::{filter_by, has_plain, shortest};
+use super::list_view::{ListView, distinct_of};
 use super::list_windows::{WORDS, is_dense, mark_all};
 use bitpack_sorted::{SortedCursor, collect_to};
 use bitpacking::{BitPacker, BitPacker1x, BitPacker4x, BitPacker8x};

@@ -17,8 +17,7 @@ ghost use Rattle.bitpacking_c.specs.Counting.{AreFrom, Gathers, HasCountOfUnited
 ghost use Rattle.bitpacking_c.specs.Sets.{AreListsOf, IsInOrder, Lists, all_values};
 ghost use Rattle.bitpacking_c.specs.Views.{IsListOf};
 
-use super::list_sets::distinct_of;
-use super::list_view::ListView;
+use super::list_view::{ListView, distinct_of};
 use super::list_windows::pass;
 use bitpack_lists::list2::first_from;
 use bitpack_sorted::{SortedCursor, sort_distinct};
