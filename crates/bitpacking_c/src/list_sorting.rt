@@ -5,9 +5,8 @@ ghost use Rattle.bitpack_sorted.specs.Increasing.{has};
 ghost use Rattle.bitpack_sorted.specs.Many.{any_has};
 ghost use Rattle.bitpacking_c.specs.Sets.{Appends, AreListsOf, FitsIn, HasRoom, HasUnion, Lists, all_values};
 
-use super::list_view::{ListView, bitpacking_list_len};
+use super::list_view::{ListView, bitpacking_list_len, copy_all};
 use bitpack_sorted::sort_distinct;
-use bitpacking::{BitPacker, BitPacker1x, BitPacker4x, BitPacker8x};
 
 /// Sorting takes about as long as moving each value this often.
 const MOST_MOVES: usize = 6;
@@ -51,24 +50,5 @@ fn unpack_after(view: &ListView<'_>, count: usize, values: &mut [u32]) -> usize
     requires { (count ≤ length values.old) × FitsIn (length values.old - count) view.now }
     ensures { Appends view.now (take count values.old) values.new result }
 {
-    match view.lanes {
-        0 => count,
-        1 => unpack_of(BitPacker1x::new(), view, count, values),
-        4 => unpack_of(BitPacker4x::new(), view, count, values),
-        _ => unpack_of(BitPacker8x::new(), view, count, values),
-    }
-}
-
-/// Unpacks a list of a packer.
-#[inline(always)]
-fn unpack_of<P: BitPacker>(
-    packer: P,
-    view: &ListView<'_>,
-    count: usize,
-    values: &mut [u32],
-) -> usize
-    requires { (view.now.lanes ≡ P.lanes) × (count ≤ length values.old) × FitsIn (length values.old - count) view.now }
-    ensures { Appends view.now (take count values.old) values.new result }
-{
-    count + view.list(packer).copy_to(&mut values[count..])
+    count + copy_all(view, &mut values[count..])
 }

@@ -1,6 +1,6 @@
 //! Packed lists of versions 2 and 3, read in place: a view in the caller's memory holds the bytes, and that they are a list.
 
-ghost use Rattle.std.specs.Prelude.{◌≡◌, ◌≢◌, ℕ, List, None, length, slice_get, pos};
+ghost use Rattle.std.specs.Prelude.{◌≡◌, ◌≢◌, ◌≤◌, ◌++◌, ℕ, List, None, drop, length, slice_get, pos};
 ghost use Rattle.bitpack_lists.specs.declared.list_kind.ListKind.{ListKind};
 ghost use Rattle.bitpack_lists.specs.Opened.{kind_of, values};
 ghost use Rattle.bitpack_lists.specs.Parts.{kind_byte};
@@ -8,6 +8,7 @@ ghost use Rattle.bitpack_lists.specs.Search.{IsSearched, first_at_least};
 ghost use Rattle.bitpack_lists.specs.Texts.{fault_of_either};
 ghost use Rattle.bitpack_sorted.specs.Distinct.{distinct};
 ghost use Rattle.bitpack_sorted.specs.Remaining.{remaining};
+ghost use Rattle.bitpacking_c.specs.Sets.{FitsIn};
 ghost use Rattle.bitpacking_c.specs.Views.{Gets, IsListOf, Seeks, UnpacksList, WasFound, fault_number, fault_of_any, lanes_in};
 
 use bitpack_lists::ListKind;
@@ -86,15 +87,20 @@ pub extern "C" fn bitpacking_list_open<'a>(bytes: &'a [u8], view: &mut ListView<
     ensures unchanged { fault_of_any bytes.now ≢ None → view.new ≡ view.old }
 {
     match stated_lanes(bytes) {
-        1 => open(BitPacker1x::new(), 1, bytes, view),
-        4 => open(BitPacker4x::new(), 4, bytes, view),
-        _ => open(BitPacker8x::new(), 8, bytes, view),
+        1 => open_of(BitPacker1x::new(), 1, bytes, view),
+        4 => open_of(BitPacker4x::new(), 4, bytes, view),
+        _ => open_of(BitPacker8x::new(), 8, bytes, view),
     }
 }
 
 /// Opens a text of version 2 or 3 of a packer of this many lanes.
 #[inline(always)]
-fn open<'a, P: BitPacker>(packer: P, lanes: u8, bytes: &'a [u8], view: &mut ListView<'a>) -> isize
+fn open_of<'a, P: BitPacker>(
+    packer: P,
+    lanes: u8,
+    bytes: &'a [u8],
+    view: &mut ListView<'a>,
+) -> isize
     requires lanes { lanes ≡ P.lanes }
     requires known { lanes ≢ 1 → lanes ≢ 4 → lanes ≡ 8 }
     ensures answer { result ≡ fault_number (fault_of_either P.lanes bytes.now) }
@@ -216,26 +222,25 @@ pub extern "C" fn bitpacking_list_unpack(view: &ListView<'_>, values: &mut [u32]
     ensures { (kind : ListKind) (all : List ℕ) → IsListOf view.now.lanes view.now.bytes.now kind all
         → UnpacksList all values.old values.new result }
 {
-    match view.lanes {
-        0 => 0,
-        1 => unpack(BitPacker1x::new(), view, values),
-        4 => unpack(BitPacker4x::new(), view, values),
-        _ => unpack(BitPacker8x::new(), view, values),
-    }
-}
-
-/// Unpacks the list of a view, for its packer.
-#[inline(always)]
-fn unpack<P: BitPacker>(packer: P, view: &ListView<'_>, values: &mut [u32]) -> isize
-    requires { view.now.lanes ≡ P.lanes }
-    ensures { (kind : ListKind) (all : List ℕ) → IsListOf view.now.lanes view.now.bytes.now kind all
-        → UnpacksList all values.old values.new result }
-{
-    let list = view.list(packer);
-    if values.len() < list.len() {
+    if values.len() < bitpacking_list_len(view) {
         return -3;
     }
-    list.copy_to(values) as isize
+    copy_all(view, values) as isize
+}
+
+/// Writes all values to the front of a slice that has room for them. Returns their number.
+pub(crate) fn copy_all(view: &ListView<'_>, values: &mut [u32]) -> usize
+    requires { FitsIn (length values.old) view.now }
+    ensures few { result ≤ length values.new }
+    ensures values { (kind : ListKind) (all : List ℕ) → IsListOf view.now.lanes view.now.bytes.now kind all
+        → (result ≡ length all) × (values.new ≡ all ++ drop (length all) values.old) }
+{
+    match view.lanes {
+        0 => 0,
+        1 => view.list(BitPacker1x::new()).copy_to(values),
+        4 => view.list(BitPacker4x::new()).copy_to(values),
+        _ => view.list(BitPacker8x::new()).copy_to(values),
+    }
 }
 
 /// The first value that is at least the target, with its position.
@@ -256,7 +261,7 @@ fn first_at_least(view: &ListView<'_>, target: u32, reads: &mut Reads) -> Option
 }
 
 /// The search, with the entries and blocks that it reads.
-fn seek(
+fn search(
     view: &ListView<'_>,
     target: u32,
     position: &mut usize,
@@ -291,5 +296,5 @@ pub extern "C" fn bitpacking_list_seek(
     ensures { (kind : ListKind) (values : List ℕ) → IsListOf view.now.lanes view.now.bytes.now kind values
         → Seeks kind values target (position.old, item.old) (position.new, item.new) result }
 {
-    seek(view, target, position, item, &mut Reads::new())
+    search(view, target, position, item, &mut Reads::new())
 }
