@@ -9,15 +9,20 @@ ghost use Rattle.bitpacking_c.specs.Counting.{CountsAny, CountsCommon, HasCountO
 ghost use Rattle.bitpacking_c.specs.Sets.{AreListsOf, IsInOrder, Lists, all_values, values_at};
 ghost use Rattle.bitpacking_c.specs.Windows.{in_window, is_set};
 
-use super::list_rounds::count_by_rounds;
+use super::list_rounds::{WANTED, count_by_rounds};
 use super::list_sets::{filter_by, has_plain, shortest};
 use super::list_view::{ListView, distinct_of};
-use super::list_windows::{WORDS, is_dense, mark_all};
+use super::list_windows::{WORDS, count, mark_all, windows};
 use bitpack_sorted::{SortedCursor, collect_to};
 use bitpacking::{BitPacker, BitPacker1x, BitPacker4x, BitPacker8x};
 
 /// How many values of the shortest list are looked up in the others at once.
 const CHUNK: usize = 1024;
+
+/// What the words of a window cost, and sorting the values of a round, in starts of a list: each is about 0.1 microseconds.
+const WINDOW_STARTS: usize = 10;
+
+const ROUND_STARTS: usize = 1500;
 
 /// Answers how many values all of the lists have, each counted once; if a list is plain, -23; without lists, 0. It seeks the values of the
 /// shortest list in each of the others, 1,024 at a time, and keeps those on the stack.
@@ -98,7 +103,7 @@ fn filter_by_others(views: &[ListView<'_>], index: usize, values: &mut [u32]) ->
 }
 
 /// Answers how many values any of the lists has, each counted once; if a list is plain, -23; without lists, 0. It counts the values of dense
-/// lists in windows of 65,536 numbers, 8 KB on the stack, and others in rounds with 32 KB on the stack.
+/// lists in windows of 65,536 numbers, 8 KB on the stack, and others in rounds, 56 KB on the stack.
 #[unsafe(no_mangle)]
 pub extern "C" fn bitpacking_list_count_any(views: &[ListView<'_>]) -> isize
     ensures { (lists : Lists) → AreListsOf views.now lists → CountsAny lists result }
@@ -106,10 +111,18 @@ pub extern "C" fn bitpacking_list_count_any(views: &[ListView<'_>]) -> isize
     if has_plain(views) {
         return -23;
     }
-    if is_dense(views) {
+    if is_quick_by_windows(views) {
         return count_by_windows(views) as isize;
     }
     count_by_rounds(views) as isize
+}
+
+/// Whether to count by windows, as that takes less time than by rounds. Only time depends on the answer.
+fn is_quick_by_windows(views: &[ListView<'_>]) -> bool {
+    let of_window = views.len().saturating_add(WINDOW_STARTS);
+    let of_round = views.len().saturating_add(ROUND_STARTS);
+    let rounds = (count(views) / WANTED).saturating_add(1);
+    windows(views).saturating_mul(of_window) < rounds.saturating_mul(of_round)
 }
 
 /// Counts what any of the lists has: each list sets the bits of its values in a window, and then the set bits are counted.

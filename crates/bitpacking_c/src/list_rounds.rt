@@ -1,11 +1,12 @@
 //! How many values any of many lists has, counted in rounds.
 //!
-//! A round gathers on the stack the values of all lists from the first number on that is not yet counted. If there is no room for more, it
-//! sorts them, keeps the least 4,096, and lowers its limit to the last of these. Values above the limit are left to later rounds. At the end
-//! it counts what is left up to the limit.
+//! A round gathers on the stack the values of all lists from the first number on that is not yet counted, up to a limit. If there is no room
+//! for more, it sorts them, keeps the least half, and lowers the limit to the last of these. At the end it sorts what it has and counts what
+//! is up to the limit. Values above are left to later rounds. The next limit is where about 10,752 values are, if they are as dense as before.
 //!
-//! Each round but the last counts 4,096 to 8,192 values. It starts and seeks each list once, and sorts each value a few times. So n
-//! different values in m lists take n / 4,096 rounds at most, and m starts in each: the work is about n * log(n) if m is a few thousand or less.
+//! A round that looks at too few numbers is followed by one that looks at up to 16 times as many. So n different values in m lists take
+//! some n / 10,000 rounds, and at most 8 times as many. Each sorts its values, and starts and seeks each list once: the work is about
+//! n * log(n) if m is a few thousand or less.
 
 ghost use Rattle.std.specs.Prelude.{◌≡◌, ℕ, ◌+◌, ◌-◌, ◌<◌, ◌≤◌, ◌^◌, ◌&&◌, false, nat_le, All, List, length, slice_index, take};
 ghost use Rattle.std.specs.List.Sorted.{IsStrictlyIncreasing};
@@ -24,9 +25,14 @@ use bitpack_sorted::{SortedCursor, sort_distinct};
 use bitpacking::{BitPacker, BitPacker1x, BitPacker4x, BitPacker8x, MAX_BLOCK_LEN};
 
 /// How many values there is room for, and how many of them are kept if that is full.
-const ROOM: usize = 8192;
+const ROOM: usize = 14336;
 
-const KEPT: usize = 4096;
+const KEPT: usize = 7168;
+
+/// How many values a round is to find, and how many times as many numbers a round looks at as the one before it, at most.
+pub(crate) const WANTED: usize = 10752;
+
+const MOST_GROWTH: u64 = 16;
 
 /// Values that are gathered in the first places of a slice, in any order. Those above the limit don't count.
 #[derive(Clone, Copy)]
@@ -43,37 +49,43 @@ pub(crate) fn count_by_rounds(views: &[ListView<'_>]) -> usize
     let mut buffer = [0; ROOM];
     let mut counted = 0;
     let mut base = 0u64;
+    let mut span = u32::MAX;
     while base < 1 << 32 {
-        let (found, next) = count_round(views, base as u32, &mut buffer);
+        let (found, next) = count_round(views, base as u32, span, &mut buffer);
         counted += found;
+        span = next_span(next - base, found);
         base = next;
     }
     counted
 }
 
-/// Counts what any of the lists has from a number on, up to another, which it also returns.
-fn count_round(views: &[ListView<'_>], base: u32, buffer: &mut [u32]) -> (usize, u64)
-    requires { All IsInOrder views.now × (length buffer.old ≡ 8192) }
+/// How many numbers the next round looks at, if this one found values among some. Only time depends on the answer.
+fn next_span(span: u64, found: usize) -> u32 {
+    let wanted = span.saturating_mul(WANTED as u64) / (found as u64).max(1);
+    let most = span.saturating_mul(MOST_GROWTH);
+    wanted.min(most).min(u32::MAX as u64) as u32
+}
+
+/// Counts what any of the lists has from a number on, up to another, which it also returns. It looks at a span of numbers at most.
+fn count_round(views: &[ListView<'_>], base: u32, span: u32, buffer: &mut [u32]) -> (usize, u64)
+    requires { All IsInOrder views.now × (length buffer.old ≡ 14336) }
     ensures next { (base < result.1) × (result.1 ≤ 2 ^ 32) }
     ensures few { result.0 ≤ result.1 - base }
     ensures count { (lists : Lists) → AreListsOf views.now lists
         → result.0 ≡ count_in (any_has (all_values lists)) base (result.1 - base) }
 {
-    let gathered = gather_all(views, base, buffer);
+    let gathered = gather_all(views, base, base.saturating_add(span), buffer);
     (settle(buffer, gathered), gathered.limit as u64 + 1)
 }
 
-/// Gathers the values of all lists from a number on.
-fn gather_all(views: &[ListView<'_>], base: u32, buffer: &mut [u32]) -> Gathered
-    requires { All IsInOrder views.now × (length buffer.old ≡ 8192) }
+/// Gathers the values of all lists from a number on, up to a limit or a lower one.
+fn gather_all(views: &[ListView<'_>], base: u32, limit: u32, buffer: &mut [u32]) -> Gathered
+    requires { All IsInOrder views.now × (length buffer.old ≡ 14336) × (base ≤ limit) }
     ensures from { AreFrom base buffer.new result }
     ensures members { (lists : Lists) → AreListsOf views.now lists → (v : ℕ) → base ≤ v → v ≤ result.limit
         → has (take result.len buffer.new) v ≡ any_has (all_values lists) v }
 {
-    let mut gathered = Gathered {
-        len: 0,
-        limit: u32::MAX,
-    };
+    let mut gathered = Gathered { len: 0, limit };
     for index in 0..views.len() {
         gathered = gather_list(&views[index], base, buffer, gathered);
     }
@@ -82,7 +94,7 @@ fn gather_all(views: &[ListView<'_>], base: u32, buffer: &mut [u32]) -> Gathered
 
 /// Gathers the values of a list from a number on, after others.
 fn gather_list(view: &ListView<'_>, base: u32, buffer: &mut [u32], so_far: Gathered) -> Gathered
-    requires { IsInOrder view.now × (length buffer.old ≡ 8192) × AreFrom base buffer.old so_far }
+    requires { IsInOrder view.now × (length buffer.old ≡ 14336) × AreFrom base buffer.old so_far }
     ensures from { AreFrom base buffer.new result }
     ensures gathers { (kind : ListKind) (all : List ℕ) → IsListOf view.now.lanes view.now.bytes.now kind all
         → Gathers (λ v. has all v && nat_le base v) buffer.old so_far buffer.new result }
@@ -117,7 +129,7 @@ fn gather<C: SortedCursor>(
     buffer: &mut [u32],
     so_far: Gathered,
 ) -> Gathered
-    requires { (length buffer.old ≡ 8192) × AreFrom base buffer.old so_far }
+    requires { (length buffer.old ≡ 14336) × AreFrom base buffer.old so_far }
     ensures from { AreFrom base buffer.new result }
     ensures gathers { Gathers (λ v. has (C.rest cursor.old) v && nat_le base v) buffer.old so_far buffer.new result }
 {
@@ -139,7 +151,7 @@ fn gather<C: SortedCursor>(
 /// Gathers the values of a block.
 fn append(block: &[u32], buffer: &mut [u32], so_far: Gathered) -> Gathered
     requires few { length block.now ≤ MAX_BLOCK_LEN }
-    requires within { (length buffer.old ≡ 8192) × (so_far.len ≤ length buffer.old) }
+    requires within { (length buffer.old ≡ 14336) × (so_far.len ≤ length buffer.old) }
     ensures { Gathers (has block.now) buffer.old so_far buffer.new result }
 {
     let gathered = room_for(block.len(), buffer, so_far);
@@ -154,7 +166,7 @@ fn append(block: &[u32], buffer: &mut [u32], so_far: Gathered) -> Gathered
 /// Makes room for a number of values, if there is less.
 fn room_for(count: usize, buffer: &mut [u32], so_far: Gathered) -> Gathered
     requires few { count ≤ MAX_BLOCK_LEN }
-    requires within { (length buffer.old ≡ 8192) × (so_far.len ≤ length buffer.old) }
+    requires within { (length buffer.old ≡ 14336) × (so_far.len ≤ length buffer.old) }
     ensures room { result.len + count ≤ length buffer.new }
     ensures same { Gathers (λ v. false) buffer.old so_far buffer.new result }
 {

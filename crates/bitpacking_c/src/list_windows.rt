@@ -35,14 +35,7 @@ pub(crate) fn is_dense(views: &[ListView<'_>]) -> bool {
     if count / SHORT < views.len() {
         return false;
     }
-    let mut first = u32::MAX;
-    let mut last = 0;
-    for view in views {
-        let end = bitpacking_list_len(view).saturating_sub(1);
-        first = value(view, 0).unwrap_or(first).min(first);
-        last = value(view, end).unwrap_or(last).max(last);
-    }
-    let windows = (last.saturating_sub(first) / WINDOW) as usize + 1;
+    let windows = windows(views);
     let cost = views
         .len()
         .saturating_mul(LIST_COST)
@@ -51,8 +44,20 @@ pub(crate) fn is_dense(views: &[ListView<'_>]) -> bool {
     windows.saturating_mul(cost) < count.saturating_mul(gain)
 }
 
+/// How many windows there are from the first value of the lists to the last, or one more.
+pub(crate) fn windows(views: &[ListView<'_>]) -> usize {
+    let mut first = u32::MAX;
+    let mut last = 0;
+    for view in views {
+        let end = bitpacking_list_len(view).saturating_sub(1);
+        first = value(view, 0).unwrap_or(first).min(first);
+        last = value(view, end).unwrap_or(last).max(last);
+    }
+    (last.saturating_sub(first) / WINDOW) as usize + 1
+}
+
 /// How many values all lists have.
-fn count(views: &[ListView<'_>]) -> usize {
+pub(crate) fn count(views: &[ListView<'_>]) -> usize {
     let mut count = 0usize;
     for view in views {
         count = count.saturating_add(bitpacking_list_len(view));

@@ -7,7 +7,7 @@ use Rattle.bitpacking_c.proofs.list_rounds.count_by_rounds.Given as goal
 
 abbrev pub invariant-loop-base : goal.invariant-loop-base
 invariant-loop-base l = record {
-  long : length l.buffer ≡ 8192;
+  long : length l.buffer ≡ 14336;
   most : l.base ≤ 2 ^ 32;
   few : l.counted ≤ l.base;
   count : (lists : Lists) → AreListsOf l.views lists → l.counted ≡ count_in (any_has (all_values lists)) 0 l.base;

@@ -6,7 +6,7 @@ use Rattle.bitpacking_c.proofs.list_rounds.gather.Given as goal
 
 abbrev pub invariant-loop-next : goal.invariant-loop-next
 invariant-loop-next g l = record {
-  long : length l.buffer ≡ 8192;
+  long : length l.buffer ≡ 14336;
   gathering : IsGathering l.base (g.C.SortedCursor.rest l.fn.cursor) (g.C.SortedCursor.rest l.cursor) l.fn.buffer l.fn.so_far l.buffer l.gathered;
   next : l.next ≡ first (g.C.SortedCursor.rest l.cursor);
 }

@@ -8,7 +8,7 @@ use Rattle.bitpacking_c.proofs.list_rounds.gather_all.Given as goal
 
 abbrev pub invariant-loop-index : goal.invariant-loop-index
 invariant-loop-index l = record {
-  long : length l.buffer ≡ 8192;
+  long : length l.buffer ≡ 14336;
   from : AreFrom l.base l.buffer l.gathered;
   members : (lists : Lists) → AreListsOf l.views lists → (v : ℕ) → l.base ≤ v → v ≤ l.gathered.limit
       → has (take l.gathered.len l.buffer) v ≡ any_has (take l.index (all_values lists)) v;
