@@ -1,6 +1,6 @@
 //! Packed lists of versions 2 and 3, read in place: a view in the caller's memory holds the bytes, and that they are a list.
 
-ghost use Rattle.std.specs.Prelude.{◌≡◌, ◌≢◌, ◌≤◌, ◌++◌, ℕ, List, None, drop, length, slice_get, pos};
+ghost use Rattle.std.specs.Prelude.{◌≡◌, ◌≢◌, ◌≤◌, ℕ, List, None, drop, length, slice_get, take, pos};
 ghost use Rattle.bitpack_lists.specs.declared.list_kind.ListKind.{ListKind};
 ghost use Rattle.bitpack_lists.specs.Opened.{kind_of, values};
 ghost use Rattle.bitpack_lists.specs.Parts.{kind_byte};
@@ -8,7 +8,6 @@ ghost use Rattle.bitpack_lists.specs.Search.{IsSearched, first_at_least};
 ghost use Rattle.bitpack_lists.specs.Texts.{fault_of_either};
 ghost use Rattle.bitpack_sorted.specs.Distinct.{distinct};
 ghost use Rattle.bitpack_sorted.specs.Remaining.{remaining};
-ghost use Rattle.bitpacking_c.specs.Sets.{FitsIn};
 ghost use Rattle.bitpacking_c.specs.Views.{Gets, IsListOf, Seeks, UnpacksList, WasFound, fault_number, fault_of_any, lanes_in};
 
 use bitpack_lists::ListKind;
@@ -230,10 +229,14 @@ pub extern "C" fn bitpacking_list_unpack(view: &ListView<'_>, values: &mut [u32]
 
 /// Writes all values to the front of a slice that has room for them. Returns their number.
 pub(crate) fn copy_all(view: &ListView<'_>, values: &mut [u32]) -> usize
-    requires { FitsIn (length values.old) view.now }
-    ensures few { result ≤ length values.new }
+    requires room { (kind : ListKind) (all : List ℕ) → IsListOf view.now.lanes view.now.bytes.now kind all
+        → length all ≤ length values.old }
+    ensures within { result ≤ length values.new }
+    ensures few { (n : ℕ) → ((kind : ListKind) (all : List ℕ) → IsListOf view.now.lanes view.now.bytes.now kind all
+        → length all ≤ n) → result ≤ n }
     ensures values { (kind : ListKind) (all : List ℕ) → IsListOf view.now.lanes view.now.bytes.now kind all
-        → (result ≡ length all) × (values.new ≡ all ++ drop (length all) values.old) }
+        → (result ≡ length all) × (take result values.new ≡ all) }
+    ensures rest { drop result values.new ≡ drop result values.old }
 {
     match view.lanes {
         0 => 0,
