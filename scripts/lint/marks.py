@@ -29,7 +29,11 @@ MEASURING = r"\bnum_bits_kind\b|\bwidth_counted\b"
 # The functions whose reads a contract counts, or that read at most one tail, with their marks: who calls them needs no mark.
 COUNTED = {
     f"{LISTS}/blocks/reads.rt": {"read_entry": "record, read_one, read_one", "unpack_body": "record, body, decompress_kind"},
-    f"{LISTS}/opened.rt": {"entry": "read_entry, rest", "unpack_block_as": "unpack_body, packer, rest", "clone": "packer, bytes, rest, tail"},
+    f"{LISTS}/opened.rt": {
+        "entry": "read_entry, rest",
+        "unpack_block_as": "unpack_body, packer, rest",
+        "clone": "packer, bytes, rest, tail",
+    },
     f"{LISTS}/opened/tail.rt": {
         "read_tail": "read_words, tail, read_front",
         "value_in_tail": "read_one, tail, value_in_groups",

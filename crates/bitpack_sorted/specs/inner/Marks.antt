@@ -32,6 +32,14 @@ pub record CanMark (values block : List ℕ) : Type 0 where
   pub increasing : IsStrictlyIncreasing values
   pub shown : IsBlock block
 
+-- values from an index on increase, and none of a block is below the first of them
+pub record CanFilter (values block : List ℕ) (kept from : ℕ) : Type 0 where
+  pub behind : kept ≤ from
+  pub within : from < length values
+  pub increasing : IsStrictlyIncreasing (drop from values)
+  pub shown : IsBlock block
+  pub first : slice_index values from ≤ slice_index block 0
+
 -- the first values of a block are below all values
 pub record IsPassed (values block : List ℕ) (passed : ℕ) : Type 0 where
   pub within : passed ≤ length block

@@ -1,8 +1,7 @@
 //! Values of a slice that are kept in their place if a block has them, or lacks them.
 
-ghost use Rattle.std.specs.Prelude.{◌≡◌, ◌+◌, ◌<◌, ◌≤◌, drop, length, slice_index, take};
-ghost use Rattle.std.specs.List.Sorted.{IsStrictlyIncreasing};
-ghost use Rattle.bitpack_sorted.specs.inner.Marks.{CanMark, Filters, HasMarked, IsBlock, IsPassed, last_of};
+ghost use Rattle.std.specs.Prelude.{◌≡◌, ◌+◌, ◌<◌, ◌≤◌, drop, length, take};
+ghost use Rattle.bitpack_sorted.specs.inner.Marks.{CanFilter, CanMark, Filters, HasMarked, IsPassed};
 
 use super::group::same;
 use super::keeping::{keep_each, keep_marked};
@@ -23,10 +22,7 @@ pub(crate) fn keep_in_block(
     block: &[u32],
     lacking: bool,
 ) -> Filtered
-    requires place { (done.kept ≤ done.from) × (done.from < length values.old) }
-    requires increasing { IsStrictlyIncreasing (drop done.from values.old) }
-    requires block { IsBlock block.now }
-    requires first { slice_index values.old done.from ≤ slice_index block.now 0 }
+    requires { CanFilter values.old block.now done.kept done.from }
     ensures forward { (done.from < result.from) × (result.from ≤ length values.new) }
     ensures filters { Filters lacking block.now values.old done.kept done.from values.new result.kept result.from }
 {
@@ -53,10 +49,7 @@ pub(crate) fn keep_in_block(
 /// Keeps the value at an index if a block has it, or if it lacks it. None of the block is below that value.
 #[inline(always)]
 fn keep_first(values: &mut [u32], done: Filtered, block: &[u32], lacking: bool) -> Filtered
-    requires place { (done.kept ≤ done.from) × (done.from < length values.old) }
-    requires increasing { IsStrictlyIncreasing (drop done.from values.old) }
-    requires block { IsBlock block.now }
-    requires first { slice_index values.old done.from ≤ slice_index block.now 0 }
+    requires { CanFilter values.old block.now done.kept done.from }
     ensures from { result.from ≡ done.from + 1 }
     ensures long { length values.new ≡ length values.old }
     ensures filters { Filters lacking block.now values.old done.kept done.from values.new result.kept result.from }

@@ -6,24 +6,27 @@ use Rattle.bitpack_sorted.proofs.FilteringSteps.{ahead_increasing, filtering_mor
 use Rattle.bitpack_sorted.proofs.FrontLemmas.{front_some}
 use Rattle.bitpack_sorted.proofs.in_place.intersect_in_place.Goals as goal
 
-pub keep_in_block-done-requires-clause-increasing : goal.keep_in_block-done-requires-clause-increasing
-keep_in_block-done-requires-clause-increasing g c =
+pub keep_in_block-done-requires : goal.keep_in_block-done-requires
+keep_in_block-done-requires g c =
     let all : List ℕ = g.C.SortedCursor.rest c.args.cursor.now in
     let rest : List ℕ = g.C.SortedCursor.rest c.loop-next.cursor in
+    let rest' : List ℕ = g.C.SortedCursor.rest c.next_from.new.cursor in
     let old : List ℕ = c.args.values.now in
     let ys : List ℕ = c.loop-next.values in
+    let block : List ℕ = c.first_part.result.now in
+    let front = c.first_part.ensures.front in
     let next = c.in-Some.ensures.some in
+    let some : 0 < length block = front_some block rest' front next.some in
     let within : c.in-Some.next ≤ length ys = omega (arith, next.within) in
     let kept : AreKept (keeps false all) old ys c.loop-next.done.kept c.in-Some.next =
     lacked_kept all rest old ys c.loop-next.done.kept c.loop-next.done.from c.in-Some.next c.requires c.loop-next.invariant next.forward within next.lacked in
-    ahead_increasing (keeps false all) old ys c.loop-next.done.kept c.in-Some.next c.requires kept
-
-pub keep_in_block-done-requires-clause-first : goal.keep_in_block-done-requires-clause-first
-keep_in_block-done-requires-clause-first g c =
-    let rest' : List ℕ = g.C.SortedCursor.rest c.next_from.new.cursor in
-    let block : List ℕ = c.first_part.result.now in
-    let next = c.in-Some.ensures.some in
-    next.reached (get_or block 0 0) (c.first_part.ensures.front.among 0 (front_some block rest' c.first_part.ensures.front next.some))
+    record {
+      behind = kept.behind;
+      within = next.within;
+      increasing = ahead_increasing (keeps false all) old ys c.loop-next.done.kept c.in-Some.next c.requires kept;
+      shown = record { some = some; few = c.first_part.ensures.few; ordered = front.ordered };
+      first = next.reached (get_or block 0 0) (front.among 0 some);
+    }
 
 pub loop-next-preserved : goal.loop-next-preserved
 loop-next-preserved g c =

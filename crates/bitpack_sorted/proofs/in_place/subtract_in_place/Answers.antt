@@ -20,17 +20,21 @@ returns-in_default g c =
     without_are old c.move_rest.new.values all c.move_rest.result c.requires c.move_rest.ensures.few
     (c.move_rest.ensures.are ∙ rest_kept (keeps true all) old ys c.loop-done.done.kept c.loop-done.done.from s.are (λ q le lt. ap not (lacked q le lt)))
 
-pub keep_in_block-done-requires-clause-increasing : goal.keep_in_block-done-requires-clause-increasing
-keep_in_block-done-requires-clause-increasing g c =
+pub keep_in_block-done-requires : goal.keep_in_block-done-requires
+keep_in_block-done-requires g c =
     let all : List ℕ = g.C.SortedCursor.rest c.args.cursor.now in
-    ahead_increasing (keeps true all) c.args.values.now c.loop-done.values c.loop-done.done.kept c.loop-done.done.from c.requires c.loop-done.invariant.are
-
-pub keep_in_block-done-requires-clause-first : goal.keep_in_block-done-requires-clause-first
-keep_in_block-done-requires-clause-first g c =
     let rest' : List ℕ = g.C.SortedCursor.rest c.seek.new.self in
+    let ys : List ℕ = c.loop-done.values in
     let block : List ℕ = c.first_part.result.now in
-    front_reached (get_or c.loop-done.values c.loop-done.done.from 0) (g.C.SortedCursor.rest c.loop-done.cursor) rest' block c.seek.ensures.rest c.first_part.ensures.front
-    (front_some block rest' c.first_part.ensures.front (λ none. let clash : Some c.in-Some._here ≡ None = c.in-Some.ensures.value ∙ none in cc))
+    let front = c.first_part.ensures.front in
+    let some : 0 < length block = front_some block rest' front (λ none. let clash : Some c.in-Some._here ≡ None = c.in-Some.ensures.value ∙ none in cc) in
+    record {
+      behind = c.loop-done.invariant.are.behind;
+      within = c.loop-done-test.true;
+      increasing = ahead_increasing (keeps true all) c.args.values.now ys c.loop-done.done.kept c.loop-done.done.from c.requires c.loop-done.invariant.are;
+      shown = record { some = some; few = c.first_part.ensures.few; ordered = front.ordered };
+      first = front_reached (get_or ys c.loop-done.done.from 0) (g.C.SortedCursor.rest c.loop-done.cursor) rest' block c.seek.ensures.rest front some;
+    }
 
 pub loop-done-preserved : goal.loop-done-preserved
 loop-done-preserved g c =

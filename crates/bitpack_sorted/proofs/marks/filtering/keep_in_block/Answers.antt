@@ -6,7 +6,7 @@ use Rattle.bitpack_sorted.proofs.marks.filtering.keep_in_block.Goals as goal
 
 pub loop-from-init : goal.loop-from-init
 loop-from-init c =
-    none_filtered c.args.lacking c.args.block.now c.args.values.now c.args.done.kept c.args.done.from c.requires.place.0 (omega (arith, c.requires.place.1))
+    none_filtered c.args.lacking c.args.block.now c.args.values.now c.args.done.kept c.args.done.from c.requires.behind (omega (arith, c.requires.within))
 
 pub marks_from-marks-requires-clause-can : goal.marks_from-marks-requires-clause-can
 marks_from-marks-requires-clause-can c =
@@ -16,7 +16,7 @@ marks_from-marks-requires-clause-can c =
     let some : 0 < count = omega (arith, counted, c.loop-from-test.true) in
     let room : c.loop-from.from + count ≤ length ys = omega (arith, counted, c.loop-from-test.true) in
     piece_can c.args.lacking c.args.block.now c.args.values.now c.args.done.kept c.args.done.from ys c.loop-from.kept c.loop-from.from c.loop-from.passed
-    c.requires.increasing c.loop-from.invariant count some (omega (arith, counted)) room c.requires.block
+    c.requires.increasing c.loop-from.invariant count some (omega (arith, counted)) room c.requires.shown
 
 pub marks_from-marks-requires-clause-passed : goal.marks_from-marks-requires-clause-passed
 marks_from-marks-requires-clause-passed c =
@@ -42,5 +42,5 @@ loop-from-preserved c =
       | else-lacking w ↦ inr (w.if-lacking.false, w.bits-is)
     ] in
     filtered_more c.args.lacking c.args.block.now c.args.values.now c.args.done.kept c.args.done.from ys c.loop-from.kept c.loop-from.from c.loop-from.passed
-    c.requires.increasing c.loop-from.invariant count some (omega (arith, counted)) room marks.from marks.passed marks.bits c.marks_from-marks.ensures c.requires.block.ordered
+    c.requires.increasing c.loop-from.invariant count some (omega (arith, counted)) room marks.from marks.passed marks.bits c.marks_from-marks.ensures c.requires.shown.ordered
     (search rules) c.if-lacking.bits chosen c.keep_marked-kept.new.values c.keep_marked-kept.result c.keep_marked-kept.ensures
