@@ -499,8 +499,9 @@ ptrdiff_t bitpacking_list_subtract(const bitpacking_list *views, size_t views_le
 /* How many values all lists have. It seeks the values of the shortest list in the others, 1,024 at a time: about 6 KB of stack. */
 ptrdiff_t bitpacking_list_count_common(const bitpacking_list *views, size_t views_len);
 
-/* How many values any list has. It counts values of dense lists in windows of 65,536 numbers, and others in rounds of about 10,752 values:
- * about 60 KB of stack. Each round starts each list again: for thousands of short lists it takes longer than bitpacking_list_unite. */
+/* How many values any list has. It counts values of dense lists in windows of 65,536 numbers, two lists by what both have, and others in
+ * rounds of about 10,752 values: about 60 KB of stack. Each round starts each list again: for thousands of short lists it takes longer than
+ * bitpacking_list_unite. */
 ptrdiff_t bitpacking_list_count_any(const bitpacking_list *views, size_t views_len);
 
 #ifdef __cplusplus

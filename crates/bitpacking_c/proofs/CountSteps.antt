@@ -247,7 +247,7 @@ has_word values v words e =
     let (k, lt, at_k) = place-of values v e in
     rw at_k at (words k 0 lt)
 
-any_word : (views : List ListView) (lists : Lists) (v : ℕ) → AreListsOf views lists → any_has (all_values lists) v ≡ true → v < 2 ^ 32
+pub any_word : (views : List ListView) (lists : Lists) (v : ℕ) → AreListsOf views lists → any_has (all_values lists) v ≡ true → v < 2 ^ 32
 any_word [] [] v are e = absurd (false≢true e)
 any_word [] (list ∷ lists) v are e = absurd are
 any_word (view ∷ views) [] v are e = absurd are

@@ -7,6 +7,7 @@ pub mod MarkSteps
 pub mod PackLemmas
 pub mod SetSteps
 pub mod SettleSteps
+pub mod TwoSteps
 pub mod UnionSteps
 pub mod ViewLemmas
 pub mod WindowSteps

@@ -216,7 +216,7 @@ count_of_values (view ∷ views) (list ∷ lists) are = omega (arith, count_of_v
 
 -- ---- the values that are written
 
-has-all_distinct : (lists : Lists) (v : ℕ) → all_have (all_distinct lists) v ≡ all_have (all_values lists) v
+pub has-all_distinct : (lists : Lists) (v : ℕ) → all_have (all_distinct lists) v ≡ all_have (all_values lists) v
 has-all_distinct [] v = refl
 has-all_distinct (list ∷ lists) v = rw (has-distinct list.1 v, has-all_distinct lists v) refl
 

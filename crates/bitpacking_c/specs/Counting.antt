@@ -35,7 +35,7 @@ pub record HasCountOfShared (views : List ListView) (count : ℕ) : Type 0 where
 
 -- and any has
 pub record HasCountOfUnited (views : List ListView) (count : ℕ) : Type 0 where
-  pub few : count ≤ 2 ^ 32
+  pub few : count ≤ 2 ^ 33
   pub are : (lists : Lists) → AreListsOf views lists → count ≡ length (united_all (all_distinct lists))
 
 -- ---- values that are gathered

@@ -102,8 +102,8 @@ fn filter_by_others(views: &[ListView<'_>], index: usize, values: &mut [u32]) ->
     kept
 }
 
-/// Answers how many values any of the lists has, each counted once; if a list is plain, -23; without lists, 0. It counts the values of dense
-/// lists in windows of 65,536 numbers, 8 KB on the stack, and others in rounds, 56 KB on the stack.
+/// Answers how many values any of the lists has, each counted once; if a list is plain, -23; without lists, 0. It counts the values of
+/// dense lists in windows of 65,536 numbers, 8 KB on the stack, two lists by what both have, and others in rounds, 56 KB on the stack.
 #[unsafe(no_mangle)]
 pub extern "C" fn bitpacking_list_count_any(views: &[ListView<'_>]) -> isize
     ensures { (lists : Lists) → AreListsOf views.now lists → CountsAny lists result }
@@ -114,7 +114,22 @@ pub extern "C" fn bitpacking_list_count_any(views: &[ListView<'_>]) -> isize
     if is_quick_by_windows(views) {
         return count_by_windows(views) as isize;
     }
+    if views.len() == 2 {
+        return count_either(views) as isize;
+    }
     count_by_rounds(views) as isize
+}
+
+/// Counts what either of two lists has: what each has, without what both have again.
+fn count_either(views: &[ListView<'_>]) -> usize
+    requires { (length views.now ≡ 2) × All IsInOrder views.now }
+    ensures { HasCountOfUnited views.now result }
+{
+    let one = count_common(&views[..1], 0);
+    let other = count_common(&views[1..], 0);
+    let (shortest, _len) = shortest(views);
+    let both = count_common(views, shortest);
+    one + other.saturating_sub(both)
 }
 
 /// Whether to count by windows, as that takes less time than by rounds. Only time depends on the answer.

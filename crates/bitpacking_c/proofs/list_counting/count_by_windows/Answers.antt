@@ -41,7 +41,7 @@ loop-next-preserved c =
 
 pub returns : goal.returns
 returns c = record {
-  few = c.loop-next.invariant.most;
+  few = omega (arith, c.loop-next.invariant.most);
   are = λ lists are.
       c.loop-next.invariant.count lists are
       ∙ counted_all c.args.views.now lists (base_of (c.loop-next.next / 65536)) are (omega (arith, c.loop-next-test.false));
