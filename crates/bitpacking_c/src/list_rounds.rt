@@ -1,9 +1,9 @@
 //! How many values any of many lists has, counted in rounds.
 //!
 //! A round gathers on the stack the values of all lists from the first number on that is not yet counted, up to a limit. If there is no
-//! room for more, it sorts them, keeps the least half, and lowers the limit to the last of these. At the end it sorts what it has and counts
-//! what is up to the limit. Values above are left to later rounds. The next limit is where about 10,752 values are, if they are as dense as
-//! before.
+//! room for more, it sorts them, keeps the least half, and lowers the limit to the last of these. At the end it sorts what it has and
+//! counts what is up to the limit. Values above are left to later rounds. The next limit is where about 10,752 values are, if they are as
+//! dense as before.
 //!
 //! A round that looks at too few numbers is followed by one that looks at up to 16 times as many. So n different values in m lists take
 //! some n / 10,000 rounds, and at most 8 times as many. Each sorts its values, and starts and seeks each list once: the work is about
