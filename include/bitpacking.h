@@ -280,7 +280,7 @@ ptrdiff_t bitpacking_list_open(const uint8_t *bytes, size_t bytes_len, bitpackin
 #define BITPACKING_LIST_LOOSE_WIDTH (-27) /* a width is not the least of its block */
 #define BITPACKING_LIST_BAD_OFFSET (-28)  /* an offset is not the sum of the widths before it */
 #define BITPACKING_LIST_BAD_LAST (-29)    /* a last value is not its block's */
-#define BITPACKING_LIST_NOT_SORTED (-30)  /* the values are not in the order of the kind */
+#define BITPACKING_LIST_NOT_SORTED (-30)  /* the values are not in the order of the kind, or in an array do not increase */
 #define BITPACKING_LIST_TRAILING (-31)    /* bytes are left over */
 #define BITPACKING_LIST_BAD_NUMBER (-33)  /* of version 3: a number is not as it has to be */
 #define BITPACKING_LIST_PADDING (-34)     /* of version 3: a bit after the codes of a group is set */
@@ -503,6 +503,26 @@ ptrdiff_t bitpacking_list_count_common(const bitpacking_list *views, size_t view
  * rounds of about 10,752 values: about 60 KB of stack. Each round starts each list again: for thousands of short lists it takes longer than
  * bitpacking_list_unite. */
 ptrdiff_t bitpacking_list_count_any(const bitpacking_list *views, size_t views_len);
+
+/* A list combined with the values of an array, in the array: so an answer is combined further without packing it. The values are strictly
+ * increasing, which each call tests; those that are left are at the front, strictly increasing, and their number is returned. The list has to
+ * be sorted or strictly sorted.
+ *
+ *     ptrdiff_t count = bitpacking_list_intersect(words, 2, ids, ids_len);
+ *     if (count >= 0) count = bitpacking_list_remove(&deleted, ids, (size_t)count);
+ *
+ * The first of: LIST_NOT_SORTED: the values are not strictly increasing; LIST_BAD_KIND: the list is plain, as is a view that is
+ * BITPACKING_LIST_EMPTY or all zero; SHORT, of list_add alone: values_len is below the sum of count and the length of the list, even if the
+ * values themselves would fit. Then nothing is written. Else values after those that are counted may have changed: they are work space. */
+
+/* Keeps the values that the list has too. */
+ptrdiff_t bitpacking_list_retain(const bitpacking_list *view, uint32_t *values, size_t values_len);
+
+/* Keeps the values that the list lacks. */
+ptrdiff_t bitpacking_list_remove(const bitpacking_list *view, uint32_t *values, size_t values_len);
+
+/* Adds the values of the list to the first `count` values, each once. The values after these are room. */
+ptrdiff_t bitpacking_list_add(const bitpacking_list *view, size_t count, uint32_t *values, size_t values_len);
 
 #ifdef __cplusplus
 }

@@ -67,8 +67,9 @@ PROGRAMS = {
     "10726 opened, 12209 Short, 1982 BadVersion, 2245 BadKind, 1286 WrongLanes, "
     "1366 TooLong, 2391 BadWidth, 925 LooseWidth, 2404 BadOffset, 2965 BadLast, "
     "2437 NotSorted, 5484 Trailing, 2702 BadNumber, 878 Padding\n",
-    # The lists of the tables that are in order: each alone, n ^ 2 pairs, and as many triples of 17 of them, by three calls.
-    SETS: "471 lists, 685675 combined, 462450 counted\n",
+    # The lists of the tables that are in order: each alone, n ^ 2 pairs, and as many triples of 17 of them, by three calls; and 4,000 unions.
+    # Then each with the array of each, by three calls, and with no value and four values, by three and two.
+    SETS: "471 lists, 685675 combined, 462450 counted, 670704 with an array\n",
 }
 # For each program that prints nothing, a function of the header that it calls, and that function with a wrong answer.
 CALLED = {CALLS: "bitpacking_version", LIST_CALLS: "bitpacking_list_len", "scripts/test/cursor.c": "bitpacking_cursor_position"}

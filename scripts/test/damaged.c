@@ -1,9 +1,11 @@
 /* Opens damaged lists of versions 2 and 3 between pages that nothing may read or write, and compares each answer with plain_reader.h, which
-   is written from docs/FORMAT.md. The lists are the texts of the tables lists2, lists3, refused2 and refused3 of vectors/, read one after
-   the other, and others that the library packs. Its argument is how many lists to open, 50,000 without one; the seed is fixed. Prints what
-   is wrong, and last one line of how many lists were opened and how many were refused by each fault. */
+   is written from docs/FORMAT.md; and unites those that it opened, 17 at a time. The lists are the texts of the tables lists2, lists3,
+   refused2 and refused3 of vectors/, read one after the other, and others that the library packs. Its argument is how many lists to open,
+   50,000 without one; the seed is fixed. Prints what is wrong, and last one line of how many lists were opened and how many were refused by
+   each fault. */
 #define _DEFAULT_SOURCE
 #include "bitpacking.h"
+#include "damaging.h"
 #include "plain_reader.h"
 #include "tables.h"
 
@@ -11,16 +13,24 @@
 #include <sys/mman.h>
 #include <unistd.h>
 
-enum { ROWS = 2000, POOL = 1 << 20, LONGEST = 1 << 15, MANY = 32 * LONGEST, PACKED = 700, UNSET = 0x5A5A5A5A };
+enum { ROWS = 2000, POOL = 1 << 20, MANY = 32 * LONGEST, PACKED = 700, UNITED = 17, UNSET = 0x5A5A5A5A };
 
 static const char *const names[FAULTS] = {
     "opened",     "Short",     "BadVersion", "BadKind",   "WrongLanes", "TooLong", "BadWidth",
     "LooseWidth", "BadOffset", "BadLast",    "NotSorted", "Trailing",   "",        "BadNumber", "Padding"};
-static uint8_t pool[POOL], text[LONGEST], other[LONGEST], *bytes_room;
+static uint8_t pool[POOL], *bytes_room;
 static uint32_t values[MANY + 1], *values_room;
 static bitpacking_cursor *cursor;
-static size_t row_at[ROWS], row_len[ROWS], rows, pool_len, text_len;
+static size_t row_at[ROWS], row_len[ROWS], rows, pool_len;
 static unsigned long number, by_fault[FAULTS], by_rule[2][RULES];
+/* Opened lists that are in order, with their values: each in room of its own between pages that nothing may read or write. */
+static struct {
+    uint8_t *room;
+    uint32_t values[PACKED];
+    size_t len;
+    bitpacking_list view;
+} kept[UNITED];
+static size_t kept_count;
 static int at_end, failed;
 
 static void expect(int right, const char *what)
@@ -40,19 +50,6 @@ static void outside(int signal_number)
     expect(0, "it reads or writes outside");
     fflush(stdout);
     _exit(signal_number);
-}
-
-static uint32_t random_number(void)
-{
-    static uint64_t state = 1;
-
-    state = state * 6364136223846793005u + 1442695040888963407u;
-    return (uint32_t)(state >> 32);
-}
-
-static uint32_t below(size_t limit)
-{
-    return (uint32_t)((uint64_t)random_number() * limit >> 32);
 }
 
 /* Room of so many bytes, which are whole pages, with a page before and one after it that nothing may read or write. */
@@ -133,75 +130,6 @@ static size_t whole(uint8_t *bytes)
     return row_len[row];
 }
 
-/* Puts some bytes in the place of others, if there is room. */
-static void replace(size_t from, size_t len, const uint8_t *bytes, size_t bytes_len)
-{
-    if (text_len - len + bytes_len > LONGEST)
-        return;
-    memmove(text + from + bytes_len, text + from + len, text_len - from - len);
-    memcpy(text + from, bytes, bytes_len);
-    text_len += bytes_len - len;
-}
-
-static uint8_t odd_byte(void)
-{
-    static const uint8_t odd[12] = {0, 1, 2, 3, 4, 8, 31, 32, 33, 127, 128, 255};
-
-    return below(3) ? odd[below(12)] : (uint8_t)below(256);
-}
-
-/* Sets the count, or another word or number of the text, to an extreme or to a form that it must not have. */
-static void damage_number(void)
-{
-    static const uint8_t words[8][4] = {{0}, {31}, {32}, {0, 1}, {0, 0, 0, 16}, {1, 0, 0, 16}, {255, 255, 255, 127}, {255, 255, 255, 255}};
-    static const uint8_t numbers[9][5] = {{14}, {15}, {143, 0}, {128, 2}, {128, 128, 128, 128, 1}, {129, 128, 128, 128, 1},
-                                          {255, 255, 255, 255, 15}, {128, 128, 128, 128, 16}, {128, 128, 128, 128, 128}};
-    const uint8_t *of = numbers[below(9)];
-    size_t at = text[0] == 2 ? 3 : 1, len = 0, new_len = 1;
-
-    if (text[0] == 2 || below(4) == 0) {
-        at = below(4) ? at : below(4) ? 8 + 4 * below(2) + 9 * below(3) : below(text_len);
-        if (at + 4 <= text_len)
-            memcpy(text + at, words[below(8)], 4);
-        return;
-    }
-    while (at + len < text_len && len < 4 && text[at + len] > 127)
-        len++;
-    while (new_len < 5 && of[new_len - 1] > 127)
-        new_len++;
-    if (at + len < text_len)
-        replace(at, len + 1, of, new_len);
-}
-
-/* Damages the text once. One of twelve is left whole. */
-static void damage(void)
-{
-    size_t kind = below(12), at = below(2) ? below(text_len) : below(text_len < 24 ? text_len : 24), len = below(10), i;
-    uint8_t more[10];
-
-    for (i = 0; i < 10; i++)
-        more[i] = below(2) ? 0 : odd_byte();
-    if (kind <= 3 && text_len > 0)
-        text[at] ^= (uint8_t)(1 << below(8));
-    else if (kind == 4 && text_len > 0)
-        text[at] = odd_byte();
-    else if (kind == 5 && text_len > 0)
-        text_len -= 1 + (below(2) ? below(text_len) : below(text_len < 8 ? text_len : 8));
-    else if (kind == 6)
-        replace(text_len, 0, more, 1 + below(9));
-    else if (kind == 7)
-        replace(at, len < text_len - at ? len : text_len - at, more, below(10));
-    else if (kind == 8) {
-        size_t other_len = whole(other), from = below(other_len + 1);
-
-        len = below(text_len - at + 1);
-        replace(at, len, other + from, below(2) && len < other_len - from ? len : below(other_len - from + 1));
-    } else if (kind == 9 && text_len > 0)
-        text[below(text_len < 3 ? text_len : 3)] = odd_byte();
-    else if (kind == 10 && text_len > 0)
-        damage_number();
-}
-
 /* Unpacks, gets and searches. */
 static void reads(const bitpacking_list *view, const plain_list *right)
 {
@@ -265,6 +193,73 @@ static void walks(const bitpacking_list *view, const plain_list *right)
     }
 }
 
+/* Gathers at the first position, the last, and some between; and one from the length on is refused, and nothing written. */
+static void gathers(const bitpacking_list *view, size_t n)
+{
+    size_t positions[6], i;
+    uint32_t *room = unset(6);
+
+    for (i = 0; i < 6; i++)
+        positions[i] = i == 0 || n == 0 ? 0 : i == 1 ? n - 1 : number * i * i % n;
+    if (n > 0) {
+        expect(bitpacking_list_gather(view, positions, 6, room, 6) == 6, "another number of values is gathered");
+        for (i = 0; i < 6; i++)
+            expect(room[i] == values[positions[i]], "another value is gathered");
+        expect(at_end || room[6] == UNSET, "it writes after the values that are gathered");
+        room = unset(6);
+    }
+    positions[number % 6] = n + (number % 3 == 0 ? number : 0);
+    expect(bitpacking_list_gather(view, positions, 6, room, 6) == BITPACKING_BAD_POSITION && is_unset(room, 6),
+           "it gathers a value that is not there");
+}
+
+static int by_value(const void *a, const void *b)
+{
+    const uint32_t one = *(const uint32_t *)a, other = *(const uint32_t *)b;
+
+    return (one > other) - (one < other);
+}
+
+/* Unites the lists that were kept. */
+static void unites(void)
+{
+    static uint32_t all[UNITED * PACKED];
+    bitpacking_list views[UNITED];
+    size_t total = 0, found = 0, i;
+    uint32_t *room;
+
+    for (i = 0; i < UNITED; i++) {
+        views[i] = kept[i].view;
+        memcpy(all + total, kept[i].values, 4 * kept[i].len);
+        total += kept[i].len;
+    }
+    qsort(all, total, sizeof *all, by_value);
+    for (i = 0; i < total; i++)
+        if (found == 0 || all[found - 1] != all[i])
+            all[found++] = all[i];
+    room = unset(total);
+    expect(bitpacking_list_unite(views, UNITED, room, total) == (ptrdiff_t)found && memcmp(room, all, 4 * found) == 0, "another union");
+    expect(at_end || room[total] == UNSET, "it writes after the union");
+}
+
+/* Keeps a list that is in order and not long, and unites those kept once there are enough. */
+static void keep_opened(const bitpacking_list *view, const plain_list *right)
+{
+    uint8_t *room = kept[kept_count].room + (at_end ? LONGEST - text_len : 0);
+
+    if (right->kind == 0 || right->count > PACKED)
+        return;
+    memcpy(room, text, text_len);
+    memcpy(kept[kept_count].values, values, 4 * right->count);
+    kept[kept_count].len = right->count;
+    kept[kept_count].view = *view;
+    kept[kept_count++].view.bytes = room;
+    if (kept_count == UNITED) {
+        unites();
+        kept_count = 0;
+    }
+}
+
 /* Opens a damaged text and compares. */
 static void compare(void)
 {
@@ -283,7 +278,9 @@ static void compare(void)
         by_rule[text_len > 0 && text[0] >= 64][right.rule]++;
     else if (!failed) {
         reads(&view, &right);
+        gathers(&view, right.count);
         walks(&view, &right);
+        keep_opened(&view, &right);
     }
     expect(memcmp(bytes, text, text_len) == 0, "the text is changed");
 }
@@ -333,6 +330,8 @@ int main(int arguments, char **argument)
     values_room = guarded(4 * MANY);
     cursor = (bitpacking_cursor *)((uint8_t *)guarded(LONGEST) + LONGEST) - 1;
     memset(cursor, 0, sizeof *cursor);
+    for (i = 0; i < UNITED; i++)
+        kept[i].room = (uint8_t *)guarded(LONGEST);
     while (next_row(column))
         keep(column);
     signal(SIGSEGV, outside);

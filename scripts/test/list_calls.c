@@ -1,5 +1,6 @@
 /* Lists that C packs, run by scripts/test/c.py as C99 and as C++, also under the address sanitizer: bytes worked by hand, each error with
-   nothing written, the room that is enough, the texts of all errors. scripts/test/tables.c packs the lists of the tables. */
+   nothing written, the room that is enough, lists combined with arrays, the texts of all errors. scripts/test/tables.c packs the lists of the
+   tables. */
 #include "bitpacking.h"
 
 #include <stdio.h>
@@ -141,6 +142,95 @@ static void rooms(int packer)
         EXPECT(fits(packer, BITPACKING_LIST_VERSION_3, BITPACKING_PLAIN, 16511), 67204);
 }
 
+/* The list 3, 3, 5, 9, 12 of a packer and a version, sorted; or plain. */
+static bitpacking_list worked_list(int packer, uint8_t version, uint8_t kind, uint8_t bytes[40])
+{
+    static const uint32_t values[5] = {3, 3, 5, 9, 12};
+    bitpacking_list list = BITPACKING_LIST_EMPTY;
+    size_t position;
+    ptrdiff_t size = packs[packer](version, kind, values, 5, bytes, 40, &position);
+
+    EXPECT(size > 0 && bitpacking_list_open(bytes, (size_t)size, &list) == 0, 1);
+    return list;
+}
+
+/* What is in front after a call, and its number. */
+static void is_in_front(ptrdiff_t answer, const uint32_t *values, const uint32_t *right, ptrdiff_t count)
+{
+    EXPECT(answer, count);
+    EXPECT(memcmp(values, right, (size_t)count * sizeof *values), 0);
+}
+
+/* With the array 1, 5, 9, 20: the list has 5 and 9 too, lacks 1 and 20, and has 3 and 12 besides. */
+static void combines_arrays(const bitpacking_list *list)
+{
+    static const uint32_t array[4] = {1, 5, 9, 20}, both[2] = {5, 9}, others[2] = {1, 20};
+    static const uint32_t all[6] = {1, 3, 5, 9, 12, 20}, listed[4] = {3, 5, 9, 12};
+    uint32_t values[10];
+
+    memset(values, 0x5A, sizeof values);
+    memcpy(values, array, sizeof array);
+    is_in_front(bitpacking_list_retain(list, values, 4), values, both, 2);
+    is_in_front(bitpacking_list_retain(list, values, 1), values, both, 1);
+    memcpy(values, array, sizeof array);
+    is_in_front(bitpacking_list_remove(list, values, 4), values, others, 2);
+    is_in_front(bitpacking_list_remove(list, values, 1), values, others, 1);
+    memcpy(values, array, sizeof array);
+    EXPECT(values[9], 0x5A5A5A5A);
+    is_in_front(bitpacking_list_add(list, 4, values, 9), values, all, 6);
+    EXPECT(values[9], 0x5A5A5A5A);
+    is_in_front(bitpacking_list_add(list, 0, values, 5), values, listed, 4);
+    EXPECT(bitpacking_list_retain(list, NULL, 0), 0);
+    EXPECT(bitpacking_list_remove(list, NULL, 0), 0);
+}
+
+/* An error of the three calls writes nothing. */
+static void refuses_arrays(const bitpacking_list *list, const uint32_t *array, size_t count, size_t room, ptrdiff_t error,
+                           ptrdiff_t error_of_add)
+{
+    uint32_t values[24];
+
+    memcpy(values, array, sizeof values);
+    if (error != 0) {
+        EXPECT(bitpacking_list_retain(list, values, count), error);
+        EXPECT(bitpacking_list_remove(list, values, count), error);
+    }
+    EXPECT(bitpacking_list_add(list, count, values, room), error_of_add);
+    EXPECT(memcmp(values, array, sizeof values), 0);
+}
+
+/* The errors in their order: a value twice or lower at each place of up to 19, a plain list, too little room. */
+static void refused_arrays(const bitpacking_list *list, const bitpacking_list *plain)
+{
+    const ptrdiff_t falls = BITPACKING_LIST_NOT_SORTED, kind = BITPACKING_LIST_BAD_KIND, is_short = BITPACKING_SHORT;
+    const bitpacking_list zero = bitpacking_list_empty();
+    uint32_t array[24];
+    size_t count, at;
+
+    for (at = 0; at < 24; at++)
+        array[at] = (uint32_t)(7 * at + 7);
+    for (count = 2; count < 20; count++)
+        for (at = 1; at < count; at++) {
+            const uint32_t right = array[at];
+
+            array[at] = array[at - 1];
+            refuses_arrays(list, array, count, 24, falls, falls);
+            refuses_arrays(plain, array, count, count, falls, falls);
+            array[at] = array[at - 1] - 1;
+            refuses_arrays(list, array, count, 24, falls, falls);
+            array[at] = right;
+        }
+    refuses_arrays(plain, array, 8, 24, kind, kind);
+    refuses_arrays(plain, array, 8, 0, kind, kind);
+    refuses_arrays(&zero, array, 8, 24, kind, kind);
+    refuses_arrays(&zero, array, 0, 0, kind, kind);
+    refuses_arrays(list, array, 8, 12, 0, is_short);
+    refuses_arrays(list, array, 8, 7, 0, is_short);
+    refuses_arrays(list, array, 8, 0, 0, is_short);
+    refuses_arrays(list, array, 0, 4, 0, is_short);
+    refuses_arrays(list, array, SIZE_MAX, 24, 0, is_short);
+}
+
 /* Each error of the header has its sentence, and no other number has one of these. */
 static void texts(void)
 {
@@ -238,6 +328,7 @@ static void counts(int packer)
 
 int main(void)
 {
+    uint8_t version;
     int packer;
 
     for (packer = 0; packer < 3; packer++) {
@@ -248,6 +339,14 @@ int main(void)
         empty(packer);
         rooms(packer);
         counts(packer);
+        for (version = BITPACKING_LIST_VERSION_2; version <= BITPACKING_LIST_VERSION_3; version++) {
+            uint8_t bytes[40], others[40];
+            const bitpacking_list list = worked_list(packer, version, BITPACKING_SORTED, bytes);
+            const bitpacking_list plain = worked_list(packer, version, BITPACKING_PLAIN, others);
+
+            combines_arrays(&list);
+            refused_arrays(&list, &plain);
+        }
     }
     texts();
     return failed;

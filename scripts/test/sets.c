@@ -1,14 +1,14 @@
 /* Reads the tables vectors/lists2.tsv and lists3.tsv, one after the other: rows "kind, lanes, values, bytes". Combines each list in order
    alone, with each other, and with each two of a few, and compares what the calls on many lists write and count with the tables' values. It
-   also unites up to 64 at a time, chosen at random. Prints what is wrong, and last how many lists it read and how often it combined some, and
-   counted. */
+   also unites up to 64 at a time, chosen at random, and combines each with the values of each other in an array. Prints what is wrong, and last
+   how many lists it read, how often it combined some and counted, and how often it combined one with an array. */
 #include "bitpacking.h"
 #include "tables.h"
 
 enum { MOST = 1000, FEW = 16, MANY = 64, TRIALS = 4000, LONGEST = 1 << 15, BYTES = 1 << 22, VALUES = 1 << 20, GUARD = 0x5A5A5A5A };
 
 static uint8_t bytes[BYTES];
-static uint32_t values[VALUES], expected[LONGEST], out[LONGEST + 1];
+static uint32_t values[VALUES], expected[LONGEST], out[LONGEST + 1], array[LONGEST], guards[LONGEST];
 static size_t bytes_used, values_used, count;
 static struct {
     const uint32_t *values;
@@ -16,7 +16,8 @@ static struct {
     bitpacking_list view;
 } lists[MOST];
 static bitpacking_list plain;
-static unsigned long combined, counted;
+static unsigned long combined, counted, with_arrays;
+static size_t array_len;
 static int failed;
 
 static void expect(int right, const char *what, size_t a, size_t b, size_t c)
@@ -114,6 +115,84 @@ static size_t expect_all(const size_t *which, size_t len)
     }
 }
 
+enum in_array { RETAIN, REMOVE, ADD };
+
+/* A call on a list and the array, which is copied to `out`, with room for more. */
+static ptrdiff_t call_in_array(enum in_array call, const bitpacking_list *view, size_t room)
+{
+    memcpy(out, array, array_len * sizeof *out);
+    memcpy(out + array_len, guards, (room > array_len ? room - array_len : 0) * sizeof *out);
+    return call == RETAIN   ? bitpacking_list_retain(view, out, array_len)
+           : call == REMOVE ? bitpacking_list_remove(view, out, array_len)
+                            : bitpacking_list_add(view, array_len, out, room);
+}
+
+/* Whether an error writes nothing. */
+static void compare_error(const char *what, enum in_array call, const bitpacking_list *view, size_t room, ptrdiff_t error, size_t a,
+                          size_t b)
+{
+    expect(call_in_array(call, view, room) == error, what, a, b, 0);
+    expect(memcmp(out, array, array_len * sizeof *out) == 0
+               && memcmp(out + array_len, guards, (room > array_len ? room - array_len : 0) * sizeof *out) == 0,
+           "written with an error", a, b, 0);
+}
+
+/* Whether a list and the array are combined to the values expected; and what is written with too little room, with a value twice, and with
+   a plain list. */
+static void compare_array(const char *what, enum in_array call, size_t a, size_t b, size_t found)
+{
+    const bitpacking_list *view = &lists[b].view;
+    size_t room = call == ADD ? array_len + lists[b].len : array_len;
+
+    out[room] = GUARD;
+    expect(call_in_array(call, view, room) == (ptrdiff_t)found && memcmp(out, expected, found * sizeof *out) == 0, what, a, b, 0);
+    expect(out[room] == GUARD, "written after the room", a, b, 0);
+    compare_error("a plain list", call, &plain, room, BITPACKING_LIST_BAD_KIND, a, b);
+    if (call == ADD && room > 0)
+        compare_error("too little room", call, view, room - 1, BITPACKING_SHORT, a, b);
+    if (array_len > 1) {
+        uint32_t last = array[array_len - 1];
+
+        array[array_len - 1] = array[array_len - 2];
+        compare_error("a value twice", call, view, room, BITPACKING_LIST_NOT_SORTED, a, b);
+        array[array_len - 1] = last;
+    }
+    with_arrays++;
+}
+
+/* The array is the values of a list, each once. */
+static void set_array(size_t list)
+{
+    size_t i;
+
+    array_len = 0;
+    for (i = 0; i < lists[list].len; i++)
+        if (array_len == 0 || array[array_len - 1] != lists[list].values[i])
+            array[array_len++] = lists[list].values[i];
+}
+
+/* With no value in the array, and with one that the list has or lacks. */
+static void combine_few(size_t list)
+{
+    size_t which[3] = {0}, i;
+
+    which[0] = list;
+    array_len = 0;
+    compare_array("nothing retained", RETAIN, list, list, 0);
+    compare_array("nothing removed", REMOVE, list, list, 0);
+    compare_array("the list", ADD, list, list, expect_all(which, 1));
+    array_len = 1;
+    for (i = 0; i < 4; i++) {
+        uint32_t value = lists[list].len == 0 || i == 3 ? (uint32_t)i * 1000 : lists[list].values[i * (lists[list].len - 1) / 2] + (i == 1);
+        size_t here = (size_t)has(list, value);
+
+        array[0] = expected[0] = value;
+        compare_array("one retained", RETAIN, list, list, here);
+        compare_array("one removed", REMOVE, list, list, 1 - here);
+    }
+}
+
+/* One to three lists; and of two, the second with the array, which is the values of the first. */
 static void combine(size_t a, size_t b, size_t c, size_t len)
 {
     size_t which[3], shortest = lists[a].len, total = 0, found, i;
@@ -127,10 +206,17 @@ static void combine(size_t a, size_t b, size_t c, size_t len)
     found = expect_values(which, len, 1);
     compare("what all have", bitpacking_list_intersect, which, len, found, shortest);
     compare_count("how many all have", bitpacking_list_count_common, which, len, found);
-    compare("what the first has and no other", bitpacking_list_subtract, which, len, expect_values(which, len, 0), lists[a].len);
+    if (len == 2)
+        compare_array("what an array and a list have", RETAIN, a, b, found);
+    found = expect_values(which, len, 0);
+    compare("what the first has and no other", bitpacking_list_subtract, which, len, found, lists[a].len);
+    if (len == 2)
+        compare_array("what an array has and no list", REMOVE, a, b, found);
     found = expect_all(which, len);
     compare("what any has", bitpacking_list_unite, which, len, found, total);
     compare_count("how many any has", bitpacking_list_count_any, which, len, found);
+    if (len == 2)
+        compare_array("what an array or a list has", ADD, a, b, found);
 }
 
 static uint32_t below(size_t limit)
@@ -182,10 +268,14 @@ int main(void)
     size_t a, b, c;
     char *column[COLUMNS];
 
+    for (a = 0; a < LONGEST; a++)
+        guards[a] = GUARD;
     while (next_row(column))
         read_list(column);
     for (a = 0; a < count; a++) {
         combine(a, 0, 0, 1);
+        combine_few(a);
+        set_array(a);
         for (b = 0; b < count; b++)
             combine(a, b, 0, 2);
     }
@@ -199,6 +289,6 @@ int main(void)
                && bitpacking_list_subtract(NULL, 0, NULL, 0) == 0 && bitpacking_list_count_common(NULL, 0) == 0
                && bitpacking_list_count_any(NULL, 0) == 0,
            "no list", 0, 0, 0);
-    printf("%lu lists, %lu combined, %lu counted\n", (unsigned long)count, combined, counted);
+    printf("%lu lists, %lu combined, %lu counted, %lu with an array\n", (unsigned long)count, combined, counted, with_arrays);
     return failed;
 }

@@ -1,3 +1,4 @@
+pub mod ArraySteps
 pub mod ChainLengths
 pub mod ChunkSteps
 pub mod CountSteps
