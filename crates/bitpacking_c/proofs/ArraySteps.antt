@@ -11,9 +11,14 @@ use Rattle.bitpacking_c.specs.declared.list_view.ListView.{ListView}
 use Rattle.bitpacking_c.specs.Arrays.{Combines}
 use Rattle.bitpacking_c.specs.Sets.{Adds, is_plain}
 use Rattle.bitpacking_c.specs.Views.{IsListOf}
-use Rattle.bitpacking_c.proofs.SetSteps.{ordered_kind, rising, writes}
+use Rattle.bitpacking_c.proofs.SetSteps.{ordered_kind, plain_kind, rising, writes}
 
 -- ---- answers
+
+pub has_no_order : (given values before : List ℕ) (kind : ListKind) (room : ℕ) → IsStrictlyIncreasing given → kind ≡ Plain
+    → Combines given (is_plain kind) room values before before (negsuc 22)
+has_no_order given values before kind room increasing plain =
+    rw (plain_kind kind plain) (λ fall. absurd (fall increasing), λ _. (refl, refl))
 
 pub is_short : (given values before : List ℕ) (kind : ListKind) (room : ℕ) → IsStrictlyIncreasing given → kind ≢ Plain → length before < room
     → Combines given (is_plain kind) room values before before (negsuc 2)
