@@ -36,7 +36,7 @@ pub use cursor::Cursor;
 pub use encoder::{encode, encode_into, Encoder, Version};
 pub use error::Error;
 pub use iter::Iter;
-pub use sets::{difference, intersect, union};
+pub use sets::{difference, difference_into, intersect, intersect_into, union, union_into};
 
 /// The order of the values of a list, and what is packed in their place.
 #[derive(Clone, Copy, PartialEq, Eq, Hash, Debug)]
@@ -148,9 +148,7 @@ impl<'a> PackedList<'a> {
 
     /// All values in a vector, which takes four bytes for each: `len` tells before how many they are, if the bytes are untrusted.
     pub fn to_vec(&self) -> Vec<u32> {
-        let mut values = vec![0; self.len()];
-        self.unpack(&mut values);
-        values
+        best().lists.to_vec(&self.view)
     }
 
     /// Unpacks all values, and returns how many they are. Later places of `values` stay as they were.

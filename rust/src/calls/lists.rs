@@ -43,7 +43,8 @@ unsafe impl Sync for ListView<'_> {}
 
 impl ListView<'_> {
     /// The empty list.
-    const EMPTY: Self = ListView { bytes: std::ptr::null(), bytes_len: 0, found: ListOutline::EMPTY, lanes: 0, borrowed: PhantomData };
+    const EMPTY: Self =
+        ListView { bytes: std::ptr::null(), bytes_len: 0, found: ListOutline::EMPTY, lanes: 0, borrowed: PhantomData };
 
     /// How many values a block of an opened list has.
     pub(crate) fn block_len(&self) -> usize {
@@ -210,6 +211,26 @@ impl Lists {
         counted(unsafe { (self.unpack)(view, values.as_mut_ptr(), values.len()) })
     }
 
+    /// All values.
+    pub(crate) fn to_vec(&self, view: &ListView<'_>) -> Vec<u32> {
+        note!(done => done.unpacked += 1);
+        let mut values = Vec::new();
+        // SAFETY: a view that was opened, and the room that `replace` hands on.
+        let done = unsafe { replace(&mut values, self.len(view), |out, room| (self.unpack)(view, out, room)) };
+        done.expect("there is room for all values");
+        values
+    }
+
+    /// The values from a position on, at most `count`.
+    pub(crate) fn range_to_vec(&self, view: &ListView<'_>, from: usize, count: usize) -> Vec<u32> {
+        note!(done => done.ranges += 1);
+        let mut values = Vec::new();
+        // SAFETY: a view that was opened, and the room that `replace` hands on.
+        let done = unsafe { replace(&mut values, count, |out, room| (self.range)(view, from, out, room)) };
+        done.expect("this function has no error");
+        values
+    }
+
     pub(crate) fn range(&self, view: &ListView<'_>, from: usize, values: &mut [u32]) -> usize {
         note!(done => done.ranges += 1);
         // SAFETY: a view that was opened; the pointer and the length of a slice that is borrowed by `&mut`.
@@ -260,12 +281,28 @@ impl Lists {
     }
 }
 
-/// Writes the values that a function makes of these lists, and returns how many they are.
-pub(crate) fn combine(function: Combine, lists: &[PackedList<'_>], out: &mut [u32]) -> Result<usize, i32> {
-    note!(done => done.combined = (lists.iter().map(PackedList::len).collect(), out.len()));
-    // SAFETY: pointers and lengths of slices: of views that were opened, since a `PackedList` is a view and nothing else; and of
-    // numbers, which are borrowed by `&mut`.
-    counted(unsafe { function(lists.as_ptr().cast(), lists.len(), out.as_mut_ptr(), out.len()) })
+/// Replaces the values of a vector by those that a function makes of these lists, which are at most `room`. If it fails, the vector has
+/// the values that it had.
+pub(crate) fn combine(function: Combine, lists: &[PackedList<'_>], room: usize, values: &mut Vec<u32>) -> Result<(), i32> {
+    note!(done => done.combined = (lists.iter().map(PackedList::len).collect(), room));
+    // SAFETY: the pointer and the length of a slice of views that were opened, since a `PackedList` is a view and nothing else; the
+    // room of a vector, as `replace` requires.
+    unsafe { replace(values, room, |out, room| function(lists.as_ptr().cast(), lists.len(), out, room)) }
+}
+
+/// Replaces the values of a vector by those that a call writes, and clears no memory first. If the call fails, the vector has the values
+/// that it had.
+///
+/// # Safety
+///
+/// The call gets a pointer and the number of places from there on, which may have no values yet. It returns how many values it wrote
+/// from the first place on, which do not depend on what the places had; or a negative number, and has written nothing.
+unsafe fn replace(values: &mut Vec<u32>, room: usize, call: impl FnOnce(*mut u32, usize) -> isize) -> Result<(), i32> {
+    values.reserve(room.saturating_sub(values.len()));
+    let count = counted(call(values.as_mut_ptr(), room))?;
+    // SAFETY: the call wrote `count` values, and there is room for them.
+    unsafe { values.set_len(count) };
+    Ok(())
 }
 
 impl Calls {

@@ -4,7 +4,7 @@ use std::fmt;
 use std::iter::FusedIterator;
 
 use super::PackedList;
-use crate::calls::LONGEST_BLOCK;
+use crate::calls::{best, LONGEST_BLOCK};
 
 /// The values of one block, or of the values after the last block.
 #[derive(Clone)]
@@ -38,6 +38,10 @@ impl Part {
 ///
 /// It unpacks each block once, when it comes to it: from each end once, if both meet in the block. `nth` skips blocks without
 /// unpacking them. The first step from the back allocates about 1 KB.
+///
+/// `fold`, and `sum`, `for_each`, `min` and `max` over it, take a block at a time. `collect` unpacks all values that are left in one
+/// call, into a vector that a `Vec` is made of without a copy. It is as fast as [`to_vec`](PackedList::to_vec), and takes four bytes for
+/// each value. An adapter such as `map` before `collect` takes one value at a time.
 ///
 /// ```
 /// use bitpacking::list::{encode, Kind, PackedList};
@@ -97,6 +101,10 @@ impl Iterator for Iter<'_> {
 
     fn last(mut self) -> Option<u32> {
         self.next_back()
+    }
+
+    fn collect<B: FromIterator<u32>>(self) -> B {
+        best().lists.range_to_vec(&self.list.view, self.position, self.len()).into_iter().collect()
     }
 
     fn fold<B, F: FnMut(B, u32) -> B>(mut self, init: B, mut f: F) -> B {

@@ -3,11 +3,18 @@
 use super::{error, Error, PackedList};
 use crate::calls::{best, combine, Combine};
 
-/// The values that a function makes of these lists, which are at most as many as there is room for.
-fn combined(function: Combine, lists: &[PackedList<'_>], room: usize) -> Result<Vec<u32>, Error> {
-    let mut values = vec![0; room];
-    let count = combine(function, lists, &mut values).map_err(|number| error::named(number, None))?;
-    values.truncate(count);
+/// Replaces the values of a vector by those that a function makes of these lists, which are at most as many as there is room for.
+fn combined(function: Combine, lists: &[PackedList<'_>], room: usize, values: &mut Vec<u32>) -> Result<(), Error> {
+    combine(function, lists, room, values).map_err(|number| error::named(number, None))
+}
+
+/// A vector of what a call replaces the values of one by. It keeps the room of the call only if at least half of it has values.
+fn fitted(call: impl FnOnce(&mut Vec<u32>) -> Result<(), Error>) -> Result<Vec<u32>, Error> {
+    let mut values = Vec::new();
+    call(&mut values)?;
+    if values.len() < values.capacity() / 2 {
+        values.shrink_to_fit();
+    }
     Ok(values)
 }
 
@@ -28,8 +35,32 @@ fn combined(function: Combine, lists: &[PackedList<'_>], room: usize) -> Result<
 /// # Ok::<(), bitpacking::list::Error>(())
 /// ```
 pub fn intersect(lists: &[PackedList<'_>]) -> Result<Vec<u32>, Error> {
+    fitted(|values| intersect_into(lists, values))
+}
+
+/// Replaces the values of a vector by those that [`intersect`] returns. The vector keeps its memory, which many queries in turn can use,
+/// and grows to the length of the shortest list if it is smaller.
+///
+/// # Errors
+///
+/// As [`intersect`]. The vector then has the values that it had.
+///
+/// ```
+/// use bitpacking::list::{encode, intersect_into, Kind, PackedList};
+///
+/// let texts = [encode(Kind::Sorted, &[1, 4, 4, 9])?, encode(Kind::Sorted, &[4, 5, 9])?];
+/// let (one, other) = (PackedList::open(&texts[0])?, PackedList::open(&texts[1])?);
+/// let mut ids = Vec::new();
+/// for lists in [[one, other], [one, one]] {
+///     intersect_into(&lists, &mut ids)?;
+///     println!("{ids:?}");
+/// }
+/// assert_eq!(ids, [1, 4, 9]);
+/// # Ok::<(), bitpacking::list::Error>(())
+/// ```
+pub fn intersect_into(lists: &[PackedList<'_>], values: &mut Vec<u32>) -> Result<(), Error> {
     let shortest = lists.iter().map(PackedList::len).min().unwrap_or(0);
-    combined(best().lists.intersect, lists, shortest)
+    combined(best().lists.intersect, lists, shortest, values)
 }
 
 /// The values that are in at least one list, in increasing order and each once. The lists may be in any order. A few are merged, the
@@ -48,10 +79,30 @@ pub fn intersect(lists: &[PackedList<'_>]) -> Result<Vec<u32>, Error> {
 /// # Ok::<(), bitpacking::list::Error>(())
 /// ```
 pub fn union(lists: &[PackedList<'_>]) -> Result<Vec<u32>, Error> {
+    fitted(|values| union_into(lists, values))
+}
+
+/// Replaces the values of a vector by those that [`union`] returns. The vector keeps its memory, and grows to the sum of the lengths if
+/// it is smaller.
+///
+/// # Errors
+///
+/// As [`union`]. The vector then has the values that it had.
+///
+/// ```
+/// use bitpacking::list::{encode, union_into, Kind, PackedList};
+///
+/// let texts = [encode(Kind::Sorted, &[1, 4, 4, 9])?, encode(Kind::Sorted, &[4, 5, 9])?];
+/// let mut ids = vec![7, 8];
+/// union_into(&[PackedList::open(&texts[0])?, PackedList::open(&texts[1])?], &mut ids)?;
+/// assert_eq!(ids, [1, 4, 5, 9]);
+/// # Ok::<(), bitpacking::list::Error>(())
+/// ```
+pub fn union_into(lists: &[PackedList<'_>], values: &mut Vec<u32>) -> Result<(), Error> {
     // The call merges a few lists in turn. Shortest first, it merges the fewest values.
     let mut lists = lists.to_vec();
     lists.sort_unstable_by_key(PackedList::len);
-    combined(best().lists.unite, &lists, lists.iter().map(PackedList::len).sum())
+    combined(best().lists.unite, &lists, lists.iter().map(PackedList::len).sum(), values)
 }
 
 /// The values of the first list that are in none of the others, in increasing order and each once. Of no lists there are none.
@@ -69,5 +120,25 @@ pub fn union(lists: &[PackedList<'_>]) -> Result<Vec<u32>, Error> {
 /// # Ok::<(), bitpacking::list::Error>(())
 /// ```
 pub fn difference(lists: &[PackedList<'_>]) -> Result<Vec<u32>, Error> {
-    combined(best().lists.subtract, lists, lists.first().map_or(0, PackedList::len))
+    fitted(|values| difference_into(lists, values))
+}
+
+/// Replaces the values of a vector by those that [`difference`] returns. The vector keeps its memory, and grows to the length of the
+/// first list if it is smaller.
+///
+/// # Errors
+///
+/// As [`difference`]. The vector then has the values that it had.
+///
+/// ```
+/// use bitpacking::list::{difference_into, encode, Kind, PackedList};
+///
+/// let texts = [encode(Kind::Sorted, &[1, 4, 4, 9])?, encode(Kind::Sorted, &[4, 5])?];
+/// let mut ids = vec![7, 8];
+/// difference_into(&[PackedList::open(&texts[0])?, PackedList::open(&texts[1])?], &mut ids)?;
+/// assert_eq!(ids, [1, 9]);
+/// # Ok::<(), bitpacking::list::Error>(())
+/// ```
+pub fn difference_into(lists: &[PackedList<'_>], values: &mut Vec<u32>) -> Result<(), Error> {
+    combined(best().lists.subtract, lists, lists.first().map_or(0, PackedList::len), values)
 }

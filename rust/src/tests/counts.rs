@@ -3,7 +3,7 @@
 use super::at_each_level;
 use super::lists::{encoded, values, Numbers, FORMS, KINDS, LENGTHS};
 use crate::calls::lists::done;
-use crate::list::{encode, union, Kind, PackedList};
+use crate::list::{difference, encode, intersect, union, Kind, PackedList};
 
 /// 1,000 values: seven blocks, and 104 values after them.
 const LEN: u32 = 1000;
@@ -34,6 +34,21 @@ fn each_part_is_unpacked_once() {
         assert_eq!(done().ranges, PARTS);
         assert_eq!(list.to_vec().len(), 1000);
         assert_eq!((done().unpacked, done().ranges), (1, 0));
+    });
+}
+
+/// One call unpacks what is left, also in the middle of a part, and what it returns has no room for more.
+#[test]
+fn collecting_is_one_call() {
+    with_a_list(|list| {
+        let all = list.iter().collect::<Vec<u32>>();
+        assert_eq!((all.len(), all.capacity(), done().ranges), (1000, 1000, 1));
+        let mut iter = list.iter();
+        let ends = (iter.nth(299), iter.nth_back(99));
+        assert_eq!((ends, done().ranges), ((Some(299), Some(900)), 2));
+        let rest = iter.collect::<Vec<u32>>();
+        assert_eq!((&rest[..2], rest.len(), rest.capacity(), done().ranges), (&[300, 301][..], 600, 600, 1));
+        assert_eq!(list.to_vec().capacity(), 1000);
     });
 }
 
@@ -83,6 +98,26 @@ fn union_merges_the_shortest_first() {
         let lists = [0, 1, 2, 3, 4].map(|k| PackedList::open(&bytes[k]).unwrap());
         assert_eq!(union(&lists).unwrap().len(), 200);
         assert_eq!(done().combined, (vec![0, 3, 3, 70, 200], 276));
+    });
+}
+
+/// By hand: 10 of 1,000 numbers are multiples of 100, and all 1,000 are in the union of a list with itself. What has room for twice its
+/// values or more is returned without this room.
+#[test]
+fn sets_return_little_more_than_their_values() {
+    with_a_list(|list| {
+        let hundreds = encode(Kind::Sorted, &(0..2000).map(|k| 100 * k).collect::<Vec<u32>>()).unwrap();
+        let hundreds = PackedList::open(&hundreds).unwrap();
+        for (values, len) in [
+            (intersect(&[list, hundreds]), 10),
+            (difference(&[list, list]), 0),
+            (difference(&[hundreds, list]), 1990),
+            (union(&[list, list, list]), 1000),
+        ] {
+            let values = values.unwrap();
+            assert_eq!(values.len(), len);
+            assert!(values.capacity() <= 2 * len + 1, "{} {len}", values.capacity());
+        }
     });
 }
 

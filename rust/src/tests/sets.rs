@@ -4,7 +4,11 @@ use std::collections::BTreeSet;
 
 use super::at_each_level;
 use super::lists::{bytes_of, encoded, rows, values, values_of, Numbers, FORMS};
-use crate::list::{difference, encode, intersect, union, Error, Kind, PackedList};
+use crate::list::{difference, difference_into, encode, intersect, intersect_into, union, union_into, Error, Kind, PackedList};
+
+/// The calls that replace the values of a vector, in the order intersection, union, difference.
+type Into = fn(&[PackedList<'_>], &mut Vec<u32>) -> Result<(), Error>;
+const INTO: [Into; 3] = [intersect_into, union_into, difference_into];
 
 type Sets = Vec<BTreeSet<u32>>;
 
@@ -22,18 +26,23 @@ fn plain_difference(sets: &Sets) -> Vec<u32> {
     first.into_iter().filter(|value| sets[1..].iter().all(|set| !set.contains(value))).collect()
 }
 
-fn agree(texts: &[Vec<u8>], sets: &Sets) {
+/// The calls give what the plain sets give. `used` is a vector of an earlier call, with its values and its memory.
+fn agree(texts: &[Vec<u8>], sets: &Sets, used: &mut Vec<u32>) {
     let lists: Vec<PackedList<'_>> = texts.iter().map(|text| PackedList::open(text).unwrap()).collect();
-    assert_eq!(intersect(&lists), Ok(plain_intersection(sets)));
-    assert_eq!(union(&lists), Ok(plain_union(sets)));
-    assert_eq!(difference(&lists), Ok(plain_difference(sets)));
+    let right = [plain_intersection(sets), plain_union(sets), plain_difference(sets)];
+    assert_eq!([intersect(&lists), union(&lists), difference(&lists)], right.clone().map(Ok));
+    for (into, right) in INTO.iter().zip(right) {
+        let memory = (used.as_ptr(), used.capacity());
+        assert_eq!((into(&lists, used), &*used), (Ok(()), &right));
+        assert!(used.capacity() > memory.1 || (used.as_ptr(), used.capacity()) == memory);
+    }
 }
 
 /// Lists of every form and both kinds, some short and some long, up to six of them.
 #[test]
 fn any_number_of_lists() {
     at_each_level(|| {
-        let mut numbers = Numbers(4);
+        let (mut numbers, mut used) = (Numbers(4), Vec::new());
         for count in (0..=6).cycle().take(140) {
             let (mut texts, mut sets) = (Vec::new(), Sets::new());
             for _ in 0..count {
@@ -44,7 +53,7 @@ fn any_number_of_lists() {
                 texts.push(encoded(FORMS[numbers.below(6) as usize], kind, &values).unwrap());
                 sets.push(values.into_iter().collect());
             }
-            agree(&texts, &sets);
+            agree(&texts, &sets, &mut used);
         }
     });
 }
@@ -116,6 +125,10 @@ fn plain_lists_are_refused() {
             for lists in [&[plain][..], &[plain, sorted], &[sorted, plain], &[sorted, sorted, plain]] {
                 for combined in [intersect(lists), union(lists), difference(lists)] {
                     assert_eq!(combined, Err(Error::BadKind));
+                }
+                for into in INTO {
+                    let mut values = vec![9, 2, 2, 7];
+                    assert_eq!((into(lists, &mut values), values), (Err(Error::BadKind), vec![9, 2, 2, 7]));
                 }
             }
         }

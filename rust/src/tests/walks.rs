@@ -1,5 +1,7 @@
 //! Iterators and cursors of lists against plain vectors.
 
+use std::collections::BTreeSet;
+
 use super::at_each_level;
 use super::lists::{encoded, values, Numbers, FORMS, KINDS, LENGTHS};
 use crate::list::{Cursor, Error, Iter, Kind, PackedList};
@@ -31,6 +33,8 @@ fn same_rest(iter: &Iter<'_>, plain: &[u32]) {
         }),
         plain
     );
+    assert_eq!(iter.clone().collect::<Vec<u32>>(), plain);
+    assert_eq!(iter.clone().collect::<BTreeSet<u32>>(), plain.iter().copied().collect());
     assert!(iter.clone().eq(plain.iter().copied()));
     assert!(iter.clone().rev().eq(plain.iter().rev().copied()));
     let mut ended = iter.clone();
