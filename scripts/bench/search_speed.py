@@ -38,19 +38,23 @@ LEAST = {"bytes": 200_000_000, "paragraphs": 500_000}
 WAYS = {"lists": (3, 99, 1), "arrays": (3, 99, 1), "roaring": (3, 99, 1), "roaring_here": (3, 99, 1), "xapian": (1, 1, 4)}
 # What a way needs that may not be installed, and what comes with it.
 NEEDS = {"roaring": ("/usr/include/roaring/roaring.h", "libroaring-dev"), "xapian": ("/usr/bin/xapian-config", "libxapian-dev")}
-# The sets of queries: operation, the least and the most words, how many queries, and which words there may be.
+# The sets of queries: operation, how many queries, and of which words. The words of a query are of one document, of each kind at least and
+# at most a number of them; or as many as a number says, which follow each other in the alphabet, as those with one prefix do.
 SETS = {
-    "and2": ("&", 2, 2, 2000, "any"),
-    "and3": ("&", 3, 3, 2000, "any"),
-    "and4": ("&", 4, 4, 2000, "any"),
-    "or": ("|", 2, 4, 300, "any"),
-    "not": ("-", 2, 2, 1000, "any"),
-    "rare": ("&", 2, 2, 2000, "rare"),
-    "dense-and": ("&", 2, 2, 300, "dense"),
-    "dense-or": ("|", 2, 2, 300, "dense"),
+    "and2": ("&", 2000, [("any", 2, 2)]),
+    "and3": ("&", 2000, [("any", 3, 3)]),
+    "and4": ("&", 2000, [("any", 4, 4)]),
+    "or": ("|", 300, [("any", 2, 4)]),
+    "not": ("-", 1000, [("any", 2, 2)]),
+    "rare": ("&", 2000, [("rare", 2, 2)]),
+    "dense-and": ("&", 300, [("dense", 2, 2)]),
+    "dense-or": ("|", 300, [("dense", 2, 2)]),
+    "rare-dense": ("&", 2000, [("rare", 1, 1), ("dense", 1, 1)]),
+    "or-1000": ("|", 100, 1000),
 }
 # A word is dense if it is in one of 16 documents or more, which is when Roaring takes bitmaps. It is rare if it is in two documents or
-# more, and in fewer than one of 1,000.
+# more, and in fewer than one of 1,000. The best for packed lists is a rare word AND a dense one, which stays packed but for a few blocks. The
+# worst is OR of many lists: each value is unpacked, and written among all others.
 DENSE, RARE = 16, 1000
 
 
@@ -153,17 +157,22 @@ def read_sample(path):
 
 
 def write_queries(path, counts, chosen, documents):
-    """Random queries, whose words are different words of one document. The seed is fixed."""
-    dice, lines = random.Random(1), []
+    """Random queries, as SETS says. The seed is fixed."""
+    dice, lines, alphabet = random.Random(1), [], sorted(counts)
     fits = {
         "any": lambda word: True,
         "dense": lambda word: counts[word] * DENSE >= documents,
         "rare": lambda word: 1 < counts[word] < documents / RARE,
     }
-    for name, (operation, least, most, count, which) in SETS.items():
-        choices = [words for words in (sorted(filter(fits[which], words)) for words in chosen) if len(words) >= most]
+    for name, (operation, count, kinds) in SETS.items():
+        if isinstance(kinds, int):
+            starts = range(0, max(1, len(alphabet) - kinds + 1), kinds)
+            choices = [[(run, len(run), len(run))] for run in (alphabet[start : start + kinds] for start in starts)]
+        else:
+            choices = [[(sorted(filter(fits[kind], words)), least, most) for kind, least, most in kinds] for words in chosen]
+            choices = [choice for choice in choices if all(len(words) >= most for words, _, most in choice)]
         for _ in range(count if choices else 0):
-            words = dice.sample(dice.choice(choices), dice.randint(least, most))
+            words = [word for words, least, most in dice.choice(choices) for word in dice.sample(words, dice.randint(least, most))]
             lines.append(f"{name}\t{operation}\t{' '.join(words)}\n")
     with open(path, "w", encoding="ascii") as file:
         file.writelines(lines)
@@ -251,6 +260,13 @@ def table(ways, numbers):
 
         return value
 
+    def left_if_opening(part):
+        def value(way):
+            once, anew = [numbers.get(f"{mode}: processor seconds", way, part, 1) for mode in ("query", "opening")]
+            return None if once is None or anew is None else f"{100 * once / anew:.0f}"
+
+        return value
+
     print("| | " + " | ".join(ways) + " |\n|---|" + "---|" * len(ways))
     row("index, s of the processor", number("index: processor seconds", "{:.1f}"))
     row("index, memory in MB", number("index: bytes of memory", "{:,.0f}", 1e-6))
@@ -262,6 +278,8 @@ def table(ways, numbers):
         for part in SETS:
             kind = "processor seconds" if threads == 1 else "seconds"
             row(f"{mode}, {part}, {threads} threads, a s", rates(f"{mode}: {kind}", part, threads))
+    for part in SETS:
+        row(f"{part}, speed left if each query opens its lists, %", left_if_opening(part))
 
 
 def machine_name():

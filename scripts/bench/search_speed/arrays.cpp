@@ -1,5 +1,5 @@
 // Plain arrays of 32-bit numbers, in a mapped file. Lists of like lengths are merged without a branch on which number is less; else the
-// shorter one searches the longer one in growing steps from the last place.
+// shorter one searches the longer one in growing steps from the last place. The numbers of many lists together are sorted.
 #include "store.hpp"
 
 #include <fcntl.h>
@@ -10,6 +10,8 @@ namespace {
 
 // From this many times the length on a list is searched.
 constexpr size_t MUCH_LONGER = 32;
+// From this many lists on OR sorts: to merge them in turn takes longer.
+constexpr size_t MANY = 16;
 
 struct Array {
     const uint32_t *items;
@@ -104,6 +106,8 @@ class ArraysSession : public Session {
             arrays_.push_back({reinterpret_cast<const uint32_t *>(lists_ + words_.list_start(place)), words_.list_len(place) / 4});
             sum += arrays_.back().len;
         }
+        if (query.operation == '|' && arrays_.size() >= MANY)
+            return sorted(sum);
         if (query.operation != '-')
             std::sort(arrays_.begin(), arrays_.end(), [](const Array &one, const Array &other) { return one.len < other.len; });
         Array all = arrays_[0];
@@ -120,6 +124,17 @@ class ArraysSession : public Session {
     }
 
   private:
+    // All numbers of the arrays, each once.
+    size_t sorted(size_t sum)
+    {
+        uint32_t *into = rooms_[0].of(sum), *end = into;
+        for (const Array &array : arrays_)
+            end = std::copy_n(array.items, array.len, end);
+        std::sort(into, end);
+        out = into;
+        return std::unique(into, end) - into;
+    }
+
     const store::Words &words_;
     const char *lists_;
     std::vector<Array> arrays_;
