@@ -40,8 +40,8 @@ impl Part {
 /// unpacking them. The first step from the back allocates about 1 KB.
 ///
 /// `fold`, and `sum`, `for_each`, `min` and `max` over it, take a block at a time. `collect` unpacks all values that are left in one
-/// call, into a vector that a `Vec` is made of without a copy. It is as fast as [`to_vec`](PackedList::to_vec), and takes four bytes for
-/// each value. An adapter such as `map` before `collect` takes one value at a time.
+/// call, into a vector that a `Vec` is made of without a copy. It is nearly as fast as [`to_vec`](PackedList::to_vec), and takes four
+/// bytes for each value. `extend` of a `Vec`, and `collect` after an adapter such as `map`, take one value at a time.
 ///
 /// ```
 /// use bitpacking::list::{encode, Kind, PackedList};

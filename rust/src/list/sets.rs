@@ -8,11 +8,12 @@ fn combined(function: Combine, lists: &[PackedList<'_>], room: usize, values: &m
     combine(function, lists, room, values).map_err(|number| error::named(number, None))
 }
 
-/// A vector of what a call replaces the values of one by. It keeps the room of the call only if at least half of it has values.
+/// A vector of what a call replaces the values of one by. Of the room of the call it keeps at most as much again, and 32 places: to give
+/// back less takes longer than to combine short lists.
 fn fitted(call: impl FnOnce(&mut Vec<u32>) -> Result<(), Error>) -> Result<Vec<u32>, Error> {
     let mut values = Vec::new();
     call(&mut values)?;
-    if values.len() < values.capacity() / 2 {
+    if values.capacity() > 2 * values.len() + 32 {
         values.shrink_to_fit();
     }
     Ok(values)
