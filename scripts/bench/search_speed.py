@@ -50,7 +50,7 @@ SETS = {
     "dense-and": ("&", 300, [("dense", 2, 2)]),
     "dense-or": ("|", 300, [("dense", 2, 2)]),
     "rare-dense": ("&", 2000, [("rare", 1, 1), ("dense", 1, 1)]),
-    "or-1000": ("|", 100, 1000),
+    "or-1000": ("|", 50, 1000),
 }
 # A word is dense if it is in one of 16 documents or more, which is when Roaring takes bitmaps. It is rare if it is in two documents or
 # more, and in fewer than one of 1,000. The best for packed lists is a rare word AND a dense one, which stays packed but for a few blocks. The
