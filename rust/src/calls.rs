@@ -4,7 +4,7 @@ pub(crate) mod lists;
 
 use std::sync::OnceLock;
 
-pub(crate) use lists::{combine, Combine, ListCursor, ListView, Lists, LONGEST_BLOCK};
+pub(crate) use lists::{combine, count, Combine, Count, ListCursor, ListView, Lists, LONGEST_BLOCK};
 
 /// The functions of a packer.
 pub struct Calls {
@@ -261,6 +261,10 @@ macro_rules! lists {
             fn unite(views: *const ListView<'_>, views_len: usize, out: *mut u32, out_len: usize) -> isize;
             #[link_name = concat!($prefix, "list_subtract")]
             fn subtract(views: *const ListView<'_>, views_len: usize, out: *mut u32, out_len: usize) -> isize;
+            #[link_name = concat!($prefix, "list_count_common")]
+            fn count_common(views: *const ListView<'_>, views_len: usize) -> isize;
+            #[link_name = concat!($prefix, "list_count_any")]
+            fn count_any(views: *const ListView<'_>, views_len: usize) -> isize;
             #[link_name = concat!($prefix, "cursor_start")]
             fn start<'a>(cursor: *mut ListCursor<'a>, view: *const ListView<'a>);
             #[link_name = concat!($prefix, "cursor_position")]
@@ -284,6 +288,8 @@ macro_rules! lists {
             intersect,
             unite,
             subtract,
+            count_common,
+            count_any,
             start,
             position,
             advance,

@@ -36,7 +36,7 @@ pub use cursor::Cursor;
 pub use encoder::{encode, encode_into, Encoder, Version};
 pub use error::Error;
 pub use iter::Iter;
-pub use sets::{difference, difference_into, intersect, intersect_into, union, union_into};
+pub use sets::{difference, difference_into, intersect, intersect_into, intersect_len, union, union_into, union_len};
 
 /// The order of the values of a list, and what is packed in their place.
 #[derive(Clone, Copy, PartialEq, Eq, Hash, Debug)]

@@ -148,6 +148,8 @@ pub(crate) struct Lists {
     pub(crate) intersect: Combine,
     pub(crate) unite: Combine,
     pub(crate) subtract: Combine,
+    pub(crate) count_common: Count,
+    pub(crate) count_any: Count,
     pub(crate) start: for<'a> unsafe extern "C" fn(*mut ListCursor<'a>, *const ListView<'a>),
     pub(crate) position: unsafe extern "C" fn(*const ListCursor<'_>) -> usize,
     pub(crate) advance: unsafe extern "C" fn(*mut ListCursor<'_>) -> i32,
@@ -157,6 +159,9 @@ pub(crate) struct Lists {
 
 /// A function that makes one list of values from many lists.
 pub(crate) type Combine = unsafe extern "C" fn(*const ListView<'_>, usize, *mut u32, usize) -> isize;
+
+/// A function that counts the values that it makes of many lists.
+pub(crate) type Count = unsafe extern "C" fn(*const ListView<'_>, usize) -> isize;
 
 /// A count, or the number of what is wrong.
 fn counted(number: isize) -> Result<usize, i32> {
@@ -290,17 +295,24 @@ pub(crate) fn combine(function: Combine, lists: &[PackedList<'_>], room: usize, 
     unsafe { replace(values, room, |out, room| function(lists.as_ptr().cast(), lists.len(), out, room)) }
 }
 
+/// Counts the values that a function makes of these lists.
+pub(crate) fn count(function: Count, lists: &[PackedList<'_>]) -> Result<usize, i32> {
+    // SAFETY: the pointer and the length of a slice of views that were opened, as for `combine`.
+    counted(unsafe { function(lists.as_ptr().cast(), lists.len()) })
+}
+
 /// Replaces the values of a vector by those that a call writes, and clears no memory first. If the call fails, the vector has the values
 /// that it had.
 ///
 /// # Safety
 ///
-/// The call gets a pointer and the number of places from there on, which may have no values yet. It returns how many values it wrote
-/// from the first place on, which do not depend on what the places had; or a negative number, and has written nothing.
+/// The call gets a pointer and the number of places from there on. The first of them have the values of the vector, the others may have
+/// none. It returns how many values there are now from the first place on, whatever the other places had; or a negative number, and has
+/// written nothing.
 unsafe fn replace(values: &mut Vec<u32>, room: usize, call: impl FnOnce(*mut u32, usize) -> isize) -> Result<(), i32> {
     values.reserve(room.saturating_sub(values.len()));
     let count = counted(call(values.as_mut_ptr(), room))?;
-    // SAFETY: the call wrote `count` values, and there is room for them.
+    // SAFETY: there are `count` values, and there is room for them.
     unsafe { values.set_len(count) };
     Ok(())
 }

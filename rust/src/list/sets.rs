@@ -1,11 +1,16 @@
 //! What any number of lists have in common, together, and one without the others.
 
 use super::{error, Error, PackedList};
-use crate::calls::{best, combine, Combine};
+use crate::calls::{best, combine, count, Combine, Count};
 
 /// Replaces the values of a vector by those that a function makes of these lists, which are at most as many as there is room for.
 fn combined(function: Combine, lists: &[PackedList<'_>], room: usize, values: &mut Vec<u32>) -> Result<(), Error> {
     combine(function, lists, room, values).map_err(|number| error::named(number, None))
+}
+
+/// How many values a function makes of these lists.
+fn counted(function: Count, lists: &[PackedList<'_>]) -> Result<usize, Error> {
+    count(function, lists).map_err(|number| error::named(number, None))
 }
 
 /// A vector of what a call replaces the values of one by. Of the room of the call it keeps at most as much again, and 32 places: to give
@@ -64,6 +69,24 @@ pub fn intersect_into(lists: &[PackedList<'_>], values: &mut Vec<u32>) -> Result
     combined(best().lists.intersect, lists, shortest, values)
 }
 
+/// How many values [`intersect`] returns. Nothing is allocated: it takes about 6 KB of stack.
+///
+/// # Errors
+///
+/// As [`intersect`].
+///
+/// ```
+/// use bitpacking::list::{encode, intersect_len, Kind, PackedList};
+///
+/// let texts = [encode(Kind::Sorted, &[1, 4, 4, 9])?, encode(Kind::Sorted, &[4, 5, 9])?];
+/// let lists = [PackedList::open(&texts[0])?, PackedList::open(&texts[1])?];
+/// assert_eq!(intersect_len(&lists)?, 2);
+/// # Ok::<(), bitpacking::list::Error>(())
+/// ```
+pub fn intersect_len(lists: &[PackedList<'_>]) -> Result<usize, Error> {
+    counted(best().lists.count_common, lists)
+}
+
 /// The values that are in at least one list, in increasing order and each once. The lists may be in any order. A few are merged, the
 /// shortest first; the values of many are sorted, or set bits if they are dense, so the time is never quadratic.
 ///
@@ -104,6 +127,25 @@ pub fn union_into(lists: &[PackedList<'_>], values: &mut Vec<u32>) -> Result<(),
     let mut lists = lists.to_vec();
     lists.sort_unstable_by_key(PackedList::len);
     combined(best().lists.unite, &lists, lists.iter().map(PackedList::len).sum(), values)
+}
+
+/// How many values [`union`] returns. Nothing is allocated: it takes about 34 KB of stack. For many short lists it takes longer than
+/// [`union`].
+///
+/// # Errors
+///
+/// As [`union`].
+///
+/// ```
+/// use bitpacking::list::{encode, union_len, Kind, PackedList};
+///
+/// let texts = [encode(Kind::Sorted, &[1, 4, 4, 9])?, encode(Kind::Sorted, &[4, 5, 9])?];
+/// let lists = [PackedList::open(&texts[0])?, PackedList::open(&texts[1])?];
+/// assert_eq!(union_len(&lists)?, 4);
+/// # Ok::<(), bitpacking::list::Error>(())
+/// ```
+pub fn union_len(lists: &[PackedList<'_>]) -> Result<usize, Error> {
+    counted(best().lists.count_any, lists)
 }
 
 /// The values of the first list that are in none of the others, in increasing order and each once. Of no lists there are none.

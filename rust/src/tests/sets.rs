@@ -4,7 +4,8 @@ use std::collections::BTreeSet;
 
 use super::at_each_level;
 use super::lists::{bytes_of, encoded, rows, values, values_of, Numbers, FORMS};
-use crate::list::{difference, difference_into, encode, intersect, intersect_into, union, union_into, Error, Kind, PackedList};
+use crate::list::{difference, difference_into, encode, intersect, intersect_into, intersect_len, union, union_into, union_len};
+use crate::list::{Error, Kind, PackedList};
 
 /// The calls that replace the values of a vector, in the order intersection, union, difference.
 type Into = fn(&[PackedList<'_>], &mut Vec<u32>) -> Result<(), Error>;
@@ -31,6 +32,7 @@ fn agree(texts: &[Vec<u8>], sets: &Sets, used: &mut Vec<u32>) {
     let lists: Vec<PackedList<'_>> = texts.iter().map(|text| PackedList::open(text).unwrap()).collect();
     let right = [plain_intersection(sets), plain_union(sets), plain_difference(sets)];
     assert_eq!([intersect(&lists), union(&lists), difference(&lists)], right.clone().map(Ok));
+    assert_eq!((intersect_len(&lists), union_len(&lists)), (Ok(right[0].len()), Ok(right[1].len())));
     for (into, right) in INTO.iter().zip(right) {
         let memory = (used.as_ptr(), used.capacity());
         assert_eq!((into(&lists, used), &*used), (Ok(()), &right));
@@ -74,6 +76,7 @@ fn unions_of_many_lists() {
             }
             let lists: Vec<PackedList<'_>> = texts.iter().map(|text| PackedList::open(text).unwrap()).collect();
             assert_eq!(union(&lists), Ok(plain_union(&sets)));
+            assert_eq!(union_len(&lists), Ok(plain_union(&sets).len()));
         }
     });
 }
@@ -126,6 +129,7 @@ fn plain_lists_are_refused() {
                 for combined in [intersect(lists), union(lists), difference(lists)] {
                     assert_eq!(combined, Err(Error::BadKind));
                 }
+                assert_eq!((intersect_len(lists), union_len(lists)), (Err(Error::BadKind), Err(Error::BadKind)));
                 for into in INTO {
                     let mut values = vec![9, 2, 2, 7];
                     assert_eq!((into(lists, &mut values), values), (Err(Error::BadKind), vec![9, 2, 2, 7]));
