@@ -14,14 +14,12 @@ fn counted(function: Count, lists: &[PackedList<'_>]) -> Result<usize, Error> {
 }
 
 /// A vector of what a call replaces the values of one by. Of the room of the call it keeps at most as much again, and 32 places: to give
-/// back less takes longer than to combine short lists.
+/// back less takes longer than to combine short lists. A short answer is copied. If the room shrank in its place instead, the next call
+/// could not use its memory again.
 fn fitted(call: impl FnOnce(&mut Vec<u32>) -> Result<(), Error>) -> Result<Vec<u32>, Error> {
     let mut values = Vec::new();
     call(&mut values)?;
-    if values.capacity() > 2 * values.len() + 32 {
-        values.shrink_to_fit();
-    }
-    Ok(values)
+    Ok(if values.capacity() > 2 * values.len() + 32 { values.as_slice().to_vec() } else { values })
 }
 
 /// The values that are in every list, in increasing order and each once. Of no lists there are none.
@@ -69,7 +67,7 @@ pub fn intersect_into(lists: &[PackedList<'_>], values: &mut Vec<u32>) -> Result
     combined(best().lists.intersect, lists, shortest, values)
 }
 
-/// How many values [`intersect`] returns. Nothing is allocated: it takes about 6 KB of stack.
+/// How many values [`intersect`] returns. Nothing is allocated: it takes about 6 KB of stack, and up to twice the time of [`intersect`].
 ///
 /// # Errors
 ///
@@ -129,8 +127,8 @@ pub fn union_into(lists: &[PackedList<'_>], values: &mut Vec<u32>) -> Result<(),
     combined(best().lists.unite, &lists, lists.iter().map(PackedList::len).sum(), values)
 }
 
-/// How many values [`union`] returns. Nothing is allocated: it takes about 34 KB of stack. For many short lists it takes longer than
-/// [`union`].
+/// How many values [`union`] returns. Nothing is allocated: it takes about 34 KB of stack. It is faster than [`union`] for many dense lists,
+/// and else up to ten times as slow.
 ///
 /// # Errors
 ///
