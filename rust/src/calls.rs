@@ -4,7 +4,7 @@ pub(crate) mod lists;
 
 use std::sync::OnceLock;
 
-pub(crate) use lists::{combine, count, Combine, Count, ListCursor, ListView, Lists, LONGEST_BLOCK};
+pub(crate) use lists::{combine, count, Combine, Count, Filter, ListCursor, ListView, Lists, LONGEST_BLOCK};
 
 /// The functions of a packer.
 pub struct Calls {
@@ -265,6 +265,12 @@ macro_rules! lists {
             fn count_common(views: *const ListView<'_>, views_len: usize) -> isize;
             #[link_name = concat!($prefix, "list_count_any")]
             fn count_any(views: *const ListView<'_>, views_len: usize) -> isize;
+            #[link_name = concat!($prefix, "list_retain")]
+            fn retain(view: *const ListView<'_>, values: *mut u32, values_len: usize) -> isize;
+            #[link_name = concat!($prefix, "list_remove")]
+            fn remove(view: *const ListView<'_>, values: *mut u32, values_len: usize) -> isize;
+            #[link_name = concat!($prefix, "list_add")]
+            fn add(view: *const ListView<'_>, count: usize, values: *mut u32, values_len: usize) -> isize;
             #[link_name = concat!($prefix, "cursor_start")]
             fn start<'a>(cursor: *mut ListCursor<'a>, view: *const ListView<'a>);
             #[link_name = concat!($prefix, "cursor_position")]
@@ -290,6 +296,9 @@ macro_rules! lists {
             subtract,
             count_common,
             count_any,
+            retain,
+            remove,
+            add,
             start,
             position,
             advance,

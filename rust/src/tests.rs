@@ -2,6 +2,7 @@
 
 mod chains;
 mod counts;
+mod in_place;
 mod layouts;
 #[cfg(target_arch = "x86_64")]
 mod levels;

@@ -150,6 +150,9 @@ pub(crate) struct Lists {
     pub(crate) subtract: Combine,
     pub(crate) count_common: Count,
     pub(crate) count_any: Count,
+    pub(crate) retain: Filter,
+    pub(crate) remove: Filter,
+    pub(crate) add: unsafe extern "C" fn(*const ListView<'_>, usize, *mut u32, usize) -> isize,
     pub(crate) start: for<'a> unsafe extern "C" fn(*mut ListCursor<'a>, *const ListView<'a>),
     pub(crate) position: unsafe extern "C" fn(*const ListCursor<'_>) -> usize,
     pub(crate) advance: unsafe extern "C" fn(*mut ListCursor<'_>) -> i32,
@@ -162,6 +165,9 @@ pub(crate) type Combine = unsafe extern "C" fn(*const ListView<'_>, usize, *mut 
 
 /// A function that counts the values that it makes of many lists.
 pub(crate) type Count = unsafe extern "C" fn(*const ListView<'_>, usize) -> isize;
+
+/// A function that keeps some of the values of an array, by a list.
+pub(crate) type Filter = unsafe extern "C" fn(*const ListView<'_>, *mut u32, usize) -> isize;
 
 /// A count, or the number of what is wrong.
 fn counted(number: isize) -> Result<usize, i32> {
@@ -248,6 +254,21 @@ impl Lists {
         let (from, room) = (positions.as_ptr(), values.len());
         // SAFETY: a view that was opened; pointers and lengths of slices. What is written is borrowed by `&mut`.
         counted(unsafe { (self.gather)(view, from, positions.len(), values.as_mut_ptr(), room) })
+    }
+
+    /// Keeps some of the values of a vector. If this fails, the vector stays as it was.
+    pub(crate) fn filter(&self, function: Filter, view: &ListView<'_>, values: &mut Vec<u32>) -> Result<(), i32> {
+        // SAFETY: a view that was opened; the pointer and the length of a slice that is borrowed by `&mut`.
+        let kept = counted(unsafe { function(view, values.as_mut_ptr(), values.len()) })?;
+        values.truncate(kept);
+        Ok(())
+    }
+
+    /// Adds the values of a list to a vector. If this fails, the vector has the values that it had.
+    pub(crate) fn add(&self, view: &ListView<'_>, values: &mut Vec<u32>) -> Result<(), i32> {
+        let (count, room) = (values.len(), values.len() + self.len(view));
+        // SAFETY: a view that was opened, the values that the vector has, and the room that `replace` hands on.
+        unsafe { replace(values, room, |out, room| (self.add)(view, count, out, room)) }
     }
 
     pub(crate) fn start<'a>(&self, view: &ListView<'a>) -> ListCursor<'a> {

@@ -24,9 +24,10 @@ pub enum Error {
     BadOffset,
     /// The last value of a block is not the one that its entry gives.
     BadLast,
-    /// The values are not in the order of the kind.
+    /// The values are not in the order of the kind, or the values of a vector do not increase.
     NotSorted {
-        /// The position of the first value out of order, from 0 on. Writing a list gives it; opening bytes does not.
+        /// The position of the first value out of order, from 0 on. Writing a list gives it, and combining one with a vector; opening bytes
+        /// does not.
         position: Option<usize>,
     },
     /// Bytes are left over.

@@ -1,7 +1,7 @@
-//! What any number of lists have in common, together, and one without the others.
+//! What any number of lists have in common, together, and one without the others; and the same of a list and a vector.
 
 use super::{error, Error, PackedList};
-use crate::calls::{best, combine, count, Combine, Count};
+use crate::calls::{best, combine, count, Combine, Count, Filter};
 
 /// Replaces the values of a vector by those that a function makes of these lists, which are at most as many as there is room for.
 fn combined(function: Combine, lists: &[PackedList<'_>], room: usize, values: &mut Vec<u32>) -> Result<(), Error> {
@@ -182,4 +182,80 @@ pub fn difference(lists: &[PackedList<'_>]) -> Result<Vec<u32>, Error> {
 /// ```
 pub fn difference_into(lists: &[PackedList<'_>], values: &mut Vec<u32>) -> Result<(), Error> {
     combined(best().lists.subtract, lists, lists.first().map_or(0, PackedList::len), values)
+}
+
+/// A list combined with the values of a vector, which have to increase: with an answer, so that it is combined further and is not packed
+/// for that.
+impl PackedList<'_> {
+    /// Removes from a vector the values that this list does not have.
+    ///
+    /// # Errors
+    ///
+    /// The first of: `NotSorted`, with the position of the first value that is not above the one before it; `BadKind`, if the list is
+    /// plain. The vector then has the values that it had.
+    ///
+    /// ```
+    /// use bitpacking::list::{encode, Error, Kind, PackedList};
+    ///
+    /// let bytes = encode(Kind::Sorted, &[1, 4, 4, 9])?;
+    /// let (list, mut ids) = (PackedList::open(&bytes)?, vec![4, 6, 9, 10]);
+    /// list.retain_in(&mut ids)?;
+    /// assert_eq!(ids, [4, 9]);
+    /// assert_eq!(list.retain_in(&mut vec![4, 9, 9]), Err(Error::NotSorted { position: Some(2) }));
+    /// # Ok::<(), Error>(())
+    /// ```
+    pub fn retain_in(&self, values: &mut Vec<u32>) -> Result<(), Error> {
+        self.filter(best().lists.retain, values)
+    }
+
+    /// Removes from a vector the values that this list has.
+    ///
+    /// # Errors
+    ///
+    /// As [`retain_in`](PackedList::retain_in).
+    ///
+    /// ```
+    /// use bitpacking::list::{encode, intersect, Kind, PackedList};
+    ///
+    /// let texts = [encode(Kind::Sorted, &[1, 4, 6, 9])?, encode(Kind::Sorted, &[1, 4, 9])?, encode(Kind::Sorted, &[4, 5])?];
+    /// let (one, other) = (PackedList::open(&texts[0])?, PackedList::open(&texts[1])?);
+    /// let deleted = PackedList::open(&texts[2])?;
+    /// let mut ids = intersect(&[one, other])?;
+    /// deleted.remove_from(&mut ids)?;
+    /// assert_eq!(ids, [1, 9]);
+    /// # Ok::<(), bitpacking::list::Error>(())
+    /// ```
+    pub fn remove_from(&self, values: &mut Vec<u32>) -> Result<(), Error> {
+        self.filter(best().lists.remove, values)
+    }
+
+    /// Adds the values of this list to a vector, in increasing order and each once. The vector grows to the sum of the lengths if it is
+    /// smaller.
+    ///
+    /// # Errors
+    ///
+    /// As [`retain_in`](PackedList::retain_in).
+    ///
+    /// ```
+    /// use bitpacking::list::{encode, Kind, PackedList};
+    ///
+    /// let bytes = encode(Kind::Sorted, &[1, 4, 4, 9])?;
+    /// let mut ids = vec![4, 6];
+    /// PackedList::open(&bytes)?.add_to(&mut ids)?;
+    /// assert_eq!(ids, [1, 4, 6, 9]);
+    /// # Ok::<(), bitpacking::list::Error>(())
+    /// ```
+    pub fn add_to(&self, values: &mut Vec<u32>) -> Result<(), Error> {
+        best().lists.add(&self.view, values).map_err(|number| out_of_order(number, values))
+    }
+
+    fn filter(&self, function: Filter, values: &mut Vec<u32>) -> Result<(), Error> {
+        best().lists.filter(function, &self.view, values).map_err(|number| out_of_order(number, values))
+    }
+}
+
+/// The error of a number, with the position of the first value that is not above the one before it, if there is one.
+#[cold]
+fn out_of_order(number: i32, values: &[u32]) -> Error {
+    error::named(number, values.windows(2).position(|pair| pair[0] >= pair[1]).map(|before| before + 1))
 }
