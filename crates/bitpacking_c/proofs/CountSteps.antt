@@ -1,8 +1,7 @@
 -- Steps of counting: numbers for which a test is true, in lists that increase, in words, and in one range after another.
-use Rattle.std.proofs.Common.{◌≡◌, ◌≢◌, ◌⊎◌, inl, inr, ℕ, zero, suc, ◌+◌, ◌-◌, ◌*◌, ◌/◌, ◌%◌, ◌^◌, ◌<◌, ◌≤◌, ◌==◌, if◌then◌else◌, Bool, true, false, ◌||◌, ◌&&◌, add-one, List, [], ◌∷◌, ◌++◌, length, take, get_or, All, ℤ, pos, refl, sym, subst, ◌∙◌, ap, arith, eqb, leb}
-use Rattle.std.proofs.lemmas.Bool.{cases_eq, cases_lt, eq-eqb, false≢true, ne_eqb, and_parts, le-leb, leb-true, or_left, or_right, true≢false}
+use Rattle.std.proofs.Common.{◌≡◌, ◌≢◌, inl, inr, ℕ, zero, suc, ◌+◌, ◌-◌, ◌*◌, ◌/◌, ◌%◌, ◌^◌, ◌<◌, ◌≤◌, ◌==◌, if◌then◌else◌, Bool, true, false, ◌||◌, ◌&&◌, List, [], ◌∷◌, length, get_or, ℤ, pos, refl, sym, ◌∙◌, ap, arith, eqb, leb}
+use Rattle.std.proofs.lemmas.Bool.{cases_eq, eq-eqb, false≢true, ne_eqb, and_parts, le-leb, leb-true, or_left, or_right, true≢false}
 use Rattle.std.proofs.lemmas.Nat.{ones_cat, shr-shr, shr_below}
-use Rattle.std.specs.Int.{bit_at}
 use Rattle.std.specs.List.Sorted.{IsStrictlyIncreasing}
 use Rattle.std.specs.Int.Count.{ones}
 use Rattle.bitpack_lists.specs.declared.list_kind.ListKind.{ListKind}

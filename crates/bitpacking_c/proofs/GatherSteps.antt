@@ -1,14 +1,12 @@
 -- Steps of gathering the values of lists up to a limit.
-use Rattle.std.proofs.Common.{◌≡◌, ◌≢◌, ◌⊎◌, inl, inr, ℕ, zero, suc, ◌+◌, ◌-◌, ◌<◌, ◌≤◌, ◌^◌, Bool, true, false, not, ◌||◌, ◌&&◌, add-one, List, [], ◌∷◌, ◌++◌, length, take, drop, get_or, Some, None, refl, sym, subst, ◌∙◌, ap, arith, eqb, leb}
+use Rattle.std.proofs.Common.{◌≡◌, inl, inr, ℕ, zero, suc, ◌+◌, ◌-◌, ◌<◌, ◌≤◌, Bool, true, false, not, ◌||◌, ◌&&◌, List, [], ◌∷◌, length, take, get_or, Some, None, refl, sym, subst, ◌∙◌, ap, arith, leb}
 use Rattle.std.proofs.lemmas.Bool.{and_parts, cases_eq, cases_lt, false≢true, le-leb, leb-true, lt-leb, or_cases, or_left, or_right, true≢false}
 use Rattle.std.proofs.lemmas.List.{get_or-take, length-take-le}
-use Rattle.bitpack_lists.specs.Places.{InOrder}
 use Rattle.bitpack_sorted.specs.Fronts.{IsFront}
 use Rattle.bitpack_sorted.specs.Increasing.{IsIncreasing, at_least, first, has}
 use Rattle.bitpack_sorted.proofs.ForCallers.{first_least, front_some, has-at, has-at_least, place-of, same_tests}
 use Rattle.bitpacking_c.specs.declared.list_rounds.Gathered.{Gathered}
 use Rattle.bitpacking_c.specs.Counting.{AreFrom, Gathers}
-use Rattle.bitpacking_c.proofs.UnionSteps.{has-append}
 
 or_assoc : (a b c : Bool) → ((a || b) || c) ≡ (a || (b || c))
 or_assoc true b c = refl

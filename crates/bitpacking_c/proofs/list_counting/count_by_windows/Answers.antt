@@ -1,8 +1,8 @@
 -- Each window is marked and counted, and between it and the next there is no value.
-use Rattle.std.proofs.Common.{◌≡◌, ℕ, ◌+◌, ◌/◌, ◌^◌, ◌<◌, ◌≤◌, ◌||◌, length, refl, sym, ◌∙◌, ap, arith}
+use Rattle.std.proofs.Common.{ℕ, ◌+◌, ◌/◌, ◌^◌, ◌≤◌, ◌||◌, refl, sym, ◌∙◌, ap, arith}
 use Rattle.bitpack_sorted.specs.Many.{any_has}
 use Rattle.bitpacking_c.specs.Sets.{all_values}
-use Rattle.bitpacking_c.specs.Windows.{base_of, in_window}
+use Rattle.bitpacking_c.specs.Windows.{base_of}
 use Rattle.bitpacking_c.proofs.CountSteps.{count_in-none, counted_all, window_counted}
 use Rattle.bitpacking_c.proofs.WindowSteps.{fresh_window}
 use Rattle.bitpacking_c.proofs.list_counting.count_by_windows.Goals as goal

@@ -1,5 +1,5 @@
 -- A list without lanes is not in order.
-use Rattle.std.proofs.Common.{◌≡◌, ℕ, get_or, sym, ◌∙◌, ap, rules}
+use Rattle.std.proofs.Common.{◌≡◌, get_or, sym, ◌∙◌, ap, rules}
 use Rattle.bitpacking_c.specs.declared.list_view.ListView.{ListView}
 use Rattle.bitpacking_c.specs.Sets.{IsInOrder}
 use Rattle.bitpacking_c.proofs.CountSteps.{none_in_order}

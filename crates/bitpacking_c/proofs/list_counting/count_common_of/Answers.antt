@@ -1,5 +1,5 @@
 -- The cursor has the values of the shortest list, each once.
-use Rattle.std.proofs.Common.{◌≡◌, ◌≤◌, ◌<◌, ◌^◌, ℕ, get_or, length, sym, ◌∙◌, ap, arith, rules}
+use Rattle.std.proofs.Common.{◌≡◌, ℕ, get_or, length, sym, ◌∙◌, ap, arith, rules}
 use Rattle.bitpack_lists.specs.Cursors.{position, values_of_cursor}
 use Rattle.bitpack_sorted.specs.DistinctLaws.{increasing_rest}
 use Rattle.bitpack_sorted.specs.Increasing.{has}

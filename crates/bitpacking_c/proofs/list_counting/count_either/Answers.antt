@@ -1,5 +1,5 @@
 -- What each list has, without what both have again.
-use Rattle.std.proofs.Common.{◌≡◌, ◌-◌, ◌≤◌, ◌^◌, ◌<◌, List, All, drop, length, sym, subst, ap, take, arith}
+use Rattle.std.proofs.Common.{◌≡◌, ◌-◌, ◌<◌, List, All, drop, length, sym, subst, ap, take, arith}
 use Rattle.std.proofs.lemmas.List.{length-drop, length-take-le, take_all}
 use Rattle.bitpacking_c.specs.declared.list_view.ListView.{ListView}
 use Rattle.bitpacking_c.specs.Sets.{AreListsOf, IsInOrder}

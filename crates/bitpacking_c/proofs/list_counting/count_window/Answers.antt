@@ -1,5 +1,5 @@
 -- Each word is counted and cleared.
-use Rattle.std.proofs.Common.{◌≡◌, ℕ, ◌+◌, ◌*◌, ◌<◌, List, get_or, refl, sym, ◌∙◌, arith}
+use Rattle.std.proofs.Common.{ℕ, ◌<◌, List, get_or, refl, sym, ◌∙◌, arith}
 use Rattle.std.proofs.lemmas.List.{length-set}
 use Rattle.bitpacking_c.specs.Windows.{in_window}
 use Rattle.bitpacking_c.proofs.CountSteps.{count_in-none, word_counted}

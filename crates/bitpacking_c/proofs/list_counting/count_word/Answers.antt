@@ -1,5 +1,5 @@
 -- The ones of a word are its set bits.
-use Rattle.std.proofs.Common.{◌<◌, ◌^◌, sym, arith}
+use Rattle.std.proofs.Common.{sym, arith}
 use Rattle.bitpacking_c.proofs.CountSteps.{counted_ones}
 use Rattle.bitpacking_c.proofs.list_counting.count_word.Goals as goal
 

@@ -1,5 +1,5 @@
 -- Each other list takes away what it lacks.
-use Rattle.std.proofs.Common.{◌≡◌, ℕ, ◌<◌, ◌&&◌, Bool, List, true, false, get_or, length, take, ◌∙◌, ap, arith, rules}
+use Rattle.std.proofs.Common.{◌≡◌, ℕ, ◌<◌, ◌&&◌, List, get_or, length, take, ◌∙◌, ap, arith, rules}
 use Rattle.std.proofs.lemmas.List.{length-take-le, take-append-le, take_all}
 use Rattle.bitpack_sorted.specs.Increasing.{has}
 use Rattle.bitpack_sorted.specs.Many.{all_have}

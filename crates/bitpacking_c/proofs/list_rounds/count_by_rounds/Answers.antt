@@ -1,5 +1,5 @@
 -- Each round counts the numbers up to the next.
-use Rattle.std.proofs.Common.{◌≡◌, ℕ, ◌-◌, refl, sym, ◌∙◌, arith}
+use Rattle.std.proofs.Common.{ℕ, ◌-◌, refl, sym, ◌∙◌, arith}
 use Rattle.bitpack_sorted.specs.Many.{any_has}
 use Rattle.bitpacking_c.specs.Sets.{all_values}
 use Rattle.bitpacking_c.proofs.CountSteps.{count_in-add, count_in-none, counted_all}

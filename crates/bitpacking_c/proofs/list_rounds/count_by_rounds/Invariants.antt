@@ -1,5 +1,5 @@
 -- The numbers of the rounds so far are counted.
-use Rattle.std.proofs.Common.{◌≡◌, ℕ, ◌-◌, ◌^◌, ◌≤◌, length}
+use Rattle.std.proofs.Common.{◌≡◌, ◌-◌, ◌^◌, ◌≤◌, length}
 use Rattle.bitpack_sorted.specs.Many.{any_has}
 use Rattle.bitpacking_c.specs.Counting.{count_in}
 use Rattle.bitpacking_c.specs.Sets.{AreListsOf, Lists, all_values}

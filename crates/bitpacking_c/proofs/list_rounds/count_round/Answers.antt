@@ -1,5 +1,5 @@
 -- The values up to the limit are sorted and counted.
-use Rattle.std.proofs.Common.{◌≡◌, ◌≤◌, ◌<◌, ◌+◌, ◌-◌, ℕ, length, take, ◌∙◌, arith}
+use Rattle.std.proofs.Common.{◌≤◌, length, take, arith}
 use Rattle.std.proofs.lemmas.List.{length-take-le}
 use Rattle.bitpack_sorted.specs.Many.{any_has}
 use Rattle.bitpacking_c.specs.Sets.{all_values}

@@ -1,5 +1,5 @@
 -- The first of the values that are sorted are kept.
-use Rattle.std.proofs.Common.{◌≡◌, ◌≤◌, ◌<◌, length, arith}
+use Rattle.std.proofs.Common.{arith}
 use Rattle.bitpacking_c.proofs.SettleSteps.{some_kept}
 use Rattle.bitpacking_c.proofs.list_rounds.room_for.Goals as goal
 

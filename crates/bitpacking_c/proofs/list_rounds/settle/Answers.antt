@@ -1,5 +1,5 @@
 -- The values are sorted, and those in front are the ones up to the limit.
-use Rattle.std.proofs.Common.{◌≡◌, ◌≤◌, ◌&&◌, ◌++◌, List, ℕ, drop, length, take, leb, sym, ◌∙◌, ap, arith}
+use Rattle.std.proofs.Common.{◌≤◌, ◌&&◌, ◌++◌, List, ℕ, drop, length, take, leb, sym, ◌∙◌, ap, arith}
 use Rattle.std.proofs.lemmas.List.{length-take-le, take-append-le}
 use Rattle.std.specs.List.Sorted.{IsStrictlyIncreasing}
 use Rattle.bitpack_sorted.specs.Increasing.{has}
