@@ -7,6 +7,7 @@ ghost use Rattle.bitpacking.specs.Layout.{codes_of};
 ghost use Rattle.bitpacking.specs.Width.{Fits};
 ghost use Rattle.bitpack_lists.specs.Parts.{FindsFault, IsBody, whole_blocks, is_loose};
 ghost use Rattle.bitpack_lists.specs.Version2.{block_fault2, blocks_fault, body_fault2, entry_fault2, first_fault, is_out, kind_at, least_below, short_of, tail_start, value_with, widths_before};
+ghost use Rattle.bitpack_lists.specs.inner.Opening.{GoesOn};
 ghost use Rattle.bitpacking.specs.Bits.{bit_of};
 
 use super::order::{ends_in_order, first_out};
@@ -49,6 +50,8 @@ pub(crate) fn test_blocks<P: BitPacker>(
     ensures out { IfOk result (λ tested. (later : ℕ → ℕ) → tested.out ≡ least_below
         (is_out header.kind (value_with P.lanes (whole_blocks P.lanes header.count) header.kind rest.now later))
         (32 * P.lanes * whole_blocks P.lanes header.count)) }
+    ensures next { IfOk result (λ tested.
+        GoesOn header.kind (32 * P.lanes * whole_blocks P.lanes header.count) tested.last tested.kind) }
 {
     let len = P::BLOCK_LEN;
     let blocks = header.count / len;
@@ -119,6 +122,8 @@ fn test_bodies<P: BitPacker>(
         (32 * P.lanes * whole_blocks P.lanes header.count)) }
     ensures kind { IfOk result (λ found. found.2
         ≡ kind_at header.kind rest.now (whole_blocks P.lanes header.count)) }
+    ensures next { IfOk result (λ found.
+        GoesOn header.kind (32 * P.lanes * whole_blocks P.lanes header.count) found.0 found.2) }
 {
     let len = P::BLOCK_LEN;
     let blocks = header.count / len;
@@ -185,7 +190,7 @@ fn add_codes(codes: &[u32]) -> Totals
 }
 
 /// Whether codes with these bits fit a smaller width.
-fn fits_less(width: u8, bits: u32) -> bool
+pub(crate) fn fits_less(width: u8, bits: u32) -> bool
     requires { width ≤ 32 }
     ensures { result ≡ (nat_lt 0 width && nat_lt bits (2 ^ (width - 1))) }
 {
@@ -193,7 +198,7 @@ fn fits_less(width: u8, bits: u32) -> bool
 }
 
 /// The last value of the block of this kind that has these codes, with this sum.
-fn last_value(kind: Kind, codes: &[u32], total: u32) -> u32
+pub(crate) fn last_value(kind: Kind, codes: &[u32], total: u32) -> u32
     requires codes { (1 ≤ length codes.now) × (length codes.now ≤ MAX_BLOCK_LEN) }
     requires total { total ≡ sum codes.now % 2 ^ 32 }
     ensures { result ≡ slice_index (values_of kind codes.now) (length codes.now - 1) }

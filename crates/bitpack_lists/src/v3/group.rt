@@ -1,14 +1,14 @@
 //! Groups of 1 to 32 codes: a width, and the first bytes of a block of one lane that holds the codes and then zeros.
 
-ghost use Rattle.std.specs.Prelude.{◌≡◌, ℕ, List, ◌+◌, ◌*◌, ◌/◌, ◌^◌, ◌≤◌, ◌∷◌, IfOk, OnOk, drop, length, nat_lt, slice_index, take};
-ghost use Rattle.std.specs.List.{list_all};
+ghost use Rattle.std.specs.Prelude.{◌≡◌, true, ℕ, List, ◌+◌, ◌*◌, ◌/◌, ◌%◌, ◌^◌, ◌<◌, ◌≤◌, ◌∷◌, IfOk, OnOk, drop, length, slice_index, sum, take};
 ghost use lib.Count.{count_leading_zeros};
 ghost use Rattle.bitpacking.specs.Bits.{AreBytes};
 ghost use Rattle.bitpacking.specs.Layout.{codes_of};
-ghost use Rattle.bitpacking.specs.Width.{Least};
+ghost use Rattle.bitpacking.specs.Width.{Fits, Least};
 ghost use Rattle.bitpack_lists.specs.Groups.{IsGroup, all_codes, are_zeros, body_of, group_codes, group_end, group_fault};
 ghost use Rattle.bitpack_lists.specs.Parts.{FindsFault};
 
+use crate::blocks::testing::fits_less;
 use crate::list_error::ListError;
 use bitpacking::{BitPacker, BitPacker1x};
 
@@ -18,21 +18,24 @@ pub(crate) const LONGEST_GROUP: usize = 32;
 /// The most bytes of a body of one lane: 32 codes at 32 bits each.
 const LONGEST_GROUP_BODY: usize = 128;
 
-/// Tests the group of `count` codes at the front of the bytes, which is block number `block`, and returns how many bytes it has.
-/// Its codes are the first of `codes`; after a refusal these may be any.
+/// Tests the group of `count` codes at the front of the bytes, which is block number `block`, and returns how many bytes it has, and the
+/// sum of its codes modulo 2 ^ 32. Its codes are the first of `codes`; after a refusal these may be any.
 pub(crate) fn test_group(
     block: usize,
     count: usize,
     bytes: &[u8],
     codes: &mut [u32],
-) -> Result<usize, ListError>
+) -> Result<(usize, u32), ListError>
     requires some { 1 ≤ count }
     requires count { count ≤ LONGEST_GROUP }
     requires room { length codes.old ≡ LONGEST_GROUP }
     ensures fault { FindsFault result (group_fault block count bytes.now) }
     ensures codes { OnOk result (take count codes.new ≡ group_codes count bytes.now) }
-    ensures end { IfOk result (λ end. end ≡ group_end count bytes.now) }
-    ensures within { IfOk result (λ end. end ≤ length bytes.now) }
+    ensures end { IfOk result (λ found. found.0 ≡ group_end count bytes.now) }
+    ensures within { IfOk result (λ found. found.0 ≤ length bytes.now) }
+    ensures sum { IfOk result (λ found. found.1 ≡ sum (group_codes count bytes.now) % 2 ^ 32) }
+    ensures narrow { OnOk result (slice_index bytes.now 0 ≤ 32) }
+    ensures fits { OnOk result (Fits (group_codes count bytes.now) (slice_index bytes.now 0)) }
 {
     let [width, rest @ ..] = bytes else {
         return Err(ListError::Short);
@@ -45,13 +48,56 @@ pub(crate) fn test_group(
         return Err(ListError::Short);
     }
     let end = unpack_group(count, bytes, codes);
-    if are_loose(width, &codes[..count]) {
+    let totals = add_group(count, codes);
+    if fits_less(width, totals.bits) {
         return Err(ListError::LooseWidth(block, width));
     }
-    if !all_zeros(&codes[count..]) {
+    if totals.later > 0 {
         return Err(ListError::Padding);
     }
-    Ok(end)
+    Ok((end, totals.sum))
+}
+
+/// The codes of a group together: their sum modulo 2 ^ 32, each bit that one of them has, and each bit after them.
+#[derive(Clone, Copy)]
+struct GroupTotals {
+    sum: u32,
+    bits: u32,
+    later: u32,
+}
+
+/// The first `count` codes together, and those after them. No branch depends on a code, and the loop always takes 32 steps, so that the
+/// compiler adds several at once.
+#[inline(always)]
+fn add_group(count: usize, codes: &[u32]) -> GroupTotals
+    requires count { count ≤ LONGEST_GROUP }
+    requires room { length codes.now ≡ LONGEST_GROUP }
+    ensures sum { result.sum ≡ sum (take count codes.now) % 2 ^ 32 }
+    ensures above { (width : ℕ) → result.bits < 2 ^ width → Fits (take count codes.now) width }
+    ensures below { (width : ℕ) → Fits (take count codes.now) width → result.bits < 2 ^ width }
+    ensures zeros { result.later ≡ 0 → are_zeros (drop count codes.now) ≡ true }
+    ensures later { are_zeros (drop count codes.now) ≡ true → result.later ≡ 0 }
+{
+    let mut sum: u32 = 0;
+    let mut bits = 0;
+    let mut later = 0;
+    for index in 0..LONGEST_GROUP {
+        let code = codes[index];
+        let own = if_below(index, count, code);
+        sum = sum.wrapping_add(own);
+        bits |= own;
+        later |= code - own;
+    }
+    GroupTotals { sum, bits, later }
+}
+
+/// A code if its index is below a count, else 0.
+#[inline(always)]
+fn if_below(index: usize, count: usize, code: u32) -> u32
+    ensures below { index < count → result ≡ code }
+    ensures above { count ≤ index → result ≡ 0 }
+{
+    if index < count { code } else { 0 }
 }
 
 /// Unpacks the group of `count` codes at the front of the bytes, and returns how many bytes it has. Its codes are the first of
@@ -140,33 +186,4 @@ fn unpack_cut(width: u8, cut: &[u8], codes: &mut [u32])
     let mut body = [0; LONGEST_GROUP_BODY];
     body[..cut.len()].copy_from_slice(cut);
     BitPacker1x::new().decompress(&body, codes, width);
-}
-
-/// Whether the codes fit a smaller width.
-fn are_loose(width: u8, codes: &[u32]) -> bool
-    requires { width ≤ 32 }
-    ensures { result ≡ Rattle.bitpack_lists.specs.Groups.are_loose width codes.now }
-{
-    if width == 0 {
-        return false;
-    }
-    all_below(1 << (width - 1), codes)
-}
-
-/// Whether all codes are below a bound.
-fn all_below(bound: u32, codes: &[u32]) -> bool
-    ensures { result ≡ list_all (λ code. nat_lt code bound) codes.now }
-{
-    codes.iter().all(|code| *code < bound)
-}
-
-/// Whether all codes are 0. All are compared, since without a branch for each the compiler compares several at once.
-fn all_zeros(codes: &[u32]) -> bool
-    ensures { result ≡ are_zeros codes.now }
-{
-    let mut zeros = true;
-    for index in 0..codes.len() {
-        zeros &= codes[index] == 0;
-    }
-    zeros
 }

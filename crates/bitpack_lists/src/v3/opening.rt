@@ -1,14 +1,15 @@
 //! Tests of texts of version 3. The bytes are untrusted.
 
-ghost use Rattle.std.specs.Prelude.{◌≡◌, ◌^◌, ◌≤◌, IfOk, None, length};
+ghost use Rattle.std.specs.Prelude.{◌≡◌, true, ℕ, ◌+◌, ◌*◌, ◌^◌, ◌<◌, ◌≤◌, IfOk, None, slice_index};
+ghost use Rattle.bitpacking.specs.Codes.{values_of};
 ghost use Rattle.bitpack_lists.specs.Parts.{FindsFault, tail_values, whole_blocks};
-ghost use Rattle.bitpack_lists.specs.Version2.{kind_at, tail_start};
-ghost use Rattle.bitpack_lists.specs.Version3.{fault3, rest_fault3};
+ghost use Rattle.bitpack_lists.specs.Version2.{is_out, kind_at, least_below, tail_start};
+ghost use Rattle.bitpack_lists.specs.Version3.{fault3, rest_fault3, tail_codes3, tail_fault3};
+ghost use Rattle.bitpack_lists.specs.inner.Opening.{GoesOn, IsOrdered, IsRising};
 ghost use Rattle.bitpack_lists.specs.inner.Opening3.{EntriesAreSound, IsStated3};
 
-use super::group::LONGEST_GROUP;
 use super::header::ShortHeader;
-use super::tail::{test_tail, to_values};
+use super::tail::{test_tail, to_values, unpack_tail};
 use crate::blocks::order::first_out;
 use crate::blocks::reads::{ENTRY_LEN, Reads};
 use crate::blocks::testing::{TestedBlocks, test_blocks};
@@ -36,14 +37,7 @@ pub(crate) fn test_version3<P: BitPacker>(packer: &P, bytes: &[u8]) -> Result<St
         kind: header.kind,
         count: header.count,
     };
-    let rest = &bytes[header.end..];
-    // For a short tail little room is enough, which takes less time to clear.
-    let tested = if header.count % P::BLOCK_LEN < LONGEST_GROUP {
-        test_blocks_and_groups(packer, list, rest, &mut [0; LONGEST_GROUP])
-    } else {
-        test_blocks_and_groups(packer, list, rest, &mut [0; MAX_BLOCK_LEN])
-    };
-    let blocks = tested?;
+    let blocks = test_blocks_and_groups(packer, list, &bytes[header.end..])?;
     Ok(StatedText {
         header,
         start: blocks.end,
@@ -51,26 +45,23 @@ pub(crate) fn test_version3<P: BitPacker>(packer: &P, bytes: &[u8]) -> Result<St
     })
 }
 
-/// Tests what is after the header, with room for the values of the tail.
+/// Tests what is after the header.
 #[inline(always)]
 fn test_blocks_and_groups<P: BitPacker>(
     packer: &P,
     header: Header,
     rest: &[u8],
-    room: &mut [u32],
 ) -> Result<TestedBlocks, ListError>
     requires count { header.count ≤ 2 ^ 28 }
-    requires room { tail_values P.lanes header.count ≤ length room.old }
     ensures fault { FindsFault result (rest_fault3 P.lanes header.kind header.count rest.now) }
     ensures tail { IfOk result (λ tested. (tested.end ≡ tail_start P.lanes (whole_blocks P.lanes header.count) rest.now)
         × (tested.kind ≡ kind_at header.kind rest.now (whole_blocks P.lanes header.count))) }
 {
     let len = header.count % P::BLOCK_LEN;
     let blocks = test_blocks(packer, header, 0, rest)?;
-    let values = &mut room[..len];
-    let later = test_tail(header.count / P::BLOCK_LEN, &rest[blocks.end..], values)?;
-    to_values(blocks.kind, values);
-    let tail_out = first_out(header.kind, header.count - len, blocks.last, values);
+    let tail = &rest[blocks.end..];
+    let (later, rises) = test_tail(blocks.kind, header.count / P::BLOCK_LEN, len, tail)?;
+    let tail_out = first_out_of_tail::<P>(header, blocks, rises, tail);
     if let Some(position) = blocks.out.or(tail_out) {
         return Err(ListError::NotSorted(position));
     }
@@ -78,6 +69,37 @@ fn test_blocks_and_groups<P: BitPacker>(
         return Err(ListError::Trailing);
     }
     Ok(blocks)
+}
+
+/// The first position out of order in the tail, which is unpacked if its sums do not show that it is in order.
+#[inline(always)]
+fn first_out_of_tail<P: BitPacker>(
+    header: Header,
+    blocks: TestedBlocks,
+    rises: bool,
+    tail: &[u8],
+) -> Option<usize>
+    requires count { header.count ≤ 2 ^ 28 }
+    requires sound { tail_fault3 (whole_blocks P.lanes header.count) (tail_values P.lanes header.count) tail.now
+        ≡ None }
+    requires rises { rises ≡ true → IsRising blocks.kind (values_of blocks.kind
+        (tail_codes3 (whole_blocks P.lanes header.count) (tail_values P.lanes header.count) tail.now)) }
+    requires next { GoesOn header.kind (32 * P.lanes * whole_blocks P.lanes header.count) blocks.last blocks.kind }
+    ensures { (all : ℕ → ℕ) → IsOrdered header.kind all (32 * P.lanes * whole_blocks P.lanes header.count) blocks.last
+        → ((k : ℕ) → k < tail_values P.lanes header.count
+        → all (32 * P.lanes * whole_blocks P.lanes header.count + k) ≡ slice_index (values_of blocks.kind
+        (tail_codes3 (whole_blocks P.lanes header.count) (tail_values P.lanes header.count) tail.now)) k)
+        → result ≡ least_below (is_out header.kind all) header.count }
+{
+    if rises {
+        return None;
+    }
+    let len = header.count % P::BLOCK_LEN;
+    let mut room = [0; MAX_BLOCK_LEN];
+    let values = &mut room[..len];
+    unpack_tail(header.count / P::BLOCK_LEN, tail, values);
+    to_values(blocks.kind, values);
+    first_out(header.kind, header.count - len, blocks.last, values)
 }
 
 /// What a text without a fault states, as `test_version3` returns it. Only the header and the last entry are read.

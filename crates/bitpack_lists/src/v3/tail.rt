@@ -1,61 +1,77 @@
 //! The tail of a list: its codes in groups, after the first one as a number if the list has no whole block.
 
-ghost use Rattle.std.specs.Prelude.{◌≡◌, ℕ, List, ◌+◌, ◌^◌, ◌<◌, ◌≤◌, IfOk, None, OnOk, length, min, take};
-ghost use Rattle.bitpacking.specs.Codes.{codes, values_of};
+ghost use Rattle.std.specs.Prelude.{◌≡◌, true, ℕ, List, ◌+◌, ◌^◌, ◌<◌, ◌≤◌, IfOk, None, length, min, take};
+ghost use Rattle.bitpacking.specs.Codes.{codes, start, values_of};
 ghost use Rattle.bitpack_lists.specs.Groups.{AreGroups, after_groups, groups_codes, groups_fault, groups_of};
 ghost use Rattle.bitpack_lists.specs.Parts.{FindsFault};
 ghost use Rattle.bitpack_lists.specs.inner.CodeSteps.{EndsGroup, gaps, sums};
+ghost use Rattle.bitpack_lists.specs.inner.Opening.{IsRising};
 ghost use Rattle.bitpack_lists.specs.inner.Sizes.{tail_room};
 ghost use Rattle.bitpack_lists.specs.Version3.{IsTail3, after_tail3, tail_codes3, tail_fault3};
 
 use super::group::{LONGEST_GROUP, test_group, unpack_group, write_group};
+use crate::blocks::order::ends_in_order;
+use crate::blocks::testing::last_value;
 use crate::list_error::ListError;
+use crate::list_kind::next_kind;
 use crate::numbers::{test_number, unpack_number, write_number};
 use bitpacking::{Kind, MAX_BLOCK_LEN};
 
-/// Tests the tail of as many codes as the slice has, after `blocks` blocks, and returns the bytes after it. After a refusal the codes
-/// may be any.
+/// Tests the tail of `count` codes, after `blocks` blocks. Returns the bytes after it, and whether the sums of its groups show that
+/// its values, which are of this kind, are in order after the one before them.
 #[tactic(auto, unfolding(crate::specs::Version3::tail_fault3, crate::specs::Version3::tail_codes3, crate::specs::Version3::after_tail3))]
 #[inline(always)]
 pub(crate) fn test_tail<'a>(
+    kind: Kind,
     blocks: usize,
+    count: usize,
     bytes: &'a [u8],
-    codes: &mut [u32],
-) -> Result<&'a [u8], ListError>
+) -> Result<(&'a [u8], bool), ListError>
     requires blocks { blocks ≤ 2 ^ 28 }
-    requires few { length codes.old ≤ 2 ^ 28 }
-    ensures fault { FindsFault result (tail_fault3 blocks (length codes.old) bytes.now) }
-    ensures codes { OnOk result (codes.new ≡ tail_codes3 blocks (length codes.old) bytes.now) }
-    ensures rest { IfOk result (λ rest. rest.now ≡ after_tail3 blocks (length codes.old) bytes.now) }
+    requires few { count ≤ 2 ^ 28 }
+    ensures fault { FindsFault result (tail_fault3 blocks count bytes.now) }
+    ensures rest { IfOk result (λ found. found.0.now ≡ after_tail3 blocks count bytes.now) }
+    ensures rises { IfOk result (λ found. found.1 ≡ true → start kind < 2 ^ 32
+        → IsRising kind (values_of kind (tail_codes3 blocks count bytes.now))) }
 {
-    if blocks == 0 && codes.len() > 0 {
+    if blocks == 0 && count > 0 {
         let (first, size) = test_number(bytes)?;
-        codes[0] = first;
-        let rest = test_groups(0, &bytes[size..], &mut codes[1..])?;
-        return Ok(rest);
+        let value = last_value(kind, &[first], first);
+        let next = next_kind(kind, value);
+        let (rest, rises) = test_groups(next, 0, count - 1, &bytes[size..])?;
+        return Ok((rest, rises && ends_in_order(kind, 32, 1, value)));
     }
-    test_groups(blocks, bytes, codes)
+    test_groups(kind, blocks, count, bytes)
 }
 
-/// Tests the groups of as many codes as the slice has, from block number `block` on, and returns the bytes after them. After a
-/// refusal the codes may be any.
-fn test_groups<'a>(block: usize, bytes: &'a [u8], codes: &mut [u32]) -> Result<&'a [u8], ListError>
+/// Tests the groups of `count` codes, from block number `block` on. Returns the bytes after them, and whether their sums show that
+/// their values are in order, as [`test_tail`] does.
+fn test_groups<'a>(
+    kind: Kind,
+    block: usize,
+    count: usize,
+    bytes: &'a [u8],
+) -> Result<(&'a [u8], bool), ListError>
     requires block { block ≤ 2 ^ 28 }
-    ensures fault { FindsFault result (groups_fault (groups_of (length codes.old)) block (length codes.old) bytes.now) }
-    ensures codes { OnOk result (codes.new ≡ groups_codes (groups_of (length codes.old)) (length codes.old) bytes.now) }
-    ensures rest { IfOk result (λ rest. rest.now
-        ≡ after_groups (groups_of (length codes.old)) (length codes.old) bytes.now) }
+    requires few { count ≤ 2 ^ 28 }
+    ensures fault { FindsFault result (groups_fault (groups_of count) block count bytes.now) }
+    ensures rest { IfOk result (λ found. found.0.now ≡ after_groups (groups_of count) count bytes.now) }
+    ensures rises { IfOk result (λ found. found.1 ≡ true → start kind < 2 ^ 32
+        → IsRising kind (values_of kind (groups_codes (groups_of count) count bytes.now))) }
 {
+    let mut kind = kind;
     let mut rest = bytes;
+    let mut rises = true;
     let mut group = [0; LONGEST_GROUP];
-    for index in 0..(codes.len() + 31) / LONGEST_GROUP {
-        let from = LONGEST_GROUP * index;
-        let count = next_len(codes.len() - from);
-        let end = test_group(block + index, count, rest, &mut group)?;
-        codes[from..from + count].copy_from_slice(&group[..count]);
+    for index in 0..(count + 31) / LONGEST_GROUP {
+        let len = next_len(count - LONGEST_GROUP * index);
+        let (end, total) = test_group(block + index, len, rest, &mut group)?;
+        let last = last_value(kind, &group[..len], total);
+        rises &= ends_in_order(kind, rest[0], len, last);
+        kind = next_kind(kind, last);
         rest = &rest[end..];
     }
-    Ok(rest)
+    Ok((rest, rises))
 }
 
 /// Unpacks the tail of as many codes as the slice has, after `blocks` blocks. It has no fault.

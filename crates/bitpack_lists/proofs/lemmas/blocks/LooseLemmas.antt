@@ -4,7 +4,7 @@ use Rattle.std.proofs.Common.{◌≡◌, ◌↔◌, ℕ, zero, suc, mul-suc, ◌
 use Rattle.std.proofs.Math.Nat.{div-lt_iff_lt-mul}
 use Rattle.std.specs.Int.{bit_at}
 use Rattle.std.specs.List.{list_all}
-use Rattle.std.proofs.lemmas.Bool.{cases_lt, both_ways, false_from_ne_true}
+use Rattle.std.proofs.lemmas.Bool.{cases_lt, both_ways, false_from_ne_true, lt-ltb, ltb-true}
 use Rattle.std.proofs.lemmas.Nat.{div-mul-add, mod-mul-add, mul-add-lt, mul-le}
 use Rattle.std.proofs.lemmas.Nat.Bits.{bit_at_or, bit_at-lt, bit_at_above}
 use Rattle.std.proofs.lemmas.List.Elements.{All-from_get_or, All-get_or}
@@ -19,6 +19,19 @@ pub Decides-fits : (codes : List ℕ) (width : ℕ) → Decides (list_all (λ co
 Decides-fits codes width =
     Decides-by_and (λ code. ltb code (2 ^ width)) (λ code. code < 2 ^ width) (list_all (λ code. ltb code (2 ^ width)))
     (λ code. Decides-ltb code (2 ^ width)) refl (λ _ _. refl) codes
+
+same_truth : (one other : Bool) → (one ≡ true → other ≡ true) → (other ≡ true → one ≡ true) → one ≡ other
+same_truth true other to from = sym (to refl)
+same_truth false true to from = from refl
+same_truth false false to from = refl
+
+-- Codes fit a width exactly if all their bits do.
+pub fit_by_bits : (w bits : ℕ) (codes : List ℕ) → ((w : ℕ) → bits < 2 ^ w → Fits codes w) → ((w : ℕ) → Fits codes w → bits < 2 ^ w)
+    → list_all (λ code. ltb code (2 ^ w)) codes ≡ ltb bits (2 ^ w)
+fit_by_bits w bits codes above below =
+    let decides = Decides-fits codes w in
+    same_truth (list_all (λ code. ltb code (2 ^ w)) codes) (ltb bits (2 ^ w))
+    (λ all. lt-ltb bits (2 ^ w) (below w (decides.0 all))) (λ small. decides.1 (above w (ltb-true bits (2 ^ w) small)))
 
 pub Decides-loose : (lanes width : ℕ) (codes bytes : List ℕ) → Layout lanes width codes bytes
     → Decides (is_loose lanes width bytes) ((smaller : ℕ) × (smaller < width) × Fits codes smaller)

@@ -20,7 +20,7 @@ use Rattle.bitpack_lists.specs.Groups.{group_size, padded, IsGroup, body_of, all
 use Rattle.bitpack_lists.proofs.lemmas.blocks.HeaderLemmas.{passed}
 use Rattle.bitpack_lists.proofs.lemmas.blocks.PartLemmas.{AreBytes-cons, AreBytes-append}
 use Rattle.bitpack_lists.proofs.lemmas.blocks.LooseLemmas.{Decides-fits}
-use Rattle.bitpack_lists.proofs.lemmas.v3.GroupLemmas.{group_size-le, Fits-more_zeros, right}
+use Rattle.bitpack_lists.proofs.lemmas.v3.GroupLemmas.{codes_fit, cut_laid, group_size-le, Fits-more_zeros, right}
 
 -- ---- the cut loses nothing
 
@@ -86,7 +86,7 @@ Decides-are_loose width codes =
     (λ (h : (smaller : ℕ) × (smaller < width) × Fits codes smaller). (omega (arith, h.1), fits_greater codes h.0 (width - 1) (omega (arith, h.1)) h.2))
     (Decides-and _ _ (Decides-ltb 0 width) (Decides-fits codes (width - 1)))
 
-Decides-zeros : (codes : List ℕ) → Decides (are_zeros codes) (All (λ code. code ≡ 0) codes)
+pub Decides-zeros : (codes : List ℕ) → Decides (are_zeros codes) (All (λ code. code ≡ 0) codes)
 Decides-zeros codes =
     Decides-by_and (λ code. code == 0) (λ code. code ≡ 0) (list_all (λ code. code == 0)) (λ code. Decides-eqb code 0) refl (λ _ _. refl) codes
 
@@ -167,20 +167,11 @@ module _ (count width : ℕ) (rest : List ℕ) (few : count ≤ 32) (narrow : wi
   cut-long : length (take (group_size count width) rest) ≡ group_size count width
   cut-long = length-take-le (group_size count width) rest room
 
-  body-long : length (body_of width (take (group_size count width) rest)) ≡ size 1 width
-  body-long =
-      let n : ℕ = length (take (group_size count width) rest) in
-      let le : group_size count width ≤ 4 * width = group_size-le count width few in
-      omega (arith, cut-long, length-append (take (group_size count width) rest) (replicate (4 * width - n) 0), length-replicate {A = ℕ} (4 * width - n) 0)
-
   laid : Layout 1 width (all_codes count width rest) (body_of width (take (group_size count width) rest))
-  laid = (one_layout_codes 1 width (body_of width (take (group_size count width) rest)) body-long).0
+  laid = cut_laid count width rest few narrow room
 
   pub as_many : length (take count (all_codes count width rest)) ≡ count
   as_many = length-take-le count (all_codes count width rest) (omega (arith, laid.code_count))
-
-  pub fit : Fits (take count (all_codes count width rest)) width
-  fit = All-take (λ code. code < 2 ^ width) count (all_codes count width rest) laid.fits
 
   padded-all : padded (take count (all_codes count width rest)) ≡ all_codes count width rest
   padded-all =
@@ -198,7 +189,7 @@ module _ (count width : ℕ) (rest : List ℕ) (few : count ≤ 32) (narrow : wi
         width = width;
         body = body_of width cut;
         least = record {
-          fits = fit;
+          fits = codes_fit count width rest few narrow room;
           least = λ smaller lt fits. both_ways (are_loose width (take count all)) least ((Decides-are_loose width (take count all)).1 (smaller, lt, fits));
         };
         bytes = AreBytes-append cut zeros' (AreBytes-take rest (group_size count width) small) (AreBytes-zeros (4 * width - length cut));
@@ -227,7 +218,7 @@ one_group block count (width ∷ rest) some few small none =
     let small' : AreBytes rest = λ k. small (suc k) in
     let zeros : are_zeros (drop count (all_codes count width rest)) ≡ true = not-false _ four.0 in (
       as_many count width rest few narrow small' room three.0 zeros,
-      fits_greater (take count (all_codes count width rest)) width 32 narrow (fit count width rest few narrow small' room three.0 zeros),
+      fits_greater (take count (all_codes count width rest)) width 32 narrow (codes_fit count width rest few narrow room),
       front-group count width rest (group-read count width rest few narrow small' room three.0 zeros),
       λ codes part after long group e.
           let same : width ≡ group.width = head-same width group.width rest (take (group_size (length codes) group.width) group.body ++ after) (e ∙ ap (λ zs. zs ++ after) group.parts) in

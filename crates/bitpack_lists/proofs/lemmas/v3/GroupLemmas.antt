@@ -1,12 +1,11 @@
 -- Groups: a body that is cut, its codes, and the tests of a reader.
 -- Serves opened, v3.
-use Rattle.std.proofs.Common.{◌≡◌, ℕ, zero, suc, ◌+◌, ◌-◌, ◌*◌, ◌%◌, ◌^◌, ◌<◌, ◌≤◌, true, false, ltb, Some, None, List, [], ◌∷◌, ◌++◌, length, take, drop, replicate, get_or, refl, sym, ◌∙◌, ap, arith}
-use Rattle.std.specs.List.{list_all}
+use Rattle.std.proofs.Common.{◌≡◌, ℕ, zero, suc, ◌+◌, ◌-◌, ◌*◌, ◌%◌, ◌^◌, ◌<◌, ◌≤◌, true, false, ltb, ◌&&◌, Some, None, List, [], ◌∷◌, ◌++◌, length, take, drop, replicate, get_or, refl, sym, ◌∙◌, ap, arith}
 use Rattle.std.proofs.lemmas.Bool.{lt-ltb, le-ltb, ltb-false}
 use Rattle.std.proofs.Math.Pow.{pow_mono}
-use Rattle.std.proofs.lemmas.Nat.{leading_length, mul-le, pow_pos, one_shl}
+use Rattle.std.proofs.lemmas.Nat.{leading_length, mul-le, pow_pos}
 use Rattle.std.proofs.lemmas.List.{drop-replicate, take-replicate, take-take, take_all, length-append, length-replicate, length-take-le}
-use Rattle.std.proofs.lemmas.List.Elements.{All-append, All-replicate}
+use Rattle.std.proofs.lemmas.List.Elements.{All-append, All-replicate, All-take}
 use lib.Count.{count_leading_zeros}
 use Rattle.bitpacking.specs.Bits.{AreBytes}
 use Rattle.bitpacking.specs.Width.{Fits, Least}
@@ -15,6 +14,7 @@ use Rattle.bitpacking.proofs.ForCallers.{AreBytes-take, one_layout_bytes, one_la
 use Rattle.bitpack_lists.specs.declared.list_error.ListError.TheVariants.{Short, BadWidth, LooseWidth, Padding}
 use Rattle.bitpack_lists.specs.Groups.{group_size, padded, IsGroup, body_of, all_codes, are_loose, are_zeros, group_end, group_fault}
 use Rattle.bitpack_lists.proofs.lemmas.blocks.HeaderLemmas.{passed}
+use Rattle.bitpack_lists.proofs.lemmas.blocks.LooseLemmas.{fit_by_bits}
 
 -- ---- sizes
 
@@ -51,16 +51,28 @@ unpacked-is width k cut body codes whole fits narrow long is layout =
     let laid : Layout 1 width codes (body_of width cut) = rw (← all, ← front) layout in
     (one_layout_codes 1 width (body_of width cut) laid.byte_count).1 codes laid
 
+-- The codes of bytes that go on to the last code, with all after them, fit their width.
+module _ (count width : ℕ) (rest : List ℕ) (few : count ≤ 32) (narrow : width ≤ 32) (room : group_size count width ≤ length rest) where
+  body-long : length (body_of width (take (group_size count width) rest)) ≡ size 1 width
+  body-long =
+      let cut : List ℕ = take (group_size count width) rest in
+      let n : ℕ = length cut in
+      let long : n ≡ group_size count width = length-take-le (group_size count width) rest room in
+      omega (arith, long, group_size-le count width few, length-append cut (replicate {A = ℕ} (4 * width - n) 0), length-replicate {A = ℕ} (4 * width - n) 0)
+
+  pub cut_laid : Layout 1 width (all_codes count width rest) (body_of width (take (group_size count width) rest))
+  cut_laid = (one_layout_codes 1 width (body_of width (take (group_size count width) rest)) body-long).0
+
+  pub codes_fit : Fits (take count (all_codes count width rest)) width
+  codes_fit = All-take (λ code. code < 2 ^ width) count (all_codes count width rest) cut_laid.fits
+
 -- ---- the tests of a reader
 
-pub not_loose_at_0 : (width : ℕ) (codes : List ℕ) → width ≡ 0 → false ≡ are_loose width codes
+-- Codes fit a smaller width exactly if all their bits do.
+pub loose_by_bits : (width bits : ℕ) (codes : List ℕ) → ((w : ℕ) → bits < 2 ^ w → Fits codes w) → ((w : ℕ) → Fits codes w → bits < 2 ^ w)
+    → are_loose width codes ≡ (ltb 0 width && ltb bits (2 ^ (width - 1)))
 unfolding are_loose
-not_loose_at_0 width codes none = rw none refl
-
-pub loose_by_bound : (width : ℕ) (codes : List ℕ) → 0 < width → width ≤ 32
-    → list_all (λ code. ltb code (1 * 2 ^ (width - 1) % 2 ^ 32)) codes ≡ are_loose width codes
-unfolding are_loose
-loose_by_bound width codes some narrow = rw (one_shl (width - 1) 32 (omega arith), lt-ltb 0 width some) refl
+loose_by_bits width bits codes above below = ap (λ b. ltb 0 width && b) (fit_by_bits (width - 1) bits codes above below)
 
 pub no_byte : (block count : ℕ) (bytes : List ℕ) → length bytes < 1 → group_fault block count bytes ≡ Some Short
 unfolding group_fault

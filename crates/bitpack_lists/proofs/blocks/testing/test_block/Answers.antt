@@ -1,31 +1,22 @@
 -- The tests in their order find the first fault of a body, by its codes together.
-use Rattle.std.proofs.Common.{◌≡◌, ℕ, ◌-◌, ◌*◌, ◌^◌, ◌<◌, Bool, true, false, ltb, ◌&&◌, List, length, get_or, refl, sym, ◌∙◌, ap}
+use Rattle.std.proofs.Common.{◌≡◌, ℕ, ◌-◌, ◌*◌, ◌^◌, ◌<◌, ltb, ◌&&◌, List, length, get_or, sym, ◌∙◌, ap}
 use Rattle.std.specs.List.{list_all}
-use Rattle.std.proofs.lemmas.Bool.{lt-ltb, ltb-true}
 use Rattle.bitpacking.specs.declared.kind.Kind.{Kind}
 use Rattle.bitpacking.specs.Codes.{values_of}
 use Rattle.bitpacking.specs.Layout.{codes_of}
 use Rattle.bitpacking.specs.Width.{Fits}
 use Rattle.bitpack_lists.specs.Parts.{is_loose}
-use Rattle.bitpack_lists.proofs.lemmas.blocks.LooseLemmas.{Decides-fits}
+use Rattle.bitpack_lists.proofs.lemmas.blocks.LooseLemmas.{fit_by_bits}
 use Rattle.bitpack_lists.proofs.lemmas.blocks.RestFaults.{loose_body, other_last, right_body}
 use Rattle.bitpack_lists.proofs.blocks.testing.test_block.Goals as goal
-
-same_truth : (one other : Bool) → (one ≡ true → other ≡ true) → (other ≡ true → one ≡ true) → one ≡ other
-same_truth true other to from = sym (to refl)
-same_truth false true to from = from refl
-same_truth false false to from = refl
 
 -- Codes fit a smaller width exactly if all their bits do.
 loose_is : (lanes width bits : ℕ) (body codes : List ℕ) → ((w : ℕ) → bits < 2 ^ w → Fits codes w) → ((w : ℕ) → Fits codes w → bits < 2 ^ w)
     → codes ≡ codes_of lanes width body → is_loose lanes width body ≡ (ltb 0 width && ltb bits (2 ^ (width - 1)))
 unfolding is_loose
 loose_is lanes width bits body codes above below are =
-    let w : ℕ = width - 1 in
-    let decides = Decides-fits codes w in
-    ap (λ xs. ltb 0 width && list_all (λ code. ltb code (2 ^ w)) xs) (sym are)
-    ∙ ap (λ b. ltb 0 width && b) (same_truth (list_all (λ code. ltb code (2 ^ w)) codes) (ltb bits (2 ^ w))
-    (λ all. lt-ltb bits (2 ^ w) (below w (decides.0 all))) (λ small. decides.1 (above w (ltb-true bits (2 ^ w) small))))
+    ap (λ xs. ltb 0 width && list_all (λ code. ltb code (2 ^ (width - 1))) xs) (sym are)
+    ∙ ap (λ b. ltb 0 width && b) (fit_by_bits (width - 1) bits codes above below)
 
 -- The last value is that of the block.
 ends : (lanes width value : ℕ) (kind : Kind) (body codes : List ℕ) → length codes ≡ 32 * lanes → codes ≡ codes_of lanes width body
