@@ -1,5 +1,5 @@
 -- A tail whose sums show that it is in order is, and another is unpacked.
-use Rattle.std.proofs.Common.{◌≡◌, ◌+◌, ◌-◌, ◌*◌, ◌/◌, ◌%◌, ◌^◌, ◌<◌, ◌≤◌, ℕ, List, length, get_or, take, replicate, sym, ◌∙◌, ap, arith}
+use Rattle.std.proofs.Common.{◌≡◌, ◌+◌, ◌-◌, ◌*◌, ◌%◌, ◌≤◌, ℕ, List, length, get_or, take, replicate, sym, ◌∙◌, ap, arith}
 use Rattle.std.proofs.Math.Nat.{div-add-mod}
 use Rattle.std.proofs.lemmas.List.{length-replicate, length-take-le}
 use Rattle.bitpacking.specs.declared.kind.Kind.{Kind}

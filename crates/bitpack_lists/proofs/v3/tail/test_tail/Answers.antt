@@ -1,10 +1,10 @@
 -- The first code is a number, and the groups go on from its value.
-use Rattle.std.proofs.Common.{◌≡◌, ℕ, List, [], ◌∷◌, ◌+◌, ◌-◌, ◌^◌, ◌<◌, get_or, refl, sym, ◌∙◌, arith}
+use Rattle.std.proofs.Common.{ℕ, List, [], ◌∷◌, ◌^◌, ◌<◌, refl, sym, ◌∙◌, arith}
 use Rattle.std.proofs.lemmas.Bool.{both_ways}
-use Rattle.std.proofs.lemmas.List.{length-drop, take_rest}
+use Rattle.std.proofs.lemmas.List.{take_rest}
 use Rattle.std.proofs.lemmas.List.Elements.{All-cons, All-nil}
 use Rattle.bitpacking.specs.declared.kind.Kind.{Kind}
-use Rattle.bitpacking.specs.Codes.{start, values_of}
+use Rattle.bitpacking.specs.Codes.{start}
 use Rattle.bitpack_lists.proofs.lemmas.blocks.GroupSteps.{tail-first}
 use Rattle.bitpack_lists.proofs.lemmas.blocks.SumsOfCodes.{rising-append, start-next}
 use Rattle.bitpack_lists.proofs.v3.tail.test_tail.Goals as goal
