@@ -44,7 +44,13 @@ fn first_bits(bits: u64, count: usize) -> u64
 
 /// As `keep_marked`, with one step for each value, and no branch on a bit.
 #[inline(always)]
-pub(crate) fn keep_each(values: &mut [u32], kept: usize, from: usize, count: usize, bits: u64) -> usize
+pub(crate) fn keep_each(
+    values: &mut [u32],
+    kept: usize,
+    from: usize,
+    count: usize,
+    bits: u64,
+) -> usize
     requires { CanKeep kept from count values.old }
     ensures { IsKeeping bits values.old values.new kept from result count }
 {
