@@ -127,8 +127,8 @@ pub fn union_into(lists: &[PackedList<'_>], values: &mut Vec<u32>) -> Result<(),
     combined(best().lists.unite, &lists, lists.iter().map(PackedList::len).sum(), values)
 }
 
-/// How many values [`union`] returns. Nothing is allocated: it takes about 60 KB of stack. It is faster than [`union`] of a few long
-/// lists, and many times slower than that of thousands of short ones.
+/// How many values [`union`] returns. Nothing is allocated: it takes about 60 KB of stack. For a few long lists it is faster than
+/// [`union`], and for thousands of short ones many times slower.
 ///
 /// # Errors
 ///

@@ -25,7 +25,7 @@ const CALLS: [(Call, Plain); 3] = [
     ),
 ];
 
-/// Each call on a vector with just its values, and on one with memory to spare, which stays where it is.
+/// Each call on a vector with just its values, and on one with memory to spare, whose values do not move.
 fn agree(list: &PackedList<'_>, set: &BTreeSet<u32>, values: &[u32]) {
     for (call, plain) in CALLS {
         let right = plain(values, set);
