@@ -1,6 +1,8 @@
 //! Blocks at the greatest width whose codes are at most 2 ^ 32 together, and at the next one, with values that wrap once. Each code of
 //! a block has all bits, so that its body is bytes of 255, and its values were worked by hand.
 
+ghost use Rattle.std.specs.Prelude.{◌≤◌, ◌^◌};
+
 use super::list2::opened;
 use crate::tests::calls::{Version, encode_as};
 use crate::tests::checks::{kept_bytes, nine, push, push_bytes, returns};

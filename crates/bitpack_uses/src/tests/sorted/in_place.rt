@@ -90,6 +90,7 @@ fn keeps_steps(
     (len, other_len): (usize, usize),
     (step, other_step, first): (u32, u32, u32),
 ) {
+    assert!(rt; other_step > 0);
     let values = steps(rt, alloc, 0, step, len);
     let others = steps(rt, alloc, first, other_step, other_len);
     for lacking in [false, true] {
