@@ -7,7 +7,7 @@
 //!
 //! A round that looks at too few numbers is followed by one that looks at up to 16 times as many. So n different values in m lists take
 //! some n / 10,000 rounds, and at most 8 times as many. Each sorts its values, and starts and seeks each list once: the work is about
-//! n * log(n) if m is a few thousand or less.
+//! n * log(n) if m is a few hundred or less.
 
 ghost use Rattle.std.specs.Prelude.{◌≡◌, ℕ, ◌+◌, ◌-◌, ◌<◌, ◌≤◌, ◌^◌, ◌&&◌, false, nat_le, All, List, length, slice_index, take};
 ghost use Rattle.std.specs.List.Sorted.{IsStrictlyIncreasing};
