@@ -28,12 +28,19 @@ READING = {
 MEASURING = r"\bnum_bits_kind\b|\bwidth_counted\b"
 # The functions whose reads a contract counts, or that read at most one tail, with their marks: who calls them needs no mark.
 COUNTED = {
-    f"{LISTS}/blocks/reads.rt": {"read_entry": "record, read_one, read_one", "unpack_body": "record, body, decompress_kind"},
+    f"{LISTS}/blocks/reads.rt": {
+        "read_entry": "record, read",
+        "read_last": "record, read_one",
+        "unpack_body": "record, body, decompress_kind",
+        "unpack_block": "unpack_body, read",
+    },
     f"{LISTS}/opened.rt": {
-        "entry": "read_entry, rest",
-        "unpack_block_as": "unpack_body, packer, rest",
+        "mark": "read_mark4, rest, read_last",
+        "unpack_block": "unpack_block4, packer, rest, unpack_block_as",
+        "unpack_block_as": "unpack_block, packer, rest",
         "clone": "packer, bytes, rest, tail",
     },
+    f"{LISTS}/v4/counted.rt": {"read_mark4": "record, mark_at", "unpack_block4": "record, read_block4, body_of4, unpack_block4"},
     f"{LISTS}/opened/tail.rt": {
         "read_tail": "read_words, tail, read_front",
         "value_in_tail": "read_one, tail, value_in_groups",

@@ -2,7 +2,7 @@
 //!
 //! [`chain`] packs many blocks of one kind end to end. [`list`] writes a list of any length as one text, and reads untrusted
 //! texts. [`list2`] does so for lists in order, whose texts are read in place. [`list3`] writes shorter texts of short
-//! lists. [`sorted`] combines cursors over them. [`run`] reads lines to the end of a reader and writes the answer to each; [`ending`]
+//! lists, and [`list4`] of dense lists and columns. [`sorted`] combines cursors over them. [`run`] reads lines to the end of a reader and writes the answer to each; [`ending`]
 //! says how a program then ends.
 //!
 //! ```text
@@ -20,6 +20,6 @@ mod output;
 mod run_error;
 mod writing;
 
-pub use bitpack_lists::{ListError, ListKind, chain, list, list2, list3};
+pub use bitpack_lists::{ListError, ListKind, chain, list, list2, list3, list4};
 pub use line_loop::run;
 pub use run_error::{RunError, ending};

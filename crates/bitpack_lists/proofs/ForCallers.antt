@@ -5,7 +5,7 @@ use Rattle.std.proofs.lemmas.List.Sums.{sum_by_more, sum_by_more_le}
 use Rattle.std.proofs.lemmas.Nat.{mul-le}
 pub use Rattle.bitpack_lists.proofs.lemmas.opened.BlockPlaces.{position_within}
 pub use Rattle.bitpack_lists.proofs.lemmas.opened.CursorPlaces.{inside_of, left_values, value_at}
-pub use Rattle.bitpack_lists.proofs.lemmas.opened.ReadParts.{in_order_from_kind}
+pub use Rattle.bitpack_lists.proofs.lemmas.opened.ReadParts.{can_search, in_order_from_kind}
 pub use Rattle.bitpack_lists.proofs.lemmas.laws.Distinct.{common_is_short, one_common}
 pub use Rattle.bitpack_lists.proofs.lemmas.blocks.HeaderLemmas.{header_bytes}
 pub use Rattle.bitpack_lists.proofs.lemmas.blocks.ListLemmas.{text_of}
@@ -17,7 +17,7 @@ pub use Rattle.bitpack_lists.proofs.lemmas.opened.OutlineSteps.{outline_is}
 pub use Rattle.bitpack_lists.proofs.lemmas.blocks.PartLemmas.{AreBytes-nil}
 pub use Rattle.bitpack_lists.proofs.lemmas.laws.Existence2.{text_of2}
 pub use Rattle.bitpack_lists.proofs.lemmas.blocks.ValueFaults.{few_values, in_order}
-pub use Rattle.bitpack_lists.proofs.lemmas.opened.Versions.{either_right2}
+pub use Rattle.bitpack_lists.proofs.lemmas.opened.FirstBytes.{any_right2}
 
 -- the bytes of the blocks before block i, and those of block i
 pub sizes_more : (lanes i : ℕ) (widths : List ℕ) → i < length widths

@@ -3,7 +3,7 @@ use Rattle.std.specs.Prelude.{◌≡◌, ℕ, ◌+◌, ◌-◌, ◌≤◌, List,
 use Rattle.bitpacking.specs.declared.bit_packer.BitPacker.{Ghosts}
 use Rattle.bitpack_lists.specs.declared.opened.cursor.Cursor.{Cursor}
 use Rattle.bitpack_lists.specs.Moves.{position_of}
-use Rattle.bitpack_lists.specs.Opened.{values}
+use Rattle.bitpack_lists.specs.Opened.{CanSearch, values}
 
 module _ {P : Type 0} {members : Ghosts P} (cursor : Cursor P members) where
   -- how many values are before it
@@ -21,6 +21,10 @@ module _ {P : Type 0} {members : Ghosts P} (cursor : Cursor P members) where
   -- the values of its list
   abbrev pub values_of_cursor : List ℕ
   values_of_cursor = values cursor.list
+
+  -- its list can be searched
+  abbrev pub CanSeek : Type 0
+  CanSeek = CanSearch cursor.list
 
   -- those from its position on
   abbrev pub values_left : List ℕ

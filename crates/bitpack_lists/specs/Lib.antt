@@ -1,4 +1,5 @@
 -- The definitions of this crate.
+pub mod BitSets
 pub mod Blocks
 pub mod Chains
 pub mod Cursors
@@ -7,7 +8,9 @@ pub mod inner
 pub mod Intersections
 pub mod Laws
 pub mod Laws3
+pub mod Laws4
 pub mod Moves
+pub mod Newest
 pub mod Numbers
 pub mod OfKind
 pub mod Older
@@ -23,6 +26,8 @@ pub mod Texts
 pub mod Version1
 pub mod Version2
 pub mod Version3
+pub mod Version4
 pub mod WorkedOlderTexts
 pub mod WorkedTexts
+pub mod WorkedTexts4
 pub mod Written

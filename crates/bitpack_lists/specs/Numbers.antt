@@ -1,8 +1,9 @@
 -- Numbers of the format: seven bits a byte, the lowest first, with 128 added to every byte but the last. A number has five bytes at most.
-use Rattle.std.specs.Prelude.{ℕ, zero, suc, ◌+◌, ◌/◌, ◌%◌, ◌^◌, ◌&&◌, ◌==◌, nat_lt, nat_le, if◌then◌else◌, List, [], ◌∷◌, length, slice_index, Option, Some, None}
+use Rattle.std.specs.Prelude.{ℕ, zero, suc, max, ◌+◌, ◌*◌, ◌/◌, ◌%◌, ◌^◌, ◌&&◌, ◌==◌, nat_lt, nat_le, if◌then◌else◌, List, [], ◌∷◌, length, slice_index, Option, Some, None}
+use Rattle.std.specs.Option.{option_or}
 use Rattle.bitpacking.specs.Words.{joined}
 use Rattle.bitpack_lists.specs.declared.list_error.ListError.{ListError}
-use Rattle.bitpack_lists.specs.declared.list_error.ListError.TheVariants.{Short, BadNumber}
+use Rattle.bitpack_lists.specs.declared.list_error.ListError.TheVariants.{Short, BadNumber, TooLong}
 
 -- the bytes of a number, at most the given number of them
 unfoldable pub number_in : ℕ → ℕ → List ℕ
@@ -35,3 +36,26 @@ number_fault bytes =
     else if slice_index bytes (going_on 5 bytes) == 0 && nat_lt 0 (going_on 5 bytes) then Some BadNumber
     else if nat_le (2 ^ 32) (number_value bytes) then Some BadNumber
     else None
+
+-- the first fault of the number at the front as a count that is at least `least`
+unfoldable pub count_fault : ℕ → List ℕ → Option ListError
+count_fault least bytes =
+    option_or (number_fault bytes)
+    (if nat_lt (number_value bytes) least then Some BadNumber
+    else if nat_lt (2 ^ 28) (number_value bytes) then Some (TooLong (number_value bytes))
+    else None)
+
+-- ---- integers of one to four bytes
+
+-- the least count of bytes that hold a word
+abbrev pub byte_count : ℕ → ℕ
+byte_count x = if nat_lt x (2 ^ 8) then 1 else if nat_lt x (2 ^ 16) then 2 else if nat_lt x (2 ^ 24) then 3 else 4
+
+-- number m of some that have `len` bytes each, the lowest byte first
+unfoldable pub short_at : ℕ → List ℕ → ℕ → ℕ
+short_at len bytes m = joined 8 (λ i. slice_index bytes (len * m + i)) len
+
+-- the greatest of the first `count` numbers
+abbrev pub greatest : (ℕ → ℕ) → ℕ → ℕ
+greatest number zero = 0
+greatest number (suc count) = max (greatest number count) (number count)

@@ -5,7 +5,7 @@ use Rattle.bitpack_lists.specs.declared.list_kind.ListKind.{ListKind}
 use Rattle.bitpack_lists.specs.declared.list_error.ListError.{ListError}
 use Rattle.bitpack_lists.specs.declared.list_error.ListError.TheVariants.{WrongKind}
 use Rattle.bitpack_lists.specs.Parts.{kind_byte, kind_of_byte}
-use Rattle.bitpack_lists.specs.Texts.{fault_of_either, stated_kind, version_in}
+use Rattle.bitpack_lists.specs.Texts.{fault_of_any, stated_kind, version_in}
 use Rattle.bitpack_lists.specs.Version2.{fault2}
 
 -- the fault of a list of one kind if another is wanted
@@ -16,6 +16,6 @@ kind_fault found wanted = if kind_byte found == kind_byte wanted then None else 
 abbrev pub fault2_as : ℕ → ListKind → List ℕ → Option ListError
 fault2_as lanes kind bytes = option_or (fault2 lanes bytes) (kind_fault (kind_of_byte (slice_index bytes 1)) kind)
 
--- and of bytes as the text of version 2 or 3 of a list of this kind
-abbrev pub fault_of_either_as : ℕ → ListKind → List ℕ → Option ListError
-fault_of_either_as lanes kind bytes = option_or (fault_of_either lanes bytes) (kind_fault (stated_kind (version_in bytes) bytes) kind)
+-- and of bytes as the text, of the version that they say, of a list of this kind
+abbrev pub fault_of_any_as : ℕ → ListKind → List ℕ → Option ListError
+fault_of_any_as lanes kind bytes = option_or (fault_of_any lanes bytes) (kind_fault (stated_kind (version_in bytes) bytes) kind)

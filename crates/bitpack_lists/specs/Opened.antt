@@ -6,7 +6,8 @@ use Rattle.bitpack_lists.specs.declared.opened.PackedList.{PackedList}
 use Rattle.bitpack_lists.specs.declared.list_kind.ListKind.{ListKind}
 use Rattle.bitpack_lists.specs.declared.version.Version.{Version}
 use Rattle.bitpack_lists.specs.Parts.{whole_blocks}
-use Rattle.bitpack_lists.specs.Texts.{value_in}
+use Rattle.bitpack_lists.specs.Places.{InOrder}
+use Rattle.bitpack_lists.specs.Texts.{MarksLast, value_in}
 
 module _ {P : Type 0} {members : Ghosts P} (list : PackedList P members) where
   -- the count of whole blocks, and what is after the header
@@ -39,3 +40,7 @@ first_of value count = map value (range_with_len 0 count)
 -- its values
 abbrev pub values : {P : Type 0} {members : Ghosts P} → PackedList P members → List ℕ
 values list = first_of (value_of list) list.count
+
+-- it can be searched: its values are in order, and the mark of each block is its last value
+abbrev pub CanSearch : {P : Type 0} {members : Ghosts P} → PackedList P members → Type 0
+CanSearch list = InOrder (values list) × MarksLast (version_of list) (kind_of list)

@@ -8,7 +8,8 @@ use Rattle.bitpacking.specs.Layout.{codes_of, size}
 use Rattle.bitpack_lists.specs.declared.list_kind.ListKind.{ListKind}
 use Rattle.bitpack_lists.specs.declared.list_kind.ListKind.TheVariants as lists
 use Rattle.bitpack_lists.specs.declared.list_error.ListError.{ListError}
-use Rattle.bitpack_lists.specs.declared.list_error.ListError.TheVariants.{Short, BadVersion, BadKind, WrongLanes, TooLong, BadWidth, LooseWidth, BadOffset, BadLast, NotSorted, Trailing, Memory, BadNumber, Padding, WrongKind}
+use Rattle.bitpack_lists.specs.declared.list_error.ListError.TheVariants.{Short, BadVersion, BadKind, WrongLanes, TooLong, BadWidth, LooseWidth, BadOffset, BadLast, NotSorted, Trailing, Memory, BadNumber, Padding, WrongKind, BadSizes, BadBits}
+use Rattle.bitpack_lists.specs.Chains.{next_kind}
 
 -- the number of a refusal
 abbrev pub number_of : ListError → ℕ
@@ -27,6 +28,8 @@ number_of Memory = 12
 number_of BadNumber = 13
 number_of Padding = 14
 number_of (WrongKind found wanted) = 15
+number_of (BadSizes byte) = 16
+number_of (BadBits block) = 17
 
 -- a test finds the fault that there is, if there is one
 abbrev pub FindsFault : {A : Type 0} → Result A ListError → Option ListError → Type 0
@@ -83,6 +86,18 @@ abbrev pub first_kind : ListKind → Kind
 first_kind lists.Plain = blocks.Plain
 first_kind lists.Sorted = blocks.Sorted 0
 first_kind lists.StrictlySorted = blocks.StrictlySorted None
+
+-- the kind of each block, by a function that gives the last value of each block
+abbrev pub kind_after : ListKind → (ℕ → ℕ) → ℕ → Kind
+kind_after kind last zero = first_kind kind
+kind_after kind last (suc block) = next_kind (first_kind kind) (last block)
+
+-- the value at a position, of some blocks and a tail
+unfoldable pub value_in_parts : ℕ → ℕ → (ℕ → List ℕ) → (ℕ → ℕ) → ℕ → ℕ
+value_in_parts lanes blocks block tail position =
+    if nat_lt (position / (32 * lanes)) blocks
+    then slice_index (block (position / (32 * lanes))) (position % (32 * lanes))
+    else tail (position - 32 * lanes * blocks)
 
 -- the bytes of a body, of at most 8 lanes and 32 bits a code
 pub record IsBody (lane_count bits : ℕ) (bytes : List ℕ) : Type 0 where

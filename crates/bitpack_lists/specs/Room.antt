@@ -5,6 +5,7 @@ use Rattle.bitpack_lists.specs.Parts.{tail_values, whole_blocks}
 use Rattle.bitpack_lists.specs.Version1.{List1}
 use Rattle.bitpack_lists.specs.Version2.{List2}
 use Rattle.bitpack_lists.specs.Version3.{List3}
+use Rattle.bitpack_lists.specs.Version4.{List4}
 
 -- bytes that are enough for `count` values in each version: seven, nine for each 32 values, and four for each value
 abbrev pub list_room : ℕ → ℕ
@@ -25,9 +26,15 @@ abbrev pub Longest3 : Type 0
 Longest3 = (lanes : ℕ) (kind : ListKind) (values text : List ℕ) → 0 < lanes → lanes ≤ 8 → List3 lanes kind values text
     → length text ≤ 7 + 9 * whole_blocks lanes (length values) + tail_values lanes (length values) / 32 + 4 * length values
 
+-- a text of version 4 has no more either: at most eight bytes for each whole block, and one for each 32 values of its tail
+abbrev pub Longest4 : Type 0
+Longest4 = (lanes : ℕ) (kind : ListKind) (values text : List ℕ) → 0 < lanes → lanes ≤ 8 → List4 lanes kind values text
+    → length text ≤ 8 + 8 * whole_blocks lanes (length values) + tail_values lanes (length values) / 32 + 4 * length values
+
 -- and so no text of any version is longer than the room for its values
 abbrev pub FitsRoom : Type 0
 FitsRoom = (lanes : ℕ) (kind : ListKind) (values text : List ℕ) → 0 < lanes → lanes ≤ 8
     → (List1 lanes kind values text → length text ≤ list_room (length values))
     × (List2 lanes kind values text → length text ≤ list_room (length values))
     × (List3 lanes kind values text → length text ≤ list_room (length values))
+    × (List4 lanes kind values text → length text ≤ list_room (length values))

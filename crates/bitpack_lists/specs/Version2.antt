@@ -1,6 +1,6 @@
 -- Packed lists of version 2: the header, an entry for each whole block, the bodies of the blocks, and the tail's values. The values
 -- are in the order of their kind. What is after the header is called the rest of the text.
-use Rattle.std.specs.Prelude.{◌≡◌, ℕ, zero, suc, ◌+◌, ◌-◌, ◌*◌, ◌/◌, ◌%◌, ◌^◌, ◌<◌, ◌≤◌, Bool, false, not, ◌&&◌, ◌==◌, nat_lt, nat_le, if◌then◌else◌, List, [], ◌∷◌, ◌++◌, length, take, drop, slice_index, Option, Some, None}
+use Rattle.std.specs.Prelude.{◌≡◌, ℕ, zero, suc, ◌+◌, ◌-◌, ◌*◌, ◌^◌, ◌<◌, ◌≤◌, Bool, false, not, ◌&&◌, ◌==◌, nat_lt, nat_le, if◌then◌else◌, List, [], ◌∷◌, ◌++◌, length, take, drop, slice_index, Option, Some, None}
 use Rattle.std.specs.Option.{option_or, option_map}
 use Rattle.bitpacking.specs.declared.kind.Kind.{Kind}
 use Rattle.bitpacking.specs.Codes.{AreWords, values_of}
@@ -11,8 +11,7 @@ use Rattle.bitpack_lists.specs.declared.list_kind.ListKind.{ListKind}
 use Rattle.bitpack_lists.specs.declared.list_kind.ListKind.TheVariants as lists
 use Rattle.bitpack_lists.specs.declared.list_error.ListError.{ListError}
 use Rattle.bitpack_lists.specs.declared.list_error.ListError.TheVariants.{Short, BadWidth, LooseWidth, BadOffset, BadLast, NotSorted, TooLong, Trailing}
-use Rattle.bitpack_lists.specs.Chains.{next_kind}
-use Rattle.bitpack_lists.specs.Parts.{BeginsWithHeader, count_of, first_kind, header_fault, is_loose, kind_of_byte, tail_values, whole_blocks}
+use Rattle.bitpack_lists.specs.Parts.{BeginsWithHeader, count_of, header_fault, is_loose, kind_after, kind_of_byte, tail_values, value_in_parts, whole_blocks}
 
 -- ---- the order of a list
 
@@ -55,8 +54,7 @@ widths_before rest (suc block) = widths_before rest block + width_at rest block
 
 -- the kind of a block: it goes on from the last value that the entry before gives
 abbrev pub kind_at : ListKind → List ℕ → ℕ → Kind
-kind_at kind rest zero = first_kind kind
-kind_at kind rest (suc block) = next_kind (first_kind kind) (last_at rest block)
+kind_at kind rest = kind_after kind (last_at rest)
 
 -- the body of a block, in a text of `blocks` blocks
 abbrev pub body_start : ℕ → ℕ → List ℕ → ℕ → ℕ
@@ -116,11 +114,8 @@ abbrev pub block_at : ℕ → ℕ → ListKind → List ℕ → ℕ → List ℕ
 block_at lanes blocks kind rest block = values_of (kind_at kind rest block) (codes_of lanes (width_at rest block) (body_at lanes blocks rest block))
 
 -- the value at a position, of `blocks` blocks and a tail
-unfoldable pub value_with : ℕ → ℕ → ListKind → List ℕ → (ℕ → ℕ) → ℕ → ℕ
-value_with lanes blocks kind rest tail position =
-    if nat_lt (position / (32 * lanes)) blocks
-    then slice_index (block_at lanes blocks kind rest (position / (32 * lanes))) (position % (32 * lanes))
-    else tail (position - 32 * lanes * blocks)
+abbrev pub value_with : ℕ → ℕ → ListKind → List ℕ → (ℕ → ℕ) → ℕ → ℕ
+value_with lanes blocks kind rest = value_in_parts lanes blocks (block_at lanes blocks kind rest)
 
 -- and of the tail that follows the bodies as words
 abbrev pub value_at : ℕ → ℕ → ListKind → List ℕ → ℕ → ℕ

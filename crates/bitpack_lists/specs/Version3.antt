@@ -5,9 +5,9 @@ use Rattle.std.specs.Option.{option_or}
 use Rattle.bitpacking.specs.Codes.{AreWords, codes, values_of}
 use Rattle.bitpack_lists.specs.declared.list_kind.ListKind.{ListKind}
 use Rattle.bitpack_lists.specs.declared.list_error.ListError.{ListError}
-use Rattle.bitpack_lists.specs.declared.list_error.ListError.TheVariants.{Short, BadVersion, BadKind, WrongLanes, TooLong, BadNumber}
+use Rattle.bitpack_lists.specs.declared.list_error.ListError.TheVariants.{Short, BadVersion, BadKind, WrongLanes}
 use Rattle.bitpack_lists.specs.Groups.{AreGroups, after_groups, groups_codes, groups_fault, groups_of}
-use Rattle.bitpack_lists.specs.Numbers.{number, number_end, number_fault, number_value}
+use Rattle.bitpack_lists.specs.Numbers.{count_fault, number, number_end, number_fault, number_value}
 use Rattle.bitpack_lists.specs.Parts.{kind_byte, kind_of_byte, tail_values, whole_blocks}
 use Rattle.bitpack_lists.specs.Version2.{HasBlocks, blocks_fault, first_out, kind_at, order_fault, tail_start, trailing_after, value_with}
 
@@ -41,14 +41,6 @@ count3 bytes = if is_counted bytes then number_value (drop 1 bytes) else slice_i
 abbrev pub header_end : List ℕ → ℕ
 header_end bytes = if is_counted bytes then 1 + number_end (drop 1 bytes) else 1
 
--- the first fault of a count that has bytes of its own
-unfoldable pub count_fault : List ℕ → Option ListError
-count_fault bytes =
-    option_or (number_fault bytes)
-    (if nat_lt (number_value bytes) 15 then Some BadNumber
-    else if nat_lt (2 ^ 28) (number_value bytes) then Some (TooLong (number_value bytes))
-    else None)
-
 -- the first fault of a header
 unfoldable pub header_fault3 : ℕ → List ℕ → Option ListError
 header_fault3 lanes bytes =
@@ -56,7 +48,7 @@ header_fault3 lanes bytes =
     else if nat_lt (slice_index bytes 0) 64 then Some (BadVersion (slice_index bytes 0))
     else if slice_index bytes 0 / 16 % 4 == 3 then Some (BadKind 3)
     else if not (lanes_of (slice_index bytes 0 / 64) == lanes) then Some (WrongLanes (lanes_of (slice_index bytes 0 / 64)))
-    else if is_counted bytes then count_fault (drop 1 bytes)
+    else if is_counted bytes then count_fault 15 (drop 1 bytes)
     else None
 
 -- ---- the tail

@@ -5,12 +5,16 @@ use Rattle.bitpack_lists.specs.declared.list_error.ListError.{ListError}
 use Rattle.bitpack_lists.specs.declared.list_error.ListError.TheVariants.{Short}
 use Rattle.bitpack_lists.specs.declared.list_kind.ListKind.{ListKind}
 use Rattle.bitpack_lists.specs.declared.version.Version.{Version}
-use Rattle.bitpack_lists.specs.Texts.{IsText}
+use Rattle.bitpack_lists.specs.Newest.{IsWritten}
 use Rattle.bitpack_lists.specs.Version2.{values_fault}
 
 -- the text of the values is written, and what is after it stays; or they have a fault, or the slice is short for the text, and nothing changed
-pub record WritesText (version : Version) (lanes : ℕ) (kind : ListKind) (values : List ℕ) (result : Result ℕ ListError) (old new : List ℕ) : Type 0 where
-  pub ok : IfOk result (λ len. (text : List ℕ) × AreBytes text × IsText version lanes kind values text × (len ≡ length text) × (new ≡ text ++ drop len old))
+pub record WritesOne (Is : List ℕ → Type 0) (kind : ListKind) (values : List ℕ) (result : Result ℕ ListError) (old new : List ℕ) : Type 0 where
+  pub ok : IfOk result (λ len. (text : List ℕ) × AreBytes text × Is text × (len ≡ length text) × (new ≡ text ++ drop len old))
   pub fault : MatchOption (values_fault kind values) (IfErr result (λ e. e ≡ Short)) (λ fault. result ≡ Err fault)
-  pub room : values_fault kind values ≡ None → OnErr result ((text : List ℕ) → IsText version lanes kind values text → length old < length text)
+  pub room : values_fault kind values ≡ None → OnErr result ((text : List ℕ) → Is text → length old < length text)
   pub unchanged : OnErr result (new ≡ old)
+
+-- the text of a version
+abbrev pub WritesText : Version → ℕ → ListKind → List ℕ → Result ℕ ListError → List ℕ → List ℕ → Type 0
+WritesText version lanes kind values = WritesOne (IsWritten version lanes kind values) kind values

@@ -8,8 +8,9 @@
 ghost use Rattle.std.specs.Prelude.{◌≡◌, None};
 ghost use Rattle.bitpack_lists.specs.Laws.{ChainsReadBack, CommonIsShort, FirstIsFound, HasText1, HasText2, LooseFitsSmaller, NeitherFalls, NoFault1, NoFault2, OneCommon, OneList1, OneList2, OneText1, OneText2, SameBodies, SortedIsOrder, StrictIsOrder};
 ghost use Rattle.bitpack_lists.specs.Laws3.{GroupReadsBack, GroupsAreRead, GroupsReadBack, HasText3, NoFault3, NumberReadsBack, OneGroup, OneGroupOfCodes, OneList3, OneNumber, OneText3, OneVersion, SameBlocks3};
+ghost use Rattle.bitpack_lists.specs.Laws4.{BodyIsRead, BodyReadsBack, HasText4, NoFault4, NotAnother4, OneBitsOfBlock, OneBlockOfBits, OneBody, OneList4, OneText4, SameBodies4, SizeTells};
 ghost use Rattle.bitpack_lists.specs.Opened.{kind_of, text, values, version_of};
-ghost use Rattle.bitpack_lists.specs.Room.{FitsRoom, Longest1, Longest2, Longest3};
+ghost use Rattle.bitpack_lists.specs.Room.{FitsRoom, Longest1, Longest2, Longest3, Longest4};
 ghost use Rattle.bitpack_lists.specs.Texts.{IsText, IsTextOfNoOther};
 ghost use Rattle.bitpack_lists.specs.Version2.{first_out};
 
@@ -48,6 +49,7 @@ pub fn text_fits()
     ensures one { Longest1 }
     ensures two { Longest2 }
     ensures three { Longest3 }
+    ensures four { Longest4 }
     ensures room { FitsRoom }
 {}
 
@@ -106,4 +108,37 @@ pub fn one_group()
     ensures codes { OneGroupOfCodes }
     ensures tail { GroupsAreRead }
     ensures tail_back { GroupsReadBack }
+{}
+
+/// Values of a block or more have one text of version 4, and such a text belongs to one kind and one list. Bytes have no fault exactly if they
+/// are a text.
+pub fn one_text4()
+    ensures text { OneText4 }
+    ensures exists { HasText4 }
+    ensures list { OneList4 }
+    ensures fault { NoFault4 }
+{}
+
+/// A text of version 4 is refused by the readers of the others, and their texts by the reader of version 4.
+pub fn one_version4()
+    ensures { NotAnother4 }
+{}
+
+/// The body of a block of a sorted list is the same bytes in versions 2 and 4, and so is the body of a packed block of a strict list.
+pub fn same_bodies4()
+    ensures { SameBodies4 }
+{}
+
+/// A strict block is exactly one bit set, and a bit set exactly one strict block. Its size tells which form a body has.
+pub fn one_bit_set()
+    ensures block { OneBlockOfBits }
+    ensures bits { OneBitsOfBlock }
+    ensures size { SizeTells }
+{}
+
+/// A block has one size and one body. A body without a fault is the body of the block that is read from it, and the body of a block has no fault.
+pub fn one_body()
+    ensures one { OneBody }
+    ensures read { BodyIsRead }
+    ensures back { BodyReadsBack }
 {}

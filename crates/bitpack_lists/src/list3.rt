@@ -16,8 +16,8 @@ ghost use Rattle.bitpack_lists.specs.Version3.{HasCode, List3};
 use crate::list_error::ListError;
 use crate::list_kind::ListKind;
 pub use crate::v3::upgrading::upgrade;
+use crate::v3::writing::{append_older, older_len, write_older};
 use crate::version::Version;
-use crate::writing::{append_list, list_len, write_list};
 use bitpacking::BitPacker;
 
 /// Appends the text of version 3 of the values, which have to be in the order of their kind, as for `list2::encode`.
@@ -45,7 +45,7 @@ pub fn encode<P: BitPacker>(
         → vec_capacity out.old < vec_len out.old + length text) }
     ensures unchanged { OnErr result ((out.new.items ≡ out.old.items) × (vec_capacity out.new ≡ vec_capacity out.old)) }
 {
-    append_list(Version::Three, packer, kind, values, out)
+    append_older(Version::Three, packer, kind, values, out)
 }
 
 /// Writes the text of version 3 of the values at the start of the slice, and returns its length in bytes. Allocates nothing.
@@ -71,7 +71,7 @@ pub fn encode_to<P: BitPacker>(
         → OnErr result ((text : List ℕ) → List3 P.lanes kind values.now text → length bytes.old < length text) }
     ensures unchanged { OnErr result (bytes.new ≡ bytes.old) }
 {
-    write_list(Version::Three, packer, kind, values, bytes)
+    write_older(Version::Three, packer, kind, values, bytes)
 }
 
 /// The length in bytes of the text of version 3 of the values, which have to be in the order of their kind, as for [`encode`].
@@ -85,5 +85,5 @@ pub fn encoded_len<P: BitPacker>(
     // Values with a fault are refused for the first.
     ensures fault { MatchOption (values_fault kind values.now) (IsOk result) (λ fault. result ≡ Err fault) }
 {
-    list_len(Version::Three, packer, kind, values)
+    older_len(Version::Three, packer, kind, values)
 }

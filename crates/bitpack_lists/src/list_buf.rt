@@ -1,7 +1,7 @@
 //! A packed list that owns its text.
 
 ghost use Rattle.std.specs.Prelude.{◌≡◌, None};
-ghost use Rattle.bitpack_lists.specs.Texts.{fault_of_either};
+ghost use Rattle.bitpack_lists.specs.Texts.{fault_of_any};
 
 use crate::list_error::ListError;
 use crate::list_kind::ListKind;
@@ -22,7 +22,7 @@ use std::alloc::Global;
 pub struct ListBuf<P: BitPacker> {
     packer: P,
     bytes: Vec<u8>,
-    pub ghost sound: { fault_of_either P.lanes bytes.items ≡ None },
+    pub ghost sound: { fault_of_any P.lanes bytes.items ≡ None },
 }
 
 impl<P: BitPacker> ListBuf<P> {
@@ -52,9 +52,9 @@ impl<P: BitPacker> ListBuf<P> {
 
     /// Opens a text of version 2 or 3, whichever its first byte says, as [`ListBuf::open`] does.
     pub fn open_any(packer: P, bytes: Vec<u8>) -> Result<ListBuf<P>, (ListError, Vec<u8>)>
-        ensures sound { IfOk result (λ _. fault_of_either P.lanes bytes.items ≡ None) }
+        ensures sound { IfOk result (λ _. fault_of_any P.lanes bytes.items ≡ None) }
         ensures bytes { IfOk result (λ list. bytes_of_buf list ≡ bytes.items) }
-        ensures fault { IfErr result (λ refused. fault_of_either P.lanes bytes.items ≡ Some refused.0) }
+        ensures fault { IfErr result (λ refused. fault_of_any P.lanes bytes.items ≡ Some refused.0) }
         ensures back { IfErr result (λ refused. refused.1 ≡ bytes) }
     {
         match PackedList::open_any(packer, bytes.as_slice()) {
@@ -108,7 +108,7 @@ impl<P: BitPacker> ListBuf<P> {
     /// The vector with the text.
     pub fn into_bytes(self) -> Vec<u8>
         ensures bytes { result.items ≡ bytes_of_buf self }
-        ensures sound { fault_of_either P.lanes result.items ≡ None }
+        ensures sound { fault_of_any P.lanes result.items ≡ None }
     {
         self.bytes
     }

@@ -22,11 +22,12 @@ pub enum ListError {
     TooLong(usize),
     /// The width byte of this block is above 32.
     BadWidth(usize, u8),
-    /// The width byte of this block is not the least width of its codes.
+    /// The block has this width or size, and a smaller one holds it: the codes fit a smaller width, or its other form is shorter.
     LooseWidth(usize, u8),
-    /// The offset of this block is not the sum of the widths before it.
+    /// The offset of this block is not the sum of the widths before it; or in version 4, its end is below the one before it, or more than 32
+    /// above it.
     BadOffset(usize),
-    /// The last value of this block is not the one that its entry gives.
+    /// The last value of this block is not the one that its entry gives; or in a plain list of version 4, its least value is not its mark.
     BadLast(usize),
     /// The value at this position is the first out of order.
     NotSorted(usize),
@@ -40,10 +41,14 @@ pub enum ListError {
     Padding,
     /// The list is of the first kind, and the caller asked for the second.
     WrongKind(ListKind, ListKind),
+    /// The byte of the sizes, in a text of version 4, does not say the least counts of bytes from 1 to 4.
+    BadSizes(u8),
+    /// The bit set of this block does not have as many bits as a block has values, or ends with another value than its mark.
+    BadBits(usize),
 }
 
 impl ListError {
-    /// The number of the refusal: from 1 to 15 in the order of the variants.
+    /// The number of the refusal: from 1 to 17 in the order of the variants.
     pub fn number(&self) -> u8
         ensures { result ≡ number_of self.now }
     {
@@ -63,6 +68,8 @@ impl ListError {
             ListError::BadNumber => 13,
             ListError::Padding => 14,
             ListError::WrongKind(_, _) => 15,
+            ListError::BadSizes(_) => 16,
+            ListError::BadBits(_) => 17,
         }
     }
 }
@@ -83,13 +90,13 @@ impl fmt::Display for ListError {
             ListError::LooseWidth(block, width) => {
                 write!(
                     f,
-                    "block {block} has width {width}, and a smaller one holds it"
+                    "block {block} has size {width}, and a smaller one holds it"
                 )
             }
             ListError::BadOffset(block) => {
                 write!(
                     f,
-                    "the offset of block {block} is not the sum of the widths before it"
+                    "block {block} does not begin where the one before it ends"
                 )
             }
             ListError::BadLast(block) => {
@@ -107,6 +114,15 @@ impl fmt::Display for ListError {
             ListError::Padding => write!(f, "a bit is set after the last code of a group"),
             ListError::WrongKind(found, wanted) => {
                 write!(f, "the list is {found}, not {wanted}")
+            }
+            ListError::BadSizes(byte) => {
+                write!(f, "{byte} does not say the least sizes of ends and marks")
+            }
+            ListError::BadBits(block) => {
+                write!(
+                    f,
+                    "the bit set of block {block} is not one of a block that ends with its mark"
+                )
             }
         }
     }

@@ -1,4 +1,4 @@
-//! A packed list of version 2 or 3, read in place: it borrows its text.
+//! A packed list of version 2, 3 or 4, read in place: it borrows its text.
 
 mod blocks;
 mod copying;
@@ -16,14 +16,13 @@ mod search;
 mod tail;
 mod versions;
 
-ghost use Rattle.std.specs.Prelude.{◌≡◌, ◌^◌, ◌≤◌, drop};
+ghost use Rattle.std.specs.Prelude.{◌≡◌, ◌≢◌, ◌^◌, ◌≤◌, drop};
 ghost use Rattle.bitpacking.specs.Bits.{AreBytes};
 ghost use Rattle.bitpack_lists.specs.declared.version.Version.{Version};
 ghost use Rattle.bitpack_lists.specs.Parts.{whole_blocks};
-ghost use Rattle.bitpack_lists.specs.Texts.{States};
-ghost use Rattle.bitpack_lists.specs.Version2.{kind_at, tail_start};
+ghost use Rattle.bitpack_lists.specs.Texts.{States, kind_in, tail_start_in};
 
-use crate::blocks::reads::{Entry, Reads};
+use crate::blocks::reads::Reads;
 use crate::header::{HEADER_LEN, Header};
 use crate::list_error::ListError;
 use crate::list_kind::{ListKind, next_kind};
@@ -49,21 +48,21 @@ pub struct PackedList<'a, P: BitPacker> {
     // What is after the header, and its end.
     rest: &'a [u8],
     tail: &'a [u8],
-    // What is packed in a tail of version 3 in place of its values.
+    // What is packed in a tail of groups in place of its values.
     tail_kind: Kind,
     // The text has no fault, so that it is the text of a list, which is of this kind and has this count of values.
     pub ghost are_bytes: { AreBytes bytes.now },
     ghost few: { count ≤ 2 ^ 28 },
     ghost states: { States version P.lanes bytes.now kind count rest.now },
-    ghost tail_is: { tail.now ≡ drop (tail_start P.lanes (whole_blocks P.lanes count) rest.now) rest.now },
-    ghost tail_kind_is: { version ≡ Version.Three → tail_kind ≡ kind_at kind rest.now (whole_blocks P.lanes count) },
+    ghost tail_is: { tail.now ≡ drop (tail_start_in version P.lanes (whole_blocks P.lanes count) rest.now) rest.now },
+    ghost tail_kind_is: { version ≢ Version.Two
+        → tail_kind ≡ kind_in version (whole_blocks P.lanes count) kind rest.now (whole_blocks P.lanes count) },
 }
 
-/// A whole block of a list: which it is, its entry, and what is packed in place of its values.
+/// A whole block of a list: which it is, and what is packed in place of its values.
 #[derive(Clone, Copy)]
 pub(crate) struct ListBlock {
     pub(crate) number: usize,
-    pub(crate) entry: Entry,
     pub(crate) kind: Kind,
 }
 
@@ -185,14 +184,14 @@ impl<'a, P: BitPacker> PackedList<'a, P> {
 impl<'a, P: BitPacker> PackedList<'a, P> {
     ghost use Rattle.std.specs.Prelude.{◌+◌, ◌*◌, ◌<◌, ◌≤◌, length, take, slice_index};
     ghost use Rattle.bitpacking.specs.Codes.{start, values_of};
-    ghost use Rattle.bitpack_lists.specs.inner.Searching.{IsListBlock, ReadsEntries, block_of_list, blocks_of, rest_of};
+    ghost use Rattle.bitpack_lists.specs.inner.Searching.{IsListBlock, ReadsEntries, block_of_list, blocks_of, kind_of_list, mark_of_list};
+    ghost use Rattle.bitpack_lists.specs.declared.version.Version.{Version};
     ghost use Rattle.bitpack_lists.specs.inner.BlockCodes.{codes_of_list};
-    ghost use Rattle.bitpack_lists.specs.Version2.{kind_at, last_at, offset_at, width_at};
 
-    /// The kind of a block, which goes on from the last value of the block before.
+    /// The kind of a block, which goes on from the mark of the block before.
     fn kind_of_block(&self, block: usize, reads: &mut Reads) -> Kind
         requires { block < blocks_of self.now }
-        ensures kind { result ≡ kind_at self.now.kind (rest_of self.now) block }
+        ensures kind { result ≡ kind_of_list self.now block }
         ensures reads { ReadsEntries reads.old reads.new }
         ensures one { reads.new.entries ≤ reads.old.entries + 1 }
     {
@@ -200,19 +199,20 @@ impl<'a, P: BitPacker> PackedList<'a, P> {
         if block == 0 {
             return first;
         }
-        next_kind(first, self.entry(block - 1, reads).last)
+        next_kind(first, self.mark(block - 1, reads))
     }
 
-    /// Reads the entry of a block, which is in the text.
-    pub(crate) fn entry(&self, block: usize, reads: &mut Reads) -> Entry
+    /// Reads the mark of a block: its last value, or the least of a plain block in version 4.
+    pub(crate) fn mark(&self, block: usize, reads: &mut Reads) -> u32
         requires { block < blocks_of self.now }
-        ensures width { result.width ≡ width_at (rest_of self.now) block }
-        ensures offset { result.offset ≡ offset_at (rest_of self.now) block }
-        ensures last { result.last ≡ last_at (rest_of self.now) block }
+        ensures mark { result ≡ mark_of_list self.now block }
         ensures entries { reads.new.entries ≡ reads.old.entries + 1 }
         ensures blocks { reads.new.blocks ≡ reads.old.blocks }
     {
-        reads.read_entry(self.rest, block)
+        match self.version {
+            Version::Four => reads.read_mark4(self.count / P::BLOCK_LEN, self.rest, block),
+            _ => reads.read_last(self.rest, block),
+        }
     }
 
     /// Unpacks a block, whose body is in the text.
@@ -223,19 +223,30 @@ impl<'a, P: BitPacker> PackedList<'a, P> {
         ensures entries { reads.new.entries ≡ reads.old.entries }
         ensures blocks { reads.new.blocks ≡ reads.old.blocks + 1 }
     {
-        self.unpack_block_as(block, block.kind, values, reads);
+        match self.version {
+            Version::Four => reads.unpack_block4(
+                &self.packer,
+                block.kind,
+                block.number,
+                self.count / P::BLOCK_LEN,
+                self.rest,
+                values,
+            ),
+            _ => self.unpack_block_as(block.number, block.kind, values, reads),
+        }
     }
 
-    // Unpacks a block as one of a kind, which need not be its own.
-    fn unpack_block_as(&self, block: ListBlock, kind: Kind, values: &mut [u32], reads: &mut Reads)
-        requires can { IsListBlock self.now block × (start kind < 2 ^ 32) × (P.BLOCK_LEN ≤ length values.old) }
-        ensures block { take P.BLOCK_LEN values.new ≡ values_of kind (codes_of_list self.now block.number) }
+    // Unpacks a block of version 2 or 3 as one of a kind, which need not be its own.
+    fn unpack_block_as(&self, block: usize, kind: Kind, values: &mut [u32], reads: &mut Reads)
+        requires version { self.now.version ≢ Version.Four }
+        requires can { (block < blocks_of self.now) × (start kind < 2 ^ 32) × (P.BLOCK_LEN ≤ length values.old) }
+        ensures block { take P.BLOCK_LEN values.new ≡ values_of kind (codes_of_list self.now block) }
         ensures reads { (reads.new.entries ≡ reads.old.entries) × (reads.new.blocks ≡ reads.old.blocks + 1) }
     {
-        reads.unpack_body(
+        reads.unpack_block(
             &self.packer,
             kind,
-            block.entry,
+            block,
             self.count / P::BLOCK_LEN,
             self.rest,
             values,

@@ -3,13 +3,15 @@
 ghost use Rattle.std.specs.Prelude.{◌≡◌};
 ghost use Rattle.bitpack_lists.specs.Outlines.{version_number, version_of_number};
 
-/// The version of a text that is read in place. Versions 2 and 3 differ in the header and in the tail.
+/// The version of a text that is read in place. Versions 2 and 3 differ in the header and in the tail, and version 4 in the blocks too.
 #[derive(Clone, Copy, PartialEq, Eq)]
 pub enum Version {
     /// A header of seven bytes, and a tail of words.
     Two,
     /// A header of one to six bytes, and a tail in groups of 32 codes.
     Three,
+    /// A short header, an end and a mark for each block, bodies that may be bit sets, and a tail in groups. It has a block at least.
+    Four,
 }
 
 impl Version {
@@ -20,16 +22,20 @@ impl Version {
         match self {
             Version::Two => 2,
             Version::Three => 3,
+            Version::Four => 4,
         }
     }
 
-    /// The version of a number, which is 2 or 3.
+    /// The version of a number, which is 2, 3 or 4.
     pub(crate) fn numbered(number: u8) -> Version
         ensures { result ≡ version_of_number number }
     {
         if number < 3 {
             return Version::Two;
         }
-        Version::Three
+        if number == 3 {
+            return Version::Three;
+        }
+        Version::Four
     }
 }

@@ -1,8 +1,8 @@
 //! A sorted cursor over a packed list.
 
 ghost use Rattle.std.specs.Prelude.{◌≡◌, ◌+◌, slice_get};
-ghost use Rattle.bitpack_lists.specs.Cursors.{position, values_left, values_of_cursor};
-ghost use Rattle.bitpack_lists.specs.Places.{InOrder, IsSoughtFrom};
+ghost use Rattle.bitpack_lists.specs.Cursors.{CanSeek, position, values_left, values_of_cursor};
+ghost use Rattle.bitpack_lists.specs.Places.{IsSoughtFrom};
 ghost use Rattle.bitpack_sorted.specs.Distinct.{distinct};
 ghost use Rattle.bitpack_sorted.specs.DistinctLaws.{increasing_rest};
 
@@ -16,7 +16,7 @@ use bitpacking::BitPacker;
 #[derive(Drop)]
 pub struct DistinctValues<'a, P: BitPacker> {
     cursor: Cursor<'a, P>,
-    ghost ordered: { InOrder (values_of_cursor cursor) },
+    ghost ordered: { CanSeek cursor },
 }
 
 impl<'a, P: BitPacker> DistinctValues<'a, P> {
@@ -24,7 +24,7 @@ impl<'a, P: BitPacker> DistinctValues<'a, P> {
 
     /// The values from the place of the cursor on.
     pub fn new(cursor: Cursor<'a, P>) -> DistinctValues<'a, P>
-        requires { InOrder (values_of_cursor cursor) }
+        requires { CanSeek cursor }
         ensures { remaining result ≡ distinct (values_left cursor.entry) }
     {
         DistinctValues { cursor }
@@ -34,7 +34,7 @@ impl<'a, P: BitPacker> DistinctValues<'a, P> {
 impl<'a, P: BitPacker> SortedCursor for DistinctValues<'a, P> {
     ghost rest = { λ ids. distinct (values_left ids.cursor) };
 
-    ghost increasing = { λ ids. increasing_rest (values_of_cursor ids.cursor) (position ids.cursor) ids.ordered };
+    ghost increasing = { λ ids. increasing_rest (values_of_cursor ids.cursor) (position ids.cursor) ids.ordered.0 };
 
     #[inline(always)]
     fn block(&self) -> &[u32] {
@@ -63,7 +63,7 @@ impl<'a, P: BitPacker> SortedCursor for DistinctValues<'a, P> {
 /// Moves value by value to the first above this one, and returns it.
 #[inline(always)]
 fn next_above<P: BitPacker>(cursor: &mut Cursor<'_, P>, value: u32) -> Option<u32>
-    requires { InOrder (values_of_cursor cursor.old) }
+    requires { CanSeek cursor.old }
     ensures list { cursor.new.list ≡ cursor.old.list }
     ensures sought { IsSoughtFrom (values_of_cursor cursor.old) (value + 1)
         (position cursor.old) (position cursor.new) }

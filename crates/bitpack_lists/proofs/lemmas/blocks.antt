@@ -12,6 +12,7 @@ pub mod LooseLemmas
 pub mod MeasuredLengths
 pub mod Orders
 pub mod PartLemmas
+pub mod PartValues
 pub mod ReadSteps
 pub mod RestFaults
 pub mod RestLemmas

@@ -6,3 +6,4 @@ pub mod OrderLaws
 pub mod TextLengths
 pub mod WorkedOlderProofs
 pub mod WorkedProofs
+pub mod WorkedProofs4

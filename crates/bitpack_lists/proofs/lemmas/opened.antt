@@ -4,6 +4,7 @@ pub mod CopyBlocks
 pub mod CopySteps
 pub mod CursorPlaces
 pub mod CursorSteps
+pub mod FirstBytes
 pub mod GatherSteps
 pub mod HalvingSteps
 pub mod KindFaults
@@ -12,8 +13,10 @@ pub mod OpenedValues
 pub mod OutlineSteps
 pub mod ReadParts
 pub mod SearchSteps
+pub mod StatedTexts
 pub mod TailFronts
 pub mod TailSearch
+pub mod TextBlocks
 pub mod TextsOfKind
 pub mod ValueSums
 pub mod Versions

@@ -16,12 +16,16 @@ pub record HasAppended {X A : Type 0} (old new : Vec X A) (part : List X) : Type
   pub capacity : vec_capacity old ≤ vec_capacity new
 
 -- the text of the values is appended; or they are refused for their first fault, or memory ran out for want of room, and nothing changed
-pub record AppendsText {X A : Type 0} (version : Version) (lanes : ℕ) (kind : ListKind) (values : List ℕ) (result : Result X ListError)
+pub record AppendsOne {X A : Type 0} (Is : List ℕ → Type 0) (kind : ListKind) (values : List ℕ) (result : Result X ListError)
     (old new : Vec ℕ A) : Type 0 where
-  pub ok : OnOk result ((text : List ℕ) × AreBytes text × IsText version lanes kind values text × (new.items ≡ old.items ++ text))
+  pub ok : OnOk result ((text : List ℕ) × AreBytes text × Is text × (new.items ≡ old.items ++ text))
   pub long : 2 ^ 28 < length values → result ≡ Err (TooLong (length values))
   pub order : length values ≤ 2 ^ 28 → MatchOption (first_out kind values) (IfErr result (λ e. e ≡ Memory)) (λ position. result ≡ Err (NotSorted position))
   pub room : length values ≤ 2 ^ 28 → first_out kind values ≡ None
-      → OnErr result ((text : List ℕ) → IsText version lanes kind values text → vec_capacity old < vec_len old + length text)
+      → OnErr result ((text : List ℕ) → Is text → vec_capacity old < vec_len old + length text)
   pub unchanged : OnErr result (new.items ≡ old.items)
   pub kept : OnErr result (vec_capacity new ≡ vec_capacity old)
+
+-- the text of a version
+abbrev pub AppendsText : {X A : Type 0} → Version → ℕ → ListKind → List ℕ → Result X ListError → Vec ℕ A → Vec ℕ A → Type 0
+AppendsText version lanes kind values = AppendsOne (IsText version lanes kind values) kind values

@@ -1,26 +1,27 @@
 -- What the inner functions of a search know of an opened list.
 use Rattle.std.specs.Prelude.{◌≡◌, ℕ, suc, ◌+◌, ◌-◌, ◌*◌, ◌^◌, ◌<◌, ◌≤◌, min, true, false, List, slice_index, take, Option, Some, None, IfSome}
 use Rattle.bitpacking.specs.declared.bit_packer.BitPacker.{Ghosts}
+use Rattle.bitpacking.specs.declared.kind.Kind.{Kind}
 use Rattle.bitpack_lists.specs.declared.opened.ListBlock.{ListBlock}
 use Rattle.bitpack_lists.specs.declared.opened.KeptBlock.{KeptBlock}
 use Rattle.bitpack_lists.specs.declared.opened.PackedList.{PackedList}
 use Rattle.bitpack_lists.specs.declared.blocks.reads.Reads.{Reads}
 pub use Rattle.bitpack_lists.specs.Opened.{blocks_of, rest_of, value_of}
 use Rattle.bitpack_lists.specs.Search.{HasGrown, in_whole_block}
-use Rattle.bitpack_lists.specs.Version2.{block_at, kind_at, last_at, offset_at, width_at}
+use Rattle.bitpack_lists.specs.Texts.{block_in, kind_in, mark_in}
 
--- only entries were read
+-- only marks were read
 pub record ReadsEntries (old new : Reads) : Type 0 where
   pub entries : old.entries ≤ new.entries
   pub blocks : new.blocks ≡ old.blocks
 
--- no entry was read, and at most one block was unpacked
+-- no mark was read, and at most one block was unpacked
 pub record UnpacksOne (old new : Reads) : Type 0 where
   pub entries : new.entries ≡ old.entries
   pub blocks : new.blocks ≤ old.blocks + 1
   pub grown : HasGrown old new
 
--- a search that begins at a number and ends at another reads two entries each time that the distance doubles, and one
+-- a search that begins at a number and ends at another reads two marks each time that the distance doubles, and one
 pub record IsNear (from to old new : ℕ) : Type 0 where
   pub doubled : ℕ
   pub far : from + 2 ^ doubled ≤ to + 1
@@ -29,14 +30,20 @@ pub record IsNear (from to old new : ℕ) : Type 0 where
 module _ {P : Type 0} {members : Ghosts P} (list : PackedList P members) where
   -- the values of each whole block
   abbrev pub block_of_list : ℕ → List ℕ
-  block_of_list = block_at members.lanes (blocks_of list) list.kind (rest_of list)
+  block_of_list = block_in list.version members.lanes (blocks_of list) list.kind (rest_of list)
 
-  -- a whole block, as its entry says
+  -- the mark of each whole block
+  abbrev pub mark_of_list : ℕ → ℕ
+  mark_of_list = mark_in list.version (blocks_of list) (rest_of list)
+
+  -- the kind of each whole block, and of the tail
+  abbrev pub kind_of_list : ℕ → Kind
+  kind_of_list = kind_in list.version (blocks_of list) list.kind (rest_of list)
+
+  -- a whole block, with its kind
   pub record IsListBlock (block : ListBlock) : Type 0 where
     pub within : block.number < blocks_of list
-    pub width : block.entry.width ≡ width_at (rest_of list) block.number
-    pub offset : block.entry.offset ≡ offset_at (rest_of list) block.number
-    pub kind_is : block.kind ≡ kind_at list.kind (rest_of list) block.number
+    pub kind_is : block.kind ≡ kind_of_list block.number
 
   -- what was read is the values of a block, or after all blocks the tail
   pub record HasPart (block len : ℕ) (out : List ℕ) : Type 0 where
@@ -44,27 +51,27 @@ module _ {P : Type 0} {members : Ghosts P} (list : PackedList P members) where
     pub len_is : len ≡ min (32 * members.lanes) (list.count - 32 * members.lanes * block)
     pub values_are : (k : ℕ) → k < len → slice_index out k ≡ value_of list (32 * members.lanes * block + k)
 
-  -- the block before this one ends with a value below the target
+  -- the block before this one has a mark below the target
   abbrev pub EndsBelow : ℕ → ℕ → Type 0
-  EndsBelow target block = (before : ℕ) → suc before ≡ block → last_at (rest_of list) before < target
+  EndsBelow target block = (before : ℕ) → suc before ≡ block → mark_of_list before < target
 
-  -- the first whole block whose last value is at least the target
+  -- the first whole block whose mark is at least the target
   pub record IsFirstBlock (target : ℕ) (block : ListBlock) : Type 0 where
     pub is : IsListBlock block
     pub before : EndsBelow target block.number
-    pub enough : target ≤ last_at (rest_of list) block.number
+    pub enough : target ≤ mark_of_list block.number
 
   -- the number of a block, or the count of blocks
   abbrev pub number_or_all : Option ListBlock → ℕ
   number_or_all None = blocks_of list
   number_or_all (Some block) = block.number
 
-  -- the first whole block from one on whose last value is at least the target, if there is one
+  -- the first whole block from one on whose mark is at least the target, if there is one
   pub record IsFirstFrom (target from : ℕ) (found : Option ListBlock) : Type 0 where
     pub is : IfSome found IsListBlock
     pub forward : from ≤ number_or_all found
     pub before : EndsBelow target (number_or_all found)
-    pub enough : number_or_all found < blocks_of list → target ≤ last_at (rest_of list) (number_or_all found)
+    pub enough : number_or_all found < blocks_of list → target ≤ mark_of_list (number_or_all found)
 
   -- what is kept is the block of its number, if the list has one
   abbrev pub IsKept : KeptBlock → Type 0
@@ -82,7 +89,7 @@ module _ {P : Type 0} {members : Ghosts P} (list : PackedList P members) where
   IsInBlock block answer =
       IfSome answer (λ found. (32 * members.lanes * block ≤ found.0) × (found.0 < 32 * members.lanes * block + 32 * members.lanes))
 
-  -- a search keeps the block of its answer if that is in one, and reads an entry each time that it halves the blocks
+  -- a search keeps the block of its answer if that is in one, and reads a mark each time that it halves the blocks
   pub record KeepsOne (answer : Option (ℕ × ℕ)) (before after : KeptBlock) (old new : Reads) : Type 0 where
     pub kept : IsKept after
     pub entries : (digits : ℕ) → blocks_of list < 2 ^ digits → new.entries ≤ old.entries + digits

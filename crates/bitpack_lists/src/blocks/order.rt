@@ -165,7 +165,7 @@ pub(crate) fn ends_in_order(kind: Kind, width: u8, len: usize, last: u32) -> boo
 }
 
 /// Whether a value is above the one before its block, if there is one.
-fn is_above(before: Option<u32>, last: u32) -> bool
+pub(crate) fn is_above(before: Option<u32>, last: u32) -> bool
     ensures { result ≡ true → IfSome before (λ before. before < last) }
 {
     match before {

@@ -1,5 +1,5 @@
-//! What is read of a packed list: each entry and each block counts in `Reads`. No other code reads an entry of a text or unpacks
-//! a block of one.
+//! What is read of a packed list: each entry, mark and block counts in `Reads`. No other code reads one of these from a text or unpacks
+//! a block of it.
 
 ghost use Rattle.std.specs.Prelude.{◌≡◌, ◌+◌, ◌*◌, ◌≤◌, ◌∷◌, [], length, take, drop, vec_len, vec_capacity, ◌^◌, ◌<◌, ℕ};
 ghost use Rattle.bitpacking.specs.Layout.{size, codes_of};
@@ -7,7 +7,7 @@ ghost use Rattle.bitpacking.specs.Words.{bytes_of_words};
 ghost use Rattle.bitpack_lists.specs.inner.Appending.{HasAppended};
 ghost use Rattle.std.specs.Borrow.{ftrue};
 ghost use Rattle.bitpacking.specs.Codes.{start, values_of};
-ghost use Rattle.bitpack_lists.specs.Version2.{last_at, offset_at, width_at};
+ghost use Rattle.bitpack_lists.specs.Version2.{body_at, body_start, last_at, offset_at, width_at};
 
 use crate::numbers::read_one;
 use crate::reserved::append;
@@ -39,6 +39,21 @@ impl Entry {
         &rest[start..start + 4 * lanes * self.width as usize]
     }
 
+    // The entry of a block. The bytes are the ones after a header.
+    fn read(rest: &[u8], block: usize) -> Entry
+        requires { ENTRY_LEN * block + ENTRY_LEN ≤ length rest.now }
+        ensures width { result.width ≡ width_at rest.now block }
+        ensures offset { result.offset ≡ offset_at rest.now block }
+        ensures last { result.last ≡ last_at rest.now block }
+    {
+        let index = ENTRY_LEN * block;
+        Entry {
+            width: rest[index],
+            offset: read_one(rest, index + 1),
+            last: read_one(rest, index + 5),
+        }
+    }
+
     /// The bytes of the entry.
     pub(crate) fn bytes(self) -> [u8; ENTRY_LEN]
         ensures { result ≡ self.width ∷ bytes_of_words (self.offset ∷ self.last ∷ []) }
@@ -58,6 +73,9 @@ impl Entry {
 }
 
 /// How many entries were read, and how many blocks were unpacked. Values of the tail do not count.
+///
+/// A search reads of an entry only the last value of its block, which counts as one entry. To unpack a block also reads its size, its place
+/// and the value before it: this counts as the block alone.
 ///
 /// It takes no room at run time, and no program can read it: the numbers are for contracts.
 #[derive(Drop)]
@@ -84,8 +102,8 @@ impl Reads {
         }
     }
 
-    // How many entries were read, and how many blocks unpacked.
-    fn record(&mut self, entries: u32, blocks: u32)
+    // How many entries were read, and how many blocks unpacked. Only functions that read or unpack these call it.
+    pub(crate) fn record(&mut self, entries: u32, blocks: u32)
         ensures entries { self.new.entries ≡ self.old.entries + entries }
         ensures blocks { self.new.blocks ≡ self.old.blocks + blocks }
     {}
@@ -100,12 +118,42 @@ impl Reads {
         ensures blocks { self.new.blocks ≡ self.old.blocks }
     {
         self.record(1, 0);
-        let index = ENTRY_LEN * block;
-        Entry {
-            width: rest[index],
-            offset: read_one(rest, index + 1),
-            last: read_one(rest, index + 5),
-        }
+        Entry::read(rest, block)
+    }
+
+    /// Reads the last value of a block. The bytes are those after a header.
+    pub(crate) fn read_last(&mut self, rest: &[u8], block: usize) -> u32
+        requires { ENTRY_LEN * block + ENTRY_LEN ≤ length rest.now }
+        ensures last { result ≡ last_at rest.now block }
+        ensures entries { self.new.entries ≡ self.old.entries + 1 }
+        ensures blocks { self.new.blocks ≡ self.old.blocks }
+    {
+        self.record(1, 0);
+        read_one(rest, ENTRY_LEN * block + 5)
+    }
+
+    /// Unpacks a block, in a list of `blocks` blocks. The bytes are the ones after a header.
+    pub(crate) fn unpack_block<P: BitPacker>(
+        &mut self,
+        packer: &P,
+        kind: Kind,
+        block: usize,
+        blocks: usize,
+        rest: &[u8],
+        values: &mut [u32],
+    )
+        requires entry { ENTRY_LEN * block + ENTRY_LEN ≤ length rest.now }
+        requires width { width_at rest.now block ≤ 32 }
+        requires body { body_start P.lanes blocks rest.now block + size P.lanes (width_at rest.now block)
+            ≤ length rest.now }
+        requires room { P.BLOCK_LEN ≤ length values.old }
+        requires start { start kind < 2 ^ 32 }
+        ensures block { take P.BLOCK_LEN values.new
+            ≡ values_of kind (codes_of P.lanes (width_at rest.now block) (body_at P.lanes blocks rest.now block)) }
+        ensures entries { self.new.entries ≡ self.old.entries }
+        ensures blocks { self.new.blocks ≡ self.old.blocks + 1 }
+    {
+        self.unpack_body(packer, kind, Entry::read(rest, block), blocks, rest, values);
     }
 
     /// Unpacks the block of an entry, in a list of `blocks` blocks. The bytes are the ones after a header.

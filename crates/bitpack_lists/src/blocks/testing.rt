@@ -69,7 +69,7 @@ pub(crate) fn test_blocks<P: BitPacker>(
 }
 
 /// Tests that there are at least `end` bytes.
-fn test_room(bytes: &[u8], end: usize) -> Result<(), ListError>
+pub(crate) fn test_room(bytes: &[u8], end: usize) -> Result<(), ListError>
     ensures { FindsFault result (short_of end bytes.now) }
 {
     if bytes.len() < end {
@@ -150,7 +150,12 @@ fn test_bodies<P: BitPacker>(
 }
 
 /// Tests that the width of a block is the least of its codes, and that the block, of this kind, ends with the value of its entry.
-fn test_block(block: usize, entry: Entry, kind: Kind, codes: &[u32]) -> Result<(), ListError>
+pub(crate) fn test_block(
+    block: usize,
+    entry: Entry,
+    kind: Kind,
+    codes: &[u32],
+) -> Result<(), ListError>
     requires { (entry.width ≤ 32) × (1 ≤ length codes.now) × (length codes.now ≤ MAX_BLOCK_LEN) }
     ensures { (lanes : ℕ) (body : List ℕ) → length codes.now ≡ 32 * lanes
         → codes.now ≡ codes_of lanes entry.width body
@@ -168,14 +173,14 @@ fn test_block(block: usize, entry: Entry, kind: Kind, codes: &[u32]) -> Result<(
 
 /// The codes of a block together: their sum modulo 2 ^ 32, and each bit that one of them has.
 #[derive(Clone, Copy)]
-struct Totals {
-    sum: u32,
-    bits: u32,
+pub(crate) struct Totals {
+    pub(crate) sum: u32,
+    pub(crate) bits: u32,
 }
 
 /// The codes together. No branch depends on a code, so that the compiler adds several at once.
 #[inline(always)]
-fn add_codes(codes: &[u32]) -> Totals
+pub(crate) fn add_codes(codes: &[u32]) -> Totals
     ensures sum { result.sum ≡ sum codes.now % 2 ^ 32 }
     ensures above { (width : ℕ) → result.bits < 2 ^ width → Fits codes.now width }
     ensures below { (width : ℕ) → Fits codes.now width → result.bits < 2 ^ width }

@@ -4,12 +4,11 @@ ghost use Rattle.std.specs.Prelude.{◌≡◌, ◌≢◌, ◌+◌, ◌-◌, ◌*
 ghost use native.Mathlib.Omega.{arith};
 ghost use Rattle.bitpack_lists.specs.declared.list_kind.ListKind.{ListKind};
 ghost use Rattle.bitpack_lists.specs.Blocks.{IsBlockOf, IsFirstReaching, blocks_over};
-ghost use Rattle.bitpack_lists.specs.Opened.{kind_of, values};
+ghost use Rattle.bitpack_lists.specs.Opened.{CanSearch, kind_of, values};
 ghost use Rattle.bitpack_lists.specs.Parts.{whole_blocks};
 ghost use Rattle.bitpack_lists.specs.Places.{InOrder};
 ghost use Rattle.bitpack_lists.specs.Search.{HasGrown};
-ghost use Rattle.bitpack_lists.specs.Version2.{kind_at};
-ghost use Rattle.bitpack_lists.specs.inner.Searching.{HasPart, IsListBlock, ReadsEntries, blocks_of, number_or_all, rest_of};
+ghost use Rattle.bitpack_lists.specs.inner.Searching.{HasPart, IsListBlock, blocks_of, kind_of_list, number_or_all};
 
 use super::read_blocks::ReadBlocks;
 use super::search::DOUBLES;
@@ -23,7 +22,7 @@ impl<'a, P: BitPacker> ReadBlocks for PackedList<'a, P> {
 
     ghost has = { λ list all. all ≡ values list };
 
-    ghost ordered = { λ list. InOrder (values list) };
+    ghost ordered = { λ list. CanSearch list };
 
     ghost none = { λ list all has none. absurd (omega (arith, P.some_lanes, none)) };
 
@@ -33,7 +32,7 @@ impl<'a, P: BitPacker> ReadBlocks for PackedList<'a, P> {
     }
 
     fn read_next(&self, block: usize, before: u32, out: &mut [u32], reads: &mut Reads) -> usize {
-        let part = self.whole_block(block, self.kind_after(block, before), reads);
+        let part = self.whole_block(block, self.kind_after(block, before));
         let (_, len) = self.read_block_or_tail(part, out, reads);
         len
     }
@@ -56,7 +55,7 @@ impl<'a, P: BitPacker> PackedList<'a, P> {
     /// Unpacks the block of a number to the start of a slice, and returns how many values it has. The number of all blocks means the values
     /// that are left after them. The rest of the slice stays as it was.
     ///
-    /// It reads at most two entries.
+    /// Beside the entry of the block it reads at most one.
     pub fn read_block(&self, block: usize, out: &mut [u32], reads: &mut Reads) -> usize
         requires block { block ≤ whole_blocks P.lanes (length (values self.now)) }
         requires room { 32 * P.lanes ≤ length out.old }
@@ -64,7 +63,7 @@ impl<'a, P: BitPacker> PackedList<'a, P> {
         ensures ordered { kind_of self.now ≢ ListKind.Plain → InOrder (take result out.new) }
         ensures few { 32 * P.lanes * block + result ≤ 2 ^ 28 }
         ensures rest { drop result out.new ≡ drop result out.old }
-        ensures entries { reads.new.entries ≤ reads.old.entries + 2 }
+        ensures entries { reads.new.entries ≤ reads.old.entries + 1 }
         ensures one { reads.new.blocks ≤ reads.old.blocks + 1 }
         ensures grown { HasGrown reads.old reads.new }
     {
@@ -73,12 +72,9 @@ impl<'a, P: BitPacker> PackedList<'a, P> {
             let tail = self.count % len;
             return self.read_tail(&mut out[..tail]);
         }
-        let kind = self.kind_of_block(block, reads);
-        let entry = self.entry(block, reads);
         let block = ListBlock {
             number: block,
-            entry,
-            kind,
+            kind: self.kind_of_block(block, reads),
         };
         self.unpack_block(block, &mut out[..len], reads);
         len
@@ -146,7 +142,7 @@ impl<'a, P: BitPacker> PackedList<'a, P> {
     fn kind_after(&self, block: usize, before: u32) -> Kind
         requires block { block ≤ blocks_of self.now }
         requires before { 0 < block → slice_index (values self.now) (32 * P.lanes * block - 1) ≡ before }
-        ensures { result ≡ kind_at self.now.kind (rest_of self.now) block }
+        ensures { result ≡ kind_of_list self.now block }
     {
         let first = self.kind.first();
         if block == 0 {
@@ -156,22 +152,17 @@ impl<'a, P: BitPacker> PackedList<'a, P> {
         }
     }
 
-    /// A block of this kind, or `None` after all blocks. Reads its entry.
-    fn whole_block(&self, number: usize, kind: Kind, reads: &mut Reads) -> Option<ListBlock>
+    /// A block of this kind, or `None` after all blocks.
+    fn whole_block(&self, number: usize, kind: Kind) -> Option<ListBlock>
         requires number { number ≤ blocks_of self.now }
-        requires kind { kind ≡ kind_at self.now.kind (rest_of self.now) number }
+        requires kind { kind ≡ kind_of_list self.now number }
         ensures is { IfSome result (IsListBlock self.now) }
         ensures number { number_or_all self.now result ≡ number }
-        ensures reads { ReadsEntries reads.old reads.new }
     {
         if number >= self.count / P::BLOCK_LEN {
             return None;
         }
-        Some(ListBlock {
-            number,
-            entry: self.entry(number, reads),
-            kind,
-        })
+        Some(ListBlock { number, kind })
     }
 
     /// Unpacks a block, or reads the values of the tail if there is none. Returns its number, or the count of all blocks, and how many

@@ -56,14 +56,9 @@ impl<'a, P: BitPacker> PackedList<'a, P> {
         let first = self.kind.first();
         let mut kind = first;
         for number in 0..self.count / len {
-            let entry = self.entry(number, reads);
-            let block = ListBlock {
-                number,
-                entry,
-                kind,
-            };
+            let block = ListBlock { number, kind };
             self.unpack_block(block, &mut out[number * len..number * len + len], reads);
-            kind = next_kind(first, entry.last);
+            kind = next_kind(first, self.mark(number, reads));
         }
         let tail = self.count % len;
         self.read_tail(&mut out[self.count - tail..]);

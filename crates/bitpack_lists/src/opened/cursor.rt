@@ -2,8 +2,8 @@
 
 ghost use Rattle.std.specs.Prelude.{◌≡◌, ◌≢◌, ℕ, List, ◌+◌, ◌*◌, ◌^◌, ◌<◌, ◌≤◌, length, min};
 ghost use Rattle.bitpack_lists.specs.Moves.{IsAt};
-ghost use Rattle.bitpack_lists.specs.Opened.{blocks_of, values};
-ghost use Rattle.bitpack_lists.specs.Places.{InOrder, IsSoughtFrom};
+ghost use Rattle.bitpack_lists.specs.Opened.{CanSearch, blocks_of, values};
+ghost use Rattle.bitpack_lists.specs.Places.{IsSoughtFrom};
 
 use super::PackedList;
 use super::place::Place;
@@ -30,13 +30,13 @@ pub struct Cursor<'a, P: BitPacker> {
     list: PackedList<'a, P>,
     place: Place,
     reads: Reads,
-    ghost at: { IsAt P.lanes (λ (all : List ℕ). all ≡ values list) (InOrder (values list)) place },
+    ghost at: { IsAt P.lanes (λ (all : List ℕ). all ≡ values list) (CanSearch list) place },
     ghost once: { reads.blocks ≤ min (place.block + 1) (blocks_of list) },
 }
 
 impl<'a, P: BitPacker> PackedList<'a, P> {
     ghost use Rattle.bitpack_lists.specs.declared.list_kind.ListKind.{ListKind};
-    ghost use Rattle.bitpack_lists.specs.Cursors.{position, unpacked, values_of_cursor};
+    ghost use Rattle.bitpack_lists.specs.Cursors.{CanSeek, position, unpacked, values_of_cursor};
     ghost use Rattle.bitpack_lists.specs.Opened.{kind_of, text, version_of};
     ghost use Rattle.bitpack_lists.specs.Texts.{IsText};
 
@@ -47,7 +47,7 @@ impl<'a, P: BitPacker> PackedList<'a, P> {
         // The text is the list of this kind and these values.
         ensures list { IsText (version_of self.now) P.lanes
             (kind_of self.now) (Rattle.bitpack_lists.specs.Opened.values self.now) (text self.now) }
-        ensures ordered { kind_of self.now ≢ ListKind.Plain → InOrder (values_of_cursor result) }
+        ensures ordered { kind_of self.now ≢ ListKind.Plain → CanSeek result }
         ensures first { position result ≡ 0 }
         ensures unpacked { unpacked result ≤ 1 }
     {
@@ -74,13 +74,13 @@ impl<'a, P: BitPacker> PackedList<'a, P> {
 impl<'a, P: BitPacker> Cursor<'a, P> {
     ghost use Rattle.std.specs.Prelude.{false, slice_get, take, true};
     ghost use Rattle.bitpack_lists.specs.declared.list_kind.ListKind.{ListKind};
-    ghost use Rattle.bitpack_lists.specs.Cursors.{HasMoved, block_number, entries_read, left_at_hand, position, unpacked, values_left, values_of_cursor};
+    ghost use Rattle.bitpack_lists.specs.Cursors.{CanSeek, HasMoved, block_number, entries_read, left_at_hand, position, unpacked, values_left, values_of_cursor};
     ghost use Rattle.bitpack_lists.specs.Opened.{kind_of};
     ghost use Rattle.bitpack_lists.specs.Parts.{whole_blocks};
 
     /// Whether the list is sorted or strictly sorted. If it is, its values are in order, which `seek` requires.
     pub fn is_in_order(&self) -> bool
-        ensures sorted { result ≡ true → InOrder (values_of_cursor self.now) }
+        ensures sorted { result ≡ true → CanSeek self.now }
         ensures not_plain { result ≡ true → kind_of self.now.list ≢ ListKind.Plain }
         ensures plain { result ≡ false → kind_of self.now.list ≡ ListKind.Plain }
     {
@@ -144,7 +144,7 @@ impl<'a, P: BitPacker> Cursor<'a, P> {
     /// two entries for each time that the distance doubles.
     #[inline(always)]
     pub fn seek(&mut self, target: u32)
-        requires { InOrder (values_of_cursor self.old) }
+        requires { CanSeek self.old }
         ensures moved { HasMoved self.old self.new }
         ensures sought { IsSoughtFrom (values_of_cursor self.old) target (position self.old) (position self.new) }
         // From block i to block j it reads at most twice k entries if j - i + 1 is at most 2 ^ k.
@@ -157,7 +157,7 @@ impl<'a, P: BitPacker> Cursor<'a, P> {
     /// Moves as `seek` does, and tries the value some places ahead first.
     #[inline(always)]
     pub fn seek_ahead(&mut self, target: u32, ahead: usize)
-        requires { InOrder (values_of_cursor self.old) }
+        requires { CanSeek self.old }
         ensures moved { HasMoved self.old self.new }
         ensures sought { IsSoughtFrom (values_of_cursor self.old) target (position self.old) (position self.new) }
         ensures entries { (k : ℕ) → block_number self.new + 1 ≤ block_number self.old + 2 ^ k

@@ -1,52 +1,40 @@
-//! A search among the entries of a list by halves. No branch in it depends on a value.
+//! A search among the marks of a list by halves. No branch in it depends on a value.
 
 ghost use Rattle.std.specs.Prelude.{◌≡◌, ◌<◌, ◌≤◌};
 
 use super::{ListBlock, PackedList};
-use crate::blocks::reads::{Entry, Reads};
+use crate::blocks::reads::Reads;
 use crate::list_kind::next_kind;
 use bitpacking::BitPacker;
 
 impl<'a, P: BitPacker> PackedList<'a, P> {
     ghost use Rattle.bitpack_lists.specs.inner.Seeking.{HalvesTo};
 
-    /// The first whole block whose last value is at least the target. Each entry halves the blocks that are left.
+    /// The first whole block whose mark is at least the target. Each mark halves the blocks that are left.
     ///
     /// It always goes on from the number of halves, so that the processor guesses no branch wrong. In a long list `find` is faster: it
-    /// reads entries ahead, which are not in the cache.
+    /// reads marks ahead, which are not in the cache.
     pub(super) fn find_by_halves(&self, target: u32, reads: &mut Reads) -> Option<ListBlock>
         ensures { HalvesTo self.now target result reads.old reads.new }
     {
+        let blocks = self.count / P::BLOCK_LEN;
         let mut low = 0;
-        let mut left = self.count / P::BLOCK_LEN;
+        let mut left = blocks;
         let mut before = 0;
-        let mut is_found = 0;
-        let mut width = 0;
-        let mut offset = 0;
-        let mut last = 0;
         while left > 0 {
             let half = left / 2;
-            let entry = self.entry(low + half, reads);
-            let reached = reaches(entry.last, target);
+            let mark = self.mark(low + half, reads);
+            let reached = reaches(mark, target);
             low += (left - half) * (1 - reached) as usize;
-            before = choose(reached, entry.last, before);
-            is_found = choose(reached, is_found, 1);
-            width = choose(reached, width, entry.width as u32);
-            offset = choose(reached, offset, entry.offset);
-            last = choose(reached, last, entry.last);
+            before = choose(reached, mark, before);
             left = half;
         }
-        if is_found == 0 {
+        if low == blocks {
             return None;
         }
         let first = self.kind.first();
         Some(ListBlock {
             number: low,
-            entry: Entry {
-                width: width as u8,
-                offset,
-                last,
-            },
             kind: if low == 0 {
                 first
             } else {

@@ -6,8 +6,7 @@ ghost use Rattle.bitpack_lists.specs.Intersections.{IsCommon, ReadsSearched, Rea
 ghost use Rattle.bitpack_lists.specs.Opened.{kind_of, values};
 ghost use Rattle.bitpack_lists.specs.declared.opened.intersection.Walk.{Walk};
 ghost use Rattle.bitpack_lists.specs.Search.{HasGrown};
-ghost use Rattle.bitpack_lists.specs.inner.Searching.{IsListBlock, UnpacksOne, blocks_of, rest_of};
-ghost use Rattle.bitpack_lists.specs.Version2.{last_at};
+ghost use Rattle.bitpack_lists.specs.inner.Searching.{IsListBlock, UnpacksOne, blocks_of, mark_of_list};
 ghost use Rattle.bitpack_lists.specs.inner.Walks.{Appends, AreNext, Begun, IsWalking, IsWalkingOver, IsWantedNext, Stage, begun_with, further};
 
 use super::{KeptBlock, ListBlock, PackedList};
@@ -88,18 +87,14 @@ pub(crate) fn walk_list<P: BitPacker, Q: BitPacker>(
     let first = one.kind.first();
     let mut kind = first;
     for number in 0..one.count / P::BLOCK_LEN {
-        // Nothing of the other list is left, so no more entries are read.
+        // Nothing of the other list is left, so no more marks are read.
         if walk.want > u32::MAX as u64 {
             return;
         }
-        let entry = one.entry(number, reads);
-        let block = ListBlock {
-            number,
-            entry,
-            kind,
-        };
-        walk_block(one, other, block, &mut walk, out, reads, other_reads);
-        kind = next_kind(first, entry.last);
+        let last = one.mark(number, reads);
+        let block = ListBlock { number, kind };
+        walk_block(one, other, block, last, &mut walk, out, reads, other_reads);
+        kind = next_kind(first, last);
     }
     walk_tail(one, other, &mut walk, out, other_reads);
 }
@@ -109,13 +104,14 @@ fn walk_block<P: BitPacker, Q: BitPacker>(
     one: &PackedList<'_, P>,
     other: &PackedList<'_, Q>,
     block: ListBlock,
+    last: u32,
     walk: &mut Walk,
     out: &mut Vec<u32>,
     reads: &mut Reads,
     other_reads: &mut Reads,
 )
     requires block { IsListBlock one.now block }
-    requires last { block.entry.last ≡ last_at (rest_of one.now) block.number }
+    requires last { last ≡ mark_of_list one.now block.number }
     requires walking { (begun : Begun) × IsWalkingOver one.now other.now
         begun (32 * P.lanes * block.number) reads.old.blocks walk.old out.old other_reads.old }
     ensures walking { (begun : Begun)
@@ -125,7 +121,7 @@ fn walk_block<P: BitPacker, Q: BitPacker>(
         begun (32 * P.lanes * (block.number + 1)) reads.new.blocks walk.new out.new other_reads.new }
     ensures reads { UnpacksOne reads.old reads.new }
 {
-    if block.entry.last as u64 >= walk.want {
+    if last as u64 >= walk.want {
         let mut values = [0; MAX_BLOCK_LEN];
         one.unpack_block(block, &mut values, reads);
         walk_values(&values[..P::BLOCK_LEN], other, walk, out, other_reads);

@@ -2,7 +2,7 @@
 
 ghost use Rattle.std.specs.Prelude.{◌≡◌, ℕ, List, IfOk, IsOk};
 ghost use Rattle.bitpack_lists.specs.declared.version.Version.{Version};
-ghost use Rattle.bitpack_lists.specs.OfKind.{fault2_as, fault_of_either_as};
+ghost use Rattle.bitpack_lists.specs.OfKind.{fault2_as, fault_of_any_as};
 ghost use Rattle.bitpack_lists.specs.Opened.{kind_of, text, values, version_of};
 ghost use Rattle.bitpack_lists.specs.Parts.{FindsFault};
 ghost use Rattle.bitpack_lists.specs.Texts.{IsText};
@@ -38,7 +38,7 @@ impl<'a, P: BitPacker> PackedList<'a, P> {
         Ok(list)
     }
 
-    /// Opens a text of version 2 or 3 as [`PackedList::open_any`] does, if its list is of this kind.
+    /// Opens a text of version 2, 3 or 4 as [`PackedList::open_any`] does, if its list is of this kind.
     ///
     /// Accepts any bytes, and allocates nothing. A list of another kind is refused with `WrongKind`, after all other faults.
     pub fn open_any_as(
@@ -47,7 +47,7 @@ impl<'a, P: BitPacker> PackedList<'a, P> {
         bytes: &'a [u8],
     ) -> Result<PackedList<'a, P>, ListError>
         // Bytes with a fault are refused for the first, and bytes without one are opened.
-        ensures fault { FindsFault result (fault_of_either_as P.lanes kind bytes.now) }
+        ensures fault { FindsFault result (fault_of_any_as P.lanes kind bytes.now) }
         ensures bytes { IfOk result (λ list. text list ≡ bytes.now) }
         ensures kind { IfOk result (λ list. kind_of list ≡ kind) }
         ensures list { IfOk result (λ list. IsText (version_of list) P.lanes kind (values list) bytes.now) }

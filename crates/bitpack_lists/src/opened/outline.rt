@@ -25,7 +25,7 @@ pub struct ListOutline {
     pub tail_start: usize,
     /// The last value of the last whole block of a list that is not plain. In version 2 it may be any number.
     pub before_tail: u32,
-    /// The version, 2 or 3.
+    /// The version, 2, 3 or 4.
     pub version: u8,
     /// The kind: 0 for plain, 1 for sorted, 2 for strictly sorted.
     pub kind: u8,

@@ -10,7 +10,7 @@ use bitpacking::MAX_BLOCK_LEN;
 ///
 /// A block is read by the value before it, which a caller has who read the blocks in turn.
 pub trait ReadBlocks {
-    // The lanes of its packer, whether these are its values, and whether it is in order.
+    // The lanes of its packer, whether these are its values, and whether it is in order and can be searched.
     ghost lanes: { Self → ℕ };
 
     ghost has: { Self → List ℕ → Type 0 };

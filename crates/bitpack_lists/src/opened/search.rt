@@ -1,4 +1,4 @@
-//! The first value of a packed list that is at least another, found by halves over the entries.
+//! The first value of a packed list that is at least another, found by halves over the marks.
 
 ghost use Rattle.std.specs.Prelude.{◌≡◌, ◌+◌, ◌*◌, ◌^◌, ◌<◌, ◌≤◌, ℕ, length, slice_index, IfSome};
 ghost use Rattle.bitpack_lists.specs.Chains;
@@ -18,7 +18,7 @@ pub(crate) const HALVES: usize = usize::MAX;
 
 pub(crate) const DOUBLES: usize = 0;
 
-/// Up to this count of blocks a search by halves without branches is faster than one with branches: the entries are in the cache.
+/// Up to this count of blocks a search by halves without branches is faster than one with branches: the marks are in the cache.
 const CACHED_BLOCKS: usize = 1 << 14;
 
 /// The length of the blocks of four lanes. Less room is cleared for these.
@@ -44,10 +44,9 @@ impl<'a, P: BitPacker> PackedList<'a, P> {
     ghost use Rattle.bitpack_lists.specs.declared.list_kind.ListKind.{ListKind};
     ghost use Rattle.bitpack_lists.specs.Opened.{kind_of, values};
     ghost use Rattle.bitpack_lists.specs.Search.{IsSearched, first_at_least, in_whole_block};
-    ghost use Rattle.bitpack_lists.specs.inner.Searching.{EndsBelow, IsFirstBlock, IsFirstFrom, IsInBlock, IsKept, IsListBlock, IsNear, KeepsBlock, KeepsOne, ReadsEntries, blocks_of, number_or_all, rest_of, value_of};
+    ghost use Rattle.bitpack_lists.specs.inner.Searching.{EndsBelow, IsFirstBlock, IsFirstFrom, IsInBlock, IsKept, IsListBlock, IsNear, KeepsBlock, KeepsOne, ReadsEntries, blocks_of, kind_of_list, number_or_all, value_of};
     ghost use Rattle.bitpack_lists.specs.inner.Seeking.{HalvesTo};
     ghost use Rattle.bitpack_lists.specs.Parts.{first_kind};
-    ghost use Rattle.bitpack_lists.specs.Version2.{kind_at};
 
     /// The first value that is at least the target, with its position, or `None` if every value is below it.
     ///
@@ -98,7 +97,7 @@ impl<'a, P: BitPacker> PackedList<'a, P> {
         }
     }
 
-    /// The first whole block whose last value is at least the target.
+    /// The first whole block whose mark is at least the target.
     fn first_block(&self, target: u32, reads: &mut Reads) -> Option<ListBlock>
         ensures { HalvesTo self.now target result reads.old reads.new }
     {
@@ -109,7 +108,7 @@ impl<'a, P: BitPacker> PackedList<'a, P> {
         }
     }
 
-    /// The first whole block from one on, which has this kind, whose last value is at least the target. Tries the first blocks at
+    /// The first whole block from one on, which has this kind, whose mark is at least the target. Tries the first blocks at
     /// distances that grow from a step, and then halves.
     pub(crate) fn find(
         &self,
@@ -120,7 +119,7 @@ impl<'a, P: BitPacker> PackedList<'a, P> {
         reads: &mut Reads,
     ) -> Option<ListBlock>
         requires from { from ≤ blocks_of self.now }
-        requires kind { kind ≡ kind_at self.now.kind (rest_of self.now) from }
+        requires kind { kind ≡ kind_of_list self.now from }
         requires before { EndsBelow self.now target from }
         ensures found { IsFirstFrom self.now target from result }
         ensures halves { blocks_of self.now - from ≤ 2 * step + 1
@@ -128,41 +127,39 @@ impl<'a, P: BitPacker> PackedList<'a, P> {
         ensures near { step ≡ 0 → IsNear from (number_or_all self.now result) reads.old.entries reads.new.entries }
         ensures reads { ReadsEntries reads.old reads.new }
     {
+        let blocks = self.count / P::BLOCK_LEN;
         let mut low = from;
         let mut before = 0;
-        let mut high = self.count / P::BLOCK_LEN;
-        let mut found = None;
+        let mut high = blocks;
         let mut reach = step;
         while low < high {
             let skip = reach.min((high - low) / 2);
             let middle = low + skip;
-            let entry = self.entry(middle, reads);
-            if entry.last < target {
+            let mark = self.mark(middle, reads);
+            if mark < target {
                 low = middle + 1;
-                before = entry.last;
+                before = mark;
                 reach = 2 * skip + 1;
             } else {
                 high = middle;
-                found = Some(entry);
             }
         }
-        match found {
-            Some(entry) => Some(ListBlock {
-                number: low,
-                entry,
-                kind: self.kind_found(from, kind, low, before),
-            }),
-            None => None,
+        if low == blocks {
+            return None;
         }
+        Some(ListBlock {
+            number: low,
+            kind: self.kind_found(from, kind, low, before),
+        })
     }
 
-    /// The kind of a block that was found from one on, which has this kind. If it is a later one, the block before it ends with this value.
+    /// The kind of a block that was found from one on, which has this kind. If it is a later one, the block before it has this mark.
     #[inline(always)]
     fn kind_found(&self, from: usize, kind: Kind, number: usize, before: u32) -> Kind
-        requires kind { (from ≤ number) × (kind ≡ kind_at self.now.kind (rest_of self.now) from) }
-        requires before { from < number → kind_at self.now.kind (rest_of self.now) number
+        requires kind { (from ≤ number) × (kind ≡ kind_of_list self.now from) }
+        requires before { from < number → kind_of_list self.now number
             ≡ Chains.next_kind (first_kind self.now.kind) before }
-        ensures { result ≡ kind_at self.now.kind (rest_of self.now) number }
+        ensures { result ≡ kind_of_list self.now number }
     {
         if number == from {
             kind
@@ -171,7 +168,7 @@ impl<'a, P: BitPacker> PackedList<'a, P> {
         }
     }
 
-    /// As `seek_kept`, if this is the first block whose last value is at least the target.
+    /// As `seek_kept`, if this is the first block whose mark is at least the target.
     fn seek_in_block(
         &self,
         block: ListBlock,
@@ -218,7 +215,7 @@ impl<'a, P: BitPacker> PackedList<'a, P> {
                 let len = self.read_tail(&mut values);
                 first_in_block(&values[..len], self.count - len, target)
             }
-            Version::Three => self.seek_in_groups(target),
+            _ => self.seek_in_groups(target),
         }
     }
 }

@@ -1,8 +1,8 @@
-//! The tail of an opened list: words in version 2, and groups in version 3.
+//! The tail of an opened list: words in version 2, and groups after that.
 
-ghost use Rattle.std.specs.Prelude.{◌≡◌, ◌+◌, ◌*◌, ◌<◌, ◌≤◌, ℕ, length, slice_index, ◌^◌, take, IfSome, None};
+ghost use Rattle.std.specs.Prelude.{◌≡◌, ◌≢◌, ◌+◌, ◌*◌, ◌<◌, ◌≤◌, ℕ, length, slice_index, ◌^◌, take, IfSome, None};
 ghost use Rattle.bitpack_lists.specs.Parts.{tail_values};
-ghost use Rattle.bitpack_lists.specs.inner.Searching.{blocks_of, rest_of, value_of};
+ghost use Rattle.bitpack_lists.specs.inner.Searching.{blocks_of, value_of};
 ghost use Rattle.bitpacking.specs.Codes.{values_of};
 ghost use Rattle.bitpack_lists.specs.Groups.{group_codes, group_end, group_fault, groups_codes, groups_fault, groups_of};
 ghost use Rattle.bitpack_lists.specs.Search.{first_reaching};
@@ -20,7 +20,7 @@ impl<'a, P: BitPacker> PackedList<'a, P> {
     ghost use Rattle.bitpack_lists.specs.declared.version.Version.{Version};
     ghost use Rattle.std.specs.Prelude.{take};
     ghost use Rattle.bitpack_lists.specs.inner.CodeSteps.{EndsGroup};
-    ghost use Rattle.bitpack_lists.specs.Version3.{tail_values3};
+    ghost use Rattle.bitpack_lists.specs.inner.Tails.{groups_of_list};
 
     /// The value at a position of the tail.
     pub(crate) fn value_in_tail(&self, position: usize) -> u32
@@ -31,13 +31,13 @@ impl<'a, P: BitPacker> PackedList<'a, P> {
         let index = position - P::BLOCK_LEN * (self.count / P::BLOCK_LEN);
         match self.version {
             Version::Two => read_one(self.tail, 4 * index),
-            Version::Three => self.value_in_groups(index),
+            _ => self.value_in_groups(index),
         }
     }
 
-    /// The value at an index of a tail of version 3. Unpacks the groups up to the value's.
+    /// The value at an index of a tail of groups. Unpacks the groups up to the value's.
     fn value_in_groups(&self, index: usize) -> u32
-        requires version { self.now.version ≡ Version.Three }
+        requires version { self.now.version ≢ Version.Two }
         requires index { index < tail_values P.lanes self.now.count }
         ensures { result ≡ value_of self.now (32 * P.lanes * blocks_of self.now + index) }
     {
@@ -47,9 +47,9 @@ impl<'a, P: BitPacker> PackedList<'a, P> {
         self.value_in_front(index, &mut values[..end])
     }
 
-    // The value at an index of a tail of version 3. It reads the first values of the tail, at most 31 after this one.
+    // The value at an index of a tail of groups. It reads the first values of the tail, at most 31 after this one.
     fn value_in_front(&self, index: usize, values: &mut [u32]) -> u32
-        requires version { self.now.version ≡ Version.Three }
+        requires version { self.now.version ≢ Version.Two }
         requires within { index < length values.old }
         requires few { length values.old ≤ index + 32 }
         requires ends { EndsGroup (blocks_of self.now) (tail_values P.lanes self.now.count) (length values.old) }
@@ -69,17 +69,16 @@ impl<'a, P: BitPacker> PackedList<'a, P> {
         let len = self.count % P::BLOCK_LEN;
         match self.version {
             Version::Two => read_words(self.tail, &mut values[..len]),
-            Version::Three => self.read_front(&mut values[..len]),
+            _ => self.read_front(&mut values[..len]),
         }
         len
     }
 
-    // Reads the first values of a tail of version 3, up to the end of a group.
+    // Reads the first values of a tail of groups, up to the end of a group.
     fn read_front(&self, values: &mut [u32])
-        requires version { self.now.version ≡ Version.Three }
+        requires version { self.now.version ≢ Version.Two }
         requires len { EndsGroup (blocks_of self.now) (tail_values P.lanes self.now.count) (length values.old) }
-        ensures { values.new ≡ take (length values.old) (tail_values3 P.lanes (blocks_of self.now)
-            (tail_values P.lanes self.now.count) self.now.kind (rest_of self.now)) }
+        ensures { values.new ≡ take (length values.old) (groups_of_list self.now) }
     {
         unpack_tail(self.count / P::BLOCK_LEN, self.tail, values);
         to_values(self.tail_kind, values);
@@ -91,7 +90,7 @@ impl<'a, P: BitPacker> PackedList<'a, P> {
 
     /// The first value of the tail that is at least the target, with its position. The values of the whole blocks are below it.
     pub(super) fn seek_in_groups(&self, target: u32) -> Option<(usize, u32)>
-        requires version { self.now.version ≡ Version.Three }
+        requires version { self.now.version ≢ Version.Two }
         ensures found { ((k : ℕ) → k < 32 * P.lanes * blocks_of self.now → value_of self.now k < target)
             → result ≡ first_reaching (value_of self.now) self.now.count target }
         ensures within { IfSome result (λ found. 32 * P.lanes * blocks_of self.now ≤ found.0) }
@@ -109,7 +108,7 @@ impl<'a, P: BitPacker> PackedList<'a, P> {
 
     /// The first value that is at least the target, with its position, in a list without a whole block.
     fn seek_after_first(&self, target: u32) -> Option<(usize, u32)>
-        requires first { (self.now.version ≡ Version.Three) × (1 ≤ self.now.count) × (self.now.count < 32 * P.lanes) }
+        requires first { (self.now.version ≢ Version.Two) × (1 ≤ self.now.count) × (self.now.count < 32 * P.lanes) }
         ensures { result ≡ first_reaching (value_of self.now) self.now.count target }
     {
         let (code, end) = unpack_number(self.tail);

@@ -1,20 +1,25 @@
-//! Opening texts of version 3, and of either version.
+//! Opening texts of version 3, of version 4, and of any version.
 
 ghost use Rattle.std.specs.Prelude.{◌≡◌, IfOk, None};
 ghost use Rattle.bitpack_lists.specs.declared.version.Version.{Version};
 ghost use Rattle.bitpack_lists.specs.Opened.{kind_of, text, values, version_of};
 ghost use Rattle.bitpack_lists.specs.Parts.{FindsFault};
-ghost use Rattle.bitpack_lists.specs.Texts.{IsText, IsTextOfNoOther, fault_of_either, version_in};
+ghost use Rattle.bitpack_lists.specs.Texts.{IsText, IsTextOfNoOther, fault_of_any, version_in};
 ghost use Rattle.bitpack_lists.specs.Version3.{List3, fault3};
-ghost use Rattle.bitpack_lists.specs.inner.Opening3.{IsStated3};
+ghost use Rattle.bitpack_lists.specs.Version4.{List4, fault4};
+ghost use Rattle.bitpack_lists.specs.inner.StatedTexts.{IsStated};
 
 use super::PackedList;
 use crate::list_error::ListError;
 use crate::v3::opening::{StatedText, stated, test_version3};
+use crate::v4::opening::{stated4, test_version4};
 use crate::version::Version;
 use bitpacking::BitPacker;
 
-/// The first byte of a text of version 3 is at least this. In versions 1 and 2 it is the number of the version.
+/// The first byte of a text of version 4 is at least this, and below the next number. In versions 1 and 2 it is the number of the version.
+const FIRST_OF_4: u8 = 16;
+
+/// The first byte of a text of version 3 is at least this.
 const FIRST_OF_3: u8 = 64;
 
 impl<'a, P: BitPacker> PackedList<'a, P> {
@@ -32,18 +37,38 @@ impl<'a, P: BitPacker> PackedList<'a, P> {
         ensures version { IfOk result (λ list. version_of list ≡ Version.Three) }
     {
         let found = test_version3(&packer, bytes)?;
-        Ok(PackedList::of_stated(packer, found, bytes))
+        Ok(PackedList::of_stated(Version::Three, packer, found, bytes))
     }
 
-    // The list of a text of version 3 that states this.
-    fn of_stated(packer: P, found: StatedText, bytes: &'a [u8]) -> PackedList<'a, P>
-        requires stated { IsStated3 P.lanes bytes.now found }
-        ensures { (text result ≡ bytes.now) × (version_of result ≡ Version.Three) }
+    /// Opens a text of version 4, which is tested whole. Accepts any bytes, and allocates nothing.
+    ///
+    /// The list has the calls of one of version 2.
+    pub fn open4(packer: P, bytes: &'a [u8]) -> Result<PackedList<'a, P>, ListError>
+        ensures fault { FindsFault result (fault4 P.lanes bytes.now) }
+        ensures bytes { IfOk result (λ list. text list ≡ bytes.now) }
+        ensures list { IfOk result (λ list. List4 P.lanes (kind_of list) (values list) bytes.now) }
+        ensures only { IfOk result (λ list.
+            IsTextOfNoOther Version.Four P.lanes (kind_of list) (values list) bytes.now) }
+        ensures version { IfOk result (λ list. version_of list ≡ Version.Four) }
+    {
+        let found = test_version4(&packer, bytes)?;
+        Ok(PackedList::of_stated(Version::Four, packer, found, bytes))
+    }
+
+    // The list of a text of this version that states this.
+    fn of_stated(
+        version: Version,
+        packer: P,
+        found: StatedText,
+        bytes: &'a [u8],
+    ) -> PackedList<'a, P>
+        requires stated { IsStated version P.lanes bytes.now found }
+        ensures { (text result ≡ bytes.now) × (version_of result ≡ version) }
     {
         let rest = &bytes[found.header.end..];
         PackedList {
             packer,
-            version: Version::Three,
+            version,
             kind: found.header.kind,
             count: found.header.count,
             bytes,
@@ -53,35 +78,42 @@ impl<'a, P: BitPacker> PackedList<'a, P> {
         }
     }
 
-    /// Opens a text of version 2 or 3, whichever its first byte says.
+    /// Opens a text of version 2, 3 or 4, whichever its first byte says.
     ///
     /// Accepts any bytes, and allocates nothing. A text of version 1 is refused with `BadVersion(1)`.
     pub fn open_any(packer: P, bytes: &'a [u8]) -> Result<PackedList<'a, P>, ListError>
-        ensures fault { FindsFault result (fault_of_either P.lanes bytes.now) }
+        ensures fault { FindsFault result (fault_of_any P.lanes bytes.now) }
         ensures bytes { IfOk result (λ list. text list ≡ bytes.now) }
         ensures list { IfOk result (λ list. IsText (version_of list) P.lanes (kind_of list) (values list) bytes.now) }
         ensures only { IfOk result (λ list.
             IsTextOfNoOther (version_of list) P.lanes (kind_of list) (values list) bytes.now) }
     {
-        if bytes.is_empty() || bytes[0] < FIRST_OF_3 {
+        if bytes.is_empty() || bytes[0] < FIRST_OF_4 {
             let list = PackedList::open(packer, bytes)?;
+            return Ok(list);
+        }
+        if bytes[0] < FIRST_OF_3 {
+            let list = PackedList::open4(packer, bytes)?;
             return Ok(list);
         }
         let list = PackedList::open3(packer, bytes)?;
         Ok(list)
     }
 
-    /// The list of a text of version 2 or 3 that was opened before, as [`PackedList::from_validated`] gives one of version 2.
+    /// The list of a text of version 2, 3 or 4 that was opened before, as [`PackedList::from_validated`] gives one of version 2.
     pub fn from_validated_any(packer: P, bytes: &'a [u8]) -> PackedList<'a, P>
-        requires sound { fault_of_either P.lanes bytes.now ≡ None }
+        requires sound { fault_of_any P.lanes bytes.now ≡ None }
         ensures bytes { text result ≡ bytes.now }
         ensures version { version_of result ≡ version_in bytes.now }
         ensures list { IsText (version_in bytes.now) P.lanes (kind_of result) (values result) bytes.now }
         ensures only { IsTextOfNoOther (version_in bytes.now) P.lanes (kind_of result) (values result) bytes.now }
     {
-        if bytes.is_empty() || bytes[0] < FIRST_OF_3 {
+        if bytes.is_empty() || bytes[0] < FIRST_OF_4 {
             return PackedList::from_validated(packer, bytes);
         }
-        PackedList::of_stated(packer, stated::<P>(bytes), bytes)
+        if bytes[0] < FIRST_OF_3 {
+            return PackedList::of_stated(Version::Four, packer, stated4::<P>(bytes), bytes);
+        }
+        PackedList::of_stated(Version::Three, packer, stated::<P>(bytes), bytes)
     }
 }

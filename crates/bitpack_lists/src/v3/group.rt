@@ -147,7 +147,7 @@ fn least_width(codes: &[u32]) -> u8
 }
 
 /// The number of binary digits of a number, 0 for 0.
-fn most_significant_bit(word: u32) -> u8
+pub(crate) fn most_significant_bit(word: u32) -> u8
     ensures { count_leading_zeros 32 word + result ≡ 32 }
 {
     (32 - word.leading_zeros()) as u8

@@ -2,9 +2,9 @@
 
 ghost use Rattle.std.specs.Prelude.{◌≡◌, ℕ, ◌+◌, ◌*◌, ◌^◌, ◌≤◌, IfOk, None, length, drop, take};
 ghost use Rattle.bitpack_lists.specs.declared.list_kind.ListKind.{ListKind};
-ghost use Rattle.bitpack_lists.specs.Numbers.{number_end, number_value};
+ghost use Rattle.bitpack_lists.specs.Numbers.{count_fault, number_end, number_value};
 ghost use Rattle.bitpack_lists.specs.Parts.{FindsFault};
-ghost use Rattle.bitpack_lists.specs.Version3.{count3, count_fault, header3, header_end, header_fault3, kind3};
+ghost use Rattle.bitpack_lists.specs.Version3.{count3, header3, header_end, header_fault3, kind3};
 
 use crate::header::LONGEST_LIST;
 use crate::list_error::ListError;
@@ -57,7 +57,7 @@ impl ShortHeader {
                 end: 1,
             });
         }
-        let (count, size) = test_count(&bytes[1..])?;
+        let (count, size) = test_count(COUNTED, &bytes[1..])?;
         Ok(ShortHeader {
             kind,
             count,
@@ -94,7 +94,7 @@ impl ShortHeader {
 }
 
 /// How many lanes a number of the first byte means.
-fn lanes_of(code: u8) -> u8
+pub(crate) fn lanes_of(code: u8) -> u8
     ensures { result ≡ Rattle.bitpack_lists.specs.Version3.lanes_of code }
 {
     if code == 1 {
@@ -106,17 +106,18 @@ fn lanes_of(code: u8) -> u8
     }
 }
 
-/// Tests the count at the front of the bytes, and returns it and how many bytes it has.
-#[tactic(auto, unfolding(crate::specs::Version3::count_fault))]
-fn test_count(bytes: &[u8]) -> Result<(usize, usize), ListError>
-    ensures fault { FindsFault result (count_fault bytes.now) }
+/// Tests the number at the front of the bytes as a count that is at least `least`. Returns it, and how many bytes it has.
+#[tactic(auto, unfolding(crate::specs::Numbers::count_fault))]
+pub(crate) fn test_count(least: usize, bytes: &[u8]) -> Result<(usize, usize), ListError>
+    ensures fault { FindsFault result (count_fault least bytes.now) }
     ensures value { IfOk result (λ found. (found.0 ≡ number_value bytes.now) × (found.0 ≤ 2 ^ 28)) }
+    ensures least { IfOk result (λ found. least ≤ found.0) }
     ensures end { IfOk result (λ found. found.1 ≡ number_end bytes.now) }
     ensures within { IfOk result (λ found. found.1 ≤ length bytes.now) }
 {
     let (count, size) = test_number(bytes)?;
     let count = count as usize;
-    if count < COUNTED {
+    if count < least {
         return Err(ListError::BadNumber);
     }
     if count > LONGEST_LIST {
@@ -149,7 +150,7 @@ pub(crate) fn write_short_header(
 }
 
 /// The number in the first byte that stands for `lanes` lanes.
-fn lanes_code(lanes: usize) -> u8
+pub(crate) fn lanes_code(lanes: usize) -> u8
     ensures code { result ≡ Rattle.bitpack_lists.specs.Version3.lanes_code lanes }
     ensures few { result ≤ 3 }
 {

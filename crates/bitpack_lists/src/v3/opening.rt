@@ -73,7 +73,7 @@ fn test_blocks_and_groups<P: BitPacker>(
 
 /// The first position out of order in the tail, which is unpacked if its sums do not show that it is in order.
 #[inline(always)]
-fn first_out_of_tail<P: BitPacker>(
+pub(crate) fn first_out_of_tail<P: BitPacker>(
     header: Header,
     blocks: TestedBlocks,
     rises: bool,

@@ -1,5 +1,5 @@
 -- The blocks of values, one after the other: what is left of the values before each, and the kind of the next.
--- Serves blocks, laws, opened, v2, v3, writing.
+-- Serves blocks, laws, opened, v2, v3, v4.
 use Rattle.std.proofs.Common.{◌≡◌, ℕ, zero, suc, ◌+◌, ◌*◌, ◌/◌, ◌^◌, ◌<◌, ◌≤◌, List, length, take, drop, get_or, refl, ◌∙◌, ap, arith, add-one}
 use Rattle.std.proofs.lemmas.List.{drop-drop, length-take, length-drop, get_or-take, get_or-drop}
 use Rattle.std.proofs.lemmas.List.Elements.{All-take, All-drop}
@@ -9,7 +9,7 @@ use Rattle.bitpacking.specs.declared.kind.Kind.TheVariants as blocks
 use Rattle.bitpacking.specs.Codes.{AreWords}
 use Rattle.bitpack_lists.specs.declared.list_kind.ListKind.{ListKind}
 use Rattle.bitpack_lists.specs.Chains.{next_kind}
-use Rattle.bitpack_lists.specs.Parts.{first_kind}
+use Rattle.bitpack_lists.specs.Parts.{first_kind, kind_after}
 use Rattle.bitpack_lists.specs.Version2.{block_of, kind_at, last_at}
 
 pub next_next : (kind : Kind) (one two : ℕ) → next_kind (next_kind kind one) two ≡ next_kind kind two
@@ -25,8 +25,8 @@ kind_at-next kind rest (suc block) block_kind last e f =
     rw (e, f, add-one) (next_next (first_kind kind) (last_at rest block) (last_at rest (suc block)))
 
 -- The same by the kind of the first block.
-pub kind_at_after : (kind : ListKind) (rest : List ℕ) (block last : ℕ) → last ≡ last_at rest block → next_kind (first_kind kind) last ≡ kind_at kind rest (block + 1)
-kind_at_after kind rest block last e = rw (e, add-one) refl
+pub kind_after-next : (kind : ListKind) (last : ℕ → ℕ) (block value : ℕ) → value ≡ last block → next_kind (first_kind kind) value ≡ kind_after kind last (block + 1)
+kind_after-next kind last block value e = rw (e, add-one) refl
 
 pub positive : (n blocks : ℕ) → 0 < n * blocks → 0 < blocks
 positive n zero lt =

@@ -1,5 +1,5 @@
 -- The groups of a tail, one after the other.
--- Serves numbers, opened, v3, writing.
+-- Serves numbers, opened, v3, v4.
 use Rattle.std.proofs.Common.{◌≡◌, ℕ, suc, Option, ◌+◌, ◌-◌, ◌*◌, ◌<◌, ◌≤◌, min, Some, None, set, List, [], ◌∷◌, ◌++◌, length, take, drop, refl, sym, ◌∙◌, ap, arith, append_assoc, inl, inr}
 use Rattle.std.proofs.lemmas.Bool.{cases_lt, lt-ltb}
 use Rattle.std.proofs.lemmas.List.{take_all, append-nil, drop_all, length-take-le, length-append, length-drop, length-set, take_rest}

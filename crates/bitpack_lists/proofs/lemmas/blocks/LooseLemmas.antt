@@ -1,5 +1,5 @@
 -- A width is loose exactly where the codes of the bytes fit a smaller one.
--- Serves blocks, laws, v1, v3.
+-- Serves blocks, laws, v1, v3, v4.
 use Rattle.std.proofs.Common.{◌≡◌, ◌↔◌, ℕ, zero, suc, mul-suc, ◌+◌, ◌-◌, ◌*◌, ◌/◌, ◌%◌, ◌^◌, ◌<◌, ◌≤◌, ◌⊎◌, max, Bool, true, false, ltb, List, length, get_or, bit_or, refl, sym, ◌∙◌, ap, arith, Decides, inl, inr}
 use Rattle.std.proofs.Math.Nat.{div-lt_iff_lt-mul}
 use Rattle.std.specs.Int.{bit_at}

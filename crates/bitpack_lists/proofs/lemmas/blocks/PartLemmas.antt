@@ -1,5 +1,5 @@
 -- Parts of lists of bytes, and the words of bytes.
--- Serves ForCallers, blocks, laws, numbers, opened, v1, v2, v3.
+-- Serves ForCallers, blocks, laws, numbers, opened, v1, v2, v3, v4.
 use Rattle.std.proofs.Common.{◌≡◌, ℕ, zero, suc, ◌+◌, ◌*◌, ◌^◌, ◌<◌, ◌≤◌, List, [], ◌∷◌, ◌++◌, length, take, drop, get_or, refl, sym, ◌∙◌, ap, arith, inl, inr, add-zero}
 use Rattle.std.specs.Int.{w32, from_le_bytes}
 use Rattle.std.proofs.lemmas.Bool.{cases_lt}

@@ -1,9 +1,7 @@
 -- Version 2: what right entries say of the bodies, and the value at each position that the rest of a text gives.
--- Serves blocks, opened, v3.
-use Rattle.std.proofs.Common.{◌≡◌, ℕ, zero, suc, ◌+◌, ◌-◌, ◌*◌, ◌/◌, ◌%◌, ◌^◌, ◌<◌, ◌≤◌, List, length, drop, get_or, None, refl, sym, ◌∙◌, ap, arith}
-use Rattle.std.proofs.lemmas.Bool.{lt-ltb, le-ltb}
+-- Serves blocks, opened, v3, v4.
+use Rattle.std.proofs.Common.{◌≡◌, ℕ, zero, suc, ◌+◌, ◌-◌, ◌*◌, ◌^◌, ◌<◌, ◌≤◌, List, length, drop, get_or, None, sym, ◌∙◌, ap, arith}
 use Rattle.std.proofs.lemmas.List.{length-drop, length-take-le}
-use Rattle.std.proofs.lemmas.Nat.{div-mul-add, le-div, mod-mul-add}
 use Rattle.bitpacking.specs.Bits.{AreBytes}
 use Rattle.bitpacking.specs.Codes.{AreWords, start}
 use Rattle.bitpacking.specs.Layout.{size, Holds}
@@ -11,19 +9,25 @@ use Rattle.bitpacking.specs.Words.{word}
 use Rattle.bitpacking.proofs.ForCallers.{as_many_codes}
 use Rattle.bitpack_lists.specs.declared.list_kind.ListKind.{ListKind}
 use Rattle.bitpack_lists.specs.declared.list_kind.ListKind.TheVariants as lists
-use Rattle.bitpack_lists.specs.Version2.{block_at, body_at, body_start, entry_fault2, first_fault, kind_at, offset_at, tail_start, value_at, value_with, width_at, widths_before}
+use Rattle.bitpack_lists.specs.Parts.{kind_after}
+use Rattle.bitpack_lists.specs.Version2.{block_at, body_at, body_start, entry_fault2, first_fault, kind_at, last_at, offset_at, tail_start, value_at, value_with, width_at, widths_before}
 use Rattle.bitpack_lists.proofs.lemmas.blocks.BlockValues.{AreWords-block, Holds-values_of}
 use Rattle.bitpack_lists.proofs.lemmas.blocks.EntryLemmas.{body_end}
 use Rattle.bitpack_lists.proofs.lemmas.blocks.PartLemmas.{AreBytes-drop, word-lt}
+use Rattle.bitpack_lists.proofs.lemmas.blocks.PartValues.{value_in_parts-block, value_in_parts-tail}
 use Rattle.bitpack_lists.proofs.lemmas.blocks.RestFaults.{entry_right, first_fault-none}
 
+pub start-kind_after : (kind : ListKind) (last : ℕ → ℕ) (block : ℕ) → ((before : ℕ) → last before < 2 ^ 32) → start (kind_after kind last block) < 2 ^ 32
+start-kind_after lists.Plain last zero words = omega arith
+start-kind_after lists.Sorted last zero words = omega arith
+start-kind_after lists.StrictlySorted last zero words = omega arith
+start-kind_after lists.Plain last (suc block) words = omega arith
+start-kind_after lists.Sorted last (suc block) words = words block
+start-kind_after lists.StrictlySorted last (suc block) words = words block
+
 pub start-kind_at : (kind : ListKind) (rest : List ℕ) (block : ℕ) → AreBytes rest → start (kind_at kind rest block) < 2 ^ 32
-start-kind_at lists.Plain rest zero small = omega arith
-start-kind_at lists.Sorted rest zero small = omega arith
-start-kind_at lists.StrictlySorted rest zero small = omega arith
-start-kind_at lists.Plain rest (suc block) small = omega arith
-start-kind_at lists.Sorted rest (suc block) small = word-lt (drop (9 * block + 5) rest) (AreBytes-drop (9 * block + 5) rest small)
-start-kind_at lists.StrictlySorted rest (suc block) small = word-lt (drop (9 * block + 5) rest) (AreBytes-drop (9 * block + 5) rest small)
+start-kind_at kind rest block small =
+    start-kind_after kind (last_at rest) block (λ before. word-lt (drop (9 * before + 5) rest) (AreBytes-drop (9 * before + 5) rest small))
 
 -- ---- right entries
 
@@ -66,22 +70,10 @@ module _ (lanes blocks : ℕ) (rest : List ℕ) (right : first_fault (entry_faul
 module _ (lanes blocks : ℕ) (kind : ListKind) (rest : List ℕ) (tail : ℕ → ℕ) (some : 1 ≤ lanes) where
   pub value_with-block : (block k : ℕ) → block < blocks → k < 32 * lanes
       → value_with lanes blocks kind rest tail (32 * lanes * block + k) ≡ get_or (block_at lanes blocks kind rest block) k 0
-  unfolding value_with
-  value_with-block block k lt within =
-      let n : ℕ = 32 * lanes in
-      let turned : n * block + k ≡ block * n + k = omega arith in
-      let row : (n * block + k) / n ≡ block = ap (λ p. p / n) turned ∙ div-mul-add block n k within in
-      let column : (n * block + k) % n ≡ k = ap (λ p. p % n) turned ∙ mod-mul-add block n k within in
-      rw (row, column, lt-ltb block blocks lt) refl
+  value_with-block = value_in_parts-block lanes blocks (block_at lanes blocks kind rest) tail some
 
   pub value_with-tail : (k : ℕ) → value_with lanes blocks kind rest tail (32 * lanes * blocks + k) ≡ tail k
-  unfolding value_with
-  value_with-tail k =
-      let n : ℕ = 32 * lanes in
-      let p : ℕ = n * blocks + k in
-      let row : blocks ≤ p / n = le-div blocks p n (omega arith) (omega arith) in
-      let left : n * blocks + k - n * blocks ≡ k = omega arith in
-      rw (le-ltb (p / n) blocks row, left) refl
+  value_with-tail = value_in_parts-tail lanes blocks (block_at lanes blocks kind rest) tail some
 
 -- The tail of version 2 is words.
 module _ (lanes blocks : ℕ) (kind : ListKind) (rest : List ℕ) (some : 1 ≤ lanes) where

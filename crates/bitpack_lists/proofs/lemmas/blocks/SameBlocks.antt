@@ -1,5 +1,5 @@
 -- The entries and the bodies of values are one list of bytes in the rest of a text.
--- Serves opened, v2, v3.
+-- Serves opened, v2, v3, v4.
 use Rattle.std.proofs.Common.{◌≡◌, ℕ, zero, suc, ◌+◌, ◌*◌, ◌<◌, ◌≤◌, List, [], ◌∷◌, ◌++◌, length, take, drop, get_or, refl, sym, ◌∙◌, ap, arith, add-zero, take-add}
 use Rattle.std.proofs.lemmas.List.{drop-drop, get_or-drop, length-drop, take-append-drop}
 use Rattle.bitpacking.specs.Bits.{AreBytes}
@@ -10,7 +10,7 @@ use Rattle.bitpacking.proofs.ForCallers.{AreBytes-take, block_has_one_list, same
 use Rattle.bitpack_lists.specs.declared.list_kind.ListKind.{ListKind}
 use Rattle.bitpack_lists.specs.Chains.{next_kind}
 use Rattle.bitpack_lists.specs.inner.Opening.{AreEntries}
-use Rattle.bitpack_lists.specs.Parts.{first_kind}
+use Rattle.bitpack_lists.specs.Parts.{first_kind, kind_after}
 use Rattle.bitpack_lists.specs.Version2.{HasBlocks, block_of, body_at, body_start, kind_at, last_at, offset_at, tail_start, width_at, widths_before}
 use Rattle.bitpack_lists.proofs.lemmas.blocks.PartLemmas.{AreBytes-drop, bytes-word}
 
@@ -25,9 +25,15 @@ nine_bytes (byte ∷ bytes) small long =
     ap (λ xs. byte ∷ xs)
     (take-add 4 4 bytes ∙ ap (λ xs. xs ++ take 4 (drop 4 bytes)) (sym one) ∙ ap (λ xs. bytes_of_words (word bytes 0 ∷ []) ++ xs) (sym two))
 
-front_more : (front size_of : ℕ) (xs ys : List ℕ) → take front xs ≡ take front ys → take size_of (drop front xs) ≡ take size_of (drop front ys)
+pub front_more : (front size_of : ℕ) (xs ys : List ℕ) → take front xs ≡ take front ys → take size_of (drop front xs) ≡ take size_of (drop front ys)
     → take (front + size_of) xs ≡ take (front + size_of) ys
 front_more front size_of xs ys e f = take-add front size_of xs ∙ rw (e, f) (sym (take-add front size_of ys))
+
+-- The kind after the same last values is the same.
+pub kind_after-same : (kind : ListKind) (last other : ℕ → ℕ) (block : ℕ) → ((before : ℕ) → before < block → last before ≡ other before)
+    → kind_after kind last block ≡ kind_after kind other block
+kind_after-same kind last other zero same = refl
+kind_after-same kind last other (suc block) same = ap (next_kind (first_kind kind)) (same block (omega arith))
 
 -- Entries of the same blocks are the same.
 module _ (lanes blocks : ℕ) (kind : ListKind) (values one two : List ℕ) (a : AreEntries lanes blocks kind values one) (b : AreEntries lanes blocks kind values two) where
@@ -36,8 +42,7 @@ module _ (lanes blocks : ℕ) (kind : ListKind) (values one two : List ℕ) (a :
 
   -- Also that of what follows the last block.
   pub same_kind_after : (block : ℕ) → block ≤ blocks → kind_at kind one block ≡ kind_at kind two block
-  same_kind_after zero le = refl
-  same_kind_after (suc block) le = ap (next_kind (first_kind kind)) (same_last block (omega arith))
+  same_kind_after block le = kind_after-same kind (last_at one) (last_at two) block (λ before lt. same_last before (omega arith))
 
   same_kind : (block : ℕ) → block < blocks → kind_at kind one block ≡ kind_at kind two block
   same_kind block lt = same_kind_after block (omega arith)

@@ -1,5 +1,5 @@
 -- Blocks whose steps are at most 2 ^ 32 together wrap at most once, so that the last value shows that they are in order.
--- Serves blocks, v3.
+-- Serves blocks, v3, v4.
 use Rattle.std.proofs.Common.{◌≡◌, ℕ, zero, suc, ◌+◌, ◌-◌, ◌*◌, ◌%◌, ◌^◌, ◌<◌, ◌≤◌, Bool, cond, List, [], ◌∷◌, ◌++◌, length, get_or, sum, add-one, true, false, Option, Some, None, IfSome, refl, sym, ◌∙◌, ap, arith}
 use Rattle.std.specs.List.{sum_by}
 use Rattle.std.proofs.lemmas.Bool.{lt-leb, le-ltb}

@@ -1,5 +1,5 @@
 -- Values that are to be written: they have no fault, or the caller gets the first.
--- Serves ForCallers, blocks, writing.
+-- Serves ForCallers, blocks, v3, v4, writing.
 use Rattle.std.proofs.Common.{◌≡◌, ℕ, ◌^◌, ◌<◌, ◌≤◌, List, length, Option, Some, None, Result, Err, refl, sym, ◌∙◌, inl, inr}
 use Rattle.std.specs.Prelude.{MatchOption}
 use Rattle.std.proofs.lemmas.Bool.{cases_lt, lt-ltb, le-ltb}

@@ -1,5 +1,5 @@
 -- The loops that measure and write a text: what is after the blocks so far, and the widths that are kept.
--- Serves blocks, chain, v1, v2, v3, writing.
+-- Serves blocks, chain, v1, v2, v3, v4.
 use Rattle.std.proofs.Common.{◌≡◌, ℕ, suc, ◌+◌, ◌-◌, ◌*◌, ◌/◌, ◌%◌, ◌<◌, ◌≤◌, List, [], ◌∷◌, ◌++◌, length, take, drop, get_or, sym, ◌∙◌, ap, arith, append_assoc, add-one, inl, inr}
 use Rattle.std.proofs.Math.Nat.{mod-eq-sub-mul-div, mul-div-le}
 use Rattle.std.proofs.Math.Seq.{drop-cons}

@@ -1,5 +1,5 @@
 -- Lists that increase: the values that they contain determine them, and there are no more than in any list that contains these.
--- Serves ForCallers, laws.
+-- Serves ForCallers, laws, v4.
 use Rattle.std.proofs.Common.{◌≡◌, ◌⊎◌, ◌↔◌, ℕ, zero, suc, ◌<◌, ◌≤◌, List, [], ◌∷◌, length, get_or, refl, sym, ap, inl, inr, arith, Contains}
 use Rattle.std.specs.List.{AllPairs, remove}
 use Rattle.std.specs.List.Sorted.{IsStrictlyIncreasing}
@@ -17,13 +17,13 @@ IsWithin xs ys = (value : ℕ) → Contains xs value → Contains ys value
 
 -- ---- the first value and those after it
 
-Contains-later : (x : ℕ) (xs : List ℕ) (value : ℕ) → Contains xs value → Contains (x ∷ xs) value
+pub Contains-later : (x : ℕ) (xs : List ℕ) (value : ℕ) → Contains xs value → Contains (x ∷ xs) value
 Contains-later x xs value (k, lt, is) = (suc k, omega arith, is)
 
-Contains-first : (x : ℕ) (xs : List ℕ) → Contains (x ∷ xs) x
+pub Contains-first : (x : ℕ) (xs : List ℕ) → Contains (x ∷ xs) x
 Contains-first x xs = (0, omega arith, refl)
 
-Contains-either : (x : ℕ) (xs : List ℕ) (value : ℕ) → Contains (x ∷ xs) value → (x ≡ value) ⊎ Contains xs value
+pub Contains-either : (x : ℕ) (xs : List ℕ) (value : ℕ) → Contains (x ∷ xs) value → (x ≡ value) ⊎ Contains xs value
 Contains-either x xs value (zero, lt, is) = inl is
 Contains-either x xs value (suc k, lt, is) = inr (k, omega arith, is)
 
@@ -88,7 +88,7 @@ same_values (x ∷ xs) (y ∷ ys) up up' within within' =
     (others_same x xs y ys e up within) (others_same y ys x xs (sym e) up' within'))
     (ap (λ (n : ℕ). n ∷ ys) (sym e))
 
-same_members : (xs ys : List ℕ) → IsStrictlyIncreasing xs → IsStrictlyIncreasing ys → ((v : ℕ) → Contains xs v ↔ Contains ys v) → xs ≡ ys
+pub same_members : (xs ys : List ℕ) → IsStrictlyIncreasing xs → IsStrictlyIncreasing ys → ((v : ℕ) → Contains xs v ↔ Contains ys v) → xs ≡ ys
 same_members xs ys up up' same =
     same_values xs ys (AllPairs-from_increasing xs up) (AllPairs-from_increasing ys up') (λ v. (same v).0) (λ v. (same v).1)
 

@@ -1,5 +1,5 @@
 -- What a search finds and when a list is in order, in the words of the library.
--- Serves ForCallers, laws.
+-- Serves ForCallers, laws, v4.
 use Rattle.std.proofs.Common.{◌≡◌, ℕ, zero, suc, ◌+◌, ◌-◌, ◌<◌, ◌≤◌, false, List, length, take, get_or, slice_get, Option, Some, None, All, refl, ◌∙◌, ap, arith}
 use Rattle.std.specs.Prelude.{slice_index}
 use Rattle.std.specs.Option.{MatchOption}

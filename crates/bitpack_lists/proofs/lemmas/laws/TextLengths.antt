@@ -1,27 +1,31 @@
 -- How long texts can be: no width is above 32, and no group has more than a byte beside its codes.
--- Serves laws, v3, writing.
-use Rattle.std.proofs.Common.{◌≡◌, ℕ, zero, suc, ◌+◌, ◌*◌, ◌/◌, ◌^◌, ◌<◌, ◌≤◌, List, [], ◌∷◌, length, take, drop, sum, ◌∙◌, ap, arith, inl, inr}
+-- Serves laws, v3.
+use Rattle.std.proofs.Common.{◌≡◌, ℕ, zero, suc, ◌+◌, ◌*◌, ◌/◌, ◌%◌, ◌^◌, ◌<◌, ◌≤◌, List, [], ◌∷◌, length, take, drop, sum, ◌∙◌, ap, arith, inl, inr}
 use Rattle.std.proofs.lemmas.Bool.{cases_lt, le-ltb, lt-ltb}
 use Rattle.std.proofs.lemmas.List.{length-append, length-drop, length-take}
 use Rattle.std.proofs.lemmas.List.Elements.{All-drop, All-tail, All-take}
 use Rattle.std.proofs.lemmas.List.Sums.{sum_by-cons}
 use Rattle.std.proofs.lemmas.Nat.{mul-le}
+use Rattle.std.proofs.Math.Nat.{mod-lt}
 use Rattle.bitpacking.specs.declared.kind.Kind.{Kind}
 use Rattle.bitpacking.specs.Codes.{AreWords, codes}
 use Rattle.bitpacking.proofs.ForCallers.{as_many_codes, codes_are_words, one_least_width}
 use Rattle.bitpack_lists.specs.declared.list_kind.ListKind.{ListKind}
 use Rattle.bitpack_lists.specs.Chains.{LeastWidths, second_kind}
-use Rattle.bitpack_lists.specs.Groups.{AreGroups, IsGroup, group_size}
-use Rattle.bitpack_lists.specs.Numbers.{number}
+use Rattle.bitpack_lists.specs.Groups.{AreGroups, IsGroup, group_size, groups_of}
+use Rattle.bitpack_lists.specs.Numbers.{greatest, number}
 use Rattle.bitpack_lists.specs.Parts.{first_kind, tail_values, whole_blocks}
-use Rattle.bitpack_lists.specs.Room.{FitsRoom, Longest1, Longest2, Longest3}
+use Rattle.bitpack_lists.specs.Room.{FitsRoom, Longest1, Longest2, Longest3, Longest4}
 use Rattle.bitpack_lists.specs.Version2.{HasBlocks, kind_at, block_of, tail_start, width_at, widths_before}
 use Rattle.bitpack_lists.specs.Version3.{IsTail3, header3}
+use Rattle.bitpack_lists.specs.Version4.{IsBlock4, IsRest4, begin_at, body_at4, end_len, header4, kind_at4, mark_at, mark_len, size_at, tail_start4}
 use Rattle.bitpack_lists.specs.inner.Opening.{AreEntries}
 use Rattle.bitpack_lists.proofs.lemmas.blocks.BlockLemmas.{AreWords-block_of}
 use Rattle.bitpack_lists.proofs.lemmas.blocks.HeaderLemmas.{header_bytes}
 use Rattle.bitpack_lists.proofs.lemmas.blocks.MeasuredLengths.{widths_of_blocks}
 use Rattle.bitpack_lists.proofs.lemmas.v3.NumberLemmas.{length-number_in, number-small, number_in-large, number_in-small}
+use Rattle.bitpack_lists.proofs.lemmas.v4.Bodies.{narrow_size}
+use Rattle.bitpack_lists.proofs.lemmas.v4.ShortLaws.{byte_count-few}
 use Rattle.bitpack_lists.proofs.lemmas.v1.OneText1.{narrow_least}
 use Rattle.bitpack_lists.proofs.lemmas.blocks.RestLemmas.{length-text2}
 
@@ -130,11 +134,67 @@ longest3 lanes kind values text some few list =
           omega (arith, fits.1, tail_long, front, header.1 below, parts, all, in_blocks lanes (length values) some)
     ]
 
+-- ---- version 4
+
+sizes_fit : (lanes blocks upto : ℕ) (kind : ListKind) (values rest : List ℕ) → AreWords values
+    → ((block : ℕ) → block < blocks → IsBlock4 lanes blocks kind values rest block) → upto ≤ blocks → begin_at rest upto ≤ 32 * upto
+sizes_fit lanes blocks zero kind values rest words whole le = omega arith
+sizes_fit lanes blocks (suc upto) kind values rest words whole le =
+    let block = whole upto (omega (arith, le)) in
+    let narrow : size_at rest upto ≤ 32 =
+    narrow_size lanes (kind_at4 blocks kind rest upto) (mark_at blocks rest upto) (size_at rest upto) (block_of lanes values upto)
+    (body_at4 lanes blocks rest upto) (AreWords-block_of lanes upto values words) block.body in
+    omega (arith, narrow, block.rising, sizes_fit lanes blocks upto kind values rest words whole (omega (arith, le)))
+
+-- The ends and the marks of the blocks have at most eight bytes a block, and their bodies four a value.
+blocks_fit4 : (lanes blocks : ℕ) (kind : ListKind) (values rest : List ℕ) → AreWords values → IsRest4 lanes blocks kind values rest
+    → tail_start4 lanes blocks rest ≤ 1 + 8 * blocks + 4 * (32 * lanes * blocks)
+blocks_fit4 lanes blocks kind values rest words is =
+    let sizes = sizes_fit lanes blocks blocks kind values rest words is.whole (omega arith) in
+    let bodies = mul-le (4 * lanes) (begin_at rest blocks) (4 * lanes) (32 * blocks) (omega arith) sizes in
+    let ends : end_len rest ≤ 4 = omega (arith, is.short.ends, (byte_count-few (begin_at rest blocks)).1) in
+    let marks : mark_len rest ≤ 4 = omega (arith, is.short.marks, (byte_count-few (greatest (mark_at blocks rest) blocks)).1) in
+    let front = mul-le (end_len rest + mark_len rest) blocks 8 blocks (omega (arith, ends, marks)) (omega arith) in
+    omega (arith, bodies, front)
+
+header_fits4 : (kind : ListKind) (lanes count : ℕ) → length (header4 kind lanes count) ≤ 6
+unfolding header4
+header_fits4 kind lanes count = omega (arith, length-number_in 5 count)
+
+pub longest4 : Longest4
+longest4 lanes kind values text some few list =
+    let blocks : ℕ = whole_blocks lanes (length values) in
+    let rest : List ℕ = list.rest in
+    let start : ℕ = tail_start4 lanes blocks rest in
+    let left : List ℕ = drop (32 * lanes * blocks) values in
+    let left_words : AreWords left = All-drop (λ v. v < 2 ^ 32) (32 * lanes * blocks) values list.words in
+    let tail : List ℕ = codes (kind_at4 blocks kind rest blocks) left in
+    let tail_long : length tail ≡ tail_values lanes (length values) =
+    as_many_codes (kind_at4 blocks kind rest blocks) left ∙ omega (arith, length-drop (32 * lanes * blocks) values, in_blocks lanes (length values) some) in
+    let fits = groups_fit (groups_of (length tail)) tail (drop start rest) (codes_are_words (kind_at4 blocks kind rest blocks) left left_words) list.is_rest.tail in
+    let front = blocks_fit4 lanes blocks kind values rest list.words list.is_rest in
+    let header = header_fits4 kind lanes (length values) in
+    let parts = ap length list.parts ∙ length-append (header4 kind lanes (length values)) rest in
+    let all : length rest ≡ start + length (drop start rest) = omega (arith, length-drop start rest, list.is_rest.room) in
+    omega (arith, fits, tail_long, front, header, parts, all, in_blocks lanes (length values) some)
+
 -- ---- every version
 
 room_of_blocks : (lanes count : ℕ) → 0 < lanes → 9 * whole_blocks lanes count + tail_values lanes count / 32 ≤ 9 * (count / 32)
 room_of_blocks lanes count some =
     omega (arith, in_blocks lanes count some, mul-le 1 (whole_blocks lanes count) lanes (whole_blocks lanes count) some (omega arith))
+
+room_of_blocks4 : (lanes count : ℕ) → 0 < lanes → 32 * lanes ≤ count
+    → 8 + 8 * whole_blocks lanes count + tail_values lanes count / 32 ≤ 7 + 9 * (count / 32)
+room_of_blocks4 lanes count some many =
+    let one : 0 < whole_blocks lanes count = elim (cases_lt 0 (whole_blocks lanes count)) [
+      | inl lt ↦ lt
+      | inr none ↦
+          let short : 32 * lanes * whole_blocks lanes count ≡ 0 = omega (arith, mul-le (32 * lanes) (whole_blocks lanes count) (32 * lanes) 0 (omega arith) none) in
+          let below : count % (32 * lanes) < 32 * lanes = mod-lt count (omega (arith, some)) in
+          absurd (omega (arith, short, below, many, in_blocks lanes count some))
+    ] in
+    omega (arith, one, in_blocks lanes count some, mul-le 1 (whole_blocks lanes count) lanes (whole_blocks lanes count) some (omega arith))
 
 pub fits_room : FitsRoom
 fits_room lanes kind values text some few =
@@ -142,4 +202,5 @@ fits_room lanes kind values text some few =
       λ list. omega (arith, room, longest1 lanes kind values text some list),
       λ list. omega (arith, room, longest2 lanes kind values text some list),
       λ list. omega (arith, room, longest3 lanes kind values text some few list),
+      λ list. omega (arith, room_of_blocks4 lanes (length values) some list.many, longest4 lanes kind values text some few list),
     )

@@ -9,9 +9,9 @@ use Rattle.bitpacking.specs.Codes.{AreWords, codes}
 use Rattle.bitpacking.specs.Layout.{Layout, codes_of, place, size}
 use Rattle.bitpacking.specs.Words.{joined, word}
 use Rattle.bitpacking.proofs.ForCallers.{one_layout_codes}
-use Rattle.bitpack_lists.specs.Parts.{header, header_fault, is_loose}
+use Rattle.bitpack_lists.specs.Parts.{header, header_fault, is_loose, value_in_parts}
 use Rattle.bitpack_lists.specs.Version1.{IsPart1, block_fault1, blocks_fault1, body_fault1, fault1}
-use Rattle.bitpack_lists.specs.Version2.{block_fault2, entry_fault2, fault2, first_fault, least_below, rest_fault2, value_with}
+use Rattle.bitpack_lists.specs.Version2.{block_fault2, entry_fault2, fault2, first_fault, least_below, rest_fault2}
 use Rattle.bitpack_lists.specs.WorkedOlderTexts.{WorkedFaults1, WorkedFaults2, WorkedTexts1, WorkedTexts2}
 use Rattle.bitpack_lists.specs.WorkedTexts.{listed}
 use Rattle.bitpack_lists.proofs.lemmas.blocks.LooseLemmas.{Decides-fits, Decides-loose}
@@ -67,7 +67,7 @@ worked_texts1 =
     )
 
 pub worked_texts2 : WorkedTexts2
-unfolding fault2 header_fault rest_fault2 first_fault entry_fault2 block_fault2 is_loose word value_with codes_of place joined least_below
+unfolding fault2 header_fault rest_fault2 first_fault entry_fault2 block_fault2 is_loose word value_in_parts codes_of place joined least_below
 worked_texts2 = ((refl, refl, refl), (refl, refl, refl), (refl, refl, refl), (refl, refl, refl))
 
 pub worked_faults1 : WorkedFaults1
@@ -75,5 +75,5 @@ unfolding fault1 header_fault body_fault1 blocks_fault1 block_fault1 is_loose wo
 worked_faults1 = (refl, refl, refl, refl, refl, refl, refl, refl, refl, refl, refl, refl, refl, refl, refl)
 
 pub worked_faults2 : WorkedFaults2
-unfolding fault2 header_fault rest_fault2 first_fault entry_fault2 block_fault2 is_loose word value_with codes_of place joined least_below
+unfolding fault2 header_fault rest_fault2 first_fault entry_fault2 block_fault2 is_loose word value_in_parts codes_of place joined least_below
 worked_faults2 = (refl, refl, refl, refl, refl, refl, refl, refl, refl, refl, refl, refl, refl)

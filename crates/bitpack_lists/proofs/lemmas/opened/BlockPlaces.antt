@@ -9,21 +9,29 @@ use Rattle.bitpack_lists.specs.declared.blocks.reads.Reads.{Reads}
 use Rattle.bitpack_lists.specs.declared.opened.PackedList.{PackedList}
 use Rattle.bitpack_lists.specs.declared.opened.cursor.Cursor.{Cursor}
 use Rattle.bitpack_lists.specs.declared.opened.place.Place.{Place}
+use Rattle.bitpack_lists.specs.declared.list_kind.ListKind.{ListKind}
 use Rattle.bitpack_lists.specs.declared.list_kind.ListKind.TheVariants as lists
 use Rattle.bitpack_lists.specs.Blocks.{HasRead, IsBlockOf, IsFirstReaching, ReadsOne}
 use Rattle.bitpack_lists.specs.Chains.{next_kind}
 use Rattle.bitpack_lists.specs.Cursors.{position, values_of_cursor}
 use Rattle.bitpack_lists.specs.Moves.{MovesOn}
-use Rattle.bitpack_lists.specs.Opened.{kind_of, values}
-use Rattle.bitpack_lists.specs.Parts.{first_kind}
+use Rattle.bitpack_lists.specs.Opened.{CanSearch, kind_of, values}
+use Rattle.bitpack_lists.specs.Parts.{first_kind, kind_after}
 use Rattle.bitpack_lists.specs.Places.{InOrder}
-use Rattle.bitpack_lists.specs.Version2.{kind_at, last_at}
-use Rattle.bitpack_lists.specs.inner.Searching.{EndsBelow, HasPart, IsFirstFrom, blocks_of, number_or_all, rest_of, value_of}
-use Rattle.bitpack_lists.proofs.lemmas.blocks.BlockLemmas.{kind_at_after}
+use Rattle.bitpack_lists.specs.Texts.{MarksLast}
+use Rattle.bitpack_lists.specs.inner.Searching.{EndsBelow, HasPart, IsFirstFrom, blocks_of, kind_of_list, mark_of_list, number_or_all, value_of}
 use Rattle.bitpack_lists.proofs.lemmas.opened.ReadParts.{before_part, in_order_from_kind, part_order, sought_part}
 use Rattle.bitpack_lists.proofs.lemmas.opened.CursorPlaces.{at_most}
 use Rattle.bitpack_lists.proofs.lemmas.opened.CursorSteps.{get_or-first_of, left_tail, left_within, length-first_of, part_end}
 use Rattle.bitpack_lists.proofs.lemmas.opened.OpenedLists.{opened_last}
+use Rattle.bitpack_lists.proofs.lemmas.opened.TextBlocks.{marks_last}
+
+-- A plain block is plain whatever is before it.
+next_after_mark : (kind : ListKind) (mark : ℕ → ℕ) (before last : ℕ) → (kind ≢ lists.Plain → last ≡ mark before)
+    → next_kind (first_kind kind) last ≡ kind_after kind mark (suc before)
+next_after_mark lists.Plain mark before last same = refl
+next_after_mark lists.Sorted mark before last same = rw (same (λ e. absurd cc)) refl
+next_after_mark lists.StrictlySorted mark before last same = rw (same (λ e. absurd cc)) refl
 
 module _ {P : Type 0} {members : Ghosts P} (list : PackedList P members) (some : 1 ≤ members.lanes) where
   abbrev n : ℕ
@@ -65,10 +73,10 @@ module _ {P : Type 0} {members : Ghosts P} (list : PackedList P members) (some :
 
   -- What a caller knows of a part that was read.
   pub part_read : members.lanes ≤ 8 → (block len : ℕ) (out : List ℕ) → HasPart list block len out
-      → HasRead members.lanes Has (InOrder (values list)) block len out
+      → HasRead members.lanes Has (CanSearch list) block len out
   part_read lanes block len out part = record {
     is = λ all is. rw is (part_listed block len out part);
-    ordered = λ ordered. part_order list some block len out part ordered;
+    ordered = λ can. part_order list some block len out part can.0;
     few = omega (arith, left_within n list.count (omega arith) block part.within, part.len_is, list.few);
     short = omega (arith, part.len_is);
   }
@@ -109,19 +117,20 @@ module _ {P : Type 0} {members : Ghosts P} (list : PackedList P members) (some :
         values_are = each;
       })
 
-  -- The last value of a block is that of its entry.
-  last_listed : (block : ℕ) → block < blocks_of list → get_or (values list) (n * block + (n - 1)) 0 ≡ last_at (rest_of list) block
-  last_listed block lt =
+  -- The last value of a block is its mark.
+  last_listed : MarksLast list.version list.kind → (block : ℕ) → block < blocks_of list
+      → get_or (values list) (n * block + (n - 1)) 0 ≡ mark_of_list list block
+  last_listed last block lt =
       get_or-first_of (value_of list) list.count (n * block + (n - 1)) (omega (arith, part_end n list.count (omega arith) block lt))
-      ∙ opened_last list some block lt
+      ∙ opened_last list some last block lt
 
-  pub below_ends : (target block : ℕ) → block ≤ blocks_of list → (0 < block → get_or (values list) (n * block - 1) 0 < target)
+  pub below_ends : MarksLast list.version list.kind → (target block : ℕ) → block ≤ blocks_of list → (0 < block → get_or (values list) (n * block - 1) 0 < target)
       → EndsBelow list target block
-  below_ends target block le below before e =
+  below_ends last target block le below before e =
       let at : n * before + (n - 1) ≡ n * block - 1 = rw (sym e) (omega arith) in
       let least : get_or (values list) (n * block - 1) 0 < target = below (omega (arith, e)) in
       let here : get_or (values list) (n * before + (n - 1)) 0 < target = rw at least in
-      rw (last_listed before (omega (arith, e))) at here
+      rw (last_listed last before (omega (arith, e))) at here
 
   -- Each block up to the current one was unpacked at most once, at the start and after each move.
   pub once_first : (place : Place) (before after : Reads) → place.block ≡ 0 → before.blocks ≡ 0
@@ -132,7 +141,7 @@ module _ {P : Type 0} {members : Ghosts P} (list : PackedList P members) (some :
   ]
 
   pub once_kept : (old new : Place) (before after : Reads) → before.blocks ≤ min (old.block + 1) (blocks_of list)
-      → MovesOn members.lanes Has (InOrder (values list)) old new before after → after.blocks ≤ min (new.block + 1) (blocks_of list)
+      → MovesOn members.lanes Has (CanSearch list) old new before after → after.blocks ≤ min (new.block + 1) (blocks_of list)
   once_kept old new before after once moved = elim (cases_lt new.block (blocks_of list)) [
     | inl lt ↦ omega (arith, once, moved.later)
     | inr past ↦ omega (arith, once, moved.later, moved.reads.rest (λ all is. rw (is, long) past))
@@ -140,29 +149,27 @@ module _ {P : Type 0} {members : Ghosts P} (list : PackedList P members) (some :
 
   -- The kind of a block goes on from the last value before it.
   pub kind_from : (block last : ℕ) → block ≤ blocks_of list → 0 < block → get_or (values list) (n * block - 1) 0 ≡ last
-      → next_kind (first_kind list.kind) last ≡ kind_at list.kind (rest_of list) block
+      → next_kind (first_kind list.kind) last ≡ kind_of_list list block
   kind_from zero last within later is = absurd (omega arith)
   kind_from (suc before) last within later is =
       let at : n * before + (n - 1) ≡ n * suc before - 1 = omega arith in
-      let same : last ≡ last_at (rest_of list) before =
-      sym is ∙ ap (λ i. get_or (values list) i 0) (sym at) ∙ last_listed before (omega arith) in
-      let next : before + 1 ≡ suc before = omega arith in
-      rw next at (kind_at_after list.kind (rest_of list) before last same)
+      next_after_mark list.kind (mark_of_list list) before last (λ ordered.
+      sym is ∙ ap (λ i. get_or (values list) i 0) (sym at) ∙ last_listed (marks_last list.version list.kind ordered) before (omega arith))
 
-  pub reaching_listed : InOrder (values list) → (target from number : ℕ) (found : _) → IsFirstFrom list target from found
+  pub reaching_listed : InOrder (values list) → MarksLast list.version list.kind → (target from number : ℕ) (found : _) → IsFirstFrom list target from found
       → number ≡ number_or_all list found → number ≤ blocks_of list → IsFirstReaching members.lanes (values list) target from number
-  reaching_listed ordered target from number found is same within =
+  reaching_listed ordered last target from number found is same within =
       let next = sought_part list target from number found is same in
       record {
         forward = next.0;
         within = rw long within;
         before = λ k lt.
-            let least = before_part list some ordered target number next.1.0 within k lt in
+            let least = before_part list some ordered last target number next.1.0 within k lt in
             let inside : k < list.count = omega (arith, left_within n list.count (omega arith) number within) in
             rw (get_or-first_of (value_of list) list.count k inside) least;
         enough = λ lt.
             let here : number < blocks_of list = rw long at lt in
-            rw (last_listed number here) (next.1.1 here);
+            rw (last_listed last number here) (next.1.1 here);
       }
 
 -- a cursor is at a value of its list, or after the last

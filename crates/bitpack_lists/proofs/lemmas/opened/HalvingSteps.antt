@@ -1,14 +1,13 @@
--- A search that halves the blocks that are left, whatever an entry says: what is known between two entries.
+-- A search that halves the blocks that are left, whatever a mark says: what is known between two marks.
 -- Serves opened.
-use Rattle.std.proofs.Common.{◌≡◌, ℕ, zero, suc, ◌+◌, ◌-◌, ◌/◌, ◌^◌, ◌<◌, ◌≤◌, ◌⊎◌, List, refl, sym, arith, inl, inr}
+use Rattle.std.proofs.Common.{◌≡◌, ℕ, zero, suc, ◌+◌, ◌-◌, ◌/◌, ◌^◌, ◌<◌, ◌≤◌, ◌⊎◌, refl, sym, arith, inl, inr}
 use Rattle.std.proofs.lemmas.Bool.{cases_lt}
 use Rattle.bitpacking.specs.declared.bit_packer.BitPacker.{Ghosts}
 use Rattle.bitpack_lists.specs.declared.opened.PackedList.{PackedList}
 use Rattle.bitpack_lists.specs.Chains.{next_kind}
 use Rattle.bitpack_lists.specs.Parts.{first_kind}
-use Rattle.bitpack_lists.specs.inner.Searching.{EndsBelow, blocks_of, rest_of}
-use Rattle.bitpack_lists.specs.Version2.{kind_at, last_at, offset_at, width_at}
-use Rattle.bitpack_lists.proofs.lemmas.blocks.BlockLemmas.{kind_at_after}
+use Rattle.bitpack_lists.specs.inner.Searching.{EndsBelow, blocks_of, kind_of_list, mark_of_list}
+use Rattle.bitpack_lists.proofs.lemmas.blocks.BlockLemmas.{kind_after-next}
 
 -- Half of what is left has a digit less.
 pub digits_less : (left digits entries most : ℕ) → 0 < left → left < 2 ^ digits → entries + digits ≤ most
@@ -17,41 +16,35 @@ digits_less left zero entries most some span few = absurd (omega arith)
 digits_less left (suc less) entries most some span few = (less, omega arith, omega arith)
 
 module _ {P : Type 0} {members : Ghosts P} (list : PackedList P members) (target : ℕ) where
-  abbrev rest : List ℕ
-  rest = rest_of list
+  abbrev mark : ℕ → ℕ
+  mark = mark_of_list list
 
-  -- the block that was read last of those that reach the target, if any was read
-  pub record IsFoundAt (end is_found width offset : ℕ) : Type 0 where
-    pub bit : is_found ≤ 1
-    pub none : is_found ≡ 0 → end ≡ blocks_of list
-    pub some : is_found ≡ 1 → (end < blocks_of list) × (width ≡ width_at rest end) × (offset ≡ offset_at rest end) × (target ≤ last_at rest end)
-
-  -- the blocks before one end below the target, and the value before it is known; or it does itself, and is read again
+  -- the blocks before one have marks below the target, and the mark before it is known; or it has one itself, and is read again
   abbrev pub Passed : ℕ → ℕ → ℕ → Type 0
   Passed low left before =
-      (EndsBelow list target low × (0 < low → kind_at list.kind rest low ≡ next_kind (first_kind list.kind) before))
-      ⊎ ((0 < left) × (last_at rest low < target))
+      (EndsBelow list target low × (0 < low → kind_of_list list low ≡ next_kind (first_kind list.kind) before))
+      ⊎ ((0 < left) × (mark low < target))
 
-  pub record IsHalved (low left before is_found width offset : ℕ) : Type 0 where
+  -- the first block that reaches the target is one of those that are left, or the one after them, if there is one
+  pub record IsHalved (low left before : ℕ) : Type 0 where
     pub within : low + left ≤ blocks_of list
-    pub found : IsFoundAt (low + left) is_found width offset
+    pub enough : low + left < blocks_of list → target ≤ mark (low + left)
     pub passed : Passed low left before
 
-  module _ (low left before is_found width offset : ℕ) (is : IsHalved low left before is_found width offset) where
-    -- An entry below the target leaves those after it, and itself if the number is even.
-    pub halved_below : 0 < left → last_at rest (low + left / 2) < target
-        → IsHalved (low + (left - left / 2)) (left / 2) (last_at rest (low + left / 2)) is_found width offset
+  module _ (low left before : ℕ) (is : IsHalved low left before) where
+    -- A mark below the target leaves those after it, and itself if the number is even.
+    pub halved_below : 0 < left → mark (low + left / 2) < target → IsHalved (low + (left - left / 2)) (left / 2) (mark (low + left / 2))
     halved_below some below =
         let same : low + (left - left / 2) + left / 2 ≡ low + left = omega arith in
         record {
           within = omega (arith, is.within);
-          found = rw same is.found;
+          enough = rw same is.enough;
           passed = elim (cases_lt (left / 2) (left - left / 2)) [
             | inl odd ↦
                 let next : low + (left - left / 2) ≡ low + left / 2 + 1 = omega (arith, odd) in
                 rw next (inl (
                   λ block e. let here : block ≡ low + left / 2 = omega (arith, e) in rw here below,
-                  λ _. sym (kind_at_after list.kind rest (low + left / 2) (last_at rest (low + left / 2)) refl),
+                  λ _. sym (kind_after-next list.kind mark (low + left / 2) (mark (low + left / 2)) refl),
                 ))
             | inr even ↦
                 let here : low + (left - left / 2) ≡ low + left / 2 = omega (arith, even) in
@@ -60,22 +53,17 @@ module _ {P : Type 0} {members : Ghosts P} (list : PackedList P members) (target
         }
 
     -- One that reaches it leaves those before it.
-    pub halved_reaching : 0 < left → target ≤ last_at rest (low + left / 2)
-        → IsHalved low (left / 2) before 1 (width_at rest (low + left / 2)) (offset_at rest (low + left / 2))
+    pub halved_reaching : 0 < left → target ≤ mark (low + left / 2) → IsHalved low (left / 2) before
     halved_reaching some enough = record {
       within = omega (arith, is.within);
-      found = record {
-        bit = omega arith;
-        none = λ e. absurd (omega (arith, e));
-        some = λ _. (omega (arith, is.within, some), refl, refl, enough);
-      };
+      enough = λ _. enough;
       passed = elim is.passed [
         | inl known ↦ inl known
         | inr again ↦ elim (cases_lt 0 (left / 2)) [
           | inl more ↦ inr (more, again.1)
           | inr last ↦
               let here : low + left / 2 ≡ low = omega (arith, last) in
-              let reached : target ≤ last_at rest low = rw here at enough in
+              let reached : target ≤ mark low = rw here at enough in
               absurd (omega (arith, reached, again.1))
         ]
       ];

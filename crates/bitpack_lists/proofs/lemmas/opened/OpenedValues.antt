@@ -16,6 +16,7 @@ use Rattle.bitpack_lists.specs.Search.{first_at_least, first_reaching}
 use Rattle.bitpack_lists.specs.Texts.{IsText, IsTextOfNoOther, States, fault_in, stated_kind, value_in}
 use Rattle.bitpack_lists.specs.Version2.{List2, fault2, first_out, value_at}
 use Rattle.bitpack_lists.specs.Version3.{List3, count3, header_end, kind3}
+use Rattle.bitpack_lists.specs.Version4.{List4, count4, header_end4, kind4}
 use Rattle.bitpack_lists.specs.inner.Searching.{value_of}
 use Rattle.bitpack_lists.specs.inner.Walks.{values_in}
 use Rattle.bitpack_lists.proofs.lemmas.opened.CursorSteps.{first_of-same, get_or-first_of, length-first_of}
@@ -24,6 +25,8 @@ use Rattle.bitpack_lists.proofs.lemmas.v2.OneText2.{no_fault2}
 use Rattle.bitpack_lists.proofs.lemmas.blocks.SearchLemmas.{first_same}
 use Rattle.bitpack_lists.proofs.lemmas.v2.Soundness2.{kind_of_byte-is, none_from_list2, value_given}
 use Rattle.bitpack_lists.proofs.lemmas.v3.Soundness3.{list_from_none3, list_given3}
+use Rattle.bitpack_lists.proofs.lemmas.v4.OtherVersions.{not_another4}
+use Rattle.bitpack_lists.proofs.lemmas.v4.Soundness4.{list_from_none4, list_given4}
 use Rattle.bitpack_lists.proofs.lemmas.opened.Versions.{one_version}
 use Rattle.bitpack_lists.proofs.lemmas.opened.Sharing.{AreValues}
 
@@ -65,16 +68,26 @@ given_only3 lanes bytes some small kind others is =
       first_of-same (value_in versions.Three lanes (count3 bytes) (kind3 bytes) (drop (header_end bytes) bytes)) (count3 bytes) others long each,
     )
 
+given_only4 : GivenOnly versions.Four
+unfolding GivenOnly
+given_only4 lanes bytes some small kind others is =
+    let (same, long, each) = list_given4 lanes kind others bytes some small is in (
+      same,
+      first_of-same (value_in versions.Four lanes (count4 bytes) (kind4 bytes) (drop (header_end4 bytes) bytes)) (count4 bytes) others long each,
+    )
+
 pub given_only : (version : Version) (lanes : ℕ) (bytes : List ℕ) → 1 ≤ lanes → AreBytes bytes
     → IsTextOfNoOther version lanes (stated_kind version bytes) (stated_values version lanes bytes) bytes
 unfolding GivenOnly
 given_only versions.Two = given_only2
 given_only versions.Three = given_only3
+given_only versions.Four = given_only4
 
 some_list : (version : Version) (lanes : ℕ) (bytes : List ℕ) → 1 ≤ lanes → AreBytes bytes → fault_in version lanes bytes ≡ None
     → (kind : ListKind) × (others : List ℕ) × IsText version lanes kind others bytes
 some_list versions.Two lanes bytes some small none = (no_fault2 lanes bytes some small).0 none
 some_list versions.Three lanes bytes some small none = list_from_none3 lanes bytes some small none
+some_list versions.Four lanes bytes some small none = list_from_none4 lanes bytes some small none
 
 pub given_list : (version : Version) (lanes : ℕ) (bytes : List ℕ) → 1 ≤ lanes → AreBytes bytes → fault_in version lanes bytes ≡ None
     → IsText version lanes (stated_kind version bytes) (stated_values version lanes bytes) bytes
@@ -115,12 +128,20 @@ module _ {P : Type 0} {members : Ghosts P} (list : PackedList P members) (some :
   pub opened_only3 : version_of list ≡ versions.Three → IsTextOfNoOther versions.Three members.lanes (kind_of list) (values list) (text list)
   opened_only3 three = subst (λ version. IsTextOfNoOther version members.lanes (kind_of list) (values list) (text list)) three opened_only
 
+  -- of a list of version 4
+  pub opened_list4 : version_of list ≡ versions.Four → List4 members.lanes (kind_of list) (values list) (text list)
+  opened_list4 four = subst (λ version. IsText version members.lanes (kind_of list) (values list) (text list)) four opened_list
+
+  pub opened_only4 : version_of list ≡ versions.Four → IsTextOfNoOther versions.Four members.lanes (kind_of list) (values list) (text list)
+  opened_only4 four = subst (λ version. IsTextOfNoOther version members.lanes (kind_of list) (values list) (text list)) four opened_only
+
   pub opened_ordered_values : first_out (kind_of list) (values list) ≡ None
   opened_ordered_values = ordered (version_of list) opened_list
     where
       ordered : (version : Version) → IsText version members.lanes (kind_of list) (values list) (text list) → first_out (kind_of list) (values list) ≡ None
       ordered versions.Two is = is.ordered
       ordered versions.Three is = is.ordered
+      ordered versions.Four is = is.ordered
 
   pub opened_are_words : AreWords (values list)
   opened_are_words = words (version_of list) opened_list
@@ -128,6 +149,7 @@ module _ {P : Type 0} {members : Ghosts P} (list : PackedList P members) (some :
       words : (version : Version) → IsText version members.lanes (kind_of list) (values list) (text list) → AreWords (values list)
       words versions.Two is = is.words
       words versions.Three is = is.words
+      words versions.Four is = is.words
 
   -- what is the text of a list of version 2 was opened as such
   same_version : (version : Version) → fault_in version members.lanes (text list) ≡ None
@@ -136,6 +158,11 @@ module _ {P : Type 0} {members : Ghosts P} (list : PackedList P members) (some :
   same_version versions.Three none kind others is =
       let right : fault2 members.lanes (text list) ≡ None = none_from_list2 members.lanes kind others (text list) some list.are_bytes is in
       let wrong = ((one_version members.lanes members.lanes (text list)).1 right).1 in
+      let clash : Some (BadVersion 2) ≡ None = sym wrong ∙ none in
+      absurd cc
+  same_version versions.Four none kind others is =
+      let right : fault2 members.lanes (text list) ≡ None = none_from_list2 members.lanes kind others (text list) some list.are_bytes is in
+      let wrong = (not_another4 members.lanes members.lanes (text list)).2 right in
       let clash : Some (BadVersion 2) ≡ None = sym wrong ∙ none in
       absurd cc
 

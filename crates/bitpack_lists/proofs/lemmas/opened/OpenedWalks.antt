@@ -7,22 +7,15 @@ use Rattle.bitpacking.specs.declared.bit_packer.BitPacker.{Ghosts}
 use Rattle.bitpack_lists.specs.declared.opened.PackedList.{PackedList}
 use Rattle.bitpack_lists.specs.declared.list_kind.ListKind.TheVariants as lists
 use Rattle.bitpack_lists.specs.Parts.{tail_values, whole_blocks}
-use Rattle.bitpack_lists.specs.Version2.{last_at}
-use Rattle.bitpack_lists.specs.inner.Searching.{block_of_list, blocks_of, rest_of, value_of}
+use Rattle.bitpack_lists.specs.inner.Searching.{block_of_list, blocks_of, mark_of_list, value_of}
 use Rattle.bitpack_lists.specs.inner.Walks.{AreNext, Begun, values_in}
 use Rattle.bitpack_lists.proofs.lemmas.opened.CursorSteps.{get_or-first_of}
 use Rattle.bitpack_lists.proofs.lemmas.opened.OpenedLists.{opened_at, opened_last, opened_length, opened_ordered}
 use Rattle.bitpack_lists.proofs.lemmas.opened.OpenedValues.{length-values, opened_are_words}
 use Rattle.bitpack_lists.proofs.lemmas.blocks.SearchLemmas.{in_order}
 use Rattle.bitpack_lists.proofs.lemmas.opened.Sharing.{InOrder}
+use Rattle.bitpack_lists.proofs.lemmas.opened.TextBlocks.{marks_last}
 use Rattle.bitpack_lists.proofs.lemmas.opened.Walking.{stage_of}
-
--- No list has the block of the number that stands for none.
-pub few_blocks : (lanes count : ℕ) → 1 ≤ lanes → count ≤ 2 ^ 28 → whole_blocks lanes count ≤ 2 ^ 28
-few_blocks lanes count some few =
-    let b : ℕ = count / (32 * lanes) in
-    let each : 1 * b ≤ 32 * lanes * b = mul-le 1 b (32 * lanes) b (omega arith) (omega arith) in
-    omega (arith, each, div-add-mod count (32 * lanes))
 
 pub few_in_tail : (lanes count : ℕ) → 1 ≤ lanes → lanes ≤ 8 → tail_values lanes count ≤ 256
 few_in_tail lanes count some few =
@@ -59,12 +52,12 @@ module _ {P : Type 0} {members : Ghosts P} (list : PackedList P members) (some :
       )
 
   -- A block that is passed over has values below its last.
-  pub block_below : (block want last : ℕ) → block < blocks → last ≡ last_at (rest_of list) block → last < want → (k : ℕ) → k < n * (block + 1)
+  pub block_below : (block want last : ℕ) → block < blocks → last ≡ mark_of_list list block → last < want → (k : ℕ) → k < n * (block + 1)
       → value_of list k < want
   block_below block want last lt is below k within =
       let room = block_room block lt in
       let le = opened_order k (n * block + (n - 1)) (omega arith) (omega arith) in
-      omega (arith, le, opened_last list some block lt, is, below)
+      omega (arith, le, opened_last list some (marks_last list.version list.kind ordered) block lt, is, below)
 
   pub next_tail : (begun : Begun) (unpacked due : ℕ) (values : List ℕ) → length values ≡ tail_values members.lanes list.count
       → ((k : ℕ) → k < length values → get_or values k 0 ≡ value_of list (n * blocks + k)) → AreNext (stage_of (values_in list) begun (n * blocks) unpacked due) values

@@ -10,15 +10,15 @@ use Rattle.bitpack_lists.specs.declared.version.Version.{Version}
 use Rattle.bitpack_lists.specs.declared.version.Version.TheVariants as versions
 use Rattle.bitpack_lists.specs.declared.opened.outline.ListOutline.{ListOutline}
 use Rattle.bitpack_lists.specs.Outlines.{IsOutline, before_of, kind_of_tail, version_number, version_of_number}
-use Rattle.bitpack_lists.specs.Parts.{kind_of_byte, whole_blocks}
+use Rattle.bitpack_lists.specs.Parts.{kind_after, kind_of_byte, whole_blocks}
 use Rattle.bitpack_lists.specs.Texts.{IsText, version_in}
-use Rattle.bitpack_lists.specs.Version2.{kind_at}
 use Rattle.bitpack_lists.proofs.lemmas.opened.CursorSteps.{length-first_of}
 use Rattle.bitpack_lists.proofs.lemmas.opened.OpenedValues.{given_of}
 
 pub version_again : (version : Version) → version_of_number (version_number version) ≡ version
 version_again versions.Two = refl
 version_again versions.Three = refl
+version_again versions.Four = refl
 
 -- What is after the first bytes is found by its length.
 pub drop_by_length : (n : ℕ) (xs rest : List ℕ) → rest ≡ drop n xs → drop (length xs - length rest) xs ≡ rest
@@ -31,16 +31,16 @@ drop_by_length n xs rest is = elim (cases_lt (length xs) n) [
       rw is (ap (λ k. drop k xs) here)
 ]
 
-next_again : (kind : ListKind) (rest : List ℕ) (block lanes count : ℕ) → 32 * lanes ≤ count
-    → kind_of_tail lanes kind count (before_of (kind_at kind rest (suc block))) ≡ kind_at kind rest (suc block)
-next_again lists.Plain rest block lanes count le = rw (le-ltb count (32 * lanes) le) refl
-next_again lists.Sorted rest block lanes count le = rw (le-ltb count (32 * lanes) le) refl
-next_again lists.StrictlySorted rest block lanes count le = rw (le-ltb count (32 * lanes) le) refl
+next_again : (kind : ListKind) (last : ℕ → ℕ) (block lanes count : ℕ) → 32 * lanes ≤ count
+    → kind_of_tail lanes kind count (before_of (kind_after kind last (suc block))) ≡ kind_after kind last (suc block)
+next_again lists.Plain last block lanes count le = rw (le-ltb count (32 * lanes) le) refl
+next_again lists.Sorted last block lanes count le = rw (le-ltb count (32 * lanes) le) refl
+next_again lists.StrictlySorted last block lanes count le = rw (le-ltb count (32 * lanes) le) refl
 
 -- What is packed in a tail is known from the value before it.
-pub tail_kind_again : (lanes count : ℕ) (kind : ListKind) (rest : List ℕ) → 1 ≤ lanes
-    → kind_of_tail lanes kind count (before_of (kind_at kind rest (whole_blocks lanes count))) ≡ kind_at kind rest (whole_blocks lanes count)
-tail_kind_again lanes count kind rest some = from (whole_blocks lanes count) refl
+pub tail_kind_again : (lanes count : ℕ) (kind : ListKind) (last : ℕ → ℕ) → 1 ≤ lanes
+    → kind_of_tail lanes kind count (before_of (kind_after kind last (whole_blocks lanes count))) ≡ kind_after kind last (whole_blocks lanes count)
+tail_kind_again lanes count kind last some = from (whole_blocks lanes count) refl
   where
     positive : 0 < 32 * lanes
     positive = omega (arith, some)
@@ -51,13 +51,13 @@ tail_kind_again lanes count kind rest some = from (whole_blocks lanes count) ref
         omega (arith, below)
 
     from : (blocks : ℕ) → count / (32 * lanes) ≡ blocks
-        → kind_of_tail lanes kind count (before_of (kind_at kind rest blocks)) ≡ kind_at kind rest blocks
+        → kind_of_tail lanes kind count (before_of (kind_after kind last blocks)) ≡ kind_after kind last blocks
     from zero e = rw (lt-ltb count (32 * lanes) (few e)) refl
     from (suc block) e = elim (cases_lt count (32 * lanes)) [
       | inl few ↦
           let none : count / (32 * lanes) < 1 = (div-lt_iff_lt-mul positive).1 (omega (arith, few)) in
           absurd (omega (arith, none, e))
-      | inr le ↦ next_again kind rest block lanes count le
+      | inr le ↦ next_again kind last block lanes count le
     ]
 
 -- An outline says the kind of the list and how many values it has.

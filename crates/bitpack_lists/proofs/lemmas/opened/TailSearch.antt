@@ -1,9 +1,9 @@
 -- Values of groups, one group after the other, and the first that reaches a target.
 -- Serves opened.
-use Rattle.std.proofs.Common.{◌≡◌, ℕ, ◌==◌, false, ltb, ◌+◌, ◌-◌, ◌*◌, min, ◌<◌, ◌≤◌, Option, Some, None, List, [], ◌∷◌, ◌++◌, length, drop, get_or, refl, sym, ◌∙◌, ap, arith, inl}
+use Rattle.std.proofs.Common.{◌≡◌, ◌≢◌, ℕ, ◌+◌, ◌-◌, ◌*◌, min, ◌<◌, ◌≤◌, Option, Some, None, List, [], ◌∷◌, ◌++◌, length, drop, get_or, refl, sym, ◌∙◌, ap, arith, inl}
 use Rattle.std.specs.Option.{option_map, option_or}
 use Rattle.std.proofs.Math.Nat.{div-add-mod, div-lt_iff_lt-mul}
-use Rattle.std.proofs.lemmas.Bool.{and_left, leb-false, lt-ltb, ne_eqb}
+use Rattle.std.proofs.lemmas.Bool.{leb-false, lt-ltb}
 use Rattle.std.proofs.lemmas.List.{drop-drop, drop_at, get_or-drop, get_or-take, get_or_append_left}
 use Rattle.bitpacking.specs.declared.bit_packer.BitPacker.{Ghosts}
 use Rattle.bitpacking.specs.declared.kind.Kind.{Kind}
@@ -17,11 +17,13 @@ use Rattle.bitpack_lists.specs.Numbers.{number_end, number_fault, number_value}
 use Rattle.bitpack_lists.specs.Parts.{tail_values}
 use Rattle.bitpack_lists.specs.Search.{first_reaching}
 use Rattle.bitpack_lists.specs.Version2.{least_below}
-use Rattle.bitpack_lists.specs.Version3.{has_first, tail_codes3, tail_fault3, tail_values3}
-use Rattle.bitpack_lists.specs.inner.Searching.{blocks_of, rest_of, value_of}
+use Rattle.bitpack_lists.specs.Version3.{tail_codes3, tail_fault3}
+use Rattle.bitpack_lists.specs.inner.Searching.{blocks_of, value_of}
+use Rattle.bitpack_lists.specs.inner.Tails.{groups_of_list}
 use Rattle.bitpack_lists.proofs.lemmas.blocks.CodeLemmas.{length-values_of, values_of-append}
 use Rattle.bitpack_lists.proofs.lemmas.blocks.GroupSteps.{codes-next, tail-first}
 use Rattle.bitpack_lists.proofs.lemmas.opened.OpenedLists.{front_values, tail_at, tail_right}
+use Rattle.bitpack_lists.proofs.lemmas.opened.TextBlocks.{groups-codes, groups-fault}
 use Rattle.bitpack_lists.proofs.lemmas.blocks.Orders.{least_below-further}
 use Rattle.bitpack_lists.proofs.lemmas.blocks.SearchLemmas.{least_below-none, reaches}
 
@@ -104,23 +106,12 @@ module _ (kind : Kind) (code : ℕ) (codes : List ℕ) where
 
 -- ---- the tail of an opened list
 
-no_first : (blocks tail : ℕ) → 0 < blocks → has_first blocks tail ≡ false
-no_first blocks tail some = and_left (blocks == 0) (ltb 0 tail) (ne_eqb blocks 0 (λ e. omega (arith, some, e)))
-
-groups-fault : (blocks tail : ℕ) (bytes : List ℕ) → 0 < blocks → tail_fault3 blocks tail bytes ≡ groups_fault (groups_of tail) blocks tail bytes
-unfolding tail_fault3
-groups-fault blocks tail bytes some = rw (no_first blocks tail some) refl
-
-groups-codes : (blocks tail : ℕ) (bytes : List ℕ) → 0 < blocks → tail_codes3 blocks tail bytes ≡ groups_codes (groups_of tail) tail bytes
-unfolding tail_codes3
-groups-codes blocks tail bytes some = rw (no_first blocks tail some) refl
-
 first-fault : (blocks tail : ℕ) (bytes : List ℕ) → blocks ≡ 0 → 0 < tail → tail_fault3 blocks tail bytes
     ≡ option_or (number_fault bytes) (groups_fault (groups_of (tail - 1)) 0 (tail - 1) (drop (number_end bytes) bytes))
 unfolding tail_fault3
 first-fault blocks tail bytes none some = rw (none, lt-ltb 0 tail some) refl
 
-module _ {P : Type 0} {members : Ghosts P} (list : PackedList P members) (some : 1 ≤ members.lanes) (three : list.version ≡ versions.Three) where
+module _ {P : Type 0} {members : Ghosts P} (list : PackedList P members) (some : 1 ≤ members.lanes) (other : list.version ≢ versions.Two) where
   abbrev tail : ℕ
   tail = tail_values members.lanes list.count
 
@@ -130,13 +121,13 @@ module _ {P : Type 0} {members : Ghosts P} (list : PackedList P members) (some :
   tail_value_is : (k : ℕ) → k < tail
       → value_of list (32 * members.lanes * blocks_of list + k) ≡ get_or (values_of list.tail_kind (tail_codes3 (blocks_of list) tail bytes)) k 0
   tail_value_is k lt =
-      tail_at list some three k
-      ∙ sym (get_or-take tail (tail_values3 members.lanes (blocks_of list) tail list.kind (rest_of list)) k 0 lt)
-      ∙ ap (λ zs. get_or zs k 0) (sym (front_values list some three tail (inl refl)))
+      tail_at list some other k
+      ∙ sym (get_or-take tail (groups_of_list list) k 0 lt)
+      ∙ ap (λ zs. get_or zs k 0) (sym (front_values list some other tail (inl refl)))
 
   module _ (whole : 0 < blocks_of list) where
     pub whole_right : groups_fault (groups_of tail) (blocks_of list) tail bytes ≡ None
-    whole_right = sym (groups-fault (blocks_of list) tail bytes whole) ∙ tail_right list some three
+    whole_right = sym (groups-fault (blocks_of list) tail bytes whole) ∙ tail_right list some other
 
     pub whole_value : (k : ℕ) → k < tail
         → value_of list (32 * members.lanes * blocks_of list + k) ≡ get_or (values_of list.tail_kind (groups_codes (groups_of tail) tail bytes)) k 0
@@ -158,7 +149,7 @@ module _ {P : Type 0} {members : Ghosts P} (list : PackedList P members) (some :
 
     both_right : option_or (number_fault bytes) (groups_fault (groups_of (list.count - 1)) 0 (list.count - 1) (drop (number_end bytes) bytes)) ≡ None
     both_right =
-        rw all_tail at (sym (first-fault (blocks_of list) tail bytes none_whole (omega (arith, all_tail, count_some))) ∙ tail_right list some three)
+        rw all_tail at (sym (first-fault (blocks_of list) tail bytes none_whole (omega (arith, all_tail, count_some))) ∙ tail_right list some other)
 
     pub first_right : number_fault bytes ≡ None
     first_right = left (number_fault bytes) _ both_right

@@ -1,7 +1,6 @@
--- Texts of version 2 or 3 and the kind that they state.
+-- Texts of versions 2 to 4 and the kind that they state.
 -- Serves opened.
-use Rattle.std.proofs.Common.{◌≡◌, ℕ, ◌≤◌, List, get_or, None, ◌∙◌, ap, subst, inl, inr}
-use Rattle.std.proofs.lemmas.Bool.{cases_lt, le-ltb, lt-ltb}
+use Rattle.std.proofs.Common.{◌≡◌, ℕ, ◌≤◌, List, None, ◌∙◌, ap, subst}
 use Rattle.bitpacking.specs.Bits.{AreBytes}
 use Rattle.bitpacking.specs.declared.bit_packer.BitPacker.{Ghosts}
 use Rattle.bitpack_lists.specs.declared.opened.PackedList.{PackedList}
@@ -9,30 +8,26 @@ use Rattle.bitpack_lists.specs.declared.list_kind.ListKind.{ListKind}
 use Rattle.bitpack_lists.specs.declared.version.Version.{Version}
 use Rattle.bitpack_lists.specs.declared.version.Version.TheVariants as versions
 use Rattle.bitpack_lists.specs.Opened.{values}
-use Rattle.bitpack_lists.specs.Texts.{IsText, fault_in, fault_of_either, stated_kind, version_in}
+use Rattle.bitpack_lists.specs.Texts.{IsText, fault_in, fault_of_any, stated_kind, version_in}
 use Rattle.bitpack_lists.specs.Version3.{HasCode}
 use Rattle.bitpack_lists.proofs.lemmas.opened.OpenedValues.{given_only}
 use Rattle.bitpack_lists.proofs.lemmas.v2.Soundness2.{none_from_list2}
 use Rattle.bitpack_lists.proofs.lemmas.v3.Soundness3.{none_from_list3}
-use Rattle.bitpack_lists.proofs.lemmas.opened.Versions.{version_right}
+use Rattle.bitpack_lists.proofs.lemmas.v4.Soundness4.{none_from_list4}
+use Rattle.bitpack_lists.proofs.lemmas.opened.FirstBytes.{version_right}
 
 none_in : (version : Version) (lanes : ℕ) (kind : ListKind) (values bytes : List ℕ) → 1 ≤ lanes → HasCode lanes → AreBytes bytes
     → IsText version lanes kind values bytes → fault_in version lanes bytes ≡ None
 none_in versions.Two lanes kind values bytes some known small is = none_from_list2 lanes kind values bytes some small is
 none_in versions.Three lanes kind values bytes some known small is = none_from_list3 lanes kind values bytes some known small is
-
-in_either : (version : Version) (lanes : ℕ) (bytes : List ℕ) → version_in bytes ≡ version → fault_of_either lanes bytes ≡ fault_in version lanes bytes
-in_either version lanes bytes is = elim (cases_lt (get_or bytes 0 0) 64) [
-  | inl low ↦ rw (lt-ltb (get_or bytes 0 0) 64 low) (ap (λ v. fault_in v lanes bytes) (rw (lt-ltb (get_or bytes 0 0) 64 low) at is))
-  | inr high ↦ rw (le-ltb (get_or bytes 0 0) 64 high) (ap (λ v. fault_in v lanes bytes) (rw (le-ltb (get_or bytes 0 0) 64 high) at is))
-]
+none_in versions.Four lanes kind values bytes some known small is = none_from_list4 lanes kind values bytes some known small is
 
 -- A text has no fault as one of the version that its first byte says.
-pub none_of_either : (version : Version) (lanes : ℕ) (kind : ListKind) (values bytes : List ℕ) → 1 ≤ lanes → HasCode lanes → AreBytes bytes
-    → IsText version lanes kind values bytes → fault_of_either lanes bytes ≡ None
-none_of_either version lanes kind values bytes some known small is =
+pub none_of_any : (version : Version) (lanes : ℕ) (kind : ListKind) (values bytes : List ℕ) → 1 ≤ lanes → HasCode lanes → AreBytes bytes
+    → IsText version lanes kind values bytes → fault_of_any lanes bytes ≡ None
+none_of_any version lanes kind values bytes some known small is =
     let none = none_in version lanes kind values bytes some known small is in
-    in_either version lanes bytes (version_right version lanes bytes none) ∙ none
+    rw (version_right version lanes bytes none) none
 
 -- The kind that it states is that of its list.
 pub kind_in : (version : Version) (lanes : ℕ) (kind : ListKind) (values bytes : List ℕ) → 1 ≤ lanes → AreBytes bytes → fault_in version lanes bytes ≡ None

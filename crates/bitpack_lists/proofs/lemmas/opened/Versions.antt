@@ -1,14 +1,11 @@
 -- A text of one version is none of another, and the entries and bodies of versions 2 and 3 are the same bytes.
--- Serves ForCallers, laws, list_buf, opened.
-use Rattle.std.proofs.Common.{◌≡◌, ◌≢◌, ℕ, ◌<◌, ◌≤◌, List, [], ◌∷◌, length, take, drop, get_or, Some, None, refl, ◌∙◌, ap, arith, false, eqb, inl, inr}
-use Rattle.std.proofs.lemmas.Bool.{cases_lt, eqb-true, false_from_ne_true, le-ltb, lt-ltb, ltb-false, not-false}
+-- Serves laws, opened, v4.
+use Rattle.std.proofs.Common.{◌≡◌, ◌≢◌, ℕ, ◌<◌, ◌≤◌, List, [], ◌∷◌, length, take, drop, get_or, Some, None, refl, ◌∙◌, ap, arith, false, eqb}
+use Rattle.std.proofs.lemmas.Bool.{eqb-true, false_from_ne_true, le-ltb, lt-ltb, ltb-false, not-false}
 use Rattle.bitpacking.specs.Bits.{AreBytes}
 use Rattle.bitpack_lists.specs.declared.list_error.ListError.TheVariants.{BadVersion}
-use Rattle.bitpack_lists.specs.declared.version.Version.{Version}
-use Rattle.bitpack_lists.specs.declared.version.Version.TheVariants as versions
 use Rattle.bitpack_lists.specs.Laws3.{OneVersion, SameBlocks3}
 use Rattle.bitpack_lists.specs.Parts.{header_fault, whole_blocks}
-use Rattle.bitpack_lists.specs.Texts.{fault_in, fault_of_either, version_in}
 use Rattle.bitpack_lists.specs.Version1.{fault1}
 use Rattle.bitpack_lists.specs.Version2.{fault2}
 use Rattle.bitpack_lists.specs.Version3.{fault3, header3, header_end, header_fault3}
@@ -22,7 +19,7 @@ use Rattle.bitpack_lists.proofs.lemmas.v3.Soundness3.{header_right3}
 
 -- ---- the first byte
 
-version_is : (version lanes : ℕ) (bytes : List ℕ) → header_fault version lanes bytes ≡ None → (7 ≤ length bytes) × (get_or bytes 0 0 ≡ version)
+pub version_is : (version lanes : ℕ) (bytes : List ℕ) → header_fault version lanes bytes ≡ None → (7 ≤ length bytes) × (get_or bytes 0 0 ≡ version)
 unfolding header_fault
 version_is version lanes bytes none =
     let one = passed _ _ _ none in
@@ -39,35 +36,16 @@ low_version : (lanes : ℕ) (bytes : List ℕ) → 7 ≤ length bytes → get_or
 unfolding header_fault3
 low_version lanes bytes long low = rw (le-ltb (length bytes) 1 (omega (arith, long)), lt-ltb (get_or bytes 0 0) 64 low) refl
 
-high_version : (lanes : ℕ) (bytes : List ℕ) → header_fault3 lanes bytes ≡ None → 64 ≤ get_or bytes 0 0
+pub high_version : (lanes : ℕ) (bytes : List ℕ) → header_fault3 lanes bytes ≡ None → 64 ≤ get_or bytes 0 0
 unfolding header_fault3
 high_version lanes [] none = absurd cc
 high_version lanes (byte ∷ later) none = (first_right lanes byte later none).0
 
 -- ---- whole texts
 
-header_none1 : (lanes : ℕ) (bytes : List ℕ) → fault1 lanes bytes ≡ None → header_fault 1 lanes bytes ≡ None
+pub header_none1 : (lanes : ℕ) (bytes : List ℕ) → fault1 lanes bytes ≡ None → header_fault 1 lanes bytes ≡ None
 unfolding fault1
 header_none1 lanes bytes none = (none_first (header_fault 1 lanes bytes) _ none).0
-
--- A text of version 2 or 3 is one of the version that its first byte says.
-pub version_right : (version : Version) (lanes : ℕ) (bytes : List ℕ) → fault_in version lanes bytes ≡ None → version_in bytes ≡ version
-version_right versions.Two lanes bytes none =
-    let first : get_or bytes 0 0 ≡ 2 = (version_is 2 lanes bytes (header_right2 lanes bytes none)).1 in
-    rw (lt-ltb (get_or bytes 0 0) 64 (omega (arith, first))) refl
-version_right versions.Three lanes bytes none = rw (le-ltb (get_or bytes 0 0) 64 (high_version lanes bytes (header_right3 lanes bytes none))) refl
-
-pub either_right2 : (lanes : ℕ) (bytes : List ℕ) → fault2 lanes bytes ≡ None → fault_of_either lanes bytes ≡ None
-either_right2 lanes bytes none =
-    let first : get_or bytes 0 0 ≡ 2 = (version_is 2 lanes bytes (header_right2 lanes bytes none)).1 in
-    rw (lt-ltb (get_or bytes 0 0) 64 (omega (arith, first))) none
-
--- What is no fault of either version is none of that version.
-pub right_in : (lanes : ℕ) (bytes : List ℕ) → fault_of_either lanes bytes ≡ None → fault_in (version_in bytes) lanes bytes ≡ None
-right_in lanes bytes none = elim (cases_lt (get_or bytes 0 0) 64) [
-  | inl low ↦ rw (lt-ltb (get_or bytes 0 0) 64 low) (rw (lt-ltb (get_or bytes 0 0) 64 low) at none)
-  | inr high ↦ rw (le-ltb (get_or bytes 0 0) 64 high) (rw (le-ltb (get_or bytes 0 0) 64 high) at none)
-]
 
 pub one_version : OneVersion
 unfolding fault1 fault2 fault3

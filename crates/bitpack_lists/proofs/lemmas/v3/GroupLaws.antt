@@ -1,5 +1,5 @@
 -- A group is cut where nothing is lost, and its codes are read from it and from no other.
--- Serves laws, v3.
+-- Serves laws, v3, v4.
 use Rattle.std.proofs.Common.{◌≡◌, ℕ, zero, suc, ◌+◌, ◌-◌, ◌*◌, ◌/◌, ◌%◌, ◌<◌, ◌≤◌, true, false, None, List, [], ◌∷◌, ◌++◌, length, take, drop, replicate, get_or, refl, sym, ◌∙◌, ap, arith, one-add, Decides, inl, inr}
 use Rattle.std.specs.Prelude.{◌==◌, All}
 use Rattle.std.specs.Int.{bit_at}
@@ -78,7 +78,7 @@ module _ (width : ℕ) (codes body : List ℕ) (few : length codes ≤ 32) (smal
 
 -- ---- the tests
 
-Decides-are_loose : (width : ℕ) (codes : List ℕ) → Decides (are_loose width codes) ((smaller : ℕ) × (smaller < width) × Fits codes smaller)
+pub Decides-are_loose : (width : ℕ) (codes : List ℕ) → Decides (are_loose width codes) ((smaller : ℕ) × (smaller < width) × Fits codes smaller)
 unfolding are_loose
 Decides-are_loose width codes =
     Decides-like _

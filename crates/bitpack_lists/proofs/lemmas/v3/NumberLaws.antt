@@ -1,5 +1,5 @@
 -- Bytes without a fault begin with the number that is read from them, and the other way round.
--- Serves laws, numbers, v3.
+-- Serves laws, numbers, v3, v4.
 use Rattle.std.proofs.Common.{◌≡◌, ℕ, zero, suc, ◌+◌, ◌*◌, ◌/◌, ◌%◌, ◌^◌, ◌<◌, ◌≤◌, None, false, ltb, ◌&&◌, List, [], ◌∷◌, ◌++◌, length, take, get_or, refl, sym, ◌∙◌, ap, arith, add-one, inl, inr}
 use Rattle.std.specs.Prelude.{◌==◌}
 use Rattle.std.proofs.lemmas.Bool.{lt-ltb, le-ltb, eqb-false, leb-false, cases_lt, ltb-false}

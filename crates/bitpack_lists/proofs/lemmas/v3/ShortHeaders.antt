@@ -1,14 +1,14 @@
 -- Version 3: bytes without a fault in their header begin with the header of a kind and a count, and a header is read as them.
--- Serves laws, opened, v3.
+-- Serves laws, opened, v3, v4.
 use Rattle.std.proofs.Common.{◌≡◌, ℕ, zero, suc, min, ◌+◌, ◌-◌, ◌*◌, ◌/◌, ◌%◌, ◌^◌, ◌<◌, ◌≤◌, Bool, true, false, cond, List, [], ◌∷◌, ◌++◌, length, take, drop, get_or, None, refl, sym, ◌∙◌, ap, arith, inl, inr, one-add}
 use Rattle.std.specs.Prelude.{◌==◌}
 use Rattle.std.proofs.lemmas.Bool.{cases_eq, cases_lt, le-ltb, lt-ltb, ltb-false, eq-eqb, eqb-true, eqb-false, ne_eqb, not-false}
 use Rattle.std.proofs.lemmas.List.{drop_at, length-drop, take-append-drop, take_all}
 use Rattle.bitpacking.specs.Bits.{AreBytes}
 use Rattle.bitpack_lists.specs.declared.list_kind.ListKind.{ListKind}
-use Rattle.bitpack_lists.specs.Numbers.{number, number_end, number_fault, number_value}
+use Rattle.bitpack_lists.specs.Numbers.{count_fault, number, number_end, number_fault, number_value}
 use Rattle.bitpack_lists.specs.Parts.{kind_byte, kind_of_byte}
-use Rattle.bitpack_lists.specs.Version3.{HasCode, count3, count_fault, header3, header_end, header_fault3, kind3, lanes_code, lanes_of}
+use Rattle.bitpack_lists.specs.Version3.{HasCode, count3, header3, header_end, header_fault3, kind3, lanes_code, lanes_of}
 use Rattle.bitpack_lists.proofs.lemmas.blocks.FaultLemmas.{none_first}
 use Rattle.bitpack_lists.proofs.lemmas.blocks.HeaderLemmas.{kind_byte-le, kind_byte-of, passed}
 use Rattle.bitpack_lists.proofs.lemmas.v3.NumberLaws.{number_reads_back, one_number}
@@ -16,7 +16,7 @@ use Rattle.bitpack_lists.proofs.lemmas.v2.Soundness2.{kind_of_byte-is}
 
 -- ---- the parts of the first byte
 
-lanes_code-of : (code : ℕ) → 1 ≤ code → code ≤ 3 → lanes_code (lanes_of code) ≡ code
+pub lanes_code-of : (code : ℕ) → 1 ≤ code → code ≤ 3 → lanes_code (lanes_of code) ≡ code
 lanes_code-of zero some few = absurd (omega arith)
 lanes_code-of (suc zero) some few = refl
 lanes_code-of (suc (suc zero)) some few = refl
@@ -44,6 +44,15 @@ module _ (lanes count : ℕ) (kind : ListKind) (rest : List ℕ) where
   pub large_header : 15 ≤ count → header3 kind lanes count ++ rest ≡ first ∷ (number count ++ rest)
   unfolding header3
   large_header le = rw (le-ltb count 15 le) refl
+
+-- The bytes of a count are read as it.
+pub count_reads_back : (least count : ℕ) (rest : List ℕ) → least ≤ count → count ≤ 2 ^ 28
+    → (count_fault least (number count ++ rest) ≡ None) × (number_value (number count ++ rest) ≡ count)
+    × (number_end (number count ++ rest) ≡ length (number count))
+unfolding count_fault
+count_reads_back least count rest le few =
+    let number_is = number_reads_back count rest (omega (arith, few)) in
+    (rw (number_is.0, number_is.1, le-ltb count least le, le-ltb (2 ^ 28) count few) refl, number_is.1, number_is.2)
 
 pub record ShortBytes (lanes : ℕ) (kind : ListKind) (count : ℕ) (bytes rest : List ℕ) : Type 0 where
   pub no_fault : HasCode lanes → header_fault3 lanes bytes ≡ None
@@ -85,10 +94,10 @@ module _ (lanes count byte : ℕ) (kind : ListKind) (few : count ≤ 2 ^ 28) (is
       }
 
   read_large : (rest : List ℕ) → 15 ≤ count → ShortBytes lanes kind count (byte ∷ (number count ++ rest)) rest
-  unfolding header_fault3 count_fault
+  unfolding header_fault3
   read_large rest le =
       let counted : (byte % 16 == 15) ≡ true = eq-eqb (byte % 16) 15 (omega (arith, count_code, le)) in
-      let number_is = number_reads_back count rest (omega (arith, few)) in
+      let (right, value, end) = count_reads_back 15 count rest le few in
       record {
         no_fault = λ known. rw (
           le-ltb (suc (length (number count ++ rest))) 1 (omega arith),
@@ -96,15 +105,12 @@ module _ (lanes count byte : ℕ) (kind : ListKind) (few : count ≤ 2 ^ 28) (is
           no_three,
           eq-eqb (lanes_of (byte / 64)) lanes (lanes_right known),
           counted,
-          number_is.0,
-          number_is.1,
-          le-ltb count 15 le,
-          le-ltb (2 ^ 28) count few,
+          right,
         ) refl;
         first_is = large_byte;
         kind_is = ap kind_of_byte kind_code ∙ kind_of_byte-is kind;
-        count_is = rw counted number_is.1;
-        rest_is = rw (counted, number_is.2, one-add (length (number count))) (drop_at (number count) rest (length (number count)) refl);
+        count_is = rw counted value;
+        rest_is = rw (counted, end, one-add (length (number count))) (drop_at (number count) rest (length (number count)) refl);
       }
 
 pub read_header3 : (lanes count : ℕ) (kind : ListKind) (rest : List ℕ) → count ≤ 2 ^ 28 → ShortBytes lanes kind count (header3 kind lanes count ++ rest) rest
@@ -116,16 +122,17 @@ read_header3 lanes count kind rest few =
 
 -- ---- bytes without a fault
 
-count_right : (bytes : List ℕ) → count_fault bytes ≡ None → (number_fault bytes ≡ None) × (15 ≤ number_value bytes) × (number_value bytes ≤ 2 ^ 28)
+pub count_right : (least : ℕ) (bytes : List ℕ) → count_fault least bytes ≡ None
+    → (number_fault bytes ≡ None) × (least ≤ number_value bytes) × (number_value bytes ≤ 2 ^ 28)
 unfolding count_fault
-count_right bytes none =
+count_right least bytes none =
     let one = none_first (number_fault bytes) _ none in
     let two = passed _ _ _ one.1 in
     let three = passed _ _ _ two.1 in
-    (one.0, ltb-false (number_value bytes) 15 two.0, ltb-false (2 ^ 28) (number_value bytes) three.0)
+    (one.0, ltb-false (number_value bytes) least two.0, ltb-false (2 ^ 28) (number_value bytes) three.0)
 
 pub first_right : (lanes byte : ℕ) (later : List ℕ) → header_fault3 lanes (byte ∷ later) ≡ None
-    → (64 ≤ byte) × ((byte / 16 % 4 == 3) ≡ false) × (lanes_of (byte / 64) ≡ lanes) × (cond (byte % 16 == 15) (count_fault later) None ≡ None)
+    → (64 ≤ byte) × ((byte / 16 % 4 == 3) ≡ false) × (lanes_of (byte / 64) ≡ lanes) × (cond (byte % 16 == 15) (count_fault 15 later) None ≡ None)
 unfolding header_fault3
 first_right lanes byte later none =
     let one = passed _ _ _ none in
@@ -148,8 +155,8 @@ header_from_none3 lanes (byte ∷ later) small none =
       | inl full ↦
           let counted : (byte % 16 == 15) ≡ true = eq-eqb (byte % 16) 15 full in
           let value : ℕ = number_value later in
-          let given : count_fault later ≡ None = rw counted at left_none in
-          let (number_none, large, few) = count_right later given in
+          let given : count_fault 15 later ≡ None = rw counted at left_none in
+          let (number_none, large, few) = count_right 15 later given in
           let number_is = one_number later (λ k. small (suc k)) number_none in
           let left : List ℕ = drop (number_end later) later in
           let whole : later ≡ number value ++ left = sym (take-append-drop (number_end later) later) ∙ ap (λ zs. zs ++ left) number_is.1 in
@@ -181,8 +188,8 @@ counted_right lanes [] none full = absurd (omega (arith, full))
 counted_right lanes (byte ∷ later) none full =
     let (above, other_kind, lanes_is, left_none) = first_right lanes byte later none in
     let counted : (byte % 16 == 15) ≡ true = eq-eqb (byte % 16) 15 full in
-    let given : count_fault later ≡ None = rw counted at left_none in
-    count_right later given
+    let given : count_fault 15 later ≡ None = rw counted at left_none in
+    count_right 15 later given
 
 -- What is after the header, as code lends it.
 pub rest_lent : (bytes : List ℕ) (end : ℕ) → end ≡ header_end bytes → take (length bytes - end) (drop end bytes) ≡ drop (header_end bytes) bytes

@@ -1,5 +1,5 @@
 -- Version 3: bytes without a fault are the text of one list, and a text has no fault.
--- Serves laws, opened, v3.
+-- Serves laws, opened, v3, v4.
 use Rattle.std.proofs.Common.{◌≡◌, ℕ, ◌*◌, ◌^◌, ◌<◌, ◌≤◌, List, [], ◌++◌, length, drop, get_or, None, refl, sym, subst, ◌∙◌, ap, arith}
 use Rattle.std.proofs.Math.Nat.{mod-eq-sub-mul-div}
 use Rattle.std.proofs.lemmas.Bool.{ltb-false}

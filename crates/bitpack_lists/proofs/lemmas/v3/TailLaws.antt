@@ -1,5 +1,5 @@
 -- The groups of a tail hold the codes that are read from them, and no others.
--- Serves laws, v3.
+-- Serves laws, v3, v4.
 use Rattle.std.proofs.Common.{◌≡◌, ℕ, zero, suc, ◌+◌, ◌-◌, ◌^◌, ◌<◌, min, Option, Some, None, List, [], ◌++◌, length, take, drop, refl, sym, ◌∙◌, ap, arith, append_assoc, inl, inr}
 use Rattle.std.specs.Option.{option_or}
 use Rattle.std.proofs.lemmas.Bool.{cases_lt}

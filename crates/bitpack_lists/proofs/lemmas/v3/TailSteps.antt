@@ -1,5 +1,5 @@
 -- The groups and the tail of codes, as they are measured and written: one group more, and the number before them.
--- Serves laws, opened, v3.
+-- Serves laws, opened, v3, v4.
 use Rattle.std.proofs.Common.{◌≡◌, ℕ, zero, suc, ◌+◌, ◌-◌, ◌*◌, ◌/◌, ◌%◌, ◌^◌, ◌<◌, ◌≤◌, min, List, [], ◌∷◌, ◌++◌, length, take, drop, get_or, refl, sym, ◌∙◌, ap, arith, inl, inr}
 use Rattle.std.proofs.lemmas.Bool.{cases_lt, le-ltb, lt-ltb}
 use Rattle.std.proofs.lemmas.List.{drop-drop, length-drop, length-take, nil_from_length, take_all}

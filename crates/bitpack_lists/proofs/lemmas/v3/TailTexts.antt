@@ -1,5 +1,5 @@
 -- Version 3: the tail of codes is read as these codes, a tail without a fault is that of the codes that are read, and codes have one tail.
--- Serves opened, v3, writing.
+-- Serves opened, v3, v4, writing.
 use Rattle.std.proofs.Common.{◌≡◌, ℕ, zero, suc, ◌+◌, ◌-◌, ◌*◌, ◌^◌, ◌<◌, true, false, ltb, None, List, [], ◌∷◌, ◌++◌, length, take, drop, refl, sym, ◌∙◌, ap, arith, append_assoc}
 use Rattle.std.specs.Prelude.{◌==◌}
 use Rattle.std.specs.Option.{option_or}
@@ -124,7 +124,7 @@ tail_is_read zero (suc count) bytes small none =
 
 -- ---- codes have one tail
 
-groups_same : (groups : ℕ) (codes one two : List ℕ) → 32 * groups < length codes + 32 → AreWords codes → AreGroups groups codes one → AreGroups groups codes two → two ≡ one
+pub groups_same : (groups : ℕ) (codes one two : List ℕ) → 32 * groups < length codes + 32 → AreWords codes → AreGroups groups codes one → AreGroups groups codes two → two ≡ one
 groups_same zero codes one two lt words (e, none) (e', none') = none' ∙ sym none
 groups_same (suc groups) codes one two lt words (part, rest, parts, group, more) (part', rest', parts', group', more') =
     let first : List ℕ = take 32 codes in

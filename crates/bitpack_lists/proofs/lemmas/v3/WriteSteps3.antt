@@ -1,5 +1,5 @@
 -- Writing a text: the kind of its tail. A text of version 3: how long it is, and its parts one after the other.
--- Serves v3, writing.
+-- Serves v3.
 use Rattle.std.proofs.Common.{◌≡◌, ℕ, zero, suc, ◌+◌, ◌-◌, ◌*◌, ◌^◌, ◌<◌, ◌≤◌, List, ◌++◌, length, take, drop, get_or, None, refl, sym, ◌∙◌, ap, arith}
 use Rattle.std.proofs.lemmas.List.{get_or-take, length-append, length-drop, length-take-le}
 use Rattle.bitpacking.specs.declared.kind.Kind.{Kind}

@@ -1,5 +1,5 @@
 -- Entries and bodies that are written side by side: one block more, and the room for it.
--- Serves writing.
+-- Serves v3.
 use Rattle.std.proofs.Common.{◌≡◌, ℕ, ◌+◌, ◌*◌, ◌^◌, ◌<◌, ◌≤◌, List, ◌++◌, length, take, drop, sym, ◌∙◌, ap, arith, append_assoc}
 use Rattle.std.proofs.lemmas.List.{length-append, take-append-drop, take_at}
 use Rattle.bitpacking.specs.declared.kind.Kind.{Kind}

@@ -8,7 +8,7 @@ use Rattle.bitpack_lists.specs.Texts.{IsText, stated_kind, version_in}
 use Rattle.bitpack_lists.specs.Version2.{List2}
 use Rattle.bitpack_lists.proofs.lemmas.opened.OpenedValues.{given_only}
 use Rattle.bitpack_lists.proofs.lemmas.v2.Soundness2.{none_from_list2}
-use Rattle.bitpack_lists.proofs.lemmas.opened.Versions.{either_right2, version_right}
+use Rattle.bitpack_lists.proofs.lemmas.opened.FirstBytes.{any_right2, version_right}
 use Rattle.bitpack_lists.proofs.list_buf.ListBuf.from_values.Goals as goal
 
 module _ (lanes : ℕ) (kind : ListKind) (values bytes : List ℕ) (some : 1 ≤ lanes) (small : AreBytes bytes) (list : List2 lanes kind values bytes) where
@@ -22,7 +22,7 @@ pub invariant_of-result : goal.invariant_of-result
 invariant_of-result g c =
     let (bytes, small, list, items) = c.in_ok-encode.ensures.ok in
     let same : c.encode.new.out.items ≡ bytes = items ∙ ap (λ xs. xs ++ bytes) c.new-bytes.ensures.items in
-    record { sound = rw same (either_right2 g.P.BitPacker.lanes bytes (none_from_list2 g.P.BitPacker.lanes _ c.args.values.now bytes g.met.P.BitPacker.some_lanes small list)) }
+    record { sound = rw same (any_right2 g.P.BitPacker.lanes bytes (none_from_list2 g.P.BitPacker.lanes _ c.args.values.now bytes g.met.P.BitPacker.some_lanes small list)) }
 
 pub returns-clause-kind : goal.returns-clause-kind
 returns-clause-kind g c =

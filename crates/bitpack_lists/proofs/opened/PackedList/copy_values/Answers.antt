@@ -32,8 +32,8 @@ loop-number-preserved g c =
       values = copied_block (value_of self) n len i out block whole (omega arith) long before.values (λ k inside. part.values_are k (omega arith));
       kind_is =
           rw add-one
-          (c.next_kind-kind.ensures ∙ ap (λ k. next_kind k c.entry-entry.result.last) c.first-first.ensures ∙ ap (next_kind _) c.entry-entry.ensures.last);
-      blocks = omega (arith, c.unpack_block.ensures.blocks, c.entry-entry.ensures.blocks, before.blocks);
+          (c.next_kind-kind.ensures ∙ ap (λ k. next_kind k c.mark.result) c.first-first.ensures ∙ ap (next_kind _) c.mark.ensures.mark);
+      blocks = omega (arith, c.unpack_block.ensures.blocks, c.mark.ensures.blocks, before.blocks);
     }
 
 pub returns-clause-values : goal.returns-clause-values

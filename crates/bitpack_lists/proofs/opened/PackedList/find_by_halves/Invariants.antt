@@ -1,4 +1,4 @@
--- What is left is halved, and the block after it was found, if any was.
+-- What is left is halved.
 use Rattle.std.proofs.Common.{◌≡◌, ◌+◌, ◌^◌, ◌<◌, ◌≤◌, ℕ}
 use Rattle.bitpack_lists.specs.inner.Searching.{blocks_of}
 use Rattle.bitpack_lists.proofs.lemmas.opened.HalvingSteps.{IsHalved}
@@ -6,7 +6,7 @@ use Rattle.bitpack_lists.proofs.opened.PackedList.find_by_halves.Given as goal
 
 abbrev pub invariant-loop-left : goal.invariant-loop-left
 invariant-loop-left g l = record {
-  halved : IsHalved l.self l.target l.low l.left l.before l.is_found l.width l.offset;
+  halved : IsHalved l.self l.target l.low l.left l.before;
   halves : (digits : ℕ) → blocks_of l.self < 2 ^ digits
       → (fewer : ℕ) × (l.left < 2 ^ fewer) × (l.reads.entries + fewer ≤ l.initial.reads.entries + digits);
   blocks : l.reads.blocks ≡ l.initial.reads.blocks;

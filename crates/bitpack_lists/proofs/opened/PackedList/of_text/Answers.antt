@@ -1,5 +1,5 @@
 -- The header is at the front of the text, and the tail at its end.
-use Rattle.std.proofs.Common.{◌≡◌, ◌+◌, ◌-◌, ◌*◌, ◌%◌, ◌≤◌, ℕ, List, length, take, drop, None, sym, ◌∙◌, ap, arith}
+use Rattle.std.proofs.Common.{◌≡◌, ◌+◌, ◌-◌, ◌*◌, ◌%◌, ◌≤◌, ℕ, List, length, take, drop, None, refl, sym, ◌∙◌, ap, arith}
 use Rattle.std.proofs.lemmas.List.{length-drop, take_all}
 use Rattle.bitpacking.proofs.ForCallers.{AreBytes-from_slice}
 use Rattle.bitpacking.specs.Bits.{AreBytes}
@@ -9,7 +9,7 @@ use Rattle.bitpack_lists.specs.Parts.{BeginsWithHeader, kind_of_byte, whole_bloc
 use Rattle.bitpack_lists.specs.Texts.{States}
 use Rattle.bitpack_lists.specs.Version2.{fault2, tail_start}
 use Rattle.bitpack_lists.proofs.lemmas.blocks.HeaderLemmas.{header_bytes}
-use Rattle.bitpack_lists.proofs.lemmas.opened.OpenedLists.{words_of_tail}
+use Rattle.bitpack_lists.proofs.lemmas.opened.TextBlocks.{words_of_tail}
 use Rattle.bitpack_lists.proofs.lemmas.v2.Soundness2.{kind_of_byte-is}
 use Rattle.bitpack_lists.proofs.opened.PackedList.of_text.Goals as goal
 
@@ -74,5 +74,5 @@ invariant_of-result g c =
       few = c.requires.begins.few;
       states = states lanes c.BLOCK_LEN.result header.count header.kind bytes small whole c.requires.begins c.requires.sound;
       tail_is = tail_is lanes c.BLOCK_LEN.result header.count header.kind bytes small whole c.requires.begins c.requires.sound;
-      tail_kind_is = λ e. absurd cc;
+      tail_kind_is = λ other. absurd (other refl);
     }

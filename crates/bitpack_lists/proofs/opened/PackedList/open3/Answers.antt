@@ -5,7 +5,15 @@ use Rattle.bitpack_lists.specs.Opened.{kind_of, values}
 use Rattle.bitpack_lists.specs.Texts.{IsTextOfNoOther}
 use Rattle.bitpack_lists.specs.Version3.{List3}
 use Rattle.bitpack_lists.proofs.lemmas.opened.OpenedValues.{opened_list3, opened_only3}
+use Rattle.bitpacking.proofs.ForCallers.{AreBytes-from_slice}
+use Rattle.bitpack_lists.proofs.lemmas.opened.StatedTexts.{stated3_is}
 use Rattle.bitpack_lists.proofs.opened.PackedList.open3.Goals as goal
+
+pub of_stated-requires : goal.of_stated-requires
+of_stated-requires g c = record {
+  stated = stated3_is g.P.BitPacker.lanes c.args.bytes.now c.in_ok-found.found g.met.P.BitPacker.some_lanes (AreBytes-from_slice c.args.bytes.now c.type_inv.bytes)
+      c.in_ok-found.ensures.stated;
+}
 
 pub returns-clause-list : goal.returns-clause-list
 returns-clause-list g c =

@@ -4,12 +4,12 @@ use Rattle.bitpacking.proofs.ForCallers.{AreBytes-from_slice}
 use Rattle.bitpack_lists.specs.Opened.{values}
 use Rattle.bitpack_lists.specs.Texts.{IsText}
 use Rattle.bitpack_lists.proofs.lemmas.opened.KindFaults.{kind_fault-none, kind_fault-other}
-use Rattle.bitpack_lists.proofs.lemmas.opened.TextsOfKind.{kind_of_opened, kind_of_text, none_of_either}
+use Rattle.bitpack_lists.proofs.lemmas.opened.TextsOfKind.{kind_of_opened, kind_of_text, none_of_any}
 use Rattle.bitpack_lists.proofs.opened.PackedList.open_any_as.Goals as goal
 
 pub returns-in_err-list-clause-every : goal.returns-in_err-list-clause-every
 returns-in_err-list-clause-every g c = λ version all known is.
-    let none = none_of_either version g.P.BitPacker.lanes c.args.kind all c.args.bytes.now g.met.P.BitPacker.some_lanes known (AreBytes-from_slice _ c.type_inv.bytes) is in
+    let none = none_of_any version g.P.BitPacker.lanes c.args.kind all c.args.bytes.now g.met.P.BitPacker.some_lanes known (AreBytes-from_slice _ c.type_inv.bytes) is in
     let fault = c.in_err-list.ensures.fault in
     absurd cc
 

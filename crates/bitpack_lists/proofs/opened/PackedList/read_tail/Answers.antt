@@ -1,8 +1,7 @@
 -- The values that are read are those of the tail, in either version.
 use Rattle.std.proofs.Common.{◌≡◌, ◌*◌, ◌%◌, ◌≤◌, ℕ, List, length, take, get_or, sym, ◌∙◌, ap, arith, inl}
 use Rattle.std.proofs.lemmas.List.{get_or-take, get_or_append_left, length-take, length-take-le}
-use Rattle.bitpack_lists.specs.Version3.{tail_values3}
-use Rattle.bitpack_lists.specs.inner.Searching.{blocks_of, rest_of}
+use Rattle.bitpack_lists.specs.inner.Tails.{groups_of_list}
 use Rattle.bitpack_lists.proofs.lemmas.opened.OpenedLists.{tail_at, tail_length, tail_word}
 use Rattle.bitpack_lists.proofs.opened.PackedList.read_tail.Goals as goal
 
@@ -33,8 +32,8 @@ read_front-requires-clause-len g c =
     let whole : c.BLOCK_LEN.result ≡ 32 * g.P.BitPacker.lanes = c.BLOCK_LEN.ensures ∙ g.met.P.BitPacker.block_len in
     inl (lent c.args.self.now.count (32 * g.P.BitPacker.lanes) c.BLOCK_LEN.result c.args.values.now whole c.requires.room)
 
-pub returns-in-Three-clause-values : goal.returns-in-Three-clause-values
-returns-in-Three-clause-values g c = λ k lt.
+pub returns-in_default-clause-values : goal.returns-in_default-clause-values
+returns-in_default-clause-values g c = λ k lt.
     let list = c.args.self.now in
     let n : ℕ = 32 * g.P.BitPacker.lanes in
     let whole : c.BLOCK_LEN.result ≡ n = c.BLOCK_LEN.ensures ∙ g.met.P.BitPacker.block_len in
@@ -42,7 +41,7 @@ returns-in-Three-clause-values g c = λ k lt.
     let same = ap (λ len. list.count % len) whole in
     let given : length (take len c.args.values.now) ≡ list.count % n = lent list.count n c.BLOCK_LEN.result c.args.values.now whole c.requires.room in
     let long : length c.read_front.new.values ≡ len = c.read_front.auto.values ∙ omega (arith, given, same) in
-    let all : List ℕ = tail_values3 g.P.BitPacker.lanes (blocks_of list) (list.count % n) list.kind (rest_of list) in
+    let all : List ℕ = groups_of_list list in
     get_or_append_left c.read_front.new.values _ 0 k (omega (arith, long, lt)) ∙ ap (λ zs. get_or zs k 0) c.read_front.ensures
     ∙ get_or-take (length (take len c.args.values.now)) all k 0 (omega (arith, given, same, lt))
-    ∙ sym (tail_at list g.met.P.BitPacker.some_lanes c.in-Three.is k)
+    ∙ sym (tail_at list g.met.P.BitPacker.some_lanes c.in_default.not-Two k)

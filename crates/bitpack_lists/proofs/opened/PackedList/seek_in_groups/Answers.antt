@@ -1,5 +1,5 @@
 -- The values of the blocks are below the target, and after these come those of the groups.
-use Rattle.std.proofs.Common.{◌≡◌, ◌+◌, ◌-◌, ◌*◌, ◌/◌, ◌%◌, ◌<◌, ◌≤◌, ℕ, ◌∙◌, ap, arith, inl, inr}
+use Rattle.std.proofs.Common.{◌≡◌, ◌+◌, ◌-◌, ◌*◌, ◌/◌, ◌%◌, ◌<◌, ◌≤◌, ℕ, Option, Some, None, IfSome, ◌∙◌, ap, arith, inl, inr}
 use Rattle.std.proofs.Math.Nat.{div-add-mod, div-lt_iff_lt-mul}
 use Rattle.std.proofs.lemmas.Bool.{cases_lt}
 use Rattle.bitpack_lists.specs.Search.{first_reaching}
@@ -17,10 +17,24 @@ some_whole count n some le = elim (cases_lt 0 (count / n)) [
       absurd (omega (arith, few, le))
 ]
 
+-- A shorter one has none, so that all its positions are in the tail.
+after_none : (count n : ℕ) → 0 < n → count < n → (found : Option (ℕ × ℕ)) → IfSome found (λ found. n * (count / n) ≤ found.0)
+after_none count n some few None = tt
+after_none count n some few (Some found) =
+    let below : count / n < 1 = (div-lt_iff_lt-mul some).1 (omega (arith, few)) in
+    let none : count / n ≡ 0 = omega (arith, below) in
+    rw none (omega arith)
+
 pub returns-then-self-eq0-clause-found : goal.returns-then-self-eq0-clause-found
 returns-then-self-eq0-clause-found g c = λ before.
     let list = c.args.self.now in
     first_none (value_of list) c.args.target list.count (none_before (value_of list) c.args.target list.count (λ k lt. absurd (omega (arith, lt, c.if-self-eq0.true))))
+
+pub returns-then-self-len-clause-within : goal.returns-then-self-len-clause-within
+returns-then-self-len-clause-within g c =
+    let n : ℕ = 32 * g.P.BitPacker.lanes in
+    let whole : c.BLOCK_LEN-len.result ≡ n = c.BLOCK_LEN-len.ensures ∙ g.met.P.BitPacker.block_len in
+    after_none c.args.self.now.count n (omega (arith, g.met.P.BitPacker.some_lanes)) (rw whole at c.if-self-len.true) c.seek_after_first.result
 
 pub seek_groups-requires-clause-sound : goal.seek_groups-requires-clause-sound
 seek_groups-requires-clause-sound g c =

@@ -40,8 +40,8 @@ value_in_groups-requires-clause-index g c =
     let index = index_is n c.BLOCK_LEN.result c.BLOCK_LEN-2.result list.count c.args.position (c.BLOCK_LEN.ensures ∙ g.met.P.BitPacker.block_len) (c.BLOCK_LEN-2.ensures ∙ g.met.P.BitPacker.block_len) in
     rw index (index_lt n list.count c.args.position c.requires.tail c.requires.within)
 
-pub returns-in-Three : goal.returns-in-Three
-returns-in-Three g c =
+pub returns-in_default : goal.returns-in_default
+returns-in_default g c =
     let list = c.args.self.now in
     let n : ℕ = 32 * g.P.BitPacker.lanes in
     let k : ℕ = c.args.position - n * (list.count / n) in

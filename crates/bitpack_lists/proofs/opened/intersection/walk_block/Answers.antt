@@ -3,6 +3,7 @@ use Rattle.std.proofs.Common.{◌≡◌, ◌+◌, ◌-◌, ◌*◌, ℕ, length,
 use Rattle.bitpack_lists.specs.inner.Walks.{values_in}
 use Rattle.bitpack_lists.proofs.lemmas.opened.OpenedLists.{opened_last}
 use Rattle.bitpack_lists.proofs.lemmas.opened.OpenedWalks.{block_below, next_block}
+use Rattle.bitpack_lists.proofs.lemmas.opened.TextBlocks.{marks_last}
 use Rattle.bitpack_lists.proofs.lemmas.opened.Walking.{stage_of, walked_block, walked_unpacked, walked_upto}
 use Rattle.bitpack_lists.proofs.opened.intersection.walk_block.Goals as goal
 
@@ -12,7 +13,7 @@ walk_values-requires g c =
     let (begun, over) = c.requires.walking in
     let before = over.walking in
     let number : ℕ = c.args.block.number in
-    let last : ℕ = c.args.block.entry.last in
+    let last : ℕ = c.args.last in
     let blocks : ℕ = c.args.reads.now.blocks in
     let (long, next) = next_block list g.met.P.BitPacker.some_lanes over.ordered
     begun number (blocks + 1) (last + 1) (take c.BLOCK_LEN.result c.unpack_block.new.values) c.requires.block.within (rw c.BLOCK_LEN.ensures c.unpack_block.ensures.block) in (
@@ -24,17 +25,17 @@ walk_values-requires g c =
         walked =
             walked_unpacked g.Q.BitPacker.lanes (values_in list) (values_in c.args.other.now) begun (32 * g.P.BitPacker.lanes * number) c.args.walk.now.want
             c.args.walk.now.kept.number c.args.out.now.items (vec_capacity c.args.out.now) blocks c.args.other_reads.now 0 before.walked (blocks + 1) (last + 1) refl
-            (omega arith) (omega (arith, c.if-block-walk.true));
+            (omega arith) (omega (arith, c.if-last-walk.true));
       },
     )
 
-pub returns-then-block-walk-clause-walking : goal.returns-then-block-walk-clause-walking
-returns-then-block-walk-clause-walking g c = λ begun over.
+pub returns-then-last-walk-clause-walking : goal.returns-then-last-walk-clause-walking
+returns-then-last-walk-clause-walking g c = λ begun over.
     let before = over.walking in
     let list = c.args.one.now in
     let n : ℕ = 32 * g.P.BitPacker.lanes in
     let number : ℕ = c.args.block.number in
-    let last : ℕ = c.args.block.entry.last in
+    let last : ℕ = c.args.last in
     let blocks : ℕ = c.args.reads.now.blocks in
     let (long, next) = next_block list g.met.P.BitPacker.some_lanes over.ordered
     begun number (blocks + 1) (last + 1) (take c.BLOCK_LEN.result c.unpack_block.new.values) c.requires.block.within (rw c.BLOCK_LEN.ensures c.unpack_block.ensures.block) in
@@ -44,12 +45,12 @@ returns-then-block-walk-clause-walking g c = λ begun over.
       walked =
           walked_unpacked g.Q.BitPacker.lanes (values_in list) (values_in c.args.other.now) begun (n * number) c.args.walk.now.want
           c.args.walk.now.kept.number c.args.out.now.items (vec_capacity c.args.out.now) blocks c.args.other_reads.now 0 before.walked (blocks + 1) (last + 1) refl
-          (omega arith) (omega (arith, c.if-block-walk.true));
+          (omega arith) (omega (arith, c.if-last-walk.true));
     }) in
     let end : n * number + length (take c.BLOCK_LEN.result c.unpack_block.new.values) ≡ n * (number + 1) = omega (arith, long) in
     let due : last + 1 ≡ (values_in list).value (n * number + (n - 1)) + 1 =
     ap (λ x. x + 1) (c.requires.last
-    ∙ sym (opened_last list g.met.P.BitPacker.some_lanes number c.requires.block.within)) in
+    ∙ sym (opened_last list g.met.P.BitPacker.some_lanes (marks_last list.version list.kind over.ordered) number c.requires.block.within)) in
     record {
       ordered = over.ordered;
       walking = record {
@@ -63,8 +64,8 @@ returns-then-block-walk-clause-walking g c = λ begun over.
       };
     }
 
-pub returns-else-block-walk-clause-walking : goal.returns-else-block-walk-clause-walking
-returns-else-block-walk-clause-walking g c = λ begun over.
+pub returns-else-last-walk-clause-walking : goal.returns-else-last-walk-clause-walking
+returns-else-last-walk-clause-walking g c = λ begun over.
     let before = over.walking in
     let list = c.args.one.now in
     let n : ℕ = 32 * g.P.BitPacker.lanes in
@@ -78,6 +79,6 @@ returns-else-block-walk-clause-walking g c = λ begun over.
             walked_upto g.Q.BitPacker.lanes (values_in list) (values_in c.args.other.now) begun (n * number) c.args.walk.now.want c.args.walk.now.kept.number
             c.args.out.now.items (vec_capacity c.args.out.now) c.args.reads.now.blocks c.args.other_reads.now 0 before.walked (n * (number + 1)) (omega arith)
             (block_below list g.met.P.BitPacker.some_lanes over.ordered
-            number c.args.walk.now.want c.args.block.entry.last c.requires.block.within c.requires.last (omega (arith, c.if-block-walk.false)));
+            number c.args.walk.now.want c.args.last c.requires.block.within c.requires.last (omega (arith, c.if-last-walk.false)));
       };
     }

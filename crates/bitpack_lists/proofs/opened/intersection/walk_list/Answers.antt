@@ -3,7 +3,8 @@ use Rattle.std.proofs.Common.{◌≡◌, ◌*◌, ◌/◌, ◌<◌, ℕ, ◌∙�
 use Rattle.bitpack_lists.specs.Chains.{next_kind}
 use Rattle.bitpack_lists.specs.inner.Searching.{blocks_of}
 use Rattle.bitpack_lists.specs.inner.Walks.{Begun, begun_with, values_in}
-use Rattle.bitpack_lists.proofs.lemmas.opened.OpenedWalks.{block_room, few_blocks, opened_words}
+use Rattle.bitpack_lists.proofs.lemmas.opened.OpenedWalks.{block_room, opened_words}
+use Rattle.bitpack_lists.proofs.lemmas.opened.OpenedLists.{few_blocks}
 use Rattle.bitpack_lists.proofs.lemmas.opened.Walking.{walked_none_yet, walked_upto}
 use Rattle.bitpack_lists.proofs.opened.intersection.walk_list.Goals as goal
 
@@ -61,22 +62,22 @@ returns-then-walk-clause-walking g c =
 pub walk_block-requires-clause-walking : goal.walk_block-requires-clause-walking
 walk_block-requires-clause-walking g c =
     let begun : Begun = begun_with c.args.out.now.items c.args.reads.now c.args.other_reads.now in
-    (begun, rw c.entry-entry.ensures.blocks c.loop-number.invariant.walking)
+    (begun, rw c.mark-last.ensures.blocks c.loop-number.invariant.walking)
 
 pub loop-number-preserved : goal.loop-number-preserved
 loop-number-preserved g c =
     let begun : Begun = begun_with c.args.out.now.items c.args.reads.now c.args.other_reads.now in
     record {
-      walking = c.walk_block.ensures.walking begun (rw c.entry-entry.ensures.blocks c.loop-number.invariant.walking);
-      entries = omega (arith, c.walk_block.ensures.reads.entries, c.entry-entry.ensures.entries, c.loop-number.invariant.entries);
-      blocks = omega (arith, c.walk_block.ensures.reads.blocks, c.entry-entry.ensures.blocks, c.loop-number.invariant.blocks);
+      walking = c.walk_block.ensures.walking begun (rw c.mark-last.ensures.blocks c.loop-number.invariant.walking);
+      entries = omega (arith, c.walk_block.ensures.reads.entries, c.mark-last.ensures.entries, c.loop-number.invariant.entries);
+      blocks = omega (arith, c.walk_block.ensures.reads.blocks, c.mark-last.ensures.blocks, c.loop-number.invariant.blocks);
       grown = record {
-        entries = omega (arith, c.walk_block.ensures.reads.grown.entries, c.entry-entry.ensures.entries, c.loop-number.invariant.grown.entries);
-        blocks = omega (arith, c.walk_block.ensures.reads.grown.blocks, c.entry-entry.ensures.blocks, c.loop-number.invariant.grown.blocks);
+        entries = omega (arith, c.walk_block.ensures.reads.grown.entries, c.mark-last.ensures.entries, c.loop-number.invariant.grown.entries);
+        blocks = omega (arith, c.walk_block.ensures.reads.grown.blocks, c.mark-last.ensures.blocks, c.loop-number.invariant.grown.blocks);
       };
       kind_is =
           rw add-one
-          (c.next_kind-kind.ensures ∙ ap (λ k. next_kind k c.entry-entry.result.last) c.first-first.ensures ∙ ap (next_kind _) c.entry-entry.ensures.last);
+          (c.next_kind-kind.ensures ∙ ap (λ k. next_kind k c.mark-last.result) c.first-first.ensures ∙ ap (next_kind _) c.mark-last.ensures.mark);
     }
 
 pub walk_tail-requires : goal.walk_tail-requires

@@ -1,8 +1,7 @@
--- The blocks before the number were met or passed over, none of them with more than one entry and one block read.
+-- The blocks before the number were met or passed over, none of them with more than one mark and one block read.
 use Rattle.std.proofs.Common.{◌≡◌, ◌+◌, ◌*◌, ◌≤◌}
 use Rattle.bitpack_lists.specs.Search.{HasGrown}
-use Rattle.bitpack_lists.specs.inner.Searching.{rest_of}
-use Rattle.bitpack_lists.specs.Version2.{kind_at}
+use Rattle.bitpack_lists.specs.inner.Searching.{kind_of_list}
 use Rattle.bitpack_lists.specs.inner.Walks.{IsWalkingOver, begun_with}
 use Rattle.bitpack_lists.proofs.opened.intersection.walk_list.Given as goal
 
@@ -13,5 +12,5 @@ invariant-loop-number g l = record {
   entries : l.reads.entries ≤ l.initial.reads.entries + l.number;
   blocks : l.reads.blocks ≤ l.initial.reads.blocks + l.number;
   grown : HasGrown l.initial.reads l.reads;
-  kind_is : l.kind ≡ kind_at l.one.kind (rest_of l.one) l.number;
+  kind_is : l.kind ≡ kind_of_list l.one l.number;
 }

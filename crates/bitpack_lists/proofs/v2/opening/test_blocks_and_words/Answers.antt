@@ -11,7 +11,7 @@ use Rattle.bitpack_lists.specs.declared.list_error.ListError.TheVariants.{NotSor
 use Rattle.bitpack_lists.specs.declared.list_kind.ListKind.{ListKind}
 use Rattle.bitpack_lists.specs.inner.Opening.{IsOrdered}
 use Rattle.bitpack_lists.specs.Parts.{tail_values, whole_blocks}
-use Rattle.bitpack_lists.specs.Version2.{blocks_fault, is_out, least_below, rest_fault2, tail_start, value_at, value_with}
+use Rattle.bitpack_lists.specs.Version2.{block_at, blocks_fault, is_out, least_below, rest_fault2, tail_start, value_at, value_with}
 use Rattle.bitpack_lists.proofs.lemmas.v3.TailOrder.{order_of_all}
 use Rattle.bitpack_lists.proofs.v2.opening.test_blocks_and_words.Goals as goal
 
@@ -66,7 +66,7 @@ module _ (lanes len count last end : ℕ) (kind : ListKind) (rest : List ℕ) (s
       → option_or out tail_out ≡ least_below (is_out kind (value_at lanes (whole_blocks lanes count) kind rest)) count
   order_is out tail_out before out_is finds =
       let later : ℕ → ℕ = word (drop (tail_start lanes (whole_blocks lanes count) rest) rest) in
-      order_of_all lanes count last from kind rest later some from_is out tail_out later (before later) (out_is later) (λ k lt. refl)
+      order_of_all lanes count last from kind (block_at lanes (whole_blocks lanes count) kind rest) later some from_is out tail_out later (before later) (out_is later) (λ k lt. refl)
       (λ any ordered each.
       rw (← whole) (finds any ordered (λ k lt. each k (rw whole at lt) ∙ ap (λ zs. word zs k) (sym words_are))))
 

@@ -13,7 +13,7 @@ use Rattle.bitpack_lists.specs.declared.list_error.ListError.TheVariants.{NotSor
 use Rattle.bitpack_lists.specs.declared.list_kind.ListKind.{ListKind}
 use Rattle.bitpack_lists.specs.inner.Opening.{IsOrdered}
 use Rattle.bitpack_lists.specs.Parts.{tail_values, whole_blocks}
-use Rattle.bitpack_lists.specs.Version2.{blocks_fault, is_out, kind_at, least_below, tail_start, value_with}
+use Rattle.bitpack_lists.specs.Version2.{block_at, blocks_fault, is_out, kind_at, least_below, tail_start, value_with}
 use Rattle.bitpack_lists.specs.Version3.{after_tail3, rest_fault3, tail_codes3, tail_fault3, tail_values3, value_at3}
 use Rattle.bitpack_lists.proofs.lemmas.blocks.RestValues.{start-kind_at}
 use Rattle.bitpack_lists.proofs.lemmas.v3.TailOrder.{order_of_all}
@@ -76,7 +76,7 @@ module _ (lanes count : ℕ) (kind : ListKind) (rest : List ℕ) where
   order_is last tail_kind slice out tail_out some slice_is kind_is before out_is finds =
       let any : ℕ → ℕ = λ k. get_or (tail_values3 lanes blocks tail kind rest) k 0 in
       let end : 32 * lanes * blocks + tail ≡ count = omega (arith, div-add-mod count (32 * lanes)) in
-      order_of_all lanes count last (32 * lanes * blocks) kind rest any some refl out tail_out (λ k. get_or (tail_values3 lanes blocks tail kind rest) k 0) (before any) (out_is any)
+      order_of_all lanes count last (32 * lanes * blocks) kind (block_at lanes blocks kind rest) any some refl out tail_out (λ k. get_or (tail_values3 lanes blocks tail kind rest) k 0) (before any) (out_is any)
       (λ k lt. refl)
       (λ all ordered each. finds all ordered (λ k lt. each k lt ∙ rw (kind_is, slice_is) refl) ∙ ap (least_below (is_out kind all)) (sym end))
 

@@ -7,4 +7,4 @@ pub returns : goal.returns
 returns g c =
     let cursor = c.args.self.now.cursor in
     rw c.block.ensures.values
-    (distinct_front (left_at_hand cursor) (position cursor) (values_of_cursor cursor) c.args.self.now.ordered c.block.ensures.some)
+    (distinct_front (left_at_hand cursor) (position cursor) (values_of_cursor cursor) c.args.self.now.ordered.0 c.block.ensures.some)

@@ -11,9 +11,9 @@ returns-clause-rest g c =
     let cursor = c.args.self.now.cursor in
     let same : values_of_cursor c.seek_ahead.new.self ≡ values_of_cursor cursor = ap (λ l. values l) c.seek_ahead.ensures.moved.list in
     ap (λ zs. distinct (drop (position c.seek_ahead.new.self) zs)) same
-    ∙ sought_rest (values_of_cursor cursor) c.args.target (position cursor) (position c.seek_ahead.new.self) c.args.self.now.ordered c.seek_ahead.ensures.sought
+    ∙ sought_rest (values_of_cursor cursor) c.args.target (position cursor) (position c.seek_ahead.new.self) c.args.self.now.ordered.0 c.seek_ahead.ensures.sought
 
 pub returns-clause-value : goal.returns-clause-value
 returns-clause-value g c =
     let same : values_of_cursor c.seek_ahead.new.self ≡ values_of_cursor c.args.self.now.cursor = ap (λ l. values l) c.seek_ahead.ensures.moved.list in
-    c.value.ensures ∙ value_moved (values_of_cursor c.args.self.now.cursor) (values_of_cursor c.seek_ahead.new.self) (position c.seek_ahead.new.self) same c.args.self.now.ordered
+    c.value.ensures ∙ value_moved (values_of_cursor c.args.self.now.cursor) (values_of_cursor c.seek_ahead.new.self) (position c.seek_ahead.new.self) same c.args.self.now.ordered.0

@@ -21,7 +21,7 @@ pub find-part-requires-clause-before : goal.find-part-requires-clause-before
 find-part-requires-clause-before g c =
     let self = c.args.self.now in
     let within : c.args.from ≤ blocks_of self = rw (length-first_of (value_of self) self.count) at (c.requires.block (values self) refl) in
-    below_ends self g.met.P.BitPacker.some_lanes c.args.target c.args.from within
+    below_ends self g.met.P.BitPacker.some_lanes c.requires.ordered.1 c.args.target c.args.from within
     (λ later. omega (arith, c.requires.before (values self) refl later, c.requires.below (values self) refl))
 
 pub returns-clause-found : goal.returns-clause-found
@@ -30,8 +30,8 @@ returns-clause-found g c =
     let read = c.read_block_or_tail.ensures in
     λ all is.
     rw is
-    (reaching_listed self g.met.P.BitPacker.some_lanes c.requires.ordered c.args.target c.args.from c.read_block_or_tail.result.0 c.find-part.result
-    c.find-part.ensures.found read.number read.part.within)
+    (reaching_listed self g.met.P.BitPacker.some_lanes c.requires.ordered.0 c.requires.ordered.1 c.args.target c.args.from
+    c.read_block_or_tail.result.0 c.find-part.result c.find-part.ensures.found read.number read.part.within)
 
 pub returns-clause-read : goal.returns-clause-read
 returns-clause-read g c =

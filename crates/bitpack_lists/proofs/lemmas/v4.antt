@@ -1,0 +1,41 @@
+-- Lemmas of version 4: its bit sets; its blocks, measured and written.
+-- Lemmas of version 4: its header, its bit sets.
+-- Lemmas of version 4: its short numbers, headers, bit sets, bodies and texts.
+pub mod BitCounts
+pub mod BitLaws
+pub mod BitNumbers
+pub mod BitRows
+pub mod BlockSizes
+pub mod BlockWalks
+pub mod BlockWrites
+pub mod Bodies
+pub mod BodiesOf4
+pub mod BodyCodes
+pub mod BodyTests
+pub mod BodyWrites
+pub mod Existence4
+pub mod FirstIn
+pub mod HeaderLaws4
+pub mod Headers4
+pub mod MarkOrder
+pub mod MarkedBits
+pub mod Marks
+pub mod NewestTexts
+pub mod OneBits
+pub mod OnePlaces
+pub mod OneText4
+pub mod OtherVersions
+pub mod PackSteps
+pub mod RestParts4
+pub mod RestWrites
+pub mod Rests4
+pub mod SameBodies
+pub mod SearchBits
+pub mod SetOrder
+pub mod ShortLaws
+pub mod ShortNumbers
+pub mod ShortWrites
+pub mod SoundBlocks
+pub mod Soundness4
+pub mod TextWrites
+pub mod UnpackSteps

@@ -1,0 +1,92 @@
+//! Packed lists of version 4: a short header, the end and the mark of each block as integers of one to four bytes, the bodies, and the
+//! tail as in version 3. A strictly sorted list may have sets of bits as bodies. A plain block stores its values less the least of
+//! them. Texts of dense lists, and of columns of large, close numbers, are much shorter than in version 3.
+//!
+//! Only a list of a block or more has a text of version 4. Here a shorter one is written in version 3.
+//!
+//! ```text
+//! 16 21     strictly sorted, 1 lane, 33 values
+//! 11        an end has 1 byte, and so has a mark
+//! 00        the end of the block: its body has no byte, as its values follow each other
+//! 1f        its mark: the last value, 31
+//! 00        a group of one code, 0, at width 0: the value 32
+//! ```
+
+ghost use Rattle.std.specs.Prelude.{◌≡◌, ◌+◌, ◌^◌, ◌<◌, ◌≤◌, ◌++◌, ℕ, List, length, drop, IfOk, IsOk, OnOk, OnErr, IfErr, MatchOption, None, vec_len, vec_capacity};
+ghost use Rattle.bitpacking.specs.Bits.{AreBytes};
+ghost use Rattle.bitpack_lists.specs.Version2.{first_out, values_fault};
+ghost use Rattle.bitpack_lists.specs.Newest.{IsNewest};
+ghost use Rattle.bitpack_lists.specs.Version3.{HasCode};
+
+use crate::list_error::ListError;
+use crate::list_kind::ListKind;
+use crate::v4::newest::{append_newest, newest_len, write_newest};
+use bitpacking::BitPacker;
+
+/// Appends the newest text of the values, which have to be in the order of their kind, as for `list2::encode`.
+///
+/// The packer has 1, 4 or 8 lanes: a text can state no other number. A list has at most 268,435,456 values. The vector grows once at
+/// most.
+pub fn encode<P: BitPacker>(
+    packer: &P,
+    kind: ListKind,
+    values: &[u32],
+    out: &mut Vec<u8>,
+) -> Result<(), ListError>
+    requires lanes { HasCode P.lanes }
+    // What is appended is the text of the values.
+    ensures ok { OnOk result ((text : List ℕ) × AreBytes text × IsNewest P.lanes kind values.now text
+        × (out.new.items ≡ out.old.items ++ text)) }
+    // Too many values are refused as such, values out of order at the first that is, and others only if memory runs out.
+    ensures long { 2 ^ 28 < length values.now → result ≡ Err (ListError.TooLong (length values.now)) }
+    ensures order { length values.now ≤ 2 ^ 28
+        → MatchOption (first_out kind values.now) (IfErr result (λ e. e ≡ ListError.Memory))
+        (λ position. result ≡ Err (ListError.NotSorted position)) }
+    // Memory runs out only if the vector has no room for the text.
+    ensures room { length values.now ≤ 2 ^ 28 → first_out kind values.now ≡ None
+        → OnErr result ((text : List ℕ) → IsNewest P.lanes kind values.now text
+        → vec_capacity out.old < vec_len out.old + length text) }
+    ensures unchanged { OnErr result ((out.new.items ≡ out.old.items) × (vec_capacity out.new ≡ vec_capacity out.old)) }
+{
+    append_newest(packer, kind, values, out)
+}
+
+/// Writes the newest text of the values at the start of the slice, and returns its length in bytes. Allocates nothing.
+///
+/// The packer has 1, 4 or 8 lanes, and the values have to be in the order of their kind, as for [`encode`]. A slice that is too short
+/// is refused with `Short`; then nothing is written. The bytes after the text stay as they were. [`encoded_len`] tells how many bytes
+/// are needed.
+pub fn encode_to<P: BitPacker>(
+    packer: &P,
+    kind: ListKind,
+    values: &[u32],
+    bytes: &mut [u8],
+) -> Result<usize, ListError>
+    requires lanes { HasCode P.lanes }
+    // What is written is the text of the values, and what is after it stays.
+    ensures ok { IfOk result (λ len. (text : List ℕ) × AreBytes text × IsNewest P.lanes kind values.now text
+        × (len ≡ length text) × (bytes.new ≡ text ++ drop len bytes.old)) }
+    // Values with a fault are refused for the first, and others only if the slice is short.
+    ensures fault { MatchOption (values_fault kind values.now) (IfErr result (λ e. e ≡ ListError.Short))
+        (λ fault. result ≡ Err fault) }
+    // The slice is short only if it has no room for the text.
+    ensures room { values_fault kind values.now ≡ None
+        → OnErr result ((text : List ℕ) → IsNewest P.lanes kind values.now text → length bytes.old < length text) }
+    ensures unchanged { OnErr result (bytes.new ≡ bytes.old) }
+{
+    write_newest(packer, kind, values, bytes)
+}
+
+/// The length in bytes of the newest text of the values, which have to be in the order of their kind, as for [`encode`].
+pub fn encoded_len<P: BitPacker>(
+    packer: &P,
+    kind: ListKind,
+    values: &[u32],
+) -> Result<usize, ListError>
+    ensures len { IfOk result (λ len. (text : List ℕ) → IsNewest P.lanes kind values.now text → len ≡ length text) }
+    ensures few { IfOk result (λ len. len ≤ 2 ^ 40) }
+    // Values with a fault are refused for the first.
+    ensures fault { MatchOption (values_fault kind values.now) (IsOk result) (λ fault. result ≡ Err fault) }
+{
+    newest_len(packer, kind, values)
+}

@@ -1,0 +1,138 @@
+//! The sizes of blocks before they are written. The least widths of the first blocks are kept from here to the writing.
+
+ghost use Rattle.std.specs.Prelude.{◌≡◌, ◌^◌, ◌<◌, ◌≤◌, true, false, nat_le, length, slice_index};
+ghost use Rattle.bitpacking.specs.Codes.{start};
+ghost use Rattle.bitpacking.specs.Width.{Least};
+ghost use Rattle.bitpack_lists.specs.BitSets;
+ghost use Rattle.bitpack_lists.specs.Numbers.{greatest};
+ghost use Rattle.bitpack_lists.specs.Parts.{whole_blocks};
+ghost use Rattle.bitpack_lists.specs.Version4.{codes4, if_strict};
+ghost use Rattle.bitpack_lists.specs.inner.Sizes4.{AreKept, IsMeasured, IsSize4, least, mark_in};
+
+use super::bit_set::bits_size;
+use crate::list_kind::{ListKind, next_kind};
+use crate::v3::group::most_significant_bit;
+use bitpacking::{BitPacker, Kind};
+
+/// What is known of the whole blocks of a list before they are written: the sum of their sizes, and the greatest mark.
+#[derive(Clone, Copy)]
+pub(crate) struct Measured {
+    pub(crate) total: usize,
+    pub(crate) greatest: u32,
+}
+
+/// Measures the whole blocks of the values. The least widths of the first blocks are kept.
+pub(crate) fn measure_blocks<P: BitPacker>(
+    packer: &P,
+    kind: ListKind,
+    values: &[u32],
+    widths: &mut [u8],
+) -> Measured
+    requires few { length values.now ≤ 2 ^ 28 }
+    ensures measured { IsMeasured P.lanes kind values.now result.total result.greatest }
+    ensures kept { AreKept P.lanes kind values.now widths.new }
+{
+    let len = P::BLOCK_LEN;
+    let mut kind = kind.first();
+    let mut left = values;
+    let mut total = 0;
+    let mut greatest = 0;
+    for index in 0..values.len() / len {
+        let (block, after) = left.split_at(len);
+        let (mark, width) = measure_block(packer, kind, block);
+        if index < widths.len() {
+            widths[index] = width;
+        }
+        total += shorter_size(len / 32, kind, mark, width) as usize;
+        greatest = greatest.max(mark);
+        kind = next_kind(kind, mark);
+        left = after;
+    }
+    Measured { total, greatest }
+}
+
+/// The size of the body of the block with this index: by the width that was kept, or else measured again.
+#[inline(always)]
+pub(crate) fn size_of_block<P: BitPacker>(
+    packer: &P,
+    kind: Kind,
+    mark: u32,
+    block: &[u32],
+    widths: &[u8],
+    index: usize,
+) -> u8
+    requires block { length block.now ≡ P.BLOCK_LEN }
+    requires mark { mark ≡ mark_in kind block.now }
+    requires kept { index < length widths.now → Least (codes4 kind mark block.now) (slice_index widths.now index) }
+    ensures { IsSize4 P.lanes kind mark result block.now }
+{
+    let width = if index < widths.len() {
+        widths[index]
+    } else {
+        measure_block(packer, kind, block).1
+    };
+    shorter_size(P::BLOCK_LEN / 32, kind, mark, width)
+}
+
+/// The mark of a block, and the least width of its codes.
+#[inline(always)]
+fn measure_block<P: BitPacker>(packer: &P, kind: Kind, block: &[u32]) -> (u32, u8)
+    requires block { length block.now ≡ P.BLOCK_LEN }
+    ensures mark { result.0 ≡ mark_in kind block.now }
+    ensures width { Least (codes4 kind (mark_in kind block.now) block.now) result.1 }
+    ensures narrow { result.1 ≤ 32 }
+{
+    match kind {
+        Kind::Plain => {
+            let (least, greatest) = bounds(block);
+            (least, most_significant_bit(greatest - least))
+        }
+        _ => (block[P::BLOCK_LEN - 1], packer.num_bits_kind(kind, block)),
+    }
+}
+
+/// The mark of a block.
+#[inline(always)]
+pub(crate) fn mark_of_block(kind: Kind, block: &[u32]) -> u32
+    requires some { 0 < length block.now }
+    ensures { result ≡ mark_in kind block.now }
+{
+    match kind {
+        Kind::Plain => bounds(block).0,
+        _ => block[block.len() - 1],
+    }
+}
+
+/// The least and the greatest value of a block. No branch depends on a value.
+#[inline(always)]
+fn bounds(block: &[u32]) -> (u32, u32)
+    ensures least { result.0 ≡ least (slice_index block.now) (length block.now) }
+    ensures greatest { result.1 ≡ greatest (slice_index block.now) (length block.now) }
+{
+    let mut least = u32::MAX;
+    let mut greatest = 0;
+    for index in 0..block.len() {
+        least = least.min(block[index]);
+        greatest = greatest.max(block[index]);
+    }
+    (least, greatest)
+}
+
+/// The size of a block by the least width of its codes. A strict block has its bit set if this is not longer.
+#[inline(always)]
+fn shorter_size(lanes: usize, kind: Kind, mark: u32, width: u8) -> u8
+    requires some { 0 < lanes }
+    requires few { lanes ≤ 8 }
+    ensures bits { if_strict lanes kind mark (λ bits. nat_le bits width) ≡ true
+        → result ≡ BitSets.bits_size lanes (start kind) mark }
+    ensures packed { if_strict lanes kind mark (λ bits. nat_le bits width) ≡ false → result ≡ width }
+    ensures narrow { result ≤ width }
+{
+    if let Kind::StrictlySorted(initial) = kind {
+        let bits = bits_size(lanes, initial.unwrap_or(u32::MAX), mark);
+        if bits <= width as usize {
+            return bits as u8;
+        }
+    }
+    width
+}
