@@ -212,7 +212,7 @@ ptrdiff_t bitpacking_8x_unpack_all_sorted(uint32_t initial, const uint8_t *width
 ptrdiff_t bitpacking_8x_unpack_all_strictly_sorted(uint32_t initial, const uint8_t *widths, size_t widths_len,
                                                    const uint8_t *bytes, size_t bytes_len, uint32_t *values, size_t values_len);
 
-/* A packed list of version 2 or 3, read in place: a text of a header, an entry for each whole block, the blocks, and the values after
+/* A packed list of version 2, 3 or 4, read in place: a text of a header, what is said of each whole block, the blocks, and the values after
  * them. docs/FORMAT.md of the repository has every byte.
  *
  * A view is set to BITPACKING_LIST_EMPTY or bitpacking_list_empty() before anything else, or all of it to zero: each is the empty list.
@@ -255,6 +255,7 @@ typedef struct bitpacking_list {
 /* The versions of a list. */
 #define BITPACKING_LIST_VERSION_2 2
 #define BITPACKING_LIST_VERSION_3 3
+#define BITPACKING_LIST_VERSION_4 4 /* the newest: the shortest texts; a list shorter than a block is written in version 3 */
 
 /* Room that is enough for every list of values_len values, in bytes: of each packer, version and kind. */
 #define BITPACKING_LIST_ROOM(values_len) (7 + 4 * sizeof(uint8_t) * (values_len) + 9 * sizeof(uint8_t) * ((values_len) / 32))
@@ -267,7 +268,7 @@ static inline bitpacking_list bitpacking_list_empty(void)
     return list;
 }
 
-/* Opens a text of version 2 or 3, of the packer that it names. Accepts any bytes, and tests all of them. Returns 0; or the first of the
+/* Opens a text of version 2, 3 or 4, of the packer that it names. Accepts any bytes, and tests all of them. Returns 0; or the first of the
  * faults below, in the order of docs/FORMAT.md, and then the view is as it was. */
 ptrdiff_t bitpacking_list_open(const uint8_t *bytes, size_t bytes_len, bitpacking_list *view);
 
@@ -277,13 +278,15 @@ ptrdiff_t bitpacking_list_open(const uint8_t *bytes, size_t bytes_len, bitpackin
 #define BITPACKING_LIST_WRONG_LANES (-24) /* the lanes are of no packer */
 #define BITPACKING_LIST_TOO_LONG (-25)    /* more than 268,435,456 values */
 #define BITPACKING_LIST_BAD_WIDTH (-26)   /* a width is above BITPACKING_MAX_WIDTH */
-#define BITPACKING_LIST_LOOSE_WIDTH (-27) /* a width is not the least of its block */
-#define BITPACKING_LIST_BAD_OFFSET (-28)  /* an offset is not the sum of the widths before it */
-#define BITPACKING_LIST_BAD_LAST (-29)    /* a last value is not its block's */
+#define BITPACKING_LIST_LOOSE_WIDTH (-27) /* a width or a size is not the least of its block */
+#define BITPACKING_LIST_BAD_OFFSET (-28)  /* a block does not begin at the end of the one before it, or is too long */
+#define BITPACKING_LIST_BAD_LAST (-29)    /* a last value, or of version 4 a least value, is not its block's */
 #define BITPACKING_LIST_NOT_SORTED (-30)  /* the values are not in the order of the kind, or in an array do not increase */
 #define BITPACKING_LIST_TRAILING (-31)    /* bytes are left over */
-#define BITPACKING_LIST_BAD_NUMBER (-33)  /* of version 3: a number is not as it has to be */
-#define BITPACKING_LIST_PADDING (-34)     /* of version 3: a bit after the codes of a group is set */
+#define BITPACKING_LIST_BAD_NUMBER (-33)  /* from version 3 on: a number is not as it has to be */
+#define BITPACKING_LIST_PADDING (-34)     /* from version 3 on: a bit after the codes of a group is set */
+#define BITPACKING_LIST_BAD_SIZES (-36)   /* of version 4: the ends or the marks do not have the least count of bytes */
+#define BITPACKING_LIST_BAD_BITS (-37)    /* of version 4: a set of bits is not the one of its block */
 
 /* How many values an opened list has. */
 size_t bitpacking_list_len(const bitpacking_list *view);
@@ -411,7 +414,7 @@ static inline int32_t bitpacking_cursor_seek_inline(bitpacking_cursor *cursor, u
 #endif
 
 /* list_pack: writes a packed list of the values at the start of bytes, and returns its number of bytes. Bytes after those stay as they
- * were. version is BITPACKING_LIST_VERSION_2 or _3, and kind is BITPACKING_PLAIN, _SORTED or _STRICTLY_SORTED.
+ * were. version is BITPACKING_LIST_VERSION_2, _3 or _4, and kind is BITPACKING_PLAIN, _SORTED or _STRICTLY_SORTED.
  * The first of: LIST_BAD_VERSION; LIST_BAD_KIND; LIST_TOO_LONG; LIST_NOT_SORTED, and then *position is the position of the first value
  * out of order; SHORT: bytes_len is below the number of bytes of the list, which BITPACKING_LIST_ROOM(values_len) never is. Nothing else
  * is written then, and *position only if the answer is LIST_NOT_SORTED. */
@@ -455,11 +458,11 @@ static inline const char *bitpacking_error_text(ptrdiff_t number)
     case BITPACKING_LIST_BAD_WIDTH:
         return "A width in the list is above 32.";
     case BITPACKING_LIST_LOOSE_WIDTH:
-        return "A width in the list is not the least of its block.";
+        return "A width or a size in the list is not the least of its block.";
     case BITPACKING_LIST_BAD_OFFSET:
-        return "An offset in the list is not the sum of the widths before it.";
+        return "A block of the list does not begin where the one before it ends, or is too long.";
     case BITPACKING_LIST_BAD_LAST:
-        return "A last value in the list is not the one of its block.";
+        return "A last or least value in the list is not the one of its block.";
     case BITPACKING_LIST_NOT_SORTED:
         return "The values are not in order.";
     case BITPACKING_LIST_TRAILING:
@@ -468,6 +471,10 @@ static inline const char *bitpacking_error_text(ptrdiff_t number)
         return "A number in the list does not have its only form.";
     case BITPACKING_LIST_PADDING:
         return "A bit after the codes of a group is set.";
+    case BITPACKING_LIST_BAD_SIZES:
+        return "The ends or the marks of the list do not have the least count of bytes.";
+    case BITPACKING_LIST_BAD_BITS:
+        return "A set of bits in the list is not the one of its block.";
     default:
         return "No error has this number.";
     }

@@ -57,7 +57,7 @@ pub struct PackedList<'a> {
 }
 
 impl<'a> PackedList<'a> {
-    /// Opens a list of version 2 or 3, of any packer. Tests all bytes, which may be untrusted, and allocates nothing.
+    /// Opens a list of version 2, 3 or 4, of any packer. Tests all bytes, which may be untrusted, and allocates nothing.
     ///
     /// The caller keeps where a list begins and ends: a byte that is missing or left over is a fault.
     ///

@@ -35,15 +35,15 @@ DAMAGED = "scripts/test/damaged.c"
 STACK = 256 << 10  # bytes; the sanitizer needs more
 SANITIZED = ["-fsanitize=address,undefined", "-fno-sanitize-recover=all"]
 # The index of the documents 1 to 1000, by hand: 500, 333 and 200 numbers. The codes of the lists are gaps less one: 1 of even (of its
-# first block up to 2), 2 of fizz, 4 of buzz, 29 of the multiples of 30; and up to 2, 3 and 5 of the others. With the widths 2, 1 and 1,
-# the text of even has a header of 3 bytes, 3 entries of 9, 16 * 4 bytes of blocks, and 116 codes in 4 groups of 5, 5, 5 and 4: 113 bytes.
-# In this way fizz has 108 bytes, and buzz 90.
+# first block up to 2), 2 of fizz, 4 of buzz, 29 of the multiples of 30; and up to 2, 3 and 5 of the others. No block is a set of bits, as each
+# spans too many numbers. With the widths 2, 1 and 1, the text of even has a header of 3 bytes, a byte of sizes, 3 ends of 1 and 3 marks of 2,
+# 16 * 4 bytes of blocks, and 116 codes in 4 groups of 5, 5, 5 and 4: 96 bytes. In this way fizz has 97 bytes, and buzz 85.
 INDEX = """\
-3 words in 311 bytes
+3 words in 278 bytes
 fizz AND buzz AND even: 33 documents in 24 bytes, [30, 60, 90, 120] ..
-fizz OR buzz: 467 documents in 150 bytes, [3, 5, 6, 9] ..
-even NOT fizz: 334 documents in 108 bytes, [2, 4, 8, 10] ..
-(fizz OR buzz) NOT even: 234 documents in 104 bytes, [3, 5, 9, 15] ..
+fizz OR buzz: 467 documents in 133 bytes, [3, 5, 6, 9] ..
+even NOT fizz: 334 documents in 97 bytes, [2, 4, 8, 10] ..
+(fizz OR buzz) NOT even: 234 documents in 99 bytes, [3, 5, 9, 15] ..
 fizz AND odd: 0 documents in 1 bytes, [] ..
 """
 # Gaps of 2 and 4 in turn: one less are 1 and 3, two bits each, and so 2 * 16 bytes for each block of 128.
@@ -60,16 +60,16 @@ PROGRAMS = {
     "scripts/test/cursor.c": "",
     LIST_CALLS: "",
     # Each row of the tables that it is given.
-    TABLES: "753 lists, 821 refusals\n",
-    QUERIES: "2917 searches, 242 pairs, 104 refusals\n",
+    TABLES: "1322 lists, 2445 refusals, 116 packed anew\n",
+    QUERIES: "8116 searches, 242 pairs, 156 refusals\n",
     # Of a fixed seed and these tables: other rows give other numbers.
     DAMAGED: "50000 damaged lists: "
-    "10726 opened, 12209 Short, 1982 BadVersion, 2245 BadKind, 1286 WrongLanes, "
-    "1366 TooLong, 2391 BadWidth, 925 LooseWidth, 2404 BadOffset, 2965 BadLast, "
-    "2437 NotSorted, 5484 Trailing, 2702 BadNumber, 878 Padding\n",
+    "10450 opened, 11472 Short, 2227 BadVersion, 1760 BadKind, 638 WrongLanes, "
+    "1049 TooLong, 1691 BadWidth, 1025 LooseWidth, 2375 BadOffset, 3165 BadLast, "
+    "1915 NotSorted, 4658 Trailing, 3600 BadNumber, 572 Padding, 2421 BadSizes, 982 BadBits\n",
     # The lists of the tables that are in order: each alone, n ^ 2 pairs, and as many triples of 17 of them, by three calls; and 4,000 unions.
     # Then each with the array of each, by three calls, and with no value and four values, by three and two.
-    SETS: "471 lists, 685675 combined, 462450 counted, 670704 with an array\n",
+    SETS: "553 lists, 937825 combined, 630550 counted, 923510 with an array\n",
 }
 # For each program that prints nothing, a function of the header that it calls, and that function with a wrong answer.
 CALLED = {CALLS: "bitpacking_version", LIST_CALLS: "bitpacking_list_len", "scripts/test/cursor.c": "bitpacking_cursor_position"}
@@ -83,15 +83,15 @@ ONE_MORE = """#include "bitpacking.h"
     return __real_{name}({passed}) + 1;
 }}
 """
-VECTORS = {TABLES: ["lists2", "lists3", "refused2", "refused3"], SETS: ["lists2", "lists3"]}
-VECTORS[DAMAGED] = VECTORS[TABLES]
-VECTORS[QUERIES] = ["seek", "seek3", "intersect", "union", "difference", "refused_values"]
+VECTORS = {SETS: ["lists2", "lists3"], DAMAGED: ["lists2", "lists3", "lists4", "refused2", "refused3", "refused4"]}
+VECTORS[TABLES] = [*VECTORS[DAMAGED], "upgrade4"]
+VECTORS[QUERIES] = ["seek", "seek3", "seek4", "intersect", "union", "difference", "refused_values"]
 # The same of a million damaged lists.
 MILLION = (
     "1000000 damaged lists: "
-    "215861 opened, 243212 Short, 39093 BadVersion, 43089 BadKind, 25045 WrongLanes, "
-    "27213 TooLong, 46937 BadWidth, 18473 LooseWidth, 48210 BadOffset, 59707 BadLast, "
-    "49640 NotSorted, 112045 Trailing, 54207 BadNumber, 17268 Padding\n"
+    "210108 opened, 232154 Short, 44766 BadVersion, 34475 BadKind, 13457 WrongLanes, "
+    "21273 TooLong, 32585 BadWidth, 18887 LooseWidth, 45691 BadOffset, 62046 BadLast, "
+    "38561 NotSorted, 92427 Trailing, 73754 BadNumber, 11647 Padding, 47760 BadSizes, 20409 BadBits\n"
 )
 
 
@@ -126,7 +126,13 @@ def places():
 @functools.cache
 def long_lists():
     """The lists of vectors/digests.tsv that C reads, as vectors/assemble.py prints them."""
-    return "".join(run(sys.executable, f"{ROOT}/vectors/assemble.py", "--long", version).stdout for version in ["2", "3"])
+    return "".join(run(sys.executable, f"{ROOT}/vectors/assemble.py", "--long", version).stdout for version in ["2", "3", "4"])
+
+
+def some_lists4():
+    """Every fifth row of vectors/lists4.tsv: each is combined with each."""
+    head, *rows = source("vectors/lists4.tsv").splitlines(keepends=True)
+    return "".join([head, *rows[::5]])
 
 
 def given(program):
@@ -134,7 +140,7 @@ def given(program):
     if program not in VECTORS:
         return {}
     tables = "".join(source(f"vectors/{table}.tsv") for table in VECTORS[program])
-    return {"input": tables + (long_lists() if program == TABLES else "")}
+    return {"input": tables + (long_lists() if program == TABLES else some_lists4() if program == SETS else "")}
 
 
 def compiled_and_run(archive, path, command, arguments=(), printed=None, **more):

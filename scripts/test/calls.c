@@ -67,6 +67,7 @@ static void constants(void)
     EXPECT(BITPACKING_STRICTLY_SORTED, 2);
     EXPECT(BITPACKING_LIST_VERSION_2, 2);
     EXPECT(BITPACKING_LIST_VERSION_3, 3);
+    EXPECT(BITPACKING_LIST_VERSION_4, 4);
     EXPECT(BITPACKING_LIST_ROOM(0), 7);
     EXPECT(BITPACKING_LIST_ROOM(31), 7 + 31 * 4);
     EXPECT(BITPACKING_LIST_ROOM(30 + 2), 7 + 32 * 4 + 9);
@@ -241,6 +242,44 @@ static void lists_of_version_3(void)
     EXPECT(value, 300);
 }
 
+/* Lists of version 4, worked by hand, in one lane. Strictly sorted 0 to 3, 8 to 11 and so on up to 59, and 70: a block that is a set of bits, which
+   is as long as its codes at 2 bits; and after it a group of one code, 10, at width 4. Plain 1000 to 1003 eight times: codes of 2 bits above the
+   least value. And a list that is shorter than a block, which is the one of version 3. */
+static void lists_of_version_4(void)
+{
+    static const uint8_t set[15] = {0x16, 33, 0x11, 2, 59, 15, 15, 15, 15, 15, 15, 15, 15, 4, 10};
+    static const uint8_t plain[14] = {0x14, 32, 0x21, 2, 0xE8, 3, 0xE4, 0xE4, 0xE4, 0xE4, 0xE4, 0xE4, 0xE4, 0xE4};
+    static const uint8_t sizes[3] = {0x16, 32, 0x10}, none[9] = {0x16, 32, 0x11, 1, 31, 0, 0, 0, 0};
+    uint32_t values[33], back[33], value = 77;
+    uint8_t bytes[15], others[15];
+    bitpacking_list list = BITPACKING_LIST_EMPTY;
+    size_t i, position = 78;
+
+    for (i = 0; i < 33; i++)
+        values[i] = (uint32_t)(i == 32 ? 70 : 8 * (i / 4) + i % 4);
+    EXPECT(bitpacking_1x_list_size(BITPACKING_LIST_VERSION_4, BITPACKING_STRICTLY_SORTED, values, 33, &position), 15);
+    EXPECT(bitpacking_1x_list_pack(BITPACKING_LIST_VERSION_4, BITPACKING_STRICTLY_SORTED, values, 33, bytes, 15, &position), 15);
+    EXPECT(memcmp(bytes, set, 15), 0);
+    EXPECT(bitpacking_list_open(set, 15, &list), 0);
+    EXPECT(bitpacking_list_len(&list), 33);
+    EXPECT(bitpacking_list_unpack(&list, back, 33), 33);
+    EXPECT(memcmp(values, back, sizeof values), 0);
+    EXPECT(bitpacking_list_get(&list, 31, &value), 1);
+    EXPECT(value, 59);
+    EXPECT(bitpacking_list_seek(&list, 20, &position, &value), 1);
+    EXPECT(position, 12);
+    EXPECT(value, 24);
+    for (i = 0; i < 32; i++)
+        values[i] = (uint32_t)(1000 + i % 4);
+    EXPECT(bitpacking_1x_list_pack(BITPACKING_LIST_VERSION_4, BITPACKING_PLAIN, values, 32, bytes, 15, &position), 14);
+    EXPECT(memcmp(bytes, plain, 14), 0);
+    EXPECT(bitpacking_1x_list_pack(BITPACKING_LIST_VERSION_4, BITPACKING_PLAIN, values, 2, bytes, 15, &position), 6);
+    EXPECT(bitpacking_1x_list_pack(BITPACKING_LIST_VERSION_3, BITPACKING_PLAIN, values, 2, others, 15, &position), 6);
+    EXPECT(memcmp(bytes, others, 6), 0);
+    EXPECT(bitpacking_list_open(sizes, 3, &list), BITPACKING_LIST_BAD_SIZES);
+    EXPECT(bitpacking_list_open(none, 9, &list), BITPACKING_LIST_BAD_BITS);
+}
+
 /* A list worked by hand for each packer: two whole blocks and one value after them, strictly sorted.
    The gaps of the first block are 1 and 2 in turn, the codes 0 and 1: in one lane the bits 01010101, in more all bits of every other lane.
    The gaps of the second are 4, the codes 3: each bit is set. */
@@ -356,6 +395,7 @@ int main(void)
     chains();
     lists();
     lists_of_version_3();
+    lists_of_version_4();
     short_lists();
     cursors();
     return failed;

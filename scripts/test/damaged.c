@@ -1,6 +1,6 @@
-/* Opens damaged lists of versions 2 and 3 between pages that nothing may read or write, and compares each answer with plain_reader.h, which
-   is written from docs/FORMAT.md; and unites those that it opened, 17 at a time. The lists are the texts of the tables lists2, lists3,
-   refused2 and refused3 of vectors/, read one after the other, and others that the library packs. Its argument is how many lists to open,
+/* Opens damaged lists of versions 2 to 4 between pages that nothing may read or write, and compares each answer with plain_reader.h, which
+   is written from docs/FORMAT.md; and unites those that it opened, 17 at a time. The lists are the texts of the tables lists2,
+   lists3, lists4, refused2, refused3 and refused4 of vectors/, read one after the other, and others that the library packs. Its argument is how many lists to open,
    50,000 without one; the seed is fixed. Prints what is wrong, and last one line of how many lists were opened and how many were refused by
    each fault. */
 #define _DEFAULT_SOURCE
@@ -13,16 +13,17 @@
 #include <sys/mman.h>
 #include <unistd.h>
 
-enum { ROWS = 2000, POOL = 1 << 20, MANY = 32 * LONGEST, PACKED = 700, UNITED = 17, UNSET = 0x5A5A5A5A };
+enum { ROWS = 5000, POOL = 1 << 21, MANY = 128 * LONGEST, PACKED = 700, UNITED = 17, UNSET = 0x5A5A5A5A };
 
 static const char *const names[FAULTS] = {
     "opened",     "Short",     "BadVersion", "BadKind",   "WrongLanes", "TooLong", "BadWidth",
-    "LooseWidth", "BadOffset", "BadLast",    "NotSorted", "Trailing",   "",        "BadNumber", "Padding"};
+    "LooseWidth", "BadOffset", "BadLast",    "NotSorted", "Trailing",   "",        "BadNumber", "Padding",
+    "",           "BadSizes",  "BadBits"};
 static uint8_t pool[POOL], *bytes_room;
 static uint32_t values[MANY + 1], *values_room;
 static bitpacking_cursor *cursor;
 static size_t row_at[ROWS], row_len[ROWS], rows, pool_len;
-static unsigned long number, by_fault[FAULTS], by_rule[2][RULES];
+static unsigned long number, by_fault[FAULTS], by_rule[VERSIONS][RULES];
 /* Opened lists that are in order, with their values: each in room of its own between pages that nothing may read or write. */
 static struct {
     uint8_t *room;
@@ -92,7 +93,7 @@ static size_t pack(uint8_t *bytes)
         bitpacking_1x_list_pack, bitpacking_4x_list_pack, bitpacking_8x_list_pack};
     uint32_t packed[PACKED], value = 0, width = 0;
     size_t most = below(8) < 5 ? below(40) : below(4) ? below(300) : below(PACKED), count = 0, position;
-    uint8_t kind = (uint8_t)below(3);
+    uint8_t kind = (uint8_t)below(3), dense = below(2); /* in a dense list most codes are 0, and strict blocks are bit sets */
     plain_list right = {0};
     ptrdiff_t size;
 
@@ -100,8 +101,8 @@ static size_t pack(uint8_t *bytes)
         uint32_t code;
 
         if (count % 32 == 0)
-            width = below(kind == 0 || most < 20 ? 33 : 20);
-        code = width == 0 ? 0 : random_number() >> (32 - width);
+            width = below(dense ? 7 : kind == 0 || most < 20 ? 33 : 20);
+        code = width == 0 || (dense && below(6)) ? 0 : random_number() >> (32 - width);
         if (kind > 0 && count > 0 && (code >= UINT32_MAX - value || below(500) == 0))
             code = UINT32_MAX - value, most = 0; /* the greatest value is the last */
         else if (kind == 2 && count > 0)
@@ -110,7 +111,7 @@ static size_t pack(uint8_t *bytes)
             break;
         packed[count] = value = kind == 0 ? code : value + code;
     }
-    size = packers[below(3)]((uint8_t)(2 + below(2)), kind, packed, count, bytes, LONGEST, &position);
+    size = packers[below(3)]((uint8_t)(2 + below(3)), kind, packed, count, bytes, LONGEST, &position);
     right.values = values;
     expect(size > 0 && plain_read(&right, bytes, (size_t)size) == NONE && right.kind == kind && right.count == count
            && memcmp(values, packed, 4 * count) == 0, "another list is packed");
@@ -275,7 +276,7 @@ static void compare(void)
     expect(view.bytes == (fault ? NULL : bytes) && view.lanes == (fault ? 0 : right.lanes), "another list is opened");
     by_fault[fault]++;
     if (fault)
-        by_rule[text_len > 0 && text[0] >= 64][right.rule]++;
+        by_rule[version_of(text, text_len)][right.rule]++;
     else if (!failed) {
         reads(&view, &right);
         gathers(&view, right.count);
@@ -285,10 +286,10 @@ static void compare(void)
     expect(memcmp(bytes, text, text_len) == 0, "the text is changed");
 }
 
-/* Whether a text was refused by the rule that a row names. A text of no byte is of each version, and its rule is 1 in both. */
+/* Whether a text was refused by the rule that a row names. A text of no byte is of each version, and its rule is 1 in all. */
 static int is_rule(const plain_list *refused, const char *named)
 {
-    const char *name = rule_names[text_len > 0 && text[0] >= 64][refused->rule];
+    const char *name = rule_names[version_of(text, text_len)][refused->rule];
 
     return name != NULL && strcmp(name, named) == 0;
 }
@@ -345,7 +346,7 @@ int main(int arguments, char **argument)
         compare();
     }
     text_len = 0;
-    for (i = 0; i < 2 * RULES; i++)
+    for (i = 0; i < VERSIONS * RULES; i++)
         if (rule_names[i / RULES][i % RULES] && by_rule[i / RULES][i % RULES] == 0) {
             printf("no list is refused by rule %s of version %lu\n", rule_names[i / RULES][i % RULES], 2 + i / RULES);
             failed++;

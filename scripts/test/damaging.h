@@ -39,9 +39,9 @@ static void replace(size_t from, size_t len, const uint8_t *bytes, size_t bytes_
 
 static uint8_t odd_byte(void)
 {
-    static const uint8_t odd[12] = {0, 1, 2, 3, 4, 8, 31, 32, 33, 127, 128, 255};
+    static const uint8_t odd[16] = {0, 1, 2, 3, 4, 8, 17, 20, 22, 31, 32, 33, 38, 127, 128, 255};
 
-    return below(3) ? odd[below(12)] : (uint8_t)below(256);
+    return below(3) ? odd[below(16)] : (uint8_t)below(256);
 }
 
 /* Sets the count, or another word or number of the text, to an extreme or to a form that it must not have. */
@@ -67,10 +67,27 @@ static void damage_number(void)
         replace(at, len + 1, of, new_len);
 }
 
-/* Damages the text once. One of twelve is left whole. */
+/* Sets the byte of the sizes of a text of version 4, or changes one of the bytes after it by little: of an end, a mark or a bit set. */
+static void damage_sizes(void)
+{
+    size_t at = 1;
+
+    while (at < text_len && at < 5 && text[at] > 127)
+        at++;
+    if (below(4) == 0) {
+        if (at + 1 < text_len)
+            text[at + 1] = (uint8_t)(below(6) + 16 * below(6));
+        return;
+    }
+    at += 2 + below(32);
+    if (at < text_len)
+        text[at] = (uint8_t)(below(2) ? text[at] ^ 3u << below(7) : text[at] + 2 * below(2) - 1); /* two bits, and so a bit may move */
+}
+
+/* Damages the text once. One of thirteen is left whole, and of version 2 or 3 two. */
 static void damage(void)
 {
-    size_t kind = below(12), at = below(2) ? below(text_len) : below(text_len < 24 ? text_len : 24), len = below(10), i;
+    size_t kind = below(13), at = below(2) ? below(text_len) : below(text_len < 24 ? text_len : 24), len = below(10), i;
     uint8_t more[10];
 
     for (i = 0; i < 10; i++)
@@ -90,7 +107,9 @@ static void damage(void)
 
         len = below(text_len - at + 1);
         replace(at, len, other + from, below(2) && len < other_len - from ? len : below(other_len - from + 1));
-    } else if (kind == 9 && text_len > 0)
+    } else if (kind == 11 && text_len > 0 && text[0] >= 16 && text[0] < 64)
+        damage_sizes();
+    else if (kind == 9 && text_len > 0)
         text[below(text_len < 3 ? text_len : 3)] = odd_byte();
     else if (kind == 10 && text_len > 0)
         damage_number();

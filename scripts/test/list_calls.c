@@ -83,7 +83,7 @@ static void errors(int packer)
         refuses(packer, version, 0, falls, 3, 1, BITPACKING_SHORT, 77);
     }
     refuses(packer, 1, 1, falls, 3, 40, BITPACKING_LIST_BAD_VERSION, 77);
-    refuses(packer, 4, 3, falls, 3, 40, BITPACKING_LIST_BAD_VERSION, 77);
+    refuses(packer, 5, 3, falls, 3, 40, BITPACKING_LIST_BAD_VERSION, 77);
     refuses(packer, 0, 0, falls, 3, 0, BITPACKING_LIST_BAD_VERSION, 77);
 }
 
@@ -100,8 +100,8 @@ static void empty(int packer)
     EXPECT((ptrdiff_t)position, 77);
 }
 
-/* A list of any packer, version and kind fits the room that the header states. Here each value of a plain list needs all of its bits, and the
-   first of another one. In version 2 a plain list of one lane fills the room. Returns the size. */
+/* A list of any packer, version and kind fits the room that the header states. Here every second value of a plain list needs all of its bits,
+   also less the least of its block, and so does the first of another one. In version 2 a plain list of one lane fills the room. Returns the size. */
 enum { MOST = 16512 };
 
 static ptrdiff_t fits(int packer, uint8_t version, uint8_t kind, size_t len)
@@ -115,7 +115,7 @@ static ptrdiff_t fits(int packer, uint8_t version, uint8_t kind, size_t len)
     ptrdiff_t size;
 
     for (i = 0; i < len; i++)
-        values[i] = kind == BITPACKING_PLAIN ? UINT32_MAX : UINT32_MAX - (uint32_t)(len - 1 - i);
+        values[i] = kind == BITPACKING_PLAIN ? (i % 2 ? UINT32_MAX : 0) : UINT32_MAX - (uint32_t)(len - 1 - i);
     size = sizes[packer](version, kind, values, len, &position);
     EXPECT(size > 0 && (size_t)size <= room, 1);
     EXPECT(packs[packer](version, kind, values, len, bytes, room, &position), fills ? (ptrdiff_t)room : size);
@@ -126,7 +126,8 @@ static ptrdiff_t fits(int packer, uint8_t version, uint8_t kind, size_t len)
 }
 
 /* Lengths at which blocks and groups begin and end, and numbers get longer. By hand: of version 3 and four lanes, 16,511 plain values of 32 bits
-   have a header of 1 + 3 bytes, 128 entries of 9 and bodies of 512, and 127 values of 4 bytes in 4 groups with a byte each. */
+   have a header of 1 + 3 bytes, 128 entries of 9 and bodies of 512, and 127 values of 4 bytes in 4 groups with a byte each. In version 4 a byte
+   of sizes follows the header, and for each block an end of 2 bytes, since the last is 4,096, and a mark of 1, as the least value is 0. */
 static void rooms(int packer)
 {
     static const size_t lens[] = {0,   1,   14,  15,  31,  32,  33,   63,   64,   65,    127,   128,   129,
@@ -134,12 +135,14 @@ static void rooms(int packer)
     uint8_t version, kind;
     size_t i;
 
-    for (version = BITPACKING_LIST_VERSION_2; version <= BITPACKING_LIST_VERSION_3; version++)
+    for (version = BITPACKING_LIST_VERSION_2; version <= BITPACKING_LIST_VERSION_4; version++)
         for (kind = BITPACKING_PLAIN; kind <= BITPACKING_STRICTLY_SORTED; kind++)
             for (i = 0; i < sizeof lens / sizeof *lens; i++)
                 fits(packer, version, kind, lens[i]);
-    if (lanes[packer] == 4)
+    if (lanes[packer] == 4) {
         EXPECT(fits(packer, BITPACKING_LIST_VERSION_3, BITPACKING_PLAIN, 16511), 67204);
+        EXPECT(fits(packer, BITPACKING_LIST_VERSION_4, BITPACKING_PLAIN, 16511), 66437);
+    }
 }
 
 /* The list 3, 3, 5, 9, 12 of a packer and a version, sorted; or plain. */
@@ -249,13 +252,15 @@ static void texts(void)
         {BITPACKING_LIST_WRONG_LANES, "The list is of another packer."},
         {BITPACKING_LIST_TOO_LONG, "A list has at most 268435456 values."},
         {BITPACKING_LIST_BAD_WIDTH, "A width in the list is above 32."},
-        {BITPACKING_LIST_LOOSE_WIDTH, "A width in the list is not the least of its block."},
-        {BITPACKING_LIST_BAD_OFFSET, "An offset in the list is not the sum of the widths before it."},
-        {BITPACKING_LIST_BAD_LAST, "A last value in the list is not the one of its block."},
+        {BITPACKING_LIST_LOOSE_WIDTH, "A width or a size in the list is not the least of its block."},
+        {BITPACKING_LIST_BAD_OFFSET, "A block of the list does not begin where the one before it ends, or is too long."},
+        {BITPACKING_LIST_BAD_LAST, "A last or least value in the list is not the one of its block."},
         {BITPACKING_LIST_NOT_SORTED, "The values are not in order."},
         {BITPACKING_LIST_TRAILING, "Bytes are left over after the list."},
         {BITPACKING_LIST_BAD_NUMBER, "A number in the list does not have its only form."},
-        {BITPACKING_LIST_PADDING, "A bit after the codes of a group is set."}};
+        {BITPACKING_LIST_PADDING, "A bit after the codes of a group is set."},
+        {BITPACKING_LIST_BAD_SIZES, "The ends or the marks of the list do not have the least count of bytes."},
+        {BITPACKING_LIST_BAD_BITS, "A set of bits in the list is not the one of its block."}};
     enum { COUNT = sizeof errors / sizeof *errors };
     ptrdiff_t number;
     size_t others = 0, i;
@@ -278,7 +283,7 @@ static bitpacking_list steps(int packer, uint8_t *bytes, size_t room, uint32_t f
 
     for (i = 0; i < len; i++)
         values[i] = first + step * (uint32_t)(i / times);
-    size = packs[packer](BITPACKING_LIST_VERSION_3, kind, values, len, bytes, room, &position);
+    size = packs[packer](BITPACKING_LIST_VERSION_4, kind, values, len, bytes, room, &position);
     EXPECT(size > 0, 1);
     EXPECT(bitpacking_list_open(bytes, (size_t)size, &list), 0);
     return list;
@@ -339,7 +344,7 @@ int main(void)
         empty(packer);
         rooms(packer);
         counts(packer);
-        for (version = BITPACKING_LIST_VERSION_2; version <= BITPACKING_LIST_VERSION_3; version++) {
+        for (version = BITPACKING_LIST_VERSION_2; version <= BITPACKING_LIST_VERSION_4; version++) {
             uint8_t bytes[40], others[40];
             const bitpacking_list list = worked_list(packer, version, BITPACKING_SORTED, bytes);
             const bitpacking_list plain = worked_list(packer, version, BITPACKING_PLAIN, others);

@@ -1,6 +1,6 @@
-/* Reads the tables vectors/seek.tsv, seek3.tsv, intersect.tsv, union.tsv, difference.tsv and refused_values.tsv, one after the other:
-   searches by a call and by a cursor, pairs of lists that are combined, and values that list_pack and list_size refuse. Prints what is
-   wrong, and last how many searches, pairs and refusals it read. */
+/* Reads the tables vectors/seek.tsv, seek3.tsv, seek4.tsv, intersect.tsv, union.tsv, difference.tsv and refused_values.tsv, one after the other:
+   searches by a call and by a cursor, pairs of lists that are combined, and values that list_pack and list_size refuse: those of version 3
+   in version 4 too. Prints what is wrong, and last how many searches, pairs and refusals it read. */
 #include "bitpacking.h"
 #include "tables.h"
 
@@ -65,13 +65,13 @@ static void combines(char *column[COLUMNS])
     pairs++;
 }
 
-static void refuses(char *column[COLUMNS])
+static void refuses(uint8_t version, char *column[COLUMNS])
 {
     ptrdiff_t (*const packs[3])(uint8_t, uint8_t, const uint32_t *, size_t, uint8_t *, size_t, size_t *) = {
         bitpacking_1x_list_pack, bitpacking_4x_list_pack, bitpacking_8x_list_pack};
     ptrdiff_t (*const sizes[3])(uint8_t, uint8_t, const uint32_t *, size_t, size_t *) = {
         bitpacking_1x_list_size, bitpacking_4x_list_size, bitpacking_8x_list_size};
-    const uint8_t version = (uint8_t)atoi(column[0]), kind = kind_of(column[1]);
+    const uint8_t kind = kind_of(column[1]);
     const int packer = atoi(column[2]) / 4;
     const size_t count = read_values(column[3], values), right = strtoul(column[4], NULL, 10);
     size_t position = right + 1, i;
@@ -94,9 +94,11 @@ int main(void)
     while (next_row(column)) {
         if (table == SEARCHES)
             seeks(column);
-        else if (table == REFUSED_VALUES)
-            refuses(column);
-        else
+        else if (table == REFUSED_VALUES) {
+            refuses((uint8_t)atoi(column[0]), column);
+            if (*column[0] == '3')
+                refuses(4, column);
+        } else
             combines(column);
     }
     printf("%lu searches, %lu pairs, %lu refusals\n", searches, pairs, refusals);

@@ -1,4 +1,4 @@
-/* Reads the tables vectors/lists2.tsv and lists3.tsv, one after the other: rows "kind, lanes, values, bytes". Combines each list in order
+/* Reads the tables vectors/lists2.tsv and lists3.tsv and a part of lists4.tsv, one after the other: rows "kind, lanes, values, bytes". Combines each list in order
    alone, with each other, and with each two of a few, and compares what the calls on many lists write and count with the tables' values. It
    also unites up to 64 at a time, chosen at random, and combines each with the values of each other in an array. Prints what is wrong, and last
    how many lists it read, how often it combined some and counted, and how often it combined one with an array. */

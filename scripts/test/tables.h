@@ -9,10 +9,10 @@
 #include <stdlib.h>
 #include <string.h>
 
-enum { LINE = 1 << 21, COLUMNS = 5, TABLES = 7 };
+enum { LINE = 1 << 21, COLUMNS = 5, TABLES = 8 };
 
 /* The table of the row that was read last. */
-static enum { LISTS, REFUSED, SEARCHES, INTERSECTIONS, UNIONS, DIFFERENCES, REFUSED_VALUES } table;
+static enum { LISTS, REFUSED, SEARCHES, INTERSECTIONS, UNIONS, DIFFERENCES, REFUSED_VALUES, UPGRADES } table;
 static const char *const heads[TABLES] = {
     "kind\tlanes\tvalues\tbytes",
     "lanes\tnumber\tfault\tbytes\trule",
@@ -20,7 +20,8 @@ static const char *const heads[TABLES] = {
     "lanes\tbytes\tother_lanes\tother_bytes\tshared",
     "lanes\tbytes\tother_lanes\tother_bytes\tunited",
     "lanes\tbytes\tother_lanes\tother_bytes\tleft",
-    "version\tkind\tlanes\tvalues\tposition"};
+    "version\tkind\tlanes\tvalues\tposition",
+    "lanes\tbytes\tnumber\tfault\tupgraded"};
 
 static char line[LINE];
 

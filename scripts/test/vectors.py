@@ -109,8 +109,30 @@ def short_list_checks(names):
             yield f"list{version} {row['bytes'][:80]} as version 3", found, f"BadVersion({version or 1})"
 
 
+def dense_list_checks(names):
+    """Lists of version 4. Each reader refuses the texts of the other versions, and a list without a block is written in version 3."""
+    decoders = {"": names["decode"], "2": names["decode2"], "3": names["decode3"], "4": names["decode4"]}
+    for row in table("refused4.tsv"):
+        found = answer_of(decoders["4"], int(row["lanes"]), octets(row["bytes"]))
+        yield f"refused4 {row['bytes'][:80]}", found, row["fault"]
+    for row in table("lists4.tsv"):
+        lanes, kind = int(row["lanes"]), KINDS.index(row["kind"])
+        values, text = numbers(row["values"]), octets(row["bytes"])
+        yield f"list4 {row['bytes'][:80]}", answer_of(decoders["4"], lanes, text), (kind, values)
+        yield f"text4 {row['bytes'][:80]}", answer_of(names["encode4"], lanes, kind, values), text
+        for version in ["", "2", "3"]:
+            right = f"BadVersion({text[0]})" if len(text) >= 7 or version == "3" else "Short"
+            yield f"list4 {row['bytes'][:80]} as version {version or 1}", answer_of(decoders[version], lanes, text), right
+    for version in ["", "2", "3"]:
+        for row in table(f"lists{version}.tsv"):
+            lanes, text, values = int(row["lanes"]), octets(row["bytes"]), numbers(row["values"])
+            yield f"list{version} {row['bytes'][:80]} as version 4", answer_of(decoders["4"], lanes, text), f"BadVersion({text[0]})"
+            if version == "3" and len(values) < 32 * lanes:
+                yield f"text4 of {row['bytes'][:80]}", answer_of(names["encode4"], lanes, KINDS.index(row["kind"]), values), text
+
+
 def upgrade_checks(names):
-    for name in ["upgrade", "upgrade3"]:
+    for name in ["upgrade", "upgrade3", "upgrade4"]:
         for row in table(f"{name}.tsv"):
             right = octets(row["upgraded"]) if row["fault"] == "-" else row["fault"]
             yield f"{name} {row['bytes'][:80]}", answer_of(names[name], int(row["lanes"]), octets(row["bytes"])), right
@@ -121,30 +143,39 @@ def upgrade_checks(names):
 def encoder_checks(names):
     for row in table("refused_values.tsv"):
         lanes, kind, values = int(row["lanes"]), KINDS.index(row["kind"]), numbers(row["values"])
-        found = answer_of(names[f"encode{row['version']}"], lanes, kind, values)
-        yield f"refused values {row['version']} {row['kind']} {lanes} {row['values'][:80]}", found, f"NotSorted({row['position']})"
+        for version in [row["version"], "4"][: 1 + (row["version"] == "3")]:  # version 4 refuses the values that version 3 refuses
+            found = answer_of(names[f"encode{version}"], lanes, kind, values)
+            yield f"refused values {version} {row['kind']} {lanes} {row['values'][:80]}", found, f"NotSorted({row['position']})"
 
 
-def of_both(version, text):
-    """Whether a reader of versions 2 and 3 reads a text by the table of this version."""
-    return (octets(text) >= b"\x40") == (version == "3")
+# What a reader of versions 2 to 4 in one lane answers to one byte, by docs/FORMAT.md.
+BY_BYTE_0 = {"-": "Short", "00": "Short", "01": "Short", "02": "Short", "03": "Short", "0f": "Short", "10": "BadVersion(16)"}
+BY_BYTE_0 |= {"17": "BadKind(3)", "26": "WrongLanes(4)", "3f": "BadVersion(63)", "40": "BadKind(0)", "f0": "BadKind(3)"}
+
+
+def is_read_as(version, text):
+    """Whether a reader of versions 2 to 4 reads a text by the table of this version."""
+    first = int(text[:2], 16) if text != "-" else 0
+    return version == ("3" if first >= 64 else "4" if first >= 16 else "2")
 
 
 def seek_checks(names):
-    """Searches, by a reader of versions 2 and 3."""
-    for row in [*table("seek.tsv"), *table("seek3.tsv")]:
+    """Searches, by a reader of versions 2 to 4."""
+    for row in [*table("seek.tsv"), *table("seek3.tsv"), *table("seek4.tsv")]:
         values = answer_of(names["opened"], int(row["lanes"]), octets(row["bytes"]))
         yield f"seek {row['bytes'][:80]}", isinstance(values, list), True
         for target, right in zip(numbers(row["targets"]), row["found"].split(",")):
             found = answer_of(names["seek"], int(row["lanes"]), values, target)
             yield f"seek {target} {row['bytes'][:80]}", ":".join(map(str, found)) if found else "none", right
-    for version in ["2", "3"]:
+    for version in ["2", "3", "4"]:
         for row in table(f"lists{version}.tsv"):
             if row["kind"] == "plain":
                 yield f"seek {row['bytes'][:80]}", answer_of(names["opened"], int(row["lanes"]), octets(row["bytes"])), "BadKind(0)"
         for row in table(f"refused{version}.tsv"):
-            if of_both(version, row["bytes"]):
+            if is_read_as(version, row["bytes"]):
                 yield f"seek {row['bytes'][:80]}", answer_of(names["opened"], int(row["lanes"]), octets(row["bytes"])), row["fault"]
+    for text, right in BY_BYTE_0.items():
+        yield f"seek {text}", answer_of(names["opened"], 1, octets(text)), right
 
 
 def set_checks(names):
@@ -202,6 +233,7 @@ CHECKS = {
     "blocks": block_checks,
     "lists": list_checks,
     "short_lists": short_list_checks,
+    "dense_lists": dense_list_checks,
     "queries": query_checks,
     "sets": set_checks,
     "lines": line_checks,
@@ -231,6 +263,14 @@ def parquet_checks(names):
             width, values = int(row["width"]), numbers(row["values"])
             yield f"block 1x {width} by Parquet", by_parquet(width, values), octets(row["bytes"])
             yield f"block 1x {width} by the page", names["body_of"](1, width, values), by_parquet(width, values)
+
+
+def page_checks(names):
+    """The texts in the tables of docs/FORMAT.md that show the rules, by the decoder of their version in one lane."""
+    for version in ["1", "2", "3", "4"]:
+        shown = source("docs/FORMAT.md").split(f"\n## Packed lists, version {version}\n")[1].split("\n## ")[0]
+        for text, fault in re.findall(r"^\| `([0-9A-F ]+)` \| (\w+(?:\([\d, ]+\))?) \|", shown, re.M):
+            yield f"{text} by the page", answer_of(names[f"decode{version.strip('1')}"], 1, bytes.fromhex(text)), fault
 
 
 def caught(text, kind):
@@ -358,7 +398,7 @@ def programs():
 def groups(asked):
     """The checks of each reader of the vectors, with its name."""
     names = names_of(model())
-    found = [it for checks in [*CHECKS.values(), rule_checks, parquet_checks] for it in checks(names)]
+    found = [it for checks in [*CHECKS.values(), rule_checks, parquet_checks, page_checks] for it in checks(names)]
     yield "the decoders of docs/FORMAT.md, vectors/model.py and line_model.py", found
     yield "wrong implementations", mistake_checks()
     for program in asked:

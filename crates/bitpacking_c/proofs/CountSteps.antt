@@ -233,6 +233,7 @@ words_text : (version : Version) (lanes : ℕ) (kind : ListKind) (values bytes :
     → AreWords values × (length values ≤ 2 ^ 28)
 words_text versions.Two lanes kind values bytes is = (is.words, is.begins.few)
 words_text versions.Three lanes kind values bytes is = (is.words, is.few)
+words_text versions.Four lanes kind values bytes is = (is.words, is.few)
 
 -- they are words, and not too many
 pub words_list : (lanes : ℕ) (bytes : List ℕ) (kind : ListKind) (values : List ℕ) → IsListOf lanes bytes kind values

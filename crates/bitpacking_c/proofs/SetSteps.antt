@@ -57,6 +57,7 @@ ordered_text : (version : Version) (lanes : ℕ) (kind : ListKind) (values bytes
     → first_out kind values ≡ None
 ordered_text versions.Two lanes kind values bytes is = is.ordered
 ordered_text versions.Three lanes kind values bytes is = is.ordered
+ordered_text versions.Four lanes kind values bytes is = is.ordered
 
 strict_text : (version : Version) (lanes : ℕ) (kind : ListKind) (values bytes : List ℕ) → kind ≡ StrictlySorted
     → IsText version lanes kind values bytes → IsStrictlyIncreasing values

@@ -4,23 +4,23 @@ use Rattle.std.specs.Option.{option_or}
 use Rattle.bitpack_lists.specs.declared.list_error.ListError.{ListError}
 use Rattle.bitpack_lists.specs.declared.list_error.ListError.TheVariants.{BadKind, BadVersion, NotSorted, Short}
 use Rattle.bitpack_lists.specs.declared.version.Version.{Version}
-use Rattle.bitpack_lists.specs.declared.version.Version.TheVariants.{Two, Three}
+use Rattle.bitpack_lists.specs.declared.version.Version.TheVariants.{Two, Three, Four}
 use Rattle.bitpack_lists.specs.Parts.{kind_of_byte}
-use Rattle.bitpack_lists.specs.Texts.{IsText}
+use Rattle.bitpack_lists.specs.Newest.{IsWritten}
 use Rattle.bitpack_lists.specs.Version2.{values_fault}
 use Rattle.bitpack_lists.specs.Written.{WritesText}
 use Rattle.bitpacking_c.specs.Views.{fault_number}
 
 -- ---- what is asked for
 
--- the version with a number that is 2 or 3
+-- the version with a number from 2 to 4
 abbrev pub version_of : ℕ → Version
-version_of number = if number == 2 then Two else Three
+version_of number = if number == 2 then Two else if number == 3 then Three else Four
 
 -- the first fault of the number of a version, and of a kind
 abbrev pub numbers_fault : ℕ → ℕ → Option ListError
 numbers_fault version kind =
-    if not (version == 2) && not (version == 3) then Some (BadVersion version)
+    if not (version == 2) && not (version == 3) && not (version == 4) then Some (BadVersion version)
     else if nat_lt 2 kind then Some (BadKind kind)
     else None
 
@@ -42,7 +42,7 @@ abbrev pub GivesSize : ℕ → ℕ → ℕ → List ℕ → Result ℕ ListError
 GivesSize lanes version kind values answer =
     MatchOption (refusal version kind values)
     ((size : ℕ) × (answer ≡ Ok size)
-    × ((text : List ℕ) → IsText (version_of version) lanes (kind_of_byte kind) values text → size ≡ length text))
+    × ((text : List ℕ) → IsWritten (version_of version) lanes (kind_of_byte kind) values text → size ≡ length text))
     (λ fault. answer ≡ Err fault)
 
 -- ---- numbers

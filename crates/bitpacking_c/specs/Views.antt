@@ -1,4 +1,4 @@
--- What the calls on packed lists answer. A list that is read in place is of version 2 or 3.
+-- What the calls on packed lists answer. A list that is read in place is of version 2, 3 or 4.
 use Rattle.std.specs.Prelude.{◌≡◌, ◌≢◌, ℕ, zero, suc, ◌+◌, ◌/◌, ◌<◌, ◌≤◌, ℤ, pos, negsuc, ◌==◌, nat_lt, if◌then◌else◌, List, [], ◌++◌, length, drop, slice_get, slice_index, Option, Some, None, MatchOption}
 use Rattle.bitpack_lists.specs.declared.list_error.ListError.{ListError}
 use Rattle.bitpack_lists.specs.declared.list_kind.ListKind.{ListKind}
@@ -7,7 +7,7 @@ use Rattle.bitpack_lists.specs.declared.opened.outline.ListOutline.{ListOutline}
 use Rattle.bitpack_lists.specs.Outlines.{IsOutline}
 use Rattle.bitpack_lists.specs.Parts.{number_of}
 use Rattle.bitpack_lists.specs.Search.{first_at_least}
-use Rattle.bitpack_lists.specs.Texts.{IsText, fault_of_either, version_in}
+use Rattle.bitpack_lists.specs.Texts.{IsText, fault_of_any, version_in}
 use Rattle.bitpack_lists.specs.Version3.{lanes_of}
 
 -- ---- views
@@ -26,11 +26,14 @@ abbrev pub known_lanes : ℕ → ℕ
 known_lanes lanes = if lanes == 4 then 4 else if lanes == 8 then 8 else 1
 
 abbrev pub lanes_in : List ℕ → ℕ
-lanes_in bytes = if nat_lt (slice_index bytes 0) 64 then known_lanes (slice_index bytes 2) else lanes_of (slice_index bytes 0 / 64)
+lanes_in bytes =
+    if nat_lt (slice_index bytes 0) 16 then known_lanes (slice_index bytes 2)
+    else if nat_lt (slice_index bytes 0) 64 then lanes_of (slice_index bytes 0 / 16)
+    else lanes_of (slice_index bytes 0 / 64)
 
 -- the first fault of bytes as a text of the version and the lanes that they say
-abbrev pub fault_of_any : List ℕ → Option ListError
-fault_of_any bytes = fault_of_either (lanes_in bytes) bytes
+abbrev pub fault_of_bytes : List ℕ → Option ListError
+fault_of_bytes bytes = fault_of_any (lanes_in bytes) bytes
 
 -- all values were written and their number is the answer, or there is no room for them, the answer is -3 and nothing was written
 abbrev pub UnpacksList : List ℕ → List ℕ → List ℕ → ℤ → Type 0

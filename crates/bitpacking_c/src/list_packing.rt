@@ -1,4 +1,4 @@
-//! Packed lists of versions 2 and 3, written into the caller's buffer.
+//! Packed lists of versions 2 to 4, written into the caller's buffer.
 
 ghost use Rattle.std.specs.Prelude.{◌≡◌, ◌^◌, ◌<◌, IfOk};
 ghost use Rattle.bitpack_lists.specs.Parts.{FindsFault, kind_of_byte};
@@ -9,7 +9,7 @@ use bitpack_lists::{ListError, ListKind, Version};
 use bitpacking::{BitPacker, BitPacker1x, BitPacker4x, BitPacker8x};
 
 /// Writes the text of the values, packed in one lane, at the start of `bytes`, and answers its length. The rest of `bytes` stays as it
-/// was. `version` is 2 or 3, and `kind` is 0 for plain, 1 for sorted and 2 for strictly sorted.
+/// was. `version` is 2, 3 or 4, and `kind` is 0 for plain, 1 for sorted and 2 for strictly sorted.
 ///
 /// If the text has no room it answers -3, and for a fault the number of the first. Then nothing is written but the position of a value
 /// out of order.
@@ -112,6 +112,7 @@ fn version_and_kind(version: u8, kind: u8) -> Result<(Version, ListKind), ListEr
     let found = match version {
         2 => Version::Two,
         3 => Version::Three,
+        4 => Version::Four,
         _ => return Err(ListError::BadVersion(version)),
     };
     match kind {

@@ -1,14 +1,14 @@
-//! Packed lists of versions 2 and 3, read in place: a view in the caller's memory holds the bytes, and that they are a list.
+//! Packed lists of versions 2 to 4, read in place: a view in the caller's memory holds the bytes, and that they are a list.
 
 ghost use Rattle.std.specs.Prelude.{◌≡◌, ◌≢◌, ◌≤◌, ℕ, List, None, drop, length, slice_get, take, pos};
 ghost use Rattle.bitpack_lists.specs.declared.list_kind.ListKind.{ListKind};
 ghost use Rattle.bitpack_lists.specs.Opened.{kind_of, values};
 ghost use Rattle.bitpack_lists.specs.Parts.{kind_byte};
 ghost use Rattle.bitpack_lists.specs.Search.{IsSearched, first_at_least};
-ghost use Rattle.bitpack_lists.specs.Texts.{fault_of_either};
+ghost use Rattle.bitpack_lists.specs.Texts.{fault_of_any};
 ghost use Rattle.bitpack_sorted.specs.Distinct.{distinct};
 ghost use Rattle.bitpack_sorted.specs.Remaining.{remaining};
-ghost use Rattle.bitpacking_c.specs.Views.{Gets, IsListOf, Seeks, UnpacksList, WasFound, fault_number, fault_of_any, lanes_in};
+ghost use Rattle.bitpacking_c.specs.Views.{Gets, IsListOf, Seeks, UnpacksList, WasFound, fault_number, fault_of_bytes, lanes_in};
 
 use bitpack_lists::ListKind;
 use bitpack_lists::list2::{ListOutline, PackedList, Reads};
@@ -17,6 +17,9 @@ use bitpacking::{BitPacker, BitPacker1x, BitPacker4x, BitPacker8x};
 
 /// The first byte of a text of version 3 is at least this. Divided by this, it is the number that means the lanes.
 const FIRST_OF_3: u8 = 64;
+
+/// The first byte of a text of version 4 is at least this, and below `FIRST_OF_3`. Divided by this, it is the number that means the lanes.
+const FIRST_OF_4: u8 = 16;
 
 /// A packed list that was opened. It borrows its bytes, which stay as they are while the view is used.
 ///
@@ -29,7 +32,7 @@ pub struct ListView<'a> {
     found: ListOutline,
     pub(crate) lanes: u8,
     // The bytes have no fault for the packer of this many lanes.
-    pub ghost sound: { lanes ≢ 0 → fault_of_either lanes bytes.now ≡ None },
+    pub ghost sound: { lanes ≢ 0 → fault_of_any lanes bytes.now ≡ None },
     pub ghost known: { lanes ≢ 0 → lanes ≢ 1 → lanes ≢ 4 → lanes ≡ 8 },
     // What opening the bytes found is what is kept.
     ghost was_found: { WasFound lanes bytes.now found },
@@ -77,13 +80,13 @@ impl<'a> ListView<'a> {
     }
 }
 
-/// Opens a text of version 2 or 3 of any packer, as it says itself. It is tested whole. Answers 0, or the number of the first fault.
+/// Opens a text of version 2, 3 or 4 of any packer, as it says itself. It is tested whole. Answers 0, or the number of the first fault.
 #[unsafe(no_mangle)]
 pub extern "C" fn bitpacking_list_open<'a>(bytes: &'a [u8], view: &mut ListView<'a>) -> isize
-    ensures answer { result ≡ fault_number (fault_of_any bytes.now) }
-    ensures opened { fault_of_any bytes.now ≡ None
+    ensures answer { result ≡ fault_number (fault_of_bytes bytes.now) }
+    ensures opened { fault_of_bytes bytes.now ≡ None
         → (view.new.bytes.now ≡ bytes.now) × (view.new.lanes ≡ lanes_in bytes.now) }
-    ensures unchanged { fault_of_any bytes.now ≢ None → view.new ≡ view.old }
+    ensures unchanged { fault_of_bytes bytes.now ≢ None → view.new ≡ view.old }
 {
     match stated_lanes(bytes) {
         1 => open_of(BitPacker1x::new(), 1, bytes, view),
@@ -92,7 +95,7 @@ pub extern "C" fn bitpacking_list_open<'a>(bytes: &'a [u8], view: &mut ListView<
     }
 }
 
-/// Opens a text of version 2 or 3 of a packer of this many lanes.
+/// Opens a text of version 2, 3 or 4 of a packer of this many lanes.
 #[inline(always)]
 fn open_of<'a, P: BitPacker>(
     packer: P,
@@ -102,10 +105,10 @@ fn open_of<'a, P: BitPacker>(
 ) -> isize
     requires lanes { lanes ≡ P.lanes }
     requires known { lanes ≢ 1 → lanes ≢ 4 → lanes ≡ 8 }
-    ensures answer { result ≡ fault_number (fault_of_either P.lanes bytes.now) }
-    ensures opened { fault_of_either P.lanes bytes.now ≡ None
+    ensures answer { result ≡ fault_number (fault_of_any P.lanes bytes.now) }
+    ensures opened { fault_of_any P.lanes bytes.now ≡ None
         → (view.new.bytes.now ≡ bytes.now) × (view.new.lanes ≡ lanes) }
-    ensures unchanged { fault_of_either P.lanes bytes.now ≢ None → view.new ≡ view.old }
+    ensures unchanged { fault_of_any P.lanes bytes.now ≢ None → view.new ≡ view.old }
 {
     match PackedList::open_any(packer, bytes) {
         Ok(list) => {
@@ -126,8 +129,13 @@ fn stated_lanes(bytes: &[u8]) -> u8
     ensures lanes { result ≡ lanes_in bytes.now }
     ensures known { result ≢ 1 → result ≢ 4 → result ≡ 8 }
 {
-    if bytes.len() > 0 && bytes[0] >= FIRST_OF_3 {
-        return match bytes[0] / FIRST_OF_3 {
+    if bytes.len() > 0 && bytes[0] >= FIRST_OF_4 {
+        let unit = if bytes[0] < FIRST_OF_3 {
+            FIRST_OF_4
+        } else {
+            FIRST_OF_3
+        };
+        return match bytes[0] / unit {
             1 => 1,
             2 => 4,
             _ => 8,

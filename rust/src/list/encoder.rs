@@ -3,18 +3,21 @@
 use super::{error, Error, Kind};
 use crate::{BitPacker4x, Packer};
 
-/// The layout of a list. Lists of both are opened by the same call.
+/// The layout of a list. Lists of all of them are opened by the same call.
 #[derive(Clone, Copy, PartialEq, Eq, Hash, Debug, Default)]
 #[non_exhaustive]
 pub enum Version {
     /// Four bytes for each of the values after the last block, in which they are found faster.
     Two,
     /// A short header, and the values after the last block packed: shorter for lists of few values.
-    #[default]
     Three,
+    /// As version 3, with less said of each block; close values of a strictly sorted list as a set of bits; and the values of a plain list
+    /// less the least of their block. A list shorter than a block is written in version 3.
+    #[default]
+    Four,
 }
 
-/// Writes lists of one packer and one version. [`encode`] takes `Encoder::default()`, which has [`BitPacker4x`] and version 3.
+/// Writes lists of one packer and one version. [`encode`] takes `Encoder::default()`, which has [`BitPacker4x`] and version 4.
 ///
 /// ```
 /// use bitpacking::list::{Encoder, Kind, Version};
@@ -92,11 +95,12 @@ impl<P: Packer> Encoder<P> {
         match self.version {
             Version::Two => 2,
             Version::Three => 3,
+            Version::Four => 4,
         }
     }
 }
 
-/// The bytes of a list of these values: in blocks of 128, by [`BitPacker4x`], and of version 3. An [`Encoder`] has the choice of
+/// The bytes of a list of these values: in blocks of 128, by [`BitPacker4x`], and of version 4, or 3 if there are fewer than 128 values. An [`Encoder`] has the choice of
 /// others.
 ///
 /// # Errors

@@ -8,7 +8,7 @@ use std::fmt;
 pub enum Error {
     /// Bytes are missing.
     Short,
-    /// The text is of another version than 2 and 3.
+    /// The text is of another version than 2, 3 and 4.
     BadVersion,
     /// The kind of the text is not one of the three. Or a plain list, which has no order, was searched or combined with others.
     BadKind,
@@ -18,11 +18,11 @@ pub enum Error {
     TooLong,
     /// The width of a block is above 32.
     BadWidth,
-    /// The width of a block is not the least.
+    /// The width or the size of a block is not the least.
     LooseWidth,
-    /// The offset of a block is not the sum of the widths before it.
+    /// A block does not begin at the end of the one before it, or is too long.
     BadOffset,
-    /// The last value of a block is not the one that its entry gives.
+    /// The last value of a block, or in a plain list of version 4 the least, is not the one that the text gives.
     BadLast,
     /// The values are not in the order of the kind, or the values of a vector do not increase.
     NotSorted {
@@ -32,10 +32,14 @@ pub enum Error {
     },
     /// Bytes are left over.
     Trailing,
-    /// A number of version 3 is not written in its one form, or is too small or too large for its place.
+    /// A number of version 3 or 4 is not written in its one form, or is too small or too large for its place.
     BadNumber,
-    /// A bit is set after the last code of a group, in version 3.
+    /// A bit is set after the last code of a group, in version 3 or 4.
     Padding,
+    /// The ends or the marks of a text of version 4 do not have the least count of bytes.
+    BadSizes,
+    /// A set of bits, in version 4, does not have as many bits as a block has values, or ends with another value than the text gives.
+    BadBits,
 }
 
 impl Error {
@@ -55,6 +59,8 @@ impl Error {
             Error::Trailing => -31,
             Error::BadNumber => -33,
             Error::Padding => -34,
+            Error::BadSizes => -36,
+            Error::BadBits => -37,
         }
     }
 }
@@ -76,6 +82,8 @@ pub(super) fn named(number: i32, position: Option<usize>) -> Error {
         -31 => Error::Trailing,
         -33 => Error::BadNumber,
         -34 => Error::Padding,
+        -36 => Error::BadSizes,
+        -37 => Error::BadBits,
         _ => unreachable!("no function of lists answers {number} to this crate"),
     }
 }
@@ -89,14 +97,16 @@ impl fmt::Display for Error {
             Error::WrongLanes => f.write_str("no packer has as many lanes as the text"),
             Error::TooLong => f.write_str("there are more than 268435456 values"),
             Error::BadWidth => f.write_str("a block has a width above 32"),
-            Error::LooseWidth => f.write_str("a block has a width, and a smaller one holds it"),
-            Error::BadOffset => f.write_str("the offset of a block is not the sum of the widths before it"),
-            Error::BadLast => f.write_str("a block ends with another value than its entry says"),
+            Error::LooseWidth => f.write_str("a block has a width or a size, and a smaller one holds it"),
+            Error::BadOffset => f.write_str("a block does not begin where the one before it ends, or is too long"),
+            Error::BadLast => f.write_str("the last or the least value of a block is not the one that the text gives"),
             Error::NotSorted { position: Some(position) } => write!(f, "the value at position {position} is out of order"),
             Error::NotSorted { position: None } => f.write_str("a value is out of order"),
             Error::Trailing => f.write_str("bytes are left over after the last value"),
             Error::BadNumber => f.write_str("a number does not have its only form"),
             Error::Padding => f.write_str("a bit is set after the last code of a group"),
+            Error::BadSizes => f.write_str("the ends or the marks do not have the least count of bytes"),
+            Error::BadBits => f.write_str("a set of bits is not the one of its block"),
         }
     }
 }

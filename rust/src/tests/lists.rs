@@ -7,8 +7,17 @@ use crate::list::{encode, encode_into, Encoder, Error, Kind, PackedList, Version
 use crate::{BitPacker1x, BitPacker4x, BitPacker8x};
 
 pub(super) const KINDS: [Kind; 3] = [Kind::Plain, Kind::Sorted, Kind::StrictlySorted];
-pub(super) const FORMS: [(u8, Version); 6] =
-    [(1, Version::Two), (4, Version::Two), (8, Version::Two), (1, Version::Three), (4, Version::Three), (8, Version::Three)];
+pub(super) const FORMS: [(u8, Version); 9] = [
+    (1, Version::Two),
+    (4, Version::Two),
+    (8, Version::Two),
+    (1, Version::Three),
+    (4, Version::Three),
+    (8, Version::Three),
+    (1, Version::Four),
+    (4, Version::Four),
+    (8, Version::Four),
+];
 pub(super) const LENGTHS: [usize; 11] = [0, 1, 2, 31, 32, 33, 127, 128, 255, 256, 1000];
 
 /// The text of values, by a packer and a version. Also tries the other calls of the encoder.
@@ -122,11 +131,12 @@ fn every_packer_version_kind_and_length() {
 }
 
 #[test]
-fn the_default_is_four_lanes_and_version_3() {
+fn the_default_is_four_lanes_and_version_4() {
     let values: Vec<u32> = (0..500).collect();
     for kind in KINDS {
         let bytes = encode(kind, &values).unwrap();
-        assert_eq!(Ok(&bytes), encoded((4, Version::Three), kind, &values).as_ref());
+        assert_eq!(Ok(&bytes), encoded((4, Version::Four), kind, &values).as_ref());
+        assert_eq!(encode(kind, &values[..127]), encoded((4, Version::Three), kind, &values[..127]));
         let mut many = bytes.clone();
         assert_eq!(encode_into(kind, &values, &mut many), Ok(bytes.len()));
         assert_eq!(many, bytes.repeat(2));
@@ -189,7 +199,7 @@ pub(super) fn bytes_of(digits: &str) -> Vec<u8> {
 #[test]
 fn the_lists_of_the_vectors() {
     at_each_level(|| {
-        for (table, version, count) in [("lists2", Version::Two, 183), ("lists3", Version::Three, 564)] {
+        for (table, version, count) in [("lists2", Version::Two, 183), ("lists3", Version::Three, 564), ("lists4", Version::Four, 564)] {
             let rows = rows(table);
             assert_eq!(rows.len(), count);
             for row in rows {
@@ -207,7 +217,7 @@ fn the_lists_of_the_vectors() {
 fn the_refused_texts_of_the_vectors() {
     at_each_level(|| {
         let mut refused = 0;
-        for row in rows("refused2").into_iter().chain(rows("refused3")) {
+        for row in rows("refused2").into_iter().chain(rows("refused3")).chain(rows("refused4")) {
             let (number, bytes) = (row[1].parse::<i32>().unwrap(), bytes_of(&row[3]));
             if ![2, 4].contains(&number) {
                 let error = PackedList::open(&bytes).unwrap_err();
@@ -216,7 +226,7 @@ fn the_refused_texts_of_the_vectors() {
                 refused += 1;
             }
         }
-        assert_eq!(refused, 279 - 15 - 21 + 542 - 37 - 20);
+        assert_eq!(refused, 279 - 15 - 21 + 542 - 37 - 20 + 1624 - 285 - 46);
     });
 }
 
@@ -227,9 +237,11 @@ fn the_refused_values_of_the_vectors() {
         let rows = rows("refused_values");
         assert_eq!(rows.len(), 104);
         for row in rows {
-            let version = if row[0] == "2" { Version::Two } else { Version::Three };
+            let versions: &[Version] = if row[0] == "2" { &[Version::Two] } else { &[Version::Three, Version::Four] };
             let error = Error::NotSorted { position: Some(row[4].parse().unwrap()) };
-            assert_eq!(encoded((row[2].parse().unwrap(), version), kind_of(&row[1]), &values_of(&row[3])), Err(error));
+            for &version in versions {
+                assert_eq!(encoded((row[2].parse().unwrap(), version), kind_of(&row[1]), &values_of(&row[3])), Err(error));
+            }
         }
     });
 }
@@ -237,7 +249,7 @@ fn the_refused_values_of_the_vectors() {
 #[test]
 fn the_searches_of_the_vectors() {
     at_each_level(|| {
-        for row in rows("seek").into_iter().chain(rows("seek3")) {
+        for row in rows("seek").into_iter().chain(rows("seek3")).chain(rows("seek4")) {
             let bytes = bytes_of(&row[1]);
             let (list, targets) = (PackedList::open(&bytes).unwrap(), values_of(&row[2]));
             assert_eq!(targets.len(), row[3].split(',').count());
@@ -262,8 +274,11 @@ fn texts_of_no_version_or_packer() {
 /// The text of an opened list is the only one of its values: damaged bytes are refused, or are the text of other values.
 fn is_refused_or_another(form: (u8, Version), bytes: &[u8]) {
     if let Ok(list) = PackedList::open(bytes) {
-        let form =
-            if bytes[0] < 64 { (bytes[2], Version::Two) } else { ([1, 4, 8][usize::from(bytes[0] / 64 - 1)], Version::Three) };
+        let form = match bytes[0] {
+            0..=15 => (bytes[2], Version::Two),
+            16..=63 => ([1, 4, 8][usize::from(bytes[0] / 16 - 1)], Version::Four),
+            _ => ([1, 4, 8][usize::from(bytes[0] / 64 - 1)], Version::Three),
+        };
         assert_eq!(encoded(form, list.kind(), &list.to_vec()).as_deref(), Ok(bytes));
     } else {
         assert!(FORMS.contains(&form));
@@ -293,21 +308,23 @@ fn damaged_bytes() {
 /// By hand, from `include/bitpacking.h` and from what each error means.
 #[test]
 fn each_error_with_its_number_and_text() {
-    let errors: [(Error, i32, &str); 14] = [
+    let errors: [(Error, i32, &str); 16] = [
         (Error::Short, -21, "bytes are missing"),
         (Error::BadVersion, -22, "unsupported version"),
         (Error::BadKind, -23, "invalid kind"),
         (Error::WrongLanes, -24, "no packer has as many lanes as the text"),
         (Error::TooLong, -25, "there are more than 268435456 values"),
         (Error::BadWidth, -26, "a block has a width above 32"),
-        (Error::LooseWidth, -27, "a block has a width, and a smaller one holds it"),
-        (Error::BadOffset, -28, "the offset of a block is not the sum of the widths before it"),
-        (Error::BadLast, -29, "a block ends with another value than its entry says"),
+        (Error::LooseWidth, -27, "a block has a width or a size, and a smaller one holds it"),
+        (Error::BadOffset, -28, "a block does not begin where the one before it ends, or is too long"),
+        (Error::BadLast, -29, "the last or the least value of a block is not the one that the text gives"),
         (Error::NotSorted { position: Some(7) }, -30, "the value at position 7 is out of order"),
         (Error::NotSorted { position: None }, -30, "a value is out of order"),
         (Error::Trailing, -31, "bytes are left over after the last value"),
         (Error::BadNumber, -33, "a number does not have its only form"),
         (Error::Padding, -34, "a bit is set after the last code of a group"),
+        (Error::BadSizes, -36, "the ends or the marks do not have the least count of bytes"),
+        (Error::BadBits, -37, "a set of bits is not the one of its block"),
     ];
     for (error, number, text) in errors {
         let error: Box<dyn std::error::Error + Send + Sync> = Box::new(error);

@@ -1,9 +1,8 @@
 -- The bytes are the text of one list, and the block that is found is of it.
 use Rattle.std.proofs.Common.{◌≡◌, ◌-◌, ◌*◌, ◌<◌, ◌≤◌, length, get_or, sym}
-use Rattle.bitpack_lists.specs.Opened.{kind_of, values}
+use Rattle.bitpack_lists.specs.Opened.{CanSearch, kind_of, values}
 use Rattle.bitpack_lists.specs.Parts.{whole_blocks}
-use Rattle.bitpack_lists.specs.Places.{InOrder}
-use Rattle.bitpack_lists.proofs.ForCallers.{in_order_from_kind}
+use Rattle.bitpack_lists.proofs.ForCallers.{can_search}
 use Rattle.bitpacking_c.specs.Blocks.{HasValues}
 use Rattle.bitpacking_c.proofs.CursorPlaces.{one_of_each, read_of_each}
 use Rattle.bitpacking_c.proofs.list_blocks.find_in.Goals as goal
@@ -11,7 +10,7 @@ use Rattle.bitpacking_c.proofs.list_blocks.find_in.Goals as goal
 pub find_next-requires-clause-ordered : goal.find_next-requires-clause-ordered
 find_next-requires-clause-ordered g c =
     let list = c.list in
-    in_order_from_kind list.result g.met.P.BitPacker.some_lanes (c.requires.ordered (kind_of list.result) (values list.result) list.ensures.list)
+    can_search list.result g.met.P.BitPacker.some_lanes (c.requires.ordered (kind_of list.result) (values list.result) list.ensures.list)
 
 pub find_next-requires-clause-block : goal.find_next-requires-clause-block
 find_next-requires-clause-block g c =
@@ -40,8 +39,8 @@ returns-clause-read g c =
     let list = c.list in
     let is : HasValues c.args.view.now.lanes c.args.view.now.bytes.now (values list.result) = (kind_of list.result, list.ensures.list) in
     read_of_each c.args.view.now.lanes c.args.view.now.bytes.now (values list.result) is (λ kind all is. (list.ensures.only kind all is).1)
-    (InOrder (values list.result)) c.find_next.result.0 c.find_next.result.1 c.find_next.new.out
-    (λ are. in_order_from_kind list.result g.met.P.BitPacker.some_lanes (are (kind_of list.result) (values list.result) list.ensures.list))
+    (CanSearch list.result) c.find_next.result.0 c.find_next.result.1 c.find_next.new.out
+    (λ are. can_search list.result g.met.P.BitPacker.some_lanes (are (kind_of list.result) (values list.result) list.ensures.list))
     (rw c.requires.lanes c.find_next.ensures.read)
 
 pub returns-clause-one : goal.returns-clause-one

@@ -1,9 +1,8 @@
 -- The bytes are the text of one list, and the block is of it.
 use Rattle.std.proofs.Common.{◌≡◌, ◌-◌, ◌*◌, ◌<◌, ◌≤◌, length, get_or}
-use Rattle.bitpack_lists.specs.Opened.{kind_of, values}
+use Rattle.bitpack_lists.specs.Opened.{CanSearch, kind_of, values}
 use Rattle.bitpack_lists.specs.Parts.{whole_blocks}
-use Rattle.bitpack_lists.specs.Places.{InOrder}
-use Rattle.bitpack_lists.proofs.ForCallers.{in_order_from_kind}
+use Rattle.bitpack_lists.proofs.ForCallers.{can_search}
 use Rattle.bitpacking_c.specs.Blocks.{HasValues}
 use Rattle.bitpacking_c.proofs.CursorPlaces.{one_of_each, read_of_each}
 use Rattle.bitpacking_c.proofs.list_blocks.read_in.Goals as goal
@@ -27,8 +26,8 @@ returns-clause-read g c =
     let list = c.list in
     let is : HasValues c.args.view.now.lanes c.args.view.now.bytes.now (values list.result) = (kind_of list.result, list.ensures.list) in
     read_of_each c.args.view.now.lanes c.args.view.now.bytes.now (values list.result) is (λ kind all is. (list.ensures.only kind all is).1)
-    (InOrder (values list.result)) c.args.block c.read_next.result c.read_next.new.out
-    (λ are. in_order_from_kind list.result g.met.P.BitPacker.some_lanes (are (kind_of list.result) (values list.result) list.ensures.list))
+    (CanSearch list.result) c.args.block c.read_next.result c.read_next.new.out
+    (λ are. can_search list.result g.met.P.BitPacker.some_lanes (are (kind_of list.result) (values list.result) list.ensures.list))
     (rw c.requires.lanes c.read_next.ensures.read)
 
 pub returns-clause-one : goal.returns-clause-one

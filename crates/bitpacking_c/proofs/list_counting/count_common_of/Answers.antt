@@ -44,7 +44,7 @@ returns g c =
       );
       are = λ lists are.
           counted_shared views lists i c.count_shared.result (remaining c.distinct_of.result) are c.requires.ordered.1 c.requires.ordered.0
-          (increasing_rest (values_of_cursor cursor) (position cursor) c.distinct_of.result.ordered)
+          (increasing_rest (values_of_cursor cursor) (position cursor) c.distinct_of.result.ordered.0)
           (c.distinct_of.ensures.values (kind_at lists i) (values_at lists i) (list_at views lists i view are c.requires.ordered.0 here))
           (c.count_shared.ensures.count lists are);
     }

@@ -54,7 +54,7 @@ returns g c =
     record {
       leaves = record {
         few = within;
-        increasing = rw done (strictly_from_increasing old (increasing_rest (values_of_cursor cursor) (position cursor) c.distinct_of.result.ordered));
+        increasing = rw done (strictly_from_increasing old (increasing_rest (values_of_cursor cursor) (position cursor) c.distinct_of.result.ordered.0));
         members = λ kind all is v. ap (λ xs. has xs v) (done ∙ c.distinct_of.ensures.values kind all is) ∙ has-distinct all v;
       };
       few = λ most fits.
