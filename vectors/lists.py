@@ -2,7 +2,7 @@
 
 from hashlib import sha256
 
-from parts import KINDS, LANES, STARTS, body_of, drawn, list_text, split, summed, text_of
+from parts import KINDS, LANES, STARTS, body_of, drawn, list_text, summed, text_of
 
 
 def chained(blocks, kind, lanes, widths):
@@ -44,19 +44,20 @@ def single_lists(version):
             yield KINDS[kind], lanes, values, text_of(version, lanes, kind, [(1, values[-1], body_of(lanes, 1, codes))], [])
 
 
-def digest_lists():
-    """Lists of more than 65,535 values, or more than 65,535 bytes of bodies: kind, lanes, width of the codes, values."""
-    for name, lanes, count, width in [("plain", 8, 16645, 32), ("plain", 1, 65605, 32), ("strict", 4, 65605, 15)]:
+def digest_lists(version):
+    """Lists of more than 65,535 values, or more than 65,535 bytes of bodies: kind, lanes, width of the codes, values. In version 4 also two
+    with a last end of 65,535 and 65,536."""
+    some = [("plain", 8, 16645, 32), ("plain", 1, 65605, 32), ("strict", 4, 65605, 15)]
+    for name, lanes, count, width in some + [("plain", 1, 123360, 17), ("plain", 1, 65536, 32)] * (version == 4):
         codes = [x >> 32 - width for x in drawn(count)]
         yield name, lanes, width, summed(name, STARTS[KINDS.index(name)], codes)
 
 
 def digests():
     """Kind, lanes, count, width of the codes, version, and the length and SHA-256 of the text."""
-    for name, lanes, width, values in digest_lists():
-        parts = split(lanes, KINDS.index(name), values)
-        for version in [1, 2, 3]:
-            text = text_of(version, lanes, KINDS.index(name), *parts)
+    for version in [1, 2, 3, 4]:
+        for name, lanes, width, values in digest_lists(version):
+            text = list_text(version, lanes, KINDS.index(name), values)
             yield name, lanes, len(values), width, version, len(text), sha256(text).hexdigest()
 
 

@@ -116,6 +116,41 @@ def convert3(lanes, kind, values):
     return text3(lanes, kind, values)
 
 
+def block4(lanes, kind, start, values):
+    if kind == 0:
+        least = min(values)
+        codes = [value - least for value in values]
+        return least, width_of(codes), body_of(lanes, width_of(codes), codes)
+    gaps = codes_of(kind, start, values)
+    numbers = (values[-1] - start - 1) % 2**32 + 1
+    size = -(-numbers // (32 * lanes))
+    if kind == 2 and size <= width_of(gaps):
+        bits = sum(1 << (value - start - 1) % 2**32 for value in values)
+        return values[-1], size, bits.to_bytes(4 * lanes * size, "little")
+    return values[-1], width_of(gaps), body_of(lanes, width_of(gaps), gaps)
+
+
+def shorts_of(numbers):
+    size = max(1, (max(numbers).bit_length() + 7) // 8)
+    return size, b"".join(number.to_bytes(size, "little") for number in numbers)
+
+
+def text4(lanes, kind, values):
+    block, start, end, ends, marks, bodies = 32 * lanes, [0, 0, 2**32 - 1][kind], 0, [], [], b""
+    if len(values) < block:
+        return text3(lanes, kind, values)
+    for at in range(0, len(values) // block * block, block):
+        mark, size, body = block4(lanes, kind, start, values[at : at + block])
+        end += size
+        ends.append(end)
+        marks.append(mark)
+        bodies += body
+        start = values[at + block - 1]
+    (e, ends), (z, marks) = shorts_of(ends), shorts_of(marks)
+    front = bytes([16 * [1, 4, 8].index(lanes) + 20 + kind]) + number_of(len(values)) + bytes([e + 16 * z])
+    return front + ends + marks + bodies + tail_of(len(values) // block, start, kind, values[len(values) // block * block :])
+
+
 def encode2(lanes, kind, values):
     falls = [p for p in range(1, len(values)) if kind and values[p] < values[p - 1] + (kind == 2)]
     need(not falls, "NotSorted", *falls[:1])
@@ -128,6 +163,17 @@ def encode3(lanes, kind, values):
     return text3(lanes, kind, values)
 
 
+def encode4(lanes, kind, values):
+    for p in range(1, len(values)):
+        need(kind == 0 or values[p] - kind >= values[p - 1] - 1, "NotSorted", p)
+    return text4(lanes, kind, values)
+
+
+def upgrade4(lanes, text):
+    older = decode3 if text[:1] >= b"\x40" else decode2 if text[:1] == b"\2" else decode
+    return encode4(lanes, *older(lanes, text))
+
+
 def upgrade3(lanes, text):
     return convert3(lanes, *(decode2 if text[:1] == b"\2" else decode)(lanes, text))
 
@@ -137,7 +183,9 @@ def upgrade(lanes, text):
 
 
 def opened(lanes, text):
-    kind, values = (decode3 if text[:1] >= b"\x40" else decode2)(lanes, text)
+    first = text[0] if text else 0
+    decode_first = decode3 if first >= 64 else decode4 if first >= 16 else decode2
+    kind, values = decode_first(lanes, text)
     need(kind != 0, "BadKind", 0)
     return values
 

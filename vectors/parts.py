@@ -81,6 +81,61 @@ def tail_of(version, kind, bodies, values):
     return first + b"".join(group(codes[at : at + 32]) for at in range(0, len(codes), 32))
 
 
+def header4(lanes, count, kind):
+    return bytes([16 * (LANES.index(lanes) + 1) + 4 + kind]) + number(count)
+
+
+def least_bytes(value):
+    """The least count of bytes that hold a number: 1 to 4."""
+    return next(count for count in range(1, 5) if value < 256**count)
+
+
+def front4(lanes, count, kind, ends, marks, sizes=None):
+    """What is before the bodies of version 4: with this byte of sizes, or with the least sizes."""
+    sizes = least_bytes(ends[-1]) + 16 * least_bytes(max(marks)) if sizes is None else sizes
+    short = [end.to_bytes(sizes % 16, "little") for end in ends] + [mark.to_bytes(sizes // 16, "little") for mark in marks]
+    return header4(lanes, count, kind) + bytes([sizes]) + b"".join(short)
+
+
+def bits_size(lanes, start, last):
+    """The size of a bit set of the numbers after a start, up to the last value."""
+    span = (last - start - 1) % 2**32 + 1
+    return span // (32 * lanes) + (span % (32 * lanes) > 0)
+
+
+def bit_set(lanes, size, start, values):
+    """A bit set of this size: the number after the start is bit 0."""
+    body = bytearray(4 * lanes * size)
+    for value in values:
+        bit = (value - start - 1) % 2**32
+        body[bit // 8] |= 1 << bit % 8
+    return bytes(body)
+
+
+def block4(lanes, kind, start, values):
+    """The size, mark and body of a block of version 4."""
+    mark = values[-1] if kind else min(values)
+    codes = codes_after(kind, start, values) if kind else [value - mark for value in values]
+    width, bits = max(codes).bit_length(), bits_size(lanes, start, mark)
+    if kind == 2 and bits <= width:
+        return bits, mark, bit_set(lanes, bits, start, values)
+    return width, mark, body_of(lanes, width, codes)
+
+
+def text4(lanes, kind, values):
+    """The text of version 4 of a block or more."""
+    block, start, ends, marks, bodies = 32 * lanes, STARTS[kind], [], [], b""
+    whole = len(values) // block * block
+    for place in range(0, whole, block):
+        size, mark, body = block4(lanes, kind, start, values[place : place + block])
+        ends.append(sum(ends[-1:]) + size)
+        marks.append(mark)
+        start, bodies = mark, bodies + body
+    codes = codes_after(kind, start, values[whole:])
+    groups = b"".join(group(codes[at : at + 32]) for at in range(0, len(codes), 32))
+    return front4(lanes, len(values), kind, ends, marks) + bodies + groups
+
+
 def text_of(version, lanes, kind, bodies, tail):
     """A text, from the width, last value and body of each block, and the values of the tail."""
     count, offset = 32 * lanes * len(bodies) + len(tail), 0
@@ -124,7 +179,11 @@ def split(lanes, kind, values):
 
 
 def list_text(version, lanes, kind, values):
-    """The text of the values, by the number of their kind. Their order is not tested."""
+    """The text of the values, by the number of their kind. Their order is not tested. A list without a block has no text of version 4, and
+    that of version 3 is in its place."""
+    if version == 4 and len(values) >= 32 * lanes:
+        return text4(lanes, kind, values)
+    version = min(version, 3)
     return text_of(version, lanes, kind, *split(lanes, kind, values))
 
 

@@ -17,6 +17,8 @@ NUMBERS = {
     "Trailing": 11,
     "BadNumber": 13,
     "Padding": 14,
+    "BadSizes": 16,
+    "BadBits": 17,
 }
 
 

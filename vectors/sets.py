@@ -31,6 +31,15 @@ def tail_lists():
         yield lanes, 2, [3 * k for k in range(count)]
 
 
+def dense_lists():
+    """Strict lists with bit sets, between packed blocks and alone: lanes, kind, values."""
+    for lanes in LANES:
+        dense = [k for k in range(97 * lanes + 40) if k % 5 > 1 or k % 7 == 3]
+        yield lanes, 2, dense
+        yield lanes, 2, [*range(32 * lanes), *(1000 * lanes + 100 * k for k in range(32 * lanes)), *(2**16 + value for value in dense)]
+    yield 1, 2, [MOST - value for value in range(80) if value % 5 != 2][::-1]
+
+
 def search(version, lanes, kind, values, sought):
     """A row of searches: lanes, text, the values sought, and the first position that reaches each, with its value."""
     found = [bisect_left(values, value) for value in sought]
@@ -40,11 +49,15 @@ def search(version, lanes, kind, values, sought):
 
 def searches(version, blocks):
     """Searches beside the edges of the blocks of each list; in version 3 also of the groups."""
-    for lanes, kind, values in [*search_lists(blocks), *(tail_lists() if version == 3 else [])]:
+    for lanes, kind, values in [*search_lists(blocks), *(tail_lists() if version >= 3 else []), *(dense_lists() if version == 4 else [])]:
+        if version == 4 and len(values) < 32 * lanes:
+            continue
         block, sought = 32 * lanes, {0, 1, 2**31, MOST}
         edges = [place for edge in range(0, len(values), block) for place in [edge, edge + 7, edge + block - 1]]
-        groups = range(len(values) // block * block, len(values) if version == 3 else 0, 32)
+        groups = range(len(values) // block * block, len(values) if version >= 3 else 0, 32)
         edges += [place for edge in groups for place in [edge, edge + 1, edge + 31, edge + 32]]
+        if version == 4:  # values around each byte of a bit set
+            edges += range(0, len(values), 9)
         for place in [*edges, len(values) - 1]:
             if 0 <= place < len(values):
                 sought |= {values[place] - 1, values[place], values[place] + 1}
