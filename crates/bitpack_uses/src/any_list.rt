@@ -22,9 +22,9 @@ impl<'a> SortedCursor for AnyList<'a> {
     ghost rest = { elim [ One c ↦ remaining c | Four c ↦ remaining c | Eight c ↦ remaining c | Loose c ↦ c.values.now ] };
 
     ghost increasing = { elim [
-      | One c ↦ increasing_rest (values_of_cursor c.cursor) (position c.cursor) c.ordered
-      | Four c ↦ increasing_rest (values_of_cursor c.cursor) (position c.cursor) c.ordered
-      | Eight c ↦ increasing_rest (values_of_cursor c.cursor) (position c.cursor) c.ordered
+      | One c ↦ increasing_rest (values_of_cursor c.cursor) (position c.cursor) c.ordered.0
+      | Four c ↦ increasing_rest (values_of_cursor c.cursor) (position c.cursor) c.ordered.0
+      | Eight c ↦ increasing_rest (values_of_cursor c.cursor) (position c.cursor) c.ordered.0
       | Loose c ↦ IsIncreasing-from c.values.now c.rising
     ] };
 

@@ -2,9 +2,8 @@
 
 ghost use Rattle.std.specs.Prelude.{◌≡◌, ◌≢◌, ◌+◌, ◌<◌, ◌≤◌, IsTrue, length};
 ghost use Rattle.bitpack_lists.specs.declared.list_kind.ListKind.{ListKind};
-ghost use Rattle.bitpack_lists.specs.Cursors.{entries_read, position, unpacked, values_of_cursor};
+ghost use Rattle.bitpack_lists.specs.Cursors.{CanSeek, entries_read, position, unpacked, values_of_cursor};
 ghost use Rattle.bitpack_lists.specs.Opened.{kind_of, values};
-ghost use Rattle.bitpack_lists.specs.Places.{InOrder};
 
 use bitpack::ListError;
 use bitpack::list2::{Cursor, PackedList, Reads, intersect};
@@ -105,7 +104,7 @@ pub fn position_in_blocks(cursor: &Cursor<'_, BitPacker1x>) -> usize
 
 /// Moves a cursor over 4,096 blocks to a target.
 pub fn seek_with_cursor(cursor: &mut Cursor<'_, BitPacker1x>, target: u32)
-    requires { InOrder (values_of_cursor cursor.old) }
+    requires { CanSeek cursor.old }
     ensures { length (values_of_cursor cursor.old) ≡ 131072 → position cursor.new < 131072
         → entries_read cursor.new ≤ entries_read cursor.old + 24 }
 {

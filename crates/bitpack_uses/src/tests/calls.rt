@@ -6,7 +6,7 @@ ghost use Rattle.bitpack_lists.specs.Version3.{HasCode};
 
 use super::checks::{holds, is_increasing};
 use bitpack::list2::{Cursor, PackedList, Reads, intersect};
-use bitpack::{ListError, ListKind, list, list2, list3};
+use bitpack::{ListError, ListKind, list, list2, list3, list4};
 use bitpack_sorted::{DistinctValues, intersect_in_place};
 use bitpacking::BitPacker;
 use std::process::Abort;
@@ -60,11 +60,25 @@ pub(super) fn encode3<P: BitPacker>(
     list3::encode(packer, kind, values, out)
 }
 
+/// Encodes in version 4, or in version 3 if the list is shorter than a block.
+pub(super) fn encode4<P: BitPacker>(
+    packer: &P,
+    kind: ListKind,
+    values: &[u32],
+    out: &mut Vec<u8>,
+) -> Result<(), ListError> {
+    if !has_code::<P>() {
+        return Err(ListError::BadVersion(4));
+    }
+    list4::encode(packer, kind, values, out)
+}
+
 /// A version of texts that are written into slices.
 #[derive(Clone, Copy)]
 pub(super) enum Version {
     Two,
     Three,
+    Four,
 }
 
 /// Encodes in a version.
@@ -78,6 +92,7 @@ pub(super) fn encode_as<P: BitPacker>(
     match version {
         Version::Two => encode2(packer, kind, values, out),
         Version::Three => encode3(packer, kind, values, out),
+        Version::Four => encode4(packer, kind, values, out),
     }
 }
 
@@ -95,6 +110,7 @@ pub(super) fn encode_to<P: BitPacker>(
     match version {
         Version::Two => list2::encode_to(packer, kind, values, bytes),
         Version::Three => list3::encode_to(packer, kind, values, bytes),
+        Version::Four => list4::encode_to(packer, kind, values, bytes),
     }
 }
 
@@ -111,6 +127,7 @@ pub(super) fn encoded_len<P: BitPacker>(
     match version {
         Version::Two => list2::encoded_len(packer, kind, values),
         Version::Three => list3::encoded_len(packer, kind, values),
+        Version::Four => list4::encoded_len(packer, kind, values),
     }
 }
 
@@ -122,7 +139,15 @@ pub(super) fn open3<'a, P: BitPacker>(
     PackedList::open3(*packer, text)
 }
 
-/// Opens a text of version 2 or 3.
+/// Opens a text of version 4.
+pub(super) fn open4<'a, P: BitPacker>(
+    packer: &P,
+    text: &'a [u8],
+) -> Result<PackedList<'a, P>, ListError> {
+    PackedList::open4(*packer, text)
+}
+
+/// Opens a text of version 2, 3 or 4.
 pub(super) fn open_any<'a, P: BitPacker>(
     packer: &P,
     text: &'a [u8],

@@ -10,6 +10,7 @@ mod list2_memory;
 mod list2_refused;
 mod list3;
 mod list3_refused;
+mod list4;
 mod list_growths;
 mod list_memory;
 mod lists;

@@ -131,6 +131,7 @@ fn each_kind<P: BitPacker>(rt: &impl Abort, alloc: Global, packer: &P) {
     for kind in [ListKind::Plain, ListKind::Sorted, ListKind::StrictlySorted] {
         each_length(rt, alloc, Version::Two, packer, kind);
         each_length(rt, alloc, Version::Three, packer, kind);
+        each_length(rt, alloc, Version::Four, packer, kind);
     }
 }
 

@@ -364,12 +364,12 @@ fn each_refusal_says_what_is_wrong(rt: HostRuntime) {
         (
             ListError::LooseWidth(7, 3),
             7,
-            "block 7 has width 3, and a smaller one holds it",
+            "block 7 has size 3, and a smaller one holds it",
         ),
         (
             ListError::BadOffset(7),
             8,
-            "the offset of block 7 is not the sum of the widths before it",
+            "block 7 does not begin where the one before it ends",
         ),
         (
             ListError::BadLast(7),
@@ -387,6 +387,16 @@ fn each_refusal_says_what_is_wrong(rt: HostRuntime) {
             "bytes are left over after the last value",
         ),
         (ListError::Memory, 12, "out of memory"),
+        (
+            ListError::BadSizes(18),
+            16,
+            "18 does not say the least sizes of ends and marks",
+        ),
+        (
+            ListError::BadBits(7),
+            17,
+            "the bit set of block 7 is not one of a block that ends with its mark",
+        ),
     ];
     for (error, number, text) in cases {
         says(&rt, rt.alloc(), error, number, text);
