@@ -3,7 +3,7 @@
 use super::encode_to::is_written_to;
 use crate::tests::calls::{Version, encode4, open_any, open4, value_at};
 use crate::tests::checks::{
-    appended_bytes, holds, nine, push, push_bytes, same_fault, same_values, steps, succeeds,
+    appended_bytes, holds, nine, push, push_bytes, same_fault, same_values, says, steps, succeeds,
 };
 use bitpack::list2::PackedList;
 use bitpack::{ListError, ListKind};
@@ -50,10 +50,10 @@ fn is_written<P: BitPacker>(
     is_list(rt, alloc, &list, kind, values);
 }
 
-/// Fours of neighbours that are 8 apart: 0 to 3, 8 to 11 and so on, as many values as a block has.
-fn fours(rt: &impl Abort, alloc: Global, count: u32) -> Vec<u32> {
+/// Fours of neighbours that are 8 apart: 0 to 3, 8 to 11 and so on, 32 values.
+fn fours(rt: &impl Abort, alloc: Global) -> Vec<u32> {
     let mut values = Vec::new(alloc);
-    for index in 0..count {
+    for index in 0..32 {
         push(rt, &mut values, 8 * (index / 4) + index % 4);
     }
     values
@@ -102,7 +102,7 @@ fn bit_sets(rt: HostRuntime) {
     let alloc = rt.alloc();
     let strict = ListKind::StrictlySorted;
     let packer = BitPacker1x::new();
-    let mut values = fours(&rt, alloc, 32);
+    let mut values = fours(&rt, alloc);
     let text = [0x16, 0x20, 0x11, 0x02, 0x3B, 15, 15, 15, 15, 15, 15, 15, 15];
     is_written(&rt, &packer, alloc, strict, &values, &text);
     push(&rt, &mut values, 70);
@@ -204,4 +204,13 @@ fn texts_of_version_4_that_are_refused(rt: HostRuntime) {
     for (text, error) in cases {
         is_refused(&rt, text, error);
     }
+}
+
+#[test]
+fn refusals_of_version_4_say_what_is_wrong(rt: HostRuntime) {
+    let alloc = rt.alloc();
+    let text = "18 does not say the least sizes of ends and marks";
+    says(&rt, alloc, ListError::BadSizes(18), 16, text);
+    let text = "the bit set of block 7 is not one of a block that ends with its mark";
+    says(&rt, alloc, ListError::BadBits(7), 17, text);
 }

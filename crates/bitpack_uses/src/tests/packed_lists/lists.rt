@@ -387,16 +387,6 @@ fn each_refusal_says_what_is_wrong(rt: HostRuntime) {
             "bytes are left over after the last value",
         ),
         (ListError::Memory, 12, "out of memory"),
-        (
-            ListError::BadSizes(18),
-            16,
-            "18 does not say the least sizes of ends and marks",
-        ),
-        (
-            ListError::BadBits(7),
-            17,
-            "the bit set of block 7 is not one of a block that ends with its mark",
-        ),
     ];
     for (error, number, text) in cases {
         says(&rt, rt.alloc(), error, number, text);
