@@ -2,6 +2,7 @@
 pub mod BitSets
 pub mod Blocks
 pub mod Chains
+pub mod Columns
 pub mod Cursors
 pub mod Groups
 pub mod inner

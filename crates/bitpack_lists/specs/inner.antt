@@ -8,6 +8,7 @@ pub mod Opening
 pub mod Opening3
 pub mod Opening4
 pub mod Reading4
+pub mod Ranges
 pub mod Searching
 pub mod Seeking
 pub mod Sizes

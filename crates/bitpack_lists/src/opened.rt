@@ -1,6 +1,7 @@
 //! A packed list of version 2, 3 or 4, read in place: it borrows its text.
 
 mod blocks;
+mod columns;
 mod copying;
 mod cursor;
 mod gathering;

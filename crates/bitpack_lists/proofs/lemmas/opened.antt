@@ -1,4 +1,5 @@
 -- Lemmas of opened lists: search, cursors, copying, kinds.
+pub mod BlockBounds
 pub mod BlockPlaces
 pub mod CopyBlocks
 pub mod CopySteps
@@ -11,6 +12,9 @@ pub mod KindFaults
 pub mod OpenedLists
 pub mod OpenedValues
 pub mod OutlineSteps
+pub mod RangeBounds
+pub mod RangeSteps
+pub mod RangeWalks
 pub mod ReadParts
 pub mod SearchSteps
 pub mod StatedTexts

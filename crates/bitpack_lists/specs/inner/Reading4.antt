@@ -1,5 +1,5 @@
 -- What readers know of the rest of a text of version 4.
-use Rattle.std.specs.Prelude.{◌≡◌, ℕ, ◌+◌, ◌*◌, ◌^◌, ◌<◌, ◌≤◌, List, length}
+use Rattle.std.specs.Prelude.{ℕ, ◌^◌, ◌<◌, ◌≤◌, List, length}
 use Rattle.bitpack_lists.specs.Version4.{begin_at, bodies_start, end_at, end_len, mark_len, size_at, tail_start4}
 
 -- each end and each mark has from 1 to 4 bytes, and the bytes go on to where the bodies of `blocks` blocks begin

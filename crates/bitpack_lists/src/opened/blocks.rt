@@ -65,6 +65,7 @@ impl<'a, P: BitPacker> PackedList<'a, P> {
         ensures rest { drop result out.new ≡ drop result out.old }
         ensures entries { reads.new.entries ≤ reads.old.entries + 1 }
         ensures one { reads.new.blocks ≤ reads.old.blocks + 1 }
+        ensures tail { block ≡ whole_blocks P.lanes (length (values self.now)) → reads.new.blocks ≡ reads.old.blocks }
         ensures grown { HasGrown reads.old reads.new }
     {
         let len = P::BLOCK_LEN;

@@ -3,11 +3,12 @@
 ghost use Rattle.std.specs.Prelude.{◌≡◌, true, ◌+◌, ◌^◌, ◌<◌, ◌≤◌, ◌==◌, length, take};
 ghost use Rattle.bitpacking.specs.Codes.{start};
 ghost use Rattle.bitpack_lists.specs.BitSets.{are_right};
+ghost use Rattle.bitpack_lists.specs.Columns.{ReadsFew};
 ghost use Rattle.bitpack_lists.specs.Version4.{body_at4, body_values, if_strict, size_at};
-ghost use Rattle.bitpack_lists.specs.inner.Reading4.{HasBodies4, HasMarks};
+ghost use Rattle.bitpack_lists.specs.inner.Reading4.{HasBodies4, HasMarks, Rises};
 
 use super::bodies::unpack_block4;
-use super::reading::{body_of4, mark_at, read_block4};
+use super::reading::{Block4, body_of4, mark_at, read_block4};
 use crate::blocks::reads::Reads;
 use bitpacking::{BitPacker, Kind};
 
@@ -22,6 +23,17 @@ impl Reads {
     {
         self.record(1, 0);
         mark_at(blocks, rest, block)
+    }
+
+    /// Reads what a text of `blocks` blocks says of one.
+    pub(crate) fn read_entry4(&mut self, blocks: usize, rest: &[u8], block: usize) -> Block4
+        requires { HasMarks blocks rest.now × (block < blocks) × Rises rest.now block }
+        ensures is { (result.size ≡ size_at rest.now block)
+            × (result.mark ≡ Rattle.bitpack_lists.specs.Version4.mark_at blocks rest.now block) }
+        ensures reads { ReadsFew 1 self.old self.new }
+    {
+        self.record(1, 0);
+        read_block4(blocks, rest, block)
     }
 
     /// Unpacks a block, in a text of `blocks` blocks.

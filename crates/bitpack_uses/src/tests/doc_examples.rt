@@ -12,6 +12,11 @@ const LIST: [u8; 23] = [
     2, 1, 1, 4, 0, 0, 0, 3, 0, 0, 0, 5, 0, 0, 0, 9, 0, 0, 0, 12, 0, 0, 0,
 ];
 
+/// Sorted 0, 2, 4, .., 62, in one lane: a block of width 2.
+const EVEN: [u8; 24] = [
+    2, 1, 1, 32, 0, 0, 0, 2, 0, 0, 0, 0, 62, 0, 0, 0, 168, 170, 170, 170, 170, 170, 170, 170,
+];
+
 #[test]
 fn owned_list(rt: HostRuntime) {
     let bytes = Vec::from_array(rt.alloc(), LIST).expect(&rt, "memory");
@@ -27,6 +32,30 @@ fn values_at_positions(rt: HostRuntime) {
     let mut values = [0; 3];
     let found = list.get_many(&[3, 0, 3], &mut values, &mut Reads::new());
     assert_eq!(rt; (found, values), (Ok(()), [12, 3, 12]));
+}
+
+#[test]
+fn bounds_of_a_block(rt: HostRuntime) {
+    let list = PackedList::open(BitPacker1x::new(), &EVEN).expect(&rt, "a list");
+    assert!(rt; list.len() >= 32);
+    // `list` is sorted, and has 0, 2, 4, .., 62.
+    assert_eq!(rt; list.block_bounds(0, &mut Reads::new()), (0, 62));
+}
+
+#[test]
+fn values_within_a_range(rt: HostRuntime) {
+    let list = PackedList::open(BitPacker1x::new(), &LIST).expect(&rt, "a list");
+    // `list` is 3, 5, 9, 12.
+    assert_eq!(rt; list.count_between(5, 9, &mut Reads::new()), 2);
+}
+
+#[test]
+fn positions_within_a_range(rt: HostRuntime) {
+    let list = PackedList::open(BitPacker1x::new(), &LIST).expect(&rt, "a list");
+    // `list` is 3, 5, 9, 12.
+    let mut positions = [0; 3];
+    let found = list.positions_between(5, 100, 0, &mut positions, &mut Reads::new());
+    assert_eq!(rt; (found, positions), (3, [1, 2, 3]));
 }
 
 #[test]

@@ -1,12 +1,12 @@
 -- A walk over an opened list: its values are words in order, a block at a time and then the tail.
 -- Serves opened.
-use Rattle.std.proofs.Common.{◌≡◌, ◌≢◌, ℕ, ◌+◌, ◌-◌, ◌*◌, ◌/◌, ◌^◌, ◌<◌, ◌≤◌, List, length, get_or, sym, ◌∙◌, ap, arith}
+use Rattle.std.proofs.Common.{◌≡◌, ◌≢◌, ℕ, ◌+◌, ◌-◌, ◌*◌, ◌^◌, ◌<◌, ◌≤◌, List, length, get_or, sym, ◌∙◌, ap, arith}
 use Rattle.std.proofs.Math.Nat.{div-add-mod}
 use Rattle.std.proofs.lemmas.Nat.{mul-le}
 use Rattle.bitpacking.specs.declared.bit_packer.BitPacker.{Ghosts}
 use Rattle.bitpack_lists.specs.declared.opened.PackedList.{PackedList}
 use Rattle.bitpack_lists.specs.declared.list_kind.ListKind.TheVariants as lists
-use Rattle.bitpack_lists.specs.Parts.{tail_values, whole_blocks}
+use Rattle.bitpack_lists.specs.Parts.{tail_values}
 use Rattle.bitpack_lists.specs.inner.Searching.{block_of_list, blocks_of, mark_of_list, value_of}
 use Rattle.bitpack_lists.specs.inner.Walks.{AreNext, Begun, values_in}
 use Rattle.bitpack_lists.proofs.lemmas.opened.CursorSteps.{get_or-first_of}

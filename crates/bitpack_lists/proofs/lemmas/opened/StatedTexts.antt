@@ -1,11 +1,11 @@
 -- What a text of version 3 or 4 states, in the words of all versions.
 -- Serves opened.
-use Rattle.std.proofs.Common.{◌≡◌, ℕ, ◌≤◌, List, drop, length, sym, ◌∙◌, ap}
+use Rattle.std.proofs.Common.{◌≡◌, ℕ, ◌≤◌, List, drop, ap}
 use Rattle.bitpacking.specs.Bits.{AreBytes}
 use Rattle.bitpack_lists.specs.declared.v3.opening.StatedText.{StatedText}
 use Rattle.bitpack_lists.specs.declared.version.Version.TheVariants as versions
 use Rattle.bitpack_lists.specs.Parts.{whole_blocks}
-use Rattle.bitpack_lists.specs.Version2.{kind_at, tail_start}
+use Rattle.bitpack_lists.specs.Version2.{tail_start}
 use Rattle.bitpack_lists.specs.inner.Opening3.{IsStated3}
 use Rattle.bitpack_lists.specs.Version4.{tail_start4}
 use Rattle.bitpack_lists.specs.inner.Opening4.{IsStated4}

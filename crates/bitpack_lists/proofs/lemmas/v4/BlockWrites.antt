@@ -1,10 +1,10 @@
 -- The bodies of version 4 that are written one after the other: one more, the room for it, and what the values promise of its block.
 -- Serves v4.
-use Rattle.std.proofs.Common.{◌≡◌, ℕ, zero, suc, ◌+◌, ◌-◌, ◌*◌, ◌/◌, ◌^◌, ◌<◌, ◌≤◌, true, false, List, ◌++◌, length, take, drop, get_or, None, refl, sym, ◌∙◌, ap, arith, inl, inr, add-one, leb, mul-suc}
+use Rattle.std.proofs.Common.{◌≡◌, ℕ, zero, suc, ◌+◌, ◌-◌, ◌*◌, ◌^◌, ◌<◌, ◌≤◌, true, false, List, length, take, drop, get_or, None, refl, sym, ◌∙◌, ap, arith, inl, inr, leb, mul-suc}
 use borrow.Rule.Slice.PartMut.{put_mid}
 use Rattle.std.specs.List.Sorted.{IsStrictlyIncreasing}
 use Rattle.std.proofs.lemmas.Bool.{cases_Bool, cases_lt}
-use Rattle.std.proofs.lemmas.List.{drop-take, drop_at, length-take-le, take_at}
+use Rattle.std.proofs.lemmas.List.{drop-take, drop_at, length-take-le}
 use Rattle.std.proofs.lemmas.Nat.{mul-le}
 use Rattle.std.proofs.lemmas.Slice.{take-put_mid_below}
 use Rattle.bitpacking.specs.declared.kind.Kind.{Kind}
@@ -14,13 +14,13 @@ use Rattle.bitpacking.proofs.ForCallers.{one_least_width}
 use Rattle.bitpack_lists.specs.declared.list_kind.ListKind.{ListKind}
 use Rattle.bitpack_lists.specs.declared.list_kind.ListKind.TheVariants as lists
 use Rattle.bitpack_lists.specs.BitSets.{bits_size}
-use Rattle.bitpack_lists.specs.Laws4.{GoesOn, IsStrictBlock}
+use Rattle.bitpack_lists.specs.Laws4.{GoesOn}
 use Rattle.bitpack_lists.specs.Parts.{whole_blocks}
 use Rattle.bitpack_lists.specs.Version2.{block_of, first_out}
 use Rattle.bitpack_lists.specs.Version4.{IsBody4, codes4, if_strict}
 use Rattle.bitpack_lists.specs.inner.Sizes4.{AreSizes, IsMeasured, IsSize4, IsSizeOf, kind_of, mark_of, total}
 use Rattle.bitpack_lists.proofs.lemmas.blocks.BlockLemmas.{AreWords-block_of, block_end, get_or-block_of, length-block_of}
-use Rattle.bitpack_lists.proofs.lemmas.blocks.ChainLemmas.{put_end, take-put_end}
+use Rattle.bitpack_lists.proofs.lemmas.blocks.ChainLemmas.{put_end}
 use Rattle.bitpack_lists.proofs.lemmas.laws.OrderLaws.{strict_is_order}
 use Rattle.bitpack_lists.proofs.lemmas.v4.BlockSizes.{total-more}
 use Rattle.bitpack_lists.proofs.lemmas.v4.BodyCodes.{AreWords-codes4}

@@ -1,6 +1,6 @@
 -- The body of a block by its size: when it is packed, when it is a bit set, and that what was written is the body.
 -- Serves v4.
-use Rattle.std.proofs.Common.{◌≡◌, ℕ, ◌+◌, ◌*◌, ◌<◌, ◌≤◌, true, false, List, length, sym, ◌∙◌, arith, inl, inr, leb}
+use Rattle.std.proofs.Common.{◌≡◌, ℕ, ◌<◌, ◌≤◌, true, false, List, sym, ◌∙◌, arith, inl, inr, leb}
 use Rattle.std.proofs.lemmas.List.{ext_get_or}
 use Rattle.std.proofs.lemmas.Bool.{cases_Bool, leb-false, leb-true}
 use Rattle.bitpacking.specs.declared.kind.Kind.{Kind}

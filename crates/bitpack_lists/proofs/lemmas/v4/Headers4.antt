@@ -4,7 +4,7 @@ use Rattle.std.proofs.Common.{◌≡◌, ℕ, cond, Option, Some, ◌*◌, ◌/�
 use Rattle.std.specs.Prelude.{not, ◌==◌}
 use Rattle.bitpack_lists.specs.declared.list_error.ListError.{ListError}
 use Rattle.bitpack_lists.specs.declared.list_error.ListError.TheVariants.{BadKind, BadVersion, WrongLanes}
-use Rattle.bitpack_lists.specs.Numbers.{count_fault, number_fault, number_value}
+use Rattle.bitpack_lists.specs.Numbers.{count_fault, number_fault}
 use Rattle.bitpack_lists.specs.Version3.{lanes_of}
 use Rattle.bitpack_lists.specs.Version4.{count4, header_fault4, is_version4}
 use Rattle.bitpack_lists.proofs.lemmas.blocks.HeaderLemmas.{passed}

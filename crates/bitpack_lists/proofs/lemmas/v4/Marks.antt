@@ -1,7 +1,6 @@
 -- The mark of a block: its least value or its last, and the width of the codes of a plain block by its bounds.
 -- Serves v4.
-use Rattle.std.proofs.Common.{◌≡◌, ℕ, zero, suc, ◌+◌, ◌-◌, ◌*◌, ◌%◌, ◌^◌, ◌<◌, ◌≤◌, true, List, length, map, get_or, refl, sym, ◌∙◌, ap, arith, inl, inr, eqb, leb}
-use Rattle.std.specs.Prelude.{min, max, slice_index}
+use Rattle.std.proofs.Common.{◌≡◌, ℕ, zero, suc, ◌+◌, ◌-◌, ◌%◌, ◌^◌, ◌<◌, ◌≤◌, true, List, length, get_or, refl, sym, ◌∙◌, arith, inl, inr, eqb, leb}
 use lib.Count.{count_leading_zeros}
 use Rattle.std.proofs.Math.Nat.{min-eq_left, min-eq_right, max-eq_left, max-eq_right}
 use Rattle.std.proofs.lemmas.Bool.{and_from, and_parts, cases_lt, eq-eqb, eqb-true, le-leb, leb-true}
@@ -12,7 +11,7 @@ use Rattle.std.proofs.lemmas.List.Sums.{AllPass-from_list_all, list_all-from_All
 use Rattle.bitpacking.specs.declared.kind.Kind.{Kind}
 use Rattle.bitpacking.specs.declared.kind.Kind.TheVariants.{Plain, Sorted, StrictlySorted}
 use Rattle.bitpacking.specs.Codes.{AreWords}
-use Rattle.bitpacking.specs.Width.{Fits, Least}
+use Rattle.bitpacking.specs.Width.{Least}
 use Rattle.bitpack_lists.specs.Numbers.{greatest}
 use Rattle.bitpack_lists.specs.Version4.{codes4, is_mark}
 use Rattle.bitpack_lists.specs.inner.Sizes4.{least, mark_in}

@@ -1,6 +1,6 @@
 -- The newest text of a list is that of version 3 or of version 4, by how many values there are: what is written of one is written of the other.
 -- Serves v4.
-use Rattle.std.proofs.Common.{◌≡◌, ℕ, ◌*◌, ◌<◌, ◌≤◌, List, length, Result, Ok, Err, arith}
+use Rattle.std.proofs.Common.{ℕ, ◌*◌, ◌<◌, ◌≤◌, List, length, Result, Ok, Err, arith}
 use Rattle.std.specs.declared.vec.Vec.{Vec}
 use Rattle.bitpack_lists.specs.declared.list_error.ListError.{ListError}
 use Rattle.bitpack_lists.specs.declared.list_kind.ListKind.{ListKind}

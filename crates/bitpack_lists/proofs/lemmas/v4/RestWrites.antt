@@ -1,6 +1,6 @@
 -- The whole blocks of a text of version 4 by the parts that were written: the byte of the sizes, the ends, the marks and the bodies.
 -- Serves v4.
-use Rattle.std.proofs.Common.{◌≡◌, ℕ, zero, suc, ◌+◌, ◌-◌, ◌*◌, ◌/◌, ◌%◌, ◌^◌, ◌<◌, ◌≤◌, true, List, ◌∷◌, ◌++◌, length, take, drop, get_or, refl, sym, ◌∙◌, ap, arith, inl, inr}
+use Rattle.std.proofs.Common.{◌≡◌, ℕ, zero, suc, ◌+◌, ◌-◌, ◌*◌, ◌^◌, ◌<◌, ◌≤◌, true, List, ◌∷◌, ◌++◌, length, take, drop, refl, sym, ◌∙◌, ap, arith, inl, inr}
 use Rattle.std.proofs.lemmas.Bool.{cases_lt, le-ltb, lt-ltb}
 use Rattle.std.proofs.lemmas.List.{drop-append-le, drop-drop, drop_at, get_or_append_left, length-drop, take-append-le}
 use Rattle.std.proofs.lemmas.Nat.{mul-le}
@@ -9,14 +9,14 @@ use Rattle.bitpacking.specs.Codes.{AreWords}
 use Rattle.bitpacking.specs.Layout.{size}
 use Rattle.bitpack_lists.specs.declared.list_kind.ListKind.{ListKind}
 use Rattle.bitpack_lists.specs.Chains.{next_kind}
-use Rattle.bitpack_lists.specs.Numbers.{byte_count, greatest, short_at}
+use Rattle.bitpack_lists.specs.Numbers.{byte_count, short_at}
 use Rattle.bitpack_lists.specs.Parts.{first_kind, whole_blocks}
 use Rattle.bitpack_lists.specs.Version2.{block_of}
-use Rattle.bitpack_lists.specs.Version4.{IsBody4, begin_at, bodies_start, body_at4, end_at, end_len, is_mark, kind_at4, mark_at, mark_len, size_at, tail_start4}
+use Rattle.bitpack_lists.specs.Version4.{IsBody4, begin_at, bodies_start, body_at4, end_at, end_len, is_mark, kind_at4, mark_at, mark_len, size_at}
 use Rattle.bitpack_lists.specs.inner.Sizes4.{AreSizes, AreWritten, BeginsRest4, IsMeasured, kind_of, mark_in, mark_of, total}
 use Rattle.bitpack_lists.proofs.lemmas.blocks.BlockLemmas.{AreWords-block_of, block_end, length-block_of}
 use Rattle.bitpack_lists.proofs.lemmas.v4.BlockSizes.{mark_in-kind_of}
-use Rattle.bitpack_lists.proofs.lemmas.v4.BlockWrites.{size-add, sizes_exist, total-lt}
+use Rattle.bitpack_lists.proofs.lemmas.v4.BlockWrites.{size-add, total-lt}
 use Rattle.bitpack_lists.proofs.lemmas.v4.Marks.{greatest-same, mark-is}
 use Rattle.bitpack_lists.proofs.lemmas.v4.ShortWrites.{short-same}
 

@@ -1,6 +1,6 @@
 -- Integers of one to four bytes, as they are read.
 -- Serves v4.
-use Rattle.std.proofs.Common.{◌≡◌, ℕ, zero, suc, ◌+◌, ◌-◌, ◌*◌, ◌/◌, ◌%◌, ◌^◌, ◌<◌, ◌≤◌, List, drop, get_or, refl, sym, ◌∙◌, ap, arith}
+use Rattle.std.proofs.Common.{◌≡◌, ℕ, zero, suc, ◌+◌, ◌-◌, ◌*◌, ◌/◌, ◌%◌, ◌^◌, ◌≤◌, List, drop, get_or, refl, sym, ◌∙◌, ap, arith}
 use Rattle.std.proofs.lemmas.List.{get_or-drop}
 use Rattle.bitpacking.specs.Bits.{AreBytes}
 use Rattle.bitpacking.specs.Words.{joined, word}

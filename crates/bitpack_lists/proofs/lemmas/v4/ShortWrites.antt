@@ -4,7 +4,7 @@ use Rattle.std.proofs.Common.{◌≡◌, ℕ, zero, suc, ◌+◌, ◌-◌, ◌*�
 use borrow.Rule.Slice.PartMut.{put_mid}
 use Rattle.std.proofs.Math.Nat.{mod-eq_of_lt}
 use Rattle.std.proofs.lemmas.Bool.{cases_lt, le-ltb, lt-ltb}
-use Rattle.std.proofs.lemmas.List.{get_or_append_left, get_or-append-add, get_or-take, length-drop, length-take, length-take-le}
+use Rattle.std.proofs.lemmas.List.{get_or-append-add, get_or-take, length-drop, length-take, length-take-le}
 use Rattle.std.proofs.lemmas.Nat.{mod-pow-add, mul-le}
 use Rattle.std.proofs.lemmas.Slice.{take-put_mid, take-put_mid_below}
 use Rattle.bitpacking.specs.Words.{joined}

@@ -1,6 +1,6 @@
 -- A text of version 4 by its plan: the header, the whole blocks and the tail make it, and say how long it is.
 -- Serves v4.
-use Rattle.std.proofs.Common.{◌≡◌, ℕ, zero, suc, ◌+◌, ◌-◌, ◌*◌, ◌/◌, ◌%◌, ◌^◌, ◌<◌, ◌≤◌, List, [], ◌∷◌, ◌++◌, length, take, drop, get_or, None, refl, sym, ◌∙◌, ap, arith, add-one, inl, inr, mul-suc}
+use Rattle.std.proofs.Common.{◌≡◌, ℕ, zero, suc, ◌+◌, ◌-◌, ◌*◌, ◌/◌, ◌^◌, ◌<◌, ◌≤◌, List, [], ◌∷◌, ◌++◌, length, take, drop, get_or, None, refl, sym, ◌∙◌, ap, arith, add-one, inl, inr, mul-suc}
 use Rattle.std.proofs.Math.Nat.{div-add-mod}
 use Rattle.std.proofs.lemmas.Bool.{cases_lt}
 use Rattle.std.proofs.lemmas.List.{drop-drop, drop_at, get_or-drop, get_or-take, length-append, length-drop, length-take-le, take_at}
@@ -16,10 +16,9 @@ use Rattle.bitpacking.proofs.ForCallers.{codes_are_words}
 use Rattle.bitpack_lists.specs.declared.list_kind.ListKind.{ListKind}
 use Rattle.bitpack_lists.specs.declared.list_kind.ListKind.TheVariants as lists
 use Rattle.bitpack_lists.specs.Chains.{LeastWidths, next_kind, second_kind}
-use Rattle.bitpack_lists.specs.Groups.{AreGroups, groups_of}
 use Rattle.bitpack_lists.specs.Numbers.{byte_count, greatest}
 use Rattle.bitpack_lists.specs.Parts.{first_kind, kind_after, whole_blocks}
-use Rattle.bitpack_lists.specs.Version2.{block_of, first_out, values_fault}
+use Rattle.bitpack_lists.specs.Version2.{block_of, values_fault}
 use Rattle.bitpack_lists.specs.Version4.{IsBlock4, List4, begin_at, codes4, end_len, header4, kind_at4, mark_at, mark_len, size_at, tail_start4}
 use Rattle.bitpack_lists.specs.inner.Sizes4.{AreSizes, BeginsRest4, IsPlanned4, IsSize4, IsWidthOf, blocks_size, kind_of, mark_in, mark_of, total}
 use Rattle.bitpack_lists.proofs.lemmas.blocks.BlockLemmas.{AreWords-block_of, block_end, get_or-block_of, length-block_of, values_after}

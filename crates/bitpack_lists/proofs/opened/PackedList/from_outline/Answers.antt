@@ -1,11 +1,9 @@
 -- The version is that of its number, and what is kept of the bytes is what the outline says.
-use Rattle.std.proofs.Common.{◌≡◌, ◌-◌, ℕ, List, length, take, drop, sym, ◌∙◌, ap, refl}
+use Rattle.std.proofs.Common.{◌≡◌, ◌-◌, ℕ, List, length, take, drop, ◌∙◌, ap, refl}
 use Rattle.std.proofs.lemmas.List.{take_rest}
-use Rattle.bitpack_lists.specs.declared.list_kind.ListKind.{ListKind}
-use Rattle.bitpack_lists.specs.declared.version.Version.{Version}
 use Rattle.bitpack_lists.specs.Outlines.{kind_of_tail, version_of_number}
-use Rattle.bitpack_lists.specs.Parts.{kind_of_byte, whole_blocks}
-use Rattle.bitpack_lists.specs.Texts.{tail_start_in, version_in}
+use Rattle.bitpack_lists.specs.Parts.{kind_of_byte}
+use Rattle.bitpack_lists.specs.Texts.{version_in}
 use Rattle.bitpack_lists.proofs.lemmas.opened.OutlineSteps.{version_again}
 use Rattle.bitpack_lists.proofs.opened.PackedList.from_outline.Goals as goal
 

@@ -1,5 +1,5 @@
 -- The header and the blocks end within the text.
-use Rattle.std.proofs.Common.{length, ap, sym, ◌∙◌, arith}
+use Rattle.std.proofs.Common.{length, ap, arith}
 use Rattle.std.proofs.lemmas.List.{take_rest}
 use Rattle.bitpack_lists.proofs.opened.PackedList.of_stated.Goals as goal
 

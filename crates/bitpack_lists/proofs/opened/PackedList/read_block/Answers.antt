@@ -60,3 +60,12 @@ returns-clause-ordered g c = (of_block g c).ordered
 
 pub returns-clause-few : goal.returns-clause-few
 returns-clause-few g c = (of_block g c).few
+
+pub returns-clause-tail : goal.returns-clause-tail
+returns-clause-tail g c is =
+    let self = c.args.self.now in
+    let n : ℕ = 32 * g.P.BitPacker.lanes in
+    let whole : c.BLOCK_LEN-len.result ≡ n = c.BLOCK_LEN-len.ensures ∙ g.met.P.BitPacker.block_len in
+    let before : c.args.block < self.count / n = rw whole at c.if-block-self.false in
+    let after : c.args.block ≡ self.count / n = is ∙ ap (λ count. count / n) (length-first_of (value_of self) self.count) in
+    absurd (omega (arith, before, after))

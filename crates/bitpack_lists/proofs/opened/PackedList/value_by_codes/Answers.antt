@@ -1,5 +1,5 @@
 -- The codes of the block give its values.
-use Rattle.std.proofs.Common.{◌≡◌, ℕ, take, get_or, sym, ◌∙◌, ap}
+use Rattle.std.proofs.Common.{ℕ, take, get_or, sym, ◌∙◌, ap}
 use Rattle.bitpacking.specs.Codes.{values_of}
 use Rattle.bitpack_lists.specs.inner.BlockCodes.{codes_of_list}
 use Rattle.bitpack_lists.proofs.lemmas.opened.OpenedLists.{opened_codes}

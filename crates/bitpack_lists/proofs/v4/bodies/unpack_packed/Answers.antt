@@ -1,5 +1,5 @@
 -- What was unpacked is the block that the body gives.
-use Rattle.std.proofs.Common.{◌≡◌, ◌*◌, ℕ, List, length, sym, ◌∙◌, arith}
+use Rattle.std.proofs.Common.{◌≡◌, ◌*◌, ℕ, List, length, ◌∙◌, arith}
 use Rattle.std.proofs.lemmas.List.{take_all}
 use Rattle.bitpacking.specs.Layout.{size}
 use Rattle.bitpacking.proofs.ForCallers.{AreWords-from_slice}

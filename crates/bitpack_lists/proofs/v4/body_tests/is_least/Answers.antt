@@ -1,10 +1,8 @@
 -- All codes were tested.
-use Rattle.std.proofs.Common.{◌≡◌, ◌-◌, ◌^◌, ℕ, List, eqb, ltb, not, ◌&&◌, take, ap, sym, ◌∙◌, arith, false, true}
+use Rattle.std.proofs.Common.{◌≡◌, ◌-◌, ◌^◌, ℕ, List, eqb, ltb, not, take, ap, sym, ◌∙◌, arith, false, true}
 use Rattle.std.specs.List.{list_any}
 use Rattle.std.proofs.lemmas.List.{take_all}
 use Rattle.bitpacking.proofs.ForCallers.{AreWords-from_slice}
-use Rattle.bitpacking.specs.declared.kind.Kind.TheVariants.{Plain}
-use Rattle.bitpack_lists.specs.Version4.{is_mark, values_of4}
 use Rattle.bitpack_lists.proofs.lemmas.v4.BodyTests as tests
 use Rattle.bitpack_lists.proofs.v4.body_tests.is_least.Goals as goal
 

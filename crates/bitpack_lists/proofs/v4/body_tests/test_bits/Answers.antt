@@ -1,6 +1,5 @@
 -- The bits are counted and the last of them is the mark; and no smaller width holds the codes.
-use Rattle.std.proofs.Common.{◌≡◌, ℕ, true, List, length, take, sym, ◌∙◌, ap, arith}
-use Rattle.std.proofs.lemmas.List.{length-take-le}
+use Rattle.std.proofs.Common.{◌≡◌, ℕ, true, take, sym, ◌∙◌, ap, arith}
 use Rattle.bitpacking.specs.Codes.{codes, start}
 use Rattle.bitpacking.specs.Width.{Least}
 use Rattle.bitpacking.proofs.ForCallers.{AreBytes-from_slice}

@@ -1,5 +1,5 @@
 -- Each form of a body has its test.
-use Rattle.std.proofs.Common.{◌≡◌, ℕ, ◌*◌, ◌/◌, ◌<◌, ◌∙◌, refl}
+use Rattle.std.proofs.Common.{◌≡◌, ℕ, ◌/◌, ◌∙◌, refl}
 use Rattle.bitpacking.specs.declared.kind.Kind.TheVariants.{StrictlySorted}
 use Rattle.bitpacking.specs.Codes.{start}
 use Rattle.bitpack_lists.specs.BitSets.{bits_size}

@@ -1,5 +1,5 @@
 -- The codes are at their least width, and the mark is the least value.
-use Rattle.std.proofs.Common.{◌≡◌, ℕ, ◌-◌, ◌^◌, true, false, ltb, ◌&&◌, List, ◌∙◌, refl, sym, arith}
+use Rattle.std.proofs.Common.{◌≡◌, ℕ, true, false, List, ◌∙◌, refl, sym, arith}
 use Rattle.bitpacking.specs.declared.kind.Kind.TheVariants.{Plain}
 use Rattle.bitpack_lists.specs.Groups.{are_loose}
 use Rattle.bitpack_lists.specs.Version4.{is_mark, values_of4}

@@ -1,12 +1,11 @@
 -- The header has no fault, and neither have the blocks.
-use Rattle.std.proofs.Common.{◌≡◌, ◌≤◌, ◌<◌, ◌+◌, ◌-◌, ◌*◌, ◌/◌, ◌^◌, ℕ, List, None, length, take, drop, refl, sym, ◌∙◌, ap, arith}
+use Rattle.std.proofs.Common.{◌≡◌, ◌≤◌, ◌+◌, ◌-◌, ◌*◌, ◌/◌, ◌^◌, ℕ, List, None, length, take, drop, refl, ◌∙◌, ap, arith}
 use Rattle.std.proofs.Math.Nat.{div-le_self}
 use Rattle.std.proofs.lemmas.List.{length-drop, take_all}
 use Rattle.bitpacking.specs.Bits.{AreBytes}
 use Rattle.bitpacking.proofs.ForCallers.{AreBytes-from_slice}
-use Rattle.bitpack_lists.specs.declared.list_kind.ListKind.{ListKind}
 use Rattle.bitpack_lists.specs.Parts.{whole_blocks}
-use Rattle.bitpack_lists.specs.Version4.{begin_at, bodies_start, count4, fault4, header_end4, kind_at4, tail_start4}
+use Rattle.bitpack_lists.specs.Version4.{begin_at, bodies_start, count4, fault4, header_end4, tail_start4}
 use Rattle.bitpack_lists.specs.inner.Reading4.{HasBodies4}
 use Rattle.bitpack_lists.proofs.lemmas.v4.Rests4.{sound_bodies}
 use Rattle.bitpack_lists.proofs.lemmas.v4.Soundness4.{header_right4, sound_from_none4}

@@ -1,5 +1,5 @@
 -- The body is within the bytes.
-use Rattle.std.proofs.Common.{ℕ, List, arith}
+use Rattle.std.proofs.Common.{arith}
 use Rattle.bitpack_lists.proofs.lemmas.v4.Rests4.{slice_room}
 use Rattle.bitpack_lists.proofs.v4.reading.body_of4.Goals as goal
 
