@@ -40,7 +40,11 @@ COUNTED = {
         "unpack_block_as": "unpack_block, packer, rest",
         "clone": "packer, bytes, rest, tail",
     },
-    f"{LISTS}/v4/counted.rt": {"read_mark4": "record, mark_at", "read_entry4": "record, read_block4", "unpack_block4": "record, read_block4, body_of4, unpack_block4"},
+    f"{LISTS}/v4/counted.rt": {
+        "read_mark4": "record, mark_at",
+        "read_entry4": "record, read_block4",
+        "unpack_block4": "record, read_block4, body_of4, unpack_block4",
+    },
     f"{LISTS}/opened/columns.rt": {"greatest_in_plain": "read_entry4, rest, greatest_of_width, greatest_of_width, read_entry"},
     f"{LISTS}/opened/tail.rt": {
         "read_tail": "read_words, tail, read_front",
