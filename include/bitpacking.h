@@ -460,7 +460,7 @@ static inline const char *bitpacking_error_text(ptrdiff_t number)
     case BITPACKING_LIST_LOOSE_WIDTH:
         return "A width or a size in the list is not the least of its block.";
     case BITPACKING_LIST_BAD_OFFSET:
-        return "A block of the list does not begin where the one before it ends, or is too long.";
+        return "A block of the list does not begin at the end of the one before it, or is too long.";
     case BITPACKING_LIST_BAD_LAST:
         return "A last or least value in the list is not the one of its block.";
     case BITPACKING_LIST_NOT_SORTED:

@@ -253,7 +253,7 @@ static void texts(void)
         {BITPACKING_LIST_TOO_LONG, "A list has at most 268435456 values."},
         {BITPACKING_LIST_BAD_WIDTH, "A width in the list is above 32."},
         {BITPACKING_LIST_LOOSE_WIDTH, "A width or a size in the list is not the least of its block."},
-        {BITPACKING_LIST_BAD_OFFSET, "A block of the list does not begin where the one before it ends, or is too long."},
+        {BITPACKING_LIST_BAD_OFFSET, "A block of the list does not begin at the end of the one before it, or is too long."},
         {BITPACKING_LIST_BAD_LAST, "A last or least value in the list is not the one of its block."},
         {BITPACKING_LIST_NOT_SORTED, "The values are not in order."},
         {BITPACKING_LIST_TRAILING, "Bytes are left over after the list."},

@@ -96,7 +96,7 @@ impl fmt::Display for ListError {
             ListError::BadOffset(block) => {
                 write!(
                     f,
-                    "block {block} does not begin where the one before it ends"
+                    "block {block} does not begin at the end of the one before it"
                 )
             }
             ListError::BadLast(block) => {

@@ -98,7 +98,7 @@ impl fmt::Display for Error {
             Error::TooLong => f.write_str("there are more than 268435456 values"),
             Error::BadWidth => f.write_str("a block has a width above 32"),
             Error::LooseWidth => f.write_str("a block has a width or a size, and a smaller one holds it"),
-            Error::BadOffset => f.write_str("a block does not begin where the one before it ends, or is too long"),
+            Error::BadOffset => f.write_str("a block does not begin at the end of the one before it, or is too long"),
             Error::BadLast => f.write_str("the last or the least value of a block is not the one that the text gives"),
             Error::NotSorted { position: Some(position) } => write!(f, "the value at position {position} is out of order"),
             Error::NotSorted { position: None } => f.write_str("a value is out of order"),

@@ -316,7 +316,7 @@ fn each_error_with_its_number_and_text() {
         (Error::TooLong, -25, "there are more than 268435456 values"),
         (Error::BadWidth, -26, "a block has a width above 32"),
         (Error::LooseWidth, -27, "a block has a width or a size, and a smaller one holds it"),
-        (Error::BadOffset, -28, "a block does not begin where the one before it ends, or is too long"),
+        (Error::BadOffset, -28, "a block does not begin at the end of the one before it, or is too long"),
         (Error::BadLast, -29, "the last or the least value of a block is not the one that the text gives"),
         (Error::NotSorted { position: Some(7) }, -30, "the value at position 7 is out of order"),
         (Error::NotSorted { position: None }, -30, "a value is out of order"),

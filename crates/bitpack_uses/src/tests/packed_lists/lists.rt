@@ -369,7 +369,7 @@ fn each_refusal_says_what_is_wrong(rt: HostRuntime) {
         (
             ListError::BadOffset(7),
             8,
-            "block 7 does not begin where the one before it ends",
+            "block 7 does not begin at the end of the one before it",
         ),
         (
             ListError::BadLast(7),
