@@ -255,7 +255,7 @@ typedef struct bitpacking_list {
 /* The versions of a list. */
 #define BITPACKING_LIST_VERSION_2 2
 #define BITPACKING_LIST_VERSION_3 3
-#define BITPACKING_LIST_VERSION_4 4 /* the newest: the shortest texts; a list shorter than a block is written in version 3 */
+#define BITPACKING_LIST_VERSION_4 4 /* the newest; a list shorter than a block is written in version 3 */
 
 /* Room that is enough for every list of values_len values, in bytes: of each packer, version and kind. */
 #define BITPACKING_LIST_ROOM(values_len) (7 + 4 * sizeof(uint8_t) * (values_len) + 9 * sizeof(uint8_t) * ((values_len) / 32))

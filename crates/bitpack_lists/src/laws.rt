@@ -2,7 +2,7 @@
 //!
 //! The definitions are in `specs/`: `Loose` and `Chained` in Chains; `header`, `is_loose` and the other parts of packed lists
 //! in Parts; `List1` and `fault1` in Version1; `List2`, `fault2`, `first_out` and `parts_before` in Version2; `List3` and `fault3` in
-//! Version3, with the words of Numbers and Groups; `IsText` in Texts; `list_room` in Room; `first_at_least` in Search; `IsCommon` in
+//! Version3, with the words of Numbers and Groups; `List4` and `fault4` in Version4, with BitSets; `IsText` in Texts; `list_room` in Room; `first_at_least` in Search; `IsCommon` in
 //! Intersections.
 
 ghost use Rattle.std.specs.Prelude.{◌≡◌, None};
@@ -37,7 +37,7 @@ pub fn one_text()
     ensures fault3 { NoFault3 }
 {}
 
-/// At most 2 ^ 28 values have a text of each version. In versions 2 and 3 they have to be in the order of their kind.
+/// At most 2 ^ 28 values have a text of each version from 1 to 3. In versions 2 and 3 they have to be in the order of their kind.
 pub fn text_exists()
     ensures one { HasText1 }
     ensures two { HasText2 }

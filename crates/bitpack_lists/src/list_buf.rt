@@ -10,7 +10,7 @@ use crate::opened::PackedList;
 use bitpacking::BitPacker;
 use std::alloc::Global;
 
-/// A packed list that owns its text of version 2 or 3, which was tested once.
+/// A packed list that owns its text of version 2, 3 or 4, which was tested once.
 ///
 /// <!-- crates/bitpack_uses/src/tests/doc_examples.rt -->
 /// ```rust
@@ -50,7 +50,7 @@ impl<P: BitPacker> ListBuf<P> {
         }
     }
 
-    /// Opens a text of version 2 or 3, whichever its first byte says, as [`ListBuf::open`] does.
+    /// Opens a text of version 2, 3 or 4, whichever its first byte says, as [`ListBuf::open`] does.
     pub fn open_any(packer: P, bytes: Vec<u8>) -> Result<ListBuf<P>, (ListError, Vec<u8>)>
         ensures sound { IfOk result (λ _. fault_of_any P.lanes bytes.items ≡ None) }
         ensures bytes { IfOk result (λ list. bytes_of_buf list ≡ bytes.items) }

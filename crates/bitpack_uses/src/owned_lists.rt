@@ -14,7 +14,7 @@ use bitpack::{ListError, ListKind};
 use bitpacking::BitPacker;
 use std::alloc::Global;
 
-/// The ids that two packed sets share. The texts may be untrusted, and each of version 2 or 3.
+/// The ids that two packed sets share. The texts may be untrusted, and each of version 2, 3 or 4.
 pub fn shared_ids<P: BitPacker>(
     alloc: Global,
     packer: P,

@@ -60,7 +60,7 @@ impl Error for QueryError {}
 
 /// The ids that a query asks for, in increasing order, each once.
 ///
-/// The lists are sorted or strictly sorted, of version 2 or 3. The ids of the left part of a pair are found first. A term on its right
+/// The lists are sorted or strictly sorted, of version 2, 3 or 4. The ids of the left part of a pair are found first. A term on its right
 /// stays packed: AND and AND NOT unpack only blocks that may have one of these ids. So put the part with the fewest ids on the left.
 ///
 /// Each level of the tree takes stack. So limit the depth of queries that come from outside.

@@ -75,7 +75,7 @@ fn lists_of_one_kind(rt: HostRuntime) {
     opens_as(&rt, strict, &[], Err(ListError::Short));
 }
 
-/// The text of version 2 or 3 is opened as a list of this kind, or refused for this.
+/// The text of version 2, 3 or 4 is opened as a list of this kind, or refused for this.
 fn opens_any_as(rt: &impl Abort, kind: ListKind, text: &[u8], expected: Result<(), ListError>) {
     let found = match PackedList::open_any_as(BitPacker1x::new(), kind, text) {
         Ok(list) => {
