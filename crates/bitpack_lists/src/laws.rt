@@ -2,7 +2,8 @@
 //!
 //! The definitions are in `specs/`: `Loose` and `Chained` in Chains; `header`, `is_loose` and the other parts of packed lists
 //! in Parts; `List1` and `fault1` in Version1; `List2`, `fault2`, `first_out` and `parts_before` in Version2; `List3` and `fault3` in
-//! Version3, with the words of Numbers and Groups; `List4` and `fault4` in Version4, with BitSets; `IsText` in Texts; `list_room` in Room; `first_at_least` in Search; `IsCommon` in
+//! Version3, with the words of Numbers and Groups; `List4` and `fault4` in Version4, with BitSets;
+//! `IsText` in Texts; `list_room` in Room; `first_at_least` in Search; `IsCommon` in
 //! Intersections.
 
 ghost use Rattle.std.specs.Prelude.{◌≡◌, None};
