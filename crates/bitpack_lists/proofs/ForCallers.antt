@@ -15,6 +15,7 @@ pub use Rattle.bitpack_lists.proofs.lemmas.opened.OpenedValues.{kind_is, opened_
 pub use Rattle.bitpack_lists.proofs.lemmas.laws.OrderLaws.{first_is_found, neither_falls, sorted_is_order, strict_is_order}
 pub use Rattle.bitpack_lists.proofs.lemmas.opened.OutlineSteps.{outline_is}
 pub use Rattle.bitpack_lists.proofs.lemmas.blocks.PartLemmas.{AreBytes-nil}
+pub use Rattle.bitpack_lists.proofs.lemmas.blocks.PushLemmas.{IsList, list_after, list_fault, no_values}
 pub use Rattle.bitpack_lists.proofs.lemmas.laws.Existence2.{text_of2}
 pub use Rattle.bitpack_lists.proofs.lemmas.blocks.ValueFaults.{few_values, in_order}
 pub use Rattle.bitpack_lists.proofs.lemmas.opened.FirstBytes.{any_right2}

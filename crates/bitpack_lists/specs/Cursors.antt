@@ -1,7 +1,10 @@
 -- What a cursor shows: its position, the values of its list, and the blocks that it unpacked; and what a move leaves.
-use Rattle.std.specs.Prelude.{◌≡◌, ℕ, ◌+◌, ◌-◌, ◌≤◌, List, drop}
+use Rattle.std.specs.Prelude.{◌≡◌, ℕ, ◌+◌, ◌-◌, ◌*◌, ◌<◌, ◌≤◌, List, drop}
 use Rattle.bitpacking.specs.declared.bit_packer.BitPacker.{Ghosts}
+use Rattle.bitpack_lists.specs.declared.opened.bits.BlockBits.{BlockBits}
 use Rattle.bitpack_lists.specs.declared.opened.cursor.Cursor.{Cursor}
+use Rattle.bitpack_lists.specs.BlockBits.{IsBlockOfBits}
+use Rattle.bitpack_lists.specs.Blocks.{AreBelow}
 use Rattle.bitpack_lists.specs.Moves.{position_of}
 use Rattle.bitpack_lists.specs.Opened.{CanSearch, values}
 
@@ -44,3 +47,16 @@ pub record HasMoved {P : Type 0} {members : Ghosts P} (old new : Cursor P member
   pub counted : unpacked old ≤ unpacked new
   pub later : unpacked new + block_number old ≤ unpacked old + block_number new
   pub unpacked : unpacked new ≤ unpacked old + 1
+
+-- the bits of a block after the current one
+pub record AreAhead {P : Type 0} {members : Ghosts P} (cursor : Cursor P members) (bits : BlockBits) : Type 0 where
+  pub is : IsBlockOfBits cursor.list bits
+  pub later : block_number cursor < bits.number
+  pub ahead : position cursor ≤ 32 * members.lanes * bits.number
+
+-- the first block that ends with the target or more has these bits, and the cursor stayed before it
+pub record HasFound {P : Type 0} {members : Ghosts P} (target : ℕ) (old new : Cursor P members) (bits : BlockBits) : Type 0 where
+  pub stays : position new ≡ position old
+  pub are : AreAhead new bits
+  pub below : AreBelow members.lanes (values_of_cursor new) target bits.number
+  pub enough : target ≤ bits.last

@@ -1,6 +1,8 @@
 -- The definitions of this crate.
 pub mod BitSets
+pub mod BlockBits
 pub mod Blocks
+pub mod Builders
 pub mod Chains
 pub mod Columns
 pub mod Cursors

@@ -1,11 +1,9 @@
--- What a call that writes a list into a slice leaves, for a version that is a value.
-use Rattle.std.specs.Prelude.{◌≡◌, ℕ, ◌<◌, ◌++◌, List, drop, length, None, Result, Err, IfErr, IfOk, MatchOption, OnErr}
+-- What a call that writes a list into a slice leaves, and what one that measures a list returns.
+use Rattle.std.specs.Prelude.{◌≡◌, ℕ, ◌^◌, ◌<◌, ◌≤◌, ◌++◌, List, drop, length, None, Result, Err, IfErr, IfOk, IsOk, MatchOption, OnErr}
 use Rattle.bitpacking.specs.Bits.{AreBytes}
 use Rattle.bitpack_lists.specs.declared.list_error.ListError.{ListError}
 use Rattle.bitpack_lists.specs.declared.list_error.ListError.TheVariants.{Short}
 use Rattle.bitpack_lists.specs.declared.list_kind.ListKind.{ListKind}
-use Rattle.bitpack_lists.specs.declared.version.Version.{Version}
-use Rattle.bitpack_lists.specs.Newest.{IsWritten}
 use Rattle.bitpack_lists.specs.Version2.{values_fault}
 
 -- the text of the values is written, and what is after it stays; or they have a fault, or the slice is short for the text, and nothing changed
@@ -15,6 +13,8 @@ pub record WritesOne (Is : List ℕ → Type 0) (kind : ListKind) (values : List
   pub room : values_fault kind values ≡ None → OnErr result ((text : List ℕ) → Is text → length old < length text)
   pub unchanged : OnErr result (new ≡ old)
 
--- the text of a version
-abbrev pub WritesText : Version → ℕ → ListKind → List ℕ → Result ℕ ListError → List ℕ → List ℕ → Type 0
-WritesText version lanes kind values = WritesOne (IsWritten version lanes kind values) kind values
+-- the length of the text; or the values have a fault
+pub record MeasuresOne (Is : List ℕ → Type 0) (kind : ListKind) (values : List ℕ) (result : Result ℕ ListError) : Type 0 where
+  pub len : IfOk result (λ len. (text : List ℕ) → Is text → len ≡ length text)
+  pub few : IfOk result (λ len. len ≤ 2 ^ 40)
+  pub fault : MatchOption (values_fault kind values) (IsOk result) (λ fault. result ≡ Err fault)

@@ -15,11 +15,11 @@ pub use crate::list_buf::ListBuf;
 use crate::list_error::ListError;
 use crate::list_kind::ListKind;
 pub use crate::opened::{
-    Cursor, ListOutline, PackedList, Place, ReadBlocks, count_below, first_ahead, first_from,
-    intersect,
+    BlockBits, Cursor, ListOutline, PackedList, Place, ReadBlocks, count_below, first_ahead,
+    first_from, intersect,
 };
 pub use crate::v2::upgrading::upgrade;
-use crate::v3::writing::{append_older, older_len, write_older};
+use crate::v4::newest::{append_list, list_len, write_list};
 use crate::version::Version;
 use bitpacking::BitPacker;
 
@@ -48,7 +48,7 @@ pub fn encode<P: BitPacker>(
     ensures unchanged { OnErr result (out.new.items ≡ out.old.items) }
     ensures kept { OnErr result (vec_capacity out.new ≡ vec_capacity out.old) }
 {
-    append_older(Version::Two, packer, kind, values, out)
+    append_list(Version::Two, packer, kind, values, out)
 }
 
 /// Writes the text of the values at the start of the slice, and returns its length in bytes. Allocates nothing.
@@ -72,7 +72,7 @@ pub fn encode_to<P: BitPacker>(
         → OnErr result ((text : List ℕ) → List2 P.lanes kind values.now text → length bytes.old < length text) }
     ensures unchanged { OnErr result (bytes.new ≡ bytes.old) }
 {
-    write_older(Version::Two, packer, kind, values, bytes)
+    write_list(Version::Two, packer, kind, values, bytes)
 }
 
 /// The length in bytes of the text of the values, which have to be in the order of their kind, as for [`encode`].
@@ -86,5 +86,5 @@ pub fn encoded_len<P: BitPacker>(
     // Values with a fault are refused for the first.
     ensures fault { MatchOption (values_fault kind values.now) (IsOk result) (λ fault. result ≡ Err fault) }
 {
-    older_len(Version::Two, packer, kind, values)
+    list_len(Version::Two, packer, kind, values)
 }

@@ -8,15 +8,16 @@
 //! 00                            a group of one code, 0, at width 0: the value 32
 //! ```
 
-ghost use Rattle.std.specs.Prelude.{◌≡◌, ◌+◌, ◌^◌, ◌<◌, ◌≤◌, ◌++◌, ℕ, List, length, drop, IfOk, IsOk, OnOk, OnErr, IfErr, MatchOption, None, vec_len, vec_capacity};
+ghost use Rattle.std.specs.Prelude.{◌≡◌, ◌+◌, ◌^◌, ◌<◌, ◌≤◌, ◌++◌, ℕ, List, length, OnOk, OnErr, IfErr, MatchOption, None, vec_len, vec_capacity};
 ghost use Rattle.bitpacking.specs.Bits.{AreBytes};
-ghost use Rattle.bitpack_lists.specs.Version2.{first_out, values_fault};
+ghost use Rattle.bitpack_lists.specs.Version2.{first_out};
 ghost use Rattle.bitpack_lists.specs.Version3.{HasCode, List3};
+ghost use Rattle.bitpack_lists.specs.Written.{MeasuresOne, WritesOne};
 
 use crate::list_error::ListError;
 use crate::list_kind::ListKind;
 pub use crate::v3::upgrading::upgrade;
-use crate::v3::writing::{append_older, older_len, write_older};
+use crate::v4::newest::{append_list, list_len, write_list};
 use crate::version::Version;
 use bitpacking::BitPacker;
 
@@ -45,7 +46,7 @@ pub fn encode<P: BitPacker>(
         → vec_capacity out.old < vec_len out.old + length text) }
     ensures unchanged { OnErr result ((out.new.items ≡ out.old.items) × (vec_capacity out.new ≡ vec_capacity out.old)) }
 {
-    append_older(Version::Three, packer, kind, values, out)
+    append_list(Version::Three, packer, kind, values, out)
 }
 
 /// Writes the text of version 3 of the values at the start of the slice, and returns its length in bytes. Allocates nothing.
@@ -60,18 +61,11 @@ pub fn encode_to<P: BitPacker>(
     bytes: &mut [u8],
 ) -> Result<usize, ListError>
     requires lanes { HasCode P.lanes }
-    // What is written is the text of the values, and what is after it stays.
-    ensures ok { IfOk result (λ len. (text : List ℕ) × AreBytes text × List3 P.lanes kind values.now text
-        × (len ≡ length text) × (bytes.new ≡ text ++ drop len bytes.old)) }
-    // Values with a fault are refused for the first, and others only if the slice is short.
-    ensures fault { MatchOption (values_fault kind values.now) (IfErr result (λ e. e ≡ ListError.Short))
-        (λ fault. result ≡ Err fault) }
-    // The slice is short only if it has no room for the text.
-    ensures room { values_fault kind values.now ≡ None
-        → OnErr result ((text : List ℕ) → List3 P.lanes kind values.now text → length bytes.old < length text) }
-    ensures unchanged { OnErr result (bytes.new ≡ bytes.old) }
+    // What is written is the text of the values, and what is after it stays. Values with a fault are refused for the first, and others
+    // only if the slice has no room for the text.
+    ensures { WritesOne (List3 P.lanes kind values.now) kind values.now result bytes.old bytes.new }
 {
-    write_older(Version::Three, packer, kind, values, bytes)
+    write_list(Version::Three, packer, kind, values, bytes)
 }
 
 /// The length in bytes of the text of version 3 of the values, which have to be in the order of their kind, as for [`encode`].
@@ -80,10 +74,8 @@ pub fn encoded_len<P: BitPacker>(
     kind: ListKind,
     values: &[u32],
 ) -> Result<usize, ListError>
-    ensures len { IfOk result (λ len. (text : List ℕ) → List3 P.lanes kind values.now text → len ≡ length text) }
-    ensures few { IfOk result (λ len. len ≤ 2 ^ 40) }
-    // Values with a fault are refused for the first.
-    ensures fault { MatchOption (values_fault kind values.now) (IsOk result) (λ fault. result ≡ Err fault) }
+    // What is returned is the length of the text. Values with a fault are refused for the first.
+    ensures { MeasuresOne (List3 P.lanes kind values.now) kind values.now result }
 {
-    older_len(Version::Three, packer, kind, values)
+    list_len(Version::Three, packer, kind, values)
 }

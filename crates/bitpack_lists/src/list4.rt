@@ -2,7 +2,8 @@
 //! tail as in version 3. A strictly sorted list may have sets of bits as bodies. A plain block stores its values less the least of
 //! them. Texts of dense lists, and of columns of large, close numbers, are much shorter than in version 3.
 //!
-//! Only a list of a block or more has a text of version 4. Here a shorter one is written in version 3.
+//! Only a list of a block or more has a text of version 4. Here a shorter one is written in version 3. [`upgrade`] converts a text of
+//! version 1, 2 or 3.
 //!
 //! ```text
 //! 16 21     strictly sorted, 1 lane, 33 values
@@ -12,15 +13,19 @@
 //! 00        a group of one code, 0, at width 0: the value 32
 //! ```
 
-ghost use Rattle.std.specs.Prelude.{◌≡◌, ◌+◌, ◌^◌, ◌<◌, ◌≤◌, ◌++◌, ℕ, List, length, drop, IfOk, IsOk, OnOk, OnErr, IfErr, MatchOption, None, vec_len, vec_capacity};
+ghost use Rattle.std.specs.Prelude.{◌≡◌, ◌+◌, ◌^◌, ◌<◌, ◌≤◌, ◌++◌, ℕ, List, length, OnOk, OnErr, IfErr, MatchOption, None, vec_len, vec_capacity};
 ghost use Rattle.bitpacking.specs.Bits.{AreBytes};
-ghost use Rattle.bitpack_lists.specs.Version2.{first_out, values_fault};
+ghost use Rattle.bitpack_lists.specs.Version2.{first_out};
 ghost use Rattle.bitpack_lists.specs.Newest.{IsNewest};
 ghost use Rattle.bitpack_lists.specs.Version3.{HasCode};
+ghost use Rattle.bitpack_lists.specs.Written.{MeasuresOne, WritesOne};
 
+pub use crate::list_builder::ListBuilder;
 use crate::list_error::ListError;
 use crate::list_kind::ListKind;
-use crate::v4::newest::{append_newest, newest_len, write_newest};
+pub use crate::upgrading::upgrade;
+use crate::v4::newest::{append_newest, list_len, write_list};
+use crate::version::Version;
 use bitpacking::BitPacker;
 
 /// Appends the newest text of the values, which have to be in the order of their kind, as for `list2::encode`.
@@ -63,18 +68,11 @@ pub fn encode_to<P: BitPacker>(
     bytes: &mut [u8],
 ) -> Result<usize, ListError>
     requires lanes { HasCode P.lanes }
-    // What is written is the text of the values, and what is after it stays.
-    ensures ok { IfOk result (λ len. (text : List ℕ) × AreBytes text × IsNewest P.lanes kind values.now text
-        × (len ≡ length text) × (bytes.new ≡ text ++ drop len bytes.old)) }
-    // Values with a fault are refused for the first, and others only if the slice is short.
-    ensures fault { MatchOption (values_fault kind values.now) (IfErr result (λ e. e ≡ ListError.Short))
-        (λ fault. result ≡ Err fault) }
-    // The slice is short only if it has no room for the text.
-    ensures room { values_fault kind values.now ≡ None
-        → OnErr result ((text : List ℕ) → IsNewest P.lanes kind values.now text → length bytes.old < length text) }
-    ensures unchanged { OnErr result (bytes.new ≡ bytes.old) }
+    // What is written is the text of the values, and what is after it stays. Values with a fault are refused for the first, and others
+    // only if the slice has no room for the text.
+    ensures { WritesOne (IsNewest P.lanes kind values.now) kind values.now result bytes.old bytes.new }
 {
-    write_newest(packer, kind, values, bytes)
+    write_list(Version::Four, packer, kind, values, bytes)
 }
 
 /// The length in bytes of the newest text of the values, which have to be in the order of their kind, as for [`encode`].
@@ -83,10 +81,8 @@ pub fn encoded_len<P: BitPacker>(
     kind: ListKind,
     values: &[u32],
 ) -> Result<usize, ListError>
-    ensures len { IfOk result (λ len. (text : List ℕ) → IsNewest P.lanes kind values.now text → len ≡ length text) }
-    ensures few { IfOk result (λ len. len ≤ 2 ^ 40) }
-    // Values with a fault are refused for the first.
-    ensures fault { MatchOption (values_fault kind values.now) (IsOk result) (λ fault. result ≡ Err fault) }
+    // What is returned is the length of the text. Values with a fault are refused for the first.
+    ensures { MeasuresOne (IsNewest P.lanes kind values.now) kind values.now result }
 {
-    newest_len(packer, kind, values)
+    list_len(Version::Four, packer, kind, values)
 }

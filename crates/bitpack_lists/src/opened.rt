@@ -1,9 +1,11 @@
 //! A packed list of version 2, 3 or 4, read in place: it borrows its text.
 
+mod bits;
 mod blocks;
 mod columns;
 mod copying;
 mod cursor;
+mod extending;
 mod gathering;
 mod getting;
 mod halving;
@@ -16,6 +18,7 @@ mod read_blocks;
 mod search;
 mod tail;
 mod versions;
+mod within;
 
 ghost use Rattle.std.specs.Prelude.{◌≡◌, ◌≢◌, ◌^◌, ◌≤◌, drop};
 ghost use Rattle.bitpacking.specs.Bits.{AreBytes};
@@ -30,6 +33,7 @@ use crate::list_kind::{ListKind, next_kind};
 use crate::v2::opening::test_version2;
 use crate::version::Version;
 use bitpacking::{BitPacker, Kind, MAX_BLOCK_LEN};
+pub use bits::BlockBits;
 pub use cursor::Cursor;
 pub use in_slice::{count_below, first_ahead, first_from};
 pub use intersection::intersect;

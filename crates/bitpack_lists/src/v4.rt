@@ -2,11 +2,13 @@
 
 pub(crate) mod bit_search;
 pub(crate) mod bit_set;
+pub(crate) mod bit_tests;
 pub(crate) mod bit_words;
 pub(crate) mod bodies;
 mod body_tests;
 pub(crate) mod body_writing;
 pub(crate) mod byte_bits;
+mod copying;
 mod counted;
 pub(crate) mod filling;
 pub(crate) mod header;
@@ -17,4 +19,5 @@ pub(crate) mod opening;
 pub(crate) mod planning;
 pub(crate) mod reading;
 pub(crate) mod short_writing;
+pub(crate) mod source;
 mod testing;

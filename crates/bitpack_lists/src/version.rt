@@ -3,6 +3,9 @@
 ghost use Rattle.std.specs.Prelude.{◌≡◌};
 ghost use Rattle.bitpack_lists.specs.Outlines.{version_number, version_of_number};
 
+/// The first byte of a text of version 3 is at least this.
+pub(crate) const FIRST_OF_3: u8 = 64;
+
 /// The version of a text that is read in place. Versions 2 and 3 differ in the header and in the tail, and version 4 in the blocks too.
 #[derive(Clone, Copy, PartialEq, Eq)]
 pub enum Version {
@@ -12,6 +15,15 @@ pub enum Version {
     Three,
     /// A short header, an end and a mark for each block, bodies that may be bit sets, and a tail in groups. It has a block at least.
     Four,
+}
+
+/// A version before 4, whose texts have the entries and bodies of version 2.
+#[derive(Clone, Copy)]
+pub(crate) enum OlderVersion {
+    /// Version 2.
+    Two,
+    /// Version 3.
+    Three,
 }
 
 impl Version {

@@ -63,6 +63,16 @@ at_least-lacks target xs increasing other = go (first (at_least target xs)) refl
           | inr (inr gt) ↦ absurd (omega arith)
         ]
 
+-- if no value is below a target, all are from there on
+pub at_least-all : (target : ℕ) (xs : List ℕ) → IsIncreasing xs → ((u : ℕ) → u < target → has xs u ≡ false) → at_least target xs ≡ xs
+at_least-all target xs increasing none =
+    same_numbers (at_least target xs) xs (increasing_at_least target xs increasing) increasing
+    (λ u. has-at_least target xs u ∙ each u (cases_lt u target))
+  where
+    each : (u : ℕ) → (u < target) ⊎ (target ≤ u) → (has xs u && leb target u) ≡ has xs u
+    each u (inl lt) = rw (none u lt) refl
+    each u (inr le) = rw (le-leb target u le) (and_true (has xs u))
+
 length-filter_le : (test : ℕ → Bool) (xs : List ℕ) → length (filter test xs) ≤ length xs
 length-filter_le test [] = omega arith
 length-filter_le test (x ∷ xs) =
@@ -109,16 +119,6 @@ shared-other xs ys w increasing e =
     each : (v : ℕ) → (v < w) ⊎ (w ≤ v) → (has xs v && (has ys v && leb w v)) ≡ (has xs v && has ys v)
     each v (inl lt) = rw (first_least xs w increasing e v lt) refl
     each v (inr le) = rw (le-leb w v le, and_true (has ys v)) refl
-
-pub shared-one : (xs ys : List ℕ) (w : ℕ) → IsIncreasing xs → IsIncreasing ys → first ys ≡ Some w → shared (at_least w xs) ys ≡ shared xs ys
-shared-one xs ys w increasing other e =
-    same_numbers (shared (at_least w xs) ys) (shared xs ys) (increasing_shared (at_least w xs) ys (increasing_at_least w xs increasing))
-    (increasing_shared xs ys increasing)
-    (λ v. has-shared (at_least w xs) ys v ∙ ap (λ b. b && has ys v) (has-at_least w xs v) ∙ each v (cases_lt v w) ∙ sym (has-shared xs ys v))
-  where
-    each : (v : ℕ) → (v < w) ⊎ (w ≤ v) → ((has xs v && leb w v) && has ys v) ≡ (has xs v && has ys v)
-    each v (inl lt) = rw (first_least ys w other e v lt) (and-false (has xs v && leb w v) ∙ sym (and-false (has xs v)))
-    each v (inr le) = rw (le-leb w v le, and_true (has xs v)) refl
 
 pub shared-both : (xs ys : List ℕ) (w : ℕ) → first xs ≡ Some w → first ys ≡ Some w → first (shared xs ys) ≡ Some w
 shared-both xs ys w e f = rw (first_head xs w e, shared-cons w (after_first xs) ys (first_has ys w f)) refl
@@ -239,15 +239,23 @@ module _ (xs ys ys' : List ℕ) (w : ℕ) (increasing : IsIncreasing xs) (here :
   pub meet_other : shared xs ys' ≡ shared xs ys
   meet_other = ap (shared xs) sought ∙ shared-other xs ys w increasing (sym here)
 
-  module _ (v : ℕ) (found : Some v ≡ first ys') (away : v ≡ w → ⊥) (xs' : List ℕ) (leapt : xs' ≡ at_least v xs) where
+  -- the first leaps to a number before which the two share nothing
+  module _ (v : ℕ) (found : Some v ≡ first ys') (away : v ≡ w → ⊥) (to : ℕ) (ahead : v ≤ to) (xs' : List ℕ) (leapt : xs' ≡ at_least to xs) where
     pub meet_smaller : length xs' < length xs
     meet_smaller =
         let le = at_least-above w ys v (ap first (sym sought) ∙ sym found) in
-        let lt : w < v = omega arith in
-        rw leapt (shorter_at_least v xs w (sym here) lt)
+        let lt : w < to = omega arith in
+        rw leapt (shorter_at_least to xs w (sym here) lt)
 
-    pub meet_both : IsIncreasing ys' → shared xs' ys' ≡ shared xs ys
-    meet_both other = ap (λ (zs : List ℕ). shared zs ys') leapt ∙ shared-one xs ys' v increasing other (sym found) ∙ meet_other
+    pub meet_both : IsIncreasing ys' → ((u : ℕ) → v ≤ u → u < to → has (shared xs ys') u ≡ false) → shared xs' ys' ≡ shared xs ys
+    meet_both other none =
+        ap (λ (zs : List ℕ). shared zs ys') leapt ∙ shared-seek to xs ys' increasing
+        ∙ at_least-all to (shared xs ys') (increasing_shared xs ys' increasing) (λ u lt. elim (cases_lt u v) [
+          | inl before ↦
+              has-shared xs ys' u ∙ ap (λ b. has xs u && b) (first_least ys' v other (sym found) u before) ∙ and-false (has xs u)
+          | inr after ↦ none u after lt
+        ])
+        ∙ meet_other
 
 -- the second has ended
 pub ended_next : (xs ys : List ℕ) → IsIncreasing xs → first ys ≡ None → shared xs ys ≡ after_first (shared xs ys)

@@ -5,12 +5,13 @@ use Rattle.std.specs.List.Sorted.{IsStrictlyIncreasing}
 use Rattle.std.proofs.lemmas.Bool.{and_parts, cases_Bool, cases_lt, false_from_ne_true, le-leb, leb-true, true≢false}
 use Rattle.std.proofs.lemmas.List.{get_or-drop, get_or-take, length-drop, length-take}
 use Rattle.bitpack_lists.specs.Places.{IsSoughtFrom}
+use Rattle.bitpack_sorted.specs.Bits.{AreBitsFrom}
 use Rattle.bitpack_sorted.specs.Fronts.{IsFront}
 use Rattle.bitpack_sorted.specs.Increasing.{IsIncreasing, at_least, first, has, shared, without}
 use Rattle.bitpack_sorted.specs.IncreasingLaws.{IsIncreasing-from, increasing_shared, increasing_without}
 use Rattle.bitpack_sorted.specs.InFront.{AreInFront}
-use Rattle.bitpack_sorted.specs.inner.InPlace.{AreLacked, IsNextFrom}
-use Rattle.bitpack_sorted.specs.inner.Marks.{AreKept, Filters, keeps, last_of}
+use Rattle.bitpack_sorted.specs.inner.InPlace.{AreLacked, FiltersBy, IsNextFrom}
+use Rattle.bitpack_sorted.specs.inner.Marks.{AreKept, keeps, last_of}
 use Rattle.bitpack_sorted.proofs.FilterSteps.{none_kept, still_at}
 use Rattle.bitpack_sorted.proofs.FrontLemmas.{has_at_is, place-of}
 use Rattle.bitpack_sorted.proofs.MarkSteps.{rises}
@@ -25,7 +26,7 @@ and_true true = refl
 and_true false = refl
 
 -- up to its last a block has what is left
-block_has : (block rest : List ℕ) → IsFront block rest → 0 < length block → (v : ℕ) → v ≤ last_of block → has rest v ≡ has block v
+pub block_has : (block rest : List ℕ) → IsFront block rest → 0 < length block → (v : ℕ) → v ≤ last_of block → has rest v ≡ has block v
 block_has block rest front some v low = elim (cases_Bool (has block v)) [
   | inl here ↦ sym (here ∙ sym (in_rest here))
   | inr lacks ↦ false_from_ne_true (has rest v) (λ there. absurd (true≢false (sym (in_block there) ∙ lacks))) ∙ sym lacks
@@ -44,12 +45,18 @@ block_has block rest front some v low = elim (cases_Bool (has block v)) [
       | inr above ↦ has_at_is block (length block - 1) v (omega arith) (omega (arith, above, low))
     ]
 
--- what is left from a target on begins a block that has none below it
-pub front_reached : (target : ℕ) (rest rest' block : List ℕ) → rest' ≡ at_least target rest → IsFront block rest' → 0 < length block → target ≤ get_or block 0 0
-front_reached target rest rest' block sought front some =
-    let there = front.among 0 some in
-    leb-true target (get_or block 0 0) (and_parts (has rest (get_or block 0 0)) (leb target (get_or block 0 0))
-    (sym (ap (λ xs. has xs (get_or block 0 0)) sought ∙ has-at_least target rest (get_or block 0 0)) ∙ there)).1
+-- and bits that say what is left say it of all that has the same from there on
+pub bits_of_all : (from count : ℕ) (words rest all : List ℕ) → AreBitsFrom from count words rest → ((v : ℕ) → from ≤ v → has all v ≡ has rest v)
+    → AreBitsFrom from count words all
+bits_of_all from count words rest all are same = record {
+  within = are.within;
+  bits = λ i lt. are.bits i lt ∙ sym (same (from + i) (omega arith));
+}
+
+-- what is left from a target on is not below it
+pub sought_reached : (target : ℕ) (rest rest' : List ℕ) → rest' ≡ at_least target rest → (v : ℕ) → has rest' v ≡ true → target ≤ v
+sought_reached target rest rest' sought v there =
+    leb-true target v (and_parts (has rest v) (leb target v) (sym (ap (λ xs. has xs v) sought ∙ has-at_least target rest v) ∙ there)).1
 
 -- ---- a turn
 
@@ -82,19 +89,18 @@ module _ (lacking : Bool) (all rest old ys : List ℕ) (kept from : ℕ) (increa
         ap (λ xs. has xs v) sought ∙ has-at_least (get_or ys from 0) rest v ∙ rw (le-leb (get_or ys from 0) v le) (and_true (has rest v))
         ∙ s.same v (omega (arith, lt, s.are.long)) (omega (arith, le, ahead_of from (omega arith) lt))
 
-    module _ (block : List ℕ) (front : IsFront block rest') (some : 0 < length block) (index : ℕ) (ahead : from ≤ index) (within : index < length ys)
-        (there : AreKept (keeps lacking all) old ys kept index) (ys' : List ℕ) (kept' from' : ℕ) (further : index < from')
-        (filters : Filters lacking block ys kept index ys' kept' from') where
+    module _ (index : ℕ) (ahead : from ≤ index) (within : index < length ys) (there : AreKept (keeps lacking all) old ys kept index) (ys' : List ℕ)
+        (kept' from' : ℕ) (further : index < from') (filters : FiltersBy lacking rest' ys kept index ys' kept' from') where
       low : (q : ℕ) → from ≤ q → q < length old → get_or ys from 0 ≤ get_or old q 0
       low q le within =
           omega (arith, still_at (keeps lacking all) old ys kept from s.are from (omega arith), rises old from q increasing le within)
 
       pub filtering_more : IsFiltering lacking all rest' old ys' kept' from'
       filtering_more = record {
-        are = filters old all (λ v above below.
+        are = filters old all (λ v above.
             let least = low index ahead (omega (arith, within, s.are.long)) in
             let at = still_at (keeps lacking all) old ys kept from s.are index ahead in
-            sym (sought_same v (omega (arith, least, at, above))) ∙ block_has block rest' front some v below) there;
+            sym (sought_same v (omega (arith, least, at, above)))) there;
         same = λ v lt le.
             let least = low from' (omega (arith, ahead, further)) lt in
             sought_same v (omega (arith, least, le));

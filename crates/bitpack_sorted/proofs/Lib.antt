@@ -1,5 +1,7 @@
 -- Lemmas of this crate. Other crates cite those of ForCallers alone.
 mod BitLemmas
+mod BitPlaces
+mod BitWalks
 mod BlockSteps
 mod Combining
 mod DistinctLemmas
@@ -18,7 +20,10 @@ mod MarkSteps
 mod Membership
 mod MembersOfSorted
 mod PassingLemmas
+mod SetBitSteps
 mod SliceSteps
 mod SortingSteps
+mod TestSteps
 mod UniteSteps
 mod UnitingSteps
+mod WordLemmas

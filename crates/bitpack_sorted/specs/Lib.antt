@@ -1,4 +1,5 @@
 -- The definitions of this crate.
+pub mod Bits
 pub mod Distinct
 pub mod DistinctLaws
 pub mod Fronts

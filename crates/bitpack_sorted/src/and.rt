@@ -1,13 +1,14 @@
 //! The values that two cursors share.
 
-ghost use Rattle.std.specs.Prelude.{◌≡◌, ℕ, List};
-ghost use Rattle.bitpack_sorted.specs.Increasing.{first, shared};
+ghost use Rattle.std.specs.Prelude.{◌≡◌, ℕ, ◌<◌, ◌≤◌, false, List};
+ghost use Rattle.bitpack_sorted.specs.Increasing.{first, has, shared};
 ghost use Rattle.bitpack_sorted.specs.inner.Combined.{HaveMet, IsLater};
 ghost use Rattle.bitpack_sorted.specs.Fronts.{IsFront, NoneBelow};
 ghost use Rattle.bitpack_sorted.specs.IncreasingLaws.{increasing_shared};
 
 use super::first_alone::first_alone;
 use super::sorted_cursor::SortedCursor;
+use super::words::shared_bits;
 
 /// The values that two cursors share. Each seeks the value of the other until both have the same.
 #[derive(Drop)]
@@ -43,6 +44,14 @@ impl<A: SortedCursor, B: SortedCursor> SortedCursor for And<A, B> {
     }
 
     #[inline(always)]
+    fn value(&self) -> Option<u32> {
+        if self.other.value().is_none() {
+            return None;
+        }
+        self.one.value()
+    }
+
+    #[inline(always)]
     fn advance(&mut self) -> Option<u32> {
         if self.other.value().is_none() {
             return None;
@@ -58,6 +67,11 @@ impl<A: SortedCursor, B: SortedCursor> SortedCursor for And<A, B> {
         }
         self.one.seek(target);
         next_shared(&mut self.one, &mut self.other)
+    }
+
+    #[inline(always)]
+    fn bits_at_hand(&self, from: u32, words: &mut [u64]) -> usize {
+        shared_bits(&self.one, &self.other, from, words)
     }
 }
 
@@ -80,11 +94,27 @@ pub(super) fn next_shared<A: SortedCursor, B: SortedCursor>(
                 if found == wanted {
                     return Some(wanted);
                 }
-                next = one.seek(found);
+                next = one.seek(first_shared(one, other, found));
             }
         }
     }
     None
+}
+
+/// A number from one on below which two places share no value from there on. With bits at hand it is the first value that they share, if
+/// that is near.
+#[inline(always)]
+fn first_shared<A: SortedCursor, B: SortedCursor>(one: &A, other: &B, from: u32) -> u32
+    ensures from { from ≤ result }
+    ensures none { (v : ℕ) → from ≤ v → v < result → has (shared (A.rest one.now) (B.rest other.now)) v ≡ false }
+{
+    let mut word = [0u64; 1];
+    let count = shared_bits(one, other, from, &mut word);
+    if count == 0 {
+        return from;
+    }
+    let place = (word[0].trailing_zeros() as usize).min(count - 1);
+    from.saturating_add(place as u32)
 }
 
 /// Moves past values of the current blocks that the two do not share, if it pays to merge these.

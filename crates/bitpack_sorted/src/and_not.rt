@@ -6,6 +6,7 @@ ghost use Rattle.bitpack_sorted.specs.IncreasingLaws.{increasing_without};
 
 use super::first_alone::first_alone;
 use super::sorted_cursor::SortedCursor;
+use super::words::bits_without;
 
 /// The values of one cursor that another lacks. The second seeks each value of the first.
 #[derive(Drop)]
@@ -39,6 +40,11 @@ impl<A: SortedCursor, B: SortedCursor> SortedCursor for AndNot<A, B> {
     }
 
     #[inline(always)]
+    fn value(&self) -> Option<u32> {
+        self.one.value()
+    }
+
+    #[inline(always)]
     fn advance(&mut self) -> Option<u32> {
         self.one.advance();
         skip_shared(&mut self.one, &mut self.other)
@@ -48,6 +54,11 @@ impl<A: SortedCursor, B: SortedCursor> SortedCursor for AndNot<A, B> {
     fn seek(&mut self, target: u32) -> Option<u32> {
         self.one.seek(target);
         skip_shared(&mut self.one, &mut self.other)
+    }
+
+    #[inline(always)]
+    fn bits_at_hand(&self, from: u32, words: &mut [u64]) -> usize {
+        bits_without(&self.one, &self.other, from, words)
     }
 }
 

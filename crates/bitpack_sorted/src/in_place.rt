@@ -1,15 +1,16 @@
 //! The increasing values of a slice, combined with a cursor in their place.
 
-ghost use Rattle.std.specs.Prelude.{◌≡◌, ◌+◌, ◌≤◌, IfSome, None, drop, length, take};
+ghost use Rattle.std.specs.Prelude.{◌≡◌, ◌+◌, ◌<◌, ◌≤◌, IfSome, None, drop, length, take};
 ghost use Rattle.std.specs.List.Sorted.{IsStrictlyIncreasing};
 ghost use Rattle.bitpack_sorted.specs.Fronts.{IsFront};
 ghost use Rattle.bitpack_sorted.specs.Increasing.{shared, united, without};
 ghost use Rattle.bitpack_sorted.specs.InFront.{AreInFront};
-ghost use Rattle.bitpack_sorted.specs.inner.InPlace.{AreLacked, IsNextFrom, IsRoomBefore};
+ghost use Rattle.bitpack_sorted.specs.inner.InPlace.{AreLacked, CanFilterBy, FiltersBy, IsNextFrom, IsRoomBefore};
 
-use super::marks::{Filtered, keep_in_block};
+use super::marks::{Filtered, keep_in_bits, keep_in_block, reach_several};
 use super::sorted_cursor::SortedCursor;
 use super::uniting::{Place, move_rest, unite_block};
+use super::words::WORDS;
 use bitpack_lists::list2::first_from;
 use bitpacking::MAX_BLOCK_LEN;
 
@@ -34,7 +35,7 @@ pub fn intersect_in_place<C: SortedCursor>(values: &mut [u32], cursor: &mut C) -
             kept: done.kept,
             from: next,
         };
-        done = keep_in_block(values, here, first_part(cursor), false);
+        done = keep_at_hand(values, here, cursor, false);
     }
     done.kept
 }
@@ -63,7 +64,7 @@ pub fn subtract_in_place<C: SortedCursor>(values: &mut [u32], cursor: &mut C) ->
             };
             return move_rest(values, rest);
         };
-        done = keep_in_block(values, done, first_part(cursor), true);
+        done = keep_at_hand(values, done, cursor, true);
     }
     done.kept
 }
@@ -121,6 +122,29 @@ fn next_from<C: SortedCursor>(values: &[u32], from: usize, cursor: &mut C) -> Op
     let here = cursor.seek(values[from])?;
     let to = first_from(&values[from..], 0, here);
     Some(from + to.saturating_sub(1))
+}
+
+/// Of the values from an index on, keeps those that a cursor has, or those that it lacks: as far as its bits at hand reach, if these are
+/// several values, and otherwise as far as its current block.
+#[inline(always)]
+fn keep_at_hand<C: SortedCursor>(
+    values: &mut [u32],
+    done: Filtered,
+    cursor: &C,
+    lacking: bool,
+) -> Filtered
+    requires { CanFilterBy values.old (C.rest cursor.now) done.kept done.from }
+    ensures forward { (done.from < result.from) × (result.from ≤ length values.new) }
+    ensures filters { FiltersBy lacking (C.rest cursor.now) values.old done.kept done.from values.new result.kept
+        result.from }
+{
+    let mut words = [0u64; WORDS];
+    let count = cursor.bits_at_hand(values[done.from], &mut words);
+    if reach_several(values, done.from, count) {
+        keep_in_bits(values, done, &words, count, lacking)
+    } else {
+        keep_in_block(values, done, first_part(cursor), lacking)
+    }
 }
 
 /// The first values of the current block of a cursor, as many as a block of a list may have.

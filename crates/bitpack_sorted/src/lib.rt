@@ -23,10 +23,12 @@ mod increasing_slice;
 mod marks;
 mod or;
 mod or_all;
+mod set_bits;
 mod sorted_cursor;
 mod sorting;
 mod uniting;
 mod values;
+mod words;
 
 pub use and::And;
 pub use and_all::AndAll;

@@ -7,6 +7,7 @@ ghost use Rattle.bitpack_sorted.specs.IncreasingLaws.{increasing_united};
 
 use super::first_alone::first_alone;
 use super::sorted_cursor::SortedCursor;
+use super::words::united_bits;
 
 /// The values that at least one of two cursors has, each once.
 #[derive(Drop)]
@@ -47,6 +48,11 @@ impl<A: SortedCursor, B: SortedCursor> SortedCursor for Or<A, B> {
     }
 
     #[inline(always)]
+    fn value(&self) -> Option<u32> {
+        lesser(self.one.value(), self.other.value())
+    }
+
+    #[inline(always)]
     fn advance(&mut self) -> Option<u32> {
         match (self.one.value(), self.other.value()) {
             (Some(a), Some(b)) => {
@@ -68,6 +74,11 @@ impl<A: SortedCursor, B: SortedCursor> SortedCursor for Or<A, B> {
         let one = self.one.seek(target);
         let other = self.other.seek(target);
         lesser(one, other)
+    }
+
+    #[inline(always)]
+    fn bits_at_hand(&self, from: u32, words: &mut [u64]) -> usize {
+        united_bits(&self.one, &self.other, from, words)
     }
 }
 

@@ -1,6 +1,7 @@
 //! The trait of places in increasing values.
 
 ghost use Rattle.std.specs.Prelude.{◌≡◌, ℕ, List};
+ghost use Rattle.bitpack_sorted.specs.Bits.{AreBitsFrom};
 ghost use Rattle.bitpack_sorted.specs.Fronts.{IsFront};
 ghost use Rattle.bitpack_sorted.specs.Increasing.{IsIncreasing, after_first, at_least, first};
 
@@ -55,6 +56,18 @@ pub trait SortedCursor: Drop {
         ensures value { result ≡ first (rest self.new) }
     {
         self.seek(target)
+    }
+
+    /// Says of numbers that follow each other whether they are among the values from here on, if this takes no more than to copy bits: bit
+    /// `i % 64` of word `i / 64` is then set exactly if the number `from + i` is a value. Returns of how many numbers, which may be 0.
+    ///
+    /// The bits after these are of no use. A block of a list that is a set of bits has them at hand, and so has the combination of two
+    /// cursors if both have.
+    #[inline(always)]
+    fn bits_at_hand(&self, _from: u32, _words: &mut [u64]) -> usize
+        ensures { AreBitsFrom _from result _words.new (rest self.now) }
+    {
+        0
     }
 
     ghost increasing: { (cursor : Self) → IsIncreasing (rest cursor) };

@@ -13,6 +13,7 @@ pub mod MeasuredLengths
 pub mod Orders
 pub mod PartLemmas
 pub mod PartValues
+pub mod PushLemmas
 pub mod ReadSteps
 pub mod RestFaults
 pub mod RestLemmas

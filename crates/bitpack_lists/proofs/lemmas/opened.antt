@@ -1,4 +1,7 @@
 -- Lemmas of opened lists: search, cursors, copying, kinds.
+pub mod BitBlocks
+pub mod BitPlaces
+pub mod BitRuns
 pub mod BlockBounds
 pub mod BlockPlaces
 pub mod CopyBlocks
@@ -9,10 +12,13 @@ pub mod FirstBytes
 pub mod GatherSteps
 pub mod HalvingSteps
 pub mod KindFaults
+pub mod MoreValues
+pub mod MoveSteps
 pub mod OpenedLists
 pub mod OpenedValues
 pub mod OutlineSteps
 pub mod RangeBounds
+pub mod RangeMarks
 pub mod RangeSteps
 pub mod RangeWalks
 pub mod ReadParts
@@ -27,4 +33,5 @@ pub mod Versions
 pub mod OpenedWalks
 pub mod Sharing
 pub mod WalkSteps
+pub mod WholePlaces
 pub mod Walking

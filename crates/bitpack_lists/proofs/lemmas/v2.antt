@@ -1,5 +1,6 @@
 -- Lemmas of version 2.
 pub mod OneText2
+pub mod OrderedTexts
 pub mod Soundness2
 pub mod UpgradeSteps
 pub mod Upgraded

@@ -2,9 +2,11 @@
 -- Lemmas of version 4: its header, its bit sets.
 -- Lemmas of version 4: its short numbers, headers, bit sets, bodies and texts.
 pub mod BitCounts
+pub mod BitGaps
 pub mod BitLaws
 pub mod BitNumbers
 pub mod BitRows
+pub mod BitWindows
 pub mod BlockSizes
 pub mod BlockWalks
 pub mod BlockWrites
@@ -13,14 +15,16 @@ pub mod BodiesOf4
 pub mod BodyCodes
 pub mod BodyTests
 pub mod BodyWrites
+pub mod CodeBounds
 pub mod Existence4
 pub mod FirstIn
+pub mod GapCodes
 pub mod HeaderLaws4
 pub mod Headers4
 pub mod MarkOrder
 pub mod MarkedBits
 pub mod Marks
-pub mod NewestTexts
+pub mod OlderTexts
 pub mod OneBits
 pub mod OnePlaces
 pub mod OneText4
@@ -35,6 +39,8 @@ pub mod SetOrder
 pub mod ShortLaws
 pub mod ShortNumbers
 pub mod ShortWrites
+pub mod SourceOrder
+pub mod Sources
 pub mod SoundBlocks
 pub mod Soundness4
 pub mod TextWrites

@@ -1,3 +1,4 @@
--- Lemmas of writing versions 2 and 3.
+-- Lemmas of writing: texts by their plans.
 pub mod FillSteps
 pub mod PlannedTexts
+pub mod WrittenPlans

@@ -6,7 +6,7 @@ use Rattle.bitpack_lists.specs.declared.list_error.ListError.{ListError}
 use Rattle.bitpack_lists.specs.declared.list_error.ListError.TheVariants.{Memory, NotSorted, TooLong}
 use Rattle.bitpack_lists.specs.declared.list_kind.ListKind.{ListKind}
 use Rattle.bitpack_lists.specs.declared.version.Version.{Version}
-use Rattle.bitpack_lists.specs.Texts.{IsText}
+use Rattle.bitpack_lists.specs.Newest.{IsWritten}
 use Rattle.bitpack_lists.specs.Version2.{first_out}
 
 -- the part follows the items that there were, and no room is given back
@@ -28,4 +28,4 @@ pub record AppendsOne {X A : Type 0} (Is : List ℕ → Type 0) (kind : ListKind
 
 -- the text of a version
 abbrev pub AppendsText : {X A : Type 0} → Version → ℕ → ListKind → List ℕ → Result X ListError → Vec ℕ A → Vec ℕ A → Type 0
-AppendsText version lanes kind values = AppendsOne (IsText version lanes kind values) kind values
+AppendsText version lanes kind values = AppendsOne (IsWritten version lanes kind values) kind values

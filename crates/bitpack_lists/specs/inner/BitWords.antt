@@ -1,5 +1,5 @@
 -- The bits of a byte, and the bits of a set up to one of them.
-use Rattle.std.specs.Prelude.{◌≡◌, ℕ, ◌%◌, ◌<◌, ◌≤◌, ◌==◌, List, length, slice_index, slice_index_or}
+use Rattle.std.specs.Prelude.{◌≡◌, ℕ, ◌*◌, ◌%◌, ◌<◌, ◌≤◌, ◌==◌, List, length, slice_index, slice_index_or}
 use Rattle.std.specs.Int.{bit_at}
 use Rattle.std.specs.List.{filter, range_with_len}
 use Rattle.bitpacking.specs.Bits.{bit_of}
@@ -25,6 +25,11 @@ pub record IsOfWords (body : List ℕ) : Type 0 where
   pub whole : length body % 4 ≡ 0
   pub few : length body ≤ 1024
 
+-- and one that has a bit that is 1 at an index
+pub record HasOne (body : List ℕ) (index : ℕ) : Type 0 where
+  pub body_is : IsOfWords body
+  pub within : index < length (ones body)
+
 -- a body of whole words, in which this many bits are 1
 pub record HasOnes (count : ℕ) (body : List ℕ) : Type 0 where
   pub whole : length body % 4 ≡ 0
@@ -35,3 +40,10 @@ pub record IsOrdered (start : ℕ) (body : List ℕ) : Type 0 where
   pub of_words : IsOfWords body
   pub order : InOrder (bit_values start body)
   pub after : number_of_bit start 0 ≤ slice_index (bit_values start body) 0
+
+-- a bit from one on is 1
+pub record IsOneFrom (body : List ℕ) (bit : ℕ) : Type 0 where
+  pub last : ℕ
+  pub from : bit ≤ last
+  pub within : last < 8 * length body
+  pub one : bit_of body last ≡ 1

@@ -1,11 +1,11 @@
 -- What the inner functions of range queries know of an opened list.
-use Rattle.std.specs.Prelude.{◌≡◌, ◌≢◌, ℕ, suc, ◌+◌, ◌-◌, ◌*◌, ◌<◌, ◌≤◌, Bool, true, false, ◌&&◌, nat_lt, nat_le, if◌then◌else◌, min, List, length, slice_index, Option, Some, None}
+use Rattle.std.specs.Prelude.{◌≡◌, ◌≢◌, ℕ, suc, ◌+◌, ◌-◌, ◌*◌, ◌<◌, ◌≤◌, Bool, true, false, ◌&&◌, nat_lt, nat_le, if◌then◌else◌, min, List, length, slice_index, take, Option, Some, None}
 use Rattle.std.specs.List.{filter, range_with_len}
 use Rattle.bitpacking.specs.declared.bit_packer.BitPacker.{Ghosts}
 use Rattle.bitpack_lists.specs.declared.list_kind.ListKind.TheVariants as lists
 use Rattle.bitpack_lists.specs.declared.opened.PackedList.{PackedList}
 use Rattle.bitpack_lists.specs.declared.blocks.reads.Reads.{Reads}
-use Rattle.bitpack_lists.specs.Columns.{is_between}
+use Rattle.bitpack_lists.specs.Columns.{ReadsFew, is_between}
 use Rattle.bitpack_lists.specs.Search.{HasGrown}
 use Rattle.bitpack_lists.specs.inner.Searching.{blocks_of, value_of}
 
@@ -16,6 +16,12 @@ passing test from count = filter test (range_with_len from count)
 -- a function gives these values at the positions from one on
 abbrev pub IsAt : (ℕ → ℕ) → ℕ → List ℕ → Type 0
 IsAt value start values = (k : ℕ) → k < length values → value (start + k) ≡ slice_index values k
+
+-- the positions of the first values that are within a range, from one on, are in front
+pub record HasFound (low high : ℕ) (values : List ℕ) (start index next : ℕ) (found : List ℕ) : Type 0 where
+  pub few : next ≤ index
+  pub in_front : (value : ℕ → ℕ) → IsAt value start values
+      → take next found ≡ passing (λ p. is_between low high (value p)) start index
 
 -- the last of the values before a block reaches a target: 1, or 0
 abbrev pub reached : ℕ → (ℕ → ℕ) → ℕ → ℕ → ℕ
@@ -35,6 +41,15 @@ module _ {P : Type 0} {members : Ghosts P} (list : PackedList P members) where
   pub record IsGreatest (block greatest : ℕ) : Type 0 where
     pub each : (k : ℕ) → k < 32 * members.lanes → value_of list (32 * members.lanes * block + k) ≤ greatest
     pub last : list.kind ≢ lists.Plain → greatest ≡ value_of list (32 * members.lanes * block + (32 * members.lanes - 1))
+
+  -- at most one entry or mark was read for such a bound
+  pub record FindsLeast (block found : ℕ) (old new : Reads) : Type 0 where
+    pub least : IsLeast block found
+    pub reads : ReadsFew 1 old new
+
+  pub record FindsGreatest (block found : ℕ) (old new : Reads) : Type 0 where
+    pub greatest : IsGreatest block found
+    pub reads : ReadsFew 1 old new
 
 module _ {P : Type 0} {members : Ghosts P} (list : PackedList P members) (low high : ℕ) where
   -- the value at a position is within the range

@@ -4,14 +4,13 @@ use Rattle.bitpacking.specs.declared.kind.Kind.{Kind}
 use Rattle.bitpacking.specs.Codes.{codes}
 use Rattle.bitpacking.specs.Words.{bytes_of_words}
 use Rattle.bitpack_lists.specs.declared.list_kind.ListKind.{ListKind}
-use Rattle.bitpack_lists.specs.declared.version.Version.{Version}
-use Rattle.bitpack_lists.specs.declared.version.Version.TheVariants as versions
+use Rattle.bitpack_lists.specs.declared.version.OlderVersion.{OlderVersion}
+use Rattle.bitpack_lists.specs.declared.version.OlderVersion.TheVariants as versions
 use Rattle.bitpack_lists.specs.Chains.{LeastWidths}
 use Rattle.bitpack_lists.specs.inner.Opening.{AreEntries}
 use Rattle.bitpack_lists.specs.Parts.{first_kind, header, whole_blocks}
 use Rattle.bitpack_lists.specs.Version2.{kind_at, values_fault}
 use Rattle.bitpack_lists.specs.Version3.{IsTail3, header3}
-use Rattle.bitpack_lists.specs.Version4.{header4}
 
 -- values without a fault, and the least widths of their first blocks, which were kept
 pub record AreReady (lanes : ℕ) (kind : ListKind) (values widths : List ℕ) : Type 0 where
@@ -29,19 +28,17 @@ abbrev pub tail_room : ℕ → ℕ
 tail_room count = 4 * count + count / 32 + 2
 
 -- the header of a version
-abbrev pub header_of : Version → ListKind → ℕ → ℕ → List ℕ
+abbrev pub header_of : OlderVersion → ListKind → ℕ → ℕ → List ℕ
 header_of versions.Two = header 2
 header_of versions.Three = header3
-header_of versions.Four = header4
 
 -- the bytes are the tail of values of this kind that follow `blocks` whole blocks
-abbrev pub IsTailOf : Version → ℕ → Kind → List ℕ → List ℕ → Type 0
+abbrev pub IsTailOf : OlderVersion → ℕ → Kind → List ℕ → List ℕ → Type 0
 IsTailOf versions.Two blocks kind values bytes = bytes ≡ bytes_of_words values
 IsTailOf versions.Three blocks kind values bytes = IsTail3 blocks (codes kind values) bytes
-IsTailOf versions.Four blocks kind values bytes = IsTail3 blocks (codes kind values) bytes
 
 -- the header and the tail of the text of the values, which has `size` bytes
-pub record IsPlanned (version : Version) (lanes : ℕ) (kind : ListKind) (values front tail : List ℕ) (size : ℕ) : Type 0 where
+pub record IsPlanned (version : OlderVersion) (lanes : ℕ) (kind : ListKind) (values front tail : List ℕ) (size : ℕ) : Type 0 where
   pub whole : ℕ
   pub blocks : IsBlocksSize lanes kind values whole
   pub front_is : front ≡ header_of version kind lanes (length values)

@@ -1,5 +1,5 @@
 -- The marks and the sizes of the blocks of a text of version 4, before it is written, and what is written of them.
-use Rattle.std.specs.Prelude.{◌≡◌, ℕ, zero, suc, min, ◌+◌, ◌-◌, ◌*◌, ◌^◌, ◌<◌, ◌≤◌, true, false, nat_le, None, List, length, take, drop, slice_index}
+use Rattle.std.specs.Prelude.{◌≡◌, ℕ, zero, suc, min, ◌+◌, ◌-◌, ◌*◌, ◌^◌, ◌<◌, ◌≤◌, true, false, nat_le, List, length, take, drop, slice_index}
 use Rattle.bitpacking.specs.declared.kind.Kind.{Kind}
 use Rattle.bitpacking.specs.declared.kind.Kind.TheVariants as blocks
 use Rattle.bitpacking.specs.Codes.{codes, start}
@@ -10,7 +10,7 @@ use Rattle.bitpack_lists.specs.BitSets.{bits_size}
 use Rattle.bitpack_lists.specs.Groups.{AreGroups, groups_of}
 use Rattle.bitpack_lists.specs.Numbers.{byte_count, greatest, short_at}
 use Rattle.bitpack_lists.specs.Parts.{first_kind, kind_after, whole_blocks}
-use Rattle.bitpack_lists.specs.Version2.{block_of, values_fault}
+use Rattle.bitpack_lists.specs.Version2.{block_of}
 use Rattle.bitpack_lists.specs.Version4.{AreShort, IsBlock4, IsBody4, codes4, header4, if_strict, tail_start4}
 
 -- the least of the first `count` words
@@ -51,14 +51,21 @@ IsSizeOf lanes kind values block size =
 abbrev pub AreSizes : ℕ → ListKind → List ℕ → (ℕ → ℕ) → Type 0
 AreSizes lanes kind values size = (block : ℕ) → block < whole_blocks lanes (length values) → IsSizeOf lanes kind values block (size block)
 
--- the least widths of the codes of the first blocks, which were kept
+-- the least widths of the codes of blocks from one on, which were kept
 abbrev pub IsWidthOf : ℕ → ListKind → List ℕ → ℕ → ℕ → Type 0
 IsWidthOf lanes kind values block width =
     Least (codes4 (kind_of lanes kind values block) (mark_of lanes kind values block) (block_of lanes values block)) width
 
-abbrev pub AreKept : ℕ → ListKind → List ℕ → List ℕ → Type 0
-AreKept lanes kind values widths =
-    (block : ℕ) → block < whole_blocks lanes (length values) → block < length widths → IsWidthOf lanes kind values block (slice_index widths block)
+abbrev pub AreKept : ℕ → ListKind → List ℕ → ℕ → List ℕ → Type 0
+AreKept lanes kind values from widths =
+    (k : ℕ) → from + k < whole_blocks lanes (length values) → k < length widths → IsWidthOf lanes kind values (from + k) (slice_index widths k)
+
+-- the sum of the sizes of the first blocks, and the greatest mark of these
+pub record HasBegun (lanes : ℕ) (kind : ListKind) (values : List ℕ) (upto sum most : ℕ) : Type 0 where
+  pub sum_is : (size_of : ℕ → ℕ) → AreSizes lanes kind values size_of → sum ≡ total size_of upto
+  pub bound : sum ≤ 32 * upto
+  pub small : most < 2 ^ 32
+  pub most_is : most ≡ greatest (mark_of lanes kind values) upto
 
 -- the sum of the sizes of all whole blocks, and the greatest mark
 pub record IsMeasured (lanes : ℕ) (kind : ListKind) (values : List ℕ) (sum most : ℕ) : Type 0 where
@@ -66,12 +73,6 @@ pub record IsMeasured (lanes : ℕ) (kind : ListKind) (values : List ℕ) (sum m
   pub few : sum ≤ 2 ^ 28
   pub small : most < 2 ^ 32
   pub most_is : most ≡ greatest (mark_of lanes kind values) (whole_blocks lanes (length values))
-
--- values without a fault that were measured, and the least widths of their first blocks, which were kept
-pub record AreReady4 (lanes : ℕ) (kind : ListKind) (values widths : List ℕ) (sum most : ℕ) : Type 0 where
-  pub right : values_fault kind values ≡ None
-  pub measured : IsMeasured lanes kind values sum most
-  pub kept : AreKept lanes kind values widths
 
 -- how many bytes the whole blocks have, with the byte of the sizes
 abbrev pub blocks_size : ℕ → ℕ → ℕ → ℕ → ℕ

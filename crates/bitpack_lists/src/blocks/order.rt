@@ -1,6 +1,6 @@
 //! The order of the values of a list, a part of them at a time.
 
-ghost use Rattle.std.specs.Prelude.{◌≡◌, ◌+◌, ◌-◌, ◌*◌, ◌^◌, ◌<◌, ◌≤◌, ℕ, List, true, false, length, take, slice_index, IfSome, None};
+ghost use Rattle.std.specs.Prelude.{◌≡◌, ◌+◌, ◌-◌, ◌*◌, ◌^◌, ◌<◌, ◌≤◌, ◌++◌, ℕ, List, true, false, length, take, slice_index, IfSome, None};
 ghost use Rattle.bitpacking.specs.Codes.{codes, start, values_of};
 ghost use Rattle.bitpacking.specs.Width.{Fits};
 ghost use Rattle.bitpacking.specs.Words.{word};
@@ -9,6 +9,7 @@ ghost use Rattle.bitpack_lists.specs.Parts.{FindsFault, first_kind, whole_blocks
 ghost use Rattle.bitpack_lists.specs.Version2.{is_out, least_below, values_fault};
 ghost use Rattle.bitpack_lists.specs.inner.Opening.{GoesOn, IsOrdered, IsRising, is_fall};
 
+use crate::header::LONGEST_LIST;
 use crate::list_error::ListError;
 use crate::list_kind::{ListKind, next_kind};
 use crate::numbers::read_one;
@@ -111,7 +112,41 @@ pub(crate) fn first_out(
     None
 }
 
+/// Tests values that are pushed after the values that a list has so far: whether they are too many together, and then whether one of them is
+/// out of order, whose position is counted from the first value of the list. Reads the last value so far, and the pushed ones.
+#[inline(always)]
+pub fn test_pushed(kind: ListKind, so_far: &[u32], pushed: &[u32]) -> Result<(), ListError>
+    requires few { length so_far.now ≤ 2 ^ 28 }
+    requires ordered { Rattle.bitpack_lists.specs.Version2.first_out kind so_far.now ≡ None }
+    ensures { FindsFault result (values_fault kind (so_far.now ++ pushed.now)) }
+{
+    let len = so_far.len();
+    if pushed.len() > LONGEST_LIST - len {
+        return Err(ListError::TooLong(len + pushed.len()));
+    }
+    let last = last_of(so_far);
+    if are_ordered(kind, len, last, pushed) {
+        return Ok(());
+    }
+    match first_out(kind, len, last, pushed) {
+        Some(position) => Err(ListError::NotSorted(position)),
+        None => Ok(()),
+    }
+}
+
+/// The last value, or 0 if there is none.
+#[inline(always)]
+fn last_of(values: &[u32]) -> u32
+    ensures { 0 < length values.now → slice_index values.now (length values.now - 1) ≡ result }
+{
+    if values.is_empty() {
+        return 0;
+    }
+    values[values.len() - 1]
+}
+
 /// Whether the values are in order after the one before them. Most lists are, so that no position is looked for.
+#[inline(always)]
 fn are_ordered(kind: ListKind, position: usize, before: u32, values: &[u32]) -> bool
     ensures { result ≡ true → (all : ℕ → ℕ) → IsOrdered kind all position before
         → ((k : ℕ) → k < length values.now → all (position + k) ≡ slice_index values.now k)

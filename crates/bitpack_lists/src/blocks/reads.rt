@@ -1,13 +1,13 @@
 //! What is read of a packed list: each entry, mark and block counts in `Reads`. No other code reads one of these from a text or unpacks
 //! a block of it.
 
-ghost use Rattle.std.specs.Prelude.{◌≡◌, ◌+◌, ◌*◌, ◌≤◌, ◌∷◌, [], length, take, drop, vec_len, vec_capacity, ◌^◌, ◌<◌, ℕ};
+ghost use Rattle.std.specs.Prelude.{◌≡◌, ◌+◌, ◌*◌, ◌≤◌, ◌∷◌, [], length, take, drop, vec_len, vec_capacity, ℕ};
 ghost use Rattle.bitpacking.specs.Layout.{size, codes_of};
 ghost use Rattle.bitpacking.specs.Words.{bytes_of_words};
 ghost use Rattle.bitpack_lists.specs.inner.Appending.{HasAppended};
 ghost use Rattle.std.specs.Borrow.{ftrue};
-ghost use Rattle.bitpacking.specs.Codes.{start, values_of};
-ghost use Rattle.bitpack_lists.specs.Version2.{body_at, body_start, last_at, offset_at, width_at};
+ghost use Rattle.bitpacking.specs.Codes.{values_of};
+ghost use Rattle.bitpack_lists.specs.Version2.{body_at, body_start, last_at, width_at};
 
 use crate::numbers::read_one;
 use crate::reserved::append;
@@ -27,6 +27,8 @@ pub(crate) struct Entry {
 }
 
 impl Entry {
+    ghost use Rattle.bitpack_lists.specs.inner.CountedReads.{IsEntryOf};
+
     /// The body of the entry's block, in a list of `blocks` blocks. The bytes are the ones after a header.
     pub(crate) fn body(self, lanes: usize, blocks: usize, rest: &[u8]) -> &[u8]
         requires lanes { lanes ≤ 8 }
@@ -42,9 +44,7 @@ impl Entry {
     // The entry of a block. The bytes are the ones after a header.
     fn read(rest: &[u8], block: usize) -> Entry
         requires { ENTRY_LEN * block + ENTRY_LEN ≤ length rest.now }
-        ensures width { result.width ≡ width_at rest.now block }
-        ensures offset { result.offset ≡ offset_at rest.now block }
-        ensures last { result.last ≡ last_at rest.now block }
+        ensures { IsEntryOf rest.now block result }
     {
         let index = ENTRY_LEN * block;
         Entry {
@@ -92,6 +92,8 @@ impl Model for Reads {
 }
 
 impl Reads {
+    ghost use Rattle.bitpack_lists.specs.inner.CountedReads.{CanUnpack, IsEntryOf, ReadsEntry, UnpacksBlock};
+
     /// No reads.
     pub fn new() -> Reads
         ensures entries { result.entries ≡ 0 }
@@ -111,11 +113,8 @@ impl Reads {
     /// Reads the entry of a block. The bytes are those after a header.
     pub(crate) fn read_entry(&mut self, rest: &[u8], block: usize) -> Entry
         requires { ENTRY_LEN * block + ENTRY_LEN ≤ length rest.now }
-        ensures width { result.width ≡ width_at rest.now block }
-        ensures offset { result.offset ≡ offset_at rest.now block }
-        ensures last { result.last ≡ last_at rest.now block }
-        ensures entries { self.new.entries ≡ self.old.entries + 1 }
-        ensures blocks { self.new.blocks ≡ self.old.blocks }
+        ensures entry { IsEntryOf rest.now block result }
+        ensures reads { ReadsEntry self.old self.new }
     {
         self.record(1, 0);
         Entry::read(rest, block)
@@ -125,8 +124,7 @@ impl Reads {
     pub(crate) fn read_last(&mut self, rest: &[u8], block: usize) -> u32
         requires { ENTRY_LEN * block + ENTRY_LEN ≤ length rest.now }
         ensures last { result ≡ last_at rest.now block }
-        ensures entries { self.new.entries ≡ self.old.entries + 1 }
-        ensures blocks { self.new.blocks ≡ self.old.blocks }
+        ensures reads { ReadsEntry self.old self.new }
     {
         self.record(1, 0);
         read_one(rest, ENTRY_LEN * block + 5)
@@ -146,12 +144,10 @@ impl Reads {
         requires width { width_at rest.now block ≤ 32 }
         requires body { body_start P.lanes blocks rest.now block + size P.lanes (width_at rest.now block)
             ≤ length rest.now }
-        requires room { P.BLOCK_LEN ≤ length values.old }
-        requires start { start kind < 2 ^ 32 }
+        requires room { CanUnpack P.BLOCK_LEN kind values.old }
         ensures block { take P.BLOCK_LEN values.new
             ≡ values_of kind (codes_of P.lanes (width_at rest.now block) (body_at P.lanes blocks rest.now block)) }
-        ensures entries { self.new.entries ≡ self.old.entries }
-        ensures blocks { self.new.blocks ≡ self.old.blocks + 1 }
+        ensures reads { UnpacksBlock self.old self.new }
     {
         self.unpack_body(packer, kind, Entry::read(rest, block), blocks, rest, values);
     }
@@ -168,13 +164,11 @@ impl Reads {
     )
         requires width { entry.width ≤ 32 }
         requires body { ENTRY_LEN * blocks + 4 * P.lanes * entry.offset + size P.lanes entry.width ≤ length rest.now }
-        requires room { P.BLOCK_LEN ≤ length values.old }
-        requires start { start kind < 2 ^ 32 }
+        requires room { CanUnpack P.BLOCK_LEN kind values.old }
         ensures block { take P.BLOCK_LEN values.new
             ≡ values_of kind (codes_of P.lanes entry.width
             (take (size P.lanes entry.width) (drop (ENTRY_LEN * blocks + 4 * P.lanes * entry.offset) rest.now))) }
-        ensures entries { self.new.entries ≡ self.old.entries }
-        ensures blocks { self.new.blocks ≡ self.old.blocks + 1 }
+        ensures reads { UnpacksBlock self.old self.new }
     {
         self.record(0, 1);
         let body = entry.body(P::BLOCK_LEN / 32, blocks, rest);

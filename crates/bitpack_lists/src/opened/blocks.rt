@@ -31,6 +31,14 @@ impl<'a, P: BitPacker> ReadBlocks for PackedList<'a, P> {
         P::BLOCK_LEN
     }
 
+    fn value_count(&self) -> usize {
+        self.count
+    }
+
+    fn read_at(&self, block: usize, out: &mut [u32], reads: &mut Reads) -> usize {
+        self.read_block(block, out, reads)
+    }
+
     fn read_next(&self, block: usize, before: u32, out: &mut [u32], reads: &mut Reads) -> usize {
         let part = self.whole_block(block, self.kind_after(block, before));
         let (_, len) = self.read_block_or_tail(part, out, reads);
@@ -52,13 +60,38 @@ impl<'a, P: BitPacker> ReadBlocks for PackedList<'a, P> {
 }
 
 impl<'a, P: BitPacker> PackedList<'a, P> {
+    /// Returns how many whole blocks the list has. This is also the number of what is left after them, as `read_block` counts.
+    pub fn block_count(&self) -> usize
+        ensures count { result ≡ whole_blocks P.lanes (length (values self.now)) }
+        ensures few { result ≤ 2 ^ 28 }
+    {
+        self.count / P::BLOCK_LEN
+    }
+
+    /// Returns the last value of a whole block, of a list that is sorted or strictly sorted. It reads one entry, and unpacks nothing.
+    ///
+    /// <!-- crates/bitpack_uses/src/tests/doc_examples.rt -->
+    /// ```rust
+    /// // `list` is sorted, and has 0, 2, 4, .., 62.
+    /// assert_eq!(rt; list.block_last(0, &mut Reads::new()), 62);
+    /// ```
+    pub fn block_last(&self, block: usize, reads: &mut Reads) -> u32
+        requires block { block < whole_blocks P.lanes (length (values self.now)) }
+        requires ordered { kind_of self.now ≢ ListKind.Plain }
+        ensures last { result ≡ slice_index (values self.now) (32 * P.lanes * block + (32 * P.lanes - 1)) }
+        ensures entries { reads.new.entries ≡ reads.old.entries + 1 }
+        ensures blocks { reads.new.blocks ≡ reads.old.blocks }
+    {
+        self.mark(block, reads)
+    }
+
     /// Unpacks the block of a number to the start of a slice, and returns how many values it has. The number of all blocks means the values
     /// that are left after them. The rest of the slice stays as it was.
     ///
     /// Beside the entry of the block it reads at most one.
     pub fn read_block(&self, block: usize, out: &mut [u32], reads: &mut Reads) -> usize
         requires block { block ≤ whole_blocks P.lanes (length (values self.now)) }
-        requires room { 32 * P.lanes ≤ length out.old }
+        requires room { min (32 * P.lanes) (length (values self.now) - 32 * P.lanes * block) ≤ length out.old }
         ensures is { IsBlockOf P.lanes (values self.now) block result out.new }
         ensures ordered { kind_of self.now ≢ ListKind.Plain → InOrder (take result out.new) }
         ensures few { 32 * P.lanes * block + result ≤ 2 ^ 28 }
@@ -140,7 +173,7 @@ impl<'a, P: BitPacker> PackedList<'a, P> {
 
     /// The kind of a block, by the last value before it.
     #[inline(always)]
-    fn kind_after(&self, block: usize, before: u32) -> Kind
+    pub(super) fn kind_after(&self, block: usize, before: u32) -> Kind
         requires block { block ≤ blocks_of self.now }
         requires before { 0 < block → slice_index (values self.now) (32 * P.lanes * block - 1) ≡ before }
         ensures { result ≡ kind_of_list self.now block }
@@ -168,7 +201,7 @@ impl<'a, P: BitPacker> PackedList<'a, P> {
 
     /// Unpacks a block, or reads the values of the tail if there is none. Returns its number, or the count of all blocks, and how many
     /// values these are.
-    fn read_block_or_tail(
+    pub(super) fn read_block_or_tail(
         &self,
         part: Option<ListBlock>,
         values: &mut [u32],

@@ -6,12 +6,14 @@ ghost use Rattle.bitpack_lists.specs.declared.list_kind.ListKind.{ListKind};
 ghost use Rattle.bitpack_lists.specs.Columns.{AreBounds, ReadsFew, UnpacksEnds, is_between, positions_between};
 ghost use Rattle.bitpack_lists.specs.Opened.{kind_of, values};
 ghost use Rattle.bitpack_lists.specs.Parts.{whole_blocks};
-ghost use Rattle.bitpack_lists.specs.inner.Ranges.{IsAt, IsGreatest, IsLeast, IsTold, ReadsPart, is_within, len_of, passing};
+ghost use Rattle.bitpack_lists.specs.inner.Ranges.{IsAt, FindsGreatest, FindsLeast, IsTold, ReadsPart, is_within, len_of, passing};
 ghost use Rattle.bitpack_lists.specs.inner.Searching.{ReadsEntries, blocks_of};
 
 use super::PackedList;
+use super::within::{find_in, within};
 use crate::blocks::reads::Reads;
 use crate::list_kind::ListKind;
+use crate::v4::bit_set::AHEAD;
 use crate::version::Version;
 use bitpacking::{BitPacker, Kind, MAX_BLOCK_LEN};
 
@@ -41,8 +43,7 @@ impl<'a, P: BitPacker> PackedList<'a, P> {
     // No value of a block is below this.
     fn least_in_block(&self, block: usize, reads: &mut Reads) -> u32
         requires block { block < blocks_of self.now }
-        ensures least { IsLeast self.now block result }
-        ensures reads { ReadsFew 1 reads.old reads.new }
+        ensures { FindsLeast self.now block result reads.old reads.new }
     {
         match self.kind {
             ListKind::Plain => self.least_in_plain(block, reads),
@@ -53,8 +54,7 @@ impl<'a, P: BitPacker> PackedList<'a, P> {
     // No value of a block of a plain list is below this.
     fn least_in_plain(&self, block: usize, reads: &mut Reads) -> u32
         requires plain { (block < blocks_of self.now) × (self.now.kind ≡ ListKind.Plain) }
-        ensures least { IsLeast self.now block result }
-        ensures reads { ReadsFew 1 reads.old reads.new }
+        ensures { FindsLeast self.now block result reads.old reads.new }
     {
         match self.version {
             Version::Four => self.mark(block, reads),
@@ -65,8 +65,7 @@ impl<'a, P: BitPacker> PackedList<'a, P> {
     // No value of a block of a list in order is below this.
     fn least_in_order(&self, block: usize, reads: &mut Reads) -> u32
         requires block { block < blocks_of self.now }
-        ensures least { IsLeast self.now block result }
-        ensures reads { ReadsFew 1 reads.old reads.new }
+        ensures { FindsLeast self.now block result reads.old reads.new }
     {
         match self.kind_of_block(block, reads) {
             Kind::Plain => 0,
@@ -79,8 +78,7 @@ impl<'a, P: BitPacker> PackedList<'a, P> {
     // No value of a block is above this.
     fn greatest_in_block(&self, block: usize, reads: &mut Reads) -> u32
         requires block { block < blocks_of self.now }
-        ensures greatest { IsGreatest self.now block result }
-        ensures reads { ReadsFew 1 reads.old reads.new }
+        ensures { FindsGreatest self.now block result reads.old reads.new }
     {
         match self.kind {
             ListKind::Plain => self.greatest_in_plain(block, reads),
@@ -91,8 +89,7 @@ impl<'a, P: BitPacker> PackedList<'a, P> {
     // No value of a block of a plain list is above this.
     fn greatest_in_plain(&self, block: usize, reads: &mut Reads) -> u32
         requires plain { (block < blocks_of self.now) × (self.now.kind ≡ ListKind.Plain) }
-        ensures greatest { IsGreatest self.now block result }
-        ensures reads { ReadsFew 1 reads.old reads.new }
+        ensures { FindsGreatest self.now block result reads.old reads.new }
     {
         match self.version {
             Version::Four => {
@@ -154,7 +151,7 @@ impl<'a, P: BitPacker> PackedList<'a, P> {
     {
         let len = P::BLOCK_LEN;
         let mut room = [0; MAX_BLOCK_LEN];
-        let mut found = [0; MAX_BLOCK_LEN];
+        let mut found = [0; MAX_BLOCK_LEN + AHEAD];
         let mut position = from;
         let mut done = 0;
         while done < into.len() && position < self.count {
@@ -169,7 +166,7 @@ impl<'a, P: BitPacker> PackedList<'a, P> {
                 reads,
             );
             let fits = more.min(into.len() - done);
-            into[done..done + fits].copy_from_slice(&found[..fits]);
+            widen(&found[..fits], &mut into[done..done + fits]);
             done += fits;
             position = self.count.min(position - index + len);
         }
@@ -229,11 +226,11 @@ impl<'a, P: BitPacker> PackedList<'a, P> {
         low: u32,
         high: u32,
         room: &mut [u32],
-        found: &mut [usize],
+        found: &mut [u32],
         reads: &mut Reads,
     ) -> usize
         requires at { (block ≤ blocks_of self.now) × (index < len_of self.now block) }
-        requires room { (32 * P.lanes ≤ length room.old) × (32 * P.lanes ≤ length found.old) }
+        requires room { (32 * P.lanes ≤ length room.old) × (32 * P.lanes + AHEAD ≤ length found.old) }
         ensures few { result ≤ 32 * P.lanes }
         ensures found { take result found.new
             ≡ passing (is_within self.now low high) (32 * P.lanes * block + index) (len_of self.now block - index) }
@@ -264,13 +261,6 @@ fn greatest_of_width(width: u8) -> u32
     }
 }
 
-#[inline(always)]
-fn within(low: u32, high: u32, value: u32) -> bool
-    ensures { result ≡ is_between low high value }
-{
-    low <= value && value <= high
-}
-
 // How many of these values are within a range. No branch depends on a value, so that the compiler compares several at once.
 #[inline(always)]
 fn count_in(values: &[u32], low: u32, high: u32) -> usize
@@ -287,34 +277,26 @@ fn count_in(values: &[u32], low: u32, high: u32) -> usize
     count as usize
 }
 
-// Writes the positions of these values that are within a range. The first value has the position `start`. No branch depends on a
-// value.
-#[inline(always)]
-fn find_in(values: &[u32], start: usize, low: u32, high: u32, found: &mut [usize]) -> usize
-    requires few { start + length values.now < 2 ^ 64 }
-    requires room { length values.now ≤ length found.old }
-    ensures few { result ≤ length values.now }
-    ensures found { (value : ℕ → ℕ) → IsAt value start values.now
-        → take result found.new ≡ passing (λ p. is_between low high (value p)) start (length values.now) }
-{
-    let mut next = 0;
-    for index in 0..values.len() {
-        let value = values[index];
-        found[next] = start + index;
-        next += if within(low, high, value) { 1 } else { 0 };
-    }
-    next
-}
-
 // Writes the numbers from one on, and returns how many these are.
 #[inline(always)]
-fn count_up(start: usize, found: &mut [usize]) -> usize
-    requires { start + length found.old < 2 ^ 64 }
+fn count_up(start: usize, found: &mut [u32]) -> usize
+    requires { start + length found.old ≤ 2 ^ 32 }
     ensures len { result ≡ length found.old }
     ensures found { found.new ≡ range_with_len start (length found.old) }
 {
     for index in 0..found.len() {
-        found[index] = start + index;
+        found[index] = (start + index) as u32;
     }
     found.len()
+}
+
+// Writes positions as the caller has them.
+#[inline(always)]
+fn widen(found: &[u32], into: &mut [usize])
+    requires { length into.old ≡ length found.now }
+    ensures { into.new ≡ found.now }
+{
+    for index in 0..into.len() {
+        into[index] = found[index] as usize;
+    }
 }

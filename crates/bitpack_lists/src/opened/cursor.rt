@@ -1,12 +1,14 @@
 //! A cursor: a place in an opened list, with the list.
 
-ghost use Rattle.std.specs.Prelude.{◌≡◌, ◌≢◌, ℕ, List, ◌+◌, ◌*◌, ◌^◌, ◌<◌, ◌≤◌, length, min};
+ghost use Rattle.std.specs.Prelude.{◌≡◌, ◌≢◌, ℕ, List, ◌+◌, ◌-◌, ◌*◌, ◌^◌, ◌<◌, ◌≤◌, length, min};
 ghost use Rattle.bitpack_lists.specs.Moves.{IsAt};
 ghost use Rattle.bitpack_lists.specs.Opened.{CanSearch, blocks_of, values};
 ghost use Rattle.bitpack_lists.specs.Places.{IsSoughtFrom};
 
 use super::PackedList;
+use super::bits::BlockBits;
 use super::place::Place;
+use super::search::DOUBLES;
 use crate::blocks::reads::Reads;
 use crate::list_kind::ListKind;
 use bitpacking::BitPacker;
@@ -72,9 +74,9 @@ impl<'a, P: BitPacker> PackedList<'a, P> {
 }
 
 impl<'a, P: BitPacker> Cursor<'a, P> {
-    ghost use Rattle.std.specs.Prelude.{false, slice_get, take, true};
+    ghost use Rattle.std.specs.Prelude.{IfSome, MatchOption, false, slice_get, slice_index, take, true};
     ghost use Rattle.bitpack_lists.specs.declared.list_kind.ListKind.{ListKind};
-    ghost use Rattle.bitpack_lists.specs.Cursors.{CanSeek, HasMoved, block_number, entries_read, left_at_hand, position, unpacked, values_left, values_of_cursor};
+    ghost use Rattle.bitpack_lists.specs.Cursors.{AreAhead, CanSeek, HasFound, HasMoved, block_number, entries_read, left_at_hand, position, unpacked, values_left, values_of_cursor};
     ghost use Rattle.bitpack_lists.specs.Opened.{kind_of};
     ghost use Rattle.bitpack_lists.specs.Parts.{whole_blocks};
 
@@ -139,6 +141,24 @@ impl<'a, P: BitPacker> Cursor<'a, P> {
         self.place.skip_block(&self.list, &mut self.reads);
     }
 
+    /// Moves forward to a position, or to the end if the list has no such position. Unpacks at most one block, and none if the position is
+    /// in the current block. Requires a position that is not before this place.
+    ///
+    /// <!-- crates/bitpack_uses/src/tests/doc_examples.rt -->
+    /// ```rust
+    /// // `list` is 3, 5, 9, 12.
+    /// let mut cursor = list.cursor();
+    /// cursor.move_to(2);
+    /// assert_eq!(rt; cursor.value(), Some(9));
+    /// ```
+    pub fn move_to(&mut self, to: usize)
+        requires forward { position self.old ≤ to }
+        ensures moved { HasMoved self.old self.new }
+        ensures at { position self.new ≡ min to (length (values_of_cursor self.old)) }
+    {
+        self.place.move_to(&self.list, to, &mut self.reads);
+    }
+
     /// Moves to the first value from here on that is at least the target, or to the end if there is none. Unpacks at most one
     /// block. If the value is in the current block, it unpacks none and reads no entry. To a block that is further it reads at most
     /// two entries for each time that the distance doubles.
@@ -164,6 +184,57 @@ impl<'a, P: BitPacker> Cursor<'a, P> {
             → entries_read self.new ≤ entries_read self.old + 2 * k }
     {
         self.place.seek(&self.list, target, ahead, &mut self.reads);
+    }
+
+    /// Moves as `seek_ahead` does, except to a block that is a bit set: returns the bits of this block and stays before it. If there are bits
+    /// to begin after, it begins after their block.
+    ///
+    /// Their last value has to be below the target. Either way it searches for a block once, and unpacks none that it does not move to.
+    #[inline(always)]
+    pub fn seek_to_bits(
+        &mut self,
+        after: Option<BlockBits<'a>>,
+        target: u32,
+        ahead: usize,
+    ) -> Option<BlockBits<'a>>
+        requires can { CanSeek self.old }
+        requires after { IfSome after (λ bits. AreAhead self.old bits × (bits.last < target)) }
+        ensures moved { HasMoved self.old self.new }
+        ensures found { MatchOption result
+            (IsSoughtFrom (values_of_cursor self.old) target (position self.old) (position self.new))
+            (HasFound target self.old self.new) }
+    {
+        if let Some(bits) = after {
+            return self.find_bits(bits.number + 1, bits.last, target);
+        }
+        if self.place.reaches(target) || !self.place.is_whole(&self.list) {
+            self.place.seek(&self.list, target, ahead, &mut self.reads);
+            return None;
+        }
+        let before = self.place.values[self.place.len - 1];
+        self.find_bits(self.place.block + 1, before, target)
+    }
+
+    // Finds the first block from one on whose mark is at least the target. Returns its bits if it is a bit set, and else moves to it.
+    fn find_bits(&mut self, from: usize, before: u32, target: u32) -> Option<BlockBits<'a>>
+        requires can { CanSeek self.old }
+        requires from { (block_number self.old < from) × (from ≤ blocks_of self.old.list) }
+        requires before { slice_index (values_of_cursor self.old) (32 * P.lanes * from - 1) ≡ before }
+        requires below { before < target }
+        ensures moved { HasMoved self.old self.new }
+        ensures found { MatchOption result
+            (IsSoughtFrom (values_of_cursor self.old) target (position self.old) (position self.new))
+            (HasFound target self.old self.new) }
+    {
+        let kind = self.list.kind_after(from, before);
+        let part = self.list.find(from, kind, DOUBLES, target, &mut self.reads);
+        if let Some(block) = part {
+            if let Some(bits) = self.list.bits_of(block) {
+                return Some(bits);
+            }
+        }
+        self.place.land(&self.list, part, target, &mut self.reads);
+        None
     }
 }
 

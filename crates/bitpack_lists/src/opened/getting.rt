@@ -36,8 +36,7 @@ impl<'a, P: BitPacker> PackedList<'a, P> {
 
     /// As `value_in_block`, with room for the codes of the block.
     fn value_by_codes(&self, number: usize, index: usize, room: &mut [u32]) -> u32
-        requires at { (number < blocks_of self.now) × (index < P.BLOCK_LEN) }
-        requires room { P.BLOCK_LEN ≤ length room.old }
+        requires at { (number < blocks_of self.now) × (index < P.BLOCK_LEN) × (P.BLOCK_LEN ≤ length room.old) }
         ensures { result ≡ slice_index (block_of_list self.now number) index }
     {
         match self.version {
@@ -54,8 +53,7 @@ impl<'a, P: BitPacker> PackedList<'a, P> {
     /// As `value_by_codes`, in version 4. Of a bit set it unpacks nothing, and counts bits.
     fn value_by_body(&self, number: usize, index: usize, room: &mut [u32]) -> u32
         requires version { self.now.version ≡ Version.Four }
-        requires at { (number < blocks_of self.now) × (index < P.BLOCK_LEN) }
-        requires room { P.BLOCK_LEN ≤ length room.old }
+        requires at { (number < blocks_of self.now) × (index < P.BLOCK_LEN) × (P.BLOCK_LEN ≤ length room.old) }
         ensures { result ≡ slice_index (block_of_list self.now number) index }
     {
         let blocks = self.count / P::BLOCK_LEN;

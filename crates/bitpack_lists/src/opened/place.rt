@@ -4,30 +4,33 @@ ghost use Rattle.std.specs.Prelude.{◌≤◌, length};
 
 use super::in_slice::{count_below, first_ahead};
 use super::read_blocks::ReadBlocks;
+use super::{ListBlock, PackedList};
 use crate::blocks::reads::Reads;
-use bitpacking::MAX_BLOCK_LEN;
+use bitpacking::{BitPacker, MAX_BLOCK_LEN};
 
-/// A place in a list that only moves forward. It has the values of the current block, and so takes about 1 KB.
+/// A place in a list. It has the values of the current block, and so takes about 1 KB.
 ///
-/// The list is not a part of it. Each move takes the list, which has to be the one that it was started in. However it is moved, it unpacks
-/// each block at most once: one at its start, and then only the block that it moves to.
+/// The list is not a part of it. Each move takes the list, which has to be the one that it was started in. Only `move_to` can move it back.
+/// However it is moved forward, it unpacks each block at most once: one at its start, and then only the block that it moves to.
 #[repr(C)]
 #[derive(Drop)]
 pub struct Place {
     // The number of the current block, or of all whole blocks; the index in its values, and how many these are.
-    block: usize,
+    pub(super) block: usize,
     index: usize,
-    len: usize,
-    values: [u32; MAX_BLOCK_LEN],
+    pub(super) len: usize,
+    pub(super) values: [u32; MAX_BLOCK_LEN],
     pub ghost inside: { index ≤ len },
     pub ghost room: { len ≤ length values },
 }
 
 impl Place {
-    ghost use Rattle.std.specs.Prelude.{◌≡◌, ◌+◌, ◌-◌, ◌*◌, ◌^◌, ◌<◌, ℕ, List, true, false, drop, slice_get, slice_index};
-    ghost use Rattle.bitpack_lists.specs.Blocks.{ReadsOne};
+    ghost use Rattle.std.specs.Prelude.{◌≡◌, ◌+◌, ◌-◌, ◌*◌, ◌^◌, ◌<◌, ℕ, List, min, true, false, drop, slice_get, slice_index};
+    ghost use Rattle.bitpack_lists.specs.Blocks.{HasBlock, HasRead, ReadsOne};
     ghost use Rattle.bitpack_lists.specs.Moves.{IsAt, IsNext, MovesOn, current, position_of};
+    ghost use Rattle.bitpack_lists.specs.Opened.{CanSearch, values};
     ghost use Rattle.bitpack_lists.specs.Places.{IsSoughtFrom};
+    ghost use Rattle.bitpack_lists.specs.inner.Searching.{IsFirstFrom};
 
     /// At the end of an empty list: the place that is all zero.
     pub fn empty() -> Place
@@ -119,9 +122,58 @@ impl Place {
         }
     }
 
+    /// Moves to a position, forward or back, or to the end if the list has no such position. Unpacks at most one block, and none if the
+    /// position is in the current block.
+    pub fn move_to<L: ReadBlocks>(&mut self, list: &L, position: usize, reads: &mut Reads)
+        requires { IsAt (L.lanes list.now) (L.has list.now) (L.ordered list.now) self.old }
+        ensures at { IsAt (L.lanes list.now) (L.has list.now) (L.ordered list.now) self.new }
+        ensures moved { (all : List ℕ) → L.has list.now all
+            → position_of (L.lanes list.now) self.new ≡ min position (length all) }
+        ensures one { ReadsOne (L.lanes list.now) (L.has list.now) self.new.block reads.old.blocks reads.new.blocks }
+        ensures stays { self.new.block ≡ self.old.block → reads.new.blocks ≡ reads.old.blocks }
+    {
+        let len = list.block_len();
+        if len == 0 {
+            return;
+        }
+        let to = position.min(list.value_count());
+        self.hold(list, to / len, reads);
+        self.index = (to % len).min(self.len);
+    }
+
+    // Makes a block the current one, and moves to its first value. Unpacks it, unless it is the current one.
+    fn hold<L: ReadBlocks>(&mut self, list: &L, block: usize, reads: &mut Reads)
+        requires at { IsAt (L.lanes list.now) (L.has list.now) (L.ordered list.now) self.old }
+        requires block { HasBlock (L.lanes list.now) (L.has list.now) block }
+        ensures is { self.new.block ≡ block }
+        ensures read { HasRead (L.lanes list.now) (L.has list.now) (L.ordered list.now)
+            block self.new.len self.new.values }
+        ensures one { ReadsOne (L.lanes list.now) (L.has list.now) block reads.old.blocks reads.new.blocks }
+        ensures stays { block ≡ self.old.block → reads.new.blocks ≡ reads.old.blocks }
+    {
+        self.index = 0;
+        if block == self.block {
+            return;
+        }
+        let len = list.read_at(block, &mut self.values, reads);
+        self.block = block;
+        self.len = len;
+    }
+
+    // Whether a value of the current block from here on is at least the target, in a list in order.
+    #[inline(always)]
+    pub(super) fn reaches(&self, target: u32) -> bool
+        ensures yes { result ≡ true → (self.now.index < self.now.len)
+            × (target ≤ slice_index self.now.values (self.now.len - 1)) }
+        ensures no { result ≡ false → self.now.index < self.now.len
+            → slice_index self.now.values (self.now.len - 1) < target }
+    {
+        self.index < self.len && self.values[self.len - 1] >= target
+    }
+
     // Whether the current block is a whole one: what is left after all blocks is shorter.
     #[inline(always)]
-    fn is_whole<L: ReadBlocks>(&self, list: &L) -> bool
+    pub(super) fn is_whole<L: ReadBlocks>(&self, list: &L) -> bool
         ensures yes { result ≡ true → (self.now.len ≡ 32 * L.lanes list.now) × (0 < self.now.len) }
         ensures no { result ≡ false → self.now.len ≡ 32 * L.lanes list.now → self.now.len ≡ 0 }
     {
@@ -145,7 +197,7 @@ impl Place {
         ensures entries { (k : ℕ) → self.new.block + 1 ≤ self.old.block + 2 ^ k
             → reads.new.entries ≤ reads.old.entries + 2 * k }
     {
-        if self.index < self.len && self.values[self.len - 1] >= target {
+        if self.reaches(target) {
             self.index = first_ahead(&self.values[..self.len], self.index, ahead, target);
         } else {
             self.seek_in_later_blocks(list, target, reads);
@@ -174,5 +226,28 @@ impl Place {
         } else {
             self.index = self.len;
         }
+    }
+
+    // Moves to the first value that is at least the target, in a block that was found after the current one, or in what is left after all
+    // blocks if there is none. Unpacks it.
+    pub(super) fn land<P: BitPacker>(
+        &mut self,
+        list: &PackedList<'_, P>,
+        part: Option<ListBlock>,
+        target: u32,
+        reads: &mut Reads,
+    )
+        requires at { IsAt P.lanes (λ (all : List ℕ). all ≡ values list.now) (CanSearch list.now) self.old }
+        requires ordered { CanSearch list.now }
+        requires part { IsFirstFrom list.now target (self.old.block + 1) part }
+        ensures moved { MovesOn P.lanes (λ (all : List ℕ). all ≡ values list.now) (CanSearch list.now)
+            self.old self.new reads.old reads.new }
+        ensures sought { IsSoughtFrom (values list.now) target
+            (position_of P.lanes self.old) (position_of P.lanes self.new) }
+    {
+        let (block, len) = list.read_block_or_tail(part, &mut self.values, reads);
+        self.block = block;
+        self.index = count_below(&self.values[..len], target);
+        self.len = len;
     }
 }

@@ -8,7 +8,7 @@ use bitpacking::MAX_BLOCK_LEN;
 
 /// A list that is read block by block. What is left after all whole blocks is a shorter one, whose number is the count of whole blocks.
 ///
-/// A block is read by the value before it, which a caller has who read the blocks in turn.
+/// A block is read by its number, or faster by the value before it, which a caller has who read the blocks in turn.
 pub trait ReadBlocks {
     // The lanes of its packer, whether these are its values, and whether it is in order and can be searched.
     ghost lanes: { Self → ℕ };
@@ -21,7 +21,18 @@ pub trait ReadBlocks {
     fn block_len(&self) -> usize
         ensures { result ≡ 32 * lanes self.now };
 
-    /// Unpacks a block to the start of a slice, and returns how many values it has. Requires the last value before it.
+    /// How many values the list has.
+    fn value_count(&self) -> usize
+        ensures { (all : List ℕ) → has self.now all → result ≡ length all };
+
+    /// Unpacks a block to the start of a slice, and returns how many values it has.
+    fn read_at(&self, block: usize, out: &mut [u32], reads: &mut Reads) -> usize
+        requires block { HasBlock (lanes self.now) (has self.now) block }
+        requires room { length out.old ≡ MAX_BLOCK_LEN }
+        ensures read { HasRead (lanes self.now) (has self.now) (ordered self.now) block result out.new }
+        ensures one { ReadsOne (lanes self.now) (has self.now) block reads.old.blocks reads.new.blocks };
+
+    /// As `read_at`, but reads no entry of another block. Requires the last value before the block.
     fn read_next(&self, block: usize, before: u32, out: &mut [u32], reads: &mut Reads) -> usize
         requires block { HasBlock (lanes self.now) (has self.now) block }
         requires before { IsBefore (lanes self.now) (has self.now) block before }

@@ -10,6 +10,8 @@ use super::in_slice::count_below;
 use super::{KeptBlock, ListBlock, PackedList};
 use crate::blocks::reads::Reads;
 use crate::list_kind::next_kind;
+use crate::v4::bit_search::first_in_bits;
+use crate::v4::bodies::start_of;
 use crate::version::Version;
 use bitpacking::{BitPacker, Kind, MAX_BLOCK_LEN};
 
@@ -44,36 +46,69 @@ impl<'a, P: BitPacker> PackedList<'a, P> {
     ghost use Rattle.bitpack_lists.specs.declared.list_kind.ListKind.{ListKind};
     ghost use Rattle.bitpack_lists.specs.Opened.{kind_of, values};
     ghost use Rattle.bitpack_lists.specs.Search.{IsSearched, first_at_least, in_whole_block};
-    ghost use Rattle.bitpack_lists.specs.inner.Searching.{EndsBelow, IsFirstBlock, IsFirstFrom, IsInBlock, IsKept, IsListBlock, IsNear, KeepsBlock, KeepsOne, ReadsEntries, blocks_of, kind_of_list, number_or_all, value_of};
+    ghost use Rattle.bitpack_lists.specs.inner.Searching.{EndsBelow, IsFirstBlock, IsFirstFrom, IsInBlock, IsKept, IsListBlock, IsNear, KeepsBlock, KeepsOne, ReadsEntries, blocks_of, kind_of_list, UnpacksOne, number_or_all, value_of};
     ghost use Rattle.bitpack_lists.specs.inner.Seeking.{HalvesTo};
     ghost use Rattle.bitpack_lists.specs.Parts.{first_kind};
 
     /// The first value that is at least the target, with its position, or `None` if every value is below it.
     ///
-    /// The list has to be sorted or strictly sorted. Its entries are searched by halves. Unpacks at most one block, or the groups of the
-    /// tail up to the value.
+    /// The list has to be sorted or strictly sorted. Its entries are searched by halves. Unpacks at most one block, and none that is a
+    /// bit set, or the groups of the tail up to the value.
     pub fn seek(&self, target: u32, reads: &mut Reads) -> Option<(usize, u32)>
         requires { kind_of self.now ≢ ListKind.Plain }
         ensures found { result ≡ first_at_least (values self.now) target }
         // The entries that it reads are at most as many as the count of whole blocks has binary digits.
         ensures reads { IsSearched P.lanes (length (values self.now)) result reads.old reads.new }
     {
-        if P::BLOCK_LEN <= SHORT_BLOCK_LEN {
-            self.seek_in_room(target, &mut [0; SHORT_BLOCK_LEN], reads)
-        } else {
-            self.seek_in_room(target, &mut [0; MAX_BLOCK_LEN], reads)
+        match self.first_block(target, reads) {
+            Some(block) => self.seek_in_first_block(block, target, reads),
+            None => self.seek_in_tail(target),
         }
     }
 
-    /// As `seek`, with room for the values of a block.
-    fn seek_in_room(&self, target: u32, room: &mut [u32], reads: &mut Reads) -> Option<(usize, u32)>
-        requires can { (kind_of self.now ≢ ListKind.Plain) × (P.BLOCK_LEN ≤ length room.old) }
-        ensures { (result ≡ first_at_least (values self.now) target)
-            × IsSearched P.lanes (length (values self.now)) result reads.old reads.new }
+    /// As `seek`, if this is the first block whose mark is at least the target. A bit set is not unpacked.
+    fn seek_in_first_block(
+        &self,
+        block: ListBlock,
+        target: u32,
+        reads: &mut Reads,
+    ) -> Option<(usize, u32)>
+        requires ordered { self.now.kind ≢ ListKind.Plain }
+        requires block { IsFirstBlock self.now target block }
+        ensures found { result ≡ first_reaching (value_of self.now) self.now.count target }
+        ensures reads { UnpacksOne reads.old reads.new }
     {
-        let Some(block) = self.first_block(target, reads) else {
-            return self.seek_in_tail(target);
-        };
+        let len = P::BLOCK_LEN;
+        if let Some(bits) = self.bits_of(block) {
+            return first_in_bits(
+                bits.body,
+                start_of(block.kind),
+                len,
+                len * block.number,
+                target,
+            );
+        }
+        if len <= SHORT_BLOCK_LEN {
+            self.seek_in_room(block, target, &mut [0; SHORT_BLOCK_LEN], reads)
+        } else {
+            self.seek_in_room(block, target, &mut [0; MAX_BLOCK_LEN], reads)
+        }
+    }
+
+    /// As `seek_in_first_block`, with room for the values of the block.
+    fn seek_in_room(
+        &self,
+        block: ListBlock,
+        target: u32,
+        room: &mut [u32],
+        reads: &mut Reads,
+    ) -> Option<(usize, u32)>
+        requires ordered { self.now.kind ≢ ListKind.Plain }
+        requires block { IsFirstBlock self.now target block }
+        requires room { P.BLOCK_LEN ≤ length room.old }
+        ensures found { result ≡ first_reaching (value_of self.now) self.now.count target }
+        ensures reads { UnpacksOne reads.old reads.new }
+    {
         self.unpack_block(block, room, reads);
         let len = P::BLOCK_LEN;
         first_in_block(&room[..len], len * block.number, target)

@@ -13,14 +13,11 @@ use super::PackedList;
 use crate::list_error::ListError;
 use crate::v3::opening::{StatedText, stated, test_version3};
 use crate::v4::opening::{stated4, test_version4};
-use crate::version::Version;
+use crate::version::{FIRST_OF_3, Version};
 use bitpacking::BitPacker;
 
 /// The first byte of a text of version 4 is at least this, and below the next number. In versions 1 and 2 it is the number of the version.
 const FIRST_OF_4: u8 = 16;
-
-/// The first byte of a text of version 3 is at least this.
-const FIRST_OF_3: u8 = 64;
 
 impl<'a, P: BitPacker> PackedList<'a, P> {
     /// Opens a text of version 3, which is tested whole. Accepts any bytes, and allocates nothing.

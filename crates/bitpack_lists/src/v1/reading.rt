@@ -112,7 +112,12 @@ fn test_first_block<'a, P: BitPacker>(
 }
 
 /// Appends the values of blocks and tail that were tested. There is room for them.
-fn read_blocks<P: BitPacker>(packer: &P, header: Header, bytes: &[u8], out: &mut Vec<u32>)
+pub(crate) fn read_blocks<P: BitPacker>(
+    packer: &P,
+    header: Header,
+    bytes: &[u8],
+    out: &mut Vec<u32>,
+)
     requires sound { IsSound1 P.lanes header.count bytes.now }
     requires room { vec_len out.old + header.count ≤ vec_capacity out.old }
     ensures { (values : List ℕ) → AreWords values

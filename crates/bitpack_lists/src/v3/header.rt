@@ -5,6 +5,7 @@ ghost use Rattle.bitpack_lists.specs.declared.list_kind.ListKind.{ListKind};
 ghost use Rattle.bitpack_lists.specs.Numbers.{count_fault, number_end, number_value};
 ghost use Rattle.bitpack_lists.specs.Parts.{FindsFault};
 ghost use Rattle.bitpack_lists.specs.Version3.{count3, header3, header_end, header_fault3, kind3};
+ghost use Rattle.bitpack_lists.specs.inner.ShortHeaders.{IsWithin};
 
 use crate::header::LONGEST_LIST;
 use crate::list_error::ListError;
@@ -31,8 +32,7 @@ impl ShortHeader {
         ensures kind { IfOk result (λ header. header.kind ≡ kind3 bytes.now) }
         ensures count { IfOk result (λ header. header.count ≡ count3 bytes.now) }
         ensures end { IfOk result (λ header. header.end ≡ header_end bytes.now) }
-        ensures few { IfOk result (λ header. header.count ≤ 2 ^ 28) }
-        ensures within { IfOk result (λ header. header.end ≤ length bytes.now) }
+        ensures within { IfOk result (IsWithin bytes.now) }
     {
         if bytes.len() < 1 {
             return Err(ListError::Short);
@@ -71,8 +71,7 @@ impl ShortHeader {
         ensures kind { result.kind ≡ kind3 bytes.now }
         ensures count { result.count ≡ count3 bytes.now }
         ensures end { result.end ≡ header_end bytes.now }
-        ensures few { result.count ≤ 2 ^ 28 }
-        ensures within { result.end ≤ length bytes.now }
+        ensures within { IsWithin bytes.now result }
     {
         let first = bytes[0];
         let kind = ListKind::of_byte(first / 16 % 4);

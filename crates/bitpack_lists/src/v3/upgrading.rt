@@ -119,7 +119,7 @@ fn test_text<P: BitPacker>(packer: &P, bytes: &[u8]) -> Result<OldText, ListErro
 }
 
 /// Whether the bytes begin as a text of version 2.
-fn is_two(bytes: &[u8]) -> bool
+pub(crate) fn is_two(bytes: &[u8]) -> bool
     ensures { result ≡ (slice_index bytes.now 0 == 2) }
 {
     bytes.len() > 0 && bytes[0] == FIRST_OF_2

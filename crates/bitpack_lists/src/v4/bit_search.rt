@@ -4,10 +4,10 @@ ghost use Rattle.std.specs.Prelude.{◌≡◌, ℕ, ◌+◌, ◌*◌, ◌%◌, �
 ghost use Rattle.bitpacking.specs.Bits.{bit_of};
 ghost use Rattle.bitpack_lists.specs.BitSets.{bit_values, ones};
 ghost use Rattle.bitpack_lists.specs.Places.{IsSoughtFrom};
-ghost use Rattle.bitpack_lists.specs.inner.BitWords.{IsOfWords, IsOrdered, ones_to};
+ghost use Rattle.bitpack_lists.specs.inner.BitWords.{HasOne, IsOfWords, IsOneFrom, IsOrdered, ones_to};
 ghost use Rattle.bitpack_lists.specs.inner.Seeking.{IsFirstIn};
 
-use super::bit_words::{bits_from, count_before};
+use super::bit_words::{bits_at, bits_from, count_before};
 
 /// The first of the `len` values of a bit set that is at least the target, with its position, if the values are those from a position on.
 /// They are in order, and the first is after the start.
@@ -31,6 +31,25 @@ pub(crate) fn first_in_bits(
     }
 }
 
+/// The first bit from one on that is 1, if there is one.
+#[inline(always)]
+pub(crate) fn first_one_from(body: &[u8], bit: usize) -> usize
+    requires body { IsOfWords body.now }
+    requires there { IsOneFrom body.now bit }
+    ensures from { bit ≤ result }
+    ensures within { result < 8 * length body.now }
+    ensures one { bit_of body.now result ≡ 1 }
+    ensures none { (i : ℕ) → bit ≤ i → i < result → bit_of body.now i ≡ 0 }
+{
+    let mut at = bit;
+    let mut word = bits_at(body, at);
+    while word == 0 {
+        at += 64;
+        word = bits_at(body, at);
+    }
+    at + word.trailing_zeros() as usize
+}
+
 /// How many values of a bit set are below the target: as many as bits before its own are 1.
 pub(crate) fn count_below_in_bits(body: &[u8], start: u32, target: u32) -> usize
     requires ordered { IsOrdered start body.now }
@@ -42,8 +61,7 @@ pub(crate) fn count_below_in_bits(body: &[u8], start: u32, target: u32) -> usize
 
 /// The value at an index of a bit set. It counts bits word by word.
 pub(crate) fn value_of_bit(body: &[u8], start: u32, index: usize) -> u32
-    requires body { IsOfWords body.now }
-    requires within { index < length (ones body.now) }
+    requires { HasOne body.now index }
     ensures { result ≡ slice_index (bit_values start body.now) index }
 {
     let (at, below) = word_of_one(body, index);
@@ -54,8 +72,7 @@ pub(crate) fn value_of_bit(body: &[u8], start: u32, index: usize) -> u32
 
 /// The first byte of the word that has the bit that is 1 at an index, and how many such bits the word has before it.
 fn word_of_one(body: &[u8], index: usize) -> (usize, usize)
-    requires body { IsOfWords body.now }
-    requires within { index < length (ones body.now) }
+    requires { HasOne body.now index }
     ensures word { result.0 % 4 ≡ 0 }
     ensures within { result.0 + 4 ≤ length body.now }
     ensures before { length (ones_to body.now (8 * result.0)) + result.1 ≡ index }

@@ -1,13 +1,12 @@
 //! The body of a bit set: its size, its values, and from its values.
 
 ghost use Rattle.std.specs.Prelude.{◌≡◌, ℕ, ◌+◌, ◌-◌, ◌*◌, ◌%◌, ◌<◌, ◌≤◌, length, slice_index, take};
-ghost use Rattle.std.specs.Bool.{OnTrue};
 ghost use Rattle.std.specs.List.Sorted.{IsStrictlyIncreasing};
 ghost use Rattle.bitpack_lists.specs.BitSets;
-ghost use Rattle.bitpack_lists.specs.BitSets.{HasBits, are_right, bit_values, number_of_bit, ones, span};
-ghost use Rattle.bitpack_lists.specs.inner.BitWords.{HasOnes, IsOfWords};
+ghost use Rattle.bitpack_lists.specs.BitSets.{HasBits, bit_values, number_of_bit, ones, span};
+ghost use Rattle.bitpack_lists.specs.inner.BitWords.{HasOnes};
 
-use super::bit_words::{count_bits, put_word};
+use super::bit_words::put_word;
 use super::byte_bits::{eight_lanes, put_byte};
 use bitpacking::MAX_BLOCK_LEN;
 use std::simd::prelude::*;
@@ -98,31 +97,6 @@ fn unpack_through(body: &[u8], start: u32, room: &mut [u32], values: &mut [u32])
 {
     unpack_bits_ahead(body, start, room);
     values.copy_from_slice(&room[..values.len()]);
-}
-
-/// Unpacks a body to the front of a slice if it is a bit set of `len` values, and the last of them is its mark. If not, it returns false.
-#[inline(always)]
-pub(crate) fn unpack_if_right(
-    body: &[u8],
-    start: u32,
-    mark: u32,
-    len: usize,
-    values: &mut [u32],
-) -> bool
-    ghost lanes: { ℕ }
-    requires lanes { 0 < lanes }
-    requires len { len ≡ 32 * lanes }
-    requires few { len ≤ MAX_BLOCK_LEN }
-    requires body { IsOfWords body.now }
-    requires room { len ≤ length values.old }
-    ensures right { result ≡ are_right lanes start mark body.now }
-    ensures values { OnTrue result (take len values.new ≡ bit_values start body.now) }
-{
-    if count_bits(body) != len {
-        return false;
-    }
-    unpack_bits_in_front(body, start, len, values);
-    values[len - 1] == mark
 }
 
 /// Writes the values of a bit set, and others after them up to `AHEAD` places. No branch depends on a bit. It takes four bytes at a time.

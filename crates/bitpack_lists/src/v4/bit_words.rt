@@ -1,6 +1,6 @@
 //! The bits of a bit set by words of 64, and how many of them are 1.
 
-ghost use Rattle.std.specs.Prelude.{◌≡◌, ℕ, ◌+◌, ◌*◌, ◌%◌, ◌<◌, ◌≤◌, length};
+ghost use Rattle.std.specs.Prelude.{◌≡◌, ℕ, ◌+◌, ◌*◌, ◌%◌, ◌^◌, ◌<◌, ◌≤◌, length};
 ghost use Rattle.std.specs.Int.{bit_at};
 ghost use Rattle.bitpacking.specs.Bits.{bit_of};
 ghost use Rattle.bitpack_lists.specs.BitSets.{ones};
@@ -68,6 +68,35 @@ fn word_from(body: &[u8], index: usize) -> u32
         body[index + 2],
         body[index + 3],
     ])
+}
+
+/// The 64 bits from a bit on. After the end of the body they are 0.
+#[inline(always)]
+pub(crate) fn bits_at(body: &[u8], bit: usize) -> u64
+    requires body { IsOfWords body.now }
+    requires within { bit < 8 * length body.now }
+    ensures bits { (j : ℕ) → j < 64 → bit_at result j ≡ bit_of body.now (bit + j) }
+{
+    let index = bit / 32 * 4;
+    let shift = bit % 32;
+    let low = bits_from(body, index) >> shift;
+    low | later_bits(body, index + 8) << 32 << (32 - shift)
+}
+
+/// The 32 bits from a byte on, or 0 from the end of the body on.
+#[inline(always)]
+fn later_bits(body: &[u8], index: usize) -> u64
+    requires whole { length body.now % 4 ≡ 0 }
+    requires word { index % 4 ≡ 0 }
+    requires few { index ≤ 2048 }
+    ensures small { result < 2 ^ 32 }
+    ensures bits { (j : ℕ) → j < 32 → bit_at result j ≡ bit_of body.now (8 * index + j) }
+{
+    if index < body.len() {
+        word_from(body, index) as u64
+    } else {
+        0
+    }
 }
 
 /// Writes 32 bits from a byte on.

@@ -1,22 +1,24 @@
 //! Tests of the bodies of the blocks of version 4, and of the order of their values. The bytes are untrusted.
 
-ghost use Rattle.std.specs.Prelude.{◌≡◌, true, false, ℕ, ◌+◌, ◌-◌, ◌*◌, ◌^◌, ◌<◌, ◌≤◌, ◌==◌, IfOk, None, length, nat_lt, slice_index};
+ghost use Rattle.std.specs.Prelude.{◌≡◌, true, ℕ, ◌+◌, ◌-◌, ◌*◌, ◌^◌, ◌<◌, ◌≤◌, ◌==◌, Decides, IfOk, None, length, nat_lt, slice_index};
 ghost use Rattle.bitpacking.specs.declared.kind.Kind.{Kind};
 ghost use Rattle.bitpacking.specs.Codes.{start};
 ghost use Rattle.bitpacking.specs.Layout.{size};
 ghost use Rattle.bitpack_lists.specs.Chains.{next_kind};
 ghost use Rattle.bitpack_lists.specs.Parts.{FindsFault};
 ghost use Rattle.bitpack_lists.specs.Version2.{is_out, least_below};
-ghost use Rattle.bitpack_lists.specs.Version4.{body_fault4, body_values, if_strict, is_mark, values_of4};
+ghost use Rattle.bitpack_lists.specs.Version4.{body_fault4, body_values, if_strict};
 ghost use Rattle.bitpack_lists.specs.inner.Opening.{GoesOn, IsOrdered};
 ghost use Rattle.bitpack_lists.specs.inner.Opening4.{BodyIsOf, FindsOut, IsAfter, IsPacked4};
 
-use super::bit_set::{bits_size, unpack_if_right};
+use super::bit_set::{bits_size, unpack_bits_in_front};
+use super::bit_tests::{are_right, has_wide_gap};
 use super::bodies::{start_of, unpack_packed};
+use super::measuring::bounds;
 use super::reading::Block4;
 use crate::blocks::order::{ends_in_order, first_out, is_above};
 use crate::blocks::reads::Entry;
-use crate::blocks::testing::{add_codes, fits_less, test_block};
+use crate::blocks::testing::{fits_less, test_block};
 use crate::list_error::ListError;
 use crate::list_kind::ListKind;
 use bitpacking::{BitPacker, Kind};
@@ -69,7 +71,7 @@ pub(super) fn test_body4<P: BitPacker>(
                 return Err(ListError::LooseWidth(place.block, entry.size));
             }
             let out = if bits == entry.size as usize {
-                test_bits(packer, list, kind, place, entry, body, room)?
+                test_bits::<P>(list, kind, place, entry, body, room)?
             } else {
                 test_packed(packer, list, kind, place, entry, body, &mut room[..len])?
             };
@@ -94,28 +96,23 @@ fn test_plain<P: BitPacker>(
         ≡ slice_index (body_values P.lanes Kind.Plain entry.mark entry.size body.now) (32 * P.lanes - 1)) }
 {
     unpack_packed(packer, Kind::Plain, body, entry.size, room);
-    if fits_less(entry.size, add_codes(room).bits) {
+    let (least, greatest) = bounds(room);
+    if fits_less(entry.size, greatest) {
         return Err(ListError::LooseWidth(block, entry.size));
     }
-    if !is_least(entry.mark, room) {
+    if !is_least(entry.mark, least, greatest) {
         return Err(ListError::BadLast(block));
     }
     Ok(entry.mark.wrapping_add(room[room.len() - 1]))
 }
 
-/// Whether the mark is the least value of the plain block that has these codes: one of them is 0, and no value is above `u32::MAX`. No
-/// branch depends on a code, so that the compiler tests several at once.
+/// Whether the mark is the least value of the plain block whose codes have these bounds: one of them is 0, and no value is above
+/// `u32::MAX`.
 #[inline(always)]
-fn is_least(mark: u32, codes: &[u32]) -> bool
-    ensures { result ≡ is_mark Kind.Plain (values_of4 Kind.Plain mark codes.now) mark }
+fn is_least(mark: u32, least: u32, greatest: u32) -> bool
+    ensures { Decides result ((least ≡ 0) × (greatest + mark < 2 ^ 32)) }
 {
-    let mut has = false;
-    let mut wraps = false;
-    for index in 0..codes.len() {
-        has |= codes[index] == 0;
-        wraps |= codes[index] > u32::MAX - mark;
-    }
-    has && !wraps
+    least == 0 && greatest <= u32::MAX - mark
 }
 
 /// Tests the body of a sorted block, or of a strict block that is packed. Returns the first position out of order.
@@ -154,9 +151,8 @@ fn test_packed<P: BitPacker>(
     Ok(first_out(list, place.position, place.before, room))
 }
 
-/// Tests a bit set. Returns the first position out of order.
+/// Tests a bit set. Returns the first position out of order. It is unpacked only if its mark does not show that there is none.
 fn test_bits<P: BitPacker>(
-    packer: &P,
     list: ListKind,
     kind: Kind,
     place: BlockPlace,
@@ -176,17 +172,18 @@ fn test_bits<P: BitPacker>(
         (body_values P.lanes kind entry.mark entry.size body.now) out) }
 {
     let len = P::BLOCK_LEN;
-    if !unpack_if_right(body, start_of(kind), entry.mark, len, room) {
+    let start = start_of(kind);
+    if !are_right(body, start, entry.mark, len) {
         return Err(ListError::BadBits(place.block));
     }
-    let values = &room[..len];
-    if packer.num_bits_kind(kind, values) < entry.size {
+    if !has_wide_gap(body, entry.size) {
         return Err(ListError::LooseWidth(place.block, entry.size));
     }
     if is_ahead(kind, entry.mark) {
         return Ok(None);
     }
-    Ok(first_out(list, place.position, place.before, values))
+    unpack_bits_in_front(body, start, len, room);
+    Ok(first_out(list, place.position, place.before, &room[..len]))
 }
 
 /// Whether the mark of a strict block is above the value before the block, if there is one.

@@ -8,7 +8,7 @@ use std::simd::prelude::*;
 /// Writes the numbers of the bits of a byte that are 1, the lowest first, and then others: eight numbers in all. Each lane of `base` is the
 /// number of bit 0. Returns the index after the numbers of the bits.
 #[inline(always)]
-pub(super) fn put_byte(byte: u8, base: u32x8, values: &mut [u32], next: usize) -> usize
+pub(crate) fn put_byte(byte: u8, base: u32x8, values: &mut [u32], next: usize) -> usize
     requires base { base ≡ replicate 8 (slice_index base 0) }
     requires room { next + 8 ≤ length values.old }
     ensures end { result ≡ next + length (ones_in byte) }

@@ -1,10 +1,11 @@
 //! What is read of a packed list of version 4: each mark and each block counts in `Reads`.
 
-ghost use Rattle.std.specs.Prelude.{◌≡◌, true, ◌+◌, ◌^◌, ◌<◌, ◌≤◌, ◌==◌, length, take};
+ghost use Rattle.std.specs.Prelude.{◌≡◌, true, ◌<◌, ◌==◌, take};
 ghost use Rattle.bitpacking.specs.Codes.{start};
 ghost use Rattle.bitpack_lists.specs.BitSets.{are_right};
 ghost use Rattle.bitpack_lists.specs.Columns.{ReadsFew};
 ghost use Rattle.bitpack_lists.specs.Version4.{body_at4, body_values, if_strict, size_at};
+ghost use Rattle.bitpack_lists.specs.inner.CountedReads.{CanUnpack, ReadsEntry, UnpacksBlock};
 ghost use Rattle.bitpack_lists.specs.inner.Reading4.{HasBodies4, HasMarks, Rises};
 
 use super::bodies::unpack_block4;
@@ -18,8 +19,7 @@ impl Reads {
     pub(crate) fn read_mark4(&mut self, blocks: usize, rest: &[u8], block: usize) -> u32
         requires { HasMarks blocks rest.now × (block < blocks) }
         ensures mark { result ≡ Rattle.bitpack_lists.specs.Version4.mark_at blocks rest.now block }
-        ensures entries { self.new.entries ≡ self.old.entries + 1 }
-        ensures blocks { self.new.blocks ≡ self.old.blocks }
+        ensures reads { ReadsEntry self.old self.new }
     {
         self.record(1, 0);
         mark_at(blocks, rest, block)
@@ -47,17 +47,15 @@ impl Reads {
         values: &mut [u32],
     )
         requires bodies { HasBodies4 P.lanes blocks rest.now × (block < blocks) }
-        requires start { start kind < 2 ^ 32 }
         requires right { if_strict P.lanes kind (Rattle.bitpack_lists.specs.Version4.mark_at blocks rest.now block)
             (λ bits. size_at rest.now block == bits) ≡ true
             → are_right P.lanes (start kind) (Rattle.bitpack_lists.specs.Version4.mark_at blocks rest.now block)
             (body_at4 P.lanes blocks rest.now block) ≡ true }
-        requires room { P.BLOCK_LEN ≤ length values.old }
+        requires room { CanUnpack P.BLOCK_LEN kind values.old }
         ensures block { take P.BLOCK_LEN values.new
             ≡ body_values P.lanes kind (Rattle.bitpack_lists.specs.Version4.mark_at blocks rest.now block)
             (size_at rest.now block) (body_at4 P.lanes blocks rest.now block) }
-        ensures entries { self.new.entries ≡ self.old.entries }
-        ensures blocks { self.new.blocks ≡ self.old.blocks + 1 }
+        ensures reads { UnpacksBlock self.old self.new }
     {
         self.record(0, 1);
         let entry = read_block4(blocks, rest, block);

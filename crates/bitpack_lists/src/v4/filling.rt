@@ -4,88 +4,89 @@ ghost use Rattle.std.specs.Prelude.{◌≡◌, ◌+◌, ◌*◌, ◌≤◌, ◌+
 ghost use Rattle.bitpacking.specs.Layout.{size};
 ghost use Rattle.bitpack_lists.specs.Numbers;
 ghost use Rattle.bitpack_lists.specs.Parts.{whole_blocks};
-ghost use Rattle.bitpack_lists.specs.inner.Sizes4.{AreReady4, AreSizes, AreWritten, BeginsRest4, blocks_size};
+ghost use Rattle.bitpack_lists.specs.inner.Planned.{AreReady4};
+ghost use Rattle.bitpack_lists.specs.inner.Sizes4.{AreSizes, AreWritten, BeginsRest4, blocks_size};
+ghost use Rattle.bitpack_lists.specs.inner.Sources.{all_of};
 
 use super::body_writing::write_body;
+use super::copying::copy_blocks;
 use super::measuring::{Measured, mark_of_block, size_of_block};
 use super::short_writing::{byte_count, write_short};
-use crate::list_kind::{ListKind, next_kind};
+use super::source::Source;
+use crate::list_kind::next_kind;
 use bitpacking::{BitPacker, MAX_BLOCK_LEN};
 
-/// Fills the slice with the byte of the sizes, the ends, the marks and the bodies of the whole blocks of the values, which were measured.
+/// Fills the slice with the byte of the sizes, the ends, the marks and the bodies of the whole blocks of the values, which were measured. The
+/// bodies of blocks that stay are copied.
 pub(crate) fn fill_blocks<P: BitPacker>(
     packer: &P,
-    kind: ListKind,
-    values: &[u32],
+    source: &Source,
     measured: Measured,
     widths: &[u8],
     rest: &mut [u8],
 )
-    requires ready { AreReady4 P.lanes kind values.now widths.now measured.total measured.greatest }
-    requires room { length rest.old
-        ≡ blocks_size P.lanes (whole_blocks P.lanes (length values.now)) measured.total measured.greatest }
-    ensures { (tail : List ℕ) → BeginsRest4 P.lanes kind values.now (rest.new ++ tail) (length rest.new) }
+    requires ready { AreReady4 P.lanes source.now widths.now measured.total measured.greatest }
+    requires room { length rest.old ≡ blocks_size P.lanes (whole_blocks P.lanes (length (all_of P.lanes source.now)))
+        measured.total measured.greatest }
+    ensures { (tail : List ℕ)
+        → BeginsRest4 P.lanes source.now.kind (all_of P.lanes source.now) (rest.new ++ tail) (length rest.new) }
 {
-    let blocks = values.len() / P::BLOCK_LEN;
+    let blocks = source.len::<P>() / P::BLOCK_LEN;
     let end_len = byte_count(measured.total as u32);
     let mark_len = byte_count(measured.greatest);
     let (front, parts) = rest.split_at_mut(1);
     front[0] = (end_len + 16 * mark_len) as u8;
     let (ends, others) = parts.split_at_mut(end_len * blocks);
     let (marks, bodies) = others.split_at_mut(mark_len * blocks);
-    fill_parts(packer, kind, values, measured, widths, ends, marks, bodies);
+    copy_blocks::<P>(source, measured, ends, marks, bodies);
+    fill_parts(packer, source, measured, widths, ends, marks, bodies);
 }
 
-/// Fills the slices with the ends, the marks and the bodies.
+/// Fills the slices with the ends, the marks and the bodies of the blocks after those that stay, which were copied.
 fn fill_parts<P: BitPacker>(
     packer: &P,
-    kind: ListKind,
-    values: &[u32],
+    source: &Source,
     measured: Measured,
     widths: &[u8],
     ends: &mut [u8],
     marks: &mut [u8],
     bodies: &mut [u8],
 )
-    requires ready { AreReady4 P.lanes kind values.now widths.now measured.total measured.greatest }
+    requires ready { AreReady4 P.lanes source.now widths.now measured.total measured.greatest }
     requires ends { length ends.old
-        ≡ Numbers.byte_count measured.total * whole_blocks P.lanes (length values.now) }
+        ≡ Numbers.byte_count measured.total * whole_blocks P.lanes (length (all_of P.lanes source.now)) }
     requires marks { length marks.old
-        ≡ Numbers.byte_count measured.greatest * whole_blocks P.lanes (length values.now) }
+        ≡ Numbers.byte_count measured.greatest * whole_blocks P.lanes (length (all_of P.lanes source.now)) }
     requires bodies { length bodies.old ≡ size P.lanes measured.total }
-    ensures { (size_of : ℕ → ℕ) → AreSizes P.lanes kind values.now size_of
-        → AreWritten P.lanes kind values.now size_of
+    requires copied { (size_of : ℕ → ℕ) → AreSizes P.lanes source.now.kind (all_of P.lanes source.now) size_of
+        → AreWritten P.lanes source.now.kind (all_of P.lanes source.now) size_of
         (Numbers.byte_count measured.total) (Numbers.byte_count measured.greatest)
-        ends.new marks.new bodies.new (whole_blocks P.lanes (length values.now)) }
+        ends.old marks.old bodies.old source.now.blocks }
+    ensures { (size_of : ℕ → ℕ) → AreSizes P.lanes source.now.kind (all_of P.lanes source.now) size_of
+        → AreWritten P.lanes source.now.kind (all_of P.lanes source.now) size_of
+        (Numbers.byte_count measured.total) (Numbers.byte_count measured.greatest)
+        ends.new marks.new bodies.new (whole_blocks P.lanes (length (all_of P.lanes source.now))) }
 {
     let len = P::BLOCK_LEN;
+    let blocks = source.len::<P>() / len;
     let end_len = byte_count(measured.total as u32);
     let mark_len = byte_count(measured.greatest);
     let codes = &mut [0; MAX_BLOCK_LEN];
-    let mut block_kind = kind.first();
-    let mut left = values;
-    let mut end: u32 = 0;
-    let mut at = 0;
-    for index in 0..values.len() / len {
-        let (block, after) = left.split_at(len);
-        let mark = mark_of_block(block_kind, block);
-        let size = size_of_block(packer, block_kind, mark, block, widths, index);
+    let begun = source.begun::<P>();
+    let mut kind = source.kind_to_pack::<P>();
+    let mut end: u32 = begun.total as u32;
+    let mut at = len / 8 * begun.total;
+    for index in source.blocks..blocks {
+        let block = source.block::<P>(index);
+        let mark = mark_of_block(kind, block);
+        let size = size_of_block(packer, kind, mark, block, widths, index - source.blocks);
         end += size as u32;
         write_short(end, &mut ends[end_len * index..end_len * index + end_len]);
         write_short(
             mark,
             &mut marks[mark_len * index..mark_len * index + mark_len],
         );
-        at += write_body(
-            packer,
-            block_kind,
-            mark,
-            block,
-            size,
-            codes,
-            &mut bodies[at..],
-        );
-        block_kind = next_kind(block_kind, mark);
-        left = after;
+        at += write_body(packer, kind, mark, block, size, codes, &mut bodies[at..]);
+        kind = next_kind(kind, mark);
     }
 }

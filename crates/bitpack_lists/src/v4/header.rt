@@ -3,6 +3,7 @@
 ghost use Rattle.std.specs.Prelude.{◌≡◌, ℕ, ◌*◌, ◌^◌, ◌≤◌, IfOk, None, length};
 ghost use Rattle.bitpack_lists.specs.Parts.{FindsFault};
 ghost use Rattle.bitpack_lists.specs.Version4.{count4, header_end4, header_fault4, kind4};
+ghost use Rattle.bitpack_lists.specs.inner.ShortHeaders.{IsWithin};
 
 use crate::list_error::ListError;
 use crate::list_kind::ListKind;
@@ -18,8 +19,7 @@ pub(crate) fn test_header4(lanes: usize, bytes: &[u8]) -> Result<ShortHeader, Li
     ensures count { IfOk result (λ header. header.count ≡ count4 bytes.now) }
     ensures end { IfOk result (λ header. header.end ≡ header_end4 bytes.now) }
     ensures many { IfOk result (λ header. 32 * lanes ≤ header.count) }
-    ensures few { IfOk result (λ header. header.count ≤ 2 ^ 28) }
-    ensures within { IfOk result (λ header. header.end ≤ length bytes.now) }
+    ensures within { IfOk result (IsWithin bytes.now) }
 {
     if bytes.len() < 1 {
         return Err(ListError::Short);
@@ -50,8 +50,7 @@ pub(crate) fn header4_of(bytes: &[u8]) -> ShortHeader
     ensures kind { result.kind ≡ kind4 bytes.now }
     ensures count { result.count ≡ count4 bytes.now }
     ensures end { result.end ≡ header_end4 bytes.now }
-    ensures few { result.count ≤ 2 ^ 28 }
-    ensures within { result.end ≤ length bytes.now }
+    ensures within { IsWithin bytes.now result }
 {
     let kind = ListKind::of_byte(bytes[0] % 4);
     let (count, size) = unpack_number(&bytes[1..]);

@@ -1,16 +1,18 @@
 //! The sizes of blocks before they are written. The least widths of the first blocks are kept from here to the writing.
 
-ghost use Rattle.std.specs.Prelude.{◌≡◌, ◌^◌, ◌<◌, ◌≤◌, true, false, nat_le, length, slice_index};
+ghost use Rattle.std.specs.Prelude.{◌≡◌, ◌<◌, ◌≤◌, true, false, nat_le, length, slice_index};
 ghost use Rattle.bitpacking.specs.Codes.{start};
 ghost use Rattle.bitpacking.specs.Width.{Least};
 ghost use Rattle.bitpack_lists.specs.BitSets;
 ghost use Rattle.bitpack_lists.specs.Numbers.{greatest};
 ghost use Rattle.bitpack_lists.specs.Parts.{whole_blocks};
 ghost use Rattle.bitpack_lists.specs.Version4.{codes4, if_strict};
-ghost use Rattle.bitpack_lists.specs.inner.Sizes4.{AreKept, IsMeasured, IsSize4, least, mark_in};
+ghost use Rattle.bitpack_lists.specs.inner.Sizes4.{AreKept, IsMeasured, IsSize4, kind_of, least, mark_in};
+ghost use Rattle.bitpack_lists.specs.inner.Sources.{IsListSource, all_of};
 
 use super::bit_set::bits_size;
-use crate::list_kind::{ListKind, next_kind};
+use super::source::Source;
+use crate::list_kind::next_kind;
 use crate::v3::group::most_significant_bit;
 use bitpacking::{BitPacker, Kind};
 
@@ -21,34 +23,37 @@ pub(crate) struct Measured {
     pub(crate) greatest: u32,
 }
 
-/// Measures the whole blocks of the values. The least widths of the first blocks are kept.
+/// Measures the whole blocks of the values, and returns the kind of what follows them. The least widths of the first blocks after those that
+/// stay are kept.
 pub(crate) fn measure_blocks<P: BitPacker>(
     packer: &P,
-    kind: ListKind,
-    values: &[u32],
+    source: &Source,
     widths: &mut [u8],
-) -> Measured
-    requires few { length values.now ≤ 2 ^ 28 }
-    ensures measured { IsMeasured P.lanes kind values.now result.total result.greatest }
-    ensures kept { AreKept P.lanes kind values.now widths.new }
+) -> (Measured, Kind)
+    requires source { IsListSource P.lanes source.now }
+    ensures measured { IsMeasured P.lanes source.now.kind (all_of P.lanes source.now) result.0.total result.0.greatest }
+    ensures kept { AreKept P.lanes source.now.kind (all_of P.lanes source.now) source.now.blocks widths.new }
+    ensures kind { result.1 ≡ kind_of P.lanes source.now.kind (all_of P.lanes source.now)
+        (whole_blocks P.lanes (length (all_of P.lanes source.now))) }
 {
     let len = P::BLOCK_LEN;
-    let mut kind = kind.first();
-    let mut left = values;
-    let mut total = 0;
-    let mut greatest = 0;
-    for index in 0..values.len() / len {
-        let (block, after) = left.split_at(len);
+    let blocks = source.len::<P>() / len;
+    let begun = source.begun::<P>();
+    let mut kind = source.kind_to_pack::<P>();
+    let mut total = begun.total;
+    let mut greatest = begun.greatest;
+    for index in source.blocks..blocks {
+        let block = source.block::<P>(index);
         let (mark, width) = measure_block(packer, kind, block);
-        if index < widths.len() {
-            widths[index] = width;
+        let kept = index - source.blocks;
+        if kept < widths.len() {
+            widths[kept] = width;
         }
         total += shorter_size(len / 32, kind, mark, width) as usize;
         greatest = greatest.max(mark);
         kind = next_kind(kind, mark);
-        left = after;
     }
-    Measured { total, greatest }
+    (Measured { total, greatest }, kind)
 }
 
 /// The size of the body of the block with this index: by the width that was kept, or else measured again.
@@ -103,9 +108,9 @@ pub(crate) fn mark_of_block(kind: Kind, block: &[u32]) -> u32
     }
 }
 
-/// The least and the greatest value of a block. No branch depends on a value.
+/// The least and the greatest value of a block, or code. No branch depends on a value.
 #[inline(always)]
-fn bounds(block: &[u32]) -> (u32, u32)
+pub(super) fn bounds(block: &[u32]) -> (u32, u32)
     ensures least { result.0 ≡ least (slice_index block.now) (length block.now) }
     ensures greatest { result.1 ≡ greatest (slice_index block.now) (length block.now) }
 {
@@ -121,8 +126,7 @@ fn bounds(block: &[u32]) -> (u32, u32)
 /// The size of a block by the least width of its codes. A strict block has its bit set if this is not longer.
 #[inline(always)]
 fn shorter_size(lanes: usize, kind: Kind, mark: u32, width: u8) -> u8
-    requires some { 0 < lanes }
-    requires few { lanes ≤ 8 }
+    requires lanes { (0 < lanes) × (lanes ≤ 8) }
     ensures bits { if_strict lanes kind mark (λ bits. nat_le bits width) ≡ true
         → result ≡ BitSets.bits_size lanes (start kind) mark }
     ensures packed { if_strict lanes kind mark (λ bits. nat_le bits width) ≡ false → result ≡ width }

@@ -58,7 +58,7 @@ pub(super) fn test_short(rest: &[u8], blocks: usize, end: u32) -> Result<(), Lis
 }
 
 /// The greatest mark.
-fn greatest_mark(rest: &[u8], blocks: usize) -> u32
+pub(super) fn greatest_mark(rest: &[u8], blocks: usize) -> u32
     requires { HasMarks blocks rest.now }
     ensures { result ≡ greatest (Rattle.bitpack_lists.specs.Version4.mark_at blocks rest.now) blocks }
 {

@@ -1,7 +1,8 @@
 -- Values of a slice that are combined with others in their place.
-use Rattle.std.specs.Prelude.{◌≡◌, ◌≢◌, ℕ, ◌<◌, ◌≤◌, true, false, List, None, drop, length, slice_index}
+use Rattle.std.specs.Prelude.{◌≡◌, ◌≢◌, ℕ, ◌<◌, ◌≤◌, Bool, true, false, List, None, drop, length, slice_index}
 use Rattle.std.specs.List.Sorted.{IsStrictlyIncreasing}
 use Rattle.bitpack_sorted.specs.Increasing.{at_least, first, has}
+use Rattle.bitpack_sorted.specs.inner.Marks.{AreKept, keeps}
 
 -- others lack the values from one index to another
 abbrev pub AreLacked : List ℕ → List ℕ → ℕ → ℕ → Type 0
@@ -21,3 +22,17 @@ pub record IsRoomBefore (from : ℕ) (values others : List ℕ) : Type 0 where
   pub within : from ≤ length values
   pub increasing : IsStrictlyIncreasing (drop from values)
   pub room : length others ≤ from
+
+-- values from an index on increase, and others have some left, none of them below the first of the values
+pub record CanFilterBy (values rest : List ℕ) (kept from : ℕ) : Type 0 where
+  pub behind : kept ≤ from
+  pub within : from < length values
+  pub increasing : IsStrictlyIncreasing (drop from values)
+  pub some : first rest ≢ None
+  pub reached : (v : ℕ) → has rest v ≡ true → slice_index values from ≤ v
+
+-- from one place to another values are kept that all others have, or lack, if the others that are left are all from the first value on
+abbrev pub FiltersBy : Bool → List ℕ → List ℕ → ℕ → ℕ → List ℕ → ℕ → ℕ → Type 0
+FiltersBy lacking rest values kept from values' kept' from' =
+    (old all : List ℕ) → ((v : ℕ) → slice_index values from ≤ v → has all v ≡ has rest v)
+    → AreKept (keeps lacking all) old values kept from → AreKept (keeps lacking all) old values' kept' from'

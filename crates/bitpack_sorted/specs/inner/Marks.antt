@@ -1,9 +1,10 @@
 -- Bits of a word that say which values a block has, and values that are kept by them.
-use Rattle.std.specs.Prelude.{◌≡◌, ℕ, zero, suc, ◌+◌, ◌-◌, ◌<◌, ◌≤◌, ◌^◌, ◌==◌, Bool, true, not, if◌then◌else◌, List, [], ◌∷◌, ◌++◌, drop, length, slice_index, take}
+use Rattle.std.specs.Prelude.{◌≡◌, ℕ, zero, suc, ◌+◌, ◌-◌, ◌*◌, ◌<◌, ◌≤◌, ◌^◌, ◌==◌, Bool, true, not, if◌then◌else◌, List, [], ◌∷◌, ◌++◌, drop, length, slice_index, take}
 use Rattle.std.specs.Int.{bit_at}
 use Rattle.std.specs.List.{filter}
 use Rattle.std.specs.List.Sorted.{IsStrictlyIncreasing}
 use Rattle.bitpack_lists.specs.Places.{InOrder}
+use Rattle.bitpack_sorted.specs.Bits.{is_bit_set}
 use Rattle.bitpack_sorted.specs.Increasing.{has}
 
 -- the bit of an answer
@@ -99,3 +100,18 @@ abbrev pub Filters : Bool → List ℕ → List ℕ → ℕ → ℕ → List ℕ
 Filters lacking block values kept from values' kept' from' =
     (old all : List ℕ) → ((v : ℕ) → slice_index values from ≤ v → v ≤ last_of block → has all v ≡ has block v)
     → AreKept (keeps lacking all) old values kept from → AreKept (keeps lacking all) old values' kept' from'
+
+-- values from an index on increase, and there are bits for the number of the first of them and maybe for others after it
+pub record CanTest (values : List ℕ) (from : ℕ) (words : List ℕ) (count : ℕ) : Type 0 where
+  pub within : from < length values
+  pub increasing : IsStrictlyIncreasing (drop from values)
+  pub some : 0 < count
+  pub long : count ≤ 64 * length words
+
+-- a bit for each of some values from an index on says whether the words have the bit of its number
+pub record HasTested (values : List ℕ) (from : ℕ) (words : List ℕ) (count reached bits : ℕ) : Type 0 where
+  pub few : reached ≤ 64
+  pub within : from + reached ≤ length values
+  pub near : (q : ℕ) → q < reached → slice_index values (from + q) - slice_index values from < count
+  pub each : (q : ℕ) → q < reached → bit_at bits q ≡ mark_of (is_bit_set words (slice_index values (from + q) - slice_index values from))
+  pub clear : (q : ℕ) → reached ≤ q → q < 64 → bit_at bits q ≡ 0

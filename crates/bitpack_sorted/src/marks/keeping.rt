@@ -30,7 +30,7 @@ pub(crate) fn keep_marked(
 
 /// The first bits of a word.
 #[inline(always)]
-fn first_bits(bits: u64, count: usize) -> u64
+pub(crate) fn first_bits(bits: u64, count: usize) -> u64
     requires { count ≤ 64 }
     ensures small { result < 2 ^ count }
     ensures same { (k : ℕ) → k < count → bit_at result k ≡ bit_at bits k }

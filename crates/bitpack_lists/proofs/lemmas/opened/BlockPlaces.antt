@@ -118,7 +118,7 @@ module _ {P : Type 0} {members : Ghosts P} (list : PackedList P members) (some :
       })
 
   -- The last value of a block is its mark.
-  last_listed : MarksLast list.version list.kind → (block : ℕ) → block < blocks_of list
+  pub last_listed : MarksLast list.version list.kind → (block : ℕ) → block < blocks_of list
       → get_or (values list) (n * block + (n - 1)) 0 ≡ mark_of_list list block
   last_listed last block lt =
       get_or-first_of (value_of list) list.count (n * block + (n - 1)) (omega (arith, part_end n list.count (omega arith) block lt))

@@ -1,6 +1,6 @@
 -- Places of a cursor: how the count of values, the block at hand and the index in it go together.
--- Serves opened.
-use Rattle.std.proofs.Common.{◌≡◌, ℕ, ◌+◌, ◌-◌, ◌*◌, ◌/◌, ◌<◌, ◌≤◌, min, List, length, get_or, Some, ◌∙◌, ap, arith, inl, inr}
+-- Serves opened, v4.
+use Rattle.std.proofs.Common.{◌≡◌, ℕ, ◌+◌, ◌-◌, ◌*◌, ◌/◌, ◌%◌, ◌<◌, ◌≤◌, min, List, length, get_or, Some, ◌∙◌, ap, arith, inl, inr}
 use Rattle.std.specs.List.{slice_get}
 use Rattle.std.proofs.Math.Nat.{div-add-mod}
 use Rattle.std.proofs.lemmas.Bool.{cases_lt}
@@ -66,6 +66,21 @@ module _ (n count : ℕ) (some : 1 ≤ n) where
 
   pub left_end : (block : ℕ) → block ≡ blocks → n * block + left block ≡ count
   left_end block same = rw same (omega (arith, tail_end.0, tail_end.1))
+
+  -- Room for the values of a block is room for a whole one, or for the tail.
+  pub whole_fits : (len block total room : ℕ) → len ≡ n → total ≡ count → block < count / len → min n (total - n * block) ≤ room → len ≤ room
+  whole_fits len block total room whole long lt fits =
+      let inside : block < blocks = rw whole at lt in
+      omega (arith, left_whole block inside, fits, long, whole)
+
+  pub tail_fits : (len block total room : ℕ) → len ≡ n → total ≡ count → count / len ≤ block → block ≤ total / n → min n (total - n * block) ≤ room
+      → count % len ≤ room
+  tail_fits len block total room whole long past within fits =
+      let after : blocks ≤ block = rw whole at past in
+      let upto : block ≤ blocks = rw long at within in
+      let same : block ≡ blocks = omega (arith, after, upto) in
+      let here : left blocks ≤ room = rw (long, same) at fits in
+      rw whole (omega (arith, here, left_tail, div-add-mod count n))
 
   -- A list with no value has no block.
   pub none_left : 0 ≡ left 0 → 0 ≡ blocks

@@ -1,5 +1,5 @@
 -- The first byte of a text says its version.
--- Serves ForCallers, list_buf, opened.
+-- Serves ForCallers, list_buf, opened, v4.
 use Rattle.std.proofs.Common.{◌≡◌, ℕ, List, get_or, None, refl, arith}
 use Rattle.std.proofs.lemmas.Bool.{le-ltb, lt-ltb}
 use Rattle.bitpack_lists.specs.declared.version.Version.{Version}

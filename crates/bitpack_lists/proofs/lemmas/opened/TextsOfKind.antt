@@ -1,5 +1,5 @@
 -- Texts of versions 2 to 4 and the kind that they state.
--- Serves opened.
+-- Serves opened, v4.
 use Rattle.std.proofs.Common.{◌≡◌, ℕ, ◌≤◌, List, None, ◌∙◌, ap, subst}
 use Rattle.bitpacking.specs.Bits.{AreBytes}
 use Rattle.bitpacking.specs.declared.bit_packer.BitPacker.{Ghosts}

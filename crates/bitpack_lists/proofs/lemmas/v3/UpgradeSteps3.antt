@@ -1,5 +1,5 @@
 -- Upgrading to version 3: what a tested text of version 1 or 2 says of the text of version 3, its tail, and its entries and bodies.
--- Serves v3.
+-- Serves v3, v4.
 use Rattle.std.proofs.Common.{◌≡◌, ◌≢◌, ℕ, zero, suc, ◌+◌, ◌-◌, ◌*◌, ◌<◌, ◌≤◌, Bool, true, false, List, [], ◌++◌, length, take, drop, get_or, None, refl, sym, ◌∙◌, ap, arith, append_assoc, inl, inr}
 use Rattle.std.proofs.lemmas.List.{drop-drop, drop_at, ext_get_or, length-append, length-drop, length-take-le, take-append-drop}
 use Rattle.bitpacking.specs.declared.kind.Kind.{Kind}

@@ -94,7 +94,7 @@ two_words body index low high small small' bits bits' j lt = elim (cases_lt j 32
     is : low + high * 4294967296 % 18446744073709551616 ≡ high * 2 ^ 32 + low
     is = omega (arith, small')
 
-low_bits : (word k j : ℕ) → j < k → bit_at (word % 2 ^ k) j ≡ bit_at word j
+pub low_bits : (word k j : ℕ) → j < k → bit_at (word % 2 ^ k) j ≡ bit_at word j
 low_bits word k j lt =
     sym (bit_at_cat_low (word / 2 ^ k) k (word % 2 ^ k) j lt) ∙ ap (λ n. bit_at n j) (div-add-mod' word (2 ^ k))
 

@@ -1,5 +1,5 @@
 -- The laws of bit sets: a block of a strict list has one bit set, and a bit set is of one block.
--- Serves laws, v4.
+-- Serves laws, opened, v4.
 use Rattle.std.proofs.Common.{◌≡◌, ◌↔◌, ℕ, ◌+◌, ◌-◌, ◌*◌, ◌/◌, ◌%◌, ◌^◌, ◌<◌, ◌≤◌, Bool, true, false, cond, ◌&&◌, List, Contains, length, map, get_or, refl, sym, ◌∙◌, ap, arith, inl, inr, eqb, ltb}
 use Rattle.std.specs.Int.{bit_at}
 use Rattle.std.specs.List.{list_any, range_with_len}

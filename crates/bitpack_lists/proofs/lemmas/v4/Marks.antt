@@ -38,7 +38,7 @@ greatest-same number other zero each = refl
 greatest-same number other (suc count) each =
     rw (greatest-same number other count (λ k lt. each k (omega arith)), each count (omega arith)) refl
 
-least-le : (word : ℕ → ℕ) (count k : ℕ) → k < count → least word count ≤ word k
+pub least-le : (word : ℕ → ℕ) (count k : ℕ) → k < count → least word count ≤ word k
 least-le word zero k lt = elim lt [ ]
 least-le word (suc count) k lt = elim (cases_lt k count) [
   | inl before ↦ omega (arith, least-le word count k before)
@@ -47,7 +47,7 @@ least-le word (suc count) k lt = elim (cases_lt k count) [
       rw here (omega arith)
 ]
 
-least-is : (word : ℕ → ℕ) (count : ℕ) → ((k : ℕ) → k < count → word k < 2 ^ 32) → 0 < count → (k : ℕ) × (k < count) × (word k ≡ least word count)
+pub least-is : (word : ℕ → ℕ) (count : ℕ) → ((k : ℕ) → k < count → word k < 2 ^ 32) → 0 < count → (k : ℕ) × (k < count) × (word k ≡ least word count)
 least-is word zero words some = absurd (omega arith)
 least-is word (suc zero) words some =
     let lt : word 0 < 2 ^ 32 = words 0 (omega arith) in
@@ -61,7 +61,7 @@ least-is word (suc (suc count)) words some =
       | inr le ↦ (suc count, omega arith, sym (min-eq_right {n = last} {m = so_far} le))
     ]
 
-greatest-is : (number : ℕ → ℕ) (count : ℕ) → 0 < count → (k : ℕ) × (k < count) × (number k ≡ greatest number count)
+pub greatest-is : (number : ℕ → ℕ) (count : ℕ) → 0 < count → (k : ℕ) × (k < count) × (number k ≡ greatest number count)
 greatest-is number zero some = absurd (omega arith)
 greatest-is number (suc zero) some = (0, omega arith, sym (max-eq_right {n = 0} {m = number 0} (omega arith)))
 greatest-is number (suc (suc count)) some =

@@ -1,5 +1,5 @@
 -- A text of version 4 is none of another version, by its first byte.
--- Serves laws, opened.
+-- Serves laws, opened, v4.
 use Rattle.std.proofs.Common.{◌≡◌, ℕ, ◌<◌, ◌≤◌, List, length, get_or, Some, None, refl, arith}
 use Rattle.std.proofs.lemmas.Bool.{le-ltb, lt-leb, not-false}
 use Rattle.bitpack_lists.specs.declared.list_error.ListError.TheVariants.{BadVersion}

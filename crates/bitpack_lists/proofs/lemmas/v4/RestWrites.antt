@@ -35,7 +35,7 @@ byte_count_few x = elim (cases_lt x (2 ^ 8)) [
 mark_same : (kind other : Kind) (block : List ℕ) (mark found : ℕ) → kind ≡ other → mark ≡ found → is_mark other block found ≡ true → is_mark kind block mark ≡ true
 mark_same kind other block mark found e f is = rw (e, f) is
 
-body_same : (lanes : ℕ) (kind other : Kind) (mark found size_is size_found : ℕ) (block body part : List ℕ) → kind ≡ other → mark ≡ found → size_is ≡ size_found
+pub body_same : (lanes : ℕ) (kind other : Kind) (mark found size_is size_found : ℕ) (block body part : List ℕ) → kind ≡ other → mark ≡ found → size_is ≡ size_found
     → body ≡ part → IsBody4 lanes other found size_found block part → IsBody4 lanes kind mark size_is block body
 body_same lanes kind other mark found size_is size_found block body part e f s p is = rw (e, f, s, p) is
 

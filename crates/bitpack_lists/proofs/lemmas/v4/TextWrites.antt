@@ -1,5 +1,5 @@
 -- A text of version 4 by its plan: the header, the whole blocks and the tail make it, and say how long it is.
--- Serves v4.
+-- Serves v4, writing.
 use Rattle.std.proofs.Common.{◌≡◌, ℕ, zero, suc, ◌+◌, ◌-◌, ◌*◌, ◌/◌, ◌^◌, ◌<◌, ◌≤◌, List, [], ◌∷◌, ◌++◌, length, take, drop, get_or, None, refl, sym, ◌∙◌, ap, arith, add-one, inl, inr, mul-suc}
 use Rattle.std.proofs.Math.Nat.{div-add-mod}
 use Rattle.std.proofs.lemmas.Bool.{cases_lt}
@@ -20,7 +20,7 @@ use Rattle.bitpack_lists.specs.Numbers.{byte_count, greatest}
 use Rattle.bitpack_lists.specs.Parts.{first_kind, kind_after, whole_blocks}
 use Rattle.bitpack_lists.specs.Version2.{block_of, values_fault}
 use Rattle.bitpack_lists.specs.Version4.{IsBlock4, List4, begin_at, codes4, end_len, header4, kind_at4, mark_at, mark_len, size_at, tail_start4}
-use Rattle.bitpack_lists.specs.inner.Sizes4.{AreSizes, BeginsRest4, IsPlanned4, IsSize4, IsWidthOf, blocks_size, kind_of, mark_in, mark_of, total}
+use Rattle.bitpack_lists.specs.inner.Sizes4.{BeginsRest4, IsPlanned4, IsSize4, IsSizeOf, IsWidthOf, blocks_size, kind_of, mark_in, mark_of, total}
 use Rattle.bitpack_lists.proofs.lemmas.blocks.BlockLemmas.{AreWords-block_of, block_end, get_or-block_of, length-block_of, values_after}
 use Rattle.bitpack_lists.proofs.lemmas.blocks.ChainLemmas.{put_end}
 use Rattle.bitpack_lists.proofs.lemmas.blocks.ValueFaults.{few_values, in_order}
@@ -36,15 +36,12 @@ size_moved lanes kind other mark found size_is block e f is = rw (e, f) at is
 
 -- ---- blocks that are written have the marks and the sizes of the values
 
-module _ (lanes : ℕ) (kind : ListKind) (values rest : List ℕ) (some : 1 ≤ lanes) (words : AreWords values)
-    (are : (m : ℕ) → m < whole_blocks lanes (length values) → IsBlock4 lanes (whole_blocks lanes (length values)) kind values rest m) where
-  abbrev blocks : ℕ
-  blocks = whole_blocks lanes (length values)
-
-  mark-of : (m : ℕ) → m < blocks → mark_at blocks rest m ≡ mark_of lanes kind values m
+module _ (lanes blocks : ℕ) (kind : ListKind) (values rest : List ℕ) (some : 1 ≤ lanes) (words : AreWords values)
+    (few : blocks ≤ whole_blocks lanes (length values)) (are : (m : ℕ) → m < blocks → IsBlock4 lanes blocks kind values rest m) where
+  pub mark-of : (m : ℕ) → m < blocks → mark_at blocks rest m ≡ mark_of lanes kind values m
   mark-of m lt =
       let block : List ℕ = block_of lanes values m in
-      let long : length block ≡ 32 * lanes = length-block_of lanes m values (block_end (32 * lanes) m (length values) lt) in
+      let long : length block ≡ 32 * lanes = length-block_of lanes m values (block_end (32 * lanes) m (length values) (omega (arith, lt, few))) in
       is_mark-is (kind_at4 blocks kind rest m) block (mark_at blocks rest m) (AreWords-block_of lanes m values words) (omega (arith, long, some)) (are m lt).mark
       ∙ mark_in-kind_after kind (mark_at blocks rest) m block
 
@@ -52,26 +49,26 @@ module _ (lanes : ℕ) (kind : ListKind) (values rest : List ℕ) (some : 1 ≤ 
   kind-of zero le = refl
   kind-of (suc m) le = ap (next_kind (first_kind kind)) (mark-of m (omega (arith, le)))
 
-  sizes-of : AreSizes lanes kind values (size_at rest)
+  pub sizes-of : (m : ℕ) → m < blocks → IsSizeOf lanes kind values m (size_at rest m)
   sizes-of m lt =
       let body = (are m lt).body in
       size_moved lanes (kind_at4 blocks kind rest m) (kind_of lanes kind values m) (mark_at blocks rest m) (mark_of lanes kind values m) (size_at rest m)
       (block_of lanes values m) (kind-of m (omega (arith, lt))) (mark-of m lt)
       (record { width = body.width; least = body.least; bits = λ e. (body.bits e).0; packed = λ e. (body.packed e).0 })
 
-  begin-of : (m : ℕ) → m ≤ blocks → begin_at rest m ≡ total (size_at rest) m
+  pub begin-of : (m : ℕ) → m ≤ blocks → begin_at rest m ≡ total (size_at rest) m
   begin-of zero le = refl
   begin-of (suc m) le = omega (arith, begin-of m (omega (arith, le)), (are m (omega (arith, le))).rising)
 
 -- ---- the last value of a block
 
-last_of : (lanes m : ℕ) (values : List ℕ) → 1 ≤ lanes → m < whole_blocks lanes (length values)
+pub last_of : (lanes m : ℕ) (values : List ℕ) → 1 ≤ lanes → m < whole_blocks lanes (length values)
     → get_or (block_of lanes values m) (length (block_of lanes values m) - 1) 0 ≡ get_or values (32 * lanes * m + (32 * lanes - 1)) 0
 last_of lanes m values some lt =
     ap (λ n. get_or (block_of lanes values m) (n - 1) 0) (length-block_of lanes m values (block_end (32 * lanes) m (length values) lt))
     ∙ get_or-block_of lanes m (32 * lanes - 1) values (omega (arith, some))
 
-mark_last : (kind : ListKind) (block : List ℕ) → (kind ≡ lists.Plain → ⊥) → mark_in (first_kind kind) block ≡ get_or block (length block - 1) 0
+pub mark_last : (kind : ListKind) (block : List ℕ) → (kind ≡ lists.Plain → ⊥) → mark_in (first_kind kind) block ≡ get_or block (length block - 1) 0
 mark_last lists.Plain block not = absurd (not refl)
 mark_last lists.Sorted block not = refl
 mark_last lists.StrictlySorted block not = refl
@@ -180,7 +177,7 @@ pub text4 : (lanes sum most size_is : ℕ) (kind : ListKind) (values front tail 
     → BeginsRest4 lanes kind values (rest ++ tail) (length rest) → List4 lanes kind values (front ++ (rest ++ tail))
 text4 lanes sum most size_is kind values front tail rest some many planned words right begins =
     let blocks : ℕ = whole_blocks lanes (length values) in
-    let here = kind-of lanes kind values (rest ++ tail) some words begins.whole blocks (omega arith) in
+    let here = kind-of lanes blocks kind values (rest ++ tail) some words (omega arith) begins.whole blocks (omega arith) in
     record {
       words = words;
       many = many;
@@ -208,10 +205,10 @@ size4 lanes sum most size_is kind values front tail text some planned list =
     let left : List ℕ = drop (32 * lanes * blocks) values in
     let words = codes_are_words here left (All-drop (λ v. v < 2 ^ 32) (32 * lanes * blocks) values list.words) in
     let sum_is : begin_at rest blocks ≡ sum =
-    begin-of lanes kind values rest some list.words is.whole blocks (omega arith)
-    ∙ sym (planned.measured.sum_is (size_at rest) (sizes-of lanes kind values rest some list.words is.whole)) in
+    begin-of lanes blocks kind values rest some list.words (omega arith) is.whole blocks (omega arith)
+    ∙ sym (planned.measured.sum_is (size_at rest) (sizes-of lanes blocks kind values rest some list.words (omega arith) is.whole)) in
     let most_is : greatest (mark_at blocks rest) blocks ≡ most =
-    greatest-same (mark_at blocks rest) (mark_of lanes kind values) blocks (mark-of lanes kind values rest some list.words is.whole)
+    greatest-same (mark_at blocks rest) (mark_of lanes kind values) blocks (mark-of lanes blocks kind values rest some list.words (omega arith) is.whole)
     ∙ sym planned.measured.most_is in
     let ends : end_len rest ≡ byte_count sum = is.short.ends ∙ ap byte_count sum_is in
     let marks : mark_len rest ≡ byte_count most = is.short.marks ∙ ap byte_count most_is in
@@ -219,7 +216,7 @@ size4 lanes sum most size_is kind values front tail text some planned list =
     ap (λ e. 1 + (e + mark_len rest) * blocks + size lanes (begin_at rest blocks)) ends
     ∙ ap (λ z. 1 + (byte_count sum + z) * blocks + size lanes (begin_at rest blocks)) marks
     ∙ ap (λ b. 1 + (byte_count sum + byte_count most) * blocks + size lanes b) sum_is in
-    let groups = rw (kind-of lanes kind values rest some list.words is.whole blocks (omega arith)) at is.tail in
+    let groups = rw (kind-of lanes blocks kind values rest some list.words (omega arith) is.whole blocks (omega arith)) at is.tail in
     let none = λ (e : blocks ≡ 0). absurd (omega (arith, e, positive)) in
     let same : drop start rest ≡ tail =
     tail_same blocks (codes here left) tail (drop start rest) words (tail_of_groups blocks (codes here left) tail none planned.tail_is)

@@ -1,6 +1,6 @@
 -- A text by its plan: the header, the entries with the bodies, and the tail make it, and say how long it is.
--- Serves v3.
-use Rattle.std.proofs.Common.{◌≡◌, ◌≢◌, ℕ, ◌*◌, ◌^◌, ◌<◌, ◌≤◌, List, ◌++◌, length, drop, None, refl, ◌∙◌, ap, arith}
+-- Serves v4, writing.
+use Rattle.std.proofs.Common.{◌≡◌, ℕ, ◌*◌, ◌^◌, ◌<◌, ◌≤◌, List, ◌++◌, length, drop, None, ◌∙◌, ap, arith}
 use Rattle.std.proofs.lemmas.List.{length-append, length-drop}
 use Rattle.std.proofs.lemmas.List.Elements.{All-drop}
 use Rattle.bitpacking.specs.declared.kind.Kind.{Kind}
@@ -8,13 +8,13 @@ use Rattle.bitpacking.specs.Codes.{AreWords, codes}
 use Rattle.bitpacking.specs.Words.{bytes_of_words}
 use Rattle.bitpacking.proofs.ForCallers.{codes_are_words}
 use Rattle.bitpack_lists.specs.declared.list_kind.ListKind.{ListKind}
-use Rattle.bitpack_lists.specs.declared.version.Version.{Version}
-use Rattle.bitpack_lists.specs.declared.version.Version.TheVariants as versions
+use Rattle.bitpack_lists.specs.declared.version.OlderVersion.{OlderVersion}
+use Rattle.bitpack_lists.specs.declared.version.OlderVersion.TheVariants as versions
 use Rattle.bitpack_lists.specs.Parts.{whole_blocks}
-use Rattle.bitpack_lists.specs.Texts.{IsText}
 use Rattle.bitpack_lists.specs.Version2.{kind_at, tail_start, values_fault}
 use Rattle.bitpack_lists.specs.Version3.{header3}
 use Rattle.bitpack_lists.specs.inner.Opening.{HasBodies}
+use Rattle.bitpack_lists.specs.inner.Planned.{IsOlderText}
 use Rattle.bitpack_lists.specs.inner.Sizes.{IsPlanned}
 use Rattle.bitpack_lists.proofs.lemmas.blocks.HeaderLemmas.{length-header}
 use Rattle.bitpack_lists.proofs.lemmas.blocks.MeasuredLengths.{blocks_long}
@@ -22,22 +22,16 @@ use Rattle.bitpack_lists.proofs.lemmas.blocks.RestLemmas.{List2-from_rest, after
 use Rattle.bitpack_lists.proofs.lemmas.v3.TailTexts.{tail_same}
 use Rattle.bitpack_lists.proofs.lemmas.blocks.ValueFaults.{few_values, in_order}
 
--- The other version that is written here is 3.
-pub is_three : (version : Version) → version ≢ versions.Two → version ≢ versions.Four → version ≡ versions.Three
-is_three versions.Two other older = absurd (other refl)
-is_three versions.Three other older = refl
-is_three versions.Four other older = absurd (older refl)
-
-pub text_planned : (version : Version) → version ≢ versions.Four → (lanes size : ℕ) (kind : ListKind) (values front tail rest : List ℕ)
+pub text_planned : (version : OlderVersion) (lanes size : ℕ) (kind : ListKind) (values front tail rest : List ℕ)
     → IsPlanned version lanes kind values front tail size → AreWords values → values_fault kind values ≡ None
     → HasBodies lanes (whole_blocks lanes (length values)) kind values rest (whole_blocks lanes (length values))
-    → IsText version lanes kind values (front ++ (rest ++ tail))
-text_planned versions.Two older lanes size kind values front tail rest planned words right has =
+    → IsOlderText version lanes kind values (front ++ (rest ++ tail))
+text_planned versions.Two lanes size kind values front tail rest planned words right has =
     let blocks : ℕ = whole_blocks lanes (length values) in
     let list = List2-from_rest lanes kind values (rest ++ bytes_of_words (drop (32 * lanes * blocks) values)) words (in_order kind values right)
     (few_values kind values right) (rest_done lanes blocks kind values rest has) in
     rw (planned.front_is, planned.tail_is rest has.entries) list
-text_planned versions.Three older lanes size kind values front tail rest planned words right has =
+text_planned versions.Three lanes size kind values front tail rest planned words right has =
     let blocks : ℕ = whole_blocks lanes (length values) in
     let whole = blocks_done lanes blocks kind values rest tail has in
     record {
@@ -51,11 +45,10 @@ text_planned versions.Three older lanes size kind values front tail rest planned
         tail = rw (after_done lanes blocks kind values rest tail has) (planned.tail_is (rest ++ tail) whole.entries);
       };
     }
-text_planned versions.Four older lanes size kind values front tail rest planned words right has = absurd (older refl)
 
-pub size_planned : (version : Version) → version ≢ versions.Four → (lanes size : ℕ) (kind : ListKind) (values front tail text : List ℕ) → 1 ≤ lanes
-    → IsPlanned version lanes kind values front tail size → IsText version lanes kind values text → size ≡ length text
-size_planned versions.Two older lanes size kind values front tail text some planned list =
+pub size_planned : (version : OlderVersion) (lanes size : ℕ) (kind : ListKind) (values front tail text : List ℕ) → 1 ≤ lanes
+    → IsPlanned version lanes kind values front tail size → IsOlderText version lanes kind values text → size ≡ length text
+size_planned versions.Two lanes size kind values front tail text some planned list =
     let blocks : ℕ = whole_blocks lanes (length values) in
     let rest : List ℕ = drop 7 text in
     let entries = list.rest.whole.entries in
@@ -63,7 +56,7 @@ size_planned versions.Two older lanes size kind values front tail text some plan
     let first = ap length planned.front_is ∙ length-header 2 kind lanes (length values) in
     let last = ap length (planned.tail_is rest entries) ∙ length-tail lanes values some in
     omega (arith, planned.parts, start, first, last, length-text2 lanes kind values text some list)
-size_planned versions.Three older lanes size kind values front tail text some planned list =
+size_planned versions.Three lanes size kind values front tail text some planned list =
     let blocks : ℕ = whole_blocks lanes (length values) in
     let rest : List ℕ = list.rest in
     let start : ℕ = tail_start lanes blocks rest in
@@ -83,4 +76,3 @@ size_planned versions.Three older lanes size kind values front tail text some pl
       list.is_rest.whole.room,
       ap length same,
     )
-size_planned versions.Four older lanes size kind values front tail text some planned list = absurd (older refl)

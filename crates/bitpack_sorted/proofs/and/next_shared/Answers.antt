@@ -37,21 +37,22 @@ loop-next-smaller g c =
     let here : Some c.in-Some.wanted ≡ first (g.A.SortedCursor.rest c.loop-next.one) = sym c.in-Some.is ∙ c.loop-next.invariant.next in
     meet_smaller (g.A.SortedCursor.rest c.loop-next.one) (g.B.SortedCursor.rest c.loop-next.other) (g.B.SortedCursor.rest c.seek.new.self) c.in-Some.wanted
     (g.met.A.SortedCursor.increasing c.loop-next.one) here c.seek.ensures.rest c.in-Some-seek.found c.in-Some-seek.ensures.value c.if-found-wanted.false
-    (g.A.SortedCursor.rest c.seek-next.new.self) c.seek-next.ensures.rest
+    c.first_shared.result c.first_shared.ensures.from (g.A.SortedCursor.rest c.seek-next.new.self) c.seek-next.ensures.rest
 
 pub loop-next-preserved : goal.loop-next-preserved
 loop-next-preserved g c =
     let xs = g.A.SortedCursor.rest c.loop-next.one in
     let here : Some c.in-Some.wanted ≡ first xs = sym c.in-Some.is ∙ c.loop-next.invariant.next in
-    let found = c.in-Some-seek.found in
+    let to = c.first_shared.result in
     let leapt = c.seek-next.ensures.rest in
     record {
       same = meet_both xs (g.B.SortedCursor.rest c.loop-next.other) (g.B.SortedCursor.rest c.seek.new.self) c.in-Some.wanted
-          (g.met.A.SortedCursor.increasing c.loop-next.one) here c.seek.ensures.rest found c.in-Some-seek.ensures.value c.if-found-wanted.false
-          (g.A.SortedCursor.rest c.seek-next.new.self) leapt (g.met.B.SortedCursor.increasing c.seek.new.self)
+          (g.met.A.SortedCursor.increasing c.loop-next.one) here c.seek.ensures.rest c.in-Some-seek.found c.in-Some-seek.ensures.value c.if-found-wanted.false
+          to c.first_shared.ensures.from (g.A.SortedCursor.rest c.seek-next.new.self) leapt (g.met.B.SortedCursor.increasing c.seek.new.self)
+          c.first_shared.ensures.none
           ∙ c.loop-next.invariant.same;
       later = later_more (g.A.SortedCursor.rest c.pass_unshared.new.one) xs (g.A.SortedCursor.rest c.seek-next.new.self) c.loop-next.invariant.later
-          (later_sought found xs (g.A.SortedCursor.rest c.seek-next.new.self) (g.met.A.SortedCursor.increasing c.loop-next.one) leapt);
+          (later_sought to xs (g.A.SortedCursor.rest c.seek-next.new.self) (g.met.A.SortedCursor.increasing c.loop-next.one) leapt);
       next = c.seek-next.ensures.value;
     }
 

@@ -1,5 +1,5 @@
 -- What was written and what is left are together what there was; what was not written is as it was.
-use Rattle.std.proofs.Common.{◌≡◌, ◌++◌, ◌-◌, ◌≤◌, drop, length, take}
+use Rattle.std.proofs.Common.{◌≡◌, ◌++◌, ◌≤◌, drop, length, take}
 use Rattle.bitpack_sorted.specs.Increasing.{first}
 use Rattle.bitpack_sorted.proofs.collecting.collect_to.Given as goal
 
@@ -12,4 +12,4 @@ invariant-loop-written g l = record {
 }
 
 abbrev pub decreases-loop-written : goal.decreases-loop-written
-decreases-loop-written g l = length l.out - l.written
+decreases-loop-written g l = length (g.C.SortedCursor.rest l.cursor)

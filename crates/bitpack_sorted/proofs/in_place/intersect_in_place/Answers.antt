@@ -1,22 +1,17 @@
 -- Each turn filters as far as the current block of the cursor reaches.
-use Rattle.std.proofs.Common.{◌<◌, ◌≤◌, ℕ, List, false, length, get_or, arith, refl}
+use Rattle.std.proofs.Common.{◌<◌, ◌≤◌, ℕ, List, false, length, arith, refl}
 use Rattle.bitpack_sorted.specs.inner.Marks.{AreKept, keeps}
 use Rattle.bitpack_sorted.proofs.FilterSteps.{all_kept}
 use Rattle.bitpack_sorted.proofs.FilteringSteps.{ahead_increasing, filtering_more, lacked_kept, shared_are}
-use Rattle.bitpack_sorted.proofs.FrontLemmas.{front_some}
 use Rattle.bitpack_sorted.proofs.in_place.intersect_in_place.Goals as goal
 
-pub keep_in_block-done-requires : goal.keep_in_block-done-requires
-keep_in_block-done-requires g c =
+pub keep_at_hand-done-requires : goal.keep_at_hand-done-requires
+keep_at_hand-done-requires g c =
     let all : List ℕ = g.C.SortedCursor.rest c.args.cursor.now in
     let rest : List ℕ = g.C.SortedCursor.rest c.loop-next.cursor in
-    let rest' : List ℕ = g.C.SortedCursor.rest c.next_from.new.cursor in
     let old : List ℕ = c.args.values.now in
     let ys : List ℕ = c.loop-next.values in
-    let block : List ℕ = c.first_part.result.now in
-    let front = c.first_part.ensures.front in
     let next = c.in-Some.ensures.some in
-    let some : 0 < length block = front_some block rest' front next.some in
     let within : c.in-Some.next ≤ length ys = omega (arith, next.within) in
     let kept : AreKept (keeps false all) old ys c.loop-next.done.kept c.in-Some.next =
     lacked_kept all rest old ys c.loop-next.done.kept c.loop-next.done.from c.in-Some.next c.requires c.loop-next.invariant next.forward within next.lacked in
@@ -24,8 +19,8 @@ keep_in_block-done-requires g c =
       behind = kept.behind;
       within = next.within;
       increasing = ahead_increasing (keeps false all) old ys c.loop-next.done.kept c.in-Some.next c.requires kept;
-      shown = record { some = some; few = c.first_part.ensures.few; ordered = front.ordered };
-      first = next.reached (get_or block 0 0) (front.among 0 some);
+      some = next.some;
+      reached = next.reached;
     }
 
 pub loop-next-preserved : goal.loop-next-preserved
@@ -38,13 +33,11 @@ loop-next-preserved g c =
     let next = c.in-Some.ensures.some in
     let within : c.in-Some.next ≤ length ys = omega (arith, next.within) in
     let from_in : c.loop-next.done.from < length ys = omega (arith, next.within, next.forward) in
-    let block : List ℕ = c.first_part.result.now in
-    let some : 0 < length block = front_some block rest' c.first_part.ensures.front next.some in
     let kept : AreKept (keeps false all) old ys c.loop-next.done.kept c.in-Some.next =
     lacked_kept all rest old ys c.loop-next.done.kept c.loop-next.done.from c.in-Some.next c.requires c.loop-next.invariant next.forward within next.lacked in
     filtering_more false all rest old ys c.loop-next.done.kept c.loop-next.done.from c.requires c.loop-next.invariant from_in rest' next.sought
-    block c.first_part.ensures.front some c.in-Some.next next.forward next.within kept c.keep_in_block-done.new.values c.keep_in_block-done.result.kept
-    c.keep_in_block-done.result.from c.keep_in_block-done.ensures.forward.0 c.keep_in_block-done.ensures.filters
+    c.in-Some.next next.forward next.within kept c.keep_at_hand-done.new.values c.keep_at_hand-done.result.kept
+    c.keep_at_hand-done.result.from c.keep_at_hand-done.ensures.forward.0 c.keep_at_hand-done.ensures.filters
 
 pub returns : goal.returns
 returns g c =

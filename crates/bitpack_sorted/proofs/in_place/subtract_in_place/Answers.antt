@@ -1,10 +1,9 @@
 -- Each turn filters as far as the current block of the cursor reaches; if nothing is left, all that is still to come is kept.
-use Rattle.std.proofs.Common.{◌≡◌, ◌<◌, ℕ, List, true, not, Some, None, length, get_or, sym, ◌∙◌, ap, arith}
+use Rattle.std.proofs.Common.{◌≡◌, ℕ, List, true, not, Some, None, get_or, sym, ◌∙◌, ap, arith}
 use Rattle.bitpack_sorted.specs.Increasing.{first}
 use Rattle.bitpack_sorted.specs.inner.Marks.{keeps}
 use Rattle.bitpack_sorted.proofs.FilterSteps.{all_kept, rest_kept}
-use Rattle.bitpack_sorted.proofs.FilteringSteps.{ahead_increasing, filtering_more, front_reached, rest_lacked, without_are}
-use Rattle.bitpack_sorted.proofs.FrontLemmas.{front_some}
+use Rattle.bitpack_sorted.proofs.FilteringSteps.{ahead_increasing, filtering_more, rest_lacked, sought_reached, without_are}
 use Rattle.bitpack_sorted.proofs.in_place.subtract_in_place.Goals as goal
 
 pub returns-in_default : goal.returns-in_default
@@ -20,20 +19,17 @@ returns-in_default g c =
     without_are old c.move_rest.new.values all c.move_rest.result c.requires c.move_rest.ensures.few
     (c.move_rest.ensures.are ∙ rest_kept (keeps true all) old ys c.loop-done.done.kept c.loop-done.done.from s.are (λ q le lt. ap not (lacked q le lt)))
 
-pub keep_in_block-done-requires : goal.keep_in_block-done-requires
-keep_in_block-done-requires g c =
+pub keep_at_hand-done-requires : goal.keep_at_hand-done-requires
+keep_at_hand-done-requires g c =
     let all : List ℕ = g.C.SortedCursor.rest c.args.cursor.now in
     let rest' : List ℕ = g.C.SortedCursor.rest c.seek.new.self in
     let ys : List ℕ = c.loop-done.values in
-    let block : List ℕ = c.first_part.result.now in
-    let front = c.first_part.ensures.front in
-    let some : 0 < length block = front_some block rest' front (λ none. let clash : Some c.in-Some._here ≡ None = c.in-Some.ensures.value ∙ none in cc) in
     record {
       behind = c.loop-done.invariant.are.behind;
       within = c.loop-done-test.true;
       increasing = ahead_increasing (keeps true all) c.args.values.now ys c.loop-done.done.kept c.loop-done.done.from c.requires c.loop-done.invariant.are;
-      shown = record { some = some; few = c.first_part.ensures.few; ordered = front.ordered };
-      first = front_reached (get_or ys c.loop-done.done.from 0) (g.C.SortedCursor.rest c.loop-done.cursor) rest' block c.seek.ensures.rest front some;
+      some = λ none. let clash : Some c.in-Some._here ≡ None = c.in-Some.ensures.value ∙ none in cc;
+      reached = sought_reached (get_or ys c.loop-done.done.from 0) (g.C.SortedCursor.rest c.loop-done.cursor) rest' c.seek.ensures.rest;
     }
 
 pub loop-done-preserved : goal.loop-done-preserved
@@ -43,11 +39,9 @@ loop-done-preserved g c =
     let rest' : List ℕ = g.C.SortedCursor.rest c.seek.new.self in
     let old : List ℕ = c.args.values.now in
     let ys : List ℕ = c.loop-done.values in
-    let block : List ℕ = c.first_part.result.now in
-    let some : 0 < length block = front_some block rest' c.first_part.ensures.front (λ none. let clash : Some c.in-Some._here ≡ None = c.in-Some.ensures.value ∙ none in cc) in
     filtering_more true all rest old ys c.loop-done.done.kept c.loop-done.done.from c.requires c.loop-done.invariant c.loop-done-test.true rest' c.seek.ensures.rest
-    block c.first_part.ensures.front some c.loop-done.done.from (omega arith) c.loop-done-test.true c.loop-done.invariant.are c.keep_in_block-done.new.values
-    c.keep_in_block-done.result.kept c.keep_in_block-done.result.from c.keep_in_block-done.ensures.forward.0 c.keep_in_block-done.ensures.filters
+    c.loop-done.done.from (omega arith) c.loop-done-test.true c.loop-done.invariant.are c.keep_at_hand-done.new.values
+    c.keep_at_hand-done.result.kept c.keep_at_hand-done.result.from c.keep_at_hand-done.ensures.forward.0 c.keep_at_hand-done.ensures.filters
 
 pub returns : goal.returns
 returns g c =

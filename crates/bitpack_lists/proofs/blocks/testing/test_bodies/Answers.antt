@@ -31,46 +31,49 @@ loop-block-init g c =
 pub unpack_body-requires-clause-width : goal.unpack_body-requires-clause-width
 unpack_body-requires-clause-width g c =
     let whole : c.BLOCK_LEN-len.result ≡ 32 * g.P.BitPacker.lanes = c.BLOCK_LEN-len.ensures ∙ g.met.P.BitPacker.block_len in
-    rw c.read_entry-entry.ensures.width (narrow_entry g.P.BitPacker.lanes (whole_blocks g.P.BitPacker.lanes c.args.header.count) c.args.rest.now c.requires.entries
+    rw c.read_entry-entry.ensures.entry.width (narrow_entry g.P.BitPacker.lanes (whole_blocks g.P.BitPacker.lanes c.args.header.count) c.args.rest.now c.requires.entries
     c.loop-block.block (rw whole at c.loop-block-test.true))
 
 pub unpack_body-requires-clause-body : goal.unpack_body-requires-clause-body
 unpack_body-requires-clause-body g c =
     let whole : c.BLOCK_LEN-len.result ≡ 32 * g.P.BitPacker.lanes = c.BLOCK_LEN-len.ensures ∙ g.met.P.BitPacker.block_len in
-    rw (c.read_entry-entry.ensures.offset, c.read_entry-entry.ensures.width, whole)
+    rw (c.read_entry-entry.ensures.entry.offset, c.read_entry-entry.ensures.entry.width, whole)
     (body_room g.P.BitPacker.lanes (whole_blocks g.P.BitPacker.lanes c.args.header.count) c.args.rest.now c.requires.entries
     c.loop-block.block (rw whole at c.loop-block-test.true) c.requires.room)
 
 pub unpack_body-requires-then-not-ends_in_order-clause-width : goal.unpack_body-requires-then-not-ends_in_order-clause-width
 unpack_body-requires-then-not-ends_in_order-clause-width g c =
     let whole : c.BLOCK_LEN-len.result ≡ 32 * g.P.BitPacker.lanes = c.BLOCK_LEN-len.ensures ∙ g.met.P.BitPacker.block_len in
-    rw c.read_entry-entry.ensures.width (narrow_entry g.P.BitPacker.lanes (whole_blocks g.P.BitPacker.lanes c.args.header.count) c.args.rest.now c.requires.entries
+    rw c.read_entry-entry.ensures.entry.width (narrow_entry g.P.BitPacker.lanes (whole_blocks g.P.BitPacker.lanes c.args.header.count) c.args.rest.now c.requires.entries
     c.loop-block.block (rw whole at c.loop-block-test.true))
 
 pub unpack_body-requires-then-not-ends_in_order-clause-body : goal.unpack_body-requires-then-not-ends_in_order-clause-body
 unpack_body-requires-then-not-ends_in_order-clause-body g c =
     let whole : c.BLOCK_LEN-len.result ≡ 32 * g.P.BitPacker.lanes = c.BLOCK_LEN-len.ensures ∙ g.met.P.BitPacker.block_len in
-    rw (c.read_entry-entry.ensures.offset, c.read_entry-entry.ensures.width, whole)
+    rw (c.read_entry-entry.ensures.entry.offset, c.read_entry-entry.ensures.entry.width, whole)
     (body_room g.P.BitPacker.lanes (whole_blocks g.P.BitPacker.lanes c.args.header.count) c.args.rest.now c.requires.entries
     c.loop-block.block (rw whole at c.loop-block-test.true) c.requires.room)
 
-pub unpack_body-requires-then-not-ends_in_order-clause-start : goal.unpack_body-requires-then-not-ends_in_order-clause-start
-unpack_body-requires-then-not-ends_in_order-clause-start g c =
-    rw c.loop-block.invariant.kind (start-kind_at c.args.header.kind c.args.rest.now c.loop-block.block (AreBytes-from_slice c.args.rest.now c.type_inv.rest))
+pub unpack_body-requires-then-not-ends_in_order-clause-room : goal.unpack_body-requires-then-not-ends_in_order-clause-room
+unpack_body-requires-then-not-ends_in_order-clause-room g c =
+    record {
+      start = rw c.loop-block.invariant.kind (start-kind_at c.args.header.kind c.args.rest.now c.loop-block.block (AreBytes-from_slice c.args.rest.now c.type_inv.rest));
+      room = search rules;
+    }
 
 pub test_block-requires : goal.test_block-requires
 test_block-requires g c =
     let whole : c.BLOCK_LEN-len.result ≡ 32 * g.P.BitPacker.lanes = c.BLOCK_LEN-len.ensures ∙ g.met.P.BitPacker.block_len in
     let width = narrow_entry g.P.BitPacker.lanes (whole_blocks g.P.BitPacker.lanes c.args.header.count) c.args.rest.now c.requires.entries
     c.loop-block.block (rw whole at c.loop-block-test.true) in
-    (rw c.read_entry-entry.ensures.width width, search rules, search rules)
+    (rw c.read_entry-entry.ensures.entry.width width, search rules, search rules)
 
 pub ends_in_order-requires : goal.ends_in_order-requires
 ends_in_order-requires g c =
     let whole : c.BLOCK_LEN-len.result ≡ 32 * g.P.BitPacker.lanes = c.BLOCK_LEN-len.ensures ∙ g.met.P.BitPacker.block_len in
     let width = narrow_entry g.P.BitPacker.lanes (whole_blocks g.P.BitPacker.lanes c.args.header.count) c.args.rest.now c.requires.entries
     c.loop-block.block (rw whole at c.loop-block-test.true) in
-    (rw c.read_entry-entry.ensures.width width, omega (arith, whole, g.met.P.BitPacker.some_lanes), omega (arith, whole, g.met.P.BitPacker.few_lanes))
+    (rw c.read_entry-entry.ensures.entry.width width, omega (arith, whole, g.met.P.BitPacker.some_lanes), omega (arith, whole, g.met.P.BitPacker.few_lanes))
 
 -- The block with this number, whose entry was read, and what was unpacked of it.
 module _ (lanes len full blocks width offset last block : ℕ) (kind : ListKind) (block_kind : Kind) (rest room : List ℕ) (whole : len ≡ 32 * lanes)
@@ -174,7 +177,7 @@ returns-in_err-test_block-clause-fault g c =
     let blocks : ℕ = whole_blocks lanes c.args.header.count in
     let before = c.loop-block.invariant in
     let entry = c.read_entry-entry.result in
-    let read = c.read_entry-entry.ensures in
+    let read = c.read_entry-entry.ensures.entry in
     let whole : c.BLOCK_LEN-len.result ≡ 32 * lanes = c.BLOCK_LEN-len.ensures ∙ g.met.P.BitPacker.block_len in
     let lt : block < blocks = rw whole at c.loop-block-test.true in
     let are = codes_are lanes c.BLOCK_LEN-len.result g.P.BitPacker.BLOCK_LEN blocks entry.width entry.offset entry.last block kind
@@ -198,7 +201,7 @@ loop-block-preserved g c =
     let blocks : ℕ = whole_blocks lanes c.args.header.count in
     let before = c.loop-block.invariant in
     let entry = c.read_entry-entry.result in
-    let read = c.read_entry-entry.ensures in
+    let read = c.read_entry-entry.ensures.entry in
     let whole : c.BLOCK_LEN-len.result ≡ 32 * lanes = c.BLOCK_LEN-len.ensures ∙ g.met.P.BitPacker.block_len in
     let lt : block < blocks = rw whole at c.loop-block-test.true in
     let are = codes_are lanes c.BLOCK_LEN-len.result g.P.BitPacker.BLOCK_LEN blocks entry.width entry.offset entry.last block kind

@@ -60,7 +60,7 @@ returns-in-None-clause-found g c =
     let long : length part ≡ read.result - index =
     length-take-le (read.result - index) (drop index read.new.out) (omega (arith, length-drop index read.new.out, room)) in
     let len = block_len self c.args.low c.args.high c.args.block some read.result read.new.out is in
-    c.find_in.ensures.found (value_of self) (subst (λ m. IsAt (value_of self) (m * c.args.block + index) part) (sym whole) at)
+    c.find_in.ensures.found.in_front (value_of self) (subst (λ m. IsAt (value_of self) (m * c.args.block + index) part) (sym whole) at)
     ∙ ap (λ m. passing (is_within self c.args.low c.args.high) (m * c.args.block + index) (length part)) whole
     ∙ ap (passing (is_within self c.args.low c.args.high) (n * c.args.block + index)) (long ∙ ap (λ m. m - index) len)
 

@@ -1,5 +1,5 @@
 -- No value of a block in order is below the value before it.
-use Rattle.std.proofs.Common.{◌≡◌, Some, sym, ◌∙◌, ap, arith}
+use Rattle.std.proofs.Common.{◌≡◌, Some, sym, ◌∙◌, ap, arith, rules}
 use Rattle.bitpacking.specs.declared.kind.Kind.TheVariants as blocks
 use Rattle.bitpack_lists.specs.inner.Searching.{kind_of_list}
 use Rattle.bitpack_lists.proofs.lemmas.opened.BlockBounds.{opened_sorted_start, opened_strict_start, strict_room}
@@ -14,12 +14,12 @@ pub overflow_add-result : goal.overflow_add-result
 overflow_add-result g c =
     omega (arith, strict_room c.args.self.now g.met.P.BitPacker.some_lanes c.args.block c.requires.block c.in-StrictlySorted-Some.before (strict g c))
 
-pub returns-in-Sorted-clause-least : goal.returns-in-Sorted-clause-least
-returns-in-Sorted-clause-least g c =
+pub returns-in-Sorted : goal.returns-in-Sorted
+returns-in-Sorted g c =
     let start = opened_sorted_start c.args.self.now g.met.P.BitPacker.some_lanes c.args.block c.requires.block c.in-Sorted.before c.in-Sorted.ensures.kind in
-    record { each = start.each; before = λ _. start.before }
+    record { least = record { each = start.each; before = λ _. start.before }; reads = search rules }
 
-pub returns-in-StrictlySorted-Some-clause-least : goal.returns-in-StrictlySorted-Some-clause-least
-returns-in-StrictlySorted-Some-clause-least g c =
+pub returns-in-StrictlySorted-Some : goal.returns-in-StrictlySorted-Some
+returns-in-StrictlySorted-Some g c =
     let start = opened_strict_start c.args.self.now g.met.P.BitPacker.some_lanes c.args.block c.requires.block c.in-StrictlySorted-Some.before (strict g c) in
-    record { each = start.each; before = λ _. start.before }
+    record { least = record { each = start.each; before = λ _. start.before }; reads = search rules }

@@ -36,7 +36,7 @@ loop-done-preserved g c =
     let end : ℕ = min self.count (position - position % n + n) in
     let ended : c.min-position.result ≡ end = rw whole at c.min-position.ensures in
     let size : ℕ = length c.args.into.now in
-    let part : List ℕ = c.copy_from_slice.new.self in
+    let part : List ℕ = c.widen.new.into in
     let next : List ℕ = passing (is_within self low high) (n * block + position % n) (len_of self block - position % n) in
     let found : take more.result more.new.found ≡ next = rw whole at more.ensures.found in
     let reads = rw whole at more.ensures.reads in
@@ -44,7 +44,7 @@ loop-done-preserved g c =
     let count : length next ≡ more.result = ap length (sym found) ∙ length-take-le more.result more.new.found room in
     let fit : fits ≡ min (length next) (size - here.done) = omega (arith, c.min-fits.ensures, count, before.long) in
     let written : part ≡ take fits next =
-    c.copy_from_slice.ensures.after ∙ sym (take-take fits more.result more.new.found (omega (arith, c.min-fits.ensures))) ∙ ap (take fits) found in
+    c.widen.ensures ∙ sym (take-take fits more.result more.new.found (omega (arith, c.min-fits.ensures))) ∙ ap (take fits) found in
     let open_room : here.done < size = omega (arith, c.loop-done-test.true, before.long) in
     let step = filled_more size here.done (passing (is_within self low high) from (position - from)) here.into before.count before.written fits next part
     open_room before.long fit written in

@@ -2,13 +2,66 @@
 use Rattle.std.proofs.Common.{◌≡◌, ◌≤◌, ◌*◌, ◌/◌, ◌%◌, ◌<◌, ℕ, length, drop, take, ◌∙◌, ap, arith}
 use Rattle.std.proofs.Math.Nat.{mod-lt}
 use Rattle.std.proofs.lemmas.List.{length-take}
+use Rattle.bitpack_lists.specs.Opened.{values}
 use Rattle.bitpack_lists.specs.inner.Searching.{HasPart}
 use Rattle.bitpack_lists.specs.inner.Searching.{value_of}
 use Rattle.bitpack_lists.proofs.lemmas.opened.BlockPlaces.{BlockFacts, block_facts, tail_part}
 use Rattle.bitpack_lists.proofs.lemmas.opened.ReadParts.{part_unpacked}
-use Rattle.bitpack_lists.proofs.lemmas.opened.CursorSteps.{length-first_of}
+use Rattle.bitpack_lists.proofs.lemmas.opened.CursorSteps.{length-first_of, tail_fits, whole_fits}
 use Rattle.bitpack_lists.proofs.opened.PackedList.read_block.Given.{Over}
 use Rattle.bitpack_lists.proofs.opened.PackedList.read_block.Goals as goal
+
+pub slice_bounds-read_tail-end : goal.slice_bounds-read_tail-end
+slice_bounds-read_tail-end g c =
+    let self = c.args.self.now in
+    tail_fits (32 * g.P.BitPacker.lanes) self.count (omega (arith, g.met.P.BitPacker.some_lanes)) c.BLOCK_LEN-len.result c.args.block
+    (length (values self)) (length c.args.out.now) (c.BLOCK_LEN-len.ensures ∙ g.met.P.BitPacker.block_len) (length-first_of (value_of self) self.count)
+    c.if-block-self.true c.requires.block c.requires.room
+
+pub slice_bounds-read_tail-end-then-block-self : goal.slice_bounds-read_tail-end-then-block-self
+slice_bounds-read_tail-end-then-block-self g c =
+    let self = c.args.self.now in
+    let fits : self.count % c.BLOCK_LEN-len.result ≤ length c.args.out.now =
+    tail_fits (32 * g.P.BitPacker.lanes) self.count (omega (arith, g.met.P.BitPacker.some_lanes)) c.BLOCK_LEN-len.result c.args.block
+    (length (values self)) (length c.args.out.now) (c.BLOCK_LEN-len.ensures ∙ g.met.P.BitPacker.block_len) (length-first_of (value_of self) self.count)
+    c.if-block-self.true c.requires.block c.requires.room in
+    omega (arith, length-take (self.count % c.BLOCK_LEN-len.result) c.args.out.now, fits)
+
+pub read_tail-requires : goal.read_tail-requires
+read_tail-requires g c =
+    let self = c.args.self.now in
+    let fits : self.count % c.BLOCK_LEN-len.result ≤ length c.args.out.now =
+    tail_fits (32 * g.P.BitPacker.lanes) self.count (omega (arith, g.met.P.BitPacker.some_lanes)) c.BLOCK_LEN-len.result c.args.block
+    (length (values self)) (length c.args.out.now) (c.BLOCK_LEN-len.ensures ∙ g.met.P.BitPacker.block_len) (length-first_of (value_of self) self.count)
+    c.if-block-self.true c.requires.block c.requires.room in
+    let same : self.count % c.BLOCK_LEN-len.result ≡ self.count % (32 * g.P.BitPacker.lanes) =
+    ap (λ len. self.count % len) (c.BLOCK_LEN-len.ensures ∙ g.met.P.BitPacker.block_len) in
+    record { room = omega (arith, length-take (self.count % c.BLOCK_LEN-len.result) c.args.out.now, fits, same) }
+
+pub slice_bounds-unpack_block-end : goal.slice_bounds-unpack_block-end
+slice_bounds-unpack_block-end g c =
+    let self = c.args.self.now in
+    whole_fits (32 * g.P.BitPacker.lanes) self.count (omega (arith, g.met.P.BitPacker.some_lanes)) c.BLOCK_LEN-len.result c.args.block
+    (length (values self)) (length c.args.out.now) (c.BLOCK_LEN-len.ensures ∙ g.met.P.BitPacker.block_len) (length-first_of (value_of self) self.count)
+    c.if-block-self.false c.requires.room
+
+pub slice_bounds-unpack_block-end-2 : goal.slice_bounds-unpack_block-end-2
+slice_bounds-unpack_block-end-2 g c =
+    let self = c.args.self.now in
+    let fits : c.BLOCK_LEN-len.result ≤ length c.args.out.now =
+    whole_fits (32 * g.P.BitPacker.lanes) self.count (omega (arith, g.met.P.BitPacker.some_lanes)) c.BLOCK_LEN-len.result c.args.block
+    (length (values self)) (length c.args.out.now) (c.BLOCK_LEN-len.ensures ∙ g.met.P.BitPacker.block_len) (length-first_of (value_of self) self.count)
+    c.if-block-self.false c.requires.room in
+    omega (arith, length-take c.BLOCK_LEN-len.result c.args.out.now, fits)
+
+pub unpack_block-requires-clause-room : goal.unpack_block-requires-clause-room
+unpack_block-requires-clause-room g c =
+    let self = c.args.self.now in
+    let fits : c.BLOCK_LEN-len.result ≤ length c.args.out.now =
+    whole_fits (32 * g.P.BitPacker.lanes) self.count (omega (arith, g.met.P.BitPacker.some_lanes)) c.BLOCK_LEN-len.result c.args.block
+    (length (values self)) (length c.args.out.now) (c.BLOCK_LEN-len.ensures ∙ g.met.P.BitPacker.block_len) (length-first_of (value_of self) self.count)
+    c.if-block-self.false c.requires.room in
+    omega (arith, length-take c.BLOCK_LEN-len.result c.args.out.now, fits, c.BLOCK_LEN-len.ensures)
 
 of_tail : (g : Over) (c : goal.After-slice_known-then-block-self-1 g)
     → BlockFacts c.args.self.now g.met.P.BitPacker.some_lanes c.args.block c.read_tail.result c.read_tail.new.values
@@ -25,7 +78,11 @@ of_tail g c =
     c.read_tail.ensures.values in
     let below : self.count % n < n = mod-lt self.count {m = n} (omega (arith, g.met.P.BitPacker.some_lanes)) in
     let same : self.count % len ≡ self.count % n = ap (λ m. self.count % m) whole in
-    let cut : length (take (self.count % len) c.args.out.now) ≡ self.count % n = simp length-take (omega (arith, same, below, c.requires.room)) in
+    let fits : self.count % len ≤ length c.args.out.now =
+    tail_fits (32 * g.P.BitPacker.lanes) self.count (omega (arith, g.met.P.BitPacker.some_lanes)) c.BLOCK_LEN-len.result c.args.block
+    (length (values self)) (length c.args.out.now) (c.BLOCK_LEN-len.ensures ∙ g.met.P.BitPacker.block_len) (length-first_of (value_of self) self.count)
+    c.if-block-self.true c.requires.block c.requires.room in
+    let cut : length (take (self.count % len) c.args.out.now) ≡ self.count % n = simp length-take (omega (arith, same, fits)) in
     let room : c.read_tail.result ≤ length c.read_tail.new.values = omega (arith, c.read_tail.auto.values, cut, c.read_tail.ensures.len) in
     block_facts self g.met.P.BitPacker.some_lanes c.args.block c.read_tail.result c.read_tail.new.values (drop (self.count % len) c.args.out.now) room part
 
@@ -39,8 +96,12 @@ of_block g c =
     let part : HasPart self c.args.block len c.unpack_block.new.values =
     part_unpacked self g.met.P.BitPacker.some_lanes c.args.block len c.unpack_block.new.values (rw whole at c.if-block-self.false) whole
     (ap (λ m. take m c.unpack_block.new.values) c.BLOCK_LEN-len.ensures ∙ c.unpack_block.ensures.block) in
+    let fits : len ≤ length c.args.out.now =
+    whole_fits (32 * g.P.BitPacker.lanes) self.count (omega (arith, g.met.P.BitPacker.some_lanes)) c.BLOCK_LEN-len.result c.args.block
+    (length (values self)) (length c.args.out.now) (c.BLOCK_LEN-len.ensures ∙ g.met.P.BitPacker.block_len) (length-first_of (value_of self) self.count)
+    c.if-block-self.false c.requires.room in
     let room : len ≤ length c.unpack_block.new.values =
-    rw c.unpack_block.auto.values (simp length-take (omega (arith, whole, c.requires.room))) in
+    rw c.unpack_block.auto.values (simp length-take (omega (arith, fits))) in
     block_facts self g.met.P.BitPacker.some_lanes c.args.block len c.unpack_block.new.values (drop len c.args.out.now) room part
 
 pub returns-then-block-self-clause-is : goal.returns-then-block-self-clause-is

@@ -1,30 +1,24 @@
 -- The values are those of the text; header, entries, bodies and tail are their text of version 2, for which there is room.
-use Rattle.std.proofs.Common.{◌≡◌, ◌+◌, ◌-◌, ◌*◌, ◌/◌, ◌≤◌, ◌++◌, ℕ, List, length, take, drop, true, Some, None, Result, Ok, Err, is_ok, MatchOption, refl, sym, ◌∙◌, ap, arith, append_assoc}
-use Rattle.std.proofs.lemmas.List.{length-append, length-drop, take_all}
-use Rattle.bitpacking.specs.declared.kind.Kind.{Kind}
+use Rattle.std.proofs.Common.{◌≡◌, ◌+◌, ◌-◌, ◌*◌, ◌/◌, ◌≤◌, ◌++◌, ℕ, List, length, take, drop, Some, None, refl, sym, ◌∙◌, ap, arith, append_assoc}
+use Rattle.std.proofs.lemmas.List.{length-append, length-drop}
 use Rattle.bitpacking.specs.Bits.{AreBytes}
 use Rattle.bitpacking.proofs.ForCallers.{AreBytes-from_slice}
 use Rattle.bitpack_lists.specs.declared.list_kind.ListKind.{ListKind}
-use Rattle.bitpack_lists.specs.declared.list_error.ListError.{ListError}
 use Rattle.bitpack_lists.specs.Parts.{BeginsWithHeader, header, tail_values, whole_blocks}
 use Rattle.bitpack_lists.specs.Version1.{List1, fault1}
 use Rattle.bitpack_lists.specs.Version2.{IsRest2, first_out}
-use Rattle.bitpack_lists.specs.inner.Upgrading.{IsRest1, IsTested1}
+use Rattle.bitpack_lists.specs.inner.Upgrading.{IsRest1}
 use Rattle.bitpack_lists.proofs.lemmas.blocks.HeaderLemmas.{header_bytes, length-header}
 use Rattle.bitpack_lists.proofs.lemmas.blocks.ListLemmas.{lanes-is, on_err, on_ok}
-use Rattle.bitpack_lists.proofs.lemmas.v1.Soundness1.{later_from_none, list_from_none, none_from_list}
+use Rattle.bitpack_lists.proofs.lemmas.v1.Soundness1.{later_from_none, list_from_none}
 use Rattle.bitpack_lists.proofs.lemmas.blocks.PartLemmas.{AreBytes-from_items, AreBytes-right}
 use Rattle.bitpack_lists.proofs.lemmas.blocks.RestLemmas.{List2-from_rest, rest_done}
-use Rattle.bitpack_lists.proofs.lemmas.v2.Upgraded.{length_upgraded, listed}
-use Rattle.bitpack_lists.proofs.lemmas.v2.UpgradeSteps.{enough_left, none_from_ok, out_from_err}
+use Rattle.bitpack_lists.proofs.lemmas.v2.OrderedTexts.{faulty, lent, listed_as, none_is, out_is, tested}
+use Rattle.bitpack_lists.proofs.lemmas.v2.Upgraded.{length_upgraded}
+use Rattle.bitpack_lists.proofs.lemmas.v2.UpgradeSteps.{enough_left, none_from_ok}
 use Rattle.bitpack_lists.proofs.v2.upgrading.upgrade.Goals as goal
 
 -- ---- bytes with a fault of version 1 are no text
-
-faulty : (lanes : ℕ) (kind : ListKind) (values bytes : List ℕ) (fault : ListError) → 1 ≤ lanes → fault1 lanes bytes ≡ Some fault → List1 lanes kind values bytes → ⊥
-faulty lanes kind values bytes fault some found list =
-    let other : Some fault ≡ None = sym found ∙ none_from_list lanes kind values bytes some list in
-    absurd cc
 
 pub returns-in_err-header-clause-order : goal.returns-in_err-header-clause-order
 returns-in_err-header-clause-order g c = λ kind values list.
@@ -34,32 +28,7 @@ pub returns-in_err-header-clause-room : goal.returns-in_err-header-clause-room
 returns-in_err-header-clause-room g c = λ kind values text list list'.
     absurd (faulty g.P.BitPacker.lanes kind values c.args.bytes.now _ g.met.P.BitPacker.some_lanes c.in_err-header.ensures.fault list)
 
--- ---- what is after the header, as the code lends it
-
-module _ (lanes count : ℕ) (kind : ListKind) (bytes : List ℕ) (begins : BeginsWithHeader 1 lanes kind count bytes) where
-  lent : take (length bytes - 7) (drop 7 bytes) ≡ drop 7 bytes
-  lent = take_all (length bytes - 7) (drop 7 bytes) (omega (arith, length-drop 7 bytes))
-
-  tested : fault1 lanes bytes ≡ None → IsTested1 lanes count (take (length bytes - 7) (drop 7 bytes))
-  tested none = record { few = begins.few; sound = rw lent (later_from_none lanes count kind bytes begins none) }
-
-  listed_as : (kind' : ListKind) (values : List ℕ) → List1 lanes kind' values bytes → (kind' ≡ kind) × IsRest1 lanes kind count values (take (length bytes - 7) (drop 7 bytes))
-  listed_as kind' values list = rw lent (listed lanes count kind kind' values bytes begins list)
-
-  -- What the test of order finds.
-  out_is : (result : Result Kind ℕ) (position : ℕ) → ((values : List ℕ) → IsRest1 lanes kind count values (take (length bytes - 7) (drop 7 bytes))
-      → MatchOption (first_out kind values) (is_ok result ≡ true) (λ p. result ≡ Err p)) → result ≡ Err position
-      → (kind' : ListKind) (values : List ℕ) → List1 lanes kind' values bytes → first_out kind' values ≡ Some position
-  out_is result position finds e kind' values list =
-      let (same, is) = listed_as kind' values list in
-      rw same (out_from_err (first_out kind values) result position (finds values is) e)
-
-  none_is : (result : Result Kind ℕ) (found : Kind) → ((values : List ℕ) → IsRest1 lanes kind count values (take (length bytes - 7) (drop 7 bytes))
-      → MatchOption (first_out kind values) (is_ok result ≡ true) (λ p. result ≡ Err p)) → result ≡ Ok found
-      → (kind' : ListKind) (values : List ℕ) → List1 lanes kind' values bytes → first_out kind' values ≡ None
-  none_is result found finds e kind' values list =
-      let (same, is) = listed_as kind' values list in
-      rw same (none_from_ok (first_out kind values) result found (finds values is) e)
+-- ---- order
 
 pub test_order-requires : goal.test_order-requires
 test_order-requires g c =
@@ -72,8 +41,6 @@ write_entries-requires-clause-tested g c =
 pub copy_bodies-tail-requires-clause-sound : goal.copy_bodies-tail-requires-clause-sound
 copy_bodies-tail-requires-clause-sound g c =
     (tested g.P.BitPacker.lanes c.in_ok-header.header.count c.in_ok-header.header.kind c.args.bytes.now c.in_ok-header.ensures.header c.in_ok-header.ensures.fault).sound
-
--- ---- order
 
 pub returns-in-Err-clause-order : goal.returns-in-Err-clause-order
 returns-in-Err-clause-order g c = λ kind values list.

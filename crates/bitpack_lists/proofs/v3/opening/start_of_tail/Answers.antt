@@ -20,7 +20,7 @@ start_of lanes len blocks rest whole some right =
 
 pub returns-clause-start : goal.returns-clause-start
 returns-clause-start g c =
-    let entry = c.read_entry-entry.ensures in
+    let entry = c.read_entry-entry.ensures.entry in
     rw (entry.width, entry.offset)
     (start_of g.P.BitPacker.lanes c.BLOCK_LEN.result c.args.blocks c.args.rest.now (c.BLOCK_LEN.ensures ∙ g.met.P.BitPacker.block_len) (omega (arith, c.if-blocks-eq0.false))
     c.requires.entries.entries)

@@ -3,7 +3,6 @@ use Rattle.std.proofs.Common.{◌≡◌, ◌∙◌, ap, length, drop, arith}
 use Rattle.std.proofs.lemmas.List.{take_at}
 use Rattle.bitpack_lists.proofs.lemmas.blocks.HeaderLemmas.{length-header}
 use Rattle.bitpack_lists.proofs.lemmas.laws.TextLengths.{header_fits}
-use Rattle.bitpack_lists.proofs.lemmas.writing.PlannedTexts.{is_three}
 use Rattle.bitpack_lists.proofs.v3.writing.write_header.Goals as goal
 
 pub write_short_header-requires-clause-room : goal.write_short_header-requires-clause-room
@@ -15,5 +14,5 @@ returns-in-Two-clause-header c =
     let seven : length c.copy_from_slice.new.self ≡ 7 = ap length is ∙ length-header 2 c.args.kind c.args.lanes c.args.count in
     rw c.in-Two.is (take_at c.copy_from_slice.new.self (drop 7 c.args.bytes.now) 7 seven ∙ is)
 
-pub returns-in_default-clause-header : goal.returns-in_default-clause-header
-returns-in_default-clause-header c = rw (is_three c.args.version c.in_default.not-Two c.requires.older) c.write_short_header.ensures.header
+pub returns-in-Three-clause-header : goal.returns-in-Three-clause-header
+returns-in-Three-clause-header c = rw c.in-Three.is c.write_short_header.ensures.header

@@ -1,5 +1,5 @@
 -- The lanes of the packer.
 use Rattle.bitpack_lists.proofs.v4.body_tests.test_bits.Given as goal
 
-abbrev pub ghost-unpack_if_right : goal.ghost-unpack_if_right
-ghost-unpack_if_right g a = g.P.BitPacker.lanes
+abbrev pub ghost-are_right : goal.ghost-are_right
+ghost-are_right g a = g.P.BitPacker.lanes

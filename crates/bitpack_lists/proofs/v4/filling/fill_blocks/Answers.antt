@@ -3,9 +3,9 @@ use Rattle.std.proofs.Common.{◌≡◌, ◌+◌, ◌*◌, ◌++◌, ◌∷◌, 
 use Rattle.std.proofs.Math.Seq.{take-suc-set}
 use Rattle.std.proofs.lemmas.List.{length-append, length-set, take_all}
 use Rattle.bitpacking.specs.Layout.{size}
-use Rattle.bitpacking.proofs.ForCallers.{AreWords-from_slice}
 use Rattle.bitpack_lists.specs.Numbers.{byte_count}
 use Rattle.bitpack_lists.specs.Parts.{whole_blocks}
+use Rattle.bitpack_lists.specs.inner.Sources.{all_of}
 use Rattle.bitpack_lists.proofs.lemmas.v4.BlockWrites.{sizes_exist}
 use Rattle.bitpack_lists.proofs.lemmas.v4.RestWrites.{byte_count_few, parts_begin}
 use Rattle.bitpack_lists.proofs.v4.filling.fill_blocks.Goals as goal
@@ -13,7 +13,7 @@ use Rattle.bitpack_lists.proofs.v4.filling.fill_blocks.Goals as goal
 pub returns : goal.returns
 returns g c =
     let lanes : ℕ = g.P.BitPacker.lanes in
-    let values : List ℕ = c.args.values.now in
+    let values : List ℕ = all_of lanes c.args.source.now in
     let blocks : ℕ = whole_blocks lanes (length values) in
     let sum : ℕ = c.args.measured.total in
     let most : ℕ = c.args.measured.greatest in
@@ -27,19 +27,19 @@ returns g c =
     let one : List ℕ = c.split_at_mut-front.result.0.now in
     let byte : ℕ = c.byte_count-end_len.result + 16 * c.byte_count-mark_len.result in
     let whole : c.BLOCK_LEN.result ≡ 32 * lanes = c.BLOCK_LEN.ensures ∙ g.met.P.BitPacker.block_len in
-    let words = AreWords-from_slice values c.type_inv.values in
-    let (of, are) = sizes_exist lanes c.args.kind values words in
+    let words = c.requires.ready.source_is.words in
+    let (of, are) = sizes_exist lanes c.args.source.now.kind values words in
     let single : length one ≡ 1 = c.split_at_mut-front.ensures.front_len in
     let front : set one 0 byte ≡ (e + 16 * z) ∷ [] =
     sym (take_all 1 (set one 0 byte) (omega (arith, length-set one 0 byte, single))) ∙ take-suc-set one 0 byte (omega (arith, single)) ∙ rw (e_is, z_is) refl in
     let ends_long : length ends ≡ e * blocks =
-    c.fill_parts.auto.ends ∙ c.split_at_mut-ends.ensures.front_len ∙ rw (e_is, whole) refl in
+    c.fill_parts.auto.ends ∙ c.copy_blocks.auto.ends ∙ c.split_at_mut-ends.ensures.front_len ∙ rw (e_is, c.len.ensures, whole) refl in
     let marks_long : length marks ≡ z * blocks =
-    c.fill_parts.auto.marks ∙ c.split_at_mut-marks.ensures.front_len ∙ rw (z_is, whole) refl in
+    c.fill_parts.auto.marks ∙ c.copy_blocks.auto.marks ∙ c.split_at_mut-marks.ensures.front_len ∙ rw (z_is, c.len.ensures, whole) refl in
     let bodies_long : length bodies ≡ size lanes sum =
-    let after_ends = rw (e_is, whole) at c.split_at_mut-ends.ensures.back_len in
-    let after_marks = rw (z_is, whole) at c.split_at_mut-marks.ensures.back_len in
-    omega (arith, c.fill_parts.auto.bodies, after_marks, after_ends, c.split_at_mut-front.ensures.back_len, c.requires.room) in
+    let after_ends = rw (e_is, c.len.ensures, whole) at c.split_at_mut-ends.ensures.back_len in
+    let after_marks = rw (z_is, c.len.ensures, whole) at c.split_at_mut-marks.ensures.back_len in
+    omega (arith, c.fill_parts.auto.bodies, c.copy_blocks.auto.bodies, after_marks, after_ends, c.split_at_mut-front.ensures.back_len, c.requires.room) in
     λ tail.
     let all : (set one 0 byte ++ (ends ++ (marks ++ bodies))) ++ tail ≡ (e + 16 * z) ∷ (ends ++ (marks ++ (bodies ++ tail))) =
     ap (λ zs. (zs ++ (ends ++ (marks ++ bodies))) ++ tail) front
@@ -56,5 +56,5 @@ returns g c =
       marks_long,
       bodies_long,
     ) in
-    rw (all, long) (parts_begin lanes e z c.args.kind values ends marks bodies tail g.met.P.BitPacker.some_lanes words (byte_count_few sum) ends_long marks_long
+    rw (all, long) (parts_begin lanes e z c.args.source.now.kind values ends marks bodies tail g.met.P.BitPacker.some_lanes words (byte_count_few sum) ends_long marks_long
     of are (c.fill_parts.ensures of are) sum most c.requires.ready.measured refl refl bodies_long)

@@ -1,14 +1,14 @@
 -- One block more is written: its end, its mark and its body.
-use Rattle.std.proofs.Common.{◌≡◌, ◌+◌, ◌-◌, ◌*◌, ◌<◌, ◌≤◌, ℕ, List, length, take, drop, get_or, refl, suc, ◌∙◌, ap, arith}
+use Rattle.std.proofs.Common.{◌≡◌, ◌+◌, ◌-◌, ◌*◌, ◌<◌, ◌≤◌, ℕ, List, length, get_or, refl, suc, sym, ◌/◌, ◌∙◌, ap, arith}
 use Rattle.std.proofs.lemmas.Nat.{mul-le}
 use borrow.Rule.Slice.PartMut.{put_mid}
 use Rattle.bitpacking.specs.Layout.{size}
-use Rattle.bitpacking.proofs.ForCallers.{AreWords-from_slice}
+use Rattle.bitpack_lists.specs.declared.list_kind.ListKind.{ListKind}
 use Rattle.bitpack_lists.specs.Numbers.{byte_count}
 use Rattle.bitpack_lists.specs.Parts.{whole_blocks}
 use Rattle.bitpack_lists.specs.Version2.{block_of}
-use Rattle.bitpack_lists.specs.inner.Sizes4.{IsSizeOf, kind_of, mark_of, total}
-use Rattle.bitpack_lists.proofs.lemmas.blocks.BlockLemmas.{values_after}
+use Rattle.bitpack_lists.specs.inner.Sizes4.{IsSizeOf, IsWidthOf, kind_of, mark_of, total}
+use Rattle.bitpack_lists.specs.inner.Sources.{all_of}
 use Rattle.bitpack_lists.proofs.lemmas.blocks.GroupSteps.{length-written}
 use Rattle.bitpack_lists.proofs.lemmas.blocks.ValueFaults.{in_order}
 use Rattle.bitpack_lists.proofs.lemmas.blocks.WriteSteps.{lent_after}
@@ -16,32 +16,72 @@ use Rattle.bitpack_lists.proofs.lemmas.v4.BlockSizes.{kept_here, mark_here, next
 use Rattle.bitpack_lists.proofs.lemmas.v4.BlockWrites.{bodies_step, goes_on, size-add, sum_within}
 use Rattle.bitpack_lists.proofs.lemmas.v4.Marks.{greatest-le}
 use Rattle.bitpack_lists.proofs.lemmas.v4.ShortWrites.{below_count, length-lent, shorts_step}
+use Rattle.bitpack_lists.proofs.lemmas.v4.Sources.{begun-within, block-long, few-blocks}
 use Rattle.bitpack_lists.proofs.v4.filling.fill_parts.Goals as goal
+
+pub overflow_cast-end : goal.overflow_cast-end
+overflow_cast-end g c =
+    let few = begun-within g.P.BitPacker.lanes c.args.source.now g.met.P.BitPacker.some_lanes c.requires.ready.source_is c.args.measured.total c.args.measured.greatest
+    c.requires.ready.measured c.begun-begun.result.total c.begun-begun.ensures.sum_is in
+    omega (arith, few, c.requires.ready.measured.few)
+
+pub loop-index-init : goal.loop-index-init
+loop-index-init g c =
+    let lanes : ℕ = g.P.BitPacker.lanes in
+    let whole : c.BLOCK_LEN-len.result ≡ 32 * lanes = c.BLOCK_LEN-len.ensures ∙ g.met.P.BitPacker.block_len in
+    let each : c.BLOCK_LEN-len.result / 8 ≡ 4 * lanes = omega (arith, whole) in
+    let few = begun-within lanes c.args.source.now g.met.P.BitPacker.some_lanes c.requires.ready.source_is c.args.measured.total c.args.measured.greatest
+    c.requires.ready.measured c.begun-begun.result.total c.begun-begun.ensures.sum_is in
+    record {
+      kind = c.kind_to_pack-kind.ensures;
+      end = c.begun-begun.ensures.sum_is;
+      at = rw each (omega arith);
+      within = rw each (omega (arith, c.requires.bodies, mul-le (4 * lanes) c.begun-begun.result.total (4 * lanes) c.args.measured.total (omega arith) few));
+      written = c.requires.copied;
+    }
+
+pub size_of_block-size-requires-clause-block : goal.size_of_block-size-requires-clause-block
+size_of_block-size-requires-clause-block g c =
+    let lanes : ℕ = g.P.BitPacker.lanes in
+    let whole : c.BLOCK_LEN-len.result ≡ 32 * lanes = c.BLOCK_LEN-len.ensures ∙ g.met.P.BitPacker.block_len in
+    ap length c.block-block.ensures ∙ block-long lanes c.args.source.now c.loop-index.index (rw (c.len.ensures, whole) at c.loop-index-test.true)
+    ∙ sym g.met.P.BitPacker.block_len
 
 pub size_of_block-size-requires-clause-kept : goal.size_of_block-size-requires-clause-kept
 size_of_block-size-requires-clause-kept g c =
     let lanes : ℕ = g.P.BitPacker.lanes in
     let i : ℕ = c.loop-index.index in
-    let values : List ℕ = c.args.values.now in
+    let from : ℕ = c.args.source.now.blocks in
+    let kind : ListKind = c.args.source.now.kind in
+    let values : List ℕ = all_of lanes c.args.source.now in
     let before = c.loop-index.invariant in
     let whole : c.BLOCK_LEN-len.result ≡ 32 * lanes = c.BLOCK_LEN-len.ensures ∙ g.met.P.BitPacker.block_len in
-    let block : c.split_at.result.0.now ≡ block_of lanes values i =
-    c.split_at.ensures.front ∙ ap (λ m. take m c.loop-index.left.now) whole ∙ ap (take (32 * lanes)) before.left in
-    λ lt. rw c.mark_of_block-mark.ensures (kept_here lanes c.args.kind values i c.loop-index.block_kind c.split_at.result.0.now before.kind block
-    (get_or c.args.widths.now i 0) (c.requires.ready.kept i (rw whole at c.loop-index-test.true) lt))
+    let lt : i < whole_blocks lanes (length values) = rw (c.len.ensures, whole) at c.loop-index-test.true in
+    let here : from + (i - from) ≡ i = omega (arith, c.loop-index.auto.index) in
+    λ kept.
+    let width : IsWidthOf lanes kind values i (get_or c.args.widths.now (i - from) 0) =
+    rw here at (c.requires.ready.kept (i - from) (omega (arith, here, lt)) kept) in
+    rw c.mark_of_block-mark.ensures (kept_here lanes kind values i c.loop-index.kind c.block-block.result.now before.kind c.block-block.ensures
+    (get_or c.args.widths.now (i - from) 0) width)
+
+pub write_body-at-requires-clause-block : goal.write_body-at-requires-clause-block
+write_body-at-requires-clause-block g c =
+    let lanes : ℕ = g.P.BitPacker.lanes in
+    let whole : c.BLOCK_LEN-len.result ≡ 32 * lanes = c.BLOCK_LEN-len.ensures ∙ g.met.P.BitPacker.block_len in
+    ap length c.block-block.ensures ∙ block-long lanes c.args.source.now c.loop-index.index (rw (c.len.ensures, whole) at c.loop-index-test.true)
+    ∙ sym g.met.P.BitPacker.block_len
 
 pub overflow_add-end : goal.overflow_add-end
 overflow_add-end g c =
     let lanes : ℕ = g.P.BitPacker.lanes in
     let i : ℕ = c.loop-index.index in
-    let values : List ℕ = c.args.values.now in
+    let values : List ℕ = all_of lanes c.args.source.now in
     let before = c.loop-index.invariant in
     let whole : c.BLOCK_LEN-len.result ≡ 32 * lanes = c.BLOCK_LEN-len.ensures ∙ g.met.P.BitPacker.block_len in
-    let block : c.split_at.result.0.now ≡ block_of lanes values i =
-    c.split_at.ensures.front ∙ ap (λ m. take m c.loop-index.left.now) whole ∙ ap (take (32 * lanes)) before.left in
-    let within = sum_within lanes i c.size_of_block-size.result c.args.measured.total c.args.measured.greatest c.loop-index.end c.args.kind values
-    (AreWords-from_slice values c.type_inv.values) c.requires.ready.measured (rw whole at c.loop-index-test.true) before.end
-    (size_here lanes c.args.kind values i c.loop-index.block_kind c.split_at.result.0.now before.kind block c.size_of_block-size.result
+    let block : c.block-block.result.now ≡ block_of lanes values i = c.block-block.ensures in
+    let within = sum_within lanes i c.size_of_block-size.result c.args.measured.total c.args.measured.greatest c.loop-index.end c.args.source.now.kind values
+    c.requires.ready.source_is.words c.requires.ready.measured (rw (c.len.ensures, whole) at c.loop-index-test.true) before.end
+    (size_here lanes c.args.source.now.kind values i c.loop-index.kind c.block-block.result.now before.kind block c.size_of_block-size.result
     (rw c.mark_of_block-mark.ensures at c.size_of_block-size.ensures)) in
     record { fits = omega (arith, within, c.requires.ready.measured.few) }
 
@@ -49,29 +89,27 @@ pub write_body-at-requires-clause-goes_on : goal.write_body-at-requires-clause-g
 write_body-at-requires-clause-goes_on g c =
     let lanes : ℕ = g.P.BitPacker.lanes in
     let i : ℕ = c.loop-index.index in
-    let values : List ℕ = c.args.values.now in
+    let values : List ℕ = all_of lanes c.args.source.now in
     let before = c.loop-index.invariant in
     let whole : c.BLOCK_LEN-len.result ≡ 32 * lanes = c.BLOCK_LEN-len.ensures ∙ g.met.P.BitPacker.block_len in
-    let block : c.split_at.result.0.now ≡ block_of lanes values i =
-    c.split_at.ensures.front ∙ ap (λ m. take m c.loop-index.left.now) whole ∙ ap (take (32 * lanes)) before.left in
-    let mark = c.mark_of_block-mark.ensures ∙ mark_here lanes c.args.kind values i c.loop-index.block_kind c.split_at.result.0.now before.kind block in
-    rw (mark, before.kind, block) (goes_on lanes i c.args.kind values g.met.P.BitPacker.some_lanes (rw whole at c.loop-index-test.true)
-    (AreWords-from_slice values c.type_inv.values) (in_order c.args.kind values c.requires.ready.right))
+    let block : c.block-block.result.now ≡ block_of lanes values i = c.block-block.ensures in
+    let mark = c.mark_of_block-mark.ensures ∙ mark_here lanes c.args.source.now.kind values i c.loop-index.kind c.block-block.result.now before.kind block in
+    rw (mark, before.kind, block) (goes_on lanes i c.args.source.now.kind values g.met.P.BitPacker.some_lanes (rw (c.len.ensures, whole) at c.loop-index-test.true)
+    c.requires.ready.source_is.words (in_order c.args.source.now.kind values c.requires.ready.right))
 
 pub write_body-at-requires-clause-room : goal.write_body-at-requires-clause-room
 write_body-at-requires-clause-room g c =
     let lanes : ℕ = g.P.BitPacker.lanes in
     let i : ℕ = c.loop-index.index in
-    let values : List ℕ = c.args.values.now in
+    let values : List ℕ = all_of lanes c.args.source.now in
     let before = c.loop-index.invariant in
     let s : ℕ = c.size_of_block-size.result in
     let bodies : List ℕ = c.loop-index.bodies in
     let whole : c.BLOCK_LEN-len.result ≡ 32 * lanes = c.BLOCK_LEN-len.ensures ∙ g.met.P.BitPacker.block_len in
-    let block : c.split_at.result.0.now ≡ block_of lanes values i =
-    c.split_at.ensures.front ∙ ap (λ m. take m c.loop-index.left.now) whole ∙ ap (take (32 * lanes)) before.left in
-    let within = sum_within lanes i s c.args.measured.total c.args.measured.greatest c.loop-index.end c.args.kind values
-    (AreWords-from_slice values c.type_inv.values) c.requires.ready.measured (rw whole at c.loop-index-test.true) before.end
-    (size_here lanes c.args.kind values i c.loop-index.block_kind c.split_at.result.0.now before.kind block s
+    let block : c.block-block.result.now ≡ block_of lanes values i = c.block-block.ensures in
+    let within = sum_within lanes i s c.args.measured.total c.args.measured.greatest c.loop-index.end c.args.source.now.kind values
+    c.requires.ready.source_is.words c.requires.ready.measured (rw (c.len.ensures, whole) at c.loop-index-test.true) before.end
+    (size_here lanes c.args.source.now.kind values i c.loop-index.kind c.block-block.result.now before.kind block s
     (rw c.mark_of_block-mark.ensures at c.size_of_block-size.ensures)) in
     let long : length bodies ≡ size lanes c.args.measured.total = c.loop-index.auto.bodies ∙ c.requires.bodies in
     let fits : size lanes (c.loop-index.end + s) ≤ size lanes c.args.measured.total =
@@ -82,8 +120,8 @@ pub loop-index-preserved : goal.loop-index-preserved
 loop-index-preserved g c =
     let lanes : ℕ = g.P.BitPacker.lanes in
     let i : ℕ = c.loop-index.index in
-    let values : List ℕ = c.args.values.now in
-    let kind = c.args.kind in
+    let values : List ℕ = all_of lanes c.args.source.now in
+    let kind : ListKind = c.args.source.now.kind in
     let before = c.loop-index.invariant in
     let measured = c.requires.ready.measured in
     let s : ℕ = c.size_of_block-size.result in
@@ -95,16 +133,13 @@ loop-index-preserved g c =
     let most : ℕ = c.args.measured.greatest in
     let blocks : ℕ = whole_blocks lanes (length values) in
     let whole : c.BLOCK_LEN-len.result ≡ 32 * lanes = c.BLOCK_LEN-len.ensures ∙ g.met.P.BitPacker.block_len in
-    let lt : i < blocks = rw whole at c.loop-index-test.true in
-    let block : c.split_at.result.0.now ≡ block_of lanes values i =
-    c.split_at.ensures.front ∙ ap (λ m. take m c.loop-index.left.now) whole ∙ ap (take (32 * lanes)) before.left in
-    let after : c.split_at.result.1.now ≡ drop (32 * lanes * (i + 1)) values =
-    c.split_at.ensures.back ∙ ap (λ m. drop m c.loop-index.left.now) whole ∙ ap (drop (32 * lanes)) before.left ∙ values_after lanes i values in
-    let mark = c.mark_of_block-mark.ensures ∙ mark_here lanes kind values i c.loop-index.block_kind c.split_at.result.0.now before.kind block in
+    let lt : i < blocks = rw (c.len.ensures, whole) at c.loop-index-test.true in
+    let block : c.block-block.result.now ≡ block_of lanes values i = c.block-block.ensures in
+    let mark = c.mark_of_block-mark.ensures ∙ mark_here lanes kind values i c.loop-index.kind c.block-block.result.now before.kind block in
     let is : IsSizeOf lanes kind values i s =
-    size_here lanes kind values i c.loop-index.block_kind c.split_at.result.0.now before.kind block s
+    size_here lanes kind values i c.loop-index.kind c.block-block.result.now before.kind block s
     (rw c.mark_of_block-mark.ensures at c.size_of_block-size.ensures) in
-    let within = sum_within lanes i s sum most c.loop-index.end kind values (AreWords-from_slice values c.type_inv.values) measured lt before.end is in
+    let within = sum_within lanes i s sum most c.loop-index.end kind values c.requires.ready.source_is.words measured lt before.end is in
     let long : length part ≡ length bodies - at = c.write_body-at.auto.bytes ∙ lent_after at bodies in
     let e : ℕ = byte_count sum in
     let z : ℕ = byte_count most in
@@ -130,9 +165,8 @@ loop-index-preserved g c =
     let same : length (put_mid at (length bodies - at) bodies part) ≡ length bodies =
     length-written at (length bodies - at) bodies part before.within long (omega (arith, before.within)) in
     record {
-      left = after;
-      kind = rw (c.next_kind-block_kind.ensures, c.mark_of_block-mark.ensures)
-          (next_here lanes kind values i c.loop-index.block_kind c.split_at.result.0.now before.kind block);
+      kind = rw (c.next_kind-kind.ensures, c.mark_of_block-mark.ensures)
+          (next_here lanes kind values i c.loop-index.kind c.block-block.result.now before.kind block);
       end = λ of are. rw (total-more lanes kind values i s of lt is are, before.end of are) refl;
       at = at_is;
       within = omega (arith, at_is, fits, total_long, same);
@@ -151,8 +185,10 @@ loop-index-preserved g c =
 
 pub returns : goal.returns
 returns g c =
-    let whole : c.BLOCK_LEN-len.result ≡ 32 * g.P.BitPacker.lanes = c.BLOCK_LEN-len.ensures ∙ g.met.P.BitPacker.block_len in
-    let low : whole_blocks g.P.BitPacker.lanes (length c.args.values.now) ≤ c.loop-index.index = rw whole at c.loop-index-test.false in
-    let high : c.loop-index.index ≤ whole_blocks g.P.BitPacker.lanes (length c.args.values.now) = rw whole at c.loop-index.auto.index-end in
-    let last : c.loop-index.index ≡ whole_blocks g.P.BitPacker.lanes (length c.args.values.now) = omega (arith, low, high) in
+    let lanes : ℕ = g.P.BitPacker.lanes in
+    let blocks : ℕ = whole_blocks lanes (length (all_of lanes c.args.source.now)) in
+    let whole : c.BLOCK_LEN-len.result ≡ 32 * lanes = c.BLOCK_LEN-len.ensures ∙ g.met.P.BitPacker.block_len in
+    let low : blocks ≤ c.loop-index.index = rw (c.len.ensures, whole) at c.loop-index-test.false in
+    let high = rw (c.len.ensures, whole) at c.loop-index.auto.index-end in
+    let last : c.loop-index.index ≡ blocks = omega (arith, low, high, few-blocks lanes c.args.source.now g.met.P.BitPacker.some_lanes c.requires.ready.source_is) in
     rw last at c.loop-index.invariant.written

@@ -20,12 +20,10 @@ unpack_number-count-requires c = record {
   sound = ap number_fault (take_rest c.args.bytes.now 1) ∙ (header_is_right c.requires.sound.0 c.args.bytes.now c.requires.sound.1).number;
 }
 
-pub returns-clause-few : goal.returns-clause-few
-returns-clause-few c =
-    let right = header_is_right c.requires.sound.0 c.args.bytes.now c.requires.sound.1 in
-    omega (arith, right.few, c.unpack_number-count.ensures.value ∙ ap number_value (take_rest c.args.bytes.now 1))
-
 pub returns-clause-within : goal.returns-clause-within
 returns-clause-within c =
     let right = header_is_right c.requires.sound.0 c.args.bytes.now c.requires.sound.1 in
-    omega (arith, right.some, c.unpack_number-count.ensures.within)
+    record {
+      few = omega (arith, right.few, c.unpack_number-count.ensures.value ∙ ap number_value (take_rest c.args.bytes.now 1));
+      within = omega (arith, right.some, c.unpack_number-count.ensures.within);
+    }

@@ -92,8 +92,8 @@ returns g c =
       count = read.count;
       end = read.end;
       many = many_is lanes header.count header.end c.BLOCK_LEN.result bytes g.met.P.BitPacker.some_lanes small c.requires.sound read.count read.end whole;
-      few = read.few;
-      within = read.within;
+      few = read.within.few;
+      within = read.within.within;
       start = start_is lanes header.count header.end c.BLOCK_LEN.result bytes g.met.P.BitPacker.some_lanes small c.requires.sound read.count read.end whole
           c.bodies_start.result c.BLOCK_LEN-2.result c.begin_at-sizes.result (c.BLOCK_LEN-2.ensures ∙ g.met.P.BitPacker.block_len) c.bodies_start.ensures c.begin_at-sizes.ensures;
       tail_kind = c.kind_of_block4.ensures ∙ rw (whole, rest) refl;

@@ -1,11 +1,16 @@
 -- A plain list has no order; the widths of any other are those of its blocks.
-use Rattle.std.proofs.Common.{◌≡◌, ◌*◌, ℕ, List, length, take, refl, arith, zero-add}
+use Rattle.std.proofs.Common.{None, ◌≡◌, ◌*◌, ◌++◌, ℕ, List, length, take, refl, sym, subst, ◌∙◌, ap, arith}
 use Rattle.std.proofs.lemmas.List.{get_or-take, length-take}
-use Rattle.bitpack_lists.specs.Parts.{whole_blocks}
-use Rattle.bitpack_lists.specs.Version2.{is_out}
+use Rattle.bitpack_lists.specs.Chains.{LeastWidths}
+use Rattle.bitpack_lists.specs.Parts.{first_kind, whole_blocks}
+use Rattle.bitpack_lists.specs.Version2.{is_out, values_fault}
+use Rattle.bitpack_lists.specs.declared.list_kind.ListKind.{ListKind}
 use Rattle.bitpack_lists.specs.declared.list_kind.ListKind.TheVariants.{Plain}
+use Rattle.bitpack_lists.specs.inner.Sizes4.{AreKept}
+use Rattle.bitpack_lists.specs.inner.Sources.{all_of}
 use Rattle.bitpack_lists.proofs.lemmas.blocks.SearchLemmas.{least_below-all}
 use Rattle.bitpack_lists.proofs.lemmas.blocks.ValueFaults.{no_fault}
+use Rattle.bitpack_lists.proofs.lemmas.v4.Sources.{no_items, none-all}
 use Rattle.bitpack_lists.proofs.lemmas.v4.TextWrites.{least_kept}
 use Rattle.std.specs.Prelude.{slice_index}
 use Rattle.bitpack_lists.proofs.v4.planning.test_order.Goals as goal
@@ -13,18 +18,33 @@ use Rattle.bitpack_lists.proofs.v4.planning.test_order.Goals as goal
 pub test_values-requires : goal.test_values-requires
 test_values-requires g c =
     let lanes : ℕ = g.P.BitPacker.lanes in
-    let values : List ℕ = c.args.values.now in
+    let source = c.args.source.now in
+    let kind : ListKind = source.kind in
+    let values : List ℕ = all_of lanes source in
     let widths : List ℕ = c.args.widths.now in
     let blocks : ℕ = whole_blocks lanes (length values) in
+    let same : values ≡ source.later.now =
+    none-all lanes source c.if-source-eq0.true ∙ ap (λ xs. xs ++ source.later.now) (no_items source.first.now c.if-source-eq0-2.true) in
     let none : 32 * lanes * 0 ≡ 0 = omega arith in
-    let least = least_kept lanes 0 c.args.kind values (take blocks widths) g.met.P.BitPacker.some_lanes c.in_default.not-Plain
+    let kept : AreKept lanes kind values 0 widths = subst (λ from. AreKept lanes kind values from widths) c.if-source-eq0.true c.requires.kept in
+    let least = least_kept lanes 0 kind values (take blocks widths) g.met.P.BitPacker.some_lanes c.in_default.not-Plain
     (omega (arith, length-take blocks widths))
-    (λ k lt. rw (zero-add, get_or-take blocks widths k 0 (omega (arith, lt, length-take blocks widths)))
-    (c.requires.kept k (omega (arith, lt, length-take blocks widths)) (omega (arith, lt, length-take blocks widths)))) in
-    record { few = c.requires.few; widths = rw none at least }
+    (λ k lt. rw (get_or-take blocks widths k 0 (omega (arith, lt, length-take blocks widths)))
+    (kept k (omega (arith, lt, length-take blocks widths)) (omega (arith, lt, length-take blocks widths)))) in
+    record {
+      few = omega (arith, c.requires.source.few, ap length same);
+      widths = subst (λ xs. LeastWidths lanes (first_kind kind) xs (take (whole_blocks lanes (length xs)) widths)) same (rw none at least);
+    }
+
+pub returns-then-source-eq0-2 : goal.returns-then-source-eq0-2
+returns-then-source-eq0-2 g c =
+    let source = c.args.source.now in
+    let same : all_of g.P.BitPacker.lanes source ≡ source.later.now =
+    none-all g.P.BitPacker.lanes source c.if-source-eq0.true ∙ ap (λ xs. xs ++ source.later.now) (no_items source.first.now c.if-source-eq0-2.true) in
+    rw same c.test_values.ensures
 
 pub returns-in-Plain : goal.returns-in-Plain
 returns-in-Plain g c =
-    let values : List ℕ = c.args.values.now in
+    let values : List ℕ = all_of g.P.BitPacker.lanes c.args.source.now in
     let ordered = least_below-all (is_out Plain (slice_index values)) (length values) (λ k lt. refl) in
-    rw c.in-Plain.is (no_fault Plain values c.requires.few ordered)
+    subst (λ kind. values_fault kind values ≡ None) (sym c.in-Plain.is) (no_fault Plain values c.requires.source.few ordered)

@@ -18,7 +18,7 @@ pub decompress_kind-requires : goal.decompress_kind-requires
 decompress_kind-requires g c =
     let lanes : c.BLOCK_LEN.result / 32 ≡ g.P.BitPacker.lanes = lanes-is g.P.BitPacker.lanes c.BLOCK_LEN.result (c.BLOCK_LEN.ensures ∙ g.met.P.BitPacker.block_len) in
     let long = rw lanes at c.body-body.ensures.len in
-    record { narrow = c.requires.width; whole = omega (arith, long); room = rw (← g.met.P.BitPacker.block_len) c.requires.room }
+    record { narrow = c.requires.width; whole = omega (arith, long); room = rw (← g.met.P.BitPacker.block_len) c.requires.room.room }
 
 pub returns-clause-block : goal.returns-clause-block
 returns-clause-block g c =
@@ -29,6 +29,6 @@ returns-clause-block g c =
     let long : length body ≡ size lanes width = rw same at c.body-body.ensures.len in
     let words = All-take (λ v. v < 2 ^ 32) (32 * lanes) c.decompress_kind.new.decompressed (AreWords-from_slice c.decompress_kind.new.decompressed c.type_inv.values) in
     ap (λ n. take n c.decompress_kind.new.decompressed) g.met.P.BitPacker.block_len
-    ∙ values_of-held lanes width c.args.kind body c.requires.start c.requires.width long (take (32 * lanes) c.decompress_kind.new.decompressed) words
+    ∙ values_of-held lanes width c.args.kind body c.requires.room.start c.requires.width long (take (32 * lanes) c.decompress_kind.new.decompressed) words
     (rw (take_all (size lanes width) body (omega (arith, long))) at c.decompress_kind.ensures.unpacked.block)
     ∙ ap (λ xs. values_of c.args.kind (codes_of lanes width xs)) (rw same at c.body-body.ensures.body)
