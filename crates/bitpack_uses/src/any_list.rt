@@ -1,8 +1,10 @@
 //! The values of a list whose packer is known only when the program runs, or of a slice.
 
-ghost use Rattle.bitpack_lists.specs.Cursors.{position, values_of_cursor};
+ghost use Rattle.std.specs.Prelude.{slice_index};
+ghost use Rattle.bitpack_lists.specs.Cursors.{position, values_left, values_of_cursor};
+ghost use Rattle.bitpack_sorted.specs.Distinct.{distinct};
 ghost use Rattle.bitpack_sorted.specs.DistinctLaws.{increasing_rest};
-ghost use Rattle.bitpack_sorted.specs.IncreasingLaws.{IsIncreasing-from};
+ghost use Rattle.bitpack_sorted.specs.IncreasingLaws.{IsIncreasing-from, increasing_at_least};
 ghost use Rattle.bitpack_sorted.specs.Remaining.{remaining};
 ghost use Rattle.bitpack_uses.specs.declared.any_list.AnyList.TheVariants.{Eight, Four, Loose, One};
 
@@ -22,9 +24,12 @@ impl<'a> SortedCursor for AnyList<'a> {
     ghost rest = { elim [ One c ↦ remaining c | Four c ↦ remaining c | Eight c ↦ remaining c | Loose c ↦ c.values.now ] };
 
     ghost increasing = { elim [
-      | One c ↦ increasing_rest (values_of_cursor c.cursor) (position c.cursor) c.ordered.0
-      | Four c ↦ increasing_rest (values_of_cursor c.cursor) (position c.cursor) c.ordered.0
-      | Eight c ↦ increasing_rest (values_of_cursor c.cursor) (position c.cursor) c.ordered.0
+      | One c ↦ increasing_at_least (slice_index c.low 0) (distinct (values_left c.cursor))
+          (increasing_rest (values_of_cursor c.cursor) (position c.cursor) c.ordered.0)
+      | Four c ↦ increasing_at_least (slice_index c.low 0) (distinct (values_left c.cursor))
+          (increasing_rest (values_of_cursor c.cursor) (position c.cursor) c.ordered.0)
+      | Eight c ↦ increasing_at_least (slice_index c.low 0) (distinct (values_left c.cursor))
+          (increasing_rest (values_of_cursor c.cursor) (position c.cursor) c.ordered.0)
       | Loose c ↦ IsIncreasing-from c.values.now c.rising
     ] };
 

@@ -4,6 +4,7 @@
 pub mod and_query;
 pub mod answered;
 pub mod any_list;
+pub mod built_lists;
 pub mod by_hand;
 pub mod by_law;
 pub mod by_list_law;

@@ -19,7 +19,8 @@ use Rattle.bitpacking_c.specs.declared.list_view.ListView.{ListView}
 use Rattle.bitpacking_c.specs.Counting.{Counts, CountsCommon, count_in}
 use Rattle.bitpacking_c.specs.Sets.{AreListsOf, Lists, all_distinct, all_values}
 use Rattle.bitpacking_c.specs.Views.{IsListOf}
-use Rattle.bitpacking_c.specs.Windows.{in_window, is_set}
+use Rattle.bitpack_sorted.specs.Bits.{is_set}
+use Rattle.bitpacking_c.specs.Windows.{in_window}
 use Rattle.bitpacking_c.proofs.SetSteps.{has-any_distinct}
 
 -- ---- ranges

@@ -52,6 +52,16 @@ written_all done rest old all room parts is fits whole =
     let few : length old ≤ room = omega (arith, ap length is, length-distinct all, fits) in
     sym (append-nil done) ∙ ap (λ rest. done ++ rest) (sym (whole few)) ∙ parts
 
+length-filter-le : (test : ℕ → Bool) (xs : List ℕ) → length (filter test xs) ≤ length xs
+length-filter-le test [] = omega arith
+length-filter-le test (x ∷ xs) =
+    let rest = length-filter-le test xs in
+    cond_both (test x) (x ∷ filter test xs) (filter test xs) (λ (ys : List ℕ). length ys ≤ length (x ∷ xs)) (λ _. omega (arith, rest)) (λ _. omega (arith, rest))
+
+pub length-shared : (xs ys : List ℕ) → length (shared xs ys) ≤ length xs
+unfolding shared
+length-shared xs ys = length-filter-le (λ x. has ys x) xs
+
 -- the values of a text are in the order of its kind
 ordered_text : (version : Version) (lanes : ℕ) (kind : ListKind) (values bytes : List ℕ) → IsText version lanes kind values bytes
     → first_out kind values ≡ None
@@ -150,14 +160,9 @@ shortest_is (list ∷ next ∷ lists) (suc i) least lt at each =
 
 -- ---- what all lists have
 
-and_assoc : (a b c : Bool) → ((a && b) && c) ≡ (a && (b && c))
+pub and_assoc : (a b c : Bool) → ((a && b) && c) ≡ (a && (b && c))
 and_assoc true b c = refl
 and_assoc false b c = refl
-
-and_again : (a b : Bool) → (a && b) ≡ (a && (b && a))
-and_again true true = refl
-and_again true false = refl
-and_again false b = refl
 
 all_have-more : (lists : List (List ℕ)) (i v : ℕ) → i < length lists
     → all_have (take (i + 1) lists) v ≡ (all_have (take i lists) v && has (get_or lists i []) v)
@@ -176,21 +181,6 @@ pub shared_more : (now before first : Bool) (lists : Lists) (i v : ℕ) → i < 
 shared_more now before first lists i v lt one so_far =
     one ∙ ap (λ b. b && has (values_at lists i) v) so_far ∙ and_assoc first (all_have (take i (all_values lists)) v) (has (values_at lists i) v)
     ∙ ap (λ b. first && b) (sym (all_have-more (all_values lists) i v lt))
-
--- the first list again
-again_here : (before : Bool) (lists : Lists) (i v : ℕ) → i < length (all_values lists)
-    → before ≡ (has (values_at lists i) v && all_have (take i (all_values lists)) v)
-    → before ≡ (has (values_at lists i) v && all_have (take (i + 1) (all_values lists)) v)
-again_here before lists i v lt so_far =
-    so_far ∙ and_again (has (values_at lists i) v) (all_have (take i (all_values lists)) v)
-    ∙ ap (λ b. has (values_at lists i) v && b) (sym (all_have-more (all_values lists) i v lt))
-
-pub shared_again : (before : Bool) (lists : Lists) (i first v : ℕ) → i ≡ first → i < length (all_values lists)
-    → before ≡ (has (values_at lists first) v && all_have (take i (all_values lists)) v)
-    → before ≡ (has (values_at lists first) v && all_have (take (i + 1) (all_values lists)) v)
-shared_again before lists i first v same lt =
-    subst (λ j. before ≡ (has (values_at lists j) v && all_have (take i (all_values lists)) v)
-    → before ≡ (has (values_at lists j) v && all_have (take (i + 1) (all_values lists)) v)) same (again_here before lists i v lt)
 
 -- what all have, the list at an index has too
 pub all_with_one : (lists : List (List ℕ)) (i v : ℕ) → i < length lists → (has (get_or lists i []) v && all_have lists v) ≡ all_have lists v

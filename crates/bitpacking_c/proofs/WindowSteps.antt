@@ -5,7 +5,8 @@ use Rattle.std.proofs.lemmas.List.{get_or-replicate, get_or-set_other, get_or-se
 use Rattle.std.proofs.lemmas.Nat.Bits.{bit_at-trailing_zeros, bit_at-zero, bit_at_clear_other, bit_at_clear_same, bit_at_set_other, bit_at_set_same}
 use Rattle.std.specs.Int.{bit_at, bit_not, trailing_zeros}
 use Rattle.bitpack_sorted.specs.Increasing.{AllAbove, IsIncreasing, has}
-use Rattle.bitpacking_c.specs.Windows.{HasWritten, base_of, in_window, is_set}
+use Rattle.bitpack_sorted.specs.Bits.{is_set}
+use Rattle.bitpacking_c.specs.Windows.{HasWritten, base_of, in_window}
 use Rattle.bitpack_sorted.specs.Distinct.{distinct}
 use Rattle.bitpack_sorted.specs.InFront.{AreInFront}
 use Rattle.bitpack_sorted.specs.Many.{any_has, united_all}
@@ -14,6 +15,7 @@ use Rattle.bitpack_sorted.proofs.ForCallers.{has-united_all, same_tests, strictl
 use Rattle.bitpacking_c.specs.Sets.{Lists, all_distinct, all_values, total_len}
 use Rattle.bitpacking_c.proofs.SetSteps.{has-any_distinct, length-distinct}
 use Rattle.bitpacking_c.proofs.UnionSteps.{all_united, has-append, length-united}
+use Rattle.bitpacking_c.proofs.WordSteps.{clear_bit}
 
 -- ---- numbers that are written
 
@@ -121,9 +123,6 @@ all_left word = record { within = omega arith; kept = λ j le lt. refl; gone = �
 
 set_bit : (word k : ℕ) → bit_at word k ≡ 1 → is_set word k ≡ true
 set_bit word k e = rw e refl
-
-clear_bit : (word k : ℕ) → bit_at word k ≡ 0 → is_set word k ≡ false
-clear_bit word k e = rw e refl
 
 module _ (word left low place : ℕ) (is : IsLeft word left low) (some : 0 < left) (fits : left < 2 ^ 64) (here : place ≡ trailing_zeros w64 left) where
   lowest : (place < 64) × (bit_at left place ≡ 1) × ((i : ℕ) → i < place → bit_at left i ≡ 0)

@@ -36,6 +36,10 @@ SaysSome values at answer = (at < length values → answer ≡ pos 1) × (length
 abbrev pub Advances : List ℕ → ℕ → ℕ → ℤ → Type 0
 Advances values old new answer = (old < length values → new ≡ old + 1) × (length values ≤ old → new ≡ old) × SaysSome values new answer
 
+-- it is at a position, or at the end; the answer says whether a value is there
+abbrev pub MovesTo : List ℕ → ℕ → ℕ → ℤ → Type 0
+MovesTo values to new answer = (new ≡ min to (length values)) × SaysSome values new answer
+
 -- it is at the first value from its old place on that is at least the target; in a plain list it stays
 abbrev pub SeeksOn : ListKind → List ℕ → ℕ → ℕ → ℕ → ℤ → Type 0
 SeeksOn Plain values target old new answer = (answer ≡ negsuc 22) × (new ≡ old)

@@ -1,14 +1,12 @@
 -- What the calls that write packed lists answer, and what they leave in the caller's buffer.
-use Rattle.std.specs.Prelude.{◌≡◌, ℕ, ℤ, pos, negsuc, not, ◌&&◌, ◌==◌, nat_lt, if◌then◌else◌, List, length, Option, Some, None, MatchOption, Result, Ok, Err}
-use Rattle.std.specs.Option.{option_or}
+use Rattle.std.specs.Prelude.{◌≡◌, ℕ, ℤ, pos, negsuc, not, ◌&&◌, ◌==◌, nat_lt, if◌then◌else◌, List, Option, Some, None, MatchOption, Result, Ok, Err}
 use Rattle.bitpack_lists.specs.declared.list_error.ListError.{ListError}
 use Rattle.bitpack_lists.specs.declared.list_error.ListError.TheVariants.{BadKind, BadVersion, NotSorted, Short}
 use Rattle.bitpack_lists.specs.declared.version.Version.{Version}
 use Rattle.bitpack_lists.specs.declared.version.Version.TheVariants.{Two, Three, Four}
 use Rattle.bitpack_lists.specs.Parts.{kind_of_byte}
 use Rattle.bitpack_lists.specs.Newest.{IsWritten}
-use Rattle.bitpack_lists.specs.Version2.{values_fault}
-use Rattle.bitpack_lists.specs.Written.{WritesText}
+use Rattle.bitpack_lists.specs.Written.{MeasuresOne, WritesOne}
 use Rattle.bitpacking_c.specs.Views.{fault_number}
 
 -- ---- what is asked for
@@ -24,25 +22,20 @@ numbers_fault version kind =
     else if nat_lt 2 kind then Some (BadKind kind)
     else None
 
--- the first fault of these and the values: they are too many, or out of order
-abbrev pub refusal : ℕ → ℕ → List ℕ → Option ListError
-refusal version kind values = option_or (numbers_fault version kind) (values_fault (kind_of_byte kind) values)
-
 -- ---- what is written
 
 -- the text of the values is written, or they are refused; for a fault of the numbers, the answer is the first and the buffer is as it was
 abbrev pub PacksList : ℕ → ℕ → ℕ → List ℕ → List ℕ → List ℕ → Result ℕ ListError → Type 0
 PacksList lanes version kind values before after answer =
     MatchOption (numbers_fault version kind)
-    (WritesText (version_of version) lanes (kind_of_byte kind) values answer before after)
+    (WritesOne (IsWritten (version_of version) lanes (kind_of_byte kind) values) (kind_of_byte kind) values answer before after)
     (λ fault. (answer ≡ Err fault) × (after ≡ before))
 
 -- the answer is the length of the text of the values, or the first fault
 abbrev pub GivesSize : ℕ → ℕ → ℕ → List ℕ → Result ℕ ListError → Type 0
 GivesSize lanes version kind values answer =
-    MatchOption (refusal version kind values)
-    ((size : ℕ) × (answer ≡ Ok size)
-    × ((text : List ℕ) → IsWritten (version_of version) lanes (kind_of_byte kind) values text → size ≡ length text))
+    MatchOption (numbers_fault version kind)
+    (MeasuresOne (IsWritten (version_of version) lanes (kind_of_byte kind) values) (kind_of_byte kind) values answer)
     (λ fault. answer ≡ Err fault)
 
 -- ---- numbers

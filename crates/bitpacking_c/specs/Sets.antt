@@ -1,5 +1,5 @@
 -- What the calls on many packed lists answer: the values that all have, that any has, or that the first has and no other.
-use Rattle.std.specs.Prelude.{◌≡◌, ◌≢◌, ℕ, zero, suc, not, ◌<◌, ◌≤◌, ℤ, pos, negsuc, min, Bool, true, false, ◌||◌, List, [], ◌∷◌, ◌++◌, length, map, take, ◌+◌, ◌-◌, ⊤}
+use Rattle.std.specs.Prelude.{◌≡◌, ◌≢◌, ℕ, zero, suc, not, ◌<◌, ◌≤◌, ℤ, pos, negsuc, min, Bool, true, false, ◌&&◌, ◌||◌, List, [], ◌∷◌, ◌++◌, length, map, take, ◌+◌, ◌-◌, ⊤}
 use Rattle.std.specs.List.{AllZip, filter, slice_index_or}
 use Rattle.std.specs.List.Sorted.{IsStrictlyIncreasing}
 use Rattle.bitpack_lists.specs.declared.list_kind.ListKind.{ListKind}
@@ -90,6 +90,19 @@ pub record Leaves (view : ListView) (test : List ℕ → ℕ → Bool) (after : 
   pub few : count ≤ length after
   pub increasing : IsStrictlyIncreasing (take count after)
   pub members : (kind : ListKind) (all : List ℕ) → IsListOf view.lanes view.bytes.now kind all → (v : ℕ) → has (take count after) v ≡ test all v
+
+-- the lists at two indexes have all of the values
+abbrev pub HaveAll : List ListView → ℕ → ℕ → List ℕ → Type 0
+HaveAll views one other values =
+    (lists : Lists) → AreListsOf views lists → (v : ℕ) → has values v ≡ true
+    → (has (values_at lists one) v ≡ true) × (has (values_at lists other) v ≡ true)
+
+-- the values in front increase: the ones that the lists at two indexes share
+pub record HasShared (views : List ListView) (one other : ℕ) (after : List ℕ) (count : ℕ) : Type 0 where
+  pub few : count ≤ length after
+  pub increasing : IsStrictlyIncreasing (take count after)
+  pub members : (lists : Lists) → AreListsOf views lists → (v : ℕ)
+      → has (take count after) v ≡ (has (values_at lists one) v && has (values_at lists other) v)
 
 -- the values in front increase, and there is room for the view's list after them
 pub record CanAdd (view : ListView) (count : ℕ) (values : List ℕ) : Type 0 where

@@ -1,15 +1,11 @@
 -- Windows of numbers, a bit for each, and what was written of those whose bits are set.
-use Rattle.std.specs.Prelude.{◌≡◌, ℕ, ◌+◌, ◌*◌, ◌/◌, ◌%◌, ◌^◌, ◌<◌, ◌≤◌, ◌==◌, Bool, true, false, ◌||◌, List, length, slice_index, take}
-use Rattle.std.specs.Int.{bit_at}
+use Rattle.std.specs.Prelude.{◌≡◌, ℕ, ◌+◌, ◌*◌, ◌^◌, ◌<◌, ◌≤◌, nat_le, Bool, true, false, ◌&&◌, ◌||◌, List, length, take}
+use Rattle.bitpack_sorted.specs.Bits.{is_bit_set}
 use Rattle.bitpack_sorted.specs.Increasing.{IsIncreasing, has}
-
--- whether a bit of a word is set
-abbrev pub is_set : ℕ → ℕ → Bool
-is_set word place = bit_at word place == 1
 
 -- whether the bit of a number of a window is set
 abbrev pub in_window : List ℕ → ℕ → Bool
-in_window window b = is_set (slice_index window (b / 64)) (b % 64)
+in_window window b = is_bit_set window b
 
 -- the first number of a window; each has 65,536 numbers
 abbrev pub base_of : ℕ → ℕ
@@ -20,6 +16,12 @@ pub record Marks (test : ℕ → Bool) (number : ℕ) (before after : List ℕ) 
   pub marked : (b : ℕ) → b < 65536 → in_window after b ≡ (in_window before b || test (base_of number + b))
   pub between : (v : ℕ) → base_of number + 65536 ≤ v → v < next → test v ≡ false
   pub past : 2 ^ 32 ≤ next → (v : ℕ) → base_of number + 65536 ≤ v → test v ≡ false
+
+-- the bits of values up to one number of the window were set
+pub record MarksTo (values : List ℕ) (number : ℕ) (before after : List ℕ) (last : ℕ) : Type 0 where
+  pub within : last < base_of number + 65536
+  pub marked : (b : ℕ) → b < 65536
+      → in_window after b ≡ (in_window before b || (has values (base_of number + b) && nat_le (base_of number + b) last))
 
 -- the values in front are the numbers below `low` for which a test is true, in order, or the first of them if there is no room for all
 pub record HasWritten (test : ℕ → Bool) (low : ℕ) (out : List ℕ) (count : ℕ) : Type 0 where

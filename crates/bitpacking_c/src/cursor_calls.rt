@@ -2,7 +2,7 @@
 
 ghost use Rattle.std.specs.Prelude.{◌≡◌, ◌+◌, ◌-◌, ℕ, ℤ, List, length, slice_get};
 ghost use Rattle.bitpack_lists.specs.declared.list_kind.ListKind.{ListKind};
-ghost use Rattle.bitpacking_c.specs.Cursors.{Advances, IsListOfCursor, SeeksOn, UnpacksFrom, UnpacksOver, left_at_hand, position};
+ghost use Rattle.bitpacking_c.specs.Cursors.{Advances, IsListOfCursor, MovesTo, SeeksOn, UnpacksFrom, UnpacksOver, left_at_hand, position};
 ghost use Rattle.bitpacking_c.specs.Views.{Gets, IsListOf};
 
 use crate::list_cursor::ListCursor;
@@ -62,6 +62,17 @@ pub extern "C" fn bitpacking_cursor_seek(cursor: &mut ListCursor<'_>, target: u3
         → SeeksOn kind all target (position cursor.old) (position cursor.new) result }
 {
     cursor.seek(target, &mut Reads::new())
+}
+
+/// Moves a cursor to a position, forward or back, or to the end if the list has no such position. Answers 1 if there is a value at the new
+/// place, and else 0. Unpacks at most one block, and none if the position is in the block at hand.
+#[unsafe(no_mangle)]
+pub extern "C" fn bitpacking_cursor_move_to(cursor: &mut ListCursor<'_>, to: usize) -> i32
+    ensures list { cursor.new.list ≡ cursor.old.list }
+    ensures moved { (kind : ListKind) (all : List ℕ) → IsListOfCursor cursor.old kind all
+        → MovesTo all to (position cursor.new) result }
+{
+    cursor.move_to(to, &mut Reads::new())
 }
 
 /// Moves a cursor past the values of the block at hand, to the next one. Unpacks at most one block.

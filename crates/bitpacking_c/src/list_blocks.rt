@@ -5,7 +5,7 @@ ghost use Rattle.bitpack_lists.specs.Blocks.{HasBlock, HasRead, IsBefore, IsFirs
 ghost use Rattle.bitpacking_c.specs.Blocks.{AreOrdered, HasValues};
 ghost use Rattle.bitpacking_c.specs.ViewLaws.{none_of_zero};
 
-use crate::list_view::ListView;
+use crate::list_view::{ListView, bitpacking_list_len};
 use bitpack_lists::list2::{ReadBlocks, Reads};
 use bitpacking::{BitPacker, BitPacker1x, BitPacker4x, BitPacker8x, MAX_BLOCK_LEN};
 
@@ -21,6 +21,20 @@ impl<'a> ReadBlocks for ListView<'a> {
     #[inline(always)]
     fn block_len(&self) -> usize {
         32 * self.lanes as usize
+    }
+
+    #[inline(always)]
+    fn value_count(&self) -> usize {
+        bitpacking_list_len(self)
+    }
+
+    fn read_at(&self, block: usize, out: &mut [u32], reads: &mut Reads) -> usize {
+        match self.lanes {
+            0 => 0,
+            1 => read_at_in(BitPacker1x::new(), self, block, out, reads),
+            4 => read_at_in(BitPacker4x::new(), self, block, out, reads),
+            _ => read_at_in(BitPacker8x::new(), self, block, out, reads),
+        }
     }
 
     fn read_next(&self, block: usize, before: u32, out: &mut [u32], reads: &mut Reads) -> usize {
@@ -47,6 +61,26 @@ impl<'a> ReadBlocks for ListView<'a> {
             _ => find_in(BitPacker8x::new(), self, from, before, target, out, reads),
         }
     }
+}
+
+/// Reads a block of the list of a view by its number, for its packer.
+#[inline(always)]
+fn read_at_in<P: BitPacker>(
+    packer: P,
+    view: &ListView<'_>,
+    block: usize,
+    out: &mut [u32],
+    reads: &mut Reads,
+) -> usize
+    requires lanes { view.now.lanes ≡ P.lanes }
+    requires block { HasBlock view.now.lanes (HasValues view.now.lanes view.now.bytes.now) block }
+    requires room { length out.old ≡ MAX_BLOCK_LEN }
+    ensures read { HasRead view.now.lanes (HasValues view.now.lanes view.now.bytes.now)
+        (AreOrdered view.now.lanes view.now.bytes.now) block result out.new }
+    ensures one { ReadsOne view.now.lanes (HasValues view.now.lanes view.now.bytes.now) block
+        reads.old.blocks reads.new.blocks }
+{
+    view.list(packer).read_at(block, out, reads)
 }
 
 /// Reads a block of the list of a view, for its packer.

@@ -1,19 +1,21 @@
 //! How many values packed lists have in common, or together: any number of views, without room of the caller and without memory of ours.
 
-ghost use Rattle.std.specs.Prelude.{◌≡◌, ℕ, ◌<◌, ◌≤◌, ◌^◌, ◌&&◌, true, false, All, length, take};
+ghost use Rattle.std.specs.Prelude.{◌≡◌, ℕ, ◌<◌, ◌≤◌, ◌^◌, true, false, All, length};
 ghost use Rattle.std.specs.List.{HoldsAt, filter};
 ghost use Rattle.std.specs.List.Sorted.{IsStrictlyIncreasing};
-ghost use Rattle.bitpack_sorted.specs.Increasing.{has};
+ghost use Rattle.bitpack_sorted.specs.Bits.{is_set};
+ghost use Rattle.bitpack_sorted.specs.Increasing.{shared};
 ghost use Rattle.bitpack_sorted.specs.Many.{all_have};
 ghost use Rattle.bitpacking_c.specs.Counting.{CountsAny, CountsCommon, HasCountOfShared, HasCountOfUnited, count_in};
-ghost use Rattle.bitpacking_c.specs.Sets.{AreListsOf, IsInOrder, Lists, all_values, values_at};
-ghost use Rattle.bitpacking_c.specs.Windows.{in_window, is_set};
+ghost use Rattle.bitpacking_c.specs.Sets.{AreListsOf, HaveAll, IsInOrder, Lists, all_values};
+ghost use Rattle.bitpacking_c.specs.Windows.{in_window};
 
+use super::list_pairs::partner;
 use super::list_rounds::{WANTED, count_by_rounds};
-use super::list_sets::{filter_by, has_plain, shortest};
+use super::list_sets::{filter_by_others, has_plain, shortest};
 use super::list_view::{ListView, distinct_of};
 use super::list_windows::{WORDS, count, mark_all, windows};
-use bitpack_sorted::{SortedCursor, collect_to};
+use bitpack_sorted::{And, SortedCursor, collect_to};
 use bitpacking::{BitPacker, BitPacker1x, BitPacker4x, BitPacker8x};
 
 /// How many values of the shortest list are looked up in the others at once.
@@ -45,61 +47,85 @@ fn count_common(views: &[ListView<'_>], shortest: usize) -> usize
     requires { (shortest < length views.now) × All IsInOrder views.now }
     ensures { HasCountOfShared views.now result }
 {
+    let other = partner(views, shortest);
     match views[shortest].lanes {
         0 => 0,
-        1 => count_common_of(BitPacker1x::new(), views, shortest),
-        4 => count_common_of(BitPacker4x::new(), views, shortest),
-        _ => count_common_of(BitPacker8x::new(), views, shortest),
+        1 => count_common_of(BitPacker1x::new(), views, shortest, other),
+        4 => count_common_of(BitPacker4x::new(), views, shortest, other),
+        _ => count_common_of(BitPacker8x::new(), views, shortest, other),
     }
 }
 
-/// As above. The shortest is a list of a packer.
-fn count_common_of<P: BitPacker>(packer: P, views: &[ListView<'_>], shortest: usize) -> usize
+/// As above. The shortest is a list of a packer, and so is another one, if it is to be joined with it.
+fn count_common_of<P: BitPacker>(
+    packer: P,
+    views: &[ListView<'_>],
+    shortest: usize,
+    other: usize,
+) -> usize
     requires lanes { HoldsAt (λ view. view.lanes ≡ P.lanes) views.now shortest }
-    requires ordered { (shortest < length views.now) × All IsInOrder views.now }
+    requires alike { HoldsAt (λ view. view.lanes ≡ P.lanes) views.now other }
+    requires ordered { (shortest < length views.now) × (other < length views.now) × All IsInOrder views.now }
     ensures { HasCountOfShared views.now result }
 {
-    count_shared(&mut distinct_of(packer, &views[shortest]), views, shortest)
+    let one = distinct_of(packer, &views[shortest], false);
+    if other == shortest {
+        let mut cursor = one;
+        return count_shared(&mut cursor, views, shortest, shortest);
+    }
+    count_both(
+        one,
+        distinct_of(packer, &views[other], false),
+        views,
+        shortest,
+        other,
+    )
 }
 
-/// Counts the values of a cursor that all of the lists have. The list at the index has all of them.
-fn count_shared<C: SortedCursor>(cursor: &mut C, views: &[ListView<'_>], index: usize) -> usize
+/// Counts the values that two cursors share and all of the lists have. The lists at the two indexes have all that both share.
+#[inline(always)]
+fn count_both<A: SortedCursor, B: SortedCursor>(
+    one: A,
+    other: B,
+    views: &[ListView<'_>],
+    of_one: usize,
+    of_other: usize,
+) -> usize
+    requires ordered { All IsInOrder views.now }
+    requires few { length (A.rest one) < 2 ^ 32 }
+    requires of { HaveAll views.now of_one of_other (shared (A.rest one) (B.rest other)) }
+    ensures few { result ≤ length (A.rest one) }
+    ensures count { (lists : Lists) → AreListsOf views.now lists
+        → result ≡ length (filter (all_have (all_values lists)) (shared (A.rest one) (B.rest other))) }
+{
+    count_shared(&mut And::new(one, other), views, of_one, of_other)
+}
+
+/// Counts the values of a cursor that all of the lists have. The lists at the two indexes, which may be one, have all of them.
+fn count_shared<C: SortedCursor>(
+    cursor: &mut C,
+    views: &[ListView<'_>],
+    one: usize,
+    other: usize,
+) -> usize
     requires ordered { All IsInOrder views.now }
     requires few { length (C.rest cursor.old) < 2 ^ 32 }
-    requires of { (lists : Lists) → AreListsOf views.now lists → (v : ℕ)
-        → has (C.rest cursor.old) v ≡ true → has (values_at lists index) v ≡ true }
+    requires of { HaveAll views.now one other (C.rest cursor.old) }
     ensures few { result ≤ length (C.rest cursor.old) }
     ensures count { (lists : Lists) → AreListsOf views.now lists
         → result ≡ length (filter (all_have (all_values lists)) (C.rest cursor.old)) }
 {
+    if views.len() == 2 && one != other {
+        return bitpack_sorted::count(cursor);
+    }
     let mut chunk = [0; CHUNK];
     let mut counted = 0;
     let mut written = collect_to(cursor, &mut chunk);
     while written > 0 {
-        counted += filter_by_others(views, index, &mut chunk[..written]);
+        counted += filter_by_others(views, one, other, &mut chunk[..written]);
         written = collect_to(cursor, &mut chunk);
     }
     counted
-}
-
-/// Keeps the values that all of the lists have. The list at the index has all of them. Returns how many these are.
-fn filter_by_others(views: &[ListView<'_>], index: usize, values: &mut [u32]) -> usize
-    requires ordered { All IsInOrder views.now }
-    requires increasing { IsStrictlyIncreasing values.old }
-    requires of { (lists : Lists) → AreListsOf views.now lists → (v : ℕ)
-        → has values.old v ≡ true → has (values_at lists index) v ≡ true }
-    ensures few { result ≤ length values.old }
-    ensures increasing { IsStrictlyIncreasing (take result values.new) }
-    ensures members { (lists : Lists) → AreListsOf views.now lists → (v : ℕ)
-        → has (take result values.new) v ≡ (has values.old v && all_have (all_values lists) v) }
-{
-    let mut kept = values.len();
-    for other in 0..views.len() {
-        if other != index {
-            kept = filter_by(&views[other], &mut values[..kept], false);
-        }
-    }
-    kept
 }
 
 /// Answers how many values any of the lists has, each counted once; if a list is plain, -23; without lists, 0. It counts the values of

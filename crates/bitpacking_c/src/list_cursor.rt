@@ -10,9 +10,9 @@ use crate::list_view::{ListView, kind};
 use bitpack_lists::ListKind;
 use bitpack_lists::list2::{Place, Reads};
 
-/// A place in an opened list that only moves forward. It borrows the bytes of the list, as its view does.
+/// A place in an opened list. It borrows the bytes of the list, as its view does. Only `move_to` can move it back.
 ///
-/// However it is moved, it unpacks each block of the list at most once: one at its start, and then only the block that it moves to.
+/// However it is moved forward, it unpacks each block of the list at most once: one at its start, and then only the block that it moves to.
 ///
 /// C has to set all of it to zero before it is used: it is then at the end of an empty list.
 #[repr(C)]
@@ -30,7 +30,7 @@ pub struct ListCursor<'a> {
 impl<'a> ListCursor<'a> {
     ghost use Rattle.std.specs.Prelude.{◌+◌, ◌<◌, ◌≤◌, true, false, length, take, drop, slice_get};
     ghost use Rattle.bitpack_lists.specs.Blocks.{ReadsOne};
-    ghost use Rattle.bitpacking_c.specs.Cursors.{Advances, IsListOfCursor, MovesAhead, SeeksOn, left_at_hand, position};
+    ghost use Rattle.bitpacking_c.specs.Cursors.{Advances, IsListOfCursor, MovesAhead, MovesTo, SeeksOn, left_at_hand, position};
 
     /// At the end of an empty list: the cursor that is all zero.
     pub fn empty() -> ListCursor<'a>
@@ -115,6 +115,19 @@ impl<'a> ListCursor<'a> {
         ensures step { MovesAhead self.old self.new reads.old reads.new }
     {
         self.place.skip_block(&self.list, reads);
+    }
+
+    /// Moves to a position, forward or back, or to the end.
+    pub(crate) fn move_to(&mut self, to: usize, reads: &mut Reads) -> i32
+        ensures list { self.new.list ≡ self.old.list }
+        ensures moved { (kind : ListKind) (all : List ℕ) → IsListOfCursor self.old kind all
+            → MovesTo all to (position self.new) result }
+        ensures one { ReadsOne self.old.list.lanes (HasValues self.old.list.lanes self.old.list.bytes.now)
+            self.new.place.block reads.old.blocks reads.new.blocks }
+        ensures stays { self.new.place.block ≡ self.old.place.block → reads.new.blocks ≡ reads.old.blocks }
+    {
+        self.place.move_to(&self.list, to, reads);
+        if self.has_value() { 1 } else { 0 }
     }
 
     /// Moves to the first value from here on that is at least the target, or to the end. In a plain list it stays.

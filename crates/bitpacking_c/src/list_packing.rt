@@ -104,7 +104,7 @@ pub extern "C" fn bitpacking_8x_list_size(
 
 /// The version and the kind with these numbers.
 #[inline(always)]
-fn version_and_kind(version: u8, kind: u8) -> Result<(Version, ListKind), ListError>
+pub(crate) fn version_and_kind(version: u8, kind: u8) -> Result<(Version, ListKind), ListError>
     ensures fault { FindsFault result (numbers_fault version kind) }
     ensures version { IfOk result (λ found. found.0 ≡ version_of version) }
     ensures kind { IfOk result (λ found. found.1 ≡ kind_of_byte kind) }
@@ -125,7 +125,7 @@ fn version_and_kind(version: u8, kind: u8) -> Result<(Version, ListKind), ListEr
 
 /// Writes the text of the values.
 #[inline(always)]
-fn pack<P: BitPacker>(
+pub(crate) fn pack<P: BitPacker>(
     packer: &P,
     version: u8,
     kind: u8,
@@ -151,7 +151,7 @@ fn size<P: BitPacker>(packer: &P, version: u8, kind: u8, values: &[u32]) -> Resu
 
 /// The number that C is given. The position of a value out of order is written.
 #[inline(always)]
-fn answer(found: Result<usize, ListError>, position: &mut usize) -> isize
+pub(crate) fn answer(found: Result<usize, ListError>, position: &mut usize) -> isize
     requires { IfOk found (λ size. size < 2 ^ 63) }
     ensures number { result ≡ number_of_size found }
     ensures position { position.new ≡ position_after position.old found }

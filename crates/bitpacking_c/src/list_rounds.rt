@@ -103,19 +103,19 @@ fn gather_list(view: &ListView<'_>, base: u32, buffer: &mut [u32], so_far: Gathe
     match view.lanes {
         0 => so_far,
         1 => gather(
-            &mut distinct_of(BitPacker1x::new(), view),
+            &mut distinct_of(BitPacker1x::new(), view, true),
             base,
             buffer,
             so_far,
         ),
         4 => gather(
-            &mut distinct_of(BitPacker4x::new(), view),
+            &mut distinct_of(BitPacker4x::new(), view, true),
             base,
             buffer,
             so_far,
         ),
         _ => gather(
-            &mut distinct_of(BitPacker8x::new(), view),
+            &mut distinct_of(BitPacker8x::new(), view, true),
             base,
             buffer,
             so_far,

@@ -3,15 +3,16 @@
 //! The caller's room is the work space. The values of one list are written to it, and each further list takes some away, or adds some,
 //! in their place.
 
-ghost use Rattle.std.specs.Prelude.{◌≡◌, ◌≢◌, ℕ, ◌<◌, ◌≤◌, ◌&&◌, if◌then◌else◌, not, false, true, List, [], None, All, length, slice_index, take};
+ghost use Rattle.std.specs.Prelude.{◌≡◌, ◌≢◌, ◌⊎◌, ℕ, ◌<◌, ◌≤◌, ◌&&◌, if◌then◌else◌, not, false, true, List, [], None, All, length, slice_index, take};
 ghost use Rattle.std.specs.List.{HoldsAt};
 ghost use Rattle.std.specs.List.Sorted.{IsStrictlyIncreasing};
 ghost use Rattle.bitpack_lists.specs.declared.list_kind.ListKind.{ListKind};
 ghost use Rattle.bitpack_sorted.specs.Increasing.{has, shared, without};
 ghost use Rattle.bitpack_sorted.specs.InFront.{AreInFront};
 ghost use Rattle.bitpack_sorted.specs.Many.{all_have};
-ghost use Rattle.bitpacking_c.specs.Sets.{Adds, AreListsOf, CanAdd, FitsIn, HasLength, HasRoom, HasUnion, Intersects, IsInOrder, Leaves, Lists, Subtracts, Unites, all_values, any_plain, others_have, shortest_len, total_len, values_at};
+ghost use Rattle.bitpacking_c.specs.Sets.{Adds, AreListsOf, CanAdd, FitsIn, HasLength, HasRoom, HasUnion, HaveAll, Intersects, IsInOrder, Leaves, Lists, Subtracts, Unites, all_values, any_plain, others_have, shortest_len, total_len, values_at};
 
+use super::list_pairs::{copy_pair, partner};
 use super::list_sorting::{is_quick_in_turn, unite_by_sorting};
 use super::list_view::{ListView, bitpacking_list_len, distinct_of, kind};
 use super::list_windows::{is_dense, unite_by_windows};
@@ -41,7 +42,7 @@ pub extern "C" fn bitpacking_list_intersect(views: &[ListView<'_>], out: &mut [u
     intersect(views, shortest, out) as isize
 }
 
-/// Writes what all of the lists have. The one at the index is the shortest. Returns how many values this is.
+/// Writes what all of the lists have. The one at the index is the shortest.
 fn intersect(views: &[ListView<'_>], shortest: usize, out: &mut [u32]) -> usize
     requires shortest { shortest < length views.now }
     requires ordered { All IsInOrder views.now }
@@ -51,13 +52,41 @@ fn intersect(views: &[ListView<'_>], shortest: usize, out: &mut [u32]) -> usize
     ensures members { (lists : Lists) → AreListsOf views.now lists
         → (v : ℕ) → has (take result out.new) v ≡ all_have (all_values lists) v }
 {
-    let mut kept = copy_distinct(&views[shortest], out);
+    let other = partner(views, shortest);
+    let written = copy_pair(views, shortest, other, out);
+    filter_by_others(views, shortest, other, &mut out[..written])
+}
+
+/// Keeps the values that all of the lists have. The lists at the two indexes have all of them. Returns how many these are.
+pub(crate) fn filter_by_others(
+    views: &[ListView<'_>],
+    one: usize,
+    other: usize,
+    values: &mut [u32],
+) -> usize
+    requires ordered { All IsInOrder views.now }
+    requires increasing { IsStrictlyIncreasing values.old }
+    requires of { HaveAll views.now one other values.old }
+    ensures few { result ≤ length values.old }
+    ensures increasing { IsStrictlyIncreasing (take result values.new) }
+    ensures members { (lists : Lists) → AreListsOf views.now lists → (v : ℕ)
+        → has (take result values.new) v ≡ (has values.old v && all_have (all_values lists) v) }
+{
+    let mut kept = values.len();
     for index in 0..views.len() {
-        if index != shortest {
-            kept = filter_by(&views[index], &mut out[..kept], false);
+        if !is_either(index, one, other) {
+            kept = filter_by(&views[index], &mut values[..kept], false);
         }
     }
     kept
+}
+
+/// Whether an index is one of two.
+#[inline(always)]
+fn is_either(index: usize, one: usize, other: usize) -> bool
+    ensures { result ≡ true → (index ≡ one) ⊎ (index ≡ other) }
+{
+    index == one || index == other
 }
 
 /// Writes the values that any of the lists has to the front of `out`, each once and in increasing order, and answers their number.
@@ -178,7 +207,7 @@ pub(crate) fn has_plain(views: &[ListView<'_>]) -> bool
 }
 
 /// Writes the values of a list, each once, and returns how many these are.
-fn copy_distinct(view: &ListView<'_>, out: &mut [u32]) -> usize
+pub(crate) fn copy_distinct(view: &ListView<'_>, out: &mut [u32]) -> usize
     requires { IsInOrder view.now × FitsIn (length out.old) view.now }
     ensures { Adds view.now [] out.new result }
 {
@@ -200,7 +229,7 @@ fn copy_distinct_of<P: BitPacker>(packer: P, view: &ListView<'_>, out: &mut [u32
     if list.kind() == ListKind::StrictlySorted {
         return list.copy_to(out);
     }
-    collect_to(&mut distinct_of(packer, view), out)
+    collect_to(&mut distinct_of(packer, view, false), out)
 }
 
 /// Keeps the values that a list has too, or those that it lacks, and returns how many these are.
@@ -232,7 +261,7 @@ fn filter_by_list_of<P: BitPacker>(
     ensures { Leaves view.now (λ all v. has values.old v && (if lacking then not (has all v) else has all v))
         values.new result }
 {
-    filter_by_cursor(&mut distinct_of(packer, view), values, lacking)
+    filter_by_cursor(&mut distinct_of(packer, view, false), values, lacking)
 }
 
 /// As above, for a list with as many values as a block or fewer. These are unpacked: to start a cursor takes longer.
@@ -289,5 +318,5 @@ fn add_distinct_of<P: BitPacker>(
     requires { (view.now.lanes ≡ P.lanes) × CanAdd view.now count values.old }
     ensures { Adds view.now (take count values.old) values.new result }
 {
-    unite_in_place(values, count, &mut distinct_of(packer, view))
+    unite_in_place(values, count, &mut distinct_of(packer, view, true))
 }

@@ -2,7 +2,7 @@
 
 ghost use Rattle.std.specs.Prelude.{◌≡◌, ◌≢◌, ◌≤◌, ℕ, List, None, drop, length, slice_get, take, pos};
 ghost use Rattle.bitpack_lists.specs.declared.list_kind.ListKind.{ListKind};
-ghost use Rattle.bitpack_lists.specs.Opened.{kind_of, values};
+ghost use Rattle.bitpack_lists.specs.Opened.{kind_of, text, values};
 ghost use Rattle.bitpack_lists.specs.Parts.{kind_byte};
 ghost use Rattle.bitpack_lists.specs.Search.{IsSearched, first_at_least};
 ghost use Rattle.bitpack_lists.specs.Texts.{fault_of_any};
@@ -112,20 +112,55 @@ fn open_of<'a, P: BitPacker>(
 {
     match PackedList::open_any(packer, bytes) {
         Ok(list) => {
-            let found = list.outline();
-            *view = ListView {
-                bytes,
-                found,
-                lanes,
-            };
+            *view = view_of(&list, bytes, lanes);
             0
         }
         Err(fault) => -20 - fault.number() as isize,
     }
 }
 
+/// Sets a view to a text that `bitpacking_list_open` accepted before, and does not test it again.
+#[unsafe(no_mangle)]
+pub extern "C" fn bitpacking_list_open_tested<'a>(bytes: &'a [u8], view: &mut ListView<'a>)
+    requires tested { fault_of_bytes bytes.now ≡ None }
+    ensures opened { (view.new.bytes.now ≡ bytes.now) × (view.new.lanes ≡ lanes_in bytes.now) }
+{
+    match stated_lanes(bytes) {
+        1 => *view = tested_of(BitPacker1x::new(), bytes, 1),
+        4 => *view = tested_of(BitPacker4x::new(), bytes, 4),
+        _ => *view = tested_of(BitPacker8x::new(), bytes, 8),
+    }
+}
+
+/// The view of a text that was tested, of a packer of this many lanes.
+#[inline(always)]
+fn tested_of<P: BitPacker>(packer: P, bytes: &[u8], lanes: u8) -> ListView<'_>
+    requires lanes { lanes ≡ P.lanes }
+    requires known { lanes ≢ 1 → lanes ≢ 4 → lanes ≡ 8 }
+    requires tested { fault_of_any P.lanes bytes.now ≡ None }
+    ensures opened { (result.bytes.now ≡ bytes.now) × (result.lanes ≡ lanes) }
+{
+    view_of(&PackedList::from_validated_any(packer, bytes), bytes, lanes)
+}
+
+/// The view of an opened list, whose text these bytes are.
+#[inline(always)]
+fn view_of<'a, P: BitPacker>(list: &PackedList<'a, P>, bytes: &'a [u8], lanes: u8) -> ListView<'a>
+    requires lanes { lanes ≡ P.lanes }
+    requires known { lanes ≢ 1 → lanes ≢ 4 → lanes ≡ 8 }
+    requires text { text list.now ≡ bytes.now }
+    requires sound { fault_of_any P.lanes bytes.now ≡ None }
+    ensures { (result.bytes.now ≡ bytes.now) × (result.lanes ≡ lanes) }
+{
+    ListView {
+        bytes,
+        found: list.outline(),
+        lanes,
+    }
+}
+
 /// The lanes that a text says: 1 in place of any but 4 and 8.
-fn stated_lanes(bytes: &[u8]) -> u8
+pub(crate) fn stated_lanes(bytes: &[u8]) -> u8
     ensures lanes { result ≡ lanes_in bytes.now }
     ensures known { result ≢ 1 → result ≢ 4 → result ≡ 8 }
 {
@@ -168,6 +203,11 @@ pub(crate) fn kind(view: &ListView<'_>) -> ListKind
     view.found.list_kind()
 }
 
+/// Whether the list is of the version whose blocks can be sets of bits. Only time depends on the answer.
+pub(crate) fn is_newest(view: &ListView<'_>) -> bool {
+    view.found.version == 4
+}
+
 /// The kind of the list: 0 for plain, 1 for sorted, 2 for strictly sorted.
 #[unsafe(no_mangle)]
 pub extern "C" fn bitpacking_list_kind(view: &ListView<'_>) -> u8
@@ -181,9 +221,13 @@ pub extern "C" fn bitpacking_list_kind(view: &ListView<'_>) -> u8
     }
 }
 
-/// The values of a list of a packer, each once.
+/// The values of a list of a packer, each once. If they come `by_blocks`, sets of bits are unpacked; only time depends on it.
 #[inline(always)]
-pub(crate) fn distinct_of<'a, P: BitPacker>(packer: P, view: &ListView<'a>) -> DistinctValues<'a, P>
+pub(crate) fn distinct_of<'a, P: BitPacker>(
+    packer: P,
+    view: &ListView<'a>,
+    by_blocks: bool,
+) -> DistinctValues<'a, P>
     requires lanes { view.now.lanes ≡ P.lanes }
     requires ordered { (kind : ListKind) (all : List ℕ) → IsListOf view.now.lanes view.now.bytes.now kind all
         → kind ≢ ListKind.Plain }
@@ -191,7 +235,12 @@ pub(crate) fn distinct_of<'a, P: BitPacker>(packer: P, view: &ListView<'a>) -> D
         → remaining result ≡ distinct all }
     ensures some { (kind : ListKind) × (all : List ℕ) × IsListOf view.now.lanes view.now.bytes.now kind all }
 {
-    DistinctValues::new(view.list(packer).cursor())
+    let values = DistinctValues::new(view.list(packer).cursor());
+    if by_blocks {
+        values.by_blocks()
+    } else {
+        values
+    }
 }
 
 /// The value at a position.

@@ -1,13 +1,14 @@
 //! The union of dense lists by windows of 65,536 numbers: each list sets the bits of its values, and then the numbers of set bits are written.
 
-ghost use Rattle.std.specs.Prelude.{◌≡◌, ℕ, ◌+◌, ◌*◌, ◌^◌, ◌<◌, ◌≤◌, ◌==◌, ◌||◌, Bool, true, false, All, List, length};
+ghost use Rattle.std.specs.Prelude.{◌≡◌, ◌⊎◌, ℕ, ◌+◌, ◌-◌, ◌*◌, ◌/◌, ◌^◌, ◌<◌, ◌≤◌, ◌==◌, ◌||◌, Bool, true, false, All, List, Some, length, min, slice_index};
 ghost use Rattle.bitpack_lists.specs.declared.list_kind.ListKind.{ListKind};
+ghost use Rattle.bitpack_sorted.specs.Bits.{AreBitsFrom, is_bit_set, is_set};
 ghost use Rattle.bitpack_sorted.specs.Fronts.{IsFront};
 ghost use Rattle.bitpack_sorted.specs.Increasing.{at_least, first, has};
 ghost use Rattle.bitpack_sorted.specs.Many.{any_has};
 ghost use Rattle.bitpacking_c.specs.Sets.{AreListsOf, HasRoom, HasUnion, IsInOrder, Lists, all_values};
 ghost use Rattle.bitpacking_c.specs.Views.{IsListOf};
-ghost use Rattle.bitpacking_c.specs.Windows.{Marks, Writes, base_of, in_window, is_set};
+ghost use Rattle.bitpacking_c.specs.Windows.{Marks, MarksTo, Writes, base_of, in_window};
 
 use super::list_view::{ListView, bitpacking_list_len, distinct_of, value};
 use bitpack_sorted::SortedCursor;
@@ -17,6 +18,9 @@ use bitpacking::{BitPacker, BitPacker1x, BitPacker4x, BitPacker8x};
 const WINDOW: u32 = 65536;
 
 pub(crate) const WORDS: usize = 1024;
+
+/// How many words of bits a cursor is asked for at once. A set of bits that takes less than four bytes a value seldom has more.
+const HAND: usize = 64;
 
 /// What a list and the words of a window cost, and what a value gains for each list after two, but no more than for many: in 2 nanoseconds.
 const LIST_COST: usize = 250;
@@ -104,29 +108,108 @@ fn mark_list(view: &ListView<'_>, number: u32, window: &mut [u64]) -> u64
 {
     match view.lanes {
         0 => 1 << 32,
-        1 => mark(&mut distinct_of(BitPacker1x::new(), view), number, window),
-        4 => mark(&mut distinct_of(BitPacker4x::new(), view), number, window),
-        _ => mark(&mut distinct_of(BitPacker8x::new(), view), number, window),
+        1 => mark(
+            &mut distinct_of(BitPacker1x::new(), view, false),
+            number,
+            window,
+        ),
+        4 => mark(
+            &mut distinct_of(BitPacker4x::new(), view, false),
+            number,
+            window,
+        ),
+        _ => mark(
+            &mut distinct_of(BitPacker8x::new(), view, false),
+            number,
+            window,
+        ),
     }
 }
 
-/// Sets the bits of the values of a cursor, block by block.
+/// Sets the bits of the values of a cursor, part by part.
 fn mark<C: SortedCursor>(cursor: &mut C, number: u32, window: &mut [u64]) -> u64
     requires { (number < 65536) × (length window.old ≡ 1024) }
     ensures { (base_of number + 65536 ≤ result) × Marks (has (C.rest cursor.old)) number window.old window.new result }
 {
+    let mut words = [0u64; HAND];
     let mut next = cursor.seek(number * WINDOW);
     while let Some(value) = next {
         if value / WINDOW != number {
             return wide(value);
         }
-        let block = cursor.block();
-        set_bits(block, number, window);
-        let last = block[block.len() - 1].min(number * WINDOW + (WINDOW - 1));
-        let ahead = block.len() - 1;
+        let (last, ahead) = mark_part(cursor, value, &mut words, window);
         next = pass(cursor, last, ahead);
     }
     1 << 32
+}
+
+/// Sets the bits of a cursor's values in a window, up to a number: by words if their bits are at hand, and otherwise one by one, of its block.
+/// Returns this number, and how many values of the block are before it.
+#[inline(always)]
+fn mark_part<C: SortedCursor>(
+    cursor: &C,
+    value: u32,
+    words: &mut [u64],
+    window: &mut [u64],
+) -> (u32, usize)
+    requires here { first (C.rest cursor.now) ≡ Some value }
+    requires long { length window.old ≡ 1024 }
+    ensures reaches { value ≤ result.0 }
+    ensures marks { MarksTo (C.rest cursor.now) (value / 65536) window.old window.new result.0 }
+{
+    let from = value - value % 64;
+    let count = cursor
+        .bits_at_hand(from, words)
+        .min((WINDOW - from % WINDOW) as usize);
+    if count as u32 <= value % 64 {
+        return mark_block(cursor.block(), value / WINDOW, window);
+    }
+    let used = clear_after(words, count);
+    set_words(&words[..used], (from % WINDOW / 64) as usize, window);
+    (from + (count as u32 - 1), 0)
+}
+
+/// Clears the bits after the first `count` in the last of the words that have these. Returns how many words have them.
+#[inline(always)]
+fn clear_after(words: &mut [u64], count: usize) -> usize
+    requires { count ≤ 64 * length words.old }
+    ensures words { (result ≤ length words.old) × (count ≤ 64 * result) × (64 * result < count + 64) }
+    ensures kept { (i : ℕ) → i < count → is_bit_set words.new i ≡ is_bit_set words.old i }
+    ensures cleared { (i : ℕ) → count ≤ i → i < 64 * result → is_bit_set words.new i ≡ false }
+{
+    let whole = count / 64;
+    let rest = count % 64;
+    if rest == 0 {
+        return whole;
+    }
+    words[whole] = words[whole] % (1 << rest);
+    whole + 1
+}
+
+/// Sets the bits of a window, from a word of it on, that are set in some words.
+fn set_words(words: &[u64], at: usize, window: &mut [u64])
+    requires { (at + length words.now ≤ 1024) × (length window.old ≡ 1024) }
+    ensures set { (i : ℕ) → i < 64 * length words.now
+        → in_window window.new (64 * at + i) ≡ (in_window window.old (64 * at + i) || is_bit_set words.now i) }
+    ensures same { (b : ℕ) → (b < 64 * at) ⊎ (64 * (at + length words.now) ≤ b)
+        → in_window window.new b ≡ in_window window.old b }
+{
+    for index in 0..words.len() {
+        window[at + index] = window[at + index] | words[index];
+    }
+}
+
+/// Sets the bits of the values of a block that are in a window. Returns the last of the block or of the window, and how many values of the
+/// block are before it.
+fn mark_block(block: &[u32], number: u32, window: &mut [u64]) -> (u32, usize)
+    requires { (number < 65536) × (length window.old ≡ 1024) × (0 < length block.now) }
+    ensures last { result.0 ≡ min (slice_index block.now (length block.now - 1)) (base_of number + 65535) }
+    ensures set { (b : ℕ) → b < 65536
+        → in_window window.new b ≡ (in_window window.old b || has block.now (base_of number + b)) }
+{
+    set_bits(block, number, window);
+    let ahead = block.len() - 1;
+    (block[ahead].min(number * WINDOW + (WINDOW - 1)), ahead)
 }
 
 /// A value as a number of 64 bits.

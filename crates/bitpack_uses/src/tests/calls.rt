@@ -176,6 +176,19 @@ pub(super) fn upgrade3<P: BitPacker>(
     list3::upgrade(packer, text, out)
 }
 
+/// Makes a newest text of one of version 1, 2 or 3.
+pub(super) fn upgrade4<P: BitPacker>(
+    packer: &P,
+    text: &[u8],
+    values: &mut Vec<u32>,
+    out: &mut Vec<u8>,
+) -> Result<(), ListError> {
+    if !has_code::<P>() {
+        return Err(ListError::BadVersion(4));
+    }
+    list4::upgrade(packer, text, values, out)
+}
+
 /// Opens a text of version 2.
 pub(super) fn open<'a, P: BitPacker>(
     packer: &P,
@@ -265,4 +278,28 @@ pub(super) fn retain<P: BitPacker>(
     }
     let kept = intersect_in_place(items, &mut DistinctValues::new(list.cursor()));
     items.truncate(kept);
+}
+
+/// Appends the newest text of a list and more values.
+pub(super) fn encode_more<P: BitPacker>(
+    list: &PackedList<'_, P>,
+    more: &[u32],
+    out: &mut Vec<u8>,
+) -> Option<Result<(), ListError>> {
+    if !list.keeps_blocks() {
+        return None;
+    }
+    Some(list.encode_more(more, out))
+}
+
+/// Writes it into a slice.
+pub(super) fn encode_more_to<P: BitPacker>(
+    list: &PackedList<'_, P>,
+    more: &[u32],
+    bytes: &mut [u8],
+) -> Option<Result<usize, ListError>> {
+    if !list.keeps_blocks() {
+        return None;
+    }
+    Some(list.encode_more_to(more, bytes))
 }

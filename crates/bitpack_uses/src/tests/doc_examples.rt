@@ -1,6 +1,8 @@
 //! The examples of doc comments of `bitpack_lists`, which have these lines.
 
 use bitpack::list2::{ListBuf, PackedList, Reads, first_from};
+use bitpack::list4::ListBuilder;
+use bitpack::{ListError, ListKind, list4};
 use bitpack_sorted::{
     And, IncreasingSlice, SortedCursor, Values, collect_to, intersect_in_place, sort_distinct,
     subtract_in_place, unite_in_place,
@@ -26,6 +28,18 @@ fn owned_list(rt: HostRuntime) {
 }
 
 #[test]
+fn built_list(rt: HostRuntime) {
+    let mut bytes = Vec::new(rt.alloc());
+    let mut builder = ListBuilder::new(rt.alloc(), BitPacker1x::new(), ListKind::Sorted);
+    builder.extend(&[3, 5, 9]).expect(&rt, "values in order");
+    assert_eq!(rt; builder.push(8), Err(ListError::NotSorted(3)));
+    builder.push(12).expect(&rt, "a value in order");
+    builder.finish(&mut bytes).expect(&rt, "memory");
+    // Sorted in one lane: the first value, 3, and the codes 2, 4 and 3 at width 3.
+    assert_eq!(rt; bytes.as_slice(), [0x54, 3, 3, 0xe2, 0].as_slice());
+}
+
+#[test]
 fn values_at_positions(rt: HostRuntime) {
     let list = PackedList::open(BitPacker1x::new(), &LIST).expect(&rt, "a list");
     // `list` is 3, 5, 9, 12.
@@ -40,6 +54,24 @@ fn bounds_of_a_block(rt: HostRuntime) {
     assert!(rt; list.len() >= 32);
     // `list` is sorted, and has 0, 2, 4, .., 62.
     assert_eq!(rt; list.block_bounds(0, &mut Reads::new()), (0, 62));
+}
+
+#[test]
+fn last_value_of_a_block(rt: HostRuntime) {
+    let list = PackedList::open(BitPacker1x::new(), &EVEN).expect(&rt, "a list");
+    assert!(rt; list.len() >= 32);
+    assert!(rt; list.kind() != ListKind::Plain);
+    // `list` is sorted, and has 0, 2, 4, .., 62.
+    assert_eq!(rt; list.block_last(0, &mut Reads::new()), 62);
+}
+
+#[test]
+fn a_cursor_moves_to_a_position(rt: HostRuntime) {
+    let list = PackedList::open(BitPacker1x::new(), &LIST).expect(&rt, "a list");
+    // `list` is 3, 5, 9, 12.
+    let mut cursor = list.cursor();
+    cursor.move_to(2);
+    assert_eq!(rt; cursor.value(), Some(9));
 }
 
 #[test]
@@ -142,4 +174,15 @@ fn values_sorted(rt: HostRuntime) {
     let mut ids = [9, 3, 12, 3, 5];
     let distinct = sort_distinct(&mut ids);
     assert_eq!(rt; ids[..distinct], [3, 5, 9, 12][..]);
+}
+
+#[test]
+fn newest_version(rt: HostRuntime) {
+    let alloc = rt.alloc();
+    // Version 1: strictly sorted, one lane, the 33 values 0 to 32.
+    let old = [1, 2, 1, 33, 0, 0, 0, 0, 32, 0, 0, 0];
+    let (mut values, mut new) = (Vec::new(alloc), Vec::new(alloc));
+    let outcome = list4::upgrade(&BitPacker1x::new(), &old, &mut values, &mut new);
+    assert_eq!(rt; outcome, Ok(()));
+    assert_eq!(rt; new.as_slice(), [0x16, 0x21, 0x11, 0, 31, 0].as_slice());
 }

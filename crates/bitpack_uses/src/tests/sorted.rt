@@ -1,5 +1,6 @@
 //! Cursors against plain sets and plain lists: what is expected comes from a test of each number.
 
+mod bit_sets;
 mod in_place;
 mod many;
 mod moves;

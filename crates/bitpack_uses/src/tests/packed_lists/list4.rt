@@ -51,7 +51,7 @@ fn is_written<P: BitPacker>(
 }
 
 /// Fours of neighbours that are 8 apart: 0 to 3, 8 to 11 and so on, 32 values.
-fn fours(rt: &impl Abort, alloc: Global) -> Vec<u32> {
+pub(super) fn fours(rt: &impl Abort, alloc: Global) -> Vec<u32> {
     let mut values = Vec::new(alloc);
     for index in 0..32 {
         push(rt, &mut values, 8 * (index / 4) + index % 4);

@@ -138,7 +138,7 @@ fn least(set: &Set) -> Option<u32> {
     None
 }
 
-fn ordered<P: BitPacker>(cursor: Cursor<'_, P>) -> Option<DistinctValues<'_, P>> {
+pub(super) fn ordered<P: BitPacker>(cursor: Cursor<'_, P>) -> Option<DistinctValues<'_, P>> {
     if cursor.is_in_order() {
         Some(DistinctValues::new(cursor))
     } else {

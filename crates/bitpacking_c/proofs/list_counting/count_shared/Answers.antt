@@ -3,7 +3,7 @@ use Rattle.std.proofs.Common.{◌≡◌, ◌≤◌, ◌++◌, ℕ, List, drop, l
 use Rattle.std.proofs.lemmas.List.{length-append, length-drop, length-take-le}
 use Rattle.bitpack_sorted.specs.Many.{all_have}
 use Rattle.bitpacking_c.specs.Sets.{all_values}
-use Rattle.bitpacking_c.proofs.ChunkSteps.{counted_first, counted_more, rest_among, written_among, written_end, written_len, written_rising}
+use Rattle.bitpacking_c.proofs.ChunkSteps.{counted_first, counted_more, counted_two, rest_among, written_among, written_end, written_len, written_rising}
 use Rattle.bitpacking_c.proofs.list_counting.count_shared.Goals as goal
 
 pub loop-written-init : goal.loop-written-init
@@ -62,3 +62,9 @@ loop-written-preserved g c =
           filtered.result _ (take written before) filtered.ensures.increasing so_far.increasing (filtered.ensures.members lists are)
           (length-take-le filtered.result filtered.new.values (omega (arith, filtered.ensures.few, filtered.auto.values))) (so_far.count lists are);
     }
+
+pub returns-then-one-other-clause-count : goal.returns-then-one-other-clause-count
+returns-then-one-other-clause-count g c lists are =
+    c.count.ensures.count
+    ∙ counted_two c.args.views.now lists c.args.one c.args.other (g.C.SortedCursor.rest c.args.cursor.now) are c.if-views-eq2.true c.if-one-other.true
+    (g.met.C.SortedCursor.increasing c.args.cursor.now) (c.requires.of lists are)

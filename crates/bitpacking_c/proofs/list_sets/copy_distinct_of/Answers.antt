@@ -1,8 +1,10 @@
 -- The values of a strictly sorted list increase; those of a cursor do too.
-use Rattle.std.proofs.Common.{◌≡◌, ◌≤◌, length, take, ◌∙◌, ap, arith, rules}
+use Rattle.std.proofs.Common.{◌≡◌, ◌≤◌, get_or, length, take, ◌∙◌, ap, arith, rules}
 use Rattle.bitpack_lists.specs.declared.list_kind.ListKind.TheVariants.{StrictlySorted}
-use Rattle.bitpack_lists.specs.Cursors.{position, values_of_cursor}
+use Rattle.bitpack_lists.specs.Cursors.{position, values_left, values_of_cursor}
+use Rattle.bitpack_sorted.specs.Distinct.{distinct}
 use Rattle.bitpack_sorted.specs.DistinctLaws.{increasing_rest}
+use Rattle.bitpack_sorted.specs.IncreasingLaws.{increasing_at_least}
 use Rattle.bitpack_sorted.specs.Increasing.{has}
 use Rattle.bitpack_lists.specs.Opened.{kind_of, values}
 use Rattle.bitpack_sorted.specs.Remaining.{remaining}
@@ -54,7 +56,7 @@ returns g c =
     record {
       leaves = record {
         few = within;
-        increasing = rw done (strictly_from_increasing old (increasing_rest (values_of_cursor cursor) (position cursor) c.distinct_of.result.ordered.0));
+        increasing = rw done (strictly_from_increasing old (increasing_at_least (get_or c.distinct_of.result.low 0 0) (distinct (values_left cursor)) (increasing_rest (values_of_cursor cursor) (position cursor) c.distinct_of.result.ordered.0)));
         members = λ kind all is v. ap (λ xs. has xs v) (done ∙ c.distinct_of.ensures.values kind all is) ∙ has-distinct all v;
       };
       few = λ most fits.

@@ -1,8 +1,8 @@
--- Each turn marks a block and passes it, or what of it is in the window.
-use Rattle.std.proofs.Common.{◌≡◌, ◌+◌, ◌^◌, ◌<◌, Some, sym, ◌∙◌, arith}
+-- Each turn marks some values of the window and passes them.
+use Rattle.std.proofs.Common.{◌≡◌, ◌+◌, ◌/◌, ◌^◌, ◌<◌, Some, sym, ◌∙◌, arith}
 use Rattle.bitpack_sorted.specs.Increasing.{first}
 use Rattle.bitpack_sorted.proofs.ForCallers.{shorter_at_least}
-use Rattle.bitpacking_c.proofs.MarkSteps.{block_marked, block_reaches, later, marked_to, marking_begun, some_block}
+use Rattle.bitpacking_c.proofs.MarkSteps.{later, marked_to, marking_begun, part_marked}
 use Rattle.bitpacking_c.proofs.list_windows.mark.Goals as goal
 
 pub loop-next-init : goal.loop-next-init
@@ -30,20 +30,17 @@ pub loop-next-smaller : goal.loop-next-smaller
 loop-next-smaller g c =
     let rest = g.C.SortedCursor.rest c.loop-next.cursor in
     let here : first rest ≡ Some c.in-Some.value = sym c.loop-next.invariant.next ∙ c.in-Some.is in
-    let reaches = block_reaches rest c.block-block.result.now c.in-Some.value c.block-block.ensures here in
-    rw c.pass-next.ensures.rest
-    (shorter_at_least (c.min-last.result + 1) rest c.in-Some.value here (omega (arith, reaches, c.min-last.ensures, c.if-value-number.false)))
+    let part = c.mark_part-last in
+    rw c.pass-next.ensures.rest (shorter_at_least (part.result.0 + 1) rest c.in-Some.value here (omega (arith, part.ensures.reaches)))
 
 pub loop-next-preserved : goal.loop-next-preserved
 loop-next-preserved g c =
     let rest = g.C.SortedCursor.rest c.loop-next.cursor in
-    let here : first rest ≡ Some c.in-Some.value = sym c.loop-next.invariant.next ∙ c.in-Some.is in
-    let block = c.block-block.result.now in
-    let some = some_block rest block c.in-Some.value c.block-block.ensures here in
+    let part = c.mark_part-last in
+    let same : c.in-Some.value / 65536 ≡ c.args.number = c.if-value-number.false in
     record {
-      long = c.set_bits.auto.window ∙ c.loop-next.invariant.long;
-      marking = block_marked (g.C.SortedCursor.rest c.args.cursor.now) rest c.args.number c.args.window.now c.loop-next.window c.loop-next.invariant.marking
-          block c.set_bits.new.window (g.C.SortedCursor.rest c.pass-next.new.cursor) c.min-last.result c.block-block.ensures some
-          (omega (arith, c.min-last.ensures)) (omega (arith, c.min-last.ensures)) c.set_bits.ensures c.pass-next.ensures.rest;
+      long = part.auto.window ∙ c.loop-next.invariant.long;
+      marking = part_marked (g.C.SortedCursor.rest c.args.cursor.now) rest c.args.number c.args.window.now c.loop-next.window c.loop-next.invariant.marking
+          part.new.window (g.C.SortedCursor.rest c.pass-next.new.cursor) part.result.0 (rw same at part.ensures.marks) c.pass-next.ensures.rest;
       next = c.pass-next.ensures.value;
     }

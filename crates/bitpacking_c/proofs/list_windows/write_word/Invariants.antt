@@ -1,6 +1,7 @@
 -- What was written are the numbers of the bits that are no longer left.
 use Rattle.std.proofs.Common.{ℕ, ◌≡◌, ◌+◌, ◌-◌, ◌<◌, ◌≤◌, Bool, length}
-use Rattle.bitpacking_c.specs.Windows.{Writes, is_set}
+use Rattle.bitpack_sorted.specs.Bits.{is_set}
+use Rattle.bitpacking_c.specs.Windows.{Writes}
 use Rattle.bitpacking_c.proofs.WindowSteps.{IsLeft}
 use Rattle.bitpacking_c.proofs.list_windows.write_word.Given as goal
 
