@@ -4,7 +4,7 @@
 #include <stdio.h>
 #include <stdlib.h>
 
-enum { VERSION = BITPACKING_LIST_VERSION_4, KIND = BITPACKING_STRICTLY_SORTED, DOCUMENTS = 1000 };
+enum { VERSION = BITPACKING_LIST_NEWEST, KIND = BITPACKING_STRICTLY_SORTED, DOCUMENTS = 1000 };
 
 /* The words. A document has a word if this number divides its own, which is from 1 on. */
 enum { EVEN, FIZZ, BUZZ, WORDS };

@@ -1,16 +1,18 @@
 /* bitpacking.h: blocks of 32-bit integers packed in few bits per value, and chains and lists of such blocks.
  *
- * The functions are in a static library; docs/C.md of the repository says how to build it. libbitpacking.a chooses the level of the
- * processor, and libbitpacking_c.a has one level. An installed libbitpacking_c.a is one of these. Three functions are `static inline` here,
- * and in no archive: bitpacking_list_empty, bitpacking_cursor_block and bitpacking_error_text. Four steps of cursors are in the archive,
- * and `static inline` here too: see bitpacking_cursor_value_inline.
+ * The functions are in a static library, libbitpacking.a; docs/C.md of the repository says how to build it. It chooses the level of the
+ * processor, or has one level. Four functions are `static inline` here, and in no archive: bitpacking_list_empty, bitpacking_list_none,
+ * bitpacking_cursor_block and bitpacking_error_text; the shared library has them for other languages. Four steps of cursors, and list_pack
+ * and list_size of each packer, are in the archive and `static inline` here too: see bitpacking_cursor_value_inline and
+ * bitpacking_4x_list_pack_inline.
  *
  * What each call of the archive returns and writes is proved for all arguments that meet these rules:
  *
  * - A pointer with a length after it is to that many items. It may be NULL if the length is 0.
- * - The pointers num_bits, view, cursor, position and item are to one item each, and must not be NULL.
+ * - The pointers num_bits, view, cursor, builder, position, item, block, least and greatest are to one item each, and must not be NULL. Only
+ *   the position of list_pack and list_size may be NULL: see bitpacking_4x_list_pack_inline.
  * - Pointers are aligned for their type.
- * - The buffers that a call writes overlap none of its other arguments, and no bytes of a view or a cursor.
+ * - The buffers that a call writes overlap none of its other arguments, no bytes of a view or a cursor, and no values of a builder.
  * - Nothing else writes to an argument during a call, and nothing reads what the call writes.
  * - The bytes of a list stay as they are while a view or a cursor of it is used: see bitpacking_list below.
  *
@@ -27,8 +29,8 @@
  *     strictly_sorted    one less than that, modulo 2^32                       initial, or BITPACKING_NO_INITIAL for none
  *
  * A call that works returns a number of bytes, or a width, from 0 on. A call that does not returns one of the negative
- * numbers below, and has then written nothing: the buffers are as they were. Only list_pack and list_size write at one error, the
- * position of a value that is out of order.
+ * numbers below, and has then written nothing: the buffers are as they were. Only list_pack, list_size and list_builder_extend write at
+ * one error, the position of a value that is out of order.
  *
  *     uint32_t values[128], back[128];
  *     uint8_t bytes[BITPACKING_4X_BLOCK_SIZE(BITPACKING_MAX_WIDTH)], width;
@@ -81,6 +83,15 @@ uint32_t bitpacking_version(void);
 
 /* Why bitpacking_list_gather did not work. */
 #define BITPACKING_BAD_POSITION (-5) /* a position is not in the list */
+
+/* Why bitpacking_list_bounds, bitpacking_list_block_last or bitpacking_list_read_block did not work. */
+#define BITPACKING_BAD_BLOCK (-6) /* the list has no such block */
+
+/* Why bitpacking_list_get_wide or bitpacking_list_unpack_wide did not work. */
+#define BITPACKING_BAD_BASE (-7) /* the base is above BITPACKING_MAX_BASE */
+
+/* The greatest base of values: with it, no value passes 64 bits. */
+#define BITPACKING_MAX_BASE (UINT64_MAX - UINT32_MAX)
 
 uint32_t bitpacking_no_initial(void);
 
@@ -255,7 +266,8 @@ typedef struct bitpacking_list {
 /* The versions of a list. */
 #define BITPACKING_LIST_VERSION_2 2
 #define BITPACKING_LIST_VERSION_3 3
-#define BITPACKING_LIST_VERSION_4 4 /* the newest; a list shorter than a block is written in version 3 */
+#define BITPACKING_LIST_VERSION_4 4 /* a list shorter than a block is written in version 3 */
+#define BITPACKING_LIST_NEWEST BITPACKING_LIST_VERSION_4
 
 /* Room that is enough for every list of values_len values, in bytes: of each packer, version and kind. */
 #define BITPACKING_LIST_ROOM(values_len) (7 + 4 * sizeof(uint8_t) * (values_len) + 9 * sizeof(uint8_t) * ((values_len) / 32))
@@ -271,6 +283,21 @@ static inline bitpacking_list bitpacking_list_empty(void)
 /* Opens a text of version 2, 3 or 4, of the packer that it names. Accepts any bytes, and tests all of them. Returns 0; or the first of the
  * faults below, in the order of docs/FORMAT.md, and then the view is as it was. */
 ptrdiff_t bitpacking_list_open(const uint8_t *bytes, size_t bytes_len, bitpacking_list *view);
+
+/* Opens bytes that bitpacking_list_open accepted before, and that did not change since. It does not test them again: it reads the header, and
+ * the last of what is said of the blocks. Other bytes may make this call or a later one read or write outside its buffers. */
+void bitpacking_list_open_tested(const uint8_t *bytes, size_t bytes_len, bitpacking_list *view);
+
+/* A view of the empty strictly sorted list, in place of a list that is not there: a query with it has no error, as it has with
+ * BITPACKING_LIST_EMPTY, which is plain. */
+static inline bitpacking_list bitpacking_list_none(void)
+{
+    static const uint8_t bytes[] = {0xA0};
+    bitpacking_list list = BITPACKING_LIST_EMPTY;
+
+    bitpacking_list_open(bytes, sizeof bytes, &list);
+    return list;
+}
 
 #define BITPACKING_LIST_SHORT (-21)       /* bytes are missing */
 #define BITPACKING_LIST_BAD_VERSION (-22) /* the text is of another version */
@@ -288,6 +315,21 @@ ptrdiff_t bitpacking_list_open(const uint8_t *bytes, size_t bytes_len, bitpackin
 #define BITPACKING_LIST_BAD_SIZES (-36)   /* of version 4: the ends or the marks do not have the least count of bytes */
 #define BITPACKING_LIST_BAD_BITS (-37)    /* of version 4: a set of bits is not the one of its block */
 
+/* No block or no position: what bitpacking_list_fault writes then. */
+#define BITPACKING_NOWHERE SIZE_MAX
+
+/* Where the first fault of bytes lies. Tests the bytes as bitpacking_list_open does, and returns the same: 0, and then nothing is written;
+ * or the number of the first fault, and then *block and *position are both written, for
+ *
+ *     LIST_BAD_WIDTH, _LOOSE_WIDTH, _BAD_OFFSET, _BAD_LAST, _BAD_BITS   *block is the number of the block with the fault
+ *     LIST_NOT_SORTED                                                  *position is the position of the first value out of order, and
+ *                                                                      *block its block; after the whole blocks, their count
+ *     all others                                                       neither is known
+ *
+ * What is not known is BITPACKING_NOWHERE. The index of a byte is never told. For LIST_SHORT the first byte that is missing is after the
+ * last one. */
+ptrdiff_t bitpacking_list_fault(const uint8_t *bytes, size_t bytes_len, size_t *block, size_t *position);
+
 /* How many values an opened list has. */
 size_t bitpacking_list_len(const bitpacking_list *view);
 
@@ -301,6 +343,13 @@ int32_t bitpacking_list_get(const bitpacking_list *view, size_t position, uint32
 /* Unpacks the whole list into values, and returns the number of values. If there is no room for them it returns BITPACKING_SHORT and
  * writes nothing. Values after the list stay as they were. Each block is unpacked once. */
 ptrdiff_t bitpacking_list_unpack(const bitpacking_list *view, uint32_t *values, size_t values_len);
+
+/* Numbers of 64 bits that are a base and a value, such as places in a large corpus, or times. As bitpacking_list_get and
+ * bitpacking_list_unpack, but they write base + value in place of each value.
+ * BAD_BASE: the base is above BITPACKING_MAX_BASE, whatever the values are. It is tested first, and nothing is written then. In an `if`, it
+ * is true: compare the answer of get_wide with `== 1`. */
+int32_t bitpacking_list_get_wide(const bitpacking_list *view, uint64_t base, size_t position, uint64_t *item);
+ptrdiff_t bitpacking_list_unpack_wide(const bitpacking_list *view, uint64_t base, uint64_t *values, size_t values_len);
 
 /* Unpacks the values from position `from` on, as many as there are and as fit, and returns how many these are: 0 from the length on. Values
  * after them stay as they were. Each block that has one of them is unpacked once, and no other. */
@@ -319,12 +368,70 @@ ptrdiff_t bitpacking_list_gather(const bitpacking_list *view, const size_t *posi
  * reads at most as many entries as the count of whole blocks has binary digits. */
 int32_t bitpacking_list_seek(const bitpacking_list *view, uint32_t target, size_t *position, uint32_t *item);
 
-/* A place in an opened list that only moves forward. It has the values of the block at hand, and no memory of its own.
+/* How many values of a list of any kind are from low to high, both included. A block is unpacked at most once, and only if its bounds do
+ * not tell: of a sorted or strictly sorted list at most two blocks. */
+size_t bitpacking_list_count_between(const bitpacking_list *view, uint32_t low, uint32_t high);
+
+/* Writes the positions of the values from low to high, both included, in increasing order: from position `from` on, as many as fit. Returns
+ * how many it wrote. Positions after them stay as they were. It unpacks no more blocks than bitpacking_list_count_between, and none if
+ * positions_len is 0. If it fills the array, there may be more: go on from the position after the last.
+ *
+ *     size_t found[64], count, from = 0;
+ *     do {
+ *         count = bitpacking_list_between(&list, 100, 199, from, found, 64);
+ *         ...
+ *         from = count > 0 ? found[count - 1] + 1 : from;
+ *     } while (count == 64);
+ */
+size_t bitpacking_list_between(const bitpacking_list *view, uint32_t low, uint32_t high, size_t from,
+                               size_t *positions, size_t positions_len);
+
+/* Writes bounds of the values of a whole block, and returns 0: no value of the block is below *least, or above *greatest. Blocks are
+ * counted from 0 on. The values after the last whole block have no bounds. It unpacks nothing.
+ * In a plain list *greatest is what the width of the block allows. *least is 0 in version 2 or 3, and in version 4 the least value of the
+ * block, above which *greatest is then as much as the width allows. In other lists *greatest is the last value of the block, and *least the
+ * value before the block, or one more in a strictly sorted list; of the first block it is 0.
+ * BAD_BLOCK: the list has no whole block of this number. Nothing is written then. */
+ptrdiff_t bitpacking_list_bounds(const bitpacking_list *view, size_t block, uint32_t *least, uint32_t *greatest);
+
+/* The blocks of a list, for a caller who keeps something of his own for each, such as its greatest score: it finds the blocks that can have
+ * a target, leaves out those that cannot win, and unpacks the others. Whole blocks are counted from 0 on. What is left after them is a
+ * shorter block, whose number is their count; it may have no value. Block b begins at position b * bitpacking_list_block_len(view).
+ *
+ *     uint32_t values[BITPACKING_MAX_BLOCK_LEN];
+ *     ptrdiff_t block = bitpacking_list_find_block(&list, 0, target);
+ *     if (block >= 0 && is_worth_it(block)) len = bitpacking_list_read_block(&list, (size_t)block, values, BITPACKING_MAX_BLOCK_LEN);
+ */
+
+/* How many values a whole block of the list has: the length of a block of its packer. For BITPACKING_LIST_EMPTY it is 0. */
+size_t bitpacking_list_block_len(const bitpacking_list *view);
+
+/* How many whole blocks the list has. */
+size_t bitpacking_list_block_count(const bitpacking_list *view);
+
+/* Writes the last value of a whole block of a sorted or strictly sorted list, and returns 0. It reads one entry, and unpacks nothing.
+ * The first of: LIST_BAD_KIND: the list is plain, and has no order; BAD_BLOCK. Nothing is written then. */
+ptrdiff_t bitpacking_list_block_last(const bitpacking_list *view, size_t block, uint32_t *item);
+
+/* Returns the number of the first whole block, from block `from` on, whose last value is at least target, in a sorted or strictly sorted
+ * list. If there is none it returns the count of whole blocks: only what is left after them can then have such a value. It tries the
+ * nearest blocks first: to block j from block i it reads at most 2k + 2 entries if j - i + 1 is at most 2^k. It unpacks nothing.
+ * LIST_BAD_KIND: the list is plain, and has no order. */
+ptrdiff_t bitpacking_list_find_block(const bitpacking_list *view, size_t from, uint32_t target);
+
+/* Unpacks a block of a list of any kind into values, and returns how many values it has. Values after them stay as they were. It unpacks
+ * one block at most. BITPACKING_MAX_BLOCK_LEN values are always room enough.
+ * The first of: BAD_BLOCK: the number is above the count of whole blocks; SHORT: values_len is below the number of values of the block.
+ * Nothing is written then. */
+ptrdiff_t bitpacking_list_read_block(const bitpacking_list *view, size_t block, uint32_t *values, size_t values_len);
+
+/* A place in an opened list. It has the values of the block at hand, and no memory of its own. Only bitpacking_cursor_move_to can move it
+ * back.
  *
  * All of a cursor is set to zero before anything else: it is then at the end of an empty list. bitpacking_cursor_start sets it to the first
  * value of a view, as often as one likes. The caller keeps the bytes of the list where they are, unchanged, for as long as the cursor is
  * used; the view may go. A cursor may be copied, and the copy moves on its own. Only the functions below may write its fields. Each of them
- * unpacks at most one block, and none if the cursor stays in its block: however it moves, a cursor unpacks each block at most once.
+ * unpacks at most one block, and none if the cursor stays in its block: however it moves forward, a cursor unpacks each block at most once.
  *
  *     bitpacking_cursor cursor = {0};
  *     uint32_t value;
@@ -355,6 +462,10 @@ int32_t bitpacking_cursor_advance(bitpacking_cursor *cursor);
  * is none it moves to the end and returns 0. In a plain list it stays, and returns BITPACKING_LIST_BAD_KIND, which is true in an `if`:
  * compare the answer with `== 1`. */
 int32_t bitpacking_cursor_seek(bitpacking_cursor *cursor, uint32_t target);
+
+/* Moves a cursor of a list of any kind to a position, forward or back, and returns 1. If the list has no such position it moves to the end
+ * and returns 0. */
+int32_t bitpacking_cursor_move_to(bitpacking_cursor *cursor, size_t to);
 
 /* Points *values at the values from here to the end of the block at hand, and returns how many these are: 0 only after the last value.
  * They are in the cursor, and stay until it moves. Neither pointer may be NULL. */
@@ -416,8 +527,8 @@ static inline int32_t bitpacking_cursor_seek_inline(bitpacking_cursor *cursor, u
 /* list_pack: writes a packed list of the values at the start of bytes, and returns its number of bytes. Bytes after those stay as they
  * were. version is BITPACKING_LIST_VERSION_2, _3 or _4, and kind is BITPACKING_PLAIN, _SORTED or _STRICTLY_SORTED.
  * The first of: LIST_BAD_VERSION; LIST_BAD_KIND; LIST_TOO_LONG; LIST_NOT_SORTED, and then *position is the position of the first value
- * out of order; SHORT: bytes_len is below the number of bytes of the list, which BITPACKING_LIST_ROOM(values_len) never is. Nothing else
- * is written then, and *position only if the answer is LIST_NOT_SORTED. */
+ * out of order, unless position is NULL; SHORT: bytes_len is below the number of bytes of the list, which BITPACKING_LIST_ROOM(values_len)
+ * never is. Nothing else is written then, and *position only if the answer is LIST_NOT_SORTED. */
 ptrdiff_t bitpacking_1x_list_pack(uint8_t version, uint8_t kind, const uint32_t *values, size_t values_len,
                                   uint8_t *bytes, size_t bytes_len, size_t *position);
 ptrdiff_t bitpacking_4x_list_pack(uint8_t version, uint8_t kind, const uint32_t *values, size_t values_len,
@@ -430,6 +541,112 @@ ptrdiff_t bitpacking_8x_list_pack(uint8_t version, uint8_t kind, const uint32_t 
 ptrdiff_t bitpacking_1x_list_size(uint8_t version, uint8_t kind, const uint32_t *values, size_t values_len, size_t *position);
 ptrdiff_t bitpacking_4x_list_size(uint8_t version, uint8_t kind, const uint32_t *values, size_t values_len, size_t *position);
 ptrdiff_t bitpacking_8x_list_size(uint8_t version, uint8_t kind, const uint32_t *values, size_t values_len, size_t *position);
+
+/* The inline forms of list_pack and list_size, whose position may be NULL. A call of one of the six names is a call of its inline form,
+ * unless BITPACKING_NO_INLINE is defined before this header is included. The functions of the archive need a position: pointers to
+ * functions and other languages call these, and so does (bitpacking_4x_list_pack)(..). */
+static inline ptrdiff_t bitpacking_1x_list_pack_inline(uint8_t version, uint8_t kind, const uint32_t *values, size_t values_len,
+                                                       uint8_t *bytes, size_t bytes_len, size_t *position)
+{
+    size_t ignored;
+
+    return (bitpacking_1x_list_pack)(version, kind, values, values_len, bytes, bytes_len, position != NULL ? position : &ignored);
+}
+
+static inline ptrdiff_t bitpacking_4x_list_pack_inline(uint8_t version, uint8_t kind, const uint32_t *values, size_t values_len,
+                                                       uint8_t *bytes, size_t bytes_len, size_t *position)
+{
+    size_t ignored;
+
+    return (bitpacking_4x_list_pack)(version, kind, values, values_len, bytes, bytes_len, position != NULL ? position : &ignored);
+}
+
+static inline ptrdiff_t bitpacking_8x_list_pack_inline(uint8_t version, uint8_t kind, const uint32_t *values, size_t values_len,
+                                                       uint8_t *bytes, size_t bytes_len, size_t *position)
+{
+    size_t ignored;
+
+    return (bitpacking_8x_list_pack)(version, kind, values, values_len, bytes, bytes_len, position != NULL ? position : &ignored);
+}
+
+static inline ptrdiff_t bitpacking_1x_list_size_inline(uint8_t version, uint8_t kind, const uint32_t *values, size_t values_len,
+                                                       size_t *position)
+{
+    size_t ignored;
+
+    return (bitpacking_1x_list_size)(version, kind, values, values_len, position != NULL ? position : &ignored);
+}
+
+static inline ptrdiff_t bitpacking_4x_list_size_inline(uint8_t version, uint8_t kind, const uint32_t *values, size_t values_len,
+                                                       size_t *position)
+{
+    size_t ignored;
+
+    return (bitpacking_4x_list_size)(version, kind, values, values_len, position != NULL ? position : &ignored);
+}
+
+static inline ptrdiff_t bitpacking_8x_list_size_inline(uint8_t version, uint8_t kind, const uint32_t *values, size_t values_len,
+                                                       size_t *position)
+{
+    size_t ignored;
+
+    return (bitpacking_8x_list_size)(version, kind, values, values_len, position != NULL ? position : &ignored);
+}
+
+#ifndef BITPACKING_NO_INLINE
+#define bitpacking_1x_list_pack(...) bitpacking_1x_list_pack_inline(__VA_ARGS__)
+#define bitpacking_4x_list_pack(...) bitpacking_4x_list_pack_inline(__VA_ARGS__)
+#define bitpacking_8x_list_pack(...) bitpacking_8x_list_pack_inline(__VA_ARGS__)
+#define bitpacking_1x_list_size(...) bitpacking_1x_list_size_inline(__VA_ARGS__)
+#define bitpacking_4x_list_size(...) bitpacking_4x_list_size_inline(__VA_ARGS__)
+#define bitpacking_8x_list_size(...) bitpacking_8x_list_size_inline(__VA_ARGS__)
+#endif
+
+/* A builder takes the values of a list one by one, or a part at a time, and then writes the list. It keeps the values in a buffer of the caller,
+ * since the bytes of a list begin with their number: 4 bytes for each value, in values.
+ *
+ * A builder is set to zero before anything else: it then refuses each value and each list. Then it is started, as often as one likes. Only the
+ * functions for builders may write its fields, and nothing else may write the buffer while the builder is used. Of a builder and its copy only
+ * one is used.
+ *
+ *     uint32_t room[1000];
+ *     uint8_t bytes[BITPACKING_LIST_ROOM(1000)];
+ *     bitpacking_list_builder builder = {NULL, 0, 0, 0, 0, 0};
+ *     if (bitpacking_list_builder_start(&builder, BITPACKING_LIST_NEWEST, 4, BITPACKING_SORTED, room, 1000) < 0) return -1;
+ *     while (...)
+ *         if (bitpacking_list_builder_push(&builder, value) < 0) ...
+ *     ptrdiff_t size = bitpacking_list_builder_finish(&builder, bytes, sizeof bytes);
+ */
+typedef struct bitpacking_list_builder {
+    uint32_t *values;
+    size_t values_len;
+    size_t count;
+    uint8_t version;
+    uint8_t lanes;
+    uint8_t kind;
+} bitpacking_list_builder;
+
+/* Starts a builder of a list without values, which has room for values_len values. lanes is 1, 4 or 8: the list is packed as by
+ * bitpacking_1x_list_pack, bitpacking_4x_list_pack or bitpacking_8x_list_pack, whose version and kind it takes. Returns 0; or the
+ * first of LIST_BAD_VERSION, LIST_BAD_KIND and LIST_WRONG_LANES, and then the builder is as it was. */
+ptrdiff_t bitpacking_list_builder_start(bitpacking_list_builder *builder, uint8_t version, uint8_t lanes, uint8_t kind,
+                                        uint32_t *values, size_t values_len);
+
+/* Pushes a value, and returns how many values there are then. The first of: LIST_TOO_LONG, if there are 268,435,456 values; LIST_NOT_SORTED,
+ * if the value is out of order after the last one; SHORT, if the buffer is full. Then the builder is as it was. */
+ptrdiff_t bitpacking_list_builder_push(bitpacking_list_builder *builder, uint32_t value);
+
+/* Pushes all of these values, or none, and returns how many values there are then. It has the errors of bitpacking_list_builder_push. At
+ * LIST_NOT_SORTED *position is the position in the list of the first value out of order, counted from the first value of the builder. */
+ptrdiff_t bitpacking_list_builder_extend(bitpacking_list_builder *builder, const uint32_t *values, size_t values_len, size_t *position);
+
+/* How many values were pushed since the builder was started. */
+size_t bitpacking_list_builder_len(const bitpacking_list_builder *builder);
+
+/* Writes the list at the start of bytes, as list_pack does, and returns its number of bytes. Bytes after those stay as they were. SHORT:
+ * bytes_len is below the number of bytes of the list, which BITPACKING_LIST_ROOM(values) never is; LIST_BAD_VERSION: the builder was not
+ * started. Nothing is written then. The builder keeps its values: more can be pushed. */
+ptrdiff_t bitpacking_list_builder_finish(const bitpacking_list_builder *builder, uint8_t *bytes, size_t bytes_len);
 
 /* What a negative number means, in a sentence. The text is a constant. Other numbers have a text of their own. */
 static inline const char *bitpacking_error_text(ptrdiff_t number)
@@ -445,12 +662,16 @@ static inline const char *bitpacking_error_text(ptrdiff_t number)
         return "A value does not fit the width.";
     case BITPACKING_BAD_POSITION:
         return "A position is not in the list.";
+    case BITPACKING_BAD_BLOCK:
+        return "The list has no block of this number.";
+    case BITPACKING_BAD_BASE:
+        return "The base is above 2^64 - 2^32.";
     case BITPACKING_LIST_SHORT:
         return "Bytes of the list are missing.";
     case BITPACKING_LIST_BAD_VERSION:
         return "The version of the list is not supported.";
     case BITPACKING_LIST_BAD_KIND:
-        return "The kind of the list is wrong.";
+        return "The list has none of the three kinds, or is plain, and a plain list has no order.";
     case BITPACKING_LIST_WRONG_LANES:
         return "The list is of another packer.";
     case BITPACKING_LIST_TOO_LONG:
@@ -503,7 +724,8 @@ ptrdiff_t bitpacking_list_subtract(const bitpacking_list *views, size_t views_le
  *
  * BITPACKING_LIST_BAD_KIND: one of the lists is plain. A view that is BITPACKING_LIST_EMPTY or all zero is plain too. */
 
-/* How many values all lists have. It seeks the values of the shortest list in the others, 1,024 at a time: about 6 KB of stack. */
+/* How many values all lists have. It joins the shortest list and another by words if both are dense, strictly sorted and of version 4, and
+ * otherwise seeks the values of the shortest list in the others, 1,024 at a time: about 6 KB of stack. */
 ptrdiff_t bitpacking_list_count_common(const bitpacking_list *views, size_t views_len);
 
 /* How many values any list has. It counts values of dense lists in windows of 65,536 numbers, two lists by what both have, and others in

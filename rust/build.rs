@@ -11,7 +11,7 @@ fn archives() -> Option<(&'static str, &'static [&'static str])> {
     let target = |name: &str| env::var(format!("CARGO_CFG_TARGET_{name}")).unwrap_or_default();
     match (target("ARCH").as_str(), target("OS").as_str(), target("ENDIAN").as_str()) {
         ("x86_64", "linux", "little") => Some(("", &["bitpacking_v1", "bitpacking_v2", "bitpacking_v3"])),
-        ("aarch64", "linux", "little") => Some(("aarch64-unknown-linux-gnu", &["bitpacking_c"])),
+        ("aarch64", "linux", "little") => Some(("aarch64-unknown-linux-gnu", &["bitpacking"])),
         _ => None,
     }
 }
@@ -28,7 +28,7 @@ fn main() {
     let (below, names) = archives().unwrap_or_else(|| {
         let target = env::var("TARGET").unwrap_or_default();
         println!("cargo::warning=the archives of proved code are for little-endian Linux on x86-64 and aarch64; there are none for {target}");
-        ("none", &["bitpacking_c"])
+        ("none", &["bitpacking"])
     });
     for name in names {
         let archive = folder.join(below).join(format!("lib{name}.a"));

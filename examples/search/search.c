@@ -49,12 +49,12 @@ void *grown(void *items, size_t len, size_t size)
 uint8_t *pack(uint8_t kind, const struct numbers *values, size_t *size)
 {
     size_t position;
-    ptrdiff_t packed = bitpacking_4x_list_size(BITPACKING_LIST_VERSION_4, kind, values->items, values->len, &position);
+    ptrdiff_t packed = bitpacking_4x_list_size(BITPACKING_LIST_NEWEST, kind, values->items, values->len, &position);
     if (packed < 0)
         errx(2, "a list: %s", bitpacking_error_text(packed));
     *size = (size_t)packed;
     uint8_t *bytes = grown(NULL, *size, 1);
-    bitpacking_4x_list_pack(BITPACKING_LIST_VERSION_4, kind, values->items, values->len, bytes, *size, &position);
+    bitpacking_4x_list_pack(BITPACKING_LIST_NEWEST, kind, values->items, values->len, bytes, *size, &position);
     return bytes;
 }
 

@@ -1,9 +1,15 @@
 //! The functions of the archives: one table for each packer and one for lists at each level of the processor, and the choice of a level.
 
+mod blocks;
+mod by_name;
+mod columns;
 pub(crate) mod lists;
+mod packing;
+mod wide;
 
 use std::sync::OnceLock;
 
+use by_name::lists;
 pub(crate) use lists::{combine, count, Combine, Count, Filter, ListCursor, ListView, Lists, LONGEST_BLOCK};
 
 /// The functions of a packer.
@@ -225,85 +231,6 @@ macro_rules! calls {
             strictly_sorted: foreign!(Initial, $prefix, "_strictly_sorted", initial),
             list_size,
             list_pack,
-        }
-    }};
-}
-
-/// The functions of lists of an archive, by their names.
-macro_rules! lists {
-    ($prefix:literal) => {{
-        extern "C" {
-            #[link_name = concat!($prefix, "list_open")]
-            fn open(bytes: *const u8, bytes_len: usize, view: *mut ListView<'_>) -> isize;
-            #[link_name = concat!($prefix, "list_len")]
-            fn len(view: *const ListView<'_>) -> usize;
-            #[link_name = concat!($prefix, "list_kind")]
-            fn kind(view: *const ListView<'_>) -> u8;
-            #[link_name = concat!($prefix, "list_get")]
-            fn get(view: *const ListView<'_>, position: usize, item: *mut u32) -> i32;
-            #[link_name = concat!($prefix, "list_seek")]
-            fn seek(view: *const ListView<'_>, target: u32, position: *mut usize, item: *mut u32) -> i32;
-            #[link_name = concat!($prefix, "list_unpack")]
-            fn unpack(view: *const ListView<'_>, values: *mut u32, values_len: usize) -> isize;
-            #[link_name = concat!($prefix, "list_range")]
-            fn range(view: *const ListView<'_>, from: usize, values: *mut u32, values_len: usize) -> isize;
-            #[link_name = concat!($prefix, "list_gather")]
-            fn gather(
-                view: *const ListView<'_>,
-                positions: *const usize,
-                positions_len: usize,
-                values: *mut u32,
-                values_len: usize,
-            ) -> isize;
-            #[link_name = concat!($prefix, "list_intersect")]
-            fn intersect(views: *const ListView<'_>, views_len: usize, out: *mut u32, out_len: usize) -> isize;
-            #[link_name = concat!($prefix, "list_unite")]
-            fn unite(views: *const ListView<'_>, views_len: usize, out: *mut u32, out_len: usize) -> isize;
-            #[link_name = concat!($prefix, "list_subtract")]
-            fn subtract(views: *const ListView<'_>, views_len: usize, out: *mut u32, out_len: usize) -> isize;
-            #[link_name = concat!($prefix, "list_count_common")]
-            fn count_common(views: *const ListView<'_>, views_len: usize) -> isize;
-            #[link_name = concat!($prefix, "list_count_any")]
-            fn count_any(views: *const ListView<'_>, views_len: usize) -> isize;
-            #[link_name = concat!($prefix, "list_retain")]
-            fn retain(view: *const ListView<'_>, values: *mut u32, values_len: usize) -> isize;
-            #[link_name = concat!($prefix, "list_remove")]
-            fn remove(view: *const ListView<'_>, values: *mut u32, values_len: usize) -> isize;
-            #[link_name = concat!($prefix, "list_add")]
-            fn add(view: *const ListView<'_>, count: usize, values: *mut u32, values_len: usize) -> isize;
-            #[link_name = concat!($prefix, "cursor_start")]
-            fn start<'a>(cursor: *mut ListCursor<'a>, view: *const ListView<'a>);
-            #[link_name = concat!($prefix, "cursor_position")]
-            fn position(cursor: *const ListCursor<'_>) -> usize;
-            #[link_name = concat!($prefix, "cursor_advance")]
-            fn advance(cursor: *mut ListCursor<'_>) -> i32;
-            #[link_name = concat!($prefix, "cursor_seek")]
-            fn seek_from(cursor: *mut ListCursor<'_>, target: u32) -> i32;
-            #[link_name = concat!($prefix, "cursor_skip_block")]
-            fn skip_block(cursor: *mut ListCursor<'_>);
-        }
-        Lists {
-            open,
-            len,
-            kind,
-            get,
-            seek,
-            unpack,
-            range,
-            gather,
-            intersect,
-            unite,
-            subtract,
-            count_common,
-            count_any,
-            retain,
-            remove,
-            add,
-            start,
-            position,
-            advance,
-            seek_from,
-            skip_block,
         }
     }};
 }

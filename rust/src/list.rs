@@ -22,20 +22,29 @@
 //! The page `docs/FORMAT.md` of the repository describes the bytes, so that programs in other languages read them too. A later
 //! release of this crate writes the same bytes of a list, in the same packer and version, and reads them.
 
+mod blocks;
+mod builder;
+mod columns;
 mod cursor;
 mod encoder;
 mod error;
 mod iter;
+mod owned;
+mod query;
 mod sets;
+mod wide;
 
 use std::fmt;
 
 use crate::calls::{best, ListView};
 
+pub use builder::ListBuilder;
 pub use cursor::Cursor;
 pub use encoder::{encode, encode_into, Encoder, Version};
-pub use error::Error;
+pub use error::{Error, Fault};
 pub use iter::Iter;
+pub use owned::{ListBuf, ListFault, Lists, StableBytes};
+pub use query::{Query, QueryCursor};
 pub use sets::{difference, difference_into, intersect, intersect_into, intersect_len, union, union_into, union_len};
 
 /// The order of the values of a list, and what is packed in their place.
@@ -77,6 +86,54 @@ impl<'a> PackedList<'a> {
     pub fn open(bytes: &'a [u8]) -> Result<Self, Error> {
         let view = best().lists.open(bytes).map_err(|number| error::named(number, None))?;
         Ok(PackedList { view })
+    }
+
+    /// Where the first fault of bytes lies, or `None` if [`open`](PackedList::open) accepts them. It tests them as `open` does.
+    ///
+    /// ```
+    /// use bitpacking::list::{encode, Error, Kind, PackedList};
+    ///
+    /// let evens: Vec<u32> = (0..300).map(|k| 2 * k).collect();
+    /// let mut bytes = encode(Kind::StrictlySorted, &evens)?;
+    /// assert_eq!(PackedList::find_fault(&bytes), None);
+    /// // The header has 3 bytes, and byte 3 says that ends of blocks take a byte and their last values two. Two ends follow.
+    /// bytes[6] ^= 1;
+    /// let fault = PackedList::find_fault(&bytes).unwrap();
+    /// assert_eq!((fault.error, fault.block), (Error::BadLast, Some(0)));
+    /// # Ok::<(), Error>(())
+    /// ```
+    pub fn find_fault(bytes: &[u8]) -> Option<Fault> {
+        let (number, block, position) = best().lists.fault(bytes)?;
+        Some(Fault { error: error::named(number, position), block })
+    }
+
+    /// The list of bytes that [`open`](PackedList::open) accepted before. They are not tested again: it reads the header, and the last of
+    /// what is said of blocks. [`ListBuf`] and [`Lists`] do so without `unsafe`.
+    ///
+    /// # Safety
+    ///
+    /// The bytes are the same as when they were opened. If they are others, this call or a later one may read outside of them.
+    ///
+    /// ```
+    /// use bitpacking::list::{encode, Kind, PackedList};
+    ///
+    /// let bytes = encode(Kind::StrictlySorted, &[7, 9, 10])?;
+    /// assert_eq!(PackedList::open(&bytes)?.len(), 3);
+    /// // SAFETY: these bytes were opened one line above.
+    /// let again = unsafe { PackedList::open_unchecked(&bytes) };
+    /// assert_eq!(again.to_vec(), [7, 9, 10]);
+    /// # Ok::<(), bitpacking::list::Error>(())
+    /// ```
+    #[inline]
+    pub unsafe fn open_unchecked(bytes: &'a [u8]) -> Self {
+        // SAFETY: the caller promises that they were opened.
+        PackedList { view: unsafe { best().lists.open_tested(bytes) } }
+    }
+
+    /// The bytes of the list.
+    #[inline]
+    pub fn as_bytes(&self) -> &'a [u8] {
+        self.view.bytes()
     }
 
     /// How many values the list has.
@@ -136,6 +193,35 @@ impl<'a> PackedList<'a> {
         best().lists.seek(&self.view, target).map_err(|number| error::named(number, None))
     }
 
+    /// The first value, or `None` if the list is empty.
+    pub fn first(&self) -> Option<u32> {
+        self.get(0)
+    }
+
+    /// The last value, or `None` if the list is empty.
+    pub fn last(&self) -> Option<u32> {
+        self.get(self.len().checked_sub(1)?)
+    }
+
+    /// Whether a value is in the list. Unpacks one block at most.
+    ///
+    /// # Errors
+    ///
+    /// `BadKind`, if the list is plain.
+    ///
+    /// ```
+    /// use bitpacking::list::{encode, Kind, PackedList};
+    ///
+    /// let bytes = encode(Kind::StrictlySorted, &[7, 9, 10, 300])?;
+    /// let list = PackedList::open(&bytes)?;
+    /// assert_eq!((list.contains(9)?, list.contains(11)?), (true, false));
+    /// assert_eq!((list.first(), list.last()), (Some(7), Some(300)));
+    /// # Ok::<(), bitpacking::list::Error>(())
+    /// ```
+    pub fn contains(&self, value: u32) -> Result<bool, Error> {
+        Ok(self.seek(value)?.is_some_and(|(_, found)| found == value))
+    }
+
     /// An iterator over all values, from both ends. It unpacks a block at a time.
     pub fn iter(&self) -> Iter<'a> {
         Iter::new(*self)
@@ -177,11 +263,6 @@ impl<'a> PackedList<'a> {
     /// ```
     pub fn unpack_from(&self, position: usize, values: &mut [u32]) -> usize {
         best().lists.range(&self.view, position, values)
-    }
-
-    /// How many values a block has.
-    fn block_len(&self) -> usize {
-        self.view.block_len()
     }
 }
 

@@ -1,12 +1,17 @@
 //! Every block of `vectors/` at each level that this processor has, with canaries around the buffers; each panic; two threads; little stack.
 
+mod blocks;
+mod builder;
 mod chains;
+mod columns;
 mod counts;
 mod in_place;
 mod layouts;
 #[cfg(target_arch = "x86_64")]
 mod levels;
 mod lists;
+mod owned;
+mod queries;
 mod sets;
 mod walks;
 

@@ -2,7 +2,6 @@
 
 use std::marker::PhantomData;
 
-use super::Calls;
 use crate::list::PackedList;
 
 /// The values of the longest block.
@@ -41,7 +40,7 @@ unsafe impl Send for ListView<'_> {}
 // SAFETY: nothing writes through a view, so that threads may share one.
 unsafe impl Sync for ListView<'_> {}
 
-impl ListView<'_> {
+impl<'a> ListView<'a> {
     /// The empty list.
     const EMPTY: Self =
         ListView { bytes: std::ptr::null(), bytes_len: 0, found: ListOutline::EMPTY, lanes: 0, borrowed: PhantomData };
@@ -49,6 +48,28 @@ impl ListView<'_> {
     /// How many values a block of an opened list has.
     pub(crate) fn block_len(&self) -> usize {
         32 * usize::from(self.lanes)
+    }
+
+    /// The bytes of an opened list.
+    #[inline]
+    pub(crate) fn bytes(&self) -> &'a [u8] {
+        // SAFETY: the view was made of a slice that it borrows. It is not empty: a list has a header.
+        unsafe { std::slice::from_raw_parts(self.bytes, self.bytes_len) }
+    }
+
+    /// What opening found, without the bytes. No function takes this.
+    pub(crate) fn without_bytes(self) -> ListView<'static> {
+        ListView { bytes: std::ptr::null(), bytes_len: 0, found: self.found, lanes: self.lanes, borrowed: PhantomData }
+    }
+
+    /// The view of bytes in which opening found this.
+    ///
+    /// # Safety
+    ///
+    /// They are the bytes that were opened then.
+    #[inline]
+    pub(crate) unsafe fn with_bytes<'b>(&self, bytes: &'b [u8]) -> ListView<'b> {
+        ListView { bytes: bytes.as_ptr(), bytes_len: bytes.len(), found: self.found, lanes: self.lanes, borrowed: PhantomData }
     }
 }
 
@@ -138,13 +159,24 @@ macro_rules! note {
 /// The functions of lists.
 pub(crate) struct Lists {
     pub(crate) open: unsafe extern "C" fn(*const u8, usize, *mut ListView<'_>) -> isize,
+    pub(crate) open_tested: unsafe extern "C" fn(*const u8, usize, *mut ListView<'_>),
     pub(crate) len: unsafe extern "C" fn(*const ListView<'_>) -> usize,
     pub(crate) kind: unsafe extern "C" fn(*const ListView<'_>) -> u8,
     pub(crate) get: unsafe extern "C" fn(*const ListView<'_>, usize, *mut u32) -> i32,
+    pub(crate) get_wide: unsafe extern "C" fn(*const ListView<'_>, u64, usize, *mut u64) -> i32,
+    pub(crate) unpack_wide: unsafe extern "C" fn(*const ListView<'_>, u64, *mut u64, usize) -> isize,
+    pub(crate) fault: unsafe extern "C" fn(*const u8, usize, *mut usize, *mut usize) -> isize,
     pub(crate) seek: unsafe extern "C" fn(*const ListView<'_>, u32, *mut usize, *mut u32) -> i32,
     pub(crate) unpack: unsafe extern "C" fn(*const ListView<'_>, *mut u32, usize) -> isize,
     pub(crate) range: unsafe extern "C" fn(*const ListView<'_>, usize, *mut u32, usize) -> isize,
     pub(crate) gather: unsafe extern "C" fn(*const ListView<'_>, *const usize, usize, *mut u32, usize) -> isize,
+    pub(crate) bounds: unsafe extern "C" fn(*const ListView<'_>, usize, *mut u32, *mut u32) -> isize,
+    pub(crate) block_count: unsafe extern "C" fn(*const ListView<'_>) -> usize,
+    pub(crate) block_last: unsafe extern "C" fn(*const ListView<'_>, usize, *mut u32) -> isize,
+    pub(crate) find_block: unsafe extern "C" fn(*const ListView<'_>, usize, u32) -> isize,
+    pub(crate) read_block: unsafe extern "C" fn(*const ListView<'_>, usize, *mut u32, usize) -> isize,
+    pub(crate) count_between: unsafe extern "C" fn(*const ListView<'_>, u32, u32) -> usize,
+    pub(crate) between: unsafe extern "C" fn(*const ListView<'_>, u32, u32, usize, *mut usize, usize) -> usize,
     pub(crate) intersect: Combine,
     pub(crate) unite: Combine,
     pub(crate) subtract: Combine,
@@ -157,6 +189,7 @@ pub(crate) struct Lists {
     pub(crate) position: unsafe extern "C" fn(*const ListCursor<'_>) -> usize,
     pub(crate) advance: unsafe extern "C" fn(*mut ListCursor<'_>) -> i32,
     pub(crate) seek_from: unsafe extern "C" fn(*mut ListCursor<'_>, u32) -> i32,
+    pub(crate) move_to: unsafe extern "C" fn(*mut ListCursor<'_>, usize) -> i32,
     pub(crate) skip_block: unsafe extern "C" fn(*mut ListCursor<'_>),
 }
 
@@ -170,7 +203,7 @@ pub(crate) type Count = unsafe extern "C" fn(*const ListView<'_>, usize) -> isiz
 pub(crate) type Filter = unsafe extern "C" fn(*const ListView<'_>, *mut u32, usize) -> isize;
 
 /// A count, or the number of what is wrong.
-fn counted(number: isize) -> Result<usize, i32> {
+pub(super) fn counted(number: isize) -> Result<usize, i32> {
     usize::try_from(number).map_err(|_| number as i32)
 }
 
@@ -187,6 +220,17 @@ impl Lists {
         let mut view = ListView::EMPTY;
         // SAFETY: the pointer and the length of a slice, which the view borrows, and an empty view of our own.
         counted(unsafe { (self.open)(bytes.as_ptr(), bytes.len(), &mut view) }).map(|_| view)
+    }
+
+    /// # Safety
+    ///
+    /// The bytes were opened before, and did not change.
+    #[inline]
+    pub(crate) unsafe fn open_tested<'a>(&self, bytes: &'a [u8]) -> ListView<'a> {
+        let mut view = ListView::EMPTY;
+        // SAFETY: the pointer and the length of a slice, which the view borrows and which was opened, and an empty view of our own.
+        unsafe { (self.open_tested)(bytes.as_ptr(), bytes.len(), &mut view) };
+        view
     }
 
     #[inline]
@@ -336,24 +380,4 @@ unsafe fn replace(values: &mut Vec<u32>, room: usize, call: impl FnOnce(*mut u32
     // SAFETY: there are `count` values, and there is room for them.
     unsafe { values.set_len(count) };
     Ok(())
-}
-
-impl Calls {
-    /// The number of bytes of a list of values, or what is wrong with them and, if they are out of order, at which
-    /// position.
-    pub(crate) fn list_size(&self, version: u8, kind: u8, values: &[u32]) -> Result<usize, (i32, usize)> {
-        let mut position = 0;
-        // SAFETY: the pointer and the length of a slice, and a number of our own.
-        let size = unsafe { (self.list_size)(version, kind, values.as_ptr(), values.len(), &mut position) };
-        counted(size).map_err(|number| (number, position))
-    }
-
-    /// Writes a list of values into these bytes, and returns how many it wrote, or what is wrong.
-    pub(crate) fn list_pack(&self, version: u8, kind: u8, values: &[u32], bytes: &mut [u8]) -> Result<usize, (i32, usize)> {
-        let mut position = 0;
-        let (from, room) = (values.as_ptr(), bytes.len());
-        // SAFETY: pointers and lengths of slices, a number of our own; what is written is borrowed by `&mut`.
-        let size = unsafe { (self.list_pack)(version, kind, from, values.len(), bytes.as_mut_ptr(), room, &mut position) };
-        counted(size).map_err(|number| (number, position))
-    }
 }

@@ -1,13 +1,13 @@
-//! A place in a list, which moves forward.
+//! A place in a list.
 
 use std::fmt;
 
 use super::{error, Error, PackedList};
 use crate::calls::{best, ListCursor};
 
-/// A place in an opened list that only moves forward. It has the values of the block at hand, and so takes about 1 KB.
+/// A place in an opened list. It has the values of the block at hand, and so takes about 1 KB.
 ///
-/// However it is moved, it unpacks each block of the list at most once.
+/// However it is moved forward, it unpacks each block of the list at most once. Only [`move_to`](Cursor::move_to) can move it back.
 ///
 /// ```
 /// use bitpacking::list::{encode, Kind, PackedList};
@@ -57,6 +57,23 @@ impl<'a> Cursor<'a> {
     pub fn seek(&mut self, target: u32) -> Result<Option<u32>, Error> {
         best().lists.seek_from(&mut self.cursor, target).map_err(|number| error::named(number, None))?;
         Ok(self.value())
+    }
+
+    /// Moves to a position, forward or back, or to the end if the list has no such position. Unpacks one block at most, and none if the
+    /// position is in the block at hand. The list may be plain.
+    ///
+    /// ```
+    /// use bitpacking::list::{encode, Kind, PackedList};
+    ///
+    /// let (ids, counts) = (encode(Kind::StrictlySorted, &[3, 5, 9, 12])?, encode(Kind::Plain, &[1, 7, 2, 4])?);
+    /// let (mut ids, mut counts) = (PackedList::open(&ids)?.cursor(), PackedList::open(&counts)?.cursor());
+    /// ids.seek(6)?;
+    /// counts.move_to(ids.position());
+    /// assert_eq!((ids.value(), counts.value()), (Some(9), Some(2)));
+    /// # Ok::<(), bitpacking::list::Error>(())
+    /// ```
+    pub fn move_to(&mut self, position: usize) {
+        best().lists.move_to(&mut self.cursor, position);
     }
 
     /// The values from here to the end of the block at hand. It is empty only after the last value of the list.

@@ -26,8 +26,8 @@ pub enum Error {
     BadLast,
     /// The values are not in the order of the kind, or the values of a vector do not increase.
     NotSorted {
-        /// The position of the first value out of order, from 0 on. Writing a list gives it, and combining one with a vector; opening bytes
-        /// does not.
+        /// The position of the first value out of order, from 0 on. Writing a list gives it, combining one with a vector, and
+        /// [`find_fault`](super::PackedList::find_fault); opening bytes does not.
         position: Option<usize>,
     },
     /// Bytes are left over.
@@ -65,6 +65,32 @@ impl Error {
     }
 }
 
+/// The first fault of bytes, and the block that has it, if one has.
+#[derive(Clone, Copy, PartialEq, Eq, Hash, Debug)]
+#[non_exhaustive]
+pub struct Fault {
+    /// What [`PackedList::open`](super::PackedList::open) returns. `NotSorted` has its position.
+    pub error: Error,
+    /// The number of the block with the fault, from 0 on: of `BadWidth`, `LooseWidth`, `BadOffset`, `BadLast`, `BadBits` and `NotSorted`. A
+    /// value out of order after the whole blocks is in the block after them.
+    pub block: Option<usize>,
+}
+
+impl fmt::Display for Fault {
+    fn fmt(&self, f: &mut fmt::Formatter<'_>) -> fmt::Result {
+        match self.block {
+            Some(block) => write!(f, "block {block}: {}", self.error),
+            None => self.error.fmt(f),
+        }
+    }
+}
+
+impl std::error::Error for Fault {
+    fn source(&self) -> Option<&(dyn std::error::Error + 'static)> {
+        Some(&self.error)
+    }
+}
+
 /// The error of a number, with the position if there is one.
 #[cold]
 pub(super) fn named(number: i32, position: Option<usize>) -> Error {
@@ -93,7 +119,7 @@ impl fmt::Display for Error {
         match self {
             Error::Short => f.write_str("bytes are missing"),
             Error::BadVersion => f.write_str("unsupported version"),
-            Error::BadKind => f.write_str("invalid kind"),
+            Error::BadKind => f.write_str("the list has none of the three kinds, or is plain, and a plain list has no order"),
             Error::WrongLanes => f.write_str("no packer has as many lanes as the text"),
             Error::TooLong => f.write_str("there are more than 268435456 values"),
             Error::BadWidth => f.write_str("a block has a width above 32"),
@@ -112,3 +138,10 @@ impl fmt::Display for Error {
 }
 
 impl std::error::Error for Error {}
+
+/// The kind is `InvalidData`, so that a function that reads a file of lists can return `io::Result`.
+impl From<Error> for std::io::Error {
+    fn from(error: Error) -> Self {
+        std::io::Error::new(std::io::ErrorKind::InvalidData, error)
+    }
+}

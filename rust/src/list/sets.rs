@@ -13,13 +13,21 @@ fn counted(function: Count, lists: &[PackedList<'_>]) -> Result<usize, Error> {
     count(function, lists).map_err(|number| error::named(number, None))
 }
 
-/// A vector of what a call replaces the values of one by. Of the room of the call it keeps at most as much again, and 32 places: to give
-/// back less takes longer than to combine short lists. A short answer is copied. If the room shrank in its place instead, the next call
-/// could not use its memory again.
-fn fitted(call: impl FnOnce(&mut Vec<u32>) -> Result<(), Error>) -> Result<Vec<u32>, Error> {
+/// These values, in a vector that keeps at most as much room again, and 32 places: to give back less takes longer than to combine short
+/// lists. A short answer is copied. If the room shrank in its place instead, the next call could not use its memory again.
+pub(super) fn fitted<T: Copy>(values: Vec<T>) -> Vec<T> {
+    if values.capacity() > 2 * values.len() + 32 {
+        values.as_slice().to_vec()
+    } else {
+        values
+    }
+}
+
+/// A vector of what a call replaces the values of one by.
+fn made(call: impl FnOnce(&mut Vec<u32>) -> Result<(), Error>) -> Result<Vec<u32>, Error> {
     let mut values = Vec::new();
     call(&mut values)?;
-    Ok(if values.capacity() > 2 * values.len() + 32 { values.as_slice().to_vec() } else { values })
+    Ok(fitted(values))
 }
 
 /// The values that are in every list, in increasing order and each once. Of no lists there are none.
@@ -39,7 +47,7 @@ fn fitted(call: impl FnOnce(&mut Vec<u32>) -> Result<(), Error>) -> Result<Vec<u
 /// # Ok::<(), bitpacking::list::Error>(())
 /// ```
 pub fn intersect(lists: &[PackedList<'_>]) -> Result<Vec<u32>, Error> {
-    fitted(|values| intersect_into(lists, values))
+    made(|values| intersect_into(lists, values))
 }
 
 /// Replaces the values of a vector by those that [`intersect`] returns. The vector keeps its memory, which many queries in turn can use,
@@ -101,7 +109,7 @@ pub fn intersect_len(lists: &[PackedList<'_>]) -> Result<usize, Error> {
 /// # Ok::<(), bitpacking::list::Error>(())
 /// ```
 pub fn union(lists: &[PackedList<'_>]) -> Result<Vec<u32>, Error> {
-    fitted(|values| union_into(lists, values))
+    made(|values| union_into(lists, values))
 }
 
 /// Replaces the values of a vector by those that [`union`] returns. The vector keeps its memory, and grows to the sum of the lengths if
@@ -161,7 +169,7 @@ pub fn union_len(lists: &[PackedList<'_>]) -> Result<usize, Error> {
 /// # Ok::<(), bitpacking::list::Error>(())
 /// ```
 pub fn difference(lists: &[PackedList<'_>]) -> Result<Vec<u32>, Error> {
-    fitted(|values| difference_into(lists, values))
+    made(|values| difference_into(lists, values))
 }
 
 /// Replaces the values of a vector by those that [`difference`] returns. The vector keeps its memory, and grows to the length of the

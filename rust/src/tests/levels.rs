@@ -116,7 +116,7 @@ fn of_packer(calls: &Calls) -> Vec<usize> {
 }
 
 /// The functions of lists.
-fn of_lists(lists: &Lists) -> [usize; 21] {
+fn of_lists(lists: &Lists) -> [usize; 24] {
     [
         lists.open as usize,
         lists.len as usize,
@@ -126,6 +126,9 @@ fn of_lists(lists: &Lists) -> [usize; 21] {
         lists.unpack as usize,
         lists.range as usize,
         lists.gather as usize,
+        lists.bounds as usize,
+        lists.count_between as usize,
+        lists.between as usize,
         lists.intersect as usize,
         lists.unite as usize,
         lists.subtract as usize,
@@ -154,6 +157,6 @@ fn each_table_has_the_functions_of_its_level() {
         assert_eq!([level.lists.len as usize, level.lists.advance as usize], right[3]);
         found.extend(of_lists(&level.lists));
     }
-    // No function has two places: 6 calls, 3 kinds, 3 packers and 2 more for each, and 21 for lists; at 3 levels.
-    assert_eq!(found.len(), ((6 * 3 + 2) * 3 + 21) * 3);
+    // No function has two places: 6 calls, 3 kinds, 3 packers and 2 more for each, and 24 for lists; at 3 levels.
+    assert_eq!(found.len(), ((6 * 3 + 2) * 3 + 24) * 3);
 }

@@ -199,7 +199,9 @@ pub(super) fn bytes_of(digits: &str) -> Vec<u8> {
 #[test]
 fn the_lists_of_the_vectors() {
     at_each_level(|| {
-        for (table, version, count) in [("lists2", Version::Two, 183), ("lists3", Version::Three, 564), ("lists4", Version::Four, 564)] {
+        for (table, version, count) in
+            [("lists2", Version::Two, 183), ("lists3", Version::Three, 564), ("lists4", Version::Four, 564)]
+        {
             let rows = rows(table);
             assert_eq!(rows.len(), count);
             for row in rows {
@@ -210,6 +212,23 @@ fn the_lists_of_the_vectors() {
             }
         }
     });
+}
+
+/// The row says in which block the fault is, or at which position a value is out of order.
+fn is_placed(bytes: &[u8], number: i32, row: &[String]) {
+    let fault = PackedList::find_fault(bytes).unwrap();
+    let said = row[2].split(['(', ',', ')']).nth(1).and_then(|place| place.parse::<usize>().ok());
+    let (block, position) = match number {
+        6..=9 | 17 => (said, None),
+        10 => (said.map(|position| position / (32 * row[0].parse::<usize>().unwrap())), said),
+        _ => (None, None),
+    };
+    assert_eq!((fault.error.number(), fault.block), (-20 - number, block), "{row:?}");
+    match fault.error {
+        Error::NotSorted { position: found } => assert_eq!(found, position, "{row:?}"),
+        _ => assert_eq!(position, None),
+    }
+    assert!(fault.to_string().ends_with(&fault.error.to_string()));
 }
 
 /// Each row, unless it is of another packer or version, which `open` reads.
@@ -223,6 +242,7 @@ fn the_refused_texts_of_the_vectors() {
                 let error = PackedList::open(&bytes).unwrap_err();
                 assert_eq!(error.number(), -20 - number, "{row:?}");
                 assert!(format!("{error:?}").starts_with(row[2].split('(').next().unwrap()), "{error:?} {row:?}");
+                is_placed(&bytes, number, &row);
                 refused += 1;
             }
         }
@@ -311,7 +331,7 @@ fn each_error_with_its_number_and_text() {
     let errors: [(Error, i32, &str); 16] = [
         (Error::Short, -21, "bytes are missing"),
         (Error::BadVersion, -22, "unsupported version"),
-        (Error::BadKind, -23, "invalid kind"),
+        (Error::BadKind, -23, "the list has none of the three kinds, or is plain, and a plain list has no order"),
         (Error::WrongLanes, -24, "no packer has as many lanes as the text"),
         (Error::TooLong, -25, "there are more than 268435456 values"),
         (Error::BadWidth, -26, "a block has a width above 32"),

@@ -1,0 +1,24 @@
+//! The calls that write lists.
+
+use super::lists::counted;
+use super::Calls;
+
+impl Calls {
+    /// The number of bytes of a list of values, or what is wrong with them and, if they are out of order, at which
+    /// position.
+    pub(crate) fn list_size(&self, version: u8, kind: u8, values: &[u32]) -> Result<usize, (i32, usize)> {
+        let mut position = 0;
+        // SAFETY: the pointer and the length of a slice, and a number of our own.
+        let size = unsafe { (self.list_size)(version, kind, values.as_ptr(), values.len(), &mut position) };
+        counted(size).map_err(|number| (number, position))
+    }
+
+    /// Writes a list of values into these bytes, and returns how many it wrote, or what is wrong.
+    pub(crate) fn list_pack(&self, version: u8, kind: u8, values: &[u32], bytes: &mut [u8]) -> Result<usize, (i32, usize)> {
+        let mut position = 0;
+        let (from, room) = (values.as_ptr(), bytes.len());
+        // SAFETY: pointers and lengths of slices, a number of our own; what is written is borrowed by `&mut`.
+        let size = unsafe { (self.list_pack)(version, kind, from, values.len(), bytes.as_mut_ptr(), room, &mut position) };
+        counted(size).map_err(|number| (number, position))
+    }
+}
