@@ -1,7 +1,8 @@
 #!/usr/bin/env python3
 """Measures the lists of the search engine of examples/search/ beside plain arrays, CRoaring and Xapian, from nothing:
 
-    scripts/bench/search_speed.py [--core N] [--passes N] [--tsv FILE] [--keep FOLDER] [--roaring FOLDER] [FOLDER ..]
+    scripts/bench/search_speed.py [--core N] [--passes N] [--tsv FILE] [--keep FOLDER] [--roaring FOLDER] [--ways WAY,WAY ..]
+                                  [--threads N,N ..] [--archive FILE] [FOLDER ..]
     scripts/bench/search_speed.py --try
 
 It copies the text files below the folders (/usr/share and /usr/include if none is given) to a folder of its own, and has each way index
@@ -11,7 +12,8 @@ same. It prints a table, and with --tsv writes all numbers. docs/SPEED.md says w
 It needs 200 MB of text with 500,000 paragraphs; `apt-get install linux-doc` brings 150 MB. It needs g++, taskset, and the packages
 libroaring-dev and libxapian-dev of Debian. Debian's CRoaring is built for any x86-64; --roaring adds one built for this processor, from its
 sources in FOLDER. --keep uses the texts that an earlier run left in FOLDER. The archive is the one of scripts/build/archives.py, which is
-called if it is not there.
+called if it is not there, or the one of --archive. --ways measures only these ways, of which `lists` is always one. `lists3`, which is not
+measured unless it is named, is the engine with lists of version 3. --threads says on how many threads, 1,4 if it is left out.
 
 --try measures nothing: it compiles the programs, and compares the answers on examples/search/corpus/. Ways that are not installed are left
 out. The last line is 'N passed, M failed'.
@@ -27,15 +29,29 @@ import tempfile
 import time
 
 sys.path.insert(1, f"{sys.path[0]}/..")
-from common import ROOT, leave_out, missing, report, run
+from common import ROOT, leave_out, missing, report, run, source
 import archives
+from measured import Numbers
 
 HERE = f"{ROOT}/scripts/bench/search_speed"
+ARCHIVE = f"{archives.OUT}/{archives.ALL}"
 CORPUS = f"{ROOT}/examples/search/corpus"
 LEAST = {"bytes": 200_000_000, "paragraphs": 500_000}
 # The ways in the order of the table: how many rounds a process makes of a set, in how many passes at most, and of how many queries it takes
 # one. Xapian takes far longer.
-WAYS = {"lists": (3, 99, 1), "arrays": (3, 99, 1), "roaring": (3, 99, 1), "roaring_here": (3, 99, 1), "xapian": (1, 1, 4)}
+WAYS = {
+    "lists": (3, 99, 1),
+    "lists3": (3, 99, 1),
+    "arrays": (3, 99, 1),
+    "roaring": (3, 99, 1),
+    "roaring_here": (3, 99, 1),
+    "xapian": (1, 1, 4),
+}
+# A way that has the program of another, and one that has the index of another.
+PROGRAMS = {"lists3": "lists"}
+INDEXES = {"roaring_here": "roaring"}
+# The search engine that indexes for a way, with the words of its source that are others there.
+ENGINES = {"lists": ("search", {}), "lists3": ("search3", {"BITPACKING_LIST_NEWEST": "BITPACKING_LIST_VERSION_3"})}
 # What a way needs that may not be installed, and what comes with it.
 NEEDS = {"roaring": ("/usr/include/roaring/roaring.h", "libroaring-dev"), "xapian": ("/usr/bin/xapian-config", "libxapian-dev")}
 # The sets of queries: operation, how many queries, and of which words. The words of a query are of one document, of each kind at least and
@@ -58,29 +74,6 @@ SETS = {
 DENSE, RARE = 16, 1000
 
 
-class Numbers:
-    """What was measured: the least of all passes. It is written to a file, if there is one."""
-
-    def __init__(self, path=None):
-        self.best, self.path = {}, path
-
-    def add(self, measure, way, value, part="", threads=""):
-        key = (measure, way, part, str(threads))
-        self.best[key] = min(value, self.best.get(key, value))
-
-    def get(self, measure, way, part="", threads=""):
-        return self.best.get((measure, way, part, str(threads)))
-
-    def save(self):
-        if not self.path:
-            return
-        with open(self.path, "w", encoding="ascii") as file:
-            file.write(
-                f"# {time.strftime('%Y-%m-%d')}, {machine_name()}, load {os.getloadavg()[0]:.1f}\nmeasure\tway\tset\tthreads\tvalue\n"
-            )
-            file.writelines("\t".join([*key, f"{value:.9g}"]) + "\n" for key, value in self.best.items())
-
-
 def stage(folders, folder):
     """Copies text files to a folder, under their whole paths."""
     for top in folders:
@@ -95,15 +88,32 @@ def stage(folders, folder):
                     shutil.copyfile(path, f"{folder}{path}")
 
 
-def commands(folder, ways, roaring, level):
+def engine_sources(folder, name, changes):
+    """Copies the sources of the search engine, with other words in them. Returns the paths of those in C."""
+    os.makedirs(f"{folder}/{name}.sources", exist_ok=True)
+    texts = {path: source(os.path.relpath(path, ROOT)) for path in glob.glob(f"{ROOT}/examples/search/*.[ch]")}
+    unused = [word for word in changes if not any(word in text for text in texts.values())]
+    if unused:
+        sys.exit(f"the search engine has no word {unused[0]}")
+    for path, text in texts.items():
+        for word, other in changes.items():
+            text = text.replace(word, other)
+        with open(f"{folder}/{name}.sources/{os.path.basename(path)}", "w", encoding="utf-8") as file:
+            file.write(text)
+    return sorted(glob.glob(f"{folder}/{name}.sources/*.c"))
+
+
+def commands(folder, ways, roaring, archive, level):
     """What builds each program, at a level of optimization."""
     flags = [level, "-march=native", "-Wall", "-Wextra", "-Werror"]
     cpp = ["g++", "-std=c++20", *flags, "-pthread", f"{HERE}/main.cpp"]
-    archive, include = f"{archives.OUT}/{archives.ALL}", f"-I{ROOT}/include"
-    yield "search", ["cc", "-std=c99", "-O2", include, *sorted(glob.glob(f"{ROOT}/examples/search/*.c")), archive, "-lm"]
+    include = f"-I{ROOT}/include"
+    for name, changes in [ENGINES[way] for way in ways if way in ENGINES]:
+        yield name, ["cc", "-std=c99", "-O2", include, *engine_sources(folder, name, changes), archive, "-lm"]
     yield "words", ["g++", "-std=c++20", *flags, f"{HERE}/words.cpp"]
     yield "lists", [*cpp, include, f"{HERE}/lists.cpp", archive]
-    yield "arrays", [*cpp, f"{HERE}/arrays.cpp"]
+    if "arrays" in ways:
+        yield "arrays", [*cpp, f"{HERE}/arrays.cpp"]
     if "roaring" in ways:
         yield "roaring", [*cpp, f"{HERE}/roaring.cpp", "-lroaring"]
     if "roaring_here" in ways:
@@ -116,9 +126,9 @@ def commands(folder, ways, roaring, level):
         yield "xapian", [*cpp, f"{HERE}/xapian.cpp", *run("xapian-config", "--cxxflags", "--libs").stdout.split()]
 
 
-def built(folder, ways, roaring, level="-O3"):
+def built(folder, ways, roaring, archive, level="-O3"):
     """Builds the programs. Each as its name and why it was not built, or None."""
-    for name, command in commands(folder, ways, roaring, level):
+    for name, command in commands(folder, ways, roaring, archive, level):
         done = run(*command, "-o", f"{folder}/{name}", folder=folder)
         yield f"the program {name}", None if done.returncode == 0 else done.stdout[-3000:]
 
@@ -178,19 +188,23 @@ def write_queries(path, counts, chosen, documents):
         file.writelines(lines)
 
 
+def program_of(way):
+    return f"./{PROGRAMS.get(way, way)}"
+
+
 def index_of(way):
-    return "index.roaring" if way == "roaring_here" else f"index.{way}"
+    return f"index.{INDEXES.get(way, way)}"
 
 
 def measure_index(machine, ways, numbers, one_of=200):
     """Has each way index the texts, and adds what that took, and the bytes of its lists."""
-    for way in ["reading", *(way for way in ways if way != "roaring_here")]:
+    for way in ["reading", *(way for way in ways if way not in INDEXES)]:
         shutil.rmtree(f"{machine.folder}/index.{way}", ignore_errors=True)
-        command = [f"./{way}", "index", "texts", index_of(way)]
+        command = [program_of(way), "index", "texts", index_of(way)]
         if way == "reading":
             command = ["./words", "texts", "sample", str(one_of)]
-        elif way == "lists":
-            command = ["./search", "index", "--paragraphs", "texts", "index.lists"]
+        elif way in ENGINES:
+            command = [f"./{ENGINES[way][0]}", "index", "--paragraphs", "texts", index_of(way)]
         said, processor, wall, memory = machine.run(*command)
         numbers.add("index: processor seconds", way, processor)
         numbers.add("index: seconds", way, wall)
@@ -199,8 +213,8 @@ def measure_index(machine, ways, numbers, one_of=200):
             for name, value in zip(["bytes", "paragraphs", "words", "postings", "occurrences"], said[0][1:]):
                 numbers.add(name, "texts", int(value))
             continue
-        if way == "lists":
-            said = machine.run("./lists", "index", "texts", "index.lists")[0]
+        if way in ENGINES:
+            said = machine.run(program_of(way), "index", "texts", index_of(way))[0]
         numbers.add("bytes of documents", way, int(said[0][1]))
         numbers.add("bytes of counts", way, int(said[0][2]))
         numbers.save()
@@ -209,7 +223,7 @@ def measure_index(machine, ways, numbers, one_of=200):
 
 def measure_queries(machine, way, numbers, threads, rounds, one_of):
     """Has a way answer the queries, and adds what that took."""
-    command = [f"./{way}", "queries", index_of(way), "queries", f"answers.{way}", str(rounds), str(threads), str(one_of)]
+    command = [program_of(way), "queries", index_of(way), "queries", f"answers.{way}", str(rounds), str(threads), str(one_of)]
     for words in machine.run(*command, threads=threads)[0]:
         if words[0] == "memory":
             numbers.add("queries: bytes of memory", way, int(words[1]), "", threads)
@@ -219,10 +233,10 @@ def measure_queries(machine, way, numbers, threads, rounds, one_of):
             numbers.add(f"{mode}: seconds", way, float(wall) / int(count), name, threads)
 
 
-def measure(machine, ways, numbers, passes):
+def measure(machine, ways, numbers, passes, counts_of_threads):
     """Has the ways answer the queries in turn, and compares the answers. Last it opens all lists of documents."""
     for number in range(passes):
-        for threads in 1, 4:
+        for threads in counts_of_threads:
             for way in ways:
                 rounds, most, one_of = WAYS[way]
                 if number >= most:
@@ -232,10 +246,11 @@ def measure(machine, ways, numbers, passes):
                     sys.exit(f"{way} has other answers than the lists")
         numbers.save()
         print(f"pass {number + 1} of {passes}: the answers are the same; load {os.getloadavg()[0]:.1f}", flush=True)
-    for words in machine.run("./lists", "open", "index.lists", "5")[0]:
-        if words[0] == "open":
-            numbers.add("opening all: lists", "lists", int(words[1]))
-            numbers.add("opening all: processor seconds", "lists", float(words[3]))
+    for way in [way for way in ways if way in ENGINES]:
+        for words in machine.run(program_of(way), "open", index_of(way), "5")[0]:
+            if words[0] == "open":
+                numbers.add("opening all: lists", way, int(words[1]))
+                numbers.add("opening all: processor seconds", way, float(words[3]))
     numbers.save()
 
 
@@ -246,9 +261,9 @@ def table(ways, numbers):
     def row(name, value):
         print(f"| {name} | " + " | ".join("" if value(way) is None else value(way) for way in ways) + " |")
 
-    def number(measure_name, form, scale=1.0):
+    def number(measure_name, form, scale=1.0, threads=""):
         def value(way):
-            found = numbers.get(measure_name, way)
+            found = numbers.get(measure_name, way, "", threads)
             return None if found is None else form.format(found * scale)
 
         return value
@@ -273,7 +288,7 @@ def table(ways, numbers):
     row("bytes of documents", number("bytes of documents", "{:,.0f}"))
     row("bits a posting", number("bytes of documents", "{:.2f}", 8 / postings))
     row("bits of its count", number("bytes of counts", "{:.2f}", 8 / postings))
-    row("queries, memory in MB", lambda way: f"{numbers.get('queries: bytes of memory', way, '', 1) / 1e6:,.0f}")
+    row("queries, memory in MB", number("queries: bytes of memory", "{:,.0f}", 1e-6, 1))
     for mode, threads in [("query", 1), ("lists", 1), ("opening", 1), ("bitmaps", 1), ("counts", 1), ("query", 4)]:
         for part in SETS:
             kind = "processor seconds" if threads == 1 else "seconds"
@@ -282,23 +297,16 @@ def table(ways, numbers):
         row(f"{part}, speed left if each query opens its lists, %", left_if_opening(part))
 
 
-def machine_name():
-    """What the processor says that it is."""
-    with open("/proc/cpuinfo", encoding="ascii") as file:
-        fields = dict(map(str.strip, line.split(":", 1)) for line in file.read().split("\n\n")[0].split("\n"))
-    return f"{fields.get('model name')}, family {fields.get('cpu family')}, model {fields.get('model')}, {os.cpu_count()} cores"
-
-
 def tried():
     """Compares the answers of all ways on a small corpus. Each check as its name and why it failed, or None."""
-    ways = [way for way in WAYS if way != "roaring_here"]
+    ways = [way for way in WAYS if way not in INDEXES]
     for way, (path, package) in NEEDS.items():
         if not os.path.exists(path):
             leave_out(f"the way {way}", f"since there is no {package}")
             ways.remove(way)
     with tempfile.TemporaryDirectory(prefix="search-speed-") as folder:
         os.symlink(CORPUS, f"{folder}/texts")
-        done = list(built(folder, ways, None, "-O1"))
+        done = list(built(folder, ways, None, ARCHIVE, "-O1"))
         yield from done
         if any(why for _, why in done):
             return
@@ -319,29 +327,41 @@ def main():
     parser.add_argument("--tsv")
     parser.add_argument("--keep")
     parser.add_argument("--roaring")
+    parser.add_argument("--ways")
+    parser.add_argument("--threads", default="1,4")
+    parser.add_argument("--archive", default=ARCHIVE)
     parser.add_argument("--try", action="store_true", dest="only_try")
     parser.add_argument("folders", nargs="*", default=["/usr/share", "/usr/include"])
     given = parser.parse_args()
     if given.only_try:
         status = archives.status_without("the ways to keep lists", "g++", "taskset")
         return report(tried()) if status is None else status
-    lacking = missing("g++", "taskset") + [package for path, package in NEEDS.values() if not os.path.exists(path)]
+    ways = chosen_ways(given)
+    lacking = missing("g++", "taskset") + [NEEDS[way][1] for way in ways if way in NEEDS and not os.path.exists(NEEDS[way][0])]
     if lacking:
         sys.exit(f"there is no {' and no '.join(lacking)}")
-    if not os.path.isfile(f"{archives.OUT}/{archives.ALL}") and archives.build()[1] > 0:
+    if given.archive == ARCHIVE and not os.path.isfile(ARCHIVE) and archives.build()[1] > 0:
         return 1
-    return measured(given)
+    return measured(given, ways)
 
 
-def measured(given):
-    """Measures all, as the arguments say."""
-    ways = [way for way in WAYS if way != "roaring_here" or given.roaring]
+def chosen_ways(given):
+    """The ways that the arguments name, in the order of the table."""
+    named = given.ways.split(",") if given.ways else [way for way in WAYS if way != "lists3"]
+    if set(named) - set(WAYS):
+        sys.exit(f"there is no way {' and no '.join(sorted(set(named) - set(WAYS)))}")
+    named = [way for way in named if way != "roaring_here" or given.roaring]
+    return [way for way in WAYS if way in ["lists", *named, *(INDEXES.get(way) for way in named)]]
+
+
+def measured(given, ways):
+    """Measures the ways, as the arguments say."""
     folder = given.keep or tempfile.mkdtemp(prefix="search-speed-")
     os.makedirs(folder, exist_ok=True)
     if not os.path.isdir(f"{folder}/texts"):
         print(f"copying text files to {folder}/texts", flush=True)
         stage(given.folders, f"{folder}/texts")
-    for name, why in built(folder, ways, given.roaring and os.path.realpath(given.roaring)):
+    for name, why in built(folder, ways, given.roaring and os.path.realpath(given.roaring), os.path.realpath(given.archive)):
         if why:
             sys.exit(f"{name} was not built: {why}")
     machine, numbers = Machine(folder, given.core), Numbers(given.tsv)
@@ -350,7 +370,7 @@ def measured(given):
         if numbers.get(name, "texts") < least:
             sys.exit(f"{numbers.get(name, 'texts'):,} {name} are too few: name more folders, or `apt-get install linux-doc`")
     write_queries(f"{folder}/queries", *read_sample(f"{folder}/sample"), numbers.get("paragraphs", "texts"))
-    measure(machine, ways, numbers, given.passes)
+    measure(machine, ways, numbers, given.passes, [int(count) for count in given.threads.split(",")])
     table(ways, numbers)
     return 0
 

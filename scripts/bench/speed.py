@@ -1,11 +1,12 @@
 #!/usr/bin/env python3
 """Times packed lists beside other ways, in one process that takes the candidates in turn:
 
-    scripts/bench/speed.py [--cpu LEVEL] [--core N] [--rounds N] [--only WORD] [--texts FOLDER]
+    scripts/bench/speed.py [--cpu LEVEL] [--core N] [--rounds N] [--only WORD] [--texts FOLDER] [--files FOLDER ..]
 
 It copies the repository and what its checks left in out/ to a folder, adds a crate of C functions over the lists
 (scripts/bench/speed/exports.txt), builds it for a level of x86-64, and runs scripts/bench/speed/main.rs, which rustc compiles, over it on
-one core. Each row is a ratio of medians: our time over that of the other way. docs/SPEED.md says what the rows are. Nothing rests on them.
+one core. Each row has medians and the least times, and the ratio of our median to that of the fastest other way. Columns of numbers are
+tables of the least times. docs/SPEED.md says what the rows are. Nothing rests on them.
 
 --keep FOLDER uses the folder of an earlier run again. It needs rt, rustc and taskset.
 """
@@ -112,6 +113,7 @@ def main():
     parser.add_argument("--rounds", default="21")
     parser.add_argument("--only", default="")
     parser.add_argument("--texts", default="", help="a folder of text files, for the lists of an index in each version")
+    parser.add_argument("--files", nargs="+", default=[], help="folders of files, for columns of numbers that they have")
     parser.add_argument("--keep")
     parser.add_argument("--built", action="store_true", help="time what --keep FOLDER has")
     given = parser.parse_args()
@@ -119,8 +121,13 @@ def main():
     if not given.built:
         build(folder, given.cpu)
     return subprocess.run(
-        ["taskset", "-c", given.core, f"{folder}/speed", given.rounds, given.only, *filter(None, [given.texts])], check=False
+        ["taskset", "-c", given.core, f"{folder}/speed", given.rounds, given.only, *folders(given)], check=False
     ).returncode
+
+
+def folders(given):
+    """The folders as the program takes them."""
+    return [f"texts={given.texts}"] * bool(given.texts) + [f"files={folder}" for folder in given.files]
 
 
 def build(folder, cpu):

@@ -2,9 +2,9 @@
 """Builds the archives of proved code that C and Rust programs link, into rust/out/:
 
     rust/out/libbitpacking.a                     for C on x86-64: each function chooses its level when it is called
-    rust/out/LEVEL/libbitpacking_c.a             for C, of one level of x86-64
+    rust/out/LEVEL/libbitpacking.a               for C, of one level of x86-64
     rust/out/libbitpacking_vN.a                  the same for the crate in rust/, each name with the prefix vN_
-    rust/out/TARGET/libbitpacking_c.a            for C and Rust on aarch64, which has one level
+    rust/out/TARGET/libbitpacking.a              for C and Rust on aarch64, which has one level
 
 It proves the crate `bitpacking_c` once, and the crates below it that are not proved in out/proved/ from these sources. Each level and target
 takes that proof, and only compiles.
@@ -46,9 +46,14 @@ def sources():
     return [proving.sum_of("bitpacking_c"), hashlib.sha256(choosing.chooser().encode()).hexdigest()]
 
 
+def are_given():
+    """Whether the archives are those of a bundle, which has none of the sources that they are built from."""
+    return not os.path.exists(f"{ROOT}/crates.txt")
+
+
 def archive(build):
     """The archive for C of a level or a target."""
-    return f"{OUT}/{build}/libbitpacking_c.a"
+    return f"{OUT}/{build}/{ALL}"
 
 
 class Shown:

@@ -1,12 +1,13 @@
 #!/usr/bin/env python3
-"""Writes one file, FILE, for those who have no rt: the header, the archives of all levels and targets, the crate in rust/ with its archives
-in place, the programs of examples/, the licence, and the pages RUST.md, C.md and FORMAT.md of docs/.
+"""Writes what those need who have no rt, into FOLDER: a file for each processor, such as bitpacking-1.0.0-linux-x86_64.tar.gz. It has the header,
+the archives for the processor, the crate in rust/ with its archives in place, the Python package, the examples, the vectors, the licence, all pages, and
+scripts/build/install.py.
 
-    bundle.py FILE.tar.gz
+    bundle.py FOLDER
 
-The files lie as in the repository, so that the commands of the pages work in the folder bitpacking/ that the bundle unpacks to. The same files
-give the same bytes. The archives are those that scripts/build/archives.py wrote, which is called where they are not there. The status is 0,
-1 if it failed, or 2 if it was called wrongly or lacks a tool.
+The files lie as in the repository, in a folder with the name of the bundle, so that the commands of the pages work there, but for those that
+build and check. The same files give the same bytes. The archives are those that scripts/build/archives.py wrote, which is called where they
+are not there. It prints the names of the files that it wrote. The status is 0, 1 if it failed, or 2 if it was called wrongly or lacks a tool.
 """
 import glob
 import gzip
@@ -15,46 +16,63 @@ import sys
 import tarfile
 
 sys.path.insert(1, f"{sys.path[0]}/..")
-from common import ROOT, missing, words
+from common import ROOT, missing, version, words
 import archives
 
-TOP = "bitpacking"
-FILES = ["LICENSE", "docs/RUST.md", "docs/C.md", "docs/FORMAT.md", "include/*.h", "examples/*.c"]
+PAGES = ["LICENSE", "README.md", "CHANGELOG.md", "CONTRIBUTING.md", "docs/*.md", "docs/*/*.svg"]
+FILES = [*PAGES, "include/*.h", "c/symbols.c", "vectors/*.tsv", "examples/*.c"]
+FILES += [f"examples/{it}/**/*.*" for it in ("search", "numbers")]
 FILES += ["rust/Cargo.toml", "rust/Cargo.lock", "rust/build.rs", "rust/src/**/*.rs", "rust/examples/*.rs"]
-FILES += ["rust/out/*.a", "rust/out/x86-64*/*.a", "rust/out/aarch64*/*.a"]
+FILES += ["python/*.md", "python/pyproject.toml", "python/setup.py", "python/src/core/*.[ch]", "python/src/fimulowen/*.py*"]
+FILES += ["python/src/fimulowen/py.typed", "python/tests/*.py"]
+FILES += ["scripts/common.py", *(f"scripts/build/{it}.py" for it in ("install", "archives", "choosing", "proving"))]
+# The archives of each processor, by the name that `uname -m` gives it.
+ARCHIVES = {"x86_64": ["rust/out/*.a", "rust/out/x86-64*/*.a"], "aarch64": ["rust/out/aarch64*/*.a"]}
 
 
-def paths():
-    """The files of the bundle, by their paths in the repository."""
-    found = [sorted(glob.glob(f"{ROOT}/{form}", recursive=True)) for form in FILES]
-    return sorted({os.path.relpath(path, ROOT) for files in found for path in files})
+def name_of(processor):
+    """The name of a bundle, and of the folder that it unpacks to."""
+    return f"bitpacking-{version()}-linux-{processor}"
+
+
+def paths(processor):
+    """The files of a bundle, by their paths in the repository. What was built beside the sources of an example is none."""
+    found = [glob.glob(f"{ROOT}/{form}", recursive=True) for form in [*FILES, *ARCHIVES[processor]]]
+    relative = {os.path.relpath(path, ROOT) for files in found for path in files if os.path.isfile(path)}
+    return sorted(path for path in relative if "/target/" not in path)
 
 
 def plain(entry):
     """An entry as anyone would write it at any time."""
     entry.uid = entry.gid = entry.mtime = 0
     entry.uname = entry.gname = ""
-    entry.mode = 0o644
+    entry.mode = 0o755 if entry.name.endswith("/install.py") else 0o644
     return entry
 
 
-def write(path):
-    """Writes the bundle."""
+def write(folder, processor):
+    """Writes the bundle of a processor into a folder. Returns its path."""
+    path = f"{folder}/{name_of(processor)}.tar.gz"
     with open(path, "wb") as file, gzip.GzipFile("", "wb", 9, file, mtime=0) as packed:
         with tarfile.open(fileobj=packed, mode="w", format=tarfile.USTAR_FORMAT) as bundle:
-            for name in paths():
-                bundle.add(f"{ROOT}/{name}", f"{TOP}/{name}", filter=plain)
+            for name in paths(processor):
+                bundle.add(f"{ROOT}/{name}", f"{name_of(processor)}/{name}", filter=plain)
+    return path
 
 
 def main():
     given, lacking = words(), missing(*archives.TOOLS)
     if len(given) != 1 or lacking:
-        print(f"bundle.py: there is no {' and no '.join(lacking)}" if lacking else "usage: bundle.py FILE.tar.gz", file=sys.stderr)
+        print(f"bundle.py: there is no {' and no '.join(lacking)}" if lacking else "usage: bundle.py FOLDER", file=sys.stderr)
+        return 2
+    if not os.path.isdir(given[0]):
+        print(f"bundle.py: {given[0]} is not a folder", file=sys.stderr)
         return 2
     if archives.build()[1] > 0:
         print("bundle.py: an archive is not right", file=sys.stderr)
         return 1
-    write(given[0])
+    for processor in ARCHIVES:
+        print(write(given[0], processor))
     return 0
 
 

@@ -1,14 +1,18 @@
 #!/usr/bin/env python3
-"""Installs the library for C under a folder, PREFIX, for programs that ask `pkg-config --cflags --libs bitpacking_c`:
+"""Installs the library for C under a folder, PREFIX, for programs that ask `pkg-config --cflags --libs bitpacking`:
 
-    install.py PREFIX [--level LEVEL]    include/bitpacking.h, lib/libbitpacking_c.a, lib/libbitpacking_c.so.1 with the link
-                                         lib/libbitpacking_c.so, and lib/pkgconfig/bitpacking_c.pc
+    install.py PREFIX [--level LEVEL]    include/bitpacking.h, lib/libbitpacking.a, a shared library with the link lib/libbitpacking.so, and
+                                         lib/pkgconfig/bitpacking.pc
     install.py PREFIX --remove           takes away what it wrote there, with the folders that it made
 
 LEVEL is that of the archive: x86-64, x86-64-v2 or x86-64-v3; without it the archive for all levels is installed; for aarch64 LEVEL is
-aarch64-unknown-linux-gnu, and CC has to name a compiler for it. The archives are those that scripts/build/archives.py wrote. The names of
-what was written are in share/bitpacking_c/installed. A file that another program wrote is not replaced. The status is 0, 1 if it failed, or
-2 if it was called wrongly or lacks a tool.
+aarch64-unknown-linux-gnu, and CC has to name a compiler for it. The archives are those that scripts/build/archives.py wrote; a bundle has them.
+If the variable DESTDIR is set, all is written below that folder, as packages want it, and names PREFIX alone.
+
+The shared library exports each function of the header, the three that are inline there too. Its name ends with the major version, before
+1.0.0 with the minor one too: programs need a new link after a change of that. The names of what was written are in share/bitpacking/installed.
+A file that another program wrote is not replaced. The last line says what was installed. The status is 0, 1 if it failed, or 2 if it was
+called wrongly or lacks a tool.
 """
 import os
 import re
@@ -22,18 +26,19 @@ import archives
 import choosing
 
 CC = os.environ.get("CC", "cc")
-HEADER, STATIC, SHARED = "include/bitpacking.h", "lib/libbitpacking_c.a", "lib/libbitpacking_c.so.1"
-LINK, ASKED, NAMES = "lib/libbitpacking_c.so", "lib/pkgconfig/bitpacking_c.pc", "share/bitpacking_c/installed"
+HEADER, STATIC, LINK = "include/bitpacking.h", "lib/libbitpacking.a", "lib/libbitpacking.so"
+ASKED, NAMES = "lib/pkgconfig/bitpacking.pc", "share/bitpacking/installed"
+SYMBOLS = "c/symbols.c"
 
 PC = """prefix={prefix}
 includedir=${{prefix}}/include
 libdir=${{prefix}}/lib
 
-Name: bitpacking_c
+Name: bitpacking
 Description: Blocks of 32-bit integers packed in few bits per value, and chains and lists of such blocks
 Version: {version}
 Cflags: -I${{includedir}}
-Libs: -L${{libdir}} -lbitpacking_c
+Libs: -L${{libdir}} -lbitpacking
 """
 
 
@@ -48,14 +53,26 @@ def version():
     return f"{number // 1000000}.{number // 1000 % 1000}.{number % 1000}"
 
 
-def shared(archive, path):
+def shared_library():
+    """Where the shared library is. Programs that were linked with it need one of the same name."""
+    major, minor, _ = version().split(".")
+    return f"{LINK}.{major if int(major) else f'0.{minor}'}"
+
+
+def exported():
+    """The functions of the shared library: those that the header declares, and those that it defines for C alone."""
+    return sorted({*choosing.prototypes(), *re.findall(r"\((bitpacking_\w+)\)\(", source(SYMBOLS))})
+
+
+def link_shared(archive, path):
     """Links an archive as a shared library, in which only the names of the header can be seen."""
     with tempfile.TemporaryDirectory(prefix="install-") as folder:
         names = f"{folder}/names"
         with open(names, "w", encoding="ascii") as file:
-            file.write(f"{{ global: {' '.join(f'{name};' for name in sorted(choosing.prototypes()))} local: *; }};\n")
-        words = ["-shared", f"-Wl,-soname,{os.path.basename(SHARED)}", f"-Wl,--version-script={names}", "-Wl,-z,defs,-z,relro,-z,now"]
-        done = run(CC, *words, "-Wl,--whole-archive", archive, "-Wl,--no-whole-archive", "-o", path)
+            file.write(f"{{ global: {' '.join(f'{name};' for name in exported())} local: *; }};\n")
+        words = ["-shared", f"-Wl,-soname,{os.path.basename(path)}", f"-Wl,--version-script={names}", "-Wl,-z,defs,-z,relro,-z,now"]
+        compiled = ["-std=c99", "-O2", "-fPIC", f"-I{ROOT}/include", f"{ROOT}/{SYMBOLS}"]
+        done = run(CC, *words, *compiled, "-Wl,--whole-archive", archive, "-Wl,--no-whole-archive", "-o", path)
     if done.returncode != 0:
         raise Failed(f"{CC} did not link a shared library: {done.stdout}")
 
@@ -70,32 +87,41 @@ def made_folders(prefix, path):
 
 
 def install(prefix, archive):
-    """Writes all files. If one cannot be written, those before it are taken away again."""
-    if os.path.exists(f"{prefix}/{NAMES}"):
+    """Writes all files below the folder that is named DESTDIR. If one cannot be written, those before it are taken away again."""
+    root = placed(prefix)
+    if os.path.exists(f"{root}/{NAMES}"):
         remove(prefix)
-    files = [HEADER, STATIC, SHARED, LINK, ASKED, NAMES]
-    others = [it for it in files if os.path.lexists(f"{prefix}/{it}")]
+    library = shared_library()
+    files = [HEADER, STATIC, library, LINK, ASKED, NAMES]
+    others = [it for it in files if os.path.lexists(f"{root}/{it}")]
     if others:
-        raise Failed(f"{prefix}/{others[0]} is there, and was not written by this script")
+        raise Failed(f"{root}/{others[0]} is there, and was not written by this script")
     written = []
     try:
         for path in files:
-            written += made_folders(prefix, path) + [path]
+            written += made_folders(root, path) + [path]
             if path == HEADER:
-                shutil.copyfile(f"{ROOT}/{HEADER}", f"{prefix}/{path}")
+                shutil.copyfile(f"{ROOT}/{HEADER}", f"{root}/{path}")
             elif path == STATIC:
-                shutil.copyfile(archive, f"{prefix}/{path}")
-            elif path == SHARED:
-                shared(archive, f"{prefix}/{path}")
+                shutil.copyfile(archive, f"{root}/{path}")
+            elif path == library:
+                link_shared(archive, f"{root}/{path}")
             elif path == LINK:
-                os.symlink(os.path.basename(SHARED), f"{prefix}/{path}")
+                os.symlink(os.path.basename(library), f"{root}/{path}")
             else:
                 text = PC.format(prefix=prefix, version=version()) if path == ASKED else "\n".join(written)
-                with open(f"{prefix}/{path}", "w", encoding="utf-8") as file:
+                with open(f"{root}/{path}", "w", encoding="utf-8") as file:
                     file.write(text)
     except (OSError, Failed):
-        taken_away(prefix, written)
+        taken_away(root, written)
         raise
+    return f"installed version {version()} under {root}: {' '.join(files)}"
+
+
+def placed(prefix):
+    """The folder that PREFIX means below DESTDIR."""
+    destination = os.environ.get("DESTDIR", "")
+    return os.path.abspath(f"{destination}/{prefix}") if destination else prefix
 
 
 def taken_away(prefix, written):
@@ -110,20 +136,22 @@ def taken_away(prefix, written):
 
 
 def remove(prefix):
-    if not os.path.isfile(f"{prefix}/{NAMES}"):
-        raise Failed(f"there is no {prefix}/{NAMES}: nothing is installed there")
-    with open(f"{prefix}/{NAMES}", encoding="utf-8") as file:
-        taken_away(prefix, file.read().split("\n"))
+    root = placed(prefix)
+    if not os.path.isfile(f"{root}/{NAMES}"):
+        raise Failed(f"there is no {root}/{NAMES}: nothing is installed there")
+    with open(f"{root}/{NAMES}", encoding="utf-8") as file:
+        taken_away(root, file.read().split("\n"))
+    return f"removed what was installed under {root}"
 
 
 def archive_of(level):
     """The archive of a level, or of all levels."""
     if level not in ["all", *archives.BUILDS]:
         raise Failed(f"there is no level {level}: it is one of {' '.join(archives.BUILDS)}")
-    lacking = missing(*archives.TOOLS, CC)
+    lacking = missing(*([] if archives.are_given() else archives.TOOLS), CC)
     if lacking:
         raise Failed(f"there is no {' and no '.join(lacking)}")
-    if archives.build()[1] > 0:
+    if not archives.are_given() and archives.build()[1] > 0:
         raise Failed("an archive is not right")
     return f"{archives.OUT}/{archives.ALL}" if level == "all" else archives.archive(level)
 
@@ -137,9 +165,9 @@ def main():
         return 2
     try:
         if given[1:] == ["--remove"]:
-            remove(prefix)
+            print(remove(prefix))
         else:
-            install(prefix, archive_of(given[2] if levelled else "all"))
+            print(install(prefix, archive_of(given[2] if levelled else "all")))
     except (OSError, Failed) as why:
         print(f"install.py: {why}", file=sys.stderr)
         return 1

@@ -24,7 +24,7 @@ CLAUSE = re.compile(r"^(requires|ensures)\b")
 LIMITS = {
     "bitpacking_register": (15, 120),
     "bitpacking": (15, 120),
-    "bitpack_lists": (21, 120),
+    "bitpack_lists": (19, 120),
     "bitpack_sorted": (15, 120),
     "bitpacking_c": (15, 120),
     "bitpack": (15, 120),
@@ -32,7 +32,7 @@ LIMITS = {
 }
 BELIEVED = ["bitpacking_register", "bitpacking", "bitpack_lists", "bitpack_sorted", "bitpack", "bitpacking_c", "bitpack_uses"]
 # The most lines of definitions to believe. If there are fewer, it is lowered.
-MOST = 1407
+MOST = 1536
 PAGE = "docs/PROOFS.md"
 
 

@@ -1,14 +1,16 @@
 #!/usr/bin/env python3
 """Compares the scripts with what the formatter `black` makes of them, in lines of 140 columns. `format.py --write` formats them. It is left
-out without `black` of this version, since each version has its own form. The last line is 'N passed, M failed', one for each file.
+out without `black` of this version, since each version has its own form. The last line is 'N passed, M failed', one for each file and one
+for `black` itself.
 """
+import re
 import sys
 
 sys.path.insert(1, f"{sys.path[0]}/..")
 from common import ROOT, ended, leave_out, missing, report, run, words
 
 VERSION = "23.1.0"
-BLACK = ["black", "--quiet", "--line-length", "140"]
+BLACK = ["black", "--line-length", "140"]
 
 
 def files():
@@ -18,11 +20,14 @@ def files():
 
 
 def checks(write):
-    for path in files():
-        if write:
-            run(*BLACK, f"{ROOT}/{path}")
-        done = run(*BLACK, "--check", f"{ROOT}/{path}")
-        yield path, None if done.returncode == 0 else f"it is not as black writes it {done.stdout}"
+    paths = [f"{ROOT}/{path}" for path in files()]
+    if write:
+        run(*BLACK, *paths)
+    done = run(*BLACK, "--check", *paths)
+    # black names each file that it would change or cannot read.
+    faults = {path: line for line in done.stdout.split("\n") for path in paths if re.search(rf" {re.escape(path)}(:|$)", line)}
+    yield "black", None if (done.returncode == 0) == (not faults) else done.stdout
+    yield from ((path, faults.get(f"{ROOT}/{path}")) for path in files())
 
 
 def main():

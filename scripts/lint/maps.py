@@ -145,8 +145,8 @@ def methods(texts):
     return {name: places[0][0] for name, places in found.items() if len(places) == 1 and not places[0][1]}
 
 
-def named_by(crate, module):
-    """What a module names of the other modules of its crate: the module and the item."""
+@functools.cache
+def named(crate, module, _changed):
     texts = tuple(((it, other), code(f"crates/{it}/src/{other}.rt")) for it in crates() for other in modules(it))
     text = dict(texts)[crate, module]
     imported = [it for path in re.findall(r"(?m)^(?:\s*)use ([^;]+);", text) for it in spelled_out(path)]
@@ -154,6 +154,11 @@ def named_by(crate, module):
     own = {name: place[1] for name, place in methods(texts).items() if place[0] == crate}
     found |= {(own[name], name) for name in re.findall(r"\.(\w+)\(", text) if name in own}
     return sorted(it for it in found if it[0] != module)
+
+
+def named_by(crate, module):
+    """What a module names of the other modules of its crate: the module and the item."""
+    return named(crate, module, tuple(CHANGED.items()))
 
 
 def of_row(row):
@@ -229,17 +234,28 @@ def lemma_files():
     return paths(f"{LEMMAS}/*/*.antt")
 
 
-def serves(path):
-    """The line of a lemma file that says which folders' proofs cite it, and which files' beside the folders."""
-    name = path.removeprefix("crates/").replace("/", ".").removesuffix(".antt")
-    cites = re.compile(rf"\bRattle\.{re.escape(name)}\b")
-    users = (it.removeprefix(f"{LEMMAS}/").removeprefix(f"{PROOFS}/") for it in paths(f"{PROOFS}/**/*.antt") if cites.search(text_of(it)))
-    return f"-- Serves {', '.join(sorted({it.removesuffix('.antt').split('/')[0] for it in users}))}."
+@functools.cache
+def cited(text):
+    """The lemma files of which a proof cites a name, by their modules and all modules that they are in."""
+    found = re.findall(r"\bRattle((?:\.\w+)+)", text)
+    return {name[: end.start()] for name in found for end in re.finditer(r"\.|$", name)}
+
+
+def serves():
+    """By lemma file the line that says which folders' proofs cite it, and which files' beside the folders."""
+    files = {path: path.removeprefix("crates").replace("/", ".").removesuffix(".antt") for path in lemma_files()}
+    users = {path: set() for path in files}
+    for proof in paths(f"{PROOFS}/**/*.antt"):
+        names = cited(text_of(proof))
+        first = proof.removeprefix(f"{LEMMAS}/").removeprefix(f"{PROOFS}/").removesuffix(".antt").split("/")[0]
+        for path, name in files.items():
+            if name in names:
+                users[path].add(first)
+    return {path: f"-- Serves {', '.join(sorted(found))}." for path, found in users.items()}
 
 
 def heads():
-    for path in lemma_files():
-        right = serves(path)
+    for path, right in serves().items():
         if right not in re.match("(?:--.*\n)*", text_of(path))[0].split("\n"):
             yield f"{path}: its head has no line {right}"
 

@@ -26,7 +26,8 @@ READING = {
     f"{C}/": r"\bReads::|\bunpack_counted\b",
 }
 MEASURING = r"\bnum_bits_kind\b|\bwidth_counted\b"
-# The functions whose reads a contract counts, or that read at most one tail, with their marks: who calls them needs no mark.
+# The functions whose reads a contract counts, or that read at most one tail, or find the bits of one block, with their marks: who calls them
+# needs no mark.
 COUNTED = {
     f"{LISTS}/blocks/reads.rt": {
         "read_entry": "record, read",
@@ -45,13 +46,14 @@ COUNTED = {
         "read_entry4": "record, read_block4",
         "unpack_block4": "record, read_block4, body_of4, unpack_block4",
     },
+    f"{LISTS}/opened/bits.rt": {"bits_of_body": "read_block4, rest, is_bit_set, start_of, body_of4"},
     f"{LISTS}/opened/columns.rt": {"greatest_in_plain": "read_entry4, rest, greatest_of_width, greatest_of_width, read_entry"},
     f"{LISTS}/opened/tail.rt": {
         "read_tail": "read_words, tail, read_front",
         "value_in_tail": "read_one, tail, value_in_groups",
     },
     f"{LISTS}/opened/search.rt": {"seek_in_tail": "read_tail, first_in_block, seek_in_groups"},
-    f"{C}/list_blocks.rt": {"read_in": "list, read_next", "find_in": "list, find_next"},
+    f"{C}/list_blocks.rt": {"read_at_in": "list, read_at", "read_in": "list, read_next", "find_in": "list, find_next"},
 }
 # What no code has, and what no code of lists has.
 NEVER = r"\bReads as\b|\btype\b[^;]*\bReads\b|\bmacro_rules\b"

@@ -110,9 +110,9 @@ def numbers_of(path, first):
 def reckoned():
     """What follows from measured numbers: in an index the bits a value of all lists and of short ones, and the bytes a posting."""
     (values, of_short), lengths = numbers_of(SPEED, "values"), numbers_of(SPEED, "bytes")
-    bits = [8 * length / count for length, count in zip(lengths, 3 * [values] + 3 * [of_short])]
+    bits = [8 * length / count for length, count in zip(lengths, 4 * [values] + 3 * [of_short])]
     yield from missing(SPEED, "| bits a value | " + " | ".join(f"{it:.1f}" for it in bits) + " |")
-    yield from missing(README, f"took {bits[3]:.0f} bits a value in versions 1 and 2, and {bits[5]:.0f} in version 3")
+    yield from missing(README, f"took {bits[4]:.0f} bits a value in versions 1 and 2, and {bits[6]:.0f} in version 3")
     (postings,), whole = numbers_of(SCALE, "postings"), 0
     for first in ("lists of documents", "lists of counts"):
         length = numbers_of(SCALE, first)[0]

@@ -1,10 +1,11 @@
 #!/usr/bin/env python3
 """Compares the types and the names of what the functions for C take: those of crates/bitpacking_c with those that include/bitpacking.h
-declares, and with those by which rust/src/calls.rs calls them. A slice `x` is a pointer `x` and a length `x_len`. The fields of
-`bitpacking_list`, `bitpacking_list_outline` and `bitpacking_cursor` are compared with `ListView`, `ListOutline` and `ListCursor` too, and the limits of blocks with those of
-crates/bitpacking. The header is read as it is written: it has to name each function in a prototype, which no macro makes.
+declares, and with those by which rust/src/calls.rs and rust/src/calls/by_name.rs call them. A slice `x` is a pointer `x` and a length
+`x_len`. The fields of `bitpacking_list`, `bitpacking_list_outline`, `bitpacking_cursor` and `bitpacking_list_builder` are compared with
+`ListView`, `ListOutline`, `ListCursor` and `ListBuilder` too, and the limits of blocks with those of crates/bitpacking. The header is read
+as it is written: it has to name each function in a prototype, which no macro makes.
 
-The header, the archive and the Rust crate have the version of CHANGELOG.md.
+The header, the archive, the Rust crate and the Python package have the version of CHANGELOG.md.
 
 Then the wrong changes of scripts/mutate/edits/signatures/ are tried, as scripts/mutate/changes.py says. The last line is 'N passed, M
 failed', one for the header, one for its limits, one for the calls, one for the version and one for each of these.
@@ -21,19 +22,23 @@ C_TYPES = {
     "u32": "uint32_t",
     "i32": "int32_t",
     "usize": "size_t",
+    "u64": "uint64_t",
     "isize": "ptrdiff_t",
     "ListOutline": "bitpacking_list_outline",
     "ListView": "bitpacking_list",
     "ListCursor": "bitpacking_cursor",
+    "ListBuilder": "bitpacking_list_builder",
 }
 STRUCTS = {
     "ListOutline": "crates/bitpack_lists/src/opened/outline.rt",
     "ListView": "crates/bitpacking_c/src/list_view.rt",
     "ListCursor": "crates/bitpacking_c/src/list_cursor.rt",
+    "ListBuilder": "crates/bitpacking_c/src/list_builder.rt",
 }
 PLACE = "crates/bitpack_lists/src/opened/place.rt"
 HEADER = "include/bitpacking.h"
 CALLS = "rust/src/calls.rs"
+LISTS = "rust/src/calls/by_name.rs"
 LIMITS = "crates/bitpacking/src/limits.rt"
 # Where the version is, beside CHANGELOG.md: as text, or as the number a million times the major one, a thousand times the minor one, and the
 # patch.
@@ -42,6 +47,7 @@ VERSIONS = {
     ("crates/bitpacking_c/src/version.rt", r"result ≡ (\S+)"): True,
     ("crates/bitpacking_c/src/version.rt", r"^\{\n    (.*)\n\}$"): True,
     ("rust/src/lib.rs", r'^pub const VERSION: &str = "(.*)";$'): False,
+    ("python/pyproject.toml", r'^version = "(.*)"$'): False,
 }
 
 
@@ -93,7 +99,7 @@ def declared():
 
 def called():
     """The same of the calls from Rust: of each packer and kind, of which all but the first have an initial value; and of the functions of
-    lists, of which those in the macro `calls` are of each packer."""
+    lists, of which those in the macro `calls` are of each packer, and the others in a file of their own."""
     text = text_of(CALLS)
     functions = re.findall(r'concat!\(\$prefix, "(\w+)", \$kind\)\]\s*fn \w+\(([^;]*)\) -> (\w+);', text)
     kinds = re.findall(r'foreign!\(\w+, \$prefix, "(\w*)"(, initial)?\)', text)
@@ -103,8 +109,8 @@ def called():
             for name, given, returned in functions:
                 given = given.replace("$($initial: u32,)?", "initial: u32," if initial else "")
                 found[f"{packer}{name}{kind}"] = in_c(returned) + parameters(given)
-    of_packers, of_lists = text[text.index("macro_rules! calls ") :].split("macro_rules! lists ")
-    for part, prefixes in [(of_packers, re.findall(r'calls!\("v1_(bitpacking_\dx_)"\)', text)), (of_lists, ["bitpacking_"])]:
+    of_packers = text[text.index("macro_rules! calls ") :]
+    for part, prefixes in [(of_packers, re.findall(r'calls!\("v1_(bitpacking_\dx_)"\)', text)), (text_of(LISTS), ["bitpacking_"])]:
         for name, given, returned in re.findall(r'concat!\(\$prefix, "(\w+)"\)\]\s*fn \w+(?:<[^>]*>)?\(([^;]*)\)(?: -> (\w+))?;', part):
             found.update({f"{prefix}{name}": (in_c(returned) if returned else ["void"]) + parameters(given) for prefix in prefixes})
     return found

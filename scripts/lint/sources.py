@@ -70,8 +70,9 @@ GROUPS = (f"{LISTS}/v3/group.rt", "BitPacker1x")
 SHAPES = {
     f"{LISTS}/opened/intersection.rt": ["for number in 0..one.count / P::BLOCK_LEN { if walk.want > u32::MAX as u64 { return; }"],
     f"{SORTED}/distinct_values.rt": [
-        "fn block(&self) -> &[u32] { self.cursor.block() }",
-        "fn seek_ahead(&mut self, target: u32, ahead: usize) -> Option<u32> { self.cursor.seek_ahead(target, ahead); self.cursor.value() }",
+        "fn block(&self) -> &[u32] { match self.bits { Some(_) => &self.low, None => self.cursor.block(), } }",
+        "self.cursor.seek_ahead(target, ahead); self.cursor.value()",
+        "match self.cursor.seek_to_bits(self.bits, target, ahead) {",
     ],
 }
 # By file and name, the least and the most that a constant may be: how far a search goes step by step, how many values show whether it

@@ -149,8 +149,10 @@ def functions_by_less(edit):
 
 def are_apart(edit, other):
     """Whether one check can take both, the other after the edit: they leave different functions unproved, change different lines, and no
-    file of proofs twice, and neither changes a clause of a function that the other names. Two edits of which the crate does not compile
-    have each its own text."""
+    file of proofs twice, and neither changes a clause of a function that the other names, nor a lemma, on which its proof may rest. Two
+    edits of which the crate does not compile have each its own text."""
+    if any("/proofs/lemmas/" in path for path, _, _ in [*edit.changes, *other.changes]):
+        return False
     shared = {path for path, _, _ in edit.changes} & {path for path, _, _ in other.changes}
     if not edit.unproved or not other.unproved:
         return not edit.unproved and not other.unproved and set(edit.refused).isdisjoint(other.refused)

@@ -1,10 +1,11 @@
 #!/usr/bin/env python3
 """Compiles and runs the C programs over the archive for all levels of the processor and the archive of each level: those of examples/,
-whose output is worked by hand, scripts/test/calls.c, list_calls.c and cursor.c, and scripts/test/tables.c, queries.c, sets.c and damaged.c
-over the tables of vectors/. They are compiled as C99 with every warning an error and run with little stack, and once more with the address
-sanitizer if the compiler has it. The two programs of calls are also compiled as C++11 and C++17, without a cast of C in the header;
-scripts/test/calls.c also runs over the archive for all levels on a processor of each level that qemu gives, and has to name every macro of
-the header. Over that archive scripts/test/damaged.c opens a million damaged lists once more.
+whose output is worked by hand, scripts/test/calls.c, list_calls.c, cursor.c, columns.c, blocks.c and builder.c, and scripts/test/tables.c,
+queries.c, sets.c and damaged.c over the tables of vectors/. They are compiled as C99 with every warning an error and run with little stack,
+and once more with the address sanitizer if the compiler has it. The two programs of calls are also compiled as C++11 and C++17, without a cast
+of C in the header; scripts/test/calls.c also runs over the archive for all levels on a processor of each level that qemu gives. It,
+list_calls.c and blocks.c have to name every macro of the header. Over that archive scripts/test/damaged.c opens a million damaged lists once
+more.
 
 Then each program has to fail with another output than it has, or, if it prints nothing, with a function that returns one more. The archives
 are those that scripts/build/archives.py wrote, which is called if they are not there. The last line is 'N passed, M failed'; a part that is
@@ -28,6 +29,9 @@ STRICT = ["-Wall", "-Wextra", "-Werror", "-pedantic", f"-I{ROOT}/include"]
 C99 = ["cc", "-std=c99", *STRICT]
 CALLS = "scripts/test/calls.c"
 LIST_CALLS = "scripts/test/list_calls.c"
+COLUMNS = "scripts/test/columns.c"
+BLOCKS = "scripts/test/blocks.c"
+BUILDER = "scripts/test/builder.c"
 TABLES = "scripts/test/tables.c"
 SETS = "scripts/test/sets.c"
 QUERIES = "scripts/test/queries.c"
@@ -55,9 +59,17 @@ PROGRAMS = {
     "examples/posting_list.c": "300 numbers: 2 and 2 bits, 64 bytes, 44 numbers as they are\n",
     # A header of 7 bytes, 2 entries of 9, those blocks, and 44 numbers of 4 bytes; the last number is 3 * 299 + 1.
     "examples/packed_list.c": "300 numbers in 265 bytes, the last 898\nthe first from 500 on is 502, at position 167\n",
+    # Row r costs 5000 and 37 * r, modulo 1000. Since 37 * 973 is 36001, each price from 5000 to 5999 is there once, and 1 more is 27 rows before.
+    # 5100 is in row 300.
+    "examples/column.c": "20 of 1000 rows: 3 30 57 84 111 138 165 192 219 246 273 300 787 814 841 868 895 922 949 976\n",
+    # The second 10 is refused; the others are those of examples/list.c.
+    "examples/builder.c": "10 is out of order\n4 ids in 7 bytes\n",
     "examples/index.c": INDEX,
     CALLS: "",
     "scripts/test/cursor.c": "",
+    COLUMNS: "",
+    BLOCKS: "",
+    BUILDER: "",
     LIST_CALLS: "",
     # Each row of the tables that it is given.
     TABLES: "1322 lists, 2445 refusals, 116 packed anew\n",
@@ -68,11 +80,19 @@ PROGRAMS = {
     "1049 TooLong, 1691 BadWidth, 1025 LooseWidth, 2375 BadOffset, 3165 BadLast, "
     "1915 NotSorted, 4658 Trailing, 3600 BadNumber, 572 Padding, 2421 BadSizes, 982 BadBits\n",
     # The lists of the tables that are in order: each alone, n ^ 2 pairs, and as many triples of 17 of them, by three calls; and 4,000 unions.
-    # Then each with the array of each, by three calls, and with no value and four values, by three and two.
-    SETS: "553 lists, 937825 combined, 630550 counted, 923510 with an array\n",
+    # Then each with the array of each, by three calls, and with no value and four values, by three and two. And so 27 more lists, but each two of
+    # these with six of them.
+    SETS: "580 lists, 953215 combined, 640810 counted, 925994 with an array\n",
 }
 # For each program that prints nothing, a function of the header that it calls, and that function with a wrong answer.
-CALLED = {CALLS: "bitpacking_version", LIST_CALLS: "bitpacking_list_len", "scripts/test/cursor.c": "bitpacking_cursor_position"}
+CALLED = {
+    CALLS: "bitpacking_version",
+    LIST_CALLS: "bitpacking_list_len",
+    "scripts/test/cursor.c": "bitpacking_cursor_position",
+    COLUMNS: "bitpacking_list_count_between",
+    BLOCKS: "bitpacking_list_block_count",
+    BUILDER: "bitpacking_list_builder_len",
+}
 ONE_MORE = """#include "bitpacking.h"
 
 {returned}__real_{name}({given});
@@ -192,12 +212,12 @@ def on_other_processors():
 
 def macros_not_named():
     """What is wrong with the use of the header's macros, or None. Its guard is its own."""
-    text, used = source("include/bitpacking.h"), set(re.findall(r"\w+", source(CALLS)))
+    text, used = source("include/bitpacking.h"), set(re.findall(r"\w+", "".join(map(source, [CALLS, LIST_CALLS, BLOCKS]))))
     own = set(re.findall(r"^#ifndef (\w+)", text, re.M))
     macros = set(re.findall(r"^#define (\w+)", text, re.M)) - own
     if not macros:
         return "the header has no macro"
-    return f"it does not name {' '.join(sorted(macros - used))}" if macros - used else None
+    return f"none names {' '.join(sorted(macros - used))}" if macros - used else None
 
 
 def casts_in_the_header():
@@ -212,7 +232,7 @@ def casts_in_the_header():
 
 def checks():
     """Each check as a name and what is wrong, or None."""
-    yield f"the macros in {CALLS}", macros_not_named()
+    yield f"the macros in {CALLS}, {LIST_CALLS} and {BLOCKS}", macros_not_named()
     sanitizers, in_cpp = has_sanitizers(), shutil.which("c++")
     if not sanitizers:
         leave_out("the C programs under the address sanitizer", "which cc does not have here")

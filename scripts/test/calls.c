@@ -67,7 +67,7 @@ static void constants(void)
     EXPECT(BITPACKING_STRICTLY_SORTED, 2);
     EXPECT(BITPACKING_LIST_VERSION_2, 2);
     EXPECT(BITPACKING_LIST_VERSION_3, 3);
-    EXPECT(BITPACKING_LIST_VERSION_4, 4);
+    EXPECT(BITPACKING_LIST_NEWEST, 4);
     EXPECT(BITPACKING_LIST_ROOM(0), 7);
     EXPECT(BITPACKING_LIST_ROOM(31), 7 + 31 * 4);
     EXPECT(BITPACKING_LIST_ROOM(30 + 2), 7 + 32 * 4 + 9);
@@ -325,40 +325,16 @@ static void whole_blocks(uint8_t lanes, size_t len, size_t one_bit, size_t two_b
     EXPECT(bitpacking_list_seek(&copy, target, &position, &value), 0);
 }
 
-/* Lists of no whole block in four and eight lanes. */
-static void short_lists(void)
-{
-    static const uint8_t four[11] = {2, 1, 4, 1, 0, 0, 0, 5, 0, 0, 0}, eight[11] = {2, 0, 8, 1, 0, 0, 0, 6, 0, 0, 0};
-    bitpacking_list list = BITPACKING_LIST_EMPTY;
-    uint32_t value = 77;
-    size_t position = 78;
-
-    EXPECT(bitpacking_list_open(four, 11, &list), 0);
-    EXPECT(bitpacking_list_kind(&list), 1);
-    EXPECT(bitpacking_list_get(&list, 0, &value), 1);
-    EXPECT(value, 5);
-    EXPECT(bitpacking_list_seek(&list, 6, &position, &value), 0);
-    EXPECT(position, 78);
-    EXPECT(bitpacking_list_seek(&list, 3, &position, &value), 1);
-    EXPECT(value, 5);
-    EXPECT(position, 0);
-    EXPECT(bitpacking_list_open(eight, 11, &list), 0);
-    EXPECT(bitpacking_list_kind(&list), 0);
-    EXPECT(bitpacking_list_get(&list, 0, &value), 1);
-    EXPECT(value, 6);
-    EXPECT(bitpacking_list_seek(&list, 6, &position, &value), BITPACKING_LIST_BAD_KIND);
-}
-
-/* A cursor over strictly sorted 7, 9, 10, 300 in four lanes of version 3, worked by hand as above: the inline forms and the functions of the
-   archive give the same. A position that is not in the list. */
+/* A cursor over strictly sorted 7, 9, 10, 300 in four lanes of version 3, worked by hand: the inline forms and the functions of the archive
+   give the same. */
 static void cursors(void)
 {
     static const uint8_t four[7] = {0xA4, 7, 9, 1, 0, 0x84, 4};
-    static const size_t last = 3, beyond = 4;
-    bitpacking_list list;
+    bitpacking_list list = BITPACKING_LIST_EMPTY;
     bitpacking_cursor cursor;
     uint32_t value = 77, other = 78;
 
+    memset(&cursor, 0, sizeof cursor);
     EXPECT(bitpacking_list_open(four, 7, &list), 0);
     bitpacking_cursor_start(&cursor, &list);
     EXPECT(bitpacking_cursor_value(&cursor, &value), 1);
@@ -375,10 +351,32 @@ static void cursors(void)
     EXPECT(value, 300);
     EXPECT(bitpacking_cursor_seek(&cursor, 301), 0);
     EXPECT(bitpacking_cursor_value(&cursor, &value), 0);
-    EXPECT(bitpacking_list_gather(&list, &last, 1, &value, 1), 1);
-    EXPECT(value, 300);
-    EXPECT(bitpacking_list_gather(&list, &beyond, 1, &value, 1), BITPACKING_BAD_POSITION);
-    EXPECT(value, 300);
+}
+
+/* Positions in strictly sorted 0 to 32 in one lane of version 3, as above, and a position and a block that are not in the list. */
+static void positions(void)
+{
+    static const uint8_t right[12] = {0x6F, 33, 0, 0, 0, 0, 0, 31, 0, 0, 0, 0};
+    static const size_t last = 32, beyond = 33;
+    bitpacking_list list = BITPACKING_LIST_EMPTY;
+    size_t found[2] = {78, 79};
+    uint32_t least = 77, greatest = 78;
+
+    EXPECT(bitpacking_list_bounds(&list, 0, &least, &greatest), BITPACKING_BAD_BLOCK);
+    EXPECT(bitpacking_list_open(right, 12, &list), 0);
+    EXPECT(bitpacking_list_bounds(&list, 1, &least, &greatest), BITPACKING_BAD_BLOCK);
+    EXPECT(least + greatest, 155);
+    EXPECT(bitpacking_list_bounds(&list, 0, &least, &greatest), 0);
+    EXPECT(least, 0);
+    EXPECT(greatest, 31);
+    EXPECT(bitpacking_list_count_between(&list, 30, 40), 3);
+    EXPECT(bitpacking_list_between(&list, 30, 40, 32, found, 2), 1);
+    EXPECT(found[0], 32);
+    EXPECT(found[1], 79);
+    EXPECT(bitpacking_list_gather(&list, &last, 1, &least, 1), 1);
+    EXPECT(least, 32);
+    EXPECT(bitpacking_list_gather(&list, &beyond, 1, &least, 1), BITPACKING_BAD_POSITION);
+    EXPECT(least, 32);
 }
 
 int main(void)
@@ -394,7 +392,7 @@ int main(void)
     lists();
     lists_of_version_3();
     lists_of_version_4();
-    short_lists();
     cursors();
+    positions();
     return failed;
 }

@@ -5,25 +5,9 @@
 #include <string.h>
 
 #include "bitpacking.h"
+#include "expect.h"
 
 #define MOST 1100
-
-#define EXPECT(found, wanted) \
-    do { \
-        long long found_ = (long long)(found), wanted_ = (long long)(wanted); \
-        if (found_ != wanted_) { \
-            printf("line %d: %s is %lld and not %lld\n", __LINE__, #found, found_, wanted_); \
-            exit(EXIT_FAILURE); \
-        } \
-    } while (0)
-
-static uint32_t state = 1;
-
-static uint32_t next_number(void)
-{
-    state = state * 1664525u + 1013904223u;
-    return state >> 8;
-}
 
 static void put(uint8_t *bytes, uint32_t value)
 {
@@ -76,8 +60,8 @@ static void make(int kind, uint32_t *values, size_t count, int greatest)
     size_t i;
     uint32_t value = 0;
     for (i = 0; i < count; i++) {
-        uint32_t step = next_number() % 1000 < 30 ? next_number() % 100000 : next_number() % 9;
-        value = kind == 0 ? next_number() : i == 0 ? step : value + step + (kind == 2);
+        uint32_t step = next_number(1u << 24) % 1000 < 30 ? next_number(1u << 24) % 100000 : next_number(1u << 24) % 9;
+        value = kind == 0 ? next_number(1u << 24) : i == 0 ? step : value + step + (kind == 2);
         values[i] = value;
     }
     if (greatest && count > 0)
@@ -124,15 +108,15 @@ static void moves(const bitpacking_list *list, int kind, const uint32_t *values,
     at_place(&cursor, values, 0, 0);
     for (i = 0; i < 400; i++) {
         const uint32_t *block;
-        uint32_t target = next_number() % 4 == 0 || count == 0 ? next_number() * 256 : values[next_number() % count] + next_number() % 3 - 1;
-        if (i == 0 || next_number() % 40 == 0) {
+        uint32_t target = next_number(1u << 24) % 4 == 0 || count == 0 ? next_number(1u << 24) * 256 : values[next_number(1u << 24) % count] + next_number(1u << 24) % 3 - 1;
+        if (i == 0 || next_number(1u << 24) % 40 == 0) {
             bitpacking_cursor_start(&cursor, list);
             bitpacking_cursor_start(&other, list);
             at = 0;
         }
         at_place(&cursor, values, count, at);
         same_place(&cursor, &other);
-        switch (next_number() % 5) {
+        switch (next_number(1u << 24) % 5) {
         case 0:
             at += bitpacking_cursor_block(&cursor, &block);
             bitpacking_cursor_skip_block(&cursor);
@@ -144,7 +128,7 @@ static void moves(const bitpacking_list *list, int kind, const uint32_t *values,
                 EXPECT((bitpacking_cursor_seek)(&other, target), BITPACKING_LIST_BAD_KIND);
                 break;
             }
-            if (next_number() % 8 == 0)
+            if (next_number(1u << 24) % 8 == 0)
                 target = UINT32_MAX;
             while (at < count && values[at] < target)
                 at++;
@@ -178,7 +162,7 @@ static void ranges(const bitpacking_list *list, const uint32_t *values, size_t c
     static uint32_t out[MOST + 3];
     int i;
     for (i = 0; i < 60; i++) {
-        size_t from = next_number() % (count + 40), room = next_number() % 3 == 0 ? count : next_number() % (count + 3), j;
+        size_t from = next_number(1u << 24) % (count + 40), room = next_number(1u << 24) % 3 == 0 ? count : next_number(1u << 24) % (count + 3), j;
         size_t wanted = from >= count ? 0 : count - from < room ? count - from : room;
         for (j = 0; j < MOST + 3; j++)
             out[j] = 5;
@@ -197,9 +181,9 @@ static void gathers(const bitpacking_list *list, const uint32_t *values, size_t 
     static size_t positions[MOST];
     size_t turn, many, i;
     for (turn = 0; turn < 30 && count > 0; turn++) {
-        many = turn == 0 ? 0 : next_number() % (count + 1);
+        many = turn == 0 ? 0 : next_number(1u << 24) % (count + 1);
         for (i = 0; i < many; i++)
-            positions[i] = turn % 3 == 0 ? count - 1 - i : turn % 3 == 1 ? i : next_number() % count;
+            positions[i] = turn % 3 == 0 ? count - 1 - i : turn % 3 == 1 ? i : next_number(1u << 24) % count;
         memset(out, 5, sizeof out);
         EXPECT(bitpacking_list_gather(list, positions, many, out, many + turn % 2), many);
         for (i = 0; i < MOST + 3; i++)
@@ -207,7 +191,7 @@ static void gathers(const bitpacking_list *list, const uint32_t *values, size_t 
         memset(out, 5, sizeof out);
         if (many > 0) {
             EXPECT(bitpacking_list_gather(list, positions, many, out, many - 1), BITPACKING_SHORT);
-            positions[next_number() % many] = turn % 2 == 0 ? count : (size_t)-1 - next_number();
+            positions[next_number(1u << 24) % many] = turn % 2 == 0 ? count : (size_t)-1 - next_number(1u << 24);
             EXPECT(bitpacking_list_gather(list, positions, many, out, many), BITPACKING_BAD_POSITION);
         }
         for (i = 0; i < MOST + 3; i++)

@@ -6,24 +6,21 @@
 #define _DEFAULT_SOURCE
 #include "bitpacking.h"
 #include "damaging.h"
+#include "guarded.h"
 #include "plain_reader.h"
 #include "tables.h"
 
-#include <signal.h>
-#include <sys/mman.h>
-#include <unistd.h>
-
-enum { ROWS = 5000, POOL = 1 << 21, MANY = 128 * LONGEST, PACKED = 700, UNITED = 17, UNSET = 0x5A5A5A5A };
+enum { ROWS = 5000, POOL = 1 << 21, PACKED = 700, UNITED = 17 };
 
 static const char *const names[FAULTS] = {
     "opened",     "Short",     "BadVersion", "BadKind",   "WrongLanes", "TooLong", "BadWidth",
     "LooseWidth", "BadOffset", "BadLast",    "NotSorted", "Trailing",   "",        "BadNumber", "Padding",
     "",           "BadSizes",  "BadBits"};
 static uint8_t pool[POOL], *bytes_room;
-static uint32_t values[MANY + 1], *values_room;
+static uint32_t values[MANY + 1];
 static bitpacking_cursor *cursor;
 static size_t row_at[ROWS], row_len[ROWS], rows, pool_len;
-static unsigned long number, by_fault[FAULTS], by_rule[VERSIONS][RULES];
+static unsigned long by_fault[FAULTS], by_rule[VERSIONS][RULES];
 /* Opened lists that are in order, with their values: each in room of its own between pages that nothing may read or write. */
 static struct {
     uint8_t *room;
@@ -32,59 +29,6 @@ static struct {
     bitpacking_list view;
 } kept[UNITED];
 static size_t kept_count;
-static int at_end, failed;
-
-static void expect(int right, const char *what)
-{
-    size_t i;
-
-    if (right || failed++ > 10)
-        return;
-    printf("%s: list %lu, ", what, number);
-    for (i = 0; i < text_len && i < 100; i++)
-        printf("%02x", text[i]);
-    printf(" of %lu bytes\n", (unsigned long)text_len);
-}
-
-static void outside(int signal_number)
-{
-    expect(0, "it reads or writes outside");
-    fflush(stdout);
-    _exit(signal_number);
-}
-
-/* Room of so many bytes, which are whole pages, with a page before and one after it that nothing may read or write. */
-static void *guarded(size_t size)
-{
-    size_t page = (size_t)sysconf(_SC_PAGESIZE);
-    uint8_t *it = mmap(NULL, size + 2 * page, PROT_NONE, MAP_PRIVATE | MAP_ANONYMOUS, -1, 0);
-
-    if (it == MAP_FAILED || size % page != 0 || mprotect(it + page, size, PROT_READ | PROT_WRITE) != 0) {
-        printf("no room between pages\n");
-        exit(EXIT_FAILURE);
-    }
-    return it + page;
-}
-
-/* Room for some values, beside a guard: nothing is written there yet. */
-static uint32_t *unset(size_t count)
-{
-    uint32_t *room = at_end ? values_room + MANY - count : values_room;
-    size_t i;
-
-    for (i = 0; i < count + !at_end; i++)
-        room[i] = UNSET;
-    return room;
-}
-
-static int is_unset(const uint32_t *room, size_t count)
-{
-    size_t i;
-
-    for (i = 0; i < count + !at_end && room[i] == UNSET; i++)
-        continue;
-    return i == count + !at_end;
-}
 
 /* Packs a list of random values, and returns its length. The whole text has to be the one of these values. */
 static size_t pack(uint8_t *bytes)
@@ -214,6 +158,81 @@ static void gathers(const bitpacking_list *view, size_t n)
            "it gathers a value that is not there");
 }
 
+/* Finds the values between two of the list, or all, and bounds of a block that is there, and of one that is not. */
+static void ranges(const bitpacking_list *view, size_t n)
+{
+    const size_t block = 32 * (size_t)view->lanes;
+    uint32_t low = n > 0 && number % 5 ? values[number % n] : 0, high = n > 0 && number % 7 ? values[number / 3 % n] : UINT32_MAX, bounds[2];
+    size_t found[4], count = 0, i;
+
+    for (i = 0; i < n; i++)
+        if (low <= values[i] && values[i] <= high && count++ < 4)
+            found[count - 1] = i;
+    expect(bitpacking_list_count_between(view, low, high) == count, "another number of values is in a range");
+    for (i = 0; i < 4; i++) {
+        size_t positions[4] = {0};
+        const size_t wanted = count < i ? count : i;
+
+        expect(bitpacking_list_between(view, low, high, 0, positions, i) == wanted, "another number of positions");
+        expect(memcmp(positions, found, wanted * sizeof *found) == 0, "other positions");
+    }
+    expect(bitpacking_list_bounds(view, n / block, &bounds[0], &bounds[1]) == BITPACKING_BAD_BLOCK, "bounds of no block");
+    for (i = 0; i < n / block * block; i++)
+        if (i % block > 0 || bitpacking_list_bounds(view, i / block, &bounds[0], &bounds[1]) == 0)
+            expect(bounds[0] <= values[i] && values[i] <= bounds[1], "a value is outside of the bounds of its block");
+}
+
+/* Reads each block by its number, into just enough room and into too little, and finds the blocks of a value of the list and of one more. */
+static void blocks(const bitpacking_list *view, const plain_list *right)
+{
+    const size_t n = right->count, len = 32 * (size_t)right->lanes, whole = n / len, from = number % (whole + 2);
+    const uint32_t target = n > 0 ? values[number % n] + (uint32_t)(number / 2 % 2) : 7;
+    size_t block, found;
+    uint32_t last = UNSET, *room;
+
+    expect(bitpacking_list_block_len(view) == len && bitpacking_list_block_count(view) == whole, "another number of blocks");
+    for (block = 0; block <= whole; block++) {
+        const size_t wanted = block < whole ? len : n - len * block;
+
+        room = unset(wanted);
+        expect(bitpacking_list_read_block(view, block, room, wanted) == (ptrdiff_t)wanted, "another length of a block");
+        expect(memcmp(room, values + len * block, 4 * wanted) == 0 && (at_end || room[wanted] == UNSET), "another block");
+        if (wanted > 0) {
+            room = unset(wanted - 1);
+            expect(bitpacking_list_read_block(view, block, room, wanted - 1) == BITPACKING_SHORT && is_unset(room, wanted - 1),
+                   "a block has too little room");
+        }
+        if (right->kind > 0 && block < whole)
+            expect(bitpacking_list_block_last(view, block, &last) == 0 && last == values[len * block + len - 1], "another last value");
+    }
+    expect(bitpacking_list_read_block(view, whole + 1, values_room, MANY) == BITPACKING_BAD_BLOCK, "a block after all");
+    for (found = from < whole ? from : whole; found < whole && values[len * found + len - 1] < target; found++)
+        continue;
+    expect(bitpacking_list_find_block(view, from, target) == (right->kind == 0 ? BITPACKING_LIST_BAD_KIND : (ptrdiff_t)found),
+           "another block is found");
+    last = UNSET;
+    expect(bitpacking_list_block_last(view, whole, &last) == (right->kind == 0 ? BITPACKING_LIST_BAD_KIND : BITPACKING_BAD_BLOCK),
+           "a block after all has a last value");
+    expect(last == UNSET, "the last value of no block is written");
+}
+
+/* Moves a cursor to the end, back to the start and to some position, and beyond. */
+static void jumps(const bitpacking_list *view, const plain_list *right)
+{
+    const size_t n = right->count, to[] = {n, 0, n > 0 ? number % n : 0, n + number, n > 0 ? n - 1 : 0};
+    uint32_t value;
+    size_t i;
+
+    bitpacking_cursor_start(cursor, view);
+    for (i = 0; i < sizeof to / sizeof *to; i++) {
+        value = UNSET;
+        expect(bitpacking_cursor_move_to(cursor, to[i]) == (to[i] < n), "a cursor moves elsewhere");
+        expect(bitpacking_cursor_position(cursor) == (to[i] < n ? to[i] : n), "a cursor is at another position");
+        expect(bitpacking_cursor_value(cursor, &value) == (to[i] < n) && value == (to[i] < n ? values[to[i]] : UNSET),
+               "another value after a move");
+    }
+}
+
 static int by_value(const void *a, const void *b)
 {
     const uint32_t one = *(const uint32_t *)a, other = *(const uint32_t *)b;
@@ -261,6 +280,19 @@ static void keep_opened(const bitpacking_list *view, const plain_list *right)
     }
 }
 
+/* Opening a text again, as it was tested, finds the same. */
+static void opens_again(const bitpacking_list *view)
+{
+    const bitpacking_list_outline *found = &view->found, *again;
+    bitpacking_list other = BITPACKING_LIST_EMPTY;
+
+    bitpacking_list_open_tested(view->bytes, view->bytes_len, &other);
+    again = &other.found;
+    expect(other.bytes == view->bytes && other.bytes_len == view->bytes_len && other.lanes == view->lanes, "another view");
+    expect(again->header_len == found->header_len && again->len == found->len && again->tail_start == found->tail_start, "other lengths");
+    expect(again->before_tail == found->before_tail && again->version == found->version && again->kind == found->kind, "another list");
+}
+
 /* Opens a damaged text and compares. */
 static void compare(void)
 {
@@ -268,18 +300,24 @@ static void compare(void)
     bitpacking_list view = BITPACKING_LIST_EMPTY;
     plain_list right = {0};
     enum fault fault;
+    size_t block, position;
 
     right.values = values;
     memcpy(bytes, text, text_len);
     fault = plain_read(&right, text, text_len);
     expect(bitpacking_list_open(bytes, text_len, &view) == (fault ? -20 - (ptrdiff_t)fault : 0), "another answer");
+    expect(bitpacking_list_fault(bytes, text_len, &block, &position) == (fault ? -20 - (ptrdiff_t)fault : 0), "another fault");
     expect(view.bytes == (fault ? NULL : bytes) && view.lanes == (fault ? 0 : right.lanes), "another list is opened");
     by_fault[fault]++;
     if (fault)
         by_rule[version_of(text, text_len)][right.rule]++;
     else if (!failed) {
+        opens_again(&view);
         reads(&view, &right);
         gathers(&view, right.count);
+        ranges(&view, right.count);
+        blocks(&view, &right);
+        jumps(&view, &right);
         walks(&view, &right);
         keep_opened(&view, &right);
     }

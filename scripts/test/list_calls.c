@@ -1,6 +1,5 @@
 /* Lists that C packs, run by scripts/test/c.py as C99 and as C++, also under the address sanitizer: bytes worked by hand, each error with
-   nothing written, the room that is enough, lists combined with arrays, the texts of all errors. scripts/test/tables.c packs the lists of the
-   tables. */
+   nothing written, the room that is enough, lists combined with arrays, short lists. scripts/test/tables.c packs the lists of the tables. */
 #include "bitpacking.h"
 
 #include <stdio.h>
@@ -157,6 +156,21 @@ static bitpacking_list worked_list(int packer, uint8_t version, uint8_t kind, ui
     return list;
 }
 
+/* A view in place of a list that is not there is in order: what it has in common with a list is nothing, and no error. */
+static void no_list(int packer)
+{
+    uint8_t bytes[40];
+    bitpacking_list views[] = {worked_list(packer, BITPACKING_LIST_NEWEST, BITPACKING_SORTED, bytes), bitpacking_list_none()};
+    uint32_t out[5];
+
+    EXPECT(bitpacking_list_kind(&views[1]), BITPACKING_STRICTLY_SORTED);
+    EXPECT(bitpacking_list_intersect(views, 2, out, 5), 0);
+    EXPECT(bitpacking_list_unite(views, 2, out, 5), 4);
+    EXPECT(bitpacking_list_subtract(views, 2, out, 5), 4);
+    views[1] = bitpacking_list_empty();
+    EXPECT(bitpacking_list_intersect(views, 2, out, 5), BITPACKING_LIST_BAD_KIND);
+}
+
 /* What is in front after a call, and its number. */
 static void is_in_front(ptrdiff_t answer, const uint32_t *values, const uint32_t *right, ptrdiff_t count)
 {
@@ -234,44 +248,6 @@ static void refused_arrays(const bitpacking_list *list, const bitpacking_list *p
     refuses_arrays(list, array, SIZE_MAX, 24, 0, is_short);
 }
 
-/* Each error of the header has its sentence, and no other number has one of these. */
-static void texts(void)
-{
-    static const struct {
-        ptrdiff_t number;
-        const char *text;
-    } errors[] = {
-        {BITPACKING_BAD_LENGTH, "The number of values is wrong, or there is no room for them."},
-        {BITPACKING_BAD_WIDTH, "A width is above 32."},
-        {BITPACKING_SHORT, "The buffer is too short."},
-        {BITPACKING_UNFIT, "A value does not fit the width."},
-        {BITPACKING_BAD_POSITION, "A position is not in the list."},
-        {BITPACKING_LIST_SHORT, "Bytes of the list are missing."},
-        {BITPACKING_LIST_BAD_VERSION, "The version of the list is not supported."},
-        {BITPACKING_LIST_BAD_KIND, "The kind of the list is wrong."},
-        {BITPACKING_LIST_WRONG_LANES, "The list is of another packer."},
-        {BITPACKING_LIST_TOO_LONG, "A list has at most 268435456 values."},
-        {BITPACKING_LIST_BAD_WIDTH, "A width in the list is above 32."},
-        {BITPACKING_LIST_LOOSE_WIDTH, "A width or a size in the list is not the least of its block."},
-        {BITPACKING_LIST_BAD_OFFSET, "A block of the list does not begin at the end of the one before it, or is too long."},
-        {BITPACKING_LIST_BAD_LAST, "A last or least value in the list is not the one of its block."},
-        {BITPACKING_LIST_NOT_SORTED, "The values are not in order."},
-        {BITPACKING_LIST_TRAILING, "Bytes are left over after the list."},
-        {BITPACKING_LIST_BAD_NUMBER, "A number in the list does not have its only form."},
-        {BITPACKING_LIST_PADDING, "A bit after the codes of a group is set."},
-        {BITPACKING_LIST_BAD_SIZES, "The ends or the marks of the list do not have the least count of bytes."},
-        {BITPACKING_LIST_BAD_BITS, "A set of bits in the list is not the one of its block."}};
-    enum { COUNT = sizeof errors / sizeof *errors };
-    ptrdiff_t number;
-    size_t others = 0, i;
-
-    for (i = 0; i < COUNT; i++)
-        EXPECT(strcmp(bitpacking_error_text(errors[i].number), errors[i].text), 0);
-    for (number = -100; number <= 100; number++)
-        others += strcmp(bitpacking_error_text(number), "No error has this number.") == 0;
-    EXPECT((ptrdiff_t)others, 201 - COUNT);
-}
-
 /* A list of values that step by a number, each `times` times. */
 static bitpacking_list steps(int packer, uint8_t *bytes, size_t room, uint32_t first, uint32_t step, size_t len, size_t times)
 {
@@ -331,6 +307,30 @@ static void counts(int packer)
     EXPECT(bitpacking_list_count_common(views, 3), MOST - 4);
 }
 
+/* Lists of no whole block in four and eight lanes. */
+static void short_lists(void)
+{
+    static const uint8_t four[11] = {2, 1, 4, 1, 0, 0, 0, 5, 0, 0, 0}, eight[11] = {2, 0, 8, 1, 0, 0, 0, 6, 0, 0, 0};
+    bitpacking_list list = BITPACKING_LIST_EMPTY;
+    uint32_t value = 77;
+    size_t position = 78;
+
+    EXPECT(bitpacking_list_open(four, 11, &list), 0);
+    EXPECT(bitpacking_list_kind(&list), 1);
+    EXPECT(bitpacking_list_get(&list, 0, &value), 1);
+    EXPECT(value, 5);
+    EXPECT(bitpacking_list_seek(&list, 6, &position, &value), 0);
+    EXPECT(position, 78);
+    EXPECT(bitpacking_list_seek(&list, 3, &position, &value), 1);
+    EXPECT(value, 5);
+    EXPECT(position, 0);
+    EXPECT(bitpacking_list_open(eight, 11, &list), 0);
+    EXPECT(bitpacking_list_kind(&list), 0);
+    EXPECT(bitpacking_list_get(&list, 0, &value), 1);
+    EXPECT(value, 6);
+    EXPECT(bitpacking_list_seek(&list, 6, &position, &value), BITPACKING_LIST_BAD_KIND);
+}
+
 int main(void)
 {
     uint8_t version;
@@ -344,6 +344,7 @@ int main(void)
         empty(packer);
         rooms(packer);
         counts(packer);
+        no_list(packer);
         for (version = BITPACKING_LIST_VERSION_2; version <= BITPACKING_LIST_VERSION_4; version++) {
             uint8_t bytes[40], others[40];
             const bitpacking_list list = worked_list(packer, version, BITPACKING_SORTED, bytes);
@@ -353,6 +354,6 @@ int main(void)
             refused_arrays(&list, &plain);
         }
     }
-    texts();
+    short_lists();
     return failed;
 }

@@ -1,26 +1,53 @@
 #!/usr/bin/env python3
 """Tests scripts/build/install.py with a folder of its own for PREFIX, and scripts/build/bundle.py with programs in C and Rust outside the
-repository that are built from the unpacked bundle. One of these gets `bitpacking` through another crate, which asks for 0.9 of crates.io
-with one of its features, and takes the crate of the bundle by `[patch.crates-io]`. Nothing is fetched: the folder of cargo is empty. Each
-program has to fail if another output is wanted. The last line is 'N passed, M failed'; a part that is left out for want of a tool is named.
+repository, and with the Python package, that are built from the unpacked bundle. One of the programs gets `bitpacking` through another crate,
+which asks for 0.9 of crates.io with one of its features, and takes the crate of the bundle by `[patch.crates-io]`. Nothing is fetched: the
+folder of cargo is empty. Each program has to fail if another output is wanted. A small program is linked with the flag of docs/C.md, by which
+the linker leaves out what is not called. The last line is 'N passed, M failed'; a part that is left out for want of a tool is named.
 """
+import ctypes
 import os
+import re
 import subprocess
 import sys
 import tarfile
 import tempfile
 
 sys.path.insert(1, f"{sys.path[0]}/..")
-from common import ROOT, leave_out, missing, report, run, version
+from common import ROOT, leave_out, missing, report, run, source, version
 import archives
 import arm
 import bundle
 import c
 import choosing
 import install
+import python
 import rust
 
 EXAMPLES = [it for it in c.PROGRAMS if it.startswith("examples/")]
+PROCESSOR = "x86_64"
+# The functions that the header defines as `static inline`, and that have a symbol for other languages.
+INLINE = ["bitpacking_cursor_block", "bitpacking_error_text", "bitpacking_list_empty", "bitpacking_list_none"]
+
+# A program that opens a list and unpacks it, and what it prints.
+HELLO = """#include "bitpacking.h"
+#include <stdio.h>
+
+int main(void)
+{
+    const uint8_t bytes[] = {0xA4, 7, 9, 1, 0, 0x84, 4};
+    uint32_t ids[4] = {0};
+    bitpacking_list list = BITPACKING_LIST_EMPTY;
+
+    if (bitpacking_list_open(bytes, sizeof bytes, &list) != 0 || bitpacking_list_unpack(&list, ids, 4) != 4)
+        return 1;
+    return printf("4 ids, the last %u\\n", (unsigned)ids[3]) < 0;
+}
+"""
+HELLO_PRINTS = "4 ids, the last 300\n"
+# The linker leaves out what is not called, by this flag of docs/C.md. Over the archive of this level that program then has fewer bytes, and
+# examples/list.c over the archive for all levels.
+LEAVES_OUT, SMALL_LEVEL, SMALL = "-Wl,--gc-sections", "x86-64-v3", 600_000
 
 # A program that gets the crate through another one, in one file for each: its path and its text.
 THROUGH_ANOTHER = {
@@ -69,8 +96,8 @@ def listed(folder):
     return found
 
 
-def by_script(*words, **more):
-    return run(sys.executable, f"{ROOT}/scripts/build/install.py", *words, **more)
+def by_script(*words, top=ROOT, **more):
+    return run(sys.executable, f"{top}/scripts/build/install.py", *words, **more)
 
 
 def bytes_of(path):
@@ -110,6 +137,33 @@ def levels_of(prefix):
             yield f"installing {level} over it", wrong
 
 
+def shared_library(path):
+    """Checks of a shared library, each as a name and what is wrong, or None."""
+    exported = {line.split()[-1] for line in run("nm", "-D", "--defined-only", path).stdout.splitlines()}
+    wanted = {*choosing.prototypes(), *INLINE}
+    yield "the names of the shared library", None if exported == wanted else f"they differ in {sorted(exported ^ wanted)}"
+    named = re.search(r"SONAME\s+(\S+)", run("objdump", "-p", path).stdout)
+    major, minor, _ = version().split(".")
+    wanted = f"libbitpacking.so.{major}" if major != "0" else f"libbitpacking.so.0.{minor}"
+    yield "the name that programs look for", None if named and named[1] == wanted == os.readlink(path) else f"it is {named}"
+    library = ctypes.CDLL(path)
+    library.bitpacking_error_text.restype = ctypes.c_char_p
+    text = library.bitpacking_error_text(ctypes.c_ssize_t(-3))
+    yield "a function that the header has inline, by its name", None if text == b"The buffer is too short." else f"it returned {text}"
+
+
+def below_destination(destination, prefix):
+    """What is wrong if DESTDIR names a folder below which all is written, or None."""
+    done = by_script(prefix, env=dict(os.environ, DESTDIR=destination))
+    if done.returncode or os.path.exists(prefix) or not os.path.isfile(f"{destination}{prefix}/{install.STATIC}"):
+        return f"it wrote elsewhere: {done.stdout}"
+    with open(f"{destination}{prefix}/{install.ASKED}", encoding="utf-8") as file:
+        if f"prefix={prefix}\n" not in file.read():
+            return "the file of pkg-config names another folder"
+    again = by_script(prefix, "--remove", env=dict(os.environ, DESTDIR=destination))
+    return None if again.returncode == 0 and not os.path.exists(destination + prefix) else f"{again.stdout} left files"
+
+
 def installed(folder):
     """Each check of an installation as a name and what is wrong, or None."""
     prefix = f"{folder}/prefix"
@@ -118,17 +172,16 @@ def installed(folder):
         file.write("of another program\n")
     before = listed(prefix)
     done = by_script(prefix)
-    yield "install.py", None if done.returncode == 0 else done.stdout
-    library = f"{prefix}/{install.LINK}"
-    exported = {line.split()[-1] for line in run("nm", "-D", "--defined-only", library).stdout.splitlines()}
-    yield "the names of the shared library", None if exported == set(choosing.prototypes()) else f"{sorted(exported)}"
+    said = f"installed version {version()} under {prefix}: {install.HEADER} {install.STATIC} "
+    yield "install.py", None if done.returncode == 0 and done.stdout.startswith(said) else done.stdout
+    yield from shared_library(f"{prefix}/{install.LINK}")
     if missing("pkg-config"):
         leave_out("programs that ask pkg-config", "since there is no pkg-config")
     else:
         env = dict(os.environ, PKG_CONFIG_PATH=f"{prefix}/lib/pkgconfig")
-        asked = run("pkg-config", "--modversion", "bitpacking_c", env=env)
+        asked = run("pkg-config", "--modversion", "bitpacking", env=env)
         yield "the version that pkg-config tells", None if asked.stdout == f"{version()}\n" else f"it is {asked.stdout}"
-        asked = run("pkg-config", "--cflags", "--libs", "bitpacking_c", env=env)
+        asked = run("pkg-config", "--cflags", "--libs", "bitpacking", env=env)
         for program in EXAMPLES:
             command = ["cc", "-std=c99", f"{ROOT}/{program}", *asked.stdout.split()]
             yield f"{program} by pkg-config", built_and_run(command, program, env=dict(os.environ, LD_LIBRARY_PATH=f"{prefix}/lib"))
@@ -140,6 +193,7 @@ def installed(folder):
     yield from levels_of(prefix)
     removed = by_script(prefix, "--remove")
     yield "install.py --remove", None if removed.returncode == 0 and listed(prefix) == before else f"{removed.stdout} left other files"
+    yield "install.py with DESTDIR", below_destination(f"{folder}/package", f"{folder}/later")
     yield "removing nothing", None if by_script(prefix, "--remove").returncode == 1 else "it worked"
     with open(f"{prefix}/{install.STATIC}", "w", encoding="ascii") as file:
         file.write("of another program\n")
@@ -147,11 +201,27 @@ def installed(folder):
     yield "the file of another program", None if by_script(prefix).returncode == 1 and listed(prefix) == before else "it was replaced"
 
 
-def cargo_run(folder, wanted):
-    """What is wrong with a Rust program, or None."""
+def small(folder):
+    """Whether the linker leaves out what programs do not call, and one still works: each check as a name and what is wrong, or None."""
+    written(folder, {"hello.c": HELLO})
+    command, whole = ["cc", "-std=c99", "-O2", "-s", f"-I{ROOT}/include"], f"{archives.OUT}/{archives.ALL}"
+    for program, archive in [f"{folder}/hello.c", archives.archive(SMALL_LEVEL)], [f"{ROOT}/examples/list.c", whole]:
+        sizes = []
+        for flags in [], [LEAVES_OUT]:
+            built = run(*command, program, archive, *flags, "-o", f"{folder}/program")
+            sizes.append(os.path.getsize(f"{folder}/program") if built.returncode == 0 else built.stdout)
+        right = all(isinstance(it, int) for it in sizes) and sizes[1] < SMALL < sizes[0]
+        yield f"the size of {os.path.basename(program)}", None if right else f"it is {sizes}, without the flag and with it"
+    yield "the flag that leaves out", None if LEAVES_OUT in source("docs/C.md") else "docs/C.md does not name it"
+    command += [f"{folder}/hello.c", whole, LEAVES_OUT]
+    yield "a program for all levels with the flag", built_and_run(command, "hello.c", HELLO_PRINTS)
+
+
+def cargo_run(folder, wanted, *words):
+    """What is wrong with a Rust program that gets these words, or None."""
     env = dict(os.environ, CARGO_TARGET_DIR=f"{folder}/target", CARGO_HOME=f"{folder}/cargo")
     env.pop("BITPACKING_ARCHIVES", None)
-    done = run("cargo", "run", "--quiet", "--offline", folder=folder, env=env, stderr=subprocess.PIPE)
+    done = run("cargo", "run", "--quiet", "--offline", "--", *words, folder=folder, env=env, stderr=subprocess.PIPE)
     return None if done.stdout == wanted else f"it printed {done.stdout}{done.stderr[-2000:]}"
 
 
@@ -162,35 +232,61 @@ def written(folder, texts):
             file.write(text)
 
 
-def are_same(one, two):
-    """Writes two bundles. Between them a file gets another time. Returns whether they have the same bytes."""
+def are_same(folder):
+    """Writes the bundle of this processor twice, the second time into a folder `again`. Between them a file gets another time. Returns whether
+    they have the same bytes."""
     touched = f"{ROOT}/LICENSE"
     before = os.stat(touched)
-    bundle.write(one)
+    os.makedirs(f"{folder}/again")
+    one = bundle.write(folder, PROCESSOR)
     os.utime(touched, (0, 0))
     try:
-        bundle.write(two)
+        two = bundle.write(f"{folder}/again", PROCESSOR)
     finally:
         os.utime(touched, ns=(before.st_atime_ns, before.st_mtime_ns))
     return bytes_of(one) == bytes_of(two)
 
 
+def dead_links(top):
+    """The files that pages of a bundle link and that it lacks."""
+    for page in [path for path in listed(top) if path.endswith(".md")]:
+        for link in re.findall(r"\]\(([^)#\s:]+)(?:#[^)]*)?\)", bytes_of(page).decode()):
+            if not os.path.exists(f"{os.path.dirname(page)}/{link}"):
+                yield f"{os.path.relpath(page, top)} links {link}"
+
+
+def installed_from(top, folder):
+    """What is wrong with an installation from a bundle, or None."""
+    done = by_script(f"{folder}/installed", top=top)
+    if done.returncode:
+        return done.stdout
+    same = bytes_of(f"{folder}/installed/{install.STATIC}") == bytes_of(f"{archives.OUT}/{archives.ALL}")
+    return None if same else "another archive is installed"
+
+
 def unpacked(folder):
     """Each check of a bundle as a name and what is wrong, or None."""
-    yield "two bundles, of files of other times", None if are_same(f"{folder}/one.tar.gz", f"{folder}/two.tar.gz") else "they differ"
-    with tarfile.open(f"{folder}/one.tar.gz") as file:
+    yield "two bundles, of files of other times", None if are_same(folder) else "they differ"
+    with tarfile.open(f"{folder}/{bundle.name_of(PROCESSOR)}.tar.gz") as file:
         file.extractall(folder)
-    top = f"{folder}/{bundle.TOP}"
+    top = f"{folder}/{bundle.name_of(PROCESSOR)}"
     found = {os.path.relpath(path, f"{top}/rust/out") for path in listed(f"{top}/rust/out") if path.endswith(".a")}
     wanted = {
         archives.ALL,
         *(f"libbitpacking_{prefix}.a" for prefix in archives.LEVELS),
-        *(f"{it}/libbitpacking_c.a" for it in archives.BUILDS),
+        *(f"{it}/{archives.ALL}" for it in archives.LEVELS.values()),
     }
     yield "the archives of the bundle", None if found == wanted else f"they differ in {sorted(found ^ wanted)}"
+    yield "the links of the bundle's pages", ", ".join(dead_links(top)) or None
+    yield "an installation from the bundle", installed_from(top, folder)
     for program in EXAMPLES:
         command = ["cc", "-std=c99", f"-I{top}/include", f"{top}/{program}", f"{top}/rust/out/{archives.ALL}"]
         yield f"{program} from the bundle", built_and_run(command, program)
+    interpreter, lack = python.chosen()
+    if lack:
+        leave_out("the Python package from the bundle", f"since there is no {' and no '.join(lack)}")
+    else:
+        yield "the Python package from the bundle", python.built_in_place(f"{top}/python", interpreter)
     if missing("cargo"):
         leave_out("Rust programs from the bundle", "since there is no cargo")
         return
@@ -200,13 +296,17 @@ def unpacked(folder):
         written(f"{folder}/it", {"Cargo.toml": manifest, "src/main.rs": file.read()})
     yield "a Rust program from the bundle", cargo_run(f"{folder}/it", wanted)
     yield "another output of a Rust program", is_refused(cargo_run(f"{folder}/it", c.miscounted(wanted)), wanted)
+    # Plain, 3 and 1, in one lane.
+    written(folder, {"list": "B\3\1\1"})
+    command = cargo_run(f"{top}/examples/numbers", f"{folder}/list: a list of 2 values\n", "check", f"{folder}/list")
+    yield "the command for files of numbers from the bundle", command
     written(f"{folder}/through", {path: text.format(crate=f"{top}/rust") for path, text in THROUGH_ANOTHER.items()})
     # Differences of 3 but for the first: two bits each, and so 2 * 16 bytes.
     yield "a crate that asks for 0.9 of crates.io", cargo_run(f"{folder}/through", "128 ids in 32 bytes\n")
 
 
 def checks():
-    for part in [installed, unpacked]:
+    for part in [installed, unpacked, small]:
         with tempfile.TemporaryDirectory(prefix="packaged-") as folder:
             yield from part(folder)
 

@@ -1,7 +1,9 @@
 /* Reads the tables vectors/lists2.tsv and lists3.tsv and a part of lists4.tsv, one after the other: rows "kind, lanes, values, bytes". Combines each list in order
    alone, with each other, and with each two of a few, and compares what the calls on many lists write and count with the tables' values. It
-   also unites up to 64 at a time, chosen at random, and combines each with the values of each other in an array. Prints what is wrong, and last
-   how many lists it read, how often it combined some and counted, and how often it combined one with an array. */
+   also unites up to 64 at a time, chosen at random, and combines each with the values of each other in an array. Then it does the same with
+   lists of version 4 that it packs itself: of each number of lanes, most so dense that their blocks are sets of bits, which begin and end
+   apart. Prints what is wrong, and last how many lists it combined, how often it combined some and counted, and how often it combined one
+   with an array. */
 #include "bitpacking.h"
 #include "tables.h"
 
@@ -263,6 +265,61 @@ static void read_list(char *column[COLUMNS])
     lists[count++].view = view;
 }
 
+/* The lists that are packed here: the last value, how many values, and a number that gaps are at most twice on average, or from one run of 300
+   values to the next by turns. The first five are in two windows of 65,536 numbers, and three end at the last number. */
+enum { SHAPES = 9, PACKERS = 3, RUN = 300 };
+
+static const struct {
+    uint32_t last;
+    size_t len, gap, next_gap;
+} shapes[SHAPES] = {{67000, 1500, 2, 2}, {66999, 900, 4, 4},          {68000, 400, 40, 40},
+                    {67500, 900, 2, 100}, {65535, 1200, 1, 1},        {UINT32_MAX, 1500, 2, 2},
+                    {UINT32_MAX, 900, 3, 3}, {UINT32_MAX, 600, 300, 1}, {1499, 1500, 1, 1}};
+
+typedef ptrdiff_t (*list_pack)(uint8_t, uint8_t, const uint32_t *, size_t, uint8_t *, size_t, size_t *);
+
+static void pack_shape(size_t shape, list_pack pack)
+{
+    uint32_t *all = values + values_used, value = shapes[shape].last;
+    size_t len = shapes[shape].len, i, position;
+    ptrdiff_t size;
+    bitpacking_list view = BITPACKING_LIST_EMPTY;
+
+    for (i = len; i > 0; i--) {
+        size_t gap = i / RUN % 2 == 0 ? shapes[shape].gap : shapes[shape].next_gap;
+
+        all[i - 1] = value;
+        value -= 1 + below(2 * gap - 1);
+    }
+    size = pack(BITPACKING_LIST_VERSION_4, BITPACKING_STRICTLY_SORTED, all, len, bytes + bytes_used, BYTES - bytes_used, &position);
+    expect(size > 0 && bitpacking_list_open(bytes + bytes_used, (size_t)size, &view) == 0, "it is refused", count, shape, 0);
+    bytes_used += (size_t)size;
+    lists[count].values = all;
+    lists[count].len = len;
+    values_used += len;
+    lists[count++].view = view;
+}
+
+/* The lists that are packed here: each alone, each two, with one in an array too, and each two with some. */
+static void combine_shapes(void)
+{
+    static const list_pack packers[PACKERS] = {bitpacking_1x_list_pack, bitpacking_4x_list_pack, bitpacking_8x_list_pack};
+    size_t from = count, i, a, b, c;
+
+    for (i = 0; i < SHAPES * PACKERS; i++)
+        pack_shape(i % SHAPES, packers[i / SHAPES]);
+    for (a = from; a < count; a++) {
+        combine(a, 0, 0, 1);
+        combine_few(a);
+        set_array(a);
+        for (b = from; b < count; b++) {
+            combine(a, b, 0, 2);
+            for (c = from + b % 2; c < count; c += 5)
+                combine(a, b, c, 3);
+        }
+    }
+}
+
 int main(void)
 {
     size_t a, b, c;
@@ -285,6 +342,7 @@ int main(void)
                 combine(a, b, c, 3);
     for (a = 0; a < TRIALS; a++)
         unite_many(a % MANY + 1);
+    combine_shapes();
     expect(bitpacking_list_intersect(NULL, 0, NULL, 0) == 0 && bitpacking_list_unite(NULL, 0, NULL, 0) == 0
                && bitpacking_list_subtract(NULL, 0, NULL, 0) == 0 && bitpacking_list_count_common(NULL, 0) == 0
                && bitpacking_list_count_any(NULL, 0) == 0,

@@ -1,6 +1,6 @@
 /* Reads the tables vectors/lists2.tsv, lists3.tsv, lists4.tsv, refused2.tsv, refused3.tsv, refused4.tsv and upgrade4.tsv, one after the
    other, and long lists in the form of lists2.tsv. Packs the values of each list, which has to give its bytes, and opens each text with
-   bitpacking_list_open. A list without a block is packed in version 4 too, which gives its text of version 3. Of the rows of upgrade4.tsv it
+   bitpacking_list_open, and asks where the faults of others lie. A list without a block is packed in version 4 too, which gives its text of version 3. Of the rows of upgrade4.tsv it
    reads the texts of versions 2 and 3, and packs their values in version 4. Prints what is wrong, and last how many lists and refusals it
    read, and how many texts it packed anew. */
 #include "bitpacking.h"
@@ -61,9 +61,10 @@ static void accepts(const char *kind, size_t count, size_t size)
 {
     bitpacking_list list = BITPACKING_LIST_EMPTY;
     uint32_t value;
-    size_t i;
+    size_t i, block = 77, position = 78;
 
     expect(bitpacking_list_open(bytes, size, &list) == 0, "it is refused");
+    expect(bitpacking_list_fault(bytes, size, &block, &position) == 0 && block == 77 && position == 78, "it has a fault");
     expect(bitpacking_list_len(&list) == count, "another length");
     expect(bitpacking_list_kind(&list) == kind_of(kind), "another kind");
     for (i = 0; i < count; i++)
@@ -76,9 +77,21 @@ static void accepts(const char *kind, size_t count, size_t size)
     expect(memcmp(found, values, count * sizeof *values) == 0 && found[count] == 0xA5A5A5A5, "other values");
 }
 
+/* Where a fault lies: the number after its name is that of a block, or the position of a value out of order. */
+static void places(int number, const char *fault, size_t block_len, size_t size)
+{
+    const char *said = strchr(fault, '(');
+    size_t at = said == NULL ? 0 : (size_t)strtoul(said + 1, NULL, 10), block = 77, position = 78;
+    int has_block = (number >= 6 && number <= 9) || number == 17;
+
+    expect(bitpacking_list_fault(bytes, size, &block, &position) == -20 - number, "another fault");
+    expect(block == (has_block ? at : number == 10 ? at / block_len : BITPACKING_NOWHERE), "another block");
+    expect(position == (number == 10 ? at : BITPACKING_NOWHERE), "another position");
+}
+
 /* Faults of the version and of the lanes are those of one packer and one version: this call has the lanes and the version of the text. But
    a byte 0 from 16 to 63 is of version 4 or of none. */
-static void refuses(int number, size_t size)
+static void refuses(int number, const char *fault, int lanes, size_t size)
 {
     bitpacking_list list;
 
@@ -87,6 +100,7 @@ static void refuses(int number, size_t size)
         return;
     expect(bitpacking_list_open(bytes, size, &list) == -20 - number, "another answer");
     expect(list.bytes == NULL && list.bytes_len == 0 && list.lanes == 0, "it is opened");
+    places(number, fault, 32 * (size_t)lanes, size);
 }
 
 /* A text of version 2 or 3 is opened, and its values are packed in version 4. Returns whether they are. */
@@ -99,7 +113,7 @@ static int packs_anew(char *column[COLUMNS])
     if (size == 0 || (bytes[0] != 2 && bytes[0] < 64))
         return 0;
     if (number != 0) {
-        refuses(number, size);
+        refuses(number, column[3], atoi(column[0]), size);
         return 0;
     }
     expect(bitpacking_list_open(bytes, size, &list) == 0, "it is refused");
@@ -117,7 +131,7 @@ int main(void)
 
     while (next_row(column)) {
         if (table == REFUSED) {
-            refuses(atoi(column[1]), read_bytes(column[3], bytes));
+            refuses(atoi(column[1]), column[2], atoi(column[0]), read_bytes(column[3], bytes));
             refusals++;
         } else if (table == UPGRADES)
             anew += packs_anew(column);

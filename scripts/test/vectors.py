@@ -2,12 +2,11 @@
 """Runs the vectors of vectors/ over the decoders that docs/FORMAT.md shows, wrong implementations, and the program.
 
 docs/VECTORS.md says where the vectors come from. `vectors.py PROGRAM ..` runs them over another program of the same line language,
-in place of ./bitpack. Each program has to fail if one of its answers is changed, and no check may find a mistake in the decoders themselves.
+in place of ./bitpack, and `vectors.py --programs` over the programs alone. Each program has to fail if one of its answers is changed, and no
+check may find a mistake in the decoders themselves.
 The last line is 'N passed, M failed', which counts the readers of the vectors.
 """
 
-import csv
-import functools
 import hashlib
 import itertools
 import multiprocessing
@@ -19,24 +18,9 @@ import sys
 sys.path.insert(1, f"{sys.path[0]}/..")
 from common import ROOT, report, run, source
 from parts import drawn
+from rows import block_lines, list_lines, lines_by_hand, numbers, octets, page_lines, query_lines, table
 
 KINDS = ["plain", "sorted", "strict"]
-PACKERS = {"1": ["1x"], "4": ["4x", "4s"], "8": ["8x", "8s"]}  # by lanes
-
-
-@functools.cache
-def table(name):
-    """The lines of a table, as dictionaries by the names in its head."""
-    with open(f"{ROOT}/vectors/{name}", encoding="ascii", newline="") as file:
-        return list(csv.DictReader(file, delimiter="\t"))
-
-
-def numbers(text):
-    return [] if text == "-" else [int(value) for value in text.split(",")]
-
-
-def octets(text):
-    return b"" if text == "-" else bytes.fromhex(text)
 
 
 def model():
@@ -213,17 +197,6 @@ def long_list_checks(names):
         yield f"{name}, read", answer_of(decode, lanes, text), right
 
 
-def spelled(field):
-    """A field of lines.tsv: `{ab*3}` is `ababab`, and `\\r` and `\\t` are a carriage return and a tab."""
-    long = re.sub(r"\{([^*{}]+)\*(\d+)\}", lambda part: part[1] * int(part[2]), field)
-    return long.replace("\\r", "\r").replace("\\t", "\t")
-
-
-def lines_by_hand():
-    for row in table("lines.tsv"):
-        yield spelled(row["line"]), spelled(row["answer"])
-
-
 def line_checks(names):
     for line, right in lines_by_hand():
         yield line, names["answer"](line), right
@@ -302,73 +275,6 @@ def mistake_checks():
         yield f"whether the mistake '{name}' is caught", is_caught, True
 
 
-def block_lines():
-    """Lines of the line language, with their answers."""
-    for row in [*table("blocks.tsv"), *table("loose.tsv"), *table("single.tsv")]:
-        kind = row["kind"] if row["initial"] == "-" else f"{row['kind']}:{row['initial']}"
-        for packer in PACKERS[row["packer"][0]]:
-            yield f"width {packer} {kind} {row['values']}", row.get("least", row["width"])
-            yield f"pack {packer} {kind} {row['width']} {row['values']}", row["bytes"]
-            yield f"unpack {packer} {kind} {row['width']} {row['bytes']}", row["values"]
-    for row in table("refused_blocks.tsv"):
-        kind = row["kind"] if row["initial"] == "-" else f"{row['kind']}:{row['initial']}"
-        for packer in PACKERS[row["packer"][0]]:
-            yield f"{row['call']} {packer} {kind} {row['width']} {row['given']}", f"refused {row['number']}"
-
-
-def list_lines():
-    for version in ["", "2"]:
-        for row in table(f"lists{version}.tsv"):
-            for packer in PACKERS[row["lanes"]]:
-                if version == "":
-                    yield f"enc {packer} {row['kind']} {row['values']}", row["bytes"]
-                yield f"dec {packer} {row['bytes']}", f"{row['kind']} {row['values']}"
-        for row in table(f"refused{version}.tsv"):
-            for packer in PACKERS[row["lanes"]]:
-                number = 20 + int(row["number"])
-                # dec reads bytes that begin with 2 as version 2, and all others as version 1
-                if row["bytes"].startswith("02") == (version == "2"):
-                    yield f"dec {packer} {row['bytes']}", f"refused {number}"
-                yield f"seek {packer} 0 {row['bytes']}" if version else f"upgrade {packer} {row['bytes']}", f"refused {number}"
-
-
-def query_lines():
-    for row in table("upgrade.tsv"):
-        for packer in PACKERS[row["lanes"]]:
-            right = row["upgraded"] if row["fault"] == "-" else f"refused {20 + int(row['number'])}"
-            yield f"upgrade {packer} {row['bytes']}", right
-    for row in table("seek.tsv"):
-        for packer in PACKERS[row["lanes"]]:
-            for target, right in zip(numbers(row["targets"]), row["found"].split(",")):
-                yield f"seek {packer} {target} {row['bytes']}", right.replace(":", " ")
-    for row in table("lists2.tsv"):
-        if row["kind"] == "plain":
-            for packer in PACKERS[row["lanes"]]:
-                yield f"seek {packer} 0 {row['bytes']}", "refused 23"
-
-
-def written_out(text, note):
-    """A line or an answer of docs/LINES.md, with what `..` stands for: as many letters as the note says, the numbers between, or one
-    number in the whole block."""
-    if text == "aaa..a":
-        return "a" * int(note.split()[0].replace(",", ""))
-    if found := re.fullmatch(r"(?:(\d+),)+\.\.,\1", text):
-        return ",".join([found[1]] * 32)
-    return re.sub(r"(\d+),\.\.,(\d+)", lambda it: ",".join(map(str, range(int(it[1]), int(it[2]) + 1))), text)
-
-
-def page_lines():
-    """The lines to try of docs/LINES.md. Their columns are at least four spaces apart; an empty line has a note alone."""
-    shown = source("docs/LINES.md").split("## Lines to try\n")[1].split("\n## ")[0]
-    answered, refused = (re.findall(r"^    (.*)$", part, re.M) for part in shown.split("Refused lines"))
-    for line in answered:
-        asked, answer = re.split(r" {4,}", line)[:2]
-        yield written_out(asked, ""), written_out(answer, "")
-    for line in refused:
-        asked, *notes = re.split(r" {4,}", line[6:])
-        yield written_out(asked, "".join(notes)), f"refused {line[:6].strip()}"
-
-
 def program_checks(program):
     asked = [*block_lines(), *list_lines(), *query_lines(), *page_lines(), *lines_by_hand()]
     text = "".join(f"{line}\n" for line, _ in asked)
@@ -395,12 +301,16 @@ def programs():
         yield second
 
 
-def groups(asked):
-    """The checks of each reader of the vectors, with its name."""
+def of_python():
+    """The checks of the readers in Python, with their names."""
     names = names_of(model())
     found = [it for checks in [*CHECKS.values(), rule_checks, parquet_checks, page_checks] for it in checks(names)]
     yield "the decoders of docs/FORMAT.md, vectors/model.py and line_model.py", found
     yield "wrong implementations", mistake_checks()
+
+
+def of_programs(asked):
+    """The checks of each program, with its name."""
     for program in asked:
         name = os.path.relpath(program[0] if isinstance(program, list) else program, ROOT)
         yield name, program_checks(program)
@@ -410,9 +320,11 @@ def groups(asked):
 
 def readers():
     """The readers of the vectors, each as its name and its first wrong answers, if it has any."""
+    asked = sys.argv[1:]
     assembled = run(sys.executable, f"{ROOT}/vectors/assemble.py", "--check")
     yield "vectors/assemble.py", None if assembled.returncode == 0 else assembled.stdout
-    for reader, checks in groups([sys.argv[1:]] if sys.argv[1:] else programs()):
+    in_python = of_python() if asked != ["--programs"] else []
+    for reader, checks in itertools.chain(in_python, of_programs([asked] if asked not in ([], ["--programs"]) else programs())):
         count, wrong = 0, []
         for name, found, right in checks:
             count += 1

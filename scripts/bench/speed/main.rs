@@ -1,6 +1,9 @@
-//! Times packed lists beside other ways: main ROUNDS [WORD [FOLDER]], for the rows whose name has the word. With a folder also the lists
-//! of an index of its text files, in each version.
+//! Times packed lists beside other ways: main ROUNDS WORD [texts=FOLDER] [files=FOLDER ..], for the rows whose name has the word. With a
+//! folder of texts also the lists of an index of them, in each version; and with folders of files columns of numbers that they have.
+mod columns;
 mod hand;
+mod index;
+mod parquet;
 
 use hand::*;
 use std::cell::RefCell;
@@ -79,9 +82,8 @@ fn clustered(out: &mut Vec<u32>, count: usize, from: u64, end: u64, random: &mut
 
 type Candidate<'a> = (&'static str, Box<dyn FnMut() + 'a>);
 
-/// Times the candidates in turn, and prints the median of each in nanoseconds a unit, and the ratio of each of the first `ours` of
-/// them to the best of the others.
-fn compete(rounds: usize, row: &str, units: usize, ours: usize, candidates: &mut [Candidate<'_>]) {
+/// Times the candidates in turn: of each what it took, in nanoseconds a unit, the least first.
+fn timed(rounds: usize, units: usize, candidates: &mut [Candidate<'_>]) -> Vec<Vec<f64>> {
     let count = candidates.len();
     let mut times = vec![vec![]; count];
     let mut loops = vec![1; count];
@@ -101,12 +103,20 @@ fn compete(rounds: usize, row: &str, units: usize, ours: usize, candidates: &mut
             times[index].push((seconds() - start) * 1e9 / loops[index] as f64 / units as f64);
         }
     }
-    let medians: Vec<f64> = times.iter_mut().map(|all| { all.sort_by(f64::total_cmp); all[all.len() / 2] }).collect();
-    let best = (ours..count).min_by(|&a, &b| medians[a].total_cmp(&medians[b])).unwrap();
+    times.iter_mut().for_each(|all| all.sort_by(f64::total_cmp));
+    times
+}
+
+/// Times the candidates in turn, and prints the median of each in nanoseconds a unit and the least, and the ratio of the medians of each
+/// of the first `ours` of them to the best of the others.
+fn compete(rounds: usize, row: &str, units: usize, ours: usize, candidates: &mut [Candidate<'_>]) {
+    let times = timed(rounds, units, candidates);
+    let medians: Vec<f64> = times.iter().map(|all| all[all.len() / 2]).collect();
+    let best = (ours..times.len()).min_by(|&a, &b| medians[a].total_cmp(&medians[b])).unwrap();
     println!("{row}");
     for (index, (name, _)) in candidates.iter().enumerate() {
         let beside = if index < ours { format!("  {:.2} of {}", medians[index] / medians[best], candidates[best].0) } else { String::new() };
-        println!("    {:8.3} ns  {name}{beside}", medians[index]);
+        println!("    {:8.3} ns, at least {:8.3}  {name}{beside}", medians[index], times[index][0]);
     }
 }
 
@@ -121,9 +131,14 @@ impl Asked {
     }
 }
 
-fn text(calls: &Calls, values: &[u32], version: u32) -> Vec<u8> {
+const PLAIN: u32 = 0;
+const STRICT: u32 = 2;
+/// The newest version, which all rows have that name no version.
+const NEWEST: u32 = 4;
+
+fn text(calls: &Calls, values: &[u32], kind: u32, version: u32) -> Vec<u8> {
     let mut out = vec![0; 5 * values.len() + 4096];
-    let len = if version == 1 { calls.encode1(values, 1, &mut out) } else { calls.encode2(values, 1, &mut out) };
+    let len = calls.encode(values, kind, version, 1, &mut out);
     out.truncate(len);
     out
 }
@@ -141,7 +156,7 @@ fn shared(asked: &Asked, calls: &'static Calls, ratio: usize, cluster: bool) {
         values
     };
     let (b, a) = (make(many), make(many / ratio));
-    let (ta, tb) = (text(calls, &a, 2), text(calls, &b, 2));
+    let (ta, tb) = (text(calls, &a, STRICT, NEWEST), text(calls, &b, STRICT, NEWEST));
     let (ha, hb) = (Hand::new(calls, &a), Hand::new(calls, &b));
     let mut want = vec![];
     merge(&a, &b, &mut want);
@@ -187,11 +202,11 @@ fn walks(asked: &Asked, calls: &'static Calls, bits: u32) {
     }
     let count = 1_000_000;
     let values = gaps(count, bits, &mut Random(6));
-    let (t1, t2, list) = (text(calls, &values, 1), text(calls, &values, 2), Hand::new(calls, &values));
+    let (t1, t4, list) = (text(calls, &values, STRICT, 1), text(calls, &values, STRICT, NEWEST), Hand::new(calls, &values));
     let out = RefCell::new(vec![0; count]);
-    assert!(calls.walk(&t2, &mut out.borrow_mut()) == count && *out.borrow() == values);
+    assert!(calls.walk(&t4, &mut out.borrow_mut()) == count && *out.borrow() == values);
     compete(asked.rounds, &format!("{row}, by advance"), count, 1, &mut [
-        ("advance", Box::new(|| { calls.walk(black_box(&t2), &mut out.borrow_mut()); })),
+        ("advance", Box::new(|| { calls.walk(black_box(&t4), &mut out.borrow_mut()); })),
         ("cursor by hand", Box::new(|| {
             let out = &mut out.borrow_mut()[..];
             let (mut cursor, mut index) = (Cursor::new(black_box(&list), Search::Near), 0);
@@ -203,7 +218,7 @@ fn walks(asked: &Asked, calls: &'static Calls, bits: u32) {
         })),
     ]);
     let room = RefCell::new(vec![0; count]);
-    assert!(calls.walk_blocks(&t2, &mut out.borrow_mut()) == count && *out.borrow() == values);
+    assert!(calls.walk_blocks(&t4, &mut out.borrow_mut()) == count && *out.borrow() == values);
     let hand = |loops| {
         let room = &mut room.borrow_mut()[..];
         calls.hand_unpack(&list.widths, &list.bodies, room, loops);
@@ -213,15 +228,15 @@ fn walks(asked: &Asked, calls: &'static Calls, bits: u32) {
     hand(1);
     assert!(*room.borrow() == values);
     compete(asked.rounds, &format!("{row}, by block"), count, 1, &mut [
-        ("block and skip_block, copied", Box::new(|| { calls.walk_blocks(black_box(&t2), &mut out.borrow_mut()); })),
+        ("block and skip_block, copied", Box::new(|| { calls.walk_blocks(black_box(&t4), &mut out.borrow_mut()); })),
         ("blocks by hand, copied", Box::new(|| { calls.hand_copy(&list.widths, &list.bodies, black_box(&mut room.borrow_mut()), 1); })),
     ]);
     compete(asked.rounds, &format!("{row}, append_to"), count, 1, &mut [
-        ("append_to", Box::new(|| { black_box(calls.append(black_box(&t2), 1, &mut [])); })),
+        ("append_to", Box::new(|| { black_box(calls.append(black_box(&t4), 1, &mut [])); })),
         ("list::decode", Box::new(|| { black_box(calls.decode(black_box(&t1), 1, &mut [])); })),
     ]);
     compete(asked.rounds, &format!("{row}, blocks by hand in place"), count, 1, &mut [
-        ("append_to", Box::new(|| { black_box(calls.append(black_box(&t2), 1, &mut [])); })),
+        ("append_to", Box::new(|| { black_box(calls.append(black_box(&t4), 1, &mut [])); })),
         ("blocks by hand, in place", Box::new(|| hand(1))),
     ]);
 }
@@ -234,7 +249,7 @@ fn seeks(asked: &Asked, calls: &'static Calls, step: u64) {
     }
     let (count, mut random) = (1_000_000, Random(3));
     let values = gaps(count, 6, &mut random);
-    let (t2, list) = (text(calls, &values, 2), Hand::new(calls, &values));
+    let (t4, list) = (text(calls, &values, STRICT, NEWEST), Hand::new(calls, &values));
     let (mut target, mut targets) = (0, vec![]);
     while targets.len() < 1 << 16 {
         target += 1 + random.below(step * 65);
@@ -253,7 +268,7 @@ fn seeks(asked: &Asked, calls: &'static Calls, step: u64) {
             found[index] = cursor.value().unwrap_or(u32::MAX);
         }
     };
-    let ours = || calls.seeks(black_box(&t2), &targets, &mut positions.borrow_mut(), &mut found.borrow_mut());
+    let ours = || calls.seeks(black_box(&t4), &targets, &mut positions.borrow_mut(), &mut found.borrow_mut());
     let want: Vec<u32> = targets.iter().map(|&target| values.partition_point(|&value| value < target) as u32).collect();
     for call in [&ours as &dyn Fn(), &|| hand(Search::Halves), &|| hand(Search::Near)] {
         positions.borrow_mut().fill(0);
@@ -267,99 +282,58 @@ fn seeks(asked: &Asked, calls: &'static Calls, step: u64) {
     ]);
 }
 
-/// Writing and testing texts, in cache.
-fn texts(asked: &Asked, calls: &'static Calls, bits: u32, count: usize) {
-    let row = format!("texts, {} lanes, {count} values, gaps to 2^{bits}", calls.len / 32);
+/// Writing, testing and reading texts, in cache.
+fn texts(asked: &Asked, calls: &'static Calls, what: &str, values: &[u32]) {
+    let count = values.len();
+    let row = format!("texts, {} lanes, {count} values, {what}", calls.len / 32);
     if !asked.wants(&row) {
         return;
     }
-    let values = gaps(count, bits, &mut Random(1));
-    let (t1, t2) = (text(calls, &values, 1), text(calls, &values, 2));
-    let list = RefCell::new(Hand::new(calls, &values));
+    let made: Vec<Vec<u8>> = (1..=4).map(|version| text(calls, values, STRICT, version)).collect();
+    let [t1, t2, t3, t4] = &made[..] else { unreachable!() };
+    let list = RefCell::new(Hand::new(calls, values));
     let spare = RefCell::new(vec![0u8; 4 * count + 1024]);
     let bodies = list.borrow().bodies.clone();
     let widths = list.borrow().widths.clone();
     let room = RefCell::new(vec![0u32; count]);
     let loops = (100_000 / count).max(1);
-    assert!(calls.open(&t2, 1) == count);
-    compete(asked.rounds, &format!("{row}, packed"), count * loops, 2, &mut [
-        ("list2::encode", Box::new(|| { black_box(calls.encode2(black_box(&values), loops, &mut [])); })),
-        ("list::encode", Box::new(|| { black_box(calls.encode1(black_box(&values), loops, &mut [])); })),
+    let encode = |version| { black_box(calls.encode(black_box(values), STRICT, version, loops, &mut [])); };
+    let open = |text| { black_box(calls.open(black_box(text), loops)); };
+    let unpack = |text| (0..loops).for_each(|_| { black_box(calls.unpack(black_box(text), &mut room.borrow_mut())); });
+    let by_hand = || { black_box(calls.hand_unpack(&widths, black_box(&bodies), &mut room.borrow_mut(), loops)); };
+    let bits: Vec<f64> = made.iter().map(|it| 8.0 * it.len() as f64 / count as f64).collect();
+    println!("{row}: bits a value of versions 1 to 4: {bits:.2?}");
+    for text in [t2, t3, t4] {
+        room.borrow_mut().fill(0);
+        assert!(calls.open(text, 1) == count && calls.unpack(text, &mut room.borrow_mut()) == count && *room.borrow() == values);
+    }
+    compete(asked.rounds, &format!("{row}, packed"), count * loops, 4, &mut [
+        ("list4::encode", Box::new(|| encode(4))),
+        ("list3::encode", Box::new(|| encode(3))),
+        ("list2::encode", Box::new(|| encode(2))),
+        ("list::encode", Box::new(|| encode(1))),
+        ("pack_all", Box::new(|| {
+            let list = &mut *list.borrow_mut();
+            calls.pack_all(black_box(values), STRICT, &mut list.widths, &mut spare.borrow_mut(), loops);
+        })),
         ("bodies by hand", Box::new(|| {
             let list = &mut *list.borrow_mut();
-            calls.hand_pack(black_box(&values), &mut list.widths, &mut list.lasts, &mut spare.borrow_mut(), loops);
+            calls.hand_pack(black_box(values), &mut list.widths, &mut list.lasts, &mut spare.borrow_mut(), loops);
         })),
     ]);
-    compete(asked.rounds, &format!("{row}, tested"), count * loops, 2, &mut [
-        ("open", Box::new(|| { black_box(calls.open(black_box(&t2), loops)); })),
-        ("upgrade", Box::new(|| { black_box(calls.upgrade(black_box(&t1), loops, &mut [])); })),
-        ("bodies by hand, unpacked", Box::new(|| { black_box(calls.hand_unpack(&widths, black_box(&bodies), &mut room.borrow_mut(), loops)); })),
+    compete(asked.rounds, &format!("{row}, tested"), count * loops, 4, &mut [
+        ("open, version 4", Box::new(|| open(t4))),
+        ("open, version 3", Box::new(|| open(t3))),
+        ("open, version 2", Box::new(|| open(t2))),
+        ("upgrade", Box::new(|| { black_box(calls.upgrade(black_box(t1), loops, &mut [])); })),
+        ("bodies by hand, unpacked", Box::new(by_hand)),
         ("bodies by hand, unpacked in turn", Box::new(|| { black_box(calls.hand_read(&widths, black_box(&bodies), loops)); })),
     ]);
-}
-
-/// The words of the text files below a folder, each with the numbers of the paragraphs that have it.
-fn words_below(folder: &std::path::Path, words: &mut std::collections::HashMap<Vec<u8>, Vec<u32>>, paragraphs: &mut u32) {
-    let Ok(found) = std::fs::read_dir(folder) else { return };
-    let mut paths: Vec<_> = found.flatten().map(|it| it.path()).collect();
-    paths.sort();
-    for path in paths {
-        if path.is_symlink() {
-            continue;
-        }
-        if path.is_dir() {
-            words_below(&path, words, paragraphs);
-            continue;
-        }
-        let Ok(bytes) = std::fs::read(&path) else { continue };
-        if bytes.contains(&0) {
-            continue;
-        }
-        for paragraph in bytes.split(|&byte| byte == b'\n').collect::<Vec<_>>().split(|line| line.is_empty()) {
-            *paragraphs += 1;
-            for word in paragraph.iter().flat_map(|line| line.split(|byte| !byte.is_ascii_alphanumeric())).filter(|word| !word.is_empty()) {
-                let ids = words.entry(word.to_ascii_lowercase()).or_default();
-                if ids.last() != Some(paragraphs) {
-                    ids.push(*paragraphs);
-                }
-            }
-        }
-    }
-}
-
-/// All lists of an index, in each version: bytes, and times for each value.
-fn index(asked: &Asked, calls: &'static Calls, lists: &[Vec<u32>], what: &str) {
-    let row = format!("index, {} lanes, {what}", calls.len / 32);
-    if lists.is_empty() || !asked.wants(&row) {
-        return;
-    }
-    let values = lists.concat();
-    let ends: Vec<u32> = lists.iter().scan(0, |end, list| { *end += list.len() as u32; Some(*end) }).collect();
-    println!("{row}: {} lists, {} values", lists.len(), values.len());
-    let texts: Vec<(Vec<u8>, Vec<u32>)> = (1..=3).map(|version| {
-        let (mut out, mut text_ends) = (vec![0; 5 * values.len() + 16 * lists.len()], vec![0; lists.len()]);
-        let size = calls.encode_lists(&values, &ends, version, &mut out, &mut text_ends);
-        out.truncate(size);
-        println!("    version {version}: {size} bytes, {:.2} bits a value", 8.0 * size as f64 / values.len() as f64);
-        (out, text_ends)
-    }).collect();
-    for (version, (bytes, text_ends)) in (1..).zip(&texts) {
-        assert!(calls.decode_lists(bytes, text_ends, version) == values.len());
-        assert!(version == 1 || calls.open_lists(bytes, text_ends, 0) == values.len());
-    }
-    let encode = |version| black_box(calls.encode_lists(black_box(&values), &ends, version, &mut [], &mut []));
-    let open = |version: usize, last| black_box(calls.open_lists(black_box(&texts[version - 1].0), &texts[version - 1].1, last));
-    let decode = |version: usize| black_box(calls.decode_lists(black_box(&texts[version - 1].0), &texts[version - 1].1, version as u32));
-    compete(asked.rounds, &format!("{row}, encode"), values.len(), 1, &mut [
-        ("version 3", Box::new(|| { encode(3); })), ("version 2", Box::new(|| { encode(2); })), ("version 1", Box::new(|| { encode(1); })),
-    ]);
-    for (name, last) in [("open", 0), ("open and get the last value", 1)] {
-        compete(asked.rounds, &format!("{row}, {name}"), values.len(), 1, &mut [
-            ("version 3", Box::new(|| { open(3, last); })), ("version 2", Box::new(|| { open(2, last); })),
-        ]);
-    }
-    compete(asked.rounds, &format!("{row}, decode"), values.len(), 1, &mut [
-        ("version 3", Box::new(|| { decode(3); })), ("version 2", Box::new(|| { decode(2); })), ("version 1", Box::new(|| { decode(1); })),
+    compete(asked.rounds, &format!("{row}, unpacked"), count * loops, 3, &mut [
+        ("copy_to, version 4", Box::new(|| unpack(t4))),
+        ("copy_to, version 3", Box::new(|| unpack(t3))),
+        ("copy_to, version 2", Box::new(|| unpack(t2))),
+        ("bodies by hand, unpacked", Box::new(by_hand)),
     ]);
 }
 
@@ -367,17 +341,13 @@ fn main() {
     let mut words = std::env::args().skip(1);
     let rounds = words.next().and_then(|word| word.parse().ok()).unwrap_or(21);
     let asked = Asked { rounds, word: words.next().unwrap_or_default() };
-    let (mut found, mut paragraphs) = (std::collections::HashMap::new(), 0);
-    if let Some(folder) = words.next() {
-        words_below(folder.as_ref(), &mut found, &mut paragraphs);
-    }
-    let mut lists: Vec<_> = found.into_iter().collect();
-    lists.sort();
-    let lists: Vec<Vec<u32>> = lists.into_iter().map(|(_, ids)| ids).collect();
+    let folders: Vec<String> = words.collect();
+    let lists = index::lists_of(folders.iter().filter_map(|it| it.strip_prefix("texts=")));
     let short: Vec<Vec<u32>> = lists.iter().filter(|ids| ids.len() < 32).cloned().collect();
+    columns::columns(&asked, &CALLS4, &folders.iter().filter_map(|it| it.strip_prefix("files=")).collect::<Vec<_>>());
     for calls in [&CALLS4, &CALLS8] {
-        index(&asked, calls, &lists, "all lists");
-        index(&asked, calls, &short, "lists of 1 to 31 values");
+        index::index(&asked, calls, &lists, "all lists");
+        index::index(&asked, calls, &short, "lists of 1 to 31 values");
         for (ratio, cluster) in [(1, false), (10, true), (1_000, false), (100_000, true)] {
             shared(&asked, calls, ratio, cluster);
         }
@@ -388,8 +358,13 @@ fn main() {
             seeks(&asked, calls, step);
         }
         for bits in [2, 6, 14] {
-            texts(&asked, calls, bits, 16_384);
+            texts(&asked, calls, &format!("gaps to 2^{bits}"), &gaps(16_384, bits, &mut Random(1)));
         }
-        texts(&asked, calls, 6, 1_000_000);
+        for part in [1, 2, 3, 4, 8] {
+            let mut values = vec![];
+            spread(&mut values, 16_384, 5, 5 + 16_384 * part, &mut Random(1));
+            texts(&asked, calls, &format!("one of {part} numbers"), &values);
+        }
+        texts(&asked, calls, "gaps to 2^6", &gaps(1_000_000, 6, &mut Random(1)));
     }
 }
