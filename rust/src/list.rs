@@ -22,6 +22,7 @@
 //! The page `docs/FORMAT.md` of the repository describes the bytes, so that programs in other languages read them too. A later
 //! release of this crate writes the same bytes of a list, in the same packer and version, and reads them.
 
+mod appending;
 mod blocks;
 mod builder;
 mod columns;

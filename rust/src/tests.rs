@@ -1,5 +1,6 @@
 //! Every block of `vectors/` at each level that this processor has, with canaries around the buffers; each panic; two threads; little stack.
 
+mod appending;
 mod blocks;
 mod builder;
 mod chains;

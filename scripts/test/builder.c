@@ -1,5 +1,6 @@
-/* Builders of lists: a list whose bytes are worked by hand, each error with nothing changed, and lists of a generator with a fixed seed, pushed
-   in parts, some of them out of order, and compared with what list_pack writes of a plain array. Prints nothing. */
+/* Builders of lists, and values appended to a list: a list whose bytes are worked by hand, each error with nothing changed, and lists of a
+   generator with a fixed seed, pushed in parts or appended, some of them out of order, and compared with what list_pack writes of a plain array.
+   Prints nothing. */
 #include "bitpacking.h"
 #include "expect.h"
 
@@ -170,6 +171,75 @@ static void pushed(uint8_t lanes, uint8_t version, uint8_t kind, size_t room, ui
     EXPECT(bytes[size], 0xA5);
 }
 
+/* Appends the values from a position on to a list of those before it, which is of this version. */
+static void appended(uint8_t lanes, uint8_t version, uint8_t kind, const uint32_t *all, size_t from, size_t len)
+{
+    static uint8_t first[BITPACKING_LIST_ROOM(MOST)], bytes[BITPACKING_LIST_ROOM(MOST) + 1], right[BITPACKING_LIST_ROOM(MOST)];
+    const int is_older = version != BITPACKING_LIST_NEWEST && from >= 32 * (size_t)lanes;
+    const size_t out = first_out(kind, all, len);
+    size_t position = 77, i;
+    ptrdiff_t size = pack(lanes, version, kind, all, from, first, sizeof first);
+    bitpacking_list list = BITPACKING_LIST_EMPTY;
+
+    EXPECT(bitpacking_list_open(first, (size_t)size, &list), 0);
+    memset(bytes, 0xA5, sizeof bytes);
+    size = is_older ? BITPACKING_LIST_BAD_VERSION : pack(lanes, BITPACKING_LIST_NEWEST, kind, all, len, right, sizeof right);
+    if (size > 0) {
+        EXPECT(bitpacking_list_append(&list, all + from, len - from, bytes, (size_t)size - 1, &position), BITPACKING_SHORT);
+        EXPECT(bytes[0], 0xA5);
+    }
+    EXPECT(bitpacking_list_append(&list, all + from, len - from, bytes, sizeof bytes, &position), size);
+    EXPECT(bitpacking_list_append(&list, all + from, len - from, bytes, sizeof bytes, NULL), size);
+    EXPECT(position, size == BITPACKING_LIST_NOT_SORTED ? out : 77);
+    if (size > 0)
+        EXPECT(memcmp(bytes, right, (size_t)size), 0);
+    for (i = size > 0 ? (size_t)size : 0; i < sizeof bytes; i++)
+        EXPECT(bytes[i], 0xA5);
+}
+
+/* Strictly sorted, in blocks of 128: the list of `worked` from its first two values. A view that was not opened has no packer. */
+static void worked_append(void)
+{
+    static const uint8_t right[8] = {0xA4, 7, 9, 1, 0, 0x84, 4, 0xA5};
+    const uint32_t values[4] = {7, 9, 10, 300};
+    uint8_t first[BITPACKING_LIST_ROOM(2)], bytes[8];
+    size_t position = 77;
+    bitpacking_list list = BITPACKING_LIST_EMPTY;
+
+    memset(bytes, 0xA5, sizeof bytes);
+    EXPECT(bitpacking_list_append(&list, values, 4, bytes, sizeof bytes, &position), BITPACKING_LIST_WRONG_LANES);
+    EXPECT(bitpacking_list_open(first, (size_t)pack(4, 4, BITPACKING_STRICTLY_SORTED, values, 2, first, sizeof first), &list), 0);
+    EXPECT(bitpacking_list_append(&list, values, 2, bytes, sizeof bytes, &position), BITPACKING_LIST_NOT_SORTED);
+    EXPECT(position == 2 && bytes[0] == 0xA5, 1);
+    EXPECT(bitpacking_list_append(&list, values + 2, 2, bytes, sizeof bytes, &position), 7);
+    EXPECT(memcmp(bytes, right, sizeof bytes), 0);
+}
+
+/* Lists of two lengths with one value out of order or none, cut at each count of blocks and beside it. */
+static void all_appended(uint8_t lanes, uint8_t version, uint8_t kind, uint32_t gap)
+{
+    static uint32_t all[MOST];
+    const size_t block = 32 * (size_t)lanes;
+    size_t len, from, i, turn;
+
+    for (turn = 0; turn < 4; turn++) {
+        len = turn % 2 > 0 ? 3 * block : MOST - next_number((uint32_t)block);
+        for (i = 0; i < len; i++)
+            all[i] = (i > 0 && kind != BITPACKING_PLAIN ? all[i - 1] + (kind == BITPACKING_STRICTLY_SORTED) : 0) + next_number(gap);
+        for (from = 0; from <= len; from += from % block == 0 && from > 0 && next_number(2) > 0 ? 1 : block - from % block) {
+            appended(lanes, version, kind, all, from, len);
+            if (from > 0)
+                appended(lanes, version, kind, all, from - 1, len);
+        }
+        if (turn >= 2)
+            continue;
+        from = block + next_number((uint32_t)(len - block));
+        i = from + next_number((uint32_t)(len - from));
+        all[i] = all[i - 1] - (kind != BITPACKING_STRICTLY_SORTED && all[i - 1] > 0);
+        appended(lanes, version, kind, all, from, len);
+    }
+}
+
 int main(void)
 {
     static const uint8_t lanes[3] = {1, 4, 8};
@@ -179,6 +249,7 @@ int main(void)
     uint8_t version, kind;
 
     worked();
+    worked_append();
     not_started();
     bad_starts();
     refused(BITPACKING_PLAIN, 3, 3);
@@ -192,5 +263,10 @@ int main(void)
                 for (room = 0; room < sizeof rooms / sizeof *rooms; room++)
                     for (gap = 0; gap < sizeof gaps / sizeof *gaps; gap++)
                         pushed(lanes[packer], version, kind, rooms[room], gaps[gap]);
+    for (packer = 0; packer < 3; packer++)
+        for (version = 2; version <= 4; version++)
+            for (kind = 0; kind < 3; kind++)
+                for (gap = 0; gap < sizeof gaps / sizeof *gaps; gap++)
+                    all_appended(lanes[packer], version, kind, gaps[gap]);
     return EXIT_SUCCESS;
 }

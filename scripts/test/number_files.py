@@ -15,7 +15,6 @@ import struct
 import subprocess
 import sys
 import tempfile
-import threading
 import time
 
 sys.path.insert(1, f"{sys.path[0]}/..")
@@ -24,6 +23,7 @@ import archives
 import rust
 import vectors
 from rows import numbers, octets, table
+from terminal import Terminal
 
 FOLDER = "examples/numbers"
 MOST_LINES = 400
@@ -34,7 +34,9 @@ KINDS, LANES = ["plain", "sorted", "strict"], [1, 4, 8]
 MODEL = vectors.names_of(vectors.model())
 # The numbers of faults, and the texts of the crate.
 FAULTS = {name: int(number) for number, name in re.findall(r"^\| (\d+) \| ([A-Z]\w+)[^|]* \|", source("docs/FORMAT.md"), re.M)}
-TEXTS = dict(re.findall(r'Error::(\w+) => f\.write_str\("(.*)"\)', source("rust/src/list/error.rs")), NotSorted="a value is out of order")
+OF_BLOCKS = re.findall(r"^\| \d+ \| (\w+)\(m", source("docs/FORMAT.md"), re.M)
+# The first text of each fault: the second of NotSorted is without a position.
+TEXTS = dict(reversed(re.findall(r'Error::(\w+)[^=]* => (?:f\.write_str\(|write!\(f, )"([^"]*)"', source("rust/src/list/error.rs"))))
 USAGE = "arguments: numbers --help says what is wanted"
 
 
@@ -78,17 +80,18 @@ def packed(lanes, kind, values):
     return MODEL["encode4"](lanes, kind, values)
 
 
-def read(text):
-    """The version, kind, lanes and values of a text, or the name of its fault, by the decoders of the page. A reader of all packers takes the
-    lanes from the text."""
+def form_of(text):
+    """The version and the lanes that a text says. A reader of all packers takes them from it."""
     first = text[0] if text else 0
     version = 2 if first < 16 else 4 if first < 64 else 3
     lanes = {2: text[2] if len(text) > 2 else 1, 3: [1, 1, 4, 8][first // 64], 4: [1, 1, 4, 8][first // 16 % 4]}[version]
-    lanes = lanes if lanes in LANES else 1
-    try:
-        return (version, lanes, *MODEL[f"decode{version}"](lanes, text))
-    except ValueError as fault:
-        return fault.args[0]
+    return version, lanes if lanes in LANES else 1
+
+
+def read(text):
+    """The kind and the values of a text, by the decoders of the page, or ValueError with its fault."""
+    version, lanes = form_of(text)
+    return MODEL[f"decode{version}"](lanes, text)
 
 
 def width_and_form(version, lanes, kind, start, values):
@@ -102,7 +105,7 @@ def width_and_form(version, lanes, kind, start, values):
 
 def description(text):
     """What `show` has to print for a list."""
-    version, lanes, kind, values = read(text)
+    (version, lanes), (kind, values) = form_of(text), read(text)
     block, start, forms = 32 * lanes, [0, 0, 2**32 - 1][kind], collections.Counter()
     for at in range(0, len(values) // block * block, block):
         forms[width_and_form(version, lanes, kind, start, values[at : at + block])] += 1
@@ -202,10 +205,12 @@ def damaged():
 
 def finding(text):
     """What `check` has to say of a text."""
-    found = read(text)
-    if isinstance(found, str):
-        return f"no list: fault {FAULTS[found]}: {TEXTS[found]}"
-    return f"a list of {len(found[3])} values"
+    try:
+        return f"a list of {len(read(text)[1])} values"
+    except ValueError as error:
+        fault, *where = error.args
+    block = where[0] // (32 * form_of(text)[1]) if fault == "NotSorted" else where[0] if fault in OF_BLOCKS else None
+    return f"no list: fault {FAULTS[fault]}: {'' if block is None else f'block {block}: '}{TEXTS[fault].format(position=(*where, 0)[0])}"
 
 
 def checking(program):
@@ -307,29 +312,6 @@ def refusing(program):
     status, _, messages = program.run("unpack", "strict", stdout=theirs)
     os.close(theirs)
     yield "a reader that has ended", None if (status, messages) == (2, "") else f"it ends with {status}, and says {messages}"
-
-
-class Terminal:
-    """A terminal, and all that it shows."""
-
-    def __init__(self):
-        self.ours, self.theirs, self.shown = *os.openpty(), b""
-        self.reader = threading.Thread(target=self.listen)
-        self.reader.start()
-
-    def listen(self):
-        try:
-            while piece := os.read(self.ours, 1000):
-                self.shown += piece
-        except OSError:
-            # Nobody has the other end any more.
-            pass
-
-    def end(self):
-        os.close(self.theirs)
-        self.reader.join()
-        os.close(self.ours)
-        return self.shown
 
 
 def slowly(program, *words, given=b"", pieces=1):

@@ -1,11 +1,14 @@
 -- What the calls that write packed lists answer, and what they leave in the caller's buffer.
-use Rattle.std.specs.Prelude.{◌≡◌, ℕ, ℤ, pos, negsuc, not, ◌&&◌, ◌==◌, nat_lt, if◌then◌else◌, List, Option, Some, None, MatchOption, Result, Ok, Err}
+use Rattle.std.specs.Prelude.{◌≡◌, ℕ, ℤ, pos, negsuc, ◌*◌, not, ◌&&◌, ◌||◌, ◌==◌, nat_lt, if◌then◌else◌, List, ◌++◌, length, Option, Some, None, MatchOption, Result, Ok, Err}
 use Rattle.bitpack_lists.specs.declared.list_error.ListError.{ListError}
-use Rattle.bitpack_lists.specs.declared.list_error.ListError.TheVariants.{BadKind, BadVersion, NotSorted, Short}
+use Rattle.bitpack_lists.specs.declared.list_error.ListError.TheVariants.{BadKind, BadVersion, NotSorted, Short, WrongLanes}
+use Rattle.bitpack_lists.specs.declared.list_kind.ListKind.{ListKind}
 use Rattle.bitpack_lists.specs.declared.version.Version.{Version}
 use Rattle.bitpack_lists.specs.declared.version.Version.TheVariants.{Two, Three, Four}
 use Rattle.bitpack_lists.specs.Parts.{kind_of_byte}
-use Rattle.bitpack_lists.specs.Newest.{IsWritten}
+use Rattle.bitpack_lists.specs.Newest.{IsNewest, IsWritten}
+use Rattle.bitpack_lists.specs.Outlines.{version_number}
+use Rattle.bitpack_lists.specs.Texts.{version_in}
 use Rattle.bitpack_lists.specs.Written.{MeasuresOne, WritesOne}
 use Rattle.bitpacking_c.specs.Views.{fault_number}
 
@@ -37,6 +40,20 @@ GivesSize lanes version kind values answer =
     MatchOption (numbers_fault version kind)
     (MeasuresOne (IsWritten (version_of version) lanes (kind_of_byte kind) values) (kind_of_byte kind) values answer)
     (λ fault. answer ≡ Err fault)
+
+-- why a list that is read in place cannot stay as it is if values follow: the view was not opened, or it has whole blocks of an older version
+abbrev pub append_fault : ℕ → List ℕ → ℕ → Option ListError
+append_fault lanes bytes count =
+    if lanes == 0 then Some (WrongLanes 0)
+    else if nat_lt count (32 * lanes) || version_number (version_in bytes) == 4 then None
+    else Some (BadVersion (version_number (version_in bytes)))
+
+-- the newest text of all values is written, or they are refused; a list that cannot stay is refused first, and the buffer is as it was
+abbrev pub AppendsList : ℕ → List ℕ → ListKind → List ℕ → List ℕ → List ℕ → List ℕ → Result ℕ ListError → Type 0
+AppendsList lanes bytes kind values more before after answer =
+    MatchOption (append_fault lanes bytes (length values))
+    (WritesOne (IsNewest lanes kind (values ++ more)) kind (values ++ more) answer before after)
+    (λ fault. (answer ≡ Err fault) × (after ≡ before))
 
 -- ---- numbers
 

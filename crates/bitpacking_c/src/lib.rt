@@ -4,6 +4,7 @@
 //! overlap no other, and values are aligned. `include/bitpacking.h` has the declarations, with lengths, errors and examples.
 #![tactic(auto)]
 
+mod append_calls;
 mod array_calls;
 mod bitpacker1x;
 mod bitpacker4x;

@@ -2,10 +2,11 @@
 
 ghost use Rattle.std.specs.Prelude.{◌≡◌, ◌≢◌, ◌≤◌, ℕ, List, None, drop, length, slice_get, take, pos};
 ghost use Rattle.bitpack_lists.specs.declared.list_kind.ListKind.{ListKind};
-ghost use Rattle.bitpack_lists.specs.Opened.{kind_of, text, values};
+ghost use Rattle.bitpack_lists.specs.Opened.{kind_of, text, values, version_of};
+ghost use Rattle.bitpack_lists.specs.Outlines.{version_number};
 ghost use Rattle.bitpack_lists.specs.Parts.{kind_byte};
 ghost use Rattle.bitpack_lists.specs.Search.{IsSearched, first_at_least};
-ghost use Rattle.bitpack_lists.specs.Texts.{fault_of_any};
+ghost use Rattle.bitpack_lists.specs.Texts.{fault_of_any, version_in};
 ghost use Rattle.bitpack_sorted.specs.Distinct.{distinct};
 ghost use Rattle.bitpack_sorted.specs.Remaining.{remaining};
 ghost use Rattle.bitpacking_c.specs.Views.{Gets, IsListOf, Seeks, UnpacksList, WasFound, fault_number, fault_of_bytes, lanes_in};
@@ -75,6 +76,7 @@ impl<'a> ListView<'a> {
         ensures list { IsListOf self.now.lanes self.now.bytes.now (kind_of result) (values result) }
         ensures only { (kind : ListKind) (all : List ℕ) → IsListOf self.now.lanes self.now.bytes.now kind all
             → (kind_of result ≡ kind) × (values result ≡ all) }
+        ensures version { version_of result ≡ version_in self.now.bytes.now }
     {
         PackedList::from_outline(packer, self.bytes, self.found)
     }
@@ -201,6 +203,13 @@ pub(crate) fn kind(view: &ListView<'_>) -> ListKind
         → result ≡ kind }
 {
     view.found.list_kind()
+}
+
+/// The number of the version of a list that was opened.
+pub(crate) fn version(view: &ListView<'_>) -> u8
+    ensures { view.now.lanes ≢ 0 → result ≡ version_number (version_in view.now.bytes.now) }
+{
+    view.found.version
 }
 
 /// Whether the list is of the version whose blocks can be sets of bits. Only time depends on the answer.

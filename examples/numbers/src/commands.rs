@@ -12,13 +12,12 @@ use crate::{shape, write, Call, Result};
 /// The kinds in the order of their numbers, and their names.
 pub const KINDS: [(&str, Kind); 3] = [("plain", Kind::Plain), ("sorted", Kind::Sorted), ("strict", Kind::StrictlySorted)];
 
-/// Why a file is no list, with the number of the fault in `docs/FORMAT.md`.
-fn fault(file: &OsStr, error: Error) -> String {
-    about(file, format!("no list: fault {}: {error}", -20 - error.number()))
-}
-
+/// If a file is no list, says why, with the number of the fault in `docs/FORMAT.md`, and the block that has it.
 fn open<'a>(file: &OsStr, bytes: &'a [u8]) -> Result<PackedList<'a>> {
-    PackedList::open(bytes).map_err(|error| fault(file, error))
+    PackedList::open(bytes).map_err(|error| {
+        let fault = PackedList::find_fault(bytes).map_or_else(|| error.to_string(), |fault| fault.to_string());
+        about(file, format!("no list: fault {}: {fault}", -20 - error.number()))
+    })
 }
 
 fn encode(lanes: u8, kind: Kind, values: &[u32]) -> std::result::Result<Vec<u8>, Error> {
@@ -71,11 +70,11 @@ pub fn show(call: &Call) -> Result<bool> {
 pub fn check(call: &Call) -> Result<bool> {
     let mut all = Ok(true);
     for file in &call.files {
-        let text = match bytes_of(file).map(|bytes| PackedList::open(&bytes).map(|list| list.len())) {
+        let text = match bytes_of(file).map(|bytes| open(file, &bytes).map(|list| list.len())) {
             Ok(Ok(len)) => about(file, format!("a list of {len} values")),
-            Ok(Err(error)) => {
+            Ok(Err(fault)) => {
                 all = all.map(|_| false);
-                fault(file, error)
+                fault
             }
             Err(message) => {
                 eprintln!("numbers: {message}");

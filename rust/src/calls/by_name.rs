@@ -44,6 +44,15 @@ macro_rules! lists {
             fn find_block(view: *const ListView<'_>, from: usize, target: u32) -> isize;
             #[link_name = concat!($prefix, "list_read_block")]
             fn read_block(view: *const ListView<'_>, block: usize, values: *mut u32, values_len: usize) -> isize;
+            #[link_name = concat!($prefix, "list_append")]
+            fn append(
+                view: *const ListView<'_>,
+                values: *const u32,
+                values_len: usize,
+                bytes: *mut u8,
+                bytes_len: usize,
+                position: *mut usize,
+            ) -> isize;
             #[link_name = concat!($prefix, "list_count_between")]
             fn count_between(view: *const ListView<'_>, low: u32, high: u32) -> usize;
             #[link_name = concat!($prefix, "list_between")]
@@ -102,6 +111,7 @@ macro_rules! lists {
             block_last,
             find_block,
             read_block,
+            append,
             count_between,
             between,
             intersect,

@@ -175,6 +175,7 @@ pub(crate) struct Lists {
     pub(crate) block_last: unsafe extern "C" fn(*const ListView<'_>, usize, *mut u32) -> isize,
     pub(crate) find_block: unsafe extern "C" fn(*const ListView<'_>, usize, u32) -> isize,
     pub(crate) read_block: unsafe extern "C" fn(*const ListView<'_>, usize, *mut u32, usize) -> isize,
+    pub(crate) append: unsafe extern "C" fn(*const ListView<'_>, *const u32, usize, *mut u8, usize, *mut usize) -> isize,
     pub(crate) count_between: unsafe extern "C" fn(*const ListView<'_>, u32, u32) -> usize,
     pub(crate) between: unsafe extern "C" fn(*const ListView<'_>, u32, u32, usize, *mut usize, usize) -> usize,
     pub(crate) intersect: Combine,

@@ -1,7 +1,7 @@
 //! The calls that write lists.
 
 use super::lists::counted;
-use super::Calls;
+use super::{Calls, ListView, Lists};
 
 impl Calls {
     /// The number of bytes of a list of values, or what is wrong with them and, if they are out of order, at which
@@ -19,6 +19,17 @@ impl Calls {
         let (from, room) = (values.as_ptr(), bytes.len());
         // SAFETY: pointers and lengths of slices, a number of our own; what is written is borrowed by `&mut`.
         let size = unsafe { (self.list_pack)(version, kind, from, values.len(), bytes.as_mut_ptr(), room, &mut position) };
+        counted(size).map_err(|number| (number, position))
+    }
+}
+
+impl Lists {
+    /// Writes the list of a view and more values into these bytes, and returns how many it wrote, or what is wrong.
+    pub(crate) fn append(&self, view: &ListView<'_>, values: &[u32], bytes: &mut [u8]) -> Result<usize, (i32, usize)> {
+        let mut position = 0;
+        let (from, room) = (values.as_ptr(), bytes.len());
+        // SAFETY: pointers and lengths of slices, a number of our own; what is written is borrowed by `&mut`, and the view's bytes are not.
+        let size = unsafe { (self.append)(view, from, values.len(), bytes.as_mut_ptr(), room, &mut position) };
         counted(size).map_err(|number| (number, position))
     }
 }

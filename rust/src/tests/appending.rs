@@ -1,0 +1,43 @@
+//! Lists and values after them against the list of all values, cut at every count of blocks and beside it.
+
+use super::at_each_level;
+use super::lists::{encoded, values, Numbers, FORMS, KINDS, LENGTHS};
+use crate::list::{Error, Kind, PackedList, Version};
+
+#[test]
+fn bytes_of_every_form() {
+    at_each_level(|| {
+        let mut numbers = Numbers(15);
+        for (form, kind) in FORMS.iter().flat_map(|form| KINDS.map(|kind| (*form, kind))) {
+            for (len, gap) in LENGTHS.iter().flat_map(|len| [2, 5, 4_000_000].map(|gap| (*len, gap))) {
+                let values = values(&mut numbers, kind, len, gap, false);
+                let right = encoded((form.0, Version::Four), kind, &values).unwrap();
+                for cut in LENGTHS.into_iter().filter(|cut| *cut <= len) {
+                    let first = encoded(form, kind, &values[..cut]).unwrap();
+                    let mut bytes = vec![7, 7];
+                    let size = PackedList::open(&first).unwrap().append_into(&values[cut..], &mut bytes).unwrap();
+                    assert_eq!((&bytes[..2], &bytes[2..], size), (&[7, 7][..], &right[..], right.len()));
+                    assert_eq!(PackedList::open(&first).unwrap().append(&values[cut..]), Ok(right.clone()));
+                }
+            }
+        }
+    });
+}
+
+#[test]
+fn values_out_of_order() {
+    for form in FORMS {
+        for (cut, position) in [(2, 2), (300, 300), (300, 311), (512, 512), (512, 600)] {
+            let mut values: Vec<u32> = (5..705).collect();
+            values[position] = values[position - 1] - 1;
+            let error = Err(Error::NotSorted { position: Some(position) });
+            for (kind, right) in [(Kind::Sorted, error), (Kind::StrictlySorted, error), (Kind::Plain, Ok(()))] {
+                let first = encoded(form, kind, &values[..cut]).unwrap();
+                let mut bytes = vec![7];
+                let appended = PackedList::open(&first).unwrap().append_into(&values[cut..], &mut bytes);
+                assert_eq!(appended.map(|_| ()), right);
+                assert!(right.is_ok() || bytes == [7]);
+            }
+        }
+    }
+}
