@@ -51,7 +51,7 @@ extern "C" {
 
 /* The version of this header: 1000000 times the major number, 1000 times the minor one, and the number of the patch.
  * bitpacking_version() returns the one of the archive, which is the same if both are of one version. */
-#define BITPACKING_VERSION 1000
+#define BITPACKING_VERSION 1000000
 
 uint32_t bitpacking_version(void);
 

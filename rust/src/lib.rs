@@ -30,7 +30,7 @@ mod tests;
 pub use packers::{BitPacker1x, BitPacker4x, BitPacker8x};
 
 /// The version of the archives and their header. The crate itself has the number of the original, so that `[patch.crates-io]` takes it.
-pub const VERSION: &str = "0.1.0";
+pub const VERSION: &str = "1.0.0";
 
 /// Packs blocks of `BLOCK_LEN` values.
 ///

@@ -9,10 +9,9 @@ LEVEL is that of the archive: x86-64, x86-64-v2 or x86-64-v3; without it the arc
 aarch64-unknown-linux-gnu, and CC has to name a compiler for it. The archives are those that scripts/build/archives.py wrote; a bundle has them.
 If the variable DESTDIR is set, all is written below that folder, as packages want it, and names PREFIX alone.
 
-The shared library exports each function of the header, the three that are inline there too. Its name ends with the major version, before
-1.0.0 with the minor one too: programs need a new link after a change of that. The names of what was written are in share/bitpacking/installed.
-A file that another program wrote is not replaced. The last line says what was installed. The status is 0, 1 if it failed, or 2 if it was
-called wrongly or lacks a tool.
+The shared library exports each function of the header, the four that are inline there too. Its name ends with the major version: programs need
+a new link after a change of that. The names of what was written are in share/bitpacking/installed. A file that another program wrote is not
+replaced. The last line says what was installed. The status is 0, 1 if it failed, or 2 if it was called wrongly or lacks a tool.
 """
 import os
 import re
@@ -55,8 +54,7 @@ def version():
 
 def shared_library():
     """Where the shared library is. Programs that were linked with it need one of the same name."""
-    major, minor, _ = version().split(".")
-    return f"{LINK}.{major if int(major) else f'0.{minor}'}"
+    return f"{LINK}.{version().split('.')[0]}"
 
 
 def exported():

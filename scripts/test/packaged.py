@@ -143,8 +143,7 @@ def shared_library(path):
     wanted = {*choosing.prototypes(), *INLINE}
     yield "the names of the shared library", None if exported == wanted else f"they differ in {sorted(exported ^ wanted)}"
     named = re.search(r"SONAME\s+(\S+)", run("objdump", "-p", path).stdout)
-    major, minor, _ = version().split(".")
-    wanted = f"libbitpacking.so.{major}" if major != "0" else f"libbitpacking.so.0.{minor}"
+    wanted = f"libbitpacking.so.{version().split('.')[0]}"
     yield "the name that programs look for", None if named and named[1] == wanted == os.readlink(path) else f"it is {named}"
     library = ctypes.CDLL(path)
     library.bitpacking_error_text.restype = ctypes.c_char_p
