@@ -1,0 +1,149 @@
+#!/usr/bin/env python3
+"""Builds a release into out/release/, and uses each of its files as someone does who has nothing else:
+
+    bitpacking-VERSION-linux-PROCESSOR.tar.gz        what scripts/build/bundle.py writes, for x86_64 and aarch64
+    fimulowen-VERSION-cp311-abi3-linux_x86_64.whl    the Python package
+    SHA256SUMS                                       for `sha256sum -c SHA256SUMS`
+
+VERSION is that of CHANGELOG.md. The files are built in another folder, and are put in place of those of an earlier release only if all of them
+can be used: each bundle in an empty folder, where its library is installed and a program of it in C is run, one of it in Rust on x86_64; the
+wheel in a new environment, without an index; and the checksums, which have to find a changed byte.
+
+The archives are those that scripts/build/archives.py wrote, which is called if they are not there. With --in-check nothing is put in place, and
+what a tool is missing for is left out. The last line is 'N passed, M failed'. The status is 0, 1 if something failed, or 2 if a tool is missing.
+"""
+import glob
+import hashlib
+import os
+import shutil
+import sys
+import tarfile
+import tempfile
+
+sys.path.insert(1, f"{sys.path[0]}/..")
+from common import ROOT, leave_out, missing, report, run, version, words
+import archives
+import arm
+import bundle
+import c
+import python
+import rust
+
+OUT = f"{ROOT}/out/release"
+SUMS = "SHA256SUMS"
+PROGRAM, PRINTS = "examples/list.c", c.PROGRAMS["examples/list.c"]
+IN_RUST = "list"
+IN_PYTHON = "import fimulowen; ids = fimulowen.pack([7, 9, 10, 300]); print(fimulowen.__version__, ids.nbytes, ids.seek(100))"
+# What compiles C programs for each processor, and what runs them.
+BY_PROCESSOR = {"x86_64": ("cc", []), "aarch64": (arm.CROSS, [arm.QEMU])}
+
+
+def wrong(done, wanted=None):
+    """What is wrong with a command that ended, or None."""
+    return None if done.returncode == 0 and wanted in (None, done.stdout) else f"status {done.returncode}: {done.stdout[-2000:]}"
+
+
+def wheel(folder):
+    """Builds the wheel into a folder. The checks of it, in an environment of its own."""
+    chosen, lack = python.chosen()
+    if not chosen:
+        leave_out("the wheel", f"since there is no {' and no '.join(lack)}")
+        return
+    with tempfile.TemporaryDirectory(prefix="release-") as room:
+        package = python.Package(room, chosen)
+        done = run(sys.executable, f"{ROOT}/scripts/build/install.py", package.prefix)
+        yield "the library for the wheel", wrong(done)
+        yield "the wheel", package.call(chosen, "-m", "build", "--no-isolation", "--wheel", "--outdir", folder)
+        found = glob.glob(f"{folder}/*.whl")
+        yield "a new environment", package.call(chosen, "-m", "venv", "--system-site-packages", package.room)
+        yield "installing the wheel", package.call(f"{package.room}/bin/python", "-m", "pip", "install", "--no-deps", *found)
+        done = run(f"{package.room}/bin/python", "-c", IN_PYTHON, folder=room)
+        yield "a program over the wheel", wrong(done, f"{version()} 7 (3, 300)\n")
+
+
+def unpacked(path, processor):
+    """The checks of a bundle, unpacked in an empty folder."""
+    compiler, runner = BY_PROCESSOR[processor]
+    lacking = missing(compiler, *runner[:1])
+    with tempfile.TemporaryDirectory(prefix="release-") as room:
+        with tarfile.open(path) as packed:
+            packed.extractall(room, filter="data")
+        top, prefix = f"{room}/{bundle.name_of(processor)}", f"{room}/prefix"
+        yield f"the folder of {os.path.basename(path)}", None if os.listdir(room) == [
+            os.path.basename(top)
+        ] else f"it is {os.listdir(room)}"
+        if lacking:
+            leave_out(f"programs over the bundle for {processor}", f"since there is no {' and no '.join(lacking)}")
+            return
+        level = [] if processor == "x86_64" else ["--level", archives.ARM]
+        done = run(sys.executable, f"{top}/scripts/build/install.py", prefix, *level, folder=room, env=dict(os.environ, CC=compiler))
+        yield f"installing it for {processor}", wrong(done)
+        names = [f"-I{prefix}/include", f"{top}/{PROGRAM}", f"{prefix}/lib/libbitpacking.a"]
+        made = run(compiler, "-static", *names, "-o", f"{room}/program")
+        done = made if made.returncode else run(*runner, f"{room}/program")
+        yield f"{PROGRAM} over it for {processor}", wrong(done, PRINTS)
+        if processor == "x86_64":
+            yield from in_rust(room, top)
+
+
+def in_rust(room, top):
+    if missing("cargo"):
+        leave_out("a program in Rust over the bundle", "since there is no cargo")
+        return
+    env = dict(os.environ, CARGO_TARGET_DIR=f"{room}/target", CARGO_HOME=f"{room}/cargo")
+    env.pop("BITPACKING_ARCHIVES", None)
+    done = run("cargo", "run", "--quiet", "--offline", "--example", IN_RUST, folder=f"{top}/rust", env=env)
+    yield f"the example {IN_RUST} in Rust over it", wrong(done, rust.EXAMPLES[IN_RUST])
+
+
+def sums(folder):
+    """Writes the checksums of all files of a folder. The checks of them."""
+    names = sorted(os.listdir(folder))
+    with open(f"{folder}/{SUMS}", "w", encoding="utf-8") as file:
+        for name in names:
+            with open(f"{folder}/{name}", "rb") as other:
+                file.write(f"{hashlib.sha256(other.read()).hexdigest()}  {name}\n")
+    yield "the checksums", wrong(run("sha256sum", "--check", "--quiet", SUMS, folder=folder))
+    with open(f"{folder}/{names[0]}", "r+b") as file:
+        file.seek(1000)
+        byte = file.read(1)
+        file.seek(1000)
+        file.write(bytes([byte[0] ^ 1]))
+        file.flush()
+        yield "the checksums of a changed byte", None if run("sha256sum", "-c", SUMS, folder=folder).returncode else "it is not found"
+        file.seek(1000)
+        file.write(byte)
+
+
+def checks(folder):
+    for processor in bundle.ARCHIVES:
+        yield from unpacked(bundle.write(folder, processor), processor)
+    yield from wheel(folder)
+    yield from sums(folder)
+
+
+def put_in_place(folder):
+    """Replaces the last release, and says what is there."""
+    shutil.rmtree(OUT, ignore_errors=True)
+    shutil.copytree(folder, OUT)
+    print(f"released in {OUT}:", *sorted(os.listdir(OUT)))
+
+
+def main():
+    in_check = "--in-check" in words("--in-check")
+    lacking = missing("cargo", "sha256sum", *(it for compiler, runner in BY_PROCESSOR.values() for it in [compiler, *runner]))
+    if not in_check and (lacking := lacking + python.chosen()[1]):
+        print(f"release.py: there is no {' and no '.join(lacking)}, and nothing was built", file=sys.stderr)
+        return 2
+    status = archives.status_without("the release", "cc", "sha256sum")
+    if status is not None:
+        return status
+    with tempfile.TemporaryDirectory(prefix="release-") as folder:
+        status = report(checks(folder))
+        if status == 0 and not in_check:
+            put_in_place(folder)
+    return status
+
+
+if __name__ == "__main__":
+    sys.exit(main())
