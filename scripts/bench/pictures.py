@@ -1,6 +1,7 @@
 #!/usr/bin/env python3
-"""Draws the pictures of docs/SPEED.md from the measured numbers in docs/speed/search.tsv: docs/speed/size.svg and docs/speed/queries.svg.
-`pictures.py --check` compares them with what it would draw, and writes nothing. The last line is 'N passed, M failed', one for each picture.
+"""Draws the pictures of docs/SPEED.md from measured numbers: docs/speed/size.svg and docs/speed/queries.svg from docs/speed/search.tsv, and
+docs/speed/blocks.svg from docs/speed/blocks.tsv. `pictures.py --check` compares them with what it would draw, and writes nothing. The last line
+is 'N passed, M failed', one for each picture.
 """
 import os
 import sys
@@ -27,13 +28,14 @@ SETS = {
     "dense-and": "AND of 2 frequent words",
     "dense-or": "OR of 2 frequent words",
 }
+CALLS = {"pack": ("pack at the least width", "#2563eb"), "unpack": ("unpack", "#2f855a")}
 # Of a picture, in pixels: its width, where bars begin and how long they are at most, and the height of a bar.
 WIDTH, LEFT, LONGEST, BAR = 760, 190, 450, 15
 
 
-def numbers():
-    """The measured numbers by measure, way, set of queries and threads."""
-    rows = [line.split("\t") for line in source(f"{FOLDER}/search.tsv").split("\n") if line and not line.startswith("#")]
+def numbers(table):
+    """The measured numbers of a table by measure, way, part and threads; of blocks by call, packer, kind and level."""
+    rows = [line.split("\t") for line in source(f"{FOLDER}/{table}.tsv").split("\n") if line and not line.startswith("#")]
     return {tuple(row[:4]): float(row[4]) for row in rows[1:]}
 
 
@@ -99,9 +101,36 @@ def queries(found):
     return picture("Queries a second on one core, without ranking", y + 24, parts)
 
 
+def blocks(found):
+    """Integers a second of each packer and kind, at the highest level that was measured."""
+    level, parts, x, y = max(key[3] for key in found), [], 20, 44
+    for name, colour in CALLS.values():
+        parts += [bar(x, y, 13, colour), text(x + 18, y + 11, name)]
+        x += 44 + 7 * len(name)
+    y += 30
+    longest = max(speed for (call, _, _, of), speed in found.items() if of == level and call in CALLS)
+    for packer, kind in dict.fromkeys(key[1:3] for key in found):
+        parts.append(text(LEFT - 10, y + len(CALLS) * BAR // 2 + 4, f"{packer}, {kind}", "end"))
+        for call, (_, colour) in CALLS.items():
+            speed = found[call, packer, kind, level]
+            length = LONGEST * speed / longest
+            parts += [bar(LEFT, y, length, colour), text(round(LEFT + max(length, 1) + 8), y + 11, f"{speed / 1e9:.1f}")]
+            y += BAR
+        y += 8
+    parts.append(
+        text(
+            20,
+            y + 8,
+            f"Billions of integers a second on one core, {level}, mean over the widths 1 to 32. More is better.",
+            colour="#52606d",
+        )
+    )
+    return picture("Blocks packed and unpacked", y + 24, parts)
+
+
 def main():
-    check, found = "--check" in words("--check"), numbers()
-    drawn = {"size": size(found), "queries": queries(found)}
+    check, found = "--check" in words("--check"), numbers("search")
+    drawn = {"size": size(found), "queries": queries(found), "blocks": blocks(numbers("blocks"))}
     for name, picture_text in drawn.items():
         if not check:
             with open(f"{ROOT}/{FOLDER}/{name}.svg", "w", encoding="utf-8") as file:
