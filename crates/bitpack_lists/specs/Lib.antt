@@ -9,6 +9,7 @@ pub mod Cursors
 pub mod Groups
 pub mod inner
 pub mod Intersections
+pub mod Joined
 pub mod Laws
 pub mod Laws3
 pub mod Laws4

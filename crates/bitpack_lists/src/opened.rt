@@ -11,6 +11,7 @@ mod getting;
 mod halving;
 mod in_slice;
 mod intersection;
+mod joining;
 mod of_kind;
 mod outline;
 mod place;

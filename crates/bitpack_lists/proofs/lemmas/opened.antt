@@ -11,6 +11,7 @@ pub mod CursorSteps
 pub mod FirstBytes
 pub mod GatherSteps
 pub mod HalvingSteps
+pub mod JoinSteps
 pub mod KindFaults
 pub mod MoreValues
 pub mod MoveSteps

@@ -1,0 +1,131 @@
+//! The values of two opened lists, with a base added to those of the second, written as one list.
+
+ghost use Rattle.std.specs.Prelude.{◌≡◌, ◌+◌, ◌*◌, ◌^◌, ◌<◌, ◌≤◌, ◌++◌, ℕ, List, true, false, length, take, slice_index, OnOk, OnErr, IfErr, MatchOption, None, vec_len, vec_capacity};
+ghost use Rattle.bitpacking.specs.Bits.{AreBytes};
+ghost use Rattle.bitpacking.specs.Codes.{AreWords};
+ghost use Rattle.bitpack_lists.specs.declared.list_error.ListError.{ListError};
+ghost use Rattle.bitpack_lists.specs.declared.version.Version.{Version};
+ghost use Rattle.bitpack_lists.specs.Joined.{joined, moved};
+ghost use Rattle.bitpack_lists.specs.Newest.{IsNewest};
+ghost use Rattle.bitpack_lists.specs.Opened.{blocks_of, kind_of, values, version_of};
+ghost use Rattle.bitpack_lists.specs.Version2.{first_out};
+ghost use Rattle.bitpack_lists.specs.Written.{WritesOne};
+
+use super::PackedList;
+use crate::list_error::ListError;
+use bitpacking::BitPacker;
+
+impl<'a, P: BitPacker> PackedList<'a, P> {
+    /// Appends the newest text of the values of the list and, after them, of those of another list with `base` added to each.
+    ///
+    /// The bodies of the list's whole blocks are copied, as [`encode_more`] does. The values of the other list, which may be of another
+    /// packer, kind and version, are unpacked into `room` and packed again. The vector grows once at most.
+    ///
+    /// Fails with `BadNumber` if a value with the base is above `u32::MAX`, and otherwise as [`encode_more`] does: all values together have
+    /// to be in the order of the list's kind.
+    ///
+    /// [`encode_more`]: PackedList::encode_more
+    pub fn encode_joined<Q: BitPacker>(
+        &self,
+        base: u32,
+        other: &PackedList<'_, Q>,
+        room: &mut [u32],
+        out: &mut Vec<u8>,
+    ) -> Result<(), ListError>
+        requires keeps { 0 < blocks_of self.now → version_of self.now ≡ Version.Four }
+        requires room { length (values other.now) ≤ length room.old }
+        // What is appended is the text of all values.
+        ensures ok { OnOk result ((text : List ℕ) × AreBytes text
+            × IsNewest P.lanes (kind_of self.now) (joined (values self.now) base (values other.now)) text
+            × (out.new.items ≡ out.old.items ++ text)) }
+        // Values that are no words are refused as such, then too many values, then values out of order at the first that is, and others only
+        // if memory runs out.
+        ensures large { (AreWords (moved base (values other.now)) → ⊥) → result ≡ Err ListError.BadNumber }
+        ensures long { AreWords (moved base (values other.now))
+            → 2 ^ 28 < length (joined (values self.now) base (values other.now))
+            → result ≡ Err (ListError.TooLong (length (joined (values self.now) base (values other.now)))) }
+        ensures order { AreWords (moved base (values other.now))
+            → length (joined (values self.now) base (values other.now)) ≤ 2 ^ 28
+            → MatchOption (first_out (kind_of self.now) (joined (values self.now) base (values other.now)))
+            (IfErr result (λ e. e ≡ ListError.Memory)) (λ position. result ≡ Err (ListError.NotSorted position)) }
+        // Memory runs out only if the vector has no room for the text.
+        ensures room { AreWords (moved base (values other.now))
+            → length (joined (values self.now) base (values other.now)) ≤ 2 ^ 28
+            → first_out (kind_of self.now) (joined (values self.now) base (values other.now)) ≡ None
+            → OnErr result ((text : List ℕ)
+            → IsNewest P.lanes (kind_of self.now) (joined (values self.now) base (values other.now)) text
+            → vec_capacity out.old < vec_len out.old + length text) }
+        ensures unchanged { OnErr result ((out.new.items ≡ out.old.items)
+            × (vec_capacity out.new ≡ vec_capacity out.old)) }
+    {
+        if !other.copy_moved(base, room) {
+            return Err(ListError::BadNumber);
+        }
+        self.encode_more(&room[..other.len()], out)
+    }
+
+    /// Writes the newest text of the values of the list and of those of another list at the start of the slice, as [`encode_joined`] appends
+    /// it, and returns its length in bytes. Allocates nothing.
+    ///
+    /// A slice that is too short is refused with `Short`; then nothing is written. The bytes after the text stay as they were.
+    ///
+    /// [`encode_joined`]: PackedList::encode_joined
+    pub fn encode_joined_to<Q: BitPacker>(
+        &self,
+        base: u32,
+        other: &PackedList<'_, Q>,
+        room: &mut [u32],
+        bytes: &mut [u8],
+    ) -> Result<usize, ListError>
+        requires keeps { 0 < blocks_of self.now → version_of self.now ≡ Version.Four }
+        requires room { length (values other.now) ≤ length room.old }
+        // What is written is the text of all values, and what is after it stays. Values that are no words are refused as such, others with a
+        // fault for the first, and the rest only if the slice has no room for the text.
+        ensures writes { AreWords (moved base (values other.now))
+            → WritesOne (IsNewest P.lanes (kind_of self.now) (joined (values self.now) base (values other.now)))
+            (kind_of self.now) (joined (values self.now) base (values other.now)) result bytes.old bytes.new }
+        ensures large { (AreWords (moved base (values other.now)) → ⊥)
+            → (result ≡ Err ListError.BadNumber) × (bytes.new ≡ bytes.old) }
+    {
+        if !other.copy_moved(base, room) {
+            return Err(ListError::BadNumber);
+        }
+        self.encode_more_to(&room[..other.len()], bytes)
+    }
+
+    // Writes all values with a base added to each, and returns whether these are words.
+    fn copy_moved(&self, base: u32, room: &mut [u32]) -> bool
+        requires room { length (values self.now) ≤ length room.old }
+        ensures words { result ≡ true → take (length (values self.now)) room.new ≡ moved base (values self.now) }
+        ensures large { result ≡ false → AreWords (moved base (values self.now)) → ⊥ }
+    {
+        let count = self.copy_to(room);
+        add_base(base, &mut room[..count])
+    }
+}
+
+/// Adds a base to all values if each is then a word, and returns whether it did.
+fn add_base(base: u32, values: &mut [u32]) -> bool
+    ensures words { result ≡ true → values.new ≡ moved base values.old }
+    ensures large { result ≡ false → AreWords (moved base values.old) → ⊥ }
+{
+    if !are_within(u32::MAX - base, values) {
+        return false;
+    }
+    for index in 0..values.len() {
+        values[index] += base;
+    }
+    true
+}
+
+/// Whether no value is above a limit. No branch depends on a value, so that the compiler compares several at once.
+fn are_within(most: u32, values: &[u32]) -> bool
+    ensures all { result ≡ true → (k : ℕ) → k < length values.now → slice_index values.now k ≤ most }
+    ensures beyond { result ≡ false → (k : ℕ) × (k < length values.now) × (most < slice_index values.now k) }
+{
+    let mut beyond = false;
+    for index in 0..values.len() {
+        beyond |= values[index] > most;
+    }
+    !beyond
+}
