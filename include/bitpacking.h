@@ -2,15 +2,15 @@
  *
  * The functions are in a static library, libbitpacking.a; docs/C.md of the repository says how to build it. It chooses the level of the
  * processor, or has one level. Four functions are `static inline` here, and in no archive: bitpacking_list_empty, bitpacking_list_none,
- * bitpacking_cursor_block and bitpacking_error_text; the shared library has them for other languages. Four steps of cursors, list_append, and
- * list_pack and list_size of each packer, are in the archive and `static inline` here too: see bitpacking_cursor_value_inline and
+ * bitpacking_cursor_block and bitpacking_error_text; the shared library has them for other languages. Four steps of cursors, list_append, list_join,
+ * and list_pack and list_size of each packer, are in the archive and `static inline` here too: see bitpacking_cursor_value_inline and
  * bitpacking_4x_list_pack_inline.
  *
  * What each call of the archive returns and writes is proved for all arguments that meet these rules:
  *
  * - A pointer with a length after it is to that many items. It may be NULL if the length is 0.
  * - The pointers num_bits, view, cursor, builder, position, item, block, least and greatest are to one item each, and must not be NULL. Only
- *   the position of list_pack, list_size and list_append may be NULL: see bitpacking_4x_list_pack_inline.
+ *   the position of list_pack, list_size, list_append and list_join may be NULL: see bitpacking_4x_list_pack_inline.
  * - Pointers are aligned for their type.
  * - The buffers that a call writes overlap none of its other arguments, no bytes of a view or a cursor, and no values of a builder.
  * - Nothing else writes to an argument during a call, and nothing reads what the call writes.
@@ -29,8 +29,8 @@
  *     strictly_sorted    one less than that, modulo 2^32                       initial, or BITPACKING_NO_INITIAL for none
  *
  * A call that works returns a number of bytes, or a width, from 0 on. A call that does not returns one of the negative
- * numbers below, and has then written nothing: the buffers are as they were. Only list_pack, list_size, list_append and
- * list_builder_extend write at one error, the position of a value that is out of order.
+ * numbers below, and has then written nothing: the buffers are as they were. Only list_pack, list_size, list_append, list_join
+ * and list_builder_extend write at one error, the position of a value that is out of order.
  *
  *     uint32_t values[128], back[128];
  *     uint8_t bytes[BITPACKING_4X_BLOCK_SIZE(BITPACKING_MAX_WIDTH)], width;
@@ -542,7 +542,7 @@ ptrdiff_t bitpacking_1x_list_size(uint8_t version, uint8_t kind, const uint32_t 
 ptrdiff_t bitpacking_4x_list_size(uint8_t version, uint8_t kind, const uint32_t *values, size_t values_len, size_t *position);
 ptrdiff_t bitpacking_8x_list_size(uint8_t version, uint8_t kind, const uint32_t *values, size_t values_len, size_t *position);
 
-/* The inline forms of list_pack and list_size, whose position may be NULL; list_append below has one too. A call of one of these names is a call of its inline form,
+/* The inline forms of list_pack and list_size, whose position may be NULL; list_append and list_join below have them too. A call of one of these names is a call of its inline form,
  * unless BITPACKING_NO_INLINE is defined before this header is included. The functions of the archive need a position: pointers to
  * functions and other languages call these, and so does (bitpacking_4x_list_pack)(..). */
 static inline ptrdiff_t bitpacking_1x_list_pack_inline(uint8_t version, uint8_t kind, const uint32_t *values, size_t values_len,
@@ -649,15 +649,24 @@ size_t bitpacking_list_builder_len(const bitpacking_list_builder *builder);
 ptrdiff_t bitpacking_list_builder_finish(const bitpacking_list_builder *builder, uint8_t *bytes, size_t bytes_len);
 
 /* Writes the list of a view and more values after it as one list, at the start of bytes, and returns its number of bytes: what
- * bitpacking_4x_list_pack writes of all values in version 4, for the packer and the kind of the list. The whole blocks of the list are copied,
- * and only the values after them are packed. bytes may not overlap the bytes of the list.
+ * bitpacking_4x_list_pack writes of all values in the newest version, for the packer and the kind of the list. The whole blocks of the list are
+ * copied, and only the values after them are packed. bytes may not overlap the bytes of the list.
  *
  * The first of: LIST_WRONG_LANES, if the view was not opened; LIST_BAD_VERSION, if the list is of version 2 or 3 and has a whole block: unpack
  * it, and pack all values; LIST_TOO_LONG, if all values are more than 268,435,456; LIST_NOT_SORTED, and then *position is the position of the
- * first value out of order, counted from the first value of the list; SHORT, which a bytes_len of BITPACKING_LIST_ROOM(all values) never is.
- * Nothing is written then, and bytes after the list stay as they were. */
+ * first value out of order, counted from the first value of the list, unless position is NULL; SHORT, which a bytes_len of
+ * BITPACKING_LIST_ROOM(all values) never is. Nothing is written then, and bytes after the list are unchanged. */
 ptrdiff_t bitpacking_list_append(const bitpacking_list *view, const uint32_t *values, size_t values_len,
                                  uint8_t *bytes, size_t bytes_len, size_t *position);
+
+/* Writes the list of a view and, after its values, those of another list with base added to each as one list, as bitpacking_list_append does:
+ * two segments become one, whose second part begins at doc id base. The lists may be of any packers, kinds and versions; the result has packer and
+ * kind of the first. room is work space for the values of the other list: room_len is at least its length.
+ *
+ * The errors of bitpacking_list_append, and after LIST_BAD_VERSION: SHORT, if room is too short; BAD_BASE, if a value with the base is above
+ * 2^32 - 1. Then bytes are unchanged. */
+ptrdiff_t bitpacking_list_join(const bitpacking_list *view, uint32_t base, const bitpacking_list *other, uint32_t *room, size_t room_len,
+                               uint8_t *bytes, size_t bytes_len, size_t *position);
 
 static inline ptrdiff_t bitpacking_list_append_inline(const bitpacking_list *view, const uint32_t *values, size_t values_len,
                                                       uint8_t *bytes, size_t bytes_len, size_t *position)
@@ -667,8 +676,17 @@ static inline ptrdiff_t bitpacking_list_append_inline(const bitpacking_list *vie
     return (bitpacking_list_append)(view, values, values_len, bytes, bytes_len, position != NULL ? position : &ignored);
 }
 
+static inline ptrdiff_t bitpacking_list_join_inline(const bitpacking_list *view, uint32_t base, const bitpacking_list *other,
+                                                    uint32_t *room, size_t room_len, uint8_t *bytes, size_t bytes_len, size_t *position)
+{
+    size_t ignored;
+
+    return (bitpacking_list_join)(view, base, other, room, room_len, bytes, bytes_len, position != NULL ? position : &ignored);
+}
+
 #ifndef BITPACKING_NO_INLINE
 #define bitpacking_list_append(...) bitpacking_list_append_inline(__VA_ARGS__)
+#define bitpacking_list_join(...) bitpacking_list_join_inline(__VA_ARGS__)
 #endif
 
 /* What a negative number means, in a sentence. The text is a constant. Other numbers have a text of their own. */

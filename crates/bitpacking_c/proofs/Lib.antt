@@ -5,6 +5,7 @@ pub mod ChunkSteps
 pub mod CountSteps
 pub mod CursorPlaces
 pub mod GatherSteps
+pub mod JoinSteps
 pub mod MarkSteps
 pub mod PairSteps
 pub mod SetSteps

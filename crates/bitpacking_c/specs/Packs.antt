@@ -1,11 +1,14 @@
 -- What the calls that write packed lists answer, and what they leave in the caller's buffer.
 use Rattle.std.specs.Prelude.{◌≡◌, ℕ, ℤ, pos, negsuc, ◌*◌, not, ◌&&◌, ◌||◌, ◌==◌, nat_lt, if◌then◌else◌, List, ◌++◌, length, Option, Some, None, MatchOption, Result, Ok, Err}
+use Rattle.std.specs.Option.{option_or}
+use Rattle.bitpacking.specs.Codes.{AreWords}
 use Rattle.bitpack_lists.specs.declared.list_error.ListError.{ListError}
-use Rattle.bitpack_lists.specs.declared.list_error.ListError.TheVariants.{BadKind, BadVersion, NotSorted, Short, WrongLanes}
+use Rattle.bitpack_lists.specs.declared.list_error.ListError.TheVariants.{BadKind, BadNumber, BadVersion, NotSorted, Short, WrongLanes}
 use Rattle.bitpack_lists.specs.declared.list_kind.ListKind.{ListKind}
 use Rattle.bitpack_lists.specs.declared.version.Version.{Version}
 use Rattle.bitpack_lists.specs.declared.version.Version.TheVariants.{Two, Three, Four}
 use Rattle.bitpack_lists.specs.Parts.{kind_of_byte}
+use Rattle.bitpack_lists.specs.Joined.{joined, moved}
 use Rattle.bitpack_lists.specs.Newest.{IsNewest, IsWritten}
 use Rattle.bitpack_lists.specs.Outlines.{version_number}
 use Rattle.bitpack_lists.specs.Texts.{version_in}
@@ -55,6 +58,20 @@ AppendsList lanes bytes kind values more before after answer =
     (WritesOne (IsNewest lanes kind (values ++ more)) kind (values ++ more) answer before after)
     (λ fault. (answer ≡ Err fault) × (after ≡ before))
 
+-- why two lists cannot be joined, before their values are looked at: as above, or there is no room for the values of the second
+abbrev pub join_fault : ℕ → List ℕ → ℕ → ℕ → ℕ → Option ListError
+join_fault lanes bytes count others room = option_or (append_fault lanes bytes count) (if nat_lt room others then Some Short else None)
+
+-- the newest text of the values of two lists, those of the second above a base, is written, or they are refused: first a value that passes 32
+-- bits, as BadNumber
+abbrev pub JoinsList : ℕ → List ℕ → ListKind → List ℕ → ℕ → List ℕ → ℕ → List ℕ → List ℕ → Result ℕ ListError → Type 0
+JoinsList lanes bytes kind values base others room before after answer =
+    MatchOption (join_fault lanes bytes (length values) (length others) room)
+    ((AreWords (moved base others)
+        → WritesOne (IsNewest lanes kind (joined values base others)) kind (joined values base others) answer before after)
+        × ((AreWords (moved base others) → ⊥) → (answer ≡ Err BadNumber) × (after ≡ before)))
+    (λ fault. (answer ≡ Err fault) × (after ≡ before))
+
 -- ---- numbers
 
 -- the number of an answer: the length, -3 for a short buffer, or the number of the fault
@@ -72,3 +89,13 @@ position_after before answer = before
 abbrev pub AnswersSize : ℤ → ℕ → ℕ → (Result ℕ ListError → Type 0) → Type 0
 AnswersSize number before after Means =
     (answer : Result ℕ ListError) × (number ≡ number_of_size answer) × (after ≡ position_after before answer) × Means answer
+
+-- the number of an answer of joining: -7 for a value that passes 32 bits
+abbrev pub number_of_join : Result ℕ ListError → ℤ
+number_of_join (Err BadNumber) = negsuc 6
+number_of_join answer = number_of_size answer
+
+-- the same for the answer of joining
+abbrev pub AnswersJoin : ℤ → ℕ → ℕ → (Result ℕ ListError → Type 0) → Type 0
+AnswersJoin number before after Means =
+    (answer : Result ℕ ListError) × (number ≡ number_of_join answer) × (after ≡ position_after before answer) × Means answer

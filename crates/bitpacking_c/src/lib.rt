@@ -4,7 +4,6 @@
 //! overlap no other, and values are aligned. `include/bitpacking.h` has the declarations, with lengths, errors and examples.
 #![tactic(auto)]
 
-mod append_calls;
 mod array_calls;
 mod bitpacker1x;
 mod bitpacker4x;
@@ -17,6 +16,7 @@ mod chain;
 mod cursor_calls;
 mod fault_calls;
 mod gather_calls;
+mod join_calls;
 mod list_blocks;
 mod list_builder;
 mod list_columns;

@@ -53,6 +53,17 @@ macro_rules! lists {
                 bytes_len: usize,
                 position: *mut usize,
             ) -> isize;
+            #[link_name = concat!($prefix, "list_join")]
+            fn join(
+                view: *const ListView<'_>,
+                base: u32,
+                other: *const ListView<'_>,
+                room: *mut u32,
+                room_len: usize,
+                bytes: *mut u8,
+                bytes_len: usize,
+                position: *mut usize,
+            ) -> isize;
             #[link_name = concat!($prefix, "list_count_between")]
             fn count_between(view: *const ListView<'_>, low: u32, high: u32) -> usize;
             #[link_name = concat!($prefix, "list_between")]
@@ -112,6 +123,7 @@ macro_rules! lists {
             find_block,
             read_block,
             append,
+            join,
             count_between,
             between,
             intersect,

@@ -176,6 +176,7 @@ pub(crate) struct Lists {
     pub(crate) find_block: unsafe extern "C" fn(*const ListView<'_>, usize, u32) -> isize,
     pub(crate) read_block: unsafe extern "C" fn(*const ListView<'_>, usize, *mut u32, usize) -> isize,
     pub(crate) append: unsafe extern "C" fn(*const ListView<'_>, *const u32, usize, *mut u8, usize, *mut usize) -> isize,
+    pub(crate) join: Join,
     pub(crate) count_between: unsafe extern "C" fn(*const ListView<'_>, u32, u32) -> usize,
     pub(crate) between: unsafe extern "C" fn(*const ListView<'_>, u32, u32, usize, *mut usize, usize) -> usize,
     pub(crate) intersect: Combine,
@@ -193,6 +194,18 @@ pub(crate) struct Lists {
     pub(crate) move_to: unsafe extern "C" fn(*mut ListCursor<'_>, usize) -> i32,
     pub(crate) skip_block: unsafe extern "C" fn(*mut ListCursor<'_>),
 }
+
+/// A function that writes two lists as one.
+pub(crate) type Join = unsafe extern "C" fn(
+    *const ListView<'_>,
+    u32,
+    *const ListView<'_>,
+    *mut u32,
+    usize,
+    *mut u8,
+    usize,
+    *mut usize,
+) -> isize;
 
 /// A function that makes one list of values from many lists.
 pub(crate) type Combine = unsafe extern "C" fn(*const ListView<'_>, usize, *mut u32, usize) -> isize;

@@ -32,4 +32,19 @@ impl Lists {
         let size = unsafe { (self.append)(view, from, values.len(), bytes.as_mut_ptr(), room, &mut position) };
         counted(size).map_err(|number| (number, position))
     }
+
+    /// Writes the lists of two views, the second above a base, into these bytes, and returns how many it wrote, or what is wrong. `room` is work
+    /// space for the values of the second.
+    pub(crate) fn join(
+        &self,
+        (view, base, other): (&ListView<'_>, u32, &ListView<'_>),
+        room: &mut [u32],
+        bytes: &mut [u8],
+    ) -> Result<usize, (i32, usize)> {
+        let mut position = 0;
+        let (to, room_len, at, len) = (room.as_mut_ptr(), room.len(), bytes.as_mut_ptr(), bytes.len());
+        // SAFETY: pointers and lengths of slices, a number of our own; what is written is borrowed by `&mut`, and the views' bytes are not.
+        let size = unsafe { (self.join)(view, base, other, to, room_len, at, len, &mut position) };
+        counted(size).map_err(|number| (number, position))
+    }
 }

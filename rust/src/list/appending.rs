@@ -1,4 +1,4 @@
-//! A list and more values after it, written as one list.
+//! A list and more values after it, or those of another list, written as one list.
 
 use super::{error, Encoder, Error, PackedList, Version};
 use crate::calls::best;
@@ -9,6 +9,12 @@ const BAD_VERSION: i32 = -22;
 
 /// The number of the error that there is no room.
 const SHORT: i32 = -3;
+
+/// The number of the error that a value with the base is too great.
+const BAD_BASE: i32 = -7;
+
+/// How many bytes a call wrote, or the number of an error, and the position of a value out of order.
+type Answer = Result<usize, (i32, usize)>;
 
 impl PackedList<'_> {
     /// The bytes of one list of these values after those of this list, of its packer and kind, and of version 4, or 3 if they are fewer than
@@ -41,7 +47,7 @@ impl PackedList<'_> {
     ///
     /// # Errors
     ///
-    /// As [`append`](PackedList::append). The vector is then as it was.
+    /// As [`append`](PackedList::append). The vector is then unchanged.
     ///
     /// ```
     /// use bitpacking::list::{encode, Kind, PackedList};
@@ -53,26 +59,60 @@ impl PackedList<'_> {
     /// # Ok::<(), bitpacking::list::Error>(())
     /// ```
     pub fn append_into(&self, values: &[u32], bytes: &mut Vec<u8>) -> Result<usize, Error> {
-        let start = bytes.len();
-        let mut written = self.append_within(values, start + self.appended_room(values.len()), bytes);
-        if matches!(written, Err((SHORT, _))) {
-            written = self.append_within(values, start + room(self.len() + values.len()), bytes);
-        }
-        bytes.truncate(start + written.unwrap_or(0));
-        match written {
+        match self.written(values.len(), bytes, |room| best().lists.append(&self.view, values, room)) {
             Err((BAD_VERSION, _)) => self.pack_anew(values, bytes),
             written => written.map_err(|(number, position)| error::named(number, Some(position))),
         }
     }
 
-    /// Writes the list after what the vector has, which grows to this length.
-    fn append_within(&self, values: &[u32], len: usize, bytes: &mut Vec<u8>) -> Result<usize, (i32, usize)> {
-        let start = bytes.len();
-        bytes.resize(len, 0);
-        let written = best().lists.append(&self.view, values, &mut bytes[start..]);
-        if written.is_err() {
-            bytes.truncate(start);
+    /// The bytes of one list of the values of this list and, after them, of another with `base` added to each, of the packer and the kind of this
+    /// list: two segments become one, whose second part begins at doc id `base`. The lists may be of any packers, kinds and versions.
+    ///
+    /// The whole blocks of this list are copied, as by [`append`](PackedList::append).
+    ///
+    /// # Errors
+    ///
+    /// `BadNumber`, if a value with the base is above `u32::MAX`; otherwise as [`append`](PackedList::append).
+    ///
+    /// ```
+    /// use bitpacking::list::{encode, Kind, PackedList};
+    ///
+    /// let (first, second) = (encode(Kind::StrictlySorted, &[7, 9])?, encode(Kind::StrictlySorted, &[0, 290])?);
+    /// let joined = PackedList::open(&first)?.join(10, &PackedList::open(&second)?)?;
+    /// assert_eq!(joined, encode(Kind::StrictlySorted, &[7, 9, 10, 300])?);
+    /// # Ok::<(), bitpacking::list::Error>(())
+    /// ```
+    pub fn join(&self, base: u32, other: &PackedList<'_>) -> Result<Vec<u8>, Error> {
+        let (mut bytes, mut values) = (Vec::new(), vec![0; other.len()]);
+        let lists = (&self.view, base, &other.view);
+        match self.written(other.len(), &mut bytes, |room| best().lists.join(lists, &mut values, room)) {
+            Ok(_) => return Ok(bytes),
+            Err((BAD_BASE, _)) => return Err(Error::BadNumber),
+            Err((BAD_VERSION, _)) => {}
+            Err((number, position)) => return Err(error::named(number, Some(position))),
         }
+        other.unpack(&mut values);
+        for value in &mut values {
+            *value = value.checked_add(base).ok_or(Error::BadNumber)?;
+        }
+        self.pack_anew(&values, &mut bytes)?;
+        Ok(bytes)
+    }
+
+    /// Has a call write a list after what the vector has: this list and as many values after it. If the room that is nearly always enough is short,
+    /// the call gets the room that always is. The vector is unchanged if it fails.
+    fn written(&self, more: usize, bytes: &mut Vec<u8>, mut write: impl FnMut(&mut [u8]) -> Answer) -> Answer {
+        let start = bytes.len();
+        // What is said of a block of this list may take 8 bytes more.
+        let likely = self.as_bytes().len() + 8 * (self.block_count() + 2) + room(more + self.block_len());
+        let mut written = Err((SHORT, 0));
+        for len in [likely, room(self.len() + more)] {
+            if matches!(written, Err((SHORT, _))) {
+                bytes.resize(start + len, 0);
+                written = write(&mut bytes[start..]);
+            }
+        }
+        bytes.truncate(start + written.unwrap_or(0));
         written
     }
 
@@ -85,11 +125,6 @@ impl PackedList<'_> {
             128 => Encoder::new(BitPacker4x, Version::Four).encode_into(self.kind(), &all, bytes),
             _ => Encoder::new(BitPacker8x, Version::Four).encode_into(self.kind(), &all, bytes),
         }
-    }
-
-    /// Room for the bytes of the list and and of more values after it: what is said of a block of the list may take 8 bytes more.
-    fn appended_room(&self, more: usize) -> usize {
-        self.as_bytes().len() + 8 * (self.block_count() + 2) + room(more + self.block_len())
     }
 }
 

@@ -41,3 +41,35 @@ fn values_out_of_order() {
         }
     }
 }
+
+#[test]
+fn joined_lists() {
+    at_each_level(|| {
+        let mut numbers = Numbers(16);
+        for (form, kind) in FORMS.iter().flat_map(|form| KINDS.map(|kind| (*form, kind))) {
+            for (len, gap) in LENGTHS.iter().flat_map(|len| [2, 4_000_000].map(|gap| (*len, gap))) {
+                let (cut, base) = (LENGTHS[numbers.below(11) as usize].min(len), numbers.below(1000));
+                let other_form = FORMS[numbers.below(9) as usize];
+                let values = values(&mut numbers, kind, len, gap, false);
+                let base = values[cut..].iter().fold(base, |base, value| base.min(*value));
+                let others: Vec<u32> = values[cut..].iter().map(|value| value - base).collect();
+                let others_kind = if kind == Kind::StrictlySorted { Kind::Sorted } else { kind };
+                let (first, second) = (encoded(form, kind, &values[..cut]).unwrap(), encoded(other_form, others_kind, &others).unwrap());
+                let joined = PackedList::open(&first).unwrap().join(base, &PackedList::open(&second).unwrap());
+                assert_eq!(joined, encoded((form.0, Version::Four), kind, &values));
+            }
+        }
+    });
+}
+
+#[test]
+fn joined_lists_that_are_refused() {
+    for form in FORMS {
+        let first: Vec<u32> = (5..605).collect();
+        let (first, second) = (encoded(form, Kind::StrictlySorted, &first).unwrap(), encoded(form, Kind::Plain, &[9, u32::MAX - 700, 8]).unwrap());
+        let (first, second) = (PackedList::open(&first).unwrap(), PackedList::open(&second).unwrap());
+        assert_eq!(first.join(701, &second), Err(Error::BadNumber));
+        assert_eq!(first.join(700, &second), Err(Error::NotSorted { position: Some(602) }));
+        assert_eq!(first.join(595, &second), Err(Error::NotSorted { position: Some(600) }));
+    }
+}

@@ -1,6 +1,6 @@
 //! The values of two opened lists, with a base added to those of the second, written as one list.
 
-ghost use Rattle.std.specs.Prelude.{◌≡◌, ◌+◌, ◌*◌, ◌^◌, ◌<◌, ◌≤◌, ◌++◌, ℕ, List, true, false, length, take, slice_index, OnOk, OnErr, IfErr, MatchOption, None, vec_len, vec_capacity};
+ghost use Rattle.std.specs.Prelude.{◌≡◌, ◌+◌, ◌*◌, ◌^◌, ◌<◌, ◌≤◌, ◌++◌, ℕ, List, true, false, length, take, slice_index, OnOk, OnErr, IfOk, IfErr, MatchOption, None, vec_len, vec_capacity};
 ghost use Rattle.bitpacking.specs.Bits.{AreBytes};
 ghost use Rattle.bitpacking.specs.Codes.{AreWords};
 ghost use Rattle.bitpack_lists.specs.declared.list_error.ListError.{ListError};
@@ -86,6 +86,7 @@ impl<'a, P: BitPacker> PackedList<'a, P> {
             (kind_of self.now) (joined (values self.now) base (values other.now)) result bytes.old bytes.new }
         ensures large { (AreWords (moved base (values other.now)) → ⊥)
             → (result ≡ Err ListError.BadNumber) × (bytes.new ≡ bytes.old) }
+        ensures within { IfOk result (λ len. len ≤ length bytes.new) }
     {
         if !other.copy_moved(base, room) {
             return Err(ListError::BadNumber);
