@@ -1,7 +1,8 @@
 #!/usr/bin/env python3
 """Looks for phrases that make a text hard to read: in the pages, in comments, and in the texts of errors.
 
-- The pages: README, CONTRIBUTING, CHANGELOG, docs/, the README of each example and the pages of python/, without fenced and indented blocks.
+- The pages: README, CONTRIBUTING, CHANGELOG, docs/, the README of each crate and example, the pages of python/ and rust/, without fenced and
+  indented blocks.
 - The comments: `//`, `///` and `//!` of the crates and of the Rust crate, the comments of the headers, and `--` of the definitions.
 - The texts: what is between quotes in the crates, the Rust crate and the headers, without tests.
 
@@ -19,6 +20,7 @@ sys.path.insert(1, f"{sys.path[0]}/..")
 from common import ROOT, report, source
 
 PAGES = ["README.md", "CONTRIBUTING.md", "CHANGELOG.md", "docs/*.md", "examples/**/README.md", "python/*.md"]
+PAGES += ["crates/*/README.md", "rust/*.md"]
 SOURCES = ["crates/*/src/**/*.rt", "rust/src/**/*.rs"]
 HEADERS = ["include/*.h"]
 DEFINITIONS = ["crates/*/specs/**/*.antt"]

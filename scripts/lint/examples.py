@@ -1,11 +1,12 @@
 #!/usr/bin/env python3
 """Compares the examples of the pages and of doc comments with the proved and tested code that they come from.
 
-Each fenced block of Rust in README.md, in docs/*.md and in the doc comments of the crates comes after a comment that names a file of the
-crate of callers, or a program of the Rust crate:
+Each fenced block of Rust in README.md, in docs/*.md, in the README of each crate and in the doc comments of the crates comes after a comment
+that names a file of the crate of callers, or a program of the Rust crate:
     <!-- crates/bitpack_uses/src/NAME.rt -->
     <!-- rust/examples/NAME.rs -->
 A fenced block of antt, the language of proofs, names one of the crate's proofs/ in the same way, and one of C a program of examples/.
+The README of a crate quotes contracts: there a block of Rust may also name a source of this crate, and then it has no contract in part.
 The lines of the block are lines of that file, in one piece. Only the indentation of the whole block may differ.
 
 Then the wrong changes of scripts/mutate/edits/examples/ are tried, as scripts/mutate/changes.py says. The last line is 'N passed, M
@@ -31,7 +32,8 @@ SOURCES = {
     "c": [("examples/", ".c")],
 }
 # The pages, and the sources with doc comments.
-PAGES = ["README.md", "docs/*.md", "crates/*/src/**/*.rt"]
+PAGES = ["README.md", "docs/*.md", "crates/*/README.md", "rust/*.md", "crates/*/src/**/*.rt"]
+OF_CRATE = re.compile(r"(crates/\w+/)README\.md")
 DOC = re.compile(r"^\s*//[/!] ?(.*)$")
 FENCE = re.compile(r"^\s*(`{3,}|~{3,})\s*([^\s,{`]*)")
 COMMENT = re.compile(r"^\s*<!--\s*(\S+)\s*-->\s*$")
@@ -62,13 +64,25 @@ def same_lines(lines):
     return textwrap.dedent("\n".join(lines)).rstrip().split("\n")
 
 
-def fault(language, before, block):
-    """Why a block is not tested code, or None."""
+def quoted_in(page):
+    """The folder of the sources that a page may quote, if it is the README of a crate."""
+    crate = OF_CRATE.fullmatch(page)
+    return f"{crate[1]}src/" if crate else None
+
+
+def ends_whole(block, after):
+    """Whether quoted lines end with a contract or an item: the line after them begins the body, or the last of them ends the item."""
+    return after.lstrip().startswith("{") or block[-1].endswith(";") or block[-1] == "}"
+
+
+def fault(page, language, before, block):
+    """Why a block of a page is not tested code, or None."""
     named = COMMENT.match(before)
     if not named:
         return "no comment before it names a file"
     path = os.path.normpath(named.group(1))
-    folders = SOURCES[language]
+    quoted = quoted_in(page) if language in ("rust", "rs") else None
+    folders = SOURCES[language] + ([(quoted, ".rt")] if quoted else [])
     if not any(path.startswith(folder) and path.endswith(ending) for folder, ending in folders):
         return f"{path} is not a file of {' or '.join(folder for folder, _ in folders)}"
     if not paths(path):
@@ -76,10 +90,12 @@ def fault(language, before, block):
     if not "".join(block).strip():
         return "it is empty"
     lines, wanted = text_of(path).split("\n"), same_lines(block)
-    for start in range(len(lines)):
-        if same_lines(lines[start : start + len(wanted)]) == wanted:
-            return None
-    return f"its lines are not in one piece in {path}"
+    ends = [start + len(wanted) for start in range(len(lines)) if same_lines(lines[start : start + len(wanted)]) == wanted]
+    if not ends:
+        return f"its lines are not in one piece in {path}"
+    if quoted and path.startswith(quoted) and not any(ends_whole(wanted, "".join(lines[end : end + 1])) for end in ends):
+        return f"it leaves out the end of a contract in {path}"
+    return None
 
 
 def examples_in(path):
@@ -94,7 +110,7 @@ def blocks():
     """Each example as its place and why it is not tested code, or None."""
     for page in [found for pattern in PAGES for found in paths(pattern)]:
         for number, language, before, block in examples_in(page):
-            yield f"{page}:{number}", fault(language, before, block)
+            yield f"{page}:{number}", fault(page, language, before, block)
 
 
 def faults():
