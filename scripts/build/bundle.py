@@ -19,7 +19,7 @@ sys.path.insert(1, f"{sys.path[0]}/..")
 from common import ROOT, missing, version, words
 import archives
 
-PAGES = ["LICENSE", "README.md", "CHANGELOG.md", "CONTRIBUTING.md", "docs/*.md", "docs/*/*.svg"]
+PAGES = ["LICENSE", "README.md", "CHANGELOG.md", "CONTRIBUTING.md", "docs/*.md", "docs/*/*.svg", "crates/*/README.md", "rust/README.md"]
 FILES = [*PAGES, "include/*.h", "c/symbols.c", "vectors/*.tsv", "examples/*.c"]
 FILES += [f"examples/{it}/**/*.*" for it in ("search", "numbers")]
 FILES += ["rust/Cargo.toml", "rust/Cargo.lock", "rust/build.rs", "rust/src/**/*.rs", "rust/examples/*.rs"]
