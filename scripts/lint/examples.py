@@ -6,7 +6,8 @@ that names a file of the crate of callers, or a program of the Rust crate:
     <!-- crates/bitpack_uses/src/NAME.rt -->
     <!-- rust/examples/NAME.rs -->
 A fenced block of antt, the language of proofs, names one of the crate's proofs/ in the same way, and one of C a program of examples/.
-The README of a crate quotes contracts: there a block of Rust may also name a source of this crate, and then it has no contract in part.
+The README of a crate quotes contracts: there a block of Rust may also name a source of this crate. Then it has no contract in part, but the
+contract may lack its comments.
 The lines of the block are lines of that file, in one piece. Only the indentation of the whole block may differ.
 
 Then the wrong changes of scripts/mutate/edits/examples/ are tried, as scripts/mutate/changes.py says. The last line is 'N passed, M
@@ -70,6 +71,13 @@ def quoted_in(page):
     return f"{crate[1]}src/" if crate else None
 
 
+def lines_after(block, lines):
+    """The line that follows the block, each time that the lines have the block. It is empty at the end."""
+    for start in range(len(lines)):
+        if same_lines(lines[start : start + len(block)]) == block:
+            yield "".join(lines[start + len(block) : start + len(block) + 1])
+
+
 def ends_whole(block, after):
     """Whether quoted lines end with a contract or an item: the line after them begins the body, or the last of them ends the item."""
     return after.lstrip().startswith("{") or block[-1].endswith(";") or block[-1] == "}"
@@ -90,10 +98,12 @@ def fault(page, language, before, block):
     if not "".join(block).strip():
         return "it is empty"
     lines, wanted = text_of(path).split("\n"), same_lines(block)
-    ends = [start + len(wanted) for start in range(len(lines)) if same_lines(lines[start : start + len(wanted)]) == wanted]
-    if not ends:
+    is_quoted = quoted and path.startswith(quoted)
+    bare = [line for line in lines if not line.lstrip().startswith("//")] if is_quoted else []
+    after = [*lines_after(wanted, lines), *lines_after(wanted, bare)]
+    if not after:
         return f"its lines are not in one piece in {path}"
-    if quoted and path.startswith(quoted) and not any(ends_whole(wanted, "".join(lines[end : end + 1])) for end in ends):
+    if is_quoted and not any(ends_whole(wanted, line) for line in after):
         return f"it leaves out the end of a contract in {path}"
     return None
 
