@@ -1,4 +1,4 @@
-/* Builders of lists, and values appended to a list: a list whose bytes are worked by hand, each error with nothing changed, and lists of a
+/* Builders of lists, values appended to a list, and lists that are joined: a list whose bytes are worked by hand, each error with nothing changed, and lists of a
    generator with a fixed seed, pushed in parts or appended, some of them out of order, and compared with what list_pack writes of a plain array.
    Prints nothing. */
 #include "bitpacking.h"
@@ -197,6 +197,63 @@ static void appended(uint8_t lanes, uint8_t version, uint8_t kind, const uint32_
         EXPECT(bytes[i], 0xA5);
 }
 
+/* Joins a list of the values before a position with one of those from it on, less a base, which is of another packer, version or kind. */
+static void joined(uint8_t lanes, uint8_t kind, const uint32_t *all, size_t from, size_t len)
+{
+    static uint8_t first[BITPACKING_LIST_ROOM(MOST)], second[BITPACKING_LIST_ROOM(MOST)], bytes[BITPACKING_LIST_ROOM(MOST)];
+    static uint8_t right[BITPACKING_LIST_ROOM(MOST)];
+    static uint32_t others[MOST], room[MOST + 1];
+    const uint8_t version = (uint8_t)(2 + next_number(3)), other_lanes = (uint8_t)(next_number(2) > 0 ? 4 : lanes);
+    const size_t many = len - from;
+    uint32_t base = next_number(100);
+    size_t i;
+    ptrdiff_t size;
+    bitpacking_list list = BITPACKING_LIST_EMPTY, other = BITPACKING_LIST_EMPTY;
+
+    for (i = from; i < len; i++)
+        base = all[i] < base ? all[i] : base;
+    for (i = from; i < len; i++)
+        others[i - from] = all[i] - base;
+    EXPECT(bitpacking_list_open(first, (size_t)pack(lanes, 4, kind, all, from, first, sizeof first), &list), 0);
+    size = pack(other_lanes, version, BITPACKING_PLAIN, others, many, second, sizeof second);
+    EXPECT(bitpacking_list_open(second, (size_t)size, &other), 0);
+    memset(bytes, 0xA5, sizeof bytes);
+    if (many > 0)
+        EXPECT(bitpacking_list_join(&list, base, &other, room, many - 1, bytes, sizeof bytes, NULL), BITPACKING_SHORT);
+    room[many] = UNUSED;
+    size = pack(lanes, 4, kind, all, len, right, sizeof right);
+    EXPECT(bitpacking_list_join(&list, base, &other, room, many, bytes, (size_t)size - 1, NULL), BITPACKING_SHORT);
+    EXPECT(bytes[0], 0xA5);
+    EXPECT(bitpacking_list_join(&list, base, &other, room, many, bytes, sizeof bytes, NULL), size);
+    EXPECT(memcmp(bytes, right, (size_t)size) == 0 && room[many] == UNUSED, 1);
+    EXPECT((size_t)size == sizeof bytes || bytes[size] == 0xA5, 1);
+}
+
+/* The lists 7, 9 and 0, 290, strictly sorted in blocks of 128: above 10 the second ends with 300, above 9 it begins with the last value of the first,
+   and above 2^32 - 290 it passes 32 bits. A view that was not opened has no values, and no packer. */
+static void worked_join(void)
+{
+    static const uint8_t right[8] = {0xA4, 7, 9, 1, 0, 0x84, 4, 0xA5};
+    const uint32_t values[4] = {7, 9, 0, 290};
+    uint8_t first[BITPACKING_LIST_ROOM(2)], second[BITPACKING_LIST_ROOM(2)], bytes[8];
+    uint32_t room[2];
+    size_t position = 77;
+    bitpacking_list none_yet = BITPACKING_LIST_EMPTY, list = BITPACKING_LIST_EMPTY, other = BITPACKING_LIST_EMPTY;
+
+    memset(bytes, 0xA5, sizeof bytes);
+    EXPECT(bitpacking_list_open(first, (size_t)pack(4, 4, BITPACKING_STRICTLY_SORTED, values, 2, first, sizeof first), &list), 0);
+    EXPECT(bitpacking_list_open(second, (size_t)pack(4, 4, BITPACKING_STRICTLY_SORTED, values + 2, 2, second, sizeof second), &other), 0);
+    EXPECT(bitpacking_list_join(&none_yet, 10, &other, room, 2, bytes, sizeof bytes, &position), BITPACKING_LIST_WRONG_LANES);
+    EXPECT(bitpacking_list_join(&list, 10, &other, room, 1, bytes, sizeof bytes, &position), BITPACKING_SHORT);
+    EXPECT(bitpacking_list_join(&list, 0u - 290, &other, room, 2, bytes, sizeof bytes, &position), BITPACKING_BAD_BASE);
+    EXPECT(position, 77);
+    EXPECT(bitpacking_list_join(&list, 9, &other, room, 2, bytes, sizeof bytes, &position), BITPACKING_LIST_NOT_SORTED);
+    EXPECT(position == 2 && bytes[0] == 0xA5, 1);
+    EXPECT(bitpacking_list_join(&list, 10, &other, room, 2, bytes, sizeof bytes, &position), 7);
+    EXPECT(memcmp(bytes, right, sizeof bytes), 0);
+    EXPECT(bitpacking_list_join(&list, 10, &none_yet, room, 0, bytes, sizeof bytes, &position), pack(4, 4, 2, values, 2, second, 8));
+}
+
 /* Strictly sorted, in blocks of 128: the list of `worked` from its first two values. A view that was not opened has no packer. */
 static void worked_append(void)
 {
@@ -228,6 +285,7 @@ static void all_appended(uint8_t lanes, uint8_t version, uint8_t kind, uint32_t 
             all[i] = (i > 0 && kind != BITPACKING_PLAIN ? all[i - 1] + (kind == BITPACKING_STRICTLY_SORTED) : 0) + next_number(gap);
         for (from = 0; from <= len; from += from % block == 0 && from > 0 && next_number(2) > 0 ? 1 : block - from % block) {
             appended(lanes, version, kind, all, from, len);
+            joined(lanes, kind, all, from, len);
             if (from > 0)
                 appended(lanes, version, kind, all, from - 1, len);
         }
@@ -250,6 +308,7 @@ int main(void)
 
     worked();
     worked_append();
+    worked_join();
     not_started();
     bad_starts();
     refused(BITPACKING_PLAIN, 3, 3);

@@ -86,7 +86,8 @@ fn joined(
 ) -> Result<usize, ListError>
     ensures joins { (kind : ListKind) (all : List ℕ) → IsListOf view.now.lanes view.now.bytes.now kind all
         → (others_kind : ListKind) (others : List ℕ) → IsListOf other.now.lanes other.now.bytes.now others_kind others
-        → JoinsList view.now.lanes view.now.bytes.now kind all base others (length room.old) bytes.old bytes.new result }
+        → JoinsList view.now.lanes view.now.bytes.now kind all base others (length room.old)
+        bytes.old bytes.new result }
     ensures small { IfOk result (λ count. count < 2 ^ 63) }
 {
     match view.lanes {
@@ -149,7 +150,8 @@ fn join<P: BitPacker>(
     requires lanes { view.now.lanes ≡ P.lanes }
     ensures joins { (kind : ListKind) (all : List ℕ) → IsListOf view.now.lanes view.now.bytes.now kind all
         → (others_kind : ListKind) (others : List ℕ) → IsListOf other.now.lanes other.now.bytes.now others_kind others
-        → JoinsList view.now.lanes view.now.bytes.now kind all base others (length room.old) bytes.old bytes.new result }
+        → JoinsList view.now.lanes view.now.bytes.now kind all base others (length room.old)
+        bytes.old bytes.new result }
     ensures small { IfOk result (λ count. count < 2 ^ 63) }
 {
     match other.lanes {
@@ -174,7 +176,8 @@ fn join_both<P: BitPacker, Q: BitPacker>(
     requires others_lanes { other.now.lanes ≡ Q.lanes }
     ensures joins { (kind : ListKind) (all : List ℕ) → IsListOf view.now.lanes view.now.bytes.now kind all
         → (others_kind : ListKind) (others : List ℕ) → IsListOf other.now.lanes other.now.bytes.now others_kind others
-        → JoinsList view.now.lanes view.now.bytes.now kind all base others (length room.old) bytes.old bytes.new result }
+        → JoinsList view.now.lanes view.now.bytes.now kind all base others (length room.old)
+        bytes.old bytes.new result }
     ensures small { IfOk result (λ count. count < 2 ^ 63) }
 {
     let list = joinable(packer, view)?;
