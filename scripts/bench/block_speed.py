@@ -31,7 +31,9 @@ def timed(level, core, rounds):
         if built.returncode != 0:
             sys.exit(f"block_speed.py: {built.stdout}")
         done = run("taskset", "-c", str(core), f"{folder}/blocks", str(rounds))
-    rows = [line.split("\t") for line in done.stdout.splitlines()] if done.returncode == 0 else []
+    lines = done.stdout.splitlines() if done.returncode == 0 else []
+    print(*(f"{level}: {line[2:]}" for line in lines if line.startswith("#")), sep="\n")
+    rows = [line.split("\t") for line in lines if not line.startswith("#")]
     return {(packer, KINDS[int(kind)], call): float(it) for packer, kind, *speeds in rows for call, it in zip(CALLS, speeds)}
 
 

@@ -1,6 +1,7 @@
 /* Times blocks and lists: for scripts/bench/block_speed.py, which compiles it over the archive of one level. Prints for each packer, kind and call
    how many integers a second it works on: over 2,048 integers in the first cache, the harmonic mean over the widths 1 to 32, and of each width the
-   best of as many rounds as its argument says. A list of four lanes is packed, opened and unpacked whole, in place of its blocks. */
+   best of as many rounds as its argument says. A list of four lanes is packed, opened and unpacked whole, in place of its blocks. After `#` it says
+   what a list that grows costs. */
 #define _POSIX_C_SOURCE 199309L
 #include "bitpacking.h"
 
@@ -108,6 +109,42 @@ static void time_list(uint8_t kind, int rounds)
     printf("list\t%d\t%.9g\t%.9g\t%.9g\n", kind, widths * MOST / sums[0], widths * MOST / sums[1], widths * MOST / sums[2]);
 }
 
+/* A strictly sorted list of a million values with gaps to 16, and 1,000 more, or as many more by a list of their own: in microseconds, by append
+   and by join, and if all values are unpacked and packed again. */
+static void time_growth(int rounds)
+{
+    enum { MANY = 1000000, FEW = 1000 };
+    uint32_t *all = malloc(8 * MANY), *room = malloc(8 * MANY);
+    uint8_t *first = malloc(BITPACKING_LIST_ROOM(MANY)), *grown = malloc(BITPACKING_LIST_ROOM(2 * MANY));
+    bitpacking_list list = BITPACKING_LIST_EMPTY;
+    double least = 0, found[4];
+    size_t i, more;
+    ptrdiff_t size;
+
+    if (all == NULL || room == NULL || first == NULL || grown == NULL)
+        exit(EXIT_FAILURE);
+    for (i = 0; i < 2 * MANY; i++)
+        all[i] = (i > 0 ? all[i - 1] : 0) + 1 + number() % 16;
+    size = bitpacking_4x_list_pack(BITPACKING_LIST_NEWEST, BITPACKING_STRICTLY_SORTED, all, MANY, first, BITPACKING_LIST_ROOM(MANY), NULL);
+    if (bitpacking_list_open(first, (size_t)size, &list) != 0)
+        exit(EXIT_FAILURE);
+    for (i = 0; i < 4; i++) {
+        more = i < 2 ? FEW : MANY;
+        LEAST(rounds, MOST, at > 0 ? 0 : i == 0 ? bitpacking_list_append(&list, all + MANY, more, grown, BITPACKING_LIST_ROOM(2 * MANY), NULL)
+            : i == 2 ? bitpacking_list_join(&list, all[MANY - 1] + 1, &list, room, MANY, grown, BITPACKING_LIST_ROOM(2 * MANY), NULL)
+            : (bitpacking_list_unpack(&list, room, MANY), memcpy(room + MANY, all + MANY, 4 * more),
+               bitpacking_4x_list_pack(BITPACKING_LIST_NEWEST, BITPACKING_STRICTLY_SORTED, room, MANY + more, grown,
+                                       BITPACKING_LIST_ROOM(2 * MANY), NULL)));
+        found[i] = 1e6 * least;
+    }
+    printf("# 1,000 values: append %.0f, unpacked and packed %.0f; a million: join %.0f, unpacked and packed %.0f microseconds\n", found[0], found[1],
+           found[2], found[3]);
+    free(all);
+    free(room);
+    free(first);
+    free(grown);
+}
+
 #define BEFORE at == 0 ? BITPACKING_NO_INITIAL : values[at - 1],
 #define SORTED_BEFORE at == 0 ? 0 : values[at - 1],
 
@@ -127,5 +164,6 @@ int main(int count, char **words)
     time_list(BITPACKING_PLAIN, rounds);
     time_list(BITPACKING_SORTED, rounds);
     time_list(BITPACKING_STRICTLY_SORTED, rounds);
+    time_growth(rounds);
     return EXIT_SUCCESS;
 }
