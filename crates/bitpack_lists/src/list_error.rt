@@ -35,7 +35,8 @@ pub enum ListError {
     Trailing,
     /// The vector could not grow.
     Memory,
-    /// A number of version 3 is not written in its one form, or is too small or too large for its place.
+    /// A number of version 3 is not written in its one form, or is too small or too large for its place. Or two lists are joined, and a value
+    /// of the second is above `u32::MAX` with the base that is added.
     BadNumber,
     /// A bit is set after the last code of a group.
     Padding,

@@ -1,4 +1,4 @@
-//! The values of two opened lists, with a base added to those of the second, written as one list.
+//! Two opened lists written as one: the values of the first, and after them the values of the second with a base added to each.
 
 ghost use Rattle.std.specs.Prelude.{◌≡◌, ◌+◌, ◌*◌, ◌^◌, ◌<◌, ◌≤◌, ◌++◌, ℕ, List, true, false, length, take, slice_index, OnOk, OnErr, IfOk, IfErr, MatchOption, None, vec_len, vec_capacity};
 ghost use Rattle.bitpacking.specs.Bits.{AreBytes};
@@ -16,7 +16,7 @@ use crate::list_error::ListError;
 use bitpacking::BitPacker;
 
 impl<'a, P: BitPacker> PackedList<'a, P> {
-    /// Appends the newest text of the values of the list and, after them, of those of another list with `base` added to each.
+    /// Appends the newest text of the values of the list and, after them, the values of another list with `base` added to each.
     ///
     /// The bodies of the list's whole blocks are copied, as [`encode_more`] does. The values of the other list, which may be of another
     /// packer, kind and version, are unpacked into `room` and packed again. The vector grows once at most.
@@ -64,8 +64,8 @@ impl<'a, P: BitPacker> PackedList<'a, P> {
         self.encode_more(&room[..other.len()], out)
     }
 
-    /// Writes the newest text of the values of the list and of those of another list at the start of the slice, as [`encode_joined`] appends
-    /// it, and returns its length in bytes. Allocates nothing.
+    /// Writes the newest text of the values of both lists at the start of the slice, as [`encode_joined`] appends it, and returns its length
+    /// in bytes. Allocates nothing.
     ///
     /// A slice that is too short is refused with `Short`; then nothing is written. The bytes after the text stay as they were.
     ///
