@@ -1,4 +1,4 @@
-/* A packed list of version 2, written and read in place. */
+/* A packed list of version 2, written, opened and read. */
 #include "bitpacking.h"
 
 #include <stdio.h>

@@ -14,13 +14,13 @@
  * - Pointers are aligned for their type.
  * - The buffers that a call writes overlap none of its other arguments, no bytes of a view or a cursor, and no values of a builder.
  * - Nothing else writes to an argument during a call, and nothing reads what the call writes.
- * - The bytes of a list stay as they are while a view or a cursor of it is used: see bitpacking_list below.
+ * - The bytes of a list do not change while a view or a cursor of it is used: see bitpacking_list below.
  *
- * The functions take no memory and have no state: they may run on any threads at once.
+ * The functions allocate nothing and have no state: they may run on any threads at once.
  *
  * A block has BITPACKING_4X_BLOCK_LEN values for the functions bitpacking_4x_.., and so for 1x and 8x. Each of the three has
- * a format of its own. At the width num_bits a block takes BITPACKING_4X_BLOCK_SIZE(num_bits) bytes, at most 4 per value.
- * The bytes hold neither the width nor the kind nor the initial value of the block: the caller keeps them, and for a chain the
+ * a format of its own. At the width num_bits a block has BITPACKING_4X_BLOCK_SIZE(num_bits) bytes, at most 4 per value.
+ * The bytes hold neither the width nor the kind nor the initial value of the block: the caller stores them, and for a chain the
  * width of each block. A packed list holds all of these itself.
  *
  *     kind               what is packed                                        before the first value
@@ -28,9 +28,9 @@
  *     sorted             each value less the one before it, modulo 2^32        initial
  *     strictly_sorted    one less than that, modulo 2^32                       initial, or BITPACKING_NO_INITIAL for none
  *
- * A call that works returns a number of bytes, or a width, from 0 on. A call that does not returns one of the negative
- * numbers below, and has then written nothing: the buffers are as they were. Only list_pack, list_size, list_append, list_join
- * and list_builder_extend write at one error, the position of a value that is out of order.
+ * A call that works returns a number of bytes, or a width, from 0 on. A call that fails returns one of the negative numbers
+ * below, and writes nothing: the buffers are unchanged. Only list_pack, list_size, list_append, list_join and
+ * list_builder_extend write at one error, the position of a value that is out of order. Comments name an error without BITPACKING_.
  *
  *     uint32_t values[128], back[128];
  *     uint8_t bytes[BITPACKING_4X_BLOCK_SIZE(BITPACKING_MAX_WIDTH)], width;
@@ -49,10 +49,10 @@
 extern "C" {
 #endif
 
-/* The version of this header: 1000000 times the major number, 1000 times the minor one, and the number of the patch.
- * bitpacking_version() returns the one of the archive, which is the same if both are of one version. */
+/* The version of this header: 1000000 times the major number, 1000 times the minor one, and the number of the patch. */
 #define BITPACKING_VERSION 1000000
 
+/* Returns the version of the archive, which is BITPACKING_VERSION if both are of one version. */
 uint32_t bitpacking_version(void);
 
 /* The values of a block. */
@@ -72,36 +72,38 @@ uint32_t bitpacking_version(void);
 #define BITPACKING_MAX_BLOCK_LEN 256   /* the values of the longest block */
 #define BITPACKING_MAX_BLOCK_SIZE 1024 /* its bytes at the greatest width */
 
-/* The initial value of a strictly sorted block that may begin with 0. bitpacking_no_initial() returns the same number. */
+/* The initial value of a strictly sorted block that may begin with 0. */
 #define BITPACKING_NO_INITIAL UINT32_MAX
 
-/* Why a call on a block or a chain did not work. */
+/* Why a call on a block or a chain failed. */
 #define BITPACKING_BAD_LENGTH (-1) /* the values are not a block, or there is no room for one; or not as many as blocks of the widths */
 #define BITPACKING_BAD_WIDTH (-2)  /* a width is above BITPACKING_MAX_WIDTH */
 #define BITPACKING_SHORT (-3)      /* too few bytes, to write or to read */
 #define BITPACKING_UNFIT (-4)      /* a code of the block does not fit the width */
 
-/* Why bitpacking_list_gather did not work. */
+/* Why bitpacking_list_gather failed. */
 #define BITPACKING_BAD_POSITION (-5) /* a position is not in the list */
 
-/* Why bitpacking_list_bounds, bitpacking_list_block_last or bitpacking_list_read_block did not work. */
+/* Why bitpacking_list_bounds, bitpacking_list_block_last or bitpacking_list_read_block failed. */
 #define BITPACKING_BAD_BLOCK (-6) /* the list has no such block */
 
-/* Why bitpacking_list_get_wide or bitpacking_list_unpack_wide did not work. */
+/* Why bitpacking_list_get_wide or bitpacking_list_unpack_wide failed. */
 #define BITPACKING_BAD_BASE (-7) /* the base is above BITPACKING_MAX_BASE */
 
 /* The greatest base of values: with it, no value passes 64 bits. */
 #define BITPACKING_MAX_BASE (UINT64_MAX - UINT32_MAX)
 
+/* Returns BITPACKING_NO_INITIAL, for languages without macros. */
 uint32_t bitpacking_no_initial(void);
 
-/* The calls on blocks and chains: of each, one function for each packer and kind. The kinds sorted and strictly_sorted have the
- * initial value as their first argument. Bytes after the ones written, and values after the block, stay as they were. */
+/* The calls on blocks and chains: of each, one function for each packer and kind. In bitpacking_4x_pack_all_strictly_sorted the
+ * packer is 4x, the call pack_all, and the kind strictly_sorted. The kinds sorted and strictly_sorted have the initial value as
+ * their first argument, and plain is not named. Bytes after the ones written, and values after the block, are unchanged. */
 
-/* pack: packs a block at its least width, which goes into *num_bits. Returns the number of bytes written. Prefer it to num_bits and
+/* pack: packs a block at its least width, which it writes to *num_bits. Returns the number of bytes written. Prefer it to num_bits and
  * then compress: it is as fast as num_bits and then a compress that tests nothing.
- * BAD_LENGTH: decompressed_len is not the length of a block. SHORT: the bytes of the block do not fit compressed_len; 4 bytes per
- * value always do. *num_bits too is written only if the call works. */
+ * The first of: BAD_LENGTH: decompressed_len is not the length of a block; SHORT: the bytes of the block do not fit compressed_len; 4 bytes
+ * per value always do. *num_bits too is written only if the call works. */
 ptrdiff_t bitpacking_1x_pack(const uint32_t *decompressed, size_t decompressed_len,
                              uint8_t *compressed, size_t compressed_len, uint8_t *num_bits);
 ptrdiff_t bitpacking_1x_pack_sorted(uint32_t initial, const uint32_t *decompressed, size_t decompressed_len,
@@ -164,7 +166,7 @@ ptrdiff_t bitpacking_8x_decompress_sorted(uint32_t initial, const uint8_t *compr
 ptrdiff_t bitpacking_8x_decompress_strictly_sorted(uint32_t initial, const uint8_t *compressed, size_t compressed_len,
                                                    uint32_t *decompressed, size_t decompressed_len, uint8_t num_bits);
 
-/* num_bits: returns the least width of a block, from 0 to 32. BAD_LENGTH as for pack. */
+/* num_bits: returns the least width of a block, from 0 to 32. BAD_LENGTH: decompressed_len is not the length of a block. */
 ptrdiff_t bitpacking_1x_num_bits(const uint32_t *decompressed, size_t decompressed_len);
 ptrdiff_t bitpacking_1x_num_bits_sorted(uint32_t initial, const uint32_t *decompressed, size_t decompressed_len);
 ptrdiff_t bitpacking_1x_num_bits_strictly_sorted(uint32_t initial, const uint32_t *decompressed, size_t decompressed_len);
@@ -175,7 +177,7 @@ ptrdiff_t bitpacking_8x_num_bits(const uint32_t *decompressed, size_t decompress
 ptrdiff_t bitpacking_8x_num_bits_sorted(uint32_t initial, const uint32_t *decompressed, size_t decompressed_len);
 ptrdiff_t bitpacking_8x_num_bits_strictly_sorted(uint32_t initial, const uint32_t *decompressed, size_t decompressed_len);
 
-/* pack_all: packs a chain of widths_len blocks, each at its least width, which goes into widths. The first has the kind and the
+/* pack_all: packs a chain of widths_len blocks, each at its least width, which it writes to widths. The first has the kind and the
  * initial value of the call; each one after it has the last value of the block before as its initial value. Returns the number of
  * bytes written.
  * The first of: BAD_LENGTH: values_len is not that number of blocks; SHORT: out_len is below the bytes of the chain, which
@@ -201,9 +203,8 @@ ptrdiff_t bitpacking_8x_pack_all_strictly_sorted(uint32_t initial, const uint32_
 
 /* unpack_all: unpacks a chain with the kind, the initial value and the widths that it was packed with. Any bytes are accepted;
  * later ones are not read. Returns the number of bytes read.
- * BAD_WIDTH: one of the widths. SHORT: bytes_len is below the bytes of the blocks. BAD_LENGTH: values_len is below the values of the
- * blocks; it is tested last. If both other errors apply, either may be returned. Values after the blocks stay as they
- * were. */
+ * BAD_WIDTH: a width is above 32. SHORT: bytes_len is below the bytes of the blocks. BAD_LENGTH: values_len is below the values of the
+ * blocks; it is tested last. If both other errors apply, either may be returned. Values after the blocks are unchanged. */
 ptrdiff_t bitpacking_1x_unpack_all(const uint8_t *widths, size_t widths_len,
                                    const uint8_t *bytes, size_t bytes_len, uint32_t *values, size_t values_len);
 ptrdiff_t bitpacking_1x_unpack_all_sorted(uint32_t initial, const uint8_t *widths, size_t widths_len,
@@ -223,17 +224,17 @@ ptrdiff_t bitpacking_8x_unpack_all_sorted(uint32_t initial, const uint8_t *width
 ptrdiff_t bitpacking_8x_unpack_all_strictly_sorted(uint32_t initial, const uint8_t *widths, size_t widths_len,
                                                    const uint8_t *bytes, size_t bytes_len, uint32_t *values, size_t values_len);
 
-/* A packed list of version 2, 3 or 4, read in place: a text of a header, what is said of each whole block, the blocks, and the values after
- * them. docs/FORMAT.md of the repository has every byte.
+/* A view of a packed list of version 2, 3 or 4. It is zero-copy: it has a pointer to the bytes, and no memory of its own. The bytes are a
+ * header, a skip entry for each whole block, the blocks, and the values after them: docs/FORMAT.md of the repository describes each.
  *
- * A view is set to BITPACKING_LIST_EMPTY or bitpacking_list_empty() before anything else, or all of it to zero: each is the empty list.
- * Then it is opened, as often as one likes. It has a pointer to the bytes, and no memory of its own. The caller keeps the bytes where
- * they are, unchanged, for as long as the view or a copy of it is used. Only bitpacking_list_open may write its fields: later calls trust
- * what it found, which is in the view too, as they trust the bytes.
+ * Set a view to BITPACKING_LIST_EMPTY or bitpacking_list_empty() before anything else, or all of it to zero: each is the empty list.
+ * Then open it, as often as you like. The bytes stay where they are, unchanged, for as long as the view or a copy of it is used. Only
+ * bitpacking_list_open and bitpacking_list_open_tested may write its fields: later calls trust what opening found, such as the lengths of
+ * header and list, the kind and the start of the tail, as they trust the bytes.
  *
- * The library tests the bytes once, at opening. Later calls trust them. If the bytes change, a call may read or write outside its
- * buffers. Keep them in memory that nothing writes. Replace a file by renaming a new one, and never write into one that is mapped; a
- * mapped file that is cut ends the process with SIGBUS.
+ * The library tests the bytes once, at opening. If they change after that, a call may read or write outside its buffers. Use memory
+ * that nothing writes. Replace a file by renaming a new one, and never write into one that is mapped; a mapped file that is cut ends the
+ * process with SIGBUS.
  *
  *     bitpacking_list list = BITPACKING_LIST_EMPTY;
  *     uint32_t value;
@@ -272,7 +273,7 @@ typedef struct bitpacking_list {
 /* Room that is enough for every list of values_len values, in bytes: of each packer, version and kind. */
 #define BITPACKING_LIST_ROOM(values_len) (7 + 4 * sizeof(uint8_t) * (values_len) + 9 * sizeof(uint8_t) * ((values_len) / 32))
 
-/* A view that is the empty list, for an assignment. */
+/* Returns a view of the empty list, for an assignment. */
 static inline bitpacking_list bitpacking_list_empty(void)
 {
     bitpacking_list list = BITPACKING_LIST_EMPTY;
@@ -280,16 +281,16 @@ static inline bitpacking_list bitpacking_list_empty(void)
     return list;
 }
 
-/* Opens a text of version 2, 3 or 4, of the packer that it names. Accepts any bytes, and tests all of them. Returns 0; or the first of the
- * faults below, in the order of docs/FORMAT.md, and then the view is as it was. */
+/* Opens a list of version 2, 3 or 4, of any packer. Accepts any bytes, and tests all of them: they may be untrusted. Returns 0; or the first
+ * of the faults below, in the order of docs/FORMAT.md, and then the view is unchanged. */
 ptrdiff_t bitpacking_list_open(const uint8_t *bytes, size_t bytes_len, bitpacking_list *view);
 
-/* Opens bytes that bitpacking_list_open accepted before, and that did not change since. It does not test them again: it reads the header, and
- * the last of what is said of the blocks. Other bytes may make this call or a later one read or write outside its buffers. */
+/* Opens bytes that bitpacking_list_open accepted before, and that did not change since. It does not test them again: it reads the header
+ * and the last skip entry. With other bytes this call or a later one may read or write outside its buffers. */
 void bitpacking_list_open_tested(const uint8_t *bytes, size_t bytes_len, bitpacking_list *view);
 
-/* A view of the empty strictly sorted list, in place of a list that is not there: a query with it has no error, as it has with
- * BITPACKING_LIST_EMPTY, which is plain. */
+/* Returns a view of the empty strictly sorted list, for a word without a list. A query with it has no error. With
+ * BITPACKING_LIST_EMPTY, which is plain, it has one. */
 static inline bitpacking_list bitpacking_list_none(void)
 {
     static const uint8_t bytes[] = {0xA0};
@@ -300,7 +301,7 @@ static inline bitpacking_list bitpacking_list_none(void)
 }
 
 #define BITPACKING_LIST_SHORT (-21)       /* bytes are missing */
-#define BITPACKING_LIST_BAD_VERSION (-22) /* the text is of another version */
+#define BITPACKING_LIST_BAD_VERSION (-22) /* the list is of another version */
 #define BITPACKING_LIST_BAD_KIND (-23)    /* the kind is none; in a search or a set call: the list is plain, and has no order */
 #define BITPACKING_LIST_WRONG_LANES (-24) /* the lanes are of no packer */
 #define BITPACKING_LIST_TOO_LONG (-25)    /* more than 268,435,456 values */
@@ -310,7 +311,7 @@ static inline bitpacking_list bitpacking_list_none(void)
 #define BITPACKING_LIST_BAD_LAST (-29)    /* a last value, or of version 4 a least value, is not its block's */
 #define BITPACKING_LIST_NOT_SORTED (-30)  /* the values are not in the order of the kind, or in an array do not increase */
 #define BITPACKING_LIST_TRAILING (-31)    /* bytes are left over */
-#define BITPACKING_LIST_BAD_NUMBER (-33)  /* from version 3 on: a number is not as it has to be */
+#define BITPACKING_LIST_BAD_NUMBER (-33)  /* from version 3 on: a varint is not in its only form, or out of range */
 #define BITPACKING_LIST_PADDING (-34)     /* from version 3 on: a bit after the codes of a group is set */
 #define BITPACKING_LIST_BAD_SIZES (-36)   /* of version 4: the ends or the marks do not have the least count of bytes */
 #define BITPACKING_LIST_BAD_BITS (-37)    /* of version 4: a set of bits is not the one of its block */
@@ -318,62 +319,62 @@ static inline bitpacking_list bitpacking_list_none(void)
 /* No block or no position: what bitpacking_list_fault writes then. */
 #define BITPACKING_NOWHERE SIZE_MAX
 
-/* Where the first fault of bytes lies. Tests the bytes as bitpacking_list_open does, and returns the same: 0, and then nothing is written;
- * or the number of the first fault, and then *block and *position are both written, for
+/* Finds the first fault of bytes. Tests them as bitpacking_list_open does, and returns the same: 0, and then nothing is written; or the
+ * number of the first fault, and then *block and *position are both written, for
  *
  *     LIST_BAD_WIDTH, _LOOSE_WIDTH, _BAD_OFFSET, _BAD_LAST, _BAD_BITS   *block is the number of the block with the fault
  *     LIST_NOT_SORTED                                                  *position is the position of the first value out of order, and
  *                                                                      *block its block; after the whole blocks, their count
  *     all others                                                       neither is known
  *
- * What is not known is BITPACKING_NOWHERE. The index of a byte is never told. For LIST_SHORT the first byte that is missing is after the
- * last one. */
+ * What is not known is BITPACKING_NOWHERE. The call writes no offset of a byte: docs/FORMAT.md says where each block's skip entry is. For
+ * LIST_SHORT the first byte that is missing is after the last one. */
 ptrdiff_t bitpacking_list_fault(const uint8_t *bytes, size_t bytes_len, size_t *block, size_t *position);
 
-/* How many values an opened list has. */
+/* Returns how many values an opened list has. */
 size_t bitpacking_list_len(const bitpacking_list *view);
 
-/* The kind of an opened list: BITPACKING_PLAIN, BITPACKING_SORTED or BITPACKING_STRICTLY_SORTED. */
+/* Returns the kind of an opened list: BITPACKING_PLAIN, BITPACKING_SORTED or BITPACKING_STRICTLY_SORTED. */
 uint8_t bitpacking_list_kind(const bitpacking_list *view);
 
 /* Writes the value at a position, from 0 on, and returns 1. If there is no such position it returns 0 and writes nothing. It unpacks
- * one block at most. */
+ * at most one block. */
 int32_t bitpacking_list_get(const bitpacking_list *view, size_t position, uint32_t *item);
 
-/* Unpacks the whole list into values, and returns the number of values. If there is no room for them it returns BITPACKING_SHORT and
- * writes nothing. Values after the list stay as they were. Each block is unpacked once. */
+/* Unpacks the whole list into values, and returns the number of values. Values after the list are unchanged. Each block is unpacked once.
+ * SHORT: values_len is below the length of the list. */
 ptrdiff_t bitpacking_list_unpack(const bitpacking_list *view, uint32_t *values, size_t values_len);
 
-/* Numbers of 64 bits that are a base and a value, such as places in a large corpus, or times. As bitpacking_list_get and
- * bitpacking_list_unpack, but they write base + value in place of each value.
+/* Write base + value, in 64 bits, for ids above 2^32, offsets in a large corpus, or times. Otherwise they do what bitpacking_list_get and
+ * bitpacking_list_unpack do, and have the same errors.
  * BAD_BASE: the base is above BITPACKING_MAX_BASE, whatever the values are. It is tested first, and nothing is written then. In an `if`, it
- * is true: compare the answer of get_wide with `== 1`. */
+ * is true: compare the result of get_wide with `== 1`. */
 int32_t bitpacking_list_get_wide(const bitpacking_list *view, uint64_t base, size_t position, uint64_t *item);
 ptrdiff_t bitpacking_list_unpack_wide(const bitpacking_list *view, uint64_t base, uint64_t *values, size_t values_len);
 
 /* Unpacks the values from position `from` on, as many as there are and as fit, and returns how many these are: 0 from the length on. Values
- * after them stay as they were. Each block that has one of them is unpacked once, and no other. */
+ * after them are unchanged. Each block that has one of them is unpacked once, and no other. */
 ptrdiff_t bitpacking_list_range(const bitpacking_list *view, size_t from, uint32_t *values, size_t values_len);
 
 /* Writes the value at each position to the same index of values, and returns their number, positions_len. The positions may be in any order,
- * and one may come twice. Values after them stay as they were. A block is unpacked once for each run of positions that are in it, so that
+ * and one may come twice. Values after them are unchanged. A block is unpacked once for each run of positions that are in it, so that
  * increasing positions unpack each block at most once.
  * The first of: SHORT: values_len is below positions_len; BAD_POSITION: one of the positions is not in the list. */
 ptrdiff_t bitpacking_list_gather(const bitpacking_list *view, const size_t *positions, size_t positions_len,
                                  uint32_t *values, size_t values_len);
 
-/* Searches a sorted or strictly sorted list for the first value that is at least target. Writes its position, the value, and
+/* Searches a sorted or strictly sorted list for the first value that is at least target. Writes its position and the value, and
  * returns 1. If every value is below the target it returns 0, and for a plain list BITPACKING_LIST_BAD_KIND; then nothing is
- * written. Compare the answer with `== 1`: in an `if`, BITPACKING_LIST_BAD_KIND is true as well. The call unpacks at most one block. It
- * reads at most as many entries as the count of whole blocks has binary digits. */
+ * written. Compare the result with `== 1`: in an `if`, BITPACKING_LIST_BAD_KIND is true as well. The call unpacks at most one block. It
+ * reads at most as many skip entries as the count of whole blocks has binary digits. */
 int32_t bitpacking_list_seek(const bitpacking_list *view, uint32_t target, size_t *position, uint32_t *item);
 
-/* How many values of a list of any kind are from low to high, both included. A block is unpacked at most once, and only if its bounds do
- * not tell: of a sorted or strictly sorted list at most two blocks. */
+/* Returns how many values of a list of any kind are from low to high, both included. A block is unpacked at most once, and only if its
+ * bounds do not tell: of a sorted or strictly sorted list at most two blocks. */
 size_t bitpacking_list_count_between(const bitpacking_list *view, uint32_t low, uint32_t high);
 
 /* Writes the positions of the values from low to high, both included, in increasing order: from position `from` on, as many as fit. Returns
- * how many it wrote. Positions after them stay as they were. It unpacks no more blocks than bitpacking_list_count_between, and none if
+ * how many it wrote. Positions after them are unchanged. It unpacks no more blocks than bitpacking_list_count_between, and none if
  * positions_len is 0. If it fills the array, there may be more: go on from the position after the last.
  *
  *     size_t found[64], count, from = 0;
@@ -388,50 +389,50 @@ size_t bitpacking_list_between(const bitpacking_list *view, uint32_t low, uint32
 
 /* Writes bounds of the values of a whole block, and returns 0: no value of the block is below *least, or above *greatest. Blocks are
  * counted from 0 on. The values after the last whole block have no bounds. It unpacks nothing.
- * In a plain list *greatest is what the width of the block allows. *least is 0 in version 2 or 3, and in version 4 the least value of the
- * block, above which *greatest is then as much as the width allows. In other lists *greatest is the last value of the block, and *least the
+ * In a plain list *least is 0 in version 2 or 3, and in version 4 the least value of the block; *greatest is *least plus the greatest
+ * number of the block's width, and at most UINT32_MAX. In other lists *greatest is the last value of the block, and *least the
  * value before the block, or one more in a strictly sorted list; of the first block it is 0.
  * BAD_BLOCK: the list has no whole block of this number. Nothing is written then. */
 ptrdiff_t bitpacking_list_bounds(const bitpacking_list *view, size_t block, uint32_t *least, uint32_t *greatest);
 
-/* The blocks of a list, for a caller who keeps something of his own for each, such as its greatest score: it finds the blocks that can have
- * a target, leaves out those that cannot win, and unpacks the others. Whole blocks are counted from 0 on. What is left after them is a
- * shorter block, whose number is their count; it may have no value. Block b begins at position b * bitpacking_list_block_len(view).
+/* The blocks of a list, for a caller who stores something for each, such as its greatest score: find the blocks that can have a target, skip
+ * those that cannot win, and unpack the others. Whole blocks are counted from 0 on. What is left after them is a shorter block, whose
+ * number is their count; it may have no value. Block b begins at position b * bitpacking_list_block_len(view).
  *
  *     uint32_t values[BITPACKING_MAX_BLOCK_LEN];
  *     ptrdiff_t block = bitpacking_list_find_block(&list, 0, target);
  *     if (block >= 0 && is_worth_it(block)) len = bitpacking_list_read_block(&list, (size_t)block, values, BITPACKING_MAX_BLOCK_LEN);
  */
 
-/* How many values a whole block of the list has: the length of a block of its packer. For BITPACKING_LIST_EMPTY it is 0. */
+/* Returns how many values a whole block of the list has: the length of a block of its packer. For BITPACKING_LIST_EMPTY it is 0. */
 size_t bitpacking_list_block_len(const bitpacking_list *view);
 
-/* How many whole blocks the list has. */
+/* Returns how many whole blocks the list has. */
 size_t bitpacking_list_block_count(const bitpacking_list *view);
 
-/* Writes the last value of a whole block of a sorted or strictly sorted list, and returns 0. It reads one entry, and unpacks nothing.
+/* Writes the last value of a whole block of a sorted or strictly sorted list, and returns 0. It reads one skip entry, and unpacks nothing.
  * The first of: LIST_BAD_KIND: the list is plain, and has no order; BAD_BLOCK. Nothing is written then. */
 ptrdiff_t bitpacking_list_block_last(const bitpacking_list *view, size_t block, uint32_t *item);
 
 /* Returns the number of the first whole block, from block `from` on, whose last value is at least target, in a sorted or strictly sorted
- * list. If there is none it returns the count of whole blocks: only what is left after them can then have such a value. It tries the
- * nearest blocks first: to block j from block i it reads at most 2k + 2 entries if j - i + 1 is at most 2^k. It unpacks nothing.
+ * list. If there is none it returns the count of whole blocks: only what is left after them can then have such a value. It
+ * gallops: to block j from block i it reads at most 2k + 2 skip entries if j - i + 1 is at most 2^k. It unpacks nothing.
  * LIST_BAD_KIND: the list is plain, and has no order. */
 ptrdiff_t bitpacking_list_find_block(const bitpacking_list *view, size_t from, uint32_t target);
 
-/* Unpacks a block of a list of any kind into values, and returns how many values it has. Values after them stay as they were. It unpacks
- * one block at most. BITPACKING_MAX_BLOCK_LEN values are always room enough.
+/* Unpacks a block of a list of any kind into values, and returns how many values it has. Values after them are unchanged. It unpacks at
+ * most one block. BITPACKING_MAX_BLOCK_LEN values are always enough room.
  * The first of: BAD_BLOCK: the number is above the count of whole blocks; SHORT: values_len is below the number of values of the block.
  * Nothing is written then. */
 ptrdiff_t bitpacking_list_read_block(const bitpacking_list *view, size_t block, uint32_t *values, size_t values_len);
 
-/* A place in an opened list. It has the values of the block at hand, and no memory of its own. Only bitpacking_cursor_move_to can move it
- * back.
+/* A position in an opened list that moves, with the values of the current block: about 1 KB. It has no memory of its own. Only
+ * bitpacking_cursor_move_to can move it back.
  *
- * All of a cursor is set to zero before anything else: it is then at the end of an empty list. bitpacking_cursor_start sets it to the first
- * value of a view, as often as one likes. The caller keeps the bytes of the list where they are, unchanged, for as long as the cursor is
- * used; the view may go. A cursor may be copied, and the copy moves on its own. Only the functions below may write its fields. Each of them
- * unpacks at most one block, and none if the cursor stays in its block: however it moves forward, a cursor unpacks each block at most once.
+ * Set all of a cursor to zero before anything else: it is then at the end of an empty list. bitpacking_cursor_start sets it to the first
+ * value of a view, as often as you like. The bytes of the list stay where they are, unchanged, for as long as the cursor is used; the view
+ * may go. A cursor may be copied, and the copy moves on its own. Only the functions below may write its fields. Each of them unpacks at
+ * most one block, and none if the cursor stays in its block: however it moves forward, a cursor unpacks each block at most once.
  *
  *     bitpacking_cursor cursor = {0};
  *     uint32_t value;
@@ -452,22 +453,22 @@ void bitpacking_cursor_start(bitpacking_cursor *cursor, const bitpacking_list *v
 /* Writes the value at a cursor, and returns 1. After the last value it returns 0 and writes nothing. */
 int32_t bitpacking_cursor_value(const bitpacking_cursor *cursor, uint32_t *item);
 
-/* How many values are before a cursor. */
+/* Returns how many values are before a cursor. */
 size_t bitpacking_cursor_position(const bitpacking_cursor *cursor);
 
-/* Moves to the next value. Returns 1 if there is a value at the new place, and else 0. After the last value it stays. */
+/* Moves to the next value. Returns 1 if there is one, and else 0. After the last value it stays. */
 int32_t bitpacking_cursor_advance(bitpacking_cursor *cursor);
 
-/* Moves a cursor of a sorted or strictly sorted list to the first value from its place on that is at least target, and returns 1. If there
- * is none it moves to the end and returns 0. In a plain list it stays, and returns BITPACKING_LIST_BAD_KIND, which is true in an `if`:
- * compare the answer with `== 1`. */
+/* Moves a cursor of a sorted or strictly sorted list to the first value from its position on that is at least target, and returns 1. If
+ * there is none it moves to the end and returns 0. In a plain list it stays, and returns BITPACKING_LIST_BAD_KIND, which is true in an
+ * `if`: compare the result with `== 1`. */
 int32_t bitpacking_cursor_seek(bitpacking_cursor *cursor, uint32_t target);
 
 /* Moves a cursor of a list of any kind to a position, forward or back, and returns 1. If the list has no such position it moves to the end
  * and returns 0. */
 int32_t bitpacking_cursor_move_to(bitpacking_cursor *cursor, size_t to);
 
-/* Points *values at the values from here to the end of the block at hand, and returns how many these are: 0 only after the last value.
+/* Points *values at the values from here to the end of the current block, and returns how many these are: 0 only after the last value.
  * They are in the cursor, and stay until it moves. Neither pointer may be NULL. */
 static inline size_t bitpacking_cursor_block(const bitpacking_cursor *cursor, const uint32_t **values)
 {
@@ -480,8 +481,8 @@ void bitpacking_cursor_skip_block(bitpacking_cursor *cursor);
 
 /* The inline forms of bitpacking_cursor_value, _position, _advance and _seek. They do what the functions of the archive do, and call these
  * to move to another block. A call of one of the four names is a call of its inline form, unless BITPACKING_NO_INLINE is defined before
- * this header is included; (bitpacking_cursor_value)(..) always calls the archive. What the archive does is proved. These forms are tested,
- * not proved: they trust that only the functions for cursors wrote the fields. */
+ * this header is included; (bitpacking_cursor_value)(..) always calls the archive. seek calls it to move further than eight values too. What
+ * the archive does is proved. These forms are tested, not proved: they trust that only the functions for cursors wrote the fields. */
 static inline int32_t bitpacking_cursor_value_inline(const bitpacking_cursor *cursor, uint32_t *item)
 {
     if (cursor->index >= cursor->len)
@@ -524,11 +525,11 @@ static inline int32_t bitpacking_cursor_seek_inline(bitpacking_cursor *cursor, u
 #define bitpacking_cursor_seek(cursor, target) bitpacking_cursor_seek_inline(cursor, target)
 #endif
 
-/* list_pack: writes a packed list of the values at the start of bytes, and returns its number of bytes. Bytes after those stay as they
- * were. version is BITPACKING_LIST_VERSION_2, _3 or _4, and kind is BITPACKING_PLAIN, _SORTED or _STRICTLY_SORTED.
+/* list_pack: writes a packed list of the values at the start of bytes, and returns its number of bytes. Bytes after those are
+ * unchanged. version is BITPACKING_LIST_VERSION_2, _3 or _4, and kind is BITPACKING_PLAIN, _SORTED or _STRICTLY_SORTED.
  * The first of: LIST_BAD_VERSION; LIST_BAD_KIND; LIST_TOO_LONG; LIST_NOT_SORTED, and then *position is the position of the first value
  * out of order, unless position is NULL; SHORT: bytes_len is below the number of bytes of the list, which BITPACKING_LIST_ROOM(values_len)
- * never is. Nothing else is written then, and *position only if the answer is LIST_NOT_SORTED. */
+ * never is. Nothing else is written then, and *position only if the result is LIST_NOT_SORTED. */
 ptrdiff_t bitpacking_1x_list_pack(uint8_t version, uint8_t kind, const uint32_t *values, size_t values_len,
                                   uint8_t *bytes, size_t bytes_len, size_t *position);
 ptrdiff_t bitpacking_4x_list_pack(uint8_t version, uint8_t kind, const uint32_t *values, size_t values_len,
@@ -542,9 +543,9 @@ ptrdiff_t bitpacking_1x_list_size(uint8_t version, uint8_t kind, const uint32_t 
 ptrdiff_t bitpacking_4x_list_size(uint8_t version, uint8_t kind, const uint32_t *values, size_t values_len, size_t *position);
 ptrdiff_t bitpacking_8x_list_size(uint8_t version, uint8_t kind, const uint32_t *values, size_t values_len, size_t *position);
 
-/* The inline forms of list_pack and list_size, whose position may be NULL; list_append and list_join below have them too. A call of one of these names is a call of its inline form,
- * unless BITPACKING_NO_INLINE is defined before this header is included. The functions of the archive need a position: pointers to
- * functions and other languages call these, and so does (bitpacking_4x_list_pack)(..). */
+/* The inline forms of list_pack and list_size, whose position may be NULL; list_append and list_join below have them too. A call of one of these
+ * names is a call of its inline form, unless BITPACKING_NO_INLINE is defined before this header is included. The functions of the archive require a
+ * position: pointers to functions and other languages call these, and so does (bitpacking_4x_list_pack)(..). */
 static inline ptrdiff_t bitpacking_1x_list_pack_inline(uint8_t version, uint8_t kind, const uint32_t *values, size_t values_len,
                                                        uint8_t *bytes, size_t bytes_len, size_t *position)
 {
@@ -602,12 +603,12 @@ static inline ptrdiff_t bitpacking_8x_list_size_inline(uint8_t version, uint8_t 
 #define bitpacking_8x_list_size(...) bitpacking_8x_list_size_inline(__VA_ARGS__)
 #endif
 
-/* A builder takes the values of a list one by one, or a part at a time, and then writes the list. It keeps the values in a buffer of the caller,
- * since the bytes of a list begin with their number: 4 bytes for each value, in values.
+/* A builder collects the values of a list one by one, or a part at a time, and then writes the list. It stores the values in a buffer of the
+ * caller, since the bytes of a list begin with their number: 4 bytes for each value, in values.
  *
- * A builder is set to zero before anything else: it then refuses each value and each list. Then it is started, as often as one likes. Only the
- * functions for builders may write its fields, and nothing else may write the buffer while the builder is used. Of a builder and its copy only
- * one is used.
+ * Set a builder to zero before anything else: it then refuses each value and each list. Then start it, as often as you like. Only the
+ * functions for builders may write its fields, and nothing else may write the buffer while the builder is used. Use a builder or its copy,
+ * not both.
  *
  *     uint32_t room[1000];
  *     uint8_t bytes[BITPACKING_LIST_ROOM(1000)];
@@ -627,25 +628,25 @@ typedef struct bitpacking_list_builder {
 } bitpacking_list_builder;
 
 /* Starts a builder of a list without values, which has room for values_len values. lanes is 1, 4 or 8: the list is packed as by
- * bitpacking_1x_list_pack, bitpacking_4x_list_pack or bitpacking_8x_list_pack, whose version and kind it takes. Returns 0; or the
- * first of LIST_BAD_VERSION, LIST_BAD_KIND and LIST_WRONG_LANES, and then the builder is as it was. */
+ * bitpacking_1x_list_pack, bitpacking_4x_list_pack or bitpacking_8x_list_pack, with this version and kind. Returns 0; or the
+ * first of LIST_BAD_VERSION, LIST_BAD_KIND and LIST_WRONG_LANES, and then the builder is unchanged. */
 ptrdiff_t bitpacking_list_builder_start(bitpacking_list_builder *builder, uint8_t version, uint8_t lanes, uint8_t kind,
                                         uint32_t *values, size_t values_len);
 
 /* Pushes a value, and returns how many values there are then. The first of: LIST_TOO_LONG, if there are 268,435,456 values; LIST_NOT_SORTED,
- * if the value is out of order after the last one; SHORT, if the buffer is full. Then the builder is as it was. */
+ * if the value is out of order after the last one; SHORT, if the buffer is full. Then the builder is unchanged. */
 ptrdiff_t bitpacking_list_builder_push(bitpacking_list_builder *builder, uint32_t value);
 
 /* Pushes all of these values, or none, and returns how many values there are then. It has the errors of bitpacking_list_builder_push. At
  * LIST_NOT_SORTED *position is the position in the list of the first value out of order, counted from the first value of the builder. */
 ptrdiff_t bitpacking_list_builder_extend(bitpacking_list_builder *builder, const uint32_t *values, size_t values_len, size_t *position);
 
-/* How many values were pushed since the builder was started. */
+/* Returns how many values were pushed since the builder was started. */
 size_t bitpacking_list_builder_len(const bitpacking_list_builder *builder);
 
-/* Writes the list at the start of bytes, as list_pack does, and returns its number of bytes. Bytes after those stay as they were. SHORT:
+/* Writes the list at the start of bytes, as list_pack does, and returns its number of bytes. Bytes after those are unchanged. SHORT:
  * bytes_len is below the number of bytes of the list, which BITPACKING_LIST_ROOM(values) never is; LIST_BAD_VERSION: the builder was not
- * started. Nothing is written then. The builder keeps its values: more can be pushed. */
+ * started. Nothing is written then. The builder retains its values: more can be pushed. */
 ptrdiff_t bitpacking_list_builder_finish(const bitpacking_list_builder *builder, uint8_t *bytes, size_t bytes_len);
 
 /* Writes the list of a view and more values after it as one list, at the start of bytes, and returns its number of bytes: what
@@ -654,7 +655,7 @@ ptrdiff_t bitpacking_list_builder_finish(const bitpacking_list_builder *builder,
  *
  * The first of: LIST_WRONG_LANES, if the view was not opened; LIST_BAD_VERSION, if the list is of version 2 or 3 and has a whole block: unpack
  * it, and pack all values; LIST_TOO_LONG, if all values are more than 268,435,456; LIST_NOT_SORTED, and then *position is the position of the
- * first value out of order, counted from the first value of the list, unless position is NULL; SHORT, which a bytes_len of
+ * first value out of order, counted from the first value of the list, unless position is NULL; SHORT: bytes_len is below the number of bytes of the list, which
  * BITPACKING_LIST_ROOM(all values) never is. Nothing is written then, and bytes after the list are unchanged. */
 ptrdiff_t bitpacking_list_append(const bitpacking_list *view, const uint32_t *values, size_t values_len,
                                  uint8_t *bytes, size_t bytes_len, size_t *position);
@@ -668,6 +669,7 @@ ptrdiff_t bitpacking_list_append(const bitpacking_list *view, const uint32_t *va
 ptrdiff_t bitpacking_list_join(const bitpacking_list *view, uint32_t base, const bitpacking_list *other, uint32_t *room, size_t room_len,
                                uint8_t *bytes, size_t bytes_len, size_t *position);
 
+/* The inline forms of bitpacking_list_append and bitpacking_list_join, whose position may be NULL. */
 static inline ptrdiff_t bitpacking_list_append_inline(const bitpacking_list *view, const uint32_t *values, size_t values_len,
                                                       uint8_t *bytes, size_t bytes_len, size_t *position)
 {
@@ -689,7 +691,7 @@ static inline ptrdiff_t bitpacking_list_join_inline(const bitpacking_list *view,
 #define bitpacking_list_join(...) bitpacking_list_join_inline(__VA_ARGS__)
 #endif
 
-/* What a negative number means, in a sentence. The text is a constant. Other numbers have a text of their own. */
+/* Returns what a negative number means: a sentence, which is a constant. Other numbers have a sentence of their own. */
 static inline const char *bitpacking_error_text(ptrdiff_t number)
 {
     switch (number) {
@@ -730,7 +732,7 @@ static inline const char *bitpacking_error_text(ptrdiff_t number)
     case BITPACKING_LIST_TRAILING:
         return "Bytes are left over after the list.";
     case BITPACKING_LIST_BAD_NUMBER:
-        return "A number in the list does not have its only form.";
+        return "A varint in the list does not have its only form.";
     case BITPACKING_LIST_PADDING:
         return "A bit after the codes of a group is set.";
     case BITPACKING_LIST_BAD_SIZES:
@@ -742,41 +744,41 @@ static inline const char *bitpacking_error_text(ptrdiff_t number)
     }
 }
 
-/* The values of any number of views, of any packers and versions, each value once and in increasing order. They go to the front of
- * out, and their number is returned; without views it is 0. A view may stand twice among the views. The lists have to be sorted or
- * strictly sorted.
+/* Calls that combine any number of views, of any packers and versions. They write each value once and in increasing order to the front of
+ * out, and return the number of values; without views it is 0. A view may be there twice. The lists have to be sorted or strictly sorted.
  *
- * BITPACKING_LIST_BAD_KIND: one of the lists is plain. A view that is BITPACKING_LIST_EMPTY or all zero is plain too.
- * BITPACKING_SHORT: there is less room than is always enough, even if the values themselves would fit.
- * Then nothing is written. Else any value of out may have changed, as out is also the work space: keep nothing there. */
+ * LIST_BAD_KIND: one of the lists is plain. A view that is BITPACKING_LIST_EMPTY or all zero is plain too.
+ * SHORT: there is less room than is always enough, even if the values themselves would fit.
+ * Then nothing is written. Else any value of out may have changed, as out is also the work space: store nothing else there. */
 
-/* The values that all lists have. Room that is always enough: the length of the shortest list. */
+/* Writes the values that all lists have. Room that is always enough: the length of the shortest list. */
 ptrdiff_t bitpacking_list_intersect(const bitpacking_list *views, size_t views_len, uint32_t *out, size_t out_len);
 
-/* The values that any list has. Room that is always enough: the sum of the lengths. A few lists are merged in turn, which is fastest if the
- * longest is last; the values of many are sorted; dense ones set bits in windows of numbers. */
+/* Writes the values that any list has. Room that is always enough: the sum of the lengths. It merges a few lists in turn, and moves the
+ * values found so far for each: pass the shorter lists first. It sorts the values of many, so that its time is never quadratic, and sets a
+ * bit for each value of dense ones, in windows of 65,536 numbers: 8 KB of stack. */
 ptrdiff_t bitpacking_list_unite(const bitpacking_list *views, size_t views_len, uint32_t *out, size_t out_len);
 
-/* The values of the first list that no other has. Room that is always enough: the length of the first list. */
+/* Writes the values of the first list that no other has. Room that is always enough: the length of the first list. */
 ptrdiff_t bitpacking_list_subtract(const bitpacking_list *views, size_t views_len, uint32_t *out, size_t out_len);
 
-/* How many values the first two calls return for the same views, without room for the values: each is counted once, and without views the
- * answer is 0. Neither allocates memory.
+/* Calls that return how many values the first two of these calls write for the same views, without room for the values: each is counted
+ * once, and without views the result is 0.
  *
- * BITPACKING_LIST_BAD_KIND: one of the lists is plain. A view that is BITPACKING_LIST_EMPTY or all zero is plain too. */
+ * LIST_BAD_KIND: one of the lists is plain. A view that is BITPACKING_LIST_EMPTY or all zero is plain too. */
 
-/* How many values all lists have. It joins the shortest list and another by words if both are dense, strictly sorted and of version 4, and
- * otherwise seeks the values of the shortest list in the others, 1,024 at a time: about 6 KB of stack. */
+/* Returns how many values all lists have. It joins the shortest list and another by words if both are dense, strictly sorted and of version 4.
+ * Otherwise it seeks the values of the shortest list in the others, 1,024 at a time: about 6 KB of stack. */
 ptrdiff_t bitpacking_list_count_common(const bitpacking_list *views, size_t views_len);
 
-/* How many values any list has. It counts values of dense lists in windows of 65,536 numbers, two lists by what both have, and others in
- * rounds of about 10,752 values: about 60 KB of stack. Each round starts each list again: for thousands of short lists it takes longer than
+/* Returns how many values any list has. It counts values of dense lists in windows of 65,536 numbers, two lists by what both have, and others in
+ * rounds of about 10,752 values: about 60 KB of stack. Each round starts each list again: for thousands of short lists it is slower than
  * bitpacking_list_unite. */
 ptrdiff_t bitpacking_list_count_any(const bitpacking_list *views, size_t views_len);
 
-/* A list combined with the values of an array, in the array: so an answer is combined further without packing it. The values are strictly
- * increasing, which each call tests; those that are left are at the front, strictly increasing, and their number is returned. The list has to
- * be sorted or strictly sorted.
+/* Calls that combine a list with the values of an array, in the array: so the result of another call is combined further without packing it.
+ * The values are strictly increasing, which each call tests; those that are left are at the front, strictly increasing, and their number is
+ * returned. The list has to be sorted or strictly sorted.
  *
  *     ptrdiff_t count = bitpacking_list_intersect(words, 2, ids, ids_len);
  *     if (count >= 0) count = bitpacking_list_remove(&deleted, ids, (size_t)count);
@@ -785,13 +787,14 @@ ptrdiff_t bitpacking_list_count_any(const bitpacking_list *views, size_t views_l
  * BITPACKING_LIST_EMPTY or all zero; SHORT, of list_add alone: values_len is below the sum of count and the length of the list, even if the
  * values themselves would fit. Then nothing is written. Else values after those that are counted may have changed: they are work space. */
 
-/* Keeps the values that the list has too. */
+/* Retains the values that the list has too. */
 ptrdiff_t bitpacking_list_retain(const bitpacking_list *view, uint32_t *values, size_t values_len);
 
-/* Keeps the values that the list lacks. */
+/* Retains the values that the list lacks. */
 ptrdiff_t bitpacking_list_remove(const bitpacking_list *view, uint32_t *values, size_t values_len);
 
-/* Adds the values of the list to the first `count` values, each once. The values after these are room. */
+/* Adds the values of the list to the first `count` values, each once. The values after these are room: values_len is at least the sum of
+ * count and the length of the list. */
 ptrdiff_t bitpacking_list_add(const bitpacking_list *view, size_t count, uint32_t *values, size_t values_len);
 
 #ifdef __cplusplus

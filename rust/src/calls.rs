@@ -29,7 +29,7 @@ pub(crate) struct Level {
     pub(crate) lists: Lists,
 }
 
-/// What a function answers: a count, or why it wrote nothing.
+/// What a function returns: a count, or why it wrote nothing.
 pub(crate) type Answer = Result<usize, Fault>;
 
 /// Why a function wrote nothing, by its number.
@@ -51,7 +51,7 @@ fn answer(number: isize) -> Answer {
     }
 }
 
-// The functions ask for what slices are: pointers to as many items as the lengths say, no buffer that is written and shared at
+// The functions require what slices are: pointers to as many items as the lengths say, no buffer that is written and shared at
 // once. All else they test. So each call below is sound for any arguments.
 
 /// A struct of functions for one kind of a packer, and the calls of them. A kind with an initial value has it as the first argument.
@@ -275,13 +275,13 @@ macro_rules! detected {
     };
 }
 
-/// What x86-64-v2 adds, but for what Rust cannot ask for.
+/// What x86-64-v2 adds, but for what Rust cannot detect.
 #[cfg(target_arch = "x86_64")]
 pub(crate) fn added_by_v2() -> [(&'static str, bool); 6] {
     detected!("cmpxchg16b" "popcnt" "sse3" "ssse3" "sse4.1" "sse4.2")
 }
 
-/// What x86-64-v3 adds, but for what Rust cannot ask for.
+/// What x86-64-v3 adds, but for what Rust cannot detect.
 #[cfg(target_arch = "x86_64")]
 pub(crate) fn added_by_v3() -> [(&'static str, bool); 8] {
     detected!("avx" "avx2" "bmi1" "bmi2" "f16c" "fma" "lzcnt" "movbe")

@@ -1,7 +1,8 @@
 //! Chains: many blocks, packed in one call.
 //!
 //! Each block is packed at its own least width. The first block has the kind of the call; each one after it begins from the last
-//! value of the block before. The caller keeps the widths beside the bytes.
+//! value of the block before. The caller stores the packer, the kind and the widths beside
+//! the bytes.
 //!
 //! ```
 //! use bitpacking::chain::{pack_all, unpack_all, Kind};
@@ -49,6 +50,10 @@ pub enum Error {
 
 impl Error {
     /// The number of the error in `include/bitpacking.h`: from -1 down to -3, in the order of the variants.
+    ///
+    /// ```
+    /// assert_eq!(bitpacking::chain::Error::Short.number(), -3);
+    /// ```
     pub fn number(&self) -> i32 {
         match self {
             Error::BadLength => -1,
@@ -88,6 +93,18 @@ fn size(answer: Answer) -> Result<usize, Error> {
 ///
 /// The first of: `BadLength`, if `values` does not have as many values as `widths.len()` blocks; `Short`, if `bytes` has no room
 /// for the blocks.
+///
+/// ```
+/// use bitpacking::chain::{pack_all, Error, Kind};
+/// use bitpacking::BitPacker1x;
+///
+/// // 32 ones of one bit, and 32 threes of two bits: 4 and 8 bytes.
+/// let values = [[1; 32], [3; 32]].concat();
+/// let (mut widths, mut bytes) = ([0; 2], [0; 12]);
+/// assert_eq!(pack_all(BitPacker1x, Kind::Plain, &values, &mut widths, &mut bytes), Ok(12));
+/// assert_eq!((widths, bytes), ([1, 2], [0xFF; 12]));
+/// assert_eq!(pack_all(BitPacker1x, Kind::Plain, &values, &mut widths, &mut bytes[..11]), Err(Error::Short));
+/// ```
 pub fn pack_all<P: Packer>(_packer: P, kind: Kind, values: &[u32], widths: &mut [u8], bytes: &mut [u8]) -> Result<usize, Error> {
     let calls = P::calls();
     size(match kind {
@@ -99,12 +116,22 @@ pub fn pack_all<P: Packer>(_packer: P, kind: Kind, values: &[u32], widths: &mut 
 
 /// Unpacks blocks that were packed with the same packer, kind and widths. Returns the number of bytes read.
 ///
-/// Any bytes are taken, and later ones are not read. Values after the blocks stay as they were.
+/// Accepts any bytes, and does not read later ones. Values after the blocks are unchanged.
 ///
 /// # Errors
 ///
 /// `BadWidth`, if a width is above 32; `Short`, if `bytes` is shorter than the blocks; and else `BadLength`, if `values` has no room
 /// for the blocks.
+///
+/// ```
+/// use bitpacking::chain::{unpack_all, Error, Kind};
+/// use bitpacking::BitPacker1x;
+///
+/// let mut values = [0; 64];
+/// assert_eq!(unpack_all(BitPacker1x, Kind::Plain, &[1, 2], &[0xFF; 12], &mut values), Ok(12));
+/// assert_eq!(values[30..34], [1, 1, 3, 3]);
+/// assert_eq!(unpack_all(BitPacker1x, Kind::Plain, &[1, 33], &[0xFF; 12], &mut values), Err(Error::BadWidth));
+/// ```
 pub fn unpack_all<P: Packer>(_packer: P, kind: Kind, widths: &[u8], bytes: &[u8], values: &mut [u32]) -> Result<usize, Error> {
     let calls = P::calls();
     size(match kind {

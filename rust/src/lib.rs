@@ -15,8 +15,8 @@
 //! assert_eq!(unpacked, documents);
 //! ```
 //!
-//! 0.9.3 has neither lists nor chains. A list of any length is one text of bytes, in which values are found without unpacking all
-//! of it: the module [`list`]. Many blocks in one call are a [`chain`].
+//! 0.9.3 has neither lists nor chains. The module [`list`] encodes a list of any length, and finds values in its bytes without unpacking
+//! all of them. A [`chain`] is many blocks packed in one call.
 #![deny(unsafe_op_in_unsafe_fn)]
 #![warn(missing_docs)]
 
@@ -29,17 +29,28 @@ mod tests;
 
 pub use packers::{BitPacker1x, BitPacker4x, BitPacker8x};
 
-/// The version of the archives and their header. The crate itself has the number of the original, so that `[patch.crates-io]` takes it.
+/// The version of the archives and their header. The crate itself has the number of the original, so that `[patch.crates-io]` accepts it.
 pub const VERSION: &str = "1.0.0";
 
-/// Packs blocks of `BLOCK_LEN` values.
+/// Packs blocks of `BLOCK_LEN` values, each in as many bits as the greatest of its block needs.
 ///
-/// A block out of order is taken by the sorted calls too: differences are taken modulo 2^32, and the values come back.
+/// The bytes hold neither the packer, the width, the kind nor the initial value of a block: the caller stores these. The calls
+/// `_sorted` and `_strictly_sorted` pack differences, the first of them from `initial`, the value before the block. They accept a block
+/// out of order too: differences are modulo 2^32, and the values come back. 4 bytes a value are always enough room.
+///
+/// [`Pack::pack`] is faster than `num_bits` and then `compress`.
 pub trait BitPacker: Sized + Clone + Copy {
     /// How many values a block has.
     const BLOCK_LEN: usize;
 
-    /// The packer. Its calls take the fastest code that this processor can run.
+    /// Returns the packer. Its calls run the fastest code for this processor.
+    ///
+    /// ```
+    /// use bitpacking::{BitPacker, BitPacker8x};
+    ///
+    /// let packer = BitPacker8x::new();
+    /// assert_eq!(packer.num_bits(&[5; BitPacker8x::BLOCK_LEN]), 3);
+    /// ```
     fn new() -> Self;
 
     /// Packs a block at `num_bits` bits per value and returns the number of bytes written.
@@ -48,6 +59,16 @@ pub trait BitPacker: Sized + Clone + Copy {
     ///
     /// In this order: if `num_bits` is above 32, if `decompressed` is not `BLOCK_LEN` long, if `compressed` is shorter than
     /// `compressed_block_size(num_bits)`, or if a value does not fit `num_bits` bits. Nothing is written then.
+    ///
+    /// ```
+    /// use bitpacking::{BitPacker, BitPacker1x};
+    ///
+    /// // 0 to 7 in three bits each, four times.
+    /// let values: Vec<u32> = (0..32).map(|k| k % 8).collect();
+    /// let mut bytes = [0; 12];
+    /// assert_eq!(BitPacker1x::new().compress(&values, &mut bytes, 3), 12);
+    /// assert_eq!(bytes[..6], [0x88, 0xC6, 0xFA, 0x88, 0xC6, 0xFA]);
+    /// ```
     fn compress(&self, decompressed: &[u32], compressed: &mut [u8], num_bits: u8) -> usize;
 
     /// Packs the differences of a block, the first of them from `initial`.
@@ -55,6 +76,16 @@ pub trait BitPacker: Sized + Clone + Copy {
     /// # Panics
     ///
     /// As `compress`, of the differences.
+    ///
+    /// ```
+    /// use bitpacking::{BitPacker, BitPacker1x};
+    ///
+    /// // The first difference is 0, and the others are 3: two bits each.
+    /// let values: Vec<u32> = (0..32).map(|k| 10 + 3 * k).collect();
+    /// let mut bytes = [0; 8];
+    /// assert_eq!(BitPacker1x::new().compress_sorted(10, &values, &mut bytes, 2), 8);
+    /// assert_eq!(bytes[..2], [0xFC, 0xFF]);
+    /// ```
     fn compress_sorted(&self, initial: u32, decompressed: &[u32], compressed: &mut [u8], num_bits: u8) -> usize;
 
     /// Packs one less than the differences of a block. With `None` the block may begin with 0.
@@ -62,14 +93,31 @@ pub trait BitPacker: Sized + Clone + Copy {
     /// # Panics
     ///
     /// As `compress`, of the differences less one.
+    ///
+    /// ```
+    /// use bitpacking::{BitPacker, BitPacker1x};
+    ///
+    /// // Each value is one more than the one before it, and the first is 0: no bits are needed.
+    /// let values: Vec<u32> = (0..32).collect();
+    /// assert_eq!(BitPacker1x::new().compress_strictly_sorted(None, &values, &mut [], 0), 0);
+    /// ```
     fn compress_strictly_sorted(&self, initial: Option<u32>, decompressed: &[u32], compressed: &mut [u8], num_bits: u8) -> usize;
 
-    /// Unpacks a block and returns the number of bytes read. Any bytes are taken.
+    /// Unpacks a block and returns the number of bytes read. Accepts any bytes; values after the block are unchanged.
     ///
     /// # Panics
     ///
     /// In this order: if `decompressed` is shorter than `BLOCK_LEN`, if `num_bits` is above 32, or if `compressed` is shorter than
     /// `compressed_block_size(num_bits)`. Nothing is written then.
+    ///
+    /// ```
+    /// use bitpacking::{BitPacker, BitPacker1x};
+    ///
+    /// // 0 to 7 in three bits each, four times.
+    /// let (bytes, mut values) = ([0x88, 0xC6, 0xFA].repeat(4), [0; 32]);
+    /// assert_eq!(BitPacker1x::new().decompress(&bytes, &mut values, 3), 12);
+    /// assert_eq!(values[..9], [0, 1, 2, 3, 4, 5, 6, 7, 0]);
+    /// ```
     fn decompress(&self, compressed: &[u8], decompressed: &mut [u32], num_bits: u8) -> usize;
 
     /// Unpacks a block that was packed with the same `initial`.
@@ -77,6 +125,14 @@ pub trait BitPacker: Sized + Clone + Copy {
     /// # Panics
     ///
     /// As `decompress`.
+    ///
+    /// ```
+    /// use bitpacking::{BitPacker, BitPacker1x};
+    ///
+    /// let (bytes, mut values) = ([0xFC, 0xFF, 0xFF, 0xFF, 0xFF, 0xFF, 0xFF, 0xFF], [0; 32]);
+    /// assert_eq!(BitPacker1x::new().decompress_sorted(10, &bytes, &mut values, 2), 8);
+    /// assert_eq!(values[..4], [10, 13, 16, 19]);
+    /// ```
     fn decompress_sorted(&self, initial: u32, compressed: &[u8], decompressed: &mut [u32], num_bits: u8) -> usize;
 
     /// Unpacks a block that was packed strictly sorted with the same `initial`.
@@ -84,6 +140,14 @@ pub trait BitPacker: Sized + Clone + Copy {
     /// # Panics
     ///
     /// As `decompress`.
+    ///
+    /// ```
+    /// use bitpacking::{BitPacker, BitPacker1x};
+    ///
+    /// let mut values = [0; 32];
+    /// assert_eq!(BitPacker1x::new().decompress_strictly_sorted(Some(6), &[], &mut values, 0), 0);
+    /// assert_eq!(values[..4], [7, 8, 9, 10]);
+    /// ```
     fn decompress_strictly_sorted(
         &self,
         initial: Option<u32>,
@@ -92,36 +156,65 @@ pub trait BitPacker: Sized + Clone + Copy {
         num_bits: u8,
     ) -> usize;
 
-    /// The least width of a block, from 0 to 32.
+    /// Returns the least width of a block, from 0 to 32.
     ///
     /// # Panics
     ///
     /// If `decompressed` is not `BLOCK_LEN` long.
+    ///
+    /// ```
+    /// use bitpacking::{BitPacker, BitPacker1x};
+    ///
+    /// let mut values = [1; 32];
+    /// values[7] = 1000;
+    /// assert_eq!(BitPacker1x::new().num_bits(&values), 10);
+    /// ```
     fn num_bits(&self, decompressed: &[u32]) -> u8;
 
-    /// The least width of the differences of a block.
+    /// Returns the least width of the differences of a block.
     ///
     /// # Panics
     ///
     /// If `decompressed` is not `BLOCK_LEN` long.
+    ///
+    /// ```
+    /// use bitpacking::{BitPacker, BitPacker1x};
+    ///
+    /// let values: Vec<u32> = (0..32).map(|k| 1000 + 3 * k).collect();
+    /// assert_eq!(BitPacker1x::new().num_bits_sorted(1000, &values), 2);
+    /// assert_eq!(BitPacker1x::new().num_bits_sorted(0, &values), 10);
+    /// ```
     fn num_bits_sorted(&self, initial: u32, decompressed: &[u32]) -> u8;
 
-    /// The least width of the differences of a block, each one less.
+    /// Returns the least width of the differences of a block, each one less.
     ///
     /// # Panics
     ///
     /// If `decompressed` is not `BLOCK_LEN` long.
+    ///
+    /// ```
+    /// use bitpacking::{BitPacker, BitPacker1x};
+    ///
+    /// let values: Vec<u32> = (0..32).collect();
+    /// assert_eq!(BitPacker1x::new().num_bits_strictly_sorted(None, &values), 0);
+    /// ```
     fn num_bits_strictly_sorted(&self, initial: Option<u32>, decompressed: &[u32]) -> u8;
 
-    /// The number of bytes of a block at `num_bits` bits per value.
+    /// Returns the number of bytes of a block at `num_bits` bits per value.
+    ///
+    /// ```
+    /// use bitpacking::{BitPacker, BitPacker4x};
+    ///
+    /// assert_eq!(BitPacker4x::compressed_block_size(7), 112);
+    /// ```
     #[must_use]
     fn compressed_block_size(num_bits: u8) -> usize {
         Self::BLOCK_LEN * num_bits as usize / 8
     }
 }
 
-/// The width call and the compress call at that width in one, which 0.9.3 does not have. It is faster than the two: a compress call
-/// alone has to test that the values fit, for which it measures the block once more.
+/// Packs a block at its least width in one call, which 0.9.3 does not have. It is faster than a width call and then a compress call, which
+/// has to test that the values fit and so measures the block once more.
 pub trait Pack: BitPacker {
     /// Packs a block at its least width. Returns the number of bytes written, and the width.
     ///
@@ -129,6 +222,15 @@ pub trait Pack: BitPacker {
     ///
     /// If `decompressed` is not `BLOCK_LEN` long, or if `compressed` is too short for the block; `4 * BLOCK_LEN` bytes are always
     /// enough. Nothing is written then.
+    ///
+    /// ```
+    /// use bitpacking::{BitPacker, BitPacker1x, Pack};
+    ///
+    /// let values: Vec<u32> = (0..32).map(|k| k % 8).collect();
+    /// let mut bytes = [0; 4 * BitPacker1x::BLOCK_LEN];
+    /// assert_eq!(BitPacker1x::new().pack(&values, &mut bytes), (12, 3));
+    /// assert_eq!(bytes[..3], [0x88, 0xC6, 0xFA]);
+    /// ```
     fn pack(&self, decompressed: &[u32], compressed: &mut [u8]) -> (usize, u8);
 
     /// Packs the differences of a block at their least width.
@@ -136,6 +238,14 @@ pub trait Pack: BitPacker {
     /// # Panics
     ///
     /// As `pack`.
+    ///
+    /// ```
+    /// use bitpacking::{BitPacker, BitPacker1x, Pack};
+    ///
+    /// let values: Vec<u32> = (0..32).map(|k| 10 + 3 * k).collect();
+    /// let mut bytes = [0; 4 * BitPacker1x::BLOCK_LEN];
+    /// assert_eq!(BitPacker1x::new().pack_sorted(10, &values, &mut bytes), (8, 2));
+    /// ```
     fn pack_sorted(&self, initial: u32, decompressed: &[u32], compressed: &mut [u8]) -> (usize, u8);
 
     /// Packs one less than the differences of a block at their least width.
@@ -143,6 +253,14 @@ pub trait Pack: BitPacker {
     /// # Panics
     ///
     /// As `pack`.
+    ///
+    /// ```
+    /// use bitpacking::{BitPacker, BitPacker1x, Pack};
+    ///
+    /// let values: Vec<u32> = (0..32).collect();
+    /// let mut bytes = [0; 4 * BitPacker1x::BLOCK_LEN];
+    /// assert_eq!(BitPacker1x::new().pack_strictly_sorted(None, &values, &mut bytes), (0, 0));
+    /// ```
     fn pack_strictly_sorted(&self, initial: Option<u32>, decompressed: &[u32], compressed: &mut [u8]) -> (usize, u8);
 }
 

@@ -1,8 +1,8 @@
-//! Packed lists: the values of a list of any length in one text of bytes, which is read in place.
+//! Packed lists: the values of a list of any length, encoded as one run of bytes.
 //!
-//! [`encode`] writes a list, and [`PackedList::open`] tests its bytes once. The opened list finds values and reads them without
-//! unpacking all blocks. It borrows the bytes, and takes no memory of its own. The bytes may be untrusted: `open` refuses
-//! those that are no list, and after it no call fails or panics for them.
+//! [`encode`] writes a list, and [`PackedList::open`] tests its bytes once. The opened list is zero-copy: it borrows the bytes, and
+//! finds values and reads them without unpacking all blocks. The bytes may be untrusted: `open` refuses bytes that are no list, and after
+//! it no call fails or panics because of them. [`ListBuf`] owns the bytes of one list, and [`Lists`] of many.
 //!
 //! ```
 //! use bitpacking::list::{encode, intersect, Kind, PackedList};
@@ -48,7 +48,7 @@ pub use owned::{ListBuf, ListFault, Lists, StableBytes};
 pub use query::{Query, QueryCursor};
 pub use sets::{difference, difference_into, intersect, intersect_into, intersect_len, union, union_into, union_len};
 
-/// The order of the values of a list, and what is packed in their place.
+/// The order of the values of a list, and what is packed instead of them.
 #[derive(Clone, Copy, PartialEq, Eq, Hash, Debug)]
 pub enum Kind {
     /// Values in any order. The values are packed.
@@ -69,7 +69,10 @@ pub struct PackedList<'a> {
 impl<'a> PackedList<'a> {
     /// Opens a list of version 2, 3 or 4, of any packer. Tests all bytes, which may be untrusted, and allocates nothing.
     ///
-    /// The caller keeps where a list begins and ends: a byte that is missing or left over is a fault.
+    /// The caller stores where a list begins and ends: a byte that is missing or left over is a fault.
+    ///
+    /// If others can change the bytes after opening, as another process can change a mapped file, later calls may read or write outside
+    /// their buffers: see [`StableBytes`].
     ///
     /// # Errors
     ///
@@ -89,7 +92,8 @@ impl<'a> PackedList<'a> {
         Ok(PackedList { view })
     }
 
-    /// Where the first fault of bytes lies, or `None` if [`open`](PackedList::open) accepts them. It tests them as `open` does.
+    /// Finds the first fault of bytes, its block, and the position of a value out of order; or returns `None` if
+    /// [`open`](PackedList::open) accepts the bytes. It tests them as `open` does.
     ///
     /// ```
     /// use bitpacking::list::{encode, Error, Kind, PackedList};
@@ -97,7 +101,7 @@ impl<'a> PackedList<'a> {
     /// let evens: Vec<u32> = (0..300).map(|k| 2 * k).collect();
     /// let mut bytes = encode(Kind::StrictlySorted, &evens)?;
     /// assert_eq!(PackedList::find_fault(&bytes), None);
-    /// // The header has 3 bytes, and byte 3 says that ends of blocks take a byte and their last values two. Two ends follow.
+    /// // The header has 3 bytes, and byte 3 says that ends of blocks have a byte and their last values two. Two ends follow.
     /// bytes[6] ^= 1;
     /// let fault = PackedList::find_fault(&bytes).unwrap();
     /// assert_eq!((fault.error, fault.block), (Error::BadLast, Some(0)));
@@ -108,8 +112,8 @@ impl<'a> PackedList<'a> {
         Some(Fault { error: error::named(number, position), block })
     }
 
-    /// The list of bytes that [`open`](PackedList::open) accepted before. They are not tested again: it reads the header, and the last of
-    /// what is said of blocks. [`ListBuf`] and [`Lists`] do so without `unsafe`.
+    /// Opens bytes that [`open`](PackedList::open) accepted before. It does not test them again: it reads the header and the last skip
+    /// entry. [`ListBuf`] and [`Lists`] do so without `unsafe`.
     ///
     /// # Safety
     ///
@@ -131,25 +135,60 @@ impl<'a> PackedList<'a> {
         PackedList { view: unsafe { best().lists.open_tested(bytes) } }
     }
 
-    /// The bytes of the list.
+    /// Returns the bytes of the list.
+    ///
+    /// ```
+    /// use bitpacking::list::PackedList;
+    ///
+    /// let bytes = [0xA4, 7, 9, 1, 0, 0x84, 4];
+    /// assert_eq!(PackedList::open(&bytes)?.as_bytes(), bytes);
+    /// # Ok::<(), bitpacking::list::Error>(())
+    /// ```
     #[inline]
     pub fn as_bytes(&self) -> &'a [u8] {
         self.view.bytes()
     }
 
-    /// How many values the list has.
+    /// Returns how many values the list has.
+    ///
+    /// ```
+    /// use bitpacking::list::{encode, Kind, PackedList};
+    ///
+    /// let bytes = encode(Kind::StrictlySorted, &[7, 9, 10, 300])?;
+    /// let list = PackedList::open(&bytes)?;
+    /// assert_eq!(list.len(), 4);
+    /// # Ok::<(), bitpacking::list::Error>(())
+    /// ```
     #[inline]
     pub fn len(&self) -> usize {
         best().lists.len(&self.view)
     }
 
-    /// Whether the list has no values.
+    /// Returns whether the list has no values.
+    ///
+    /// ```
+    /// use bitpacking::list::{encode, Kind, PackedList};
+    ///
+    /// let bytes = encode(Kind::StrictlySorted, &[])?;
+    /// assert_eq!(bytes, [0xA0]);
+    /// assert!(PackedList::open(&bytes)?.is_empty());
+    /// # Ok::<(), bitpacking::list::Error>(())
+    /// ```
     #[inline]
     pub fn is_empty(&self) -> bool {
         self.len() == 0
     }
 
-    /// The kind of the list.
+    /// Returns the kind of the list.
+    ///
+    /// ```
+    /// use bitpacking::list::{encode, Kind, PackedList};
+    ///
+    /// let bytes = encode(Kind::StrictlySorted, &[7, 9, 10, 300])?;
+    /// let list = PackedList::open(&bytes)?;
+    /// assert_eq!(list.kind(), Kind::StrictlySorted);
+    /// # Ok::<(), bitpacking::list::Error>(())
+    /// ```
     pub fn kind(&self) -> Kind {
         match best().lists.kind(&self.view) {
             0 => Kind::Plain,
@@ -158,13 +197,23 @@ impl<'a> PackedList<'a> {
         }
     }
 
-    /// The value at a position, or `None` if there is no such position. Unpacks one block at most.
+    /// Returns the value at a position, or `None` if there is no such position. Unpacks at most one block.
+    ///
+    /// ```
+    /// use bitpacking::list::{encode, Kind, PackedList};
+    ///
+    /// let bytes = encode(Kind::StrictlySorted, &[7, 9, 10, 300])?;
+    /// let list = PackedList::open(&bytes)?;
+    /// assert_eq!((list.get(3), list.get(4)), (Some(300), None));
+    /// # Ok::<(), bitpacking::list::Error>(())
+    /// ```
     #[inline]
     pub fn get(&self, position: usize) -> Option<u32> {
         best().lists.get(&self.view, position)
     }
 
-    /// The value at each position, or `None` if one of them is not in the list. The positions may be in any order, and one may come twice.
+    /// Returns the value at each position, or `None` if one of them is not in the list. The positions may be in any order, and one may come
+    /// twice.
     ///
     /// A block is unpacked once for each run of positions that are in it, so that increasing positions unpack each block at most once.
     ///
@@ -183,28 +232,55 @@ impl<'a> PackedList<'a> {
         Some(values)
     }
 
-    /// The first value that is at least `target`, with its position; or `None` if every value is below it. Unpacks one block at
-    /// most.
+    /// Returns the first value that is at least `target`, with its position; or `None` if every value is below it. Unpacks at most one
+    /// block, and reads at most as many skip entries as the count of whole blocks has binary digits.
     ///
     /// # Errors
     ///
     /// `BadKind`, if the list is plain.
+    ///
+    /// ```
+    /// use bitpacking::list::{encode, Kind, PackedList};
+    ///
+    /// let bytes = encode(Kind::StrictlySorted, &[7, 9, 10, 300])?;
+    /// let list = PackedList::open(&bytes)?;
+    /// assert_eq!((list.seek(11)?, list.seek(301)?), (Some((3, 300)), None));
+    /// # Ok::<(), bitpacking::list::Error>(())
+    /// ```
     #[inline]
     pub fn seek(&self, target: u32) -> Result<Option<(usize, u32)>, Error> {
         best().lists.seek(&self.view, target).map_err(|number| error::named(number, None))
     }
 
-    /// The first value, or `None` if the list is empty.
+    /// Returns the first value, or `None` if the list is empty.
+    ///
+    /// ```
+    /// use bitpacking::list::{encode, Kind, PackedList};
+    ///
+    /// let bytes = encode(Kind::StrictlySorted, &[7, 9, 10, 300])?;
+    /// let list = PackedList::open(&bytes)?;
+    /// assert_eq!(list.first(), Some(7));
+    /// # Ok::<(), bitpacking::list::Error>(())
+    /// ```
     pub fn first(&self) -> Option<u32> {
         self.get(0)
     }
 
-    /// The last value, or `None` if the list is empty.
+    /// Returns the last value, or `None` if the list is empty.
+    ///
+    /// ```
+    /// use bitpacking::list::{encode, Kind, PackedList};
+    ///
+    /// let bytes = encode(Kind::StrictlySorted, &[7, 9, 10, 300])?;
+    /// let list = PackedList::open(&bytes)?;
+    /// assert_eq!(list.last(), Some(300));
+    /// # Ok::<(), bitpacking::list::Error>(())
+    /// ```
     pub fn last(&self) -> Option<u32> {
         self.get(self.len().checked_sub(1)?)
     }
 
-    /// Whether a value is in the list. Unpacks one block at most.
+    /// Returns whether a value is in the list. Unpacks at most one block.
     ///
     /// # Errors
     ///
@@ -216,33 +292,69 @@ impl<'a> PackedList<'a> {
     /// let bytes = encode(Kind::StrictlySorted, &[7, 9, 10, 300])?;
     /// let list = PackedList::open(&bytes)?;
     /// assert_eq!((list.contains(9)?, list.contains(11)?), (true, false));
-    /// assert_eq!((list.first(), list.last()), (Some(7), Some(300)));
     /// # Ok::<(), bitpacking::list::Error>(())
     /// ```
     pub fn contains(&self, value: u32) -> Result<bool, Error> {
         Ok(self.seek(value)?.is_some_and(|(_, found)| found == value))
     }
 
-    /// An iterator over all values, from both ends. It unpacks a block at a time.
+    /// Returns an iterator over all values, from both ends. It unpacks a block at a time.
+    ///
+    /// ```
+    /// use bitpacking::list::{encode, Kind, PackedList};
+    ///
+    /// let bytes = encode(Kind::StrictlySorted, &[7, 9, 10, 300])?;
+    /// let list = PackedList::open(&bytes)?;
+    /// assert_eq!(list.iter().rev().collect::<Vec<u32>>(), [300, 10, 9, 7]);
+    /// # Ok::<(), bitpacking::list::Error>(())
+    /// ```
     pub fn iter(&self) -> Iter<'a> {
         Iter::new(*self)
     }
 
-    /// A cursor at the first value.
+    /// Returns a cursor at the first value.
+    ///
+    /// ```
+    /// use bitpacking::list::{encode, Kind, PackedList};
+    ///
+    /// let bytes = encode(Kind::StrictlySorted, &[7, 9, 10, 300])?;
+    /// let list = PackedList::open(&bytes)?;
+    /// assert_eq!(list.cursor().value(), Some(7));
+    /// # Ok::<(), bitpacking::list::Error>(())
+    /// ```
     pub fn cursor(&self) -> Cursor<'a> {
         Cursor::new(self)
     }
 
-    /// All values in a vector, which takes four bytes for each: `len` tells before how many they are, if the bytes are untrusted.
+    /// Returns all values in a vector. It allocates four bytes for each: if the bytes are untrusted, look at [`len`](PackedList::len) first.
+    ///
+    /// ```
+    /// use bitpacking::list::{encode, Kind, PackedList};
+    ///
+    /// let bytes = encode(Kind::StrictlySorted, &[7, 9, 10, 300])?;
+    /// let list = PackedList::open(&bytes)?;
+    /// assert_eq!(list.to_vec(), [7, 9, 10, 300]);
+    /// # Ok::<(), bitpacking::list::Error>(())
+    /// ```
     pub fn to_vec(&self) -> Vec<u32> {
         best().lists.to_vec(&self.view)
     }
 
-    /// Unpacks all values, and returns how many they are. Later places of `values` stay as they were.
+    /// Unpacks all values, and returns how many they are. Values after them are unchanged. Each block is unpacked once.
     ///
     /// # Panics
     ///
     /// If `values` is shorter than the list. Nothing is written then.
+    ///
+    /// ```
+    /// use bitpacking::list::{encode, Kind, PackedList};
+    ///
+    /// let bytes = encode(Kind::StrictlySorted, &[7, 9, 10, 300])?;
+    /// let list = PackedList::open(&bytes)?;
+    /// let mut values = [0; 5];
+    /// assert_eq!((list.unpack(&mut values), values), (4, [7, 9, 10, 300, 0]));
+    /// # Ok::<(), bitpacking::list::Error>(())
+    /// ```
     pub fn unpack(&self, values: &mut [u32]) -> usize {
         let room = values.len();
         best()
@@ -251,8 +363,8 @@ impl<'a> PackedList<'a> {
             .unwrap_or_else(|_| panic!("Output array too small for the list: {room} < {}", self.len()))
     }
 
-    /// Unpacks the values from a position on, as many as there is room for, and returns how many they are. Later places of `values`
-    /// stay as they were.
+    /// Unpacks the values from a position on, as many as there are and as fit, and returns how many they are. Values after them are
+    /// unchanged. Each block that has one of them is unpacked once, and no other.
     ///
     /// ```
     /// use bitpacking::list::{encode, Kind, PackedList};

@@ -185,5 +185,5 @@ macro_rules! packer {
 }
 
 packer!(BitPacker1x, 32, one, "The packer of blocks of 32 values.");
-packer!(BitPacker4x, 128, four, "The packer of blocks of 128 values. If in doubt, take this one.");
+packer!(BitPacker4x, 128, four, "The packer of blocks of 128 values. If in doubt, use this one.");
 packer!(BitPacker8x, 256, eight, "The packer of blocks of 256 values.");

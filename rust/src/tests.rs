@@ -30,7 +30,7 @@ const CANARY: u8 = 0xA5;
 const CANARY_VALUE: u32 = 0xA5A5_A5A5;
 
 thread_local! {
-    /// The level that the calls of this thread take, in place of the best.
+    /// The level that the calls of this thread use instead of the best.
     static CHOSEN: Cell<Option<&'static Level>> = const { Cell::new(None) };
 }
 

@@ -262,7 +262,7 @@ static void texts(void)
         {BITPACKING_LIST_BAD_LAST, "A last or least value in the list is not the one of its block."},
         {BITPACKING_LIST_NOT_SORTED, "The values are not in order."},
         {BITPACKING_LIST_TRAILING, "Bytes are left over after the list."},
-        {BITPACKING_LIST_BAD_NUMBER, "A number in the list does not have its only form."},
+        {BITPACKING_LIST_BAD_NUMBER, "A varint in the list does not have its only form."},
         {BITPACKING_LIST_PADDING, "A bit after the codes of a group is set."},
         {BITPACKING_LIST_BAD_SIZES, "The ends or the marks of the list do not have the least count of bytes."},
         {BITPACKING_LIST_BAD_BITS, "A set of bits in the list is not the one of its block."}};

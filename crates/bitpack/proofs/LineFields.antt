@@ -52,7 +52,7 @@ pub fields_of : (line : List ℕ) (packer : PackerName) (request : Request) (spe
 fields_of line packer request spells =
     ap between_spaces spells.line_is ∙ split_fields (fields_in line packer request spells) (are_fields (fields_in line packer request spells) packer request (asks_in line packer request spells))
 
--- what the first six fields ask, the line spells, and the other way round
+-- what the first six fields say, the line spells, and the other way round
 module _ (line : List ℕ) (found : List (List ℕ)) (is : found ≡ take 6 (between_spaces line)) (packer : PackerName) (request : Request) where
   pub spells_from_fields : Asks found packer request → Spells line packer request
   spells_from_fields asks =

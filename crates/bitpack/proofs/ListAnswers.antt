@@ -44,7 +44,7 @@ same_encoded lanes kind values a b some first second =
 abbrev IsReplyAt : ℕ → List ℕ → Option ListError → List ℕ → Type 0
 IsReplyAt lanes bytes fault = RefusedFor fault (RepliesToList (λ kind values. List1 lanes kind values bytes ⊎ List2 lanes kind values bytes) (λ kind values answer. answer ≡ printed_list kind values))
 
--- bytes of which either this fault is the first, or none is, as they are a text
+-- bytes of which either this fault is the first, or none is, as they encode a list
 decoded_at : (lanes : ℕ) (bytes : List ℕ) (fault : Option ListError)
     → (fault ≡ None → (kind : ListKind) × (values : List ℕ) × (List1 lanes kind values bytes ⊎ List2 lanes kind values bytes))
     → (answer : List ℕ) × IsReplyAt lanes bytes fault answer
@@ -65,14 +65,14 @@ decoded_by lanes bytes true some small =
 pub decoded_of : (lanes : ℕ) (bytes : List ℕ) → 1 ≤ lanes → AreBytes bytes → (answer : List ℕ) × IsReplyAt lanes bytes (older_fault lanes bytes) answer
 decoded_of lanes bytes some small = decoded_by lanes bytes (slice_index bytes 0 == 2) some small
 
--- bytes are no text of both versions
+-- bytes encode no list of both versions
 one_version : (lanes : ℕ) (kind kind' : ListKind) (values others bytes : List ℕ) → List1 lanes kind values bytes → List2 lanes kind' others bytes → ⊥
 one_version lanes kind kind' values others bytes one two =
     let first = header_bytes 1 lanes kind (length values) bytes one.begins in
     let second = header_bytes 2 lanes kind' (length others) bytes two.begins in
     omega (arith, first.version_is, second.version_is)
 
--- a text is that of one kind and one list
+-- bytes encode one kind and one list
 one_list : (lanes : ℕ) (kind kind' : ListKind) (values others bytes : List ℕ) → 1 ≤ lanes → AreBytes bytes
     → List1 lanes kind values bytes ⊎ List2 lanes kind values bytes → List1 lanes kind' others bytes ⊎ List2 lanes kind' others bytes
     → (kind' ≡ kind) × (others ≡ values)
@@ -88,7 +88,7 @@ same_decoded lanes bytes None a b some small first second =
     let (kinds, lists) = one_list lanes first.kind second.kind first.values second.values bytes some small first.list second.list in
     first.reply ∙ rw (← kinds, ← lists) (sym second.reply)
 
--- the list of a text of version 2
+-- the list of version 2 bytes
 pub second_listed : (lanes : ℕ) (bytes : List ℕ) (kind : ListKind) (values answer : List ℕ) → (slice_index bytes 0 == 2) ≡ true
     → fault2 lanes bytes ≡ None → List2 lanes kind values bytes → answer ≡ printed_list kind values → IsReplyAt lanes bytes (older_fault lanes bytes) answer
 second_listed lanes bytes kind values answer second none list is =
@@ -116,7 +116,7 @@ same_sought lanes target bytes None a b some small first second =
     let (kinds, lists) = one_list2 lanes first.kind second.kind first.values second.values bytes some small first.list second.list in
     first.reply ∙ rw (← kinds, ← lists) (sym second.reply)
 
--- the answer of the list of a text
+-- the answer of the list that bytes encode
 pub found_in : (lanes target : ℕ) (bytes : List ℕ) (kind : ListKind) (values answer : List ℕ) → fault2 lanes bytes ≡ None → List2 lanes kind values bytes
     → answer ≡ sought kind values target → IsFoundAt lanes target bytes (fault2 lanes bytes) answer
 found_in lanes target bytes kind values answer none list is = rw none (record { kind = kind; values = values; list = list; reply = is })

@@ -68,7 +68,7 @@ abbrev pub printed_found : Option (ℕ × ℕ) → List ℕ
 printed_found None = ascii "none"
 printed_found (Some found) = decimal found.0 ++ 32 ∷ decimal found.1
 
--- what `seek` answers of a list: a plain one cannot be searched, and is refused for its kind
+-- the answer to `seek` in a list: a plain one cannot be searched, and is refused for its kind
 abbrev pub sought : ListKind → List ℕ → ℕ → List ℕ
 sought lists.Plain values target = refused (20 + number_of (BadKind 0))
 sought kind values target = printed_found (first_at_least values target)
@@ -84,7 +84,7 @@ pub record RepliesToList (IsList : ListKind → List ℕ → Type 0) (IsReply : 
   pub list : IsList kind values
   pub reply : IsReply kind values answer
 
--- the text of version 2 of a list, or the refusal of values out of order
+-- the version 2 list of these values, or the refusal of values out of order
 abbrev pub IsUpgraded : ℕ → ListKind → List ℕ → List ℕ → Type 0
 IsUpgraded lanes kind values = RefusedFor (option_map NotSorted (first_out kind values)) (PrintsBytes (List2 lanes kind values))
 

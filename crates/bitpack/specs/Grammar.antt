@@ -95,7 +95,7 @@ SpellsBytes string (byte ∷ bytes) = decode_of string ≡ Ok (byte ∷ bytes)
 
 -- ---- lines
 
--- what a line asks of a packer
+-- the command of a line for a packer
 pub data Request : Type 0 where
   Size : ℕ → Request
   Width : Kind → List ℕ → Request

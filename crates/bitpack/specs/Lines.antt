@@ -26,7 +26,7 @@ ended bytes = take (count_by is_feed bytes) (lines bytes)
 unfoldable pub unfinished : List ℕ → List ℕ
 unfinished bytes = concat (drop (count_by is_feed bytes) (lines bytes))
 
--- the part of a line that is kept: one byte more than a line may have
+-- the part of a line that is in memory: at most one byte more than a line may have
 unfoldable pub kept_part : List ℕ → List ℕ
 kept_part line = take (line_limit + 1) line
 
@@ -59,19 +59,19 @@ AppendsAnswersFirst old new lines = (some more : List (List ℕ)) × (lines ≡ 
 
 -- ---- what a run did to its reader and its writer
 
--- the reader gave an input to its end, and all its lines were answered
+-- the reader read an input to its end, and all its lines were answered
 abbrev pub AnswersAll : Option (List ℕ) → Option (List ℕ) → Option (List ℕ) → Option (List ℕ) → Type 0
 AnswersAll left rest old new = (input : List ℕ) × Consumes left rest input × IsAtEnd rest × AppendsAnswers old new (lines input)
 
--- the reader gave an input, and its lines that ended were answered
+-- the reader read an input, and its lines that ended were answered
 abbrev pub AnswersEnded : Option (List ℕ) → Option (List ℕ) → Option (List ℕ) → Option (List ℕ) → Type 0
 AnswersEnded left rest old new = (input : List ℕ) × Consumes left rest input × AppendsAnswers old new (ended input)
 
--- the reader gave an input, and a beginning of the answers to its lines was written
+-- the reader read an input, and a beginning of the answers to its lines was written
 abbrev pub AnswersInPart : Option (List ℕ) → Option (List ℕ) → Option (List ℕ) → Option (List ℕ) → Type 0
 AnswersInPart left rest old new = (input : List ℕ) × Consumes left rest input × AppendsAnswersInPart old new (lines input)
 
--- the reader gave an input, and the first of its lines were answered
+-- the reader read an input, and the first of its lines were answered
 abbrev pub AnswersFirst : Option (List ℕ) → Option (List ℕ) → Option (List ℕ) → Option (List ℕ) → Type 0
 AnswersFirst left rest old new = (input : List ℕ) × Consumes left rest input × AppendsAnswersFirst old new (lines input)
 
@@ -87,11 +87,11 @@ StopsAfter Write old new whole all = AppendsBeginning old new all
 StopsAfter Memory old new whole all = Appends old new whole
 StopsAfter Read old new whole all = ⊥
 
--- the answer to a line is put after the bytes that were held
+-- the answer to a line is after the bytes that were held
 abbrev pub AppendsAnswer : Option (List ℕ) → Option (List ℕ) → List ℕ → List ℕ → List ℕ → Type 0
 AppendsAnswer old new before after line = (answer : List ℕ) × IsAnswer line answer × AppendsBut old new (before ++ (answer ++ 10 ∷ [])) after
 
--- as above, stopped by a fault: if memory ran out, no part of the answer is put
+-- as above, stopped by a fault: if memory ran out, no part of the answer is there
 abbrev pub StopsAtAnswer : RunError → Option (List ℕ) → Option (List ℕ) → List ℕ → List ℕ → Type 0
 StopsAtAnswer fault old new before line = (answer : List ℕ) × IsAnswer line answer × StopsAfter fault old new before (before ++ (answer ++ 10 ∷ []))
 

@@ -48,7 +48,7 @@ pub(crate) enum Answer {
     List(ListKind, Vec<u32>),
 }
 
-/// Puts the answer to a line into the output, with its line feed. If memory lacks for it, no part of it is put.
+/// Writes the answer to a line into the output, with its line feed. If memory lacks for it, no part of it is written.
 pub(crate) fn answer_line<W: Write>(
     alloc: Global,
     line: &[u8],

@@ -1,6 +1,6 @@
 //! Laws of the definitions, each the contract of a function that does nothing at run time, for generic code to call.
 //!
-//! The definitions are in `specs/`: `Spells` and the texts of fields in Grammar; `IsAnswer` and the replies in Answers; the lines
+//! The definitions are in `specs/`: `Spells` and the fields as text in Grammar; `IsAnswer` and the replies in Answers; the lines
 //! of an input and `AreAnswers` in Lines. Those of chains and packed lists are in the `specs/` of `bitpack_lists`.
 
 ghost use Rattle.bitpack.specs.Laws.{OneAnswer, OneCommand};

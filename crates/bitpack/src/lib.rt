@@ -1,9 +1,9 @@
 //! Chains of packed blocks, packed lists, and the line program.
 //!
-//! [`chain`] packs many blocks of one kind end to end. [`list`] writes a list of any length as one text, and reads untrusted
-//! texts. [`list2`] does so for lists in order, whose texts are read in place. [`list3`] writes shorter texts of short
-//! lists, and [`list4`] of dense lists and columns. [`sorted`] combines cursors over them. [`run`] reads lines to the end of a reader and writes the answer to each; [`ending`]
-//! says how a program then ends.
+//! [`chain`] packs many blocks of one kind end to end. [`list`] encodes a list of any length, and decodes untrusted bytes. [`list2`] encodes
+//! lists in order, and opens them without unpacking. [`list3`] encodes short lists in fewer bytes, and [`list4`] dense lists and columns.
+//! [`sorted`] combines cursors over them. [`run`] reads lines to the end of a reader and writes the answer to each; [`ending`] says how a
+//! program then ends.
 //!
 //! ```text
 //! pack 1x plain 1 1*32    ffffffff

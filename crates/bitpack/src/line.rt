@@ -33,7 +33,7 @@ pub(crate) enum PackerName {
     EightScalar,
 }
 
-/// What a line asks of its packer.
+/// The command of a line for its packer.
 #[derive(Drop)]
 pub(crate) enum Command {
     /// `size`: how many bytes a block takes at a width.
@@ -50,7 +50,7 @@ pub(crate) enum Command {
     Dec(Vec<u8>),
     /// `seek`: the first value of the list of the bytes that is at least a target.
     Seek(u32, Vec<u8>),
-    /// `upgrade`: the text of version 2 of the list of the bytes.
+    /// `upgrade`: the list of the bytes, converted to version 2.
     Upgrade(Vec<u8>),
 }
 

@@ -14,7 +14,7 @@ use std::io::{Read, Write};
 /// The most bytes of one read.
 const PIECE: usize = 65_536;
 
-/// Appends a byte to the line. A line that is too long is kept up to one byte more than the limit; its further bytes are dropped.
+/// Appends a byte to the line. A line that is too long has one byte more than the limit; its further bytes are dropped.
 fn push_byte(line: &mut Vec<u8>, byte: u8) -> Result<(), AllocError>
     ensures { (begun : List ℕ) → line.old.items ≡ kept_part begun
         → OnOk result (line.new.items ≡ kept_part (begun ++ byte ∷ [])) }
@@ -25,7 +25,7 @@ fn push_byte(line: &mut Vec<u8>, byte: u8) -> Result<(), AllocError>
     Ok(())
 }
 
-/// Handles the next byte of the input: a line feed ends the line, and its answer is put.
+/// Handles the next byte of the input: a line feed ends the line, and its answer is written to the output.
 fn handle_byte<W: Write>(
     alloc: Global,
     line: &mut Vec<u8>,
@@ -96,11 +96,11 @@ fn answer_last<W: Write>(
 
 /// Reads lines to the end of input and writes one answer for each; then flushes, once.
 ///
-/// Before it reads again, the answer to each line that has ended is written. The first read or write that fails ends the run,
-/// and so does an allocation; only the one for the fields of a line is tried twice. After a failure nothing is flushed. A reader
-/// that gives more after `u64::MAX` reads counts as failed. At most 65,537 bytes of a line are kept in memory, whatever the input.
+/// Before it reads again, the answer to each line that has ended is written. The first read or write that fails ends the run, and
+/// so does an allocation; only the one for the fields of a line is tried twice. After a failure nothing is flushed. A reader that
+/// has more after `u64::MAX` reads counts as failed. At most 65,537 bytes of a line are in memory, whatever the input.
 pub fn run<R: Read, W: Write>(alloc: Global, reader: &mut R, writer: &mut W) -> Result<(), RunError>
-    // The reader gave an input to its end, and all its lines were answered.
+    // The reader read an input to its end, and all its lines were answered.
     ensures ok { OnOk result
         (AnswersAll (R.remaining reader.old) (R.remaining reader.new) (W.contents writer.old) (W.contents writer.new)) }
     // For a reader whose bytes are known.

@@ -12,7 +12,7 @@ use std::marker::Model;
 /// The most bytes that are held.
 const ROOM: usize = 65_536;
 
-/// The bytes that are held. It takes no memory beside its own.
+/// The bytes that are held. It allocates only for these.
 #[derive(Drop)]
 pub(crate) struct Output {
     bytes: [u8; ROOM],

@@ -7,7 +7,7 @@ ghost use Rattle.bitpack.specs.Lines.{AppendsBeginning};
 use super::run_error::RunError;
 use std::io::Write;
 
-/// Writes all the bytes, by as many calls as that takes. The first call that fails or writes nothing is the last.
+/// Writes all bytes, by one call or more. The first call that fails or writes nothing is the last.
 pub(crate) fn write_all<W: Write>(writer: &mut W, bytes: &[u8]) -> Result<(), RunError>
     ensures ok { OnOk result (Appends (W.contents writer.old) (W.contents writer.new) bytes.now) }
     ensures err { OnErr result (AppendsBeginning (W.contents writer.old) (W.contents writer.new) bytes.now) }

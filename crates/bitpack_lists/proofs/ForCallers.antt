@@ -1,5 +1,5 @@
 -- Facts for callers: how the bytes of blocks add up to those of their chain; the laws of packed lists as lemmas; what a header says; and
--- that values have a text of version 1, and those in order one of version 2.
+-- that values have an encoded list of version 1, and values in order one of version 2.
 use Rattle.std.proofs.Common.{◌≡◌, ◌+◌, ◌*◌, ◌<◌, ◌≤◌, ℕ, List, length, take, get_or, sum, arith}
 use Rattle.std.proofs.lemmas.List.Sums.{sum_by_more, sum_by_more_le}
 use Rattle.std.proofs.lemmas.Nat.{mul-le}

@@ -10,7 +10,7 @@ module _ (lanes : ℕ) (values : List ℕ) where
     pub len_is : len ≡ min (32 * lanes) (length values - 32 * lanes * block)
     pub values_are : (k : ℕ) → k < len → slice_index at_hand k ≡ slice_index values (32 * lanes * block + k)
 
-  -- a place in a block, which is at its end only if no value follows
+  -- a position in a block, which is its end only if no value follows
   pub record IsPlaceOf (block index len : ℕ) (at_hand : List ℕ) : Type 0 where
     pub here : IsBlockOf block len at_hand
     pub inside : index ≤ len

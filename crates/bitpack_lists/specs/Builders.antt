@@ -17,7 +17,7 @@ values_of_builder builder = builder.values.items
 abbrev pub room_of_builder : {P : Type 0} {members : Ghosts P} → ListBuilder P members → ℕ
 room_of_builder builder = vec_capacity builder.values
 
--- the pushed values follow those before; or with them the list has a fault, which is the answer, or there is no room; and nothing changed
+-- the pushed values follow those before; or with them the list has a fault, which is returned, or there is no room; and nothing changed
 pub record Pushes {X : Type 0} (no_room : ListError) (kind : ListKind) (room : ℕ) (before pushed after : List ℕ) (result : Result X ListError) : Type 0 where
   pub ok : OnOk result (after ≡ before ++ pushed)
   pub fault : MatchOption (values_fault kind (before ++ pushed)) (IfErr result (λ e. e ≡ no_room)) (λ fault. result ≡ Err fault)

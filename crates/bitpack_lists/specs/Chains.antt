@@ -45,7 +45,8 @@ pub record CanPackChain (lanes len : ℕ) (kind : Kind) (values : List ℕ) (cou
   pub blocks : length values ≡ len * count
   pub room : (size : ℕ) × IsChainSize lanes kind values count size × (size ≤ bytes)
 
--- the widths and bytes of a chain were written at the start of a buffer that had other bytes, and what is after them stays
+-- the widths and bytes of a chain were written at the start of a buffer that had other bytes, and what is after them is
+-- unchanged
 pub record PacksChain (lanes : ℕ) (kind : Kind) (values widths old new : List ℕ) (count : ℕ) : Type 0 where
   pub size : count ≡ 4 * lanes * sum widths
   pub few : count ≤ 4 * length values

@@ -23,7 +23,7 @@ pub record AreBounds (lanes : ℕ) (kind : ListKind) (values : List ℕ) (block 
   pub last : kind ≢ lists.Plain → greatest ≡ slice_index values (32 * lanes * block + (32 * lanes - 1))
   pub before : kind ≢ lists.Plain → 0 < block → slice_index values (32 * lanes * block - 1) ≤ least
 
--- nothing was unpacked, and at most this many entries were read
+-- nothing was unpacked, and at most this many skip entries were read
 pub record ReadsFew (most : ℕ) (old new : Reads) : Type 0 where
   pub entries : (old.entries ≤ new.entries) × (new.entries ≤ old.entries + most)
   pub blocks : new.blocks ≡ old.blocks

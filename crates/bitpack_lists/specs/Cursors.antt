@@ -13,11 +13,11 @@ module _ {P : Type 0} {members : Ghosts P} (cursor : Cursor P members) where
   abbrev pub position : ℕ
   position = position_of members.lanes cursor.place
 
-  -- the number of the block at hand, or the count of blocks in the tail
+  -- the number of the current block, or the count of blocks in the tail
   abbrev pub block_number : ℕ
   block_number = cursor.place.block
 
-  -- how many values at hand are left
+  -- how many values of the current block are left
   abbrev pub left_at_hand : ℕ
   left_at_hand = cursor.place.len - cursor.place.index
 
@@ -33,7 +33,7 @@ module _ {P : Type 0} {members : Ghosts P} (cursor : Cursor P members) where
   abbrev pub values_left : List ℕ
   values_left = drop position values_of_cursor
 
-  -- how many entries it read over its whole life
+  -- how many skip entries it read over its whole life
   abbrev pub entries_read : ℕ
   entries_read = cursor.reads.entries
 

@@ -10,15 +10,15 @@ pub record IsCommon (one other shared : List ℕ) : Type 0 where
   pub increasing : IsStrictlyIncreasing shared
   pub members : (value : ℕ) → Contains shared value ↔ (Contains one value × Contains other value)
 
--- of the list that is walked: at most as many entries as it has blocks; at most as many blocks as it has, and at most two for each value
--- of the other list and one
+-- of the list that is walked: at most as many skip entries as it has blocks; at most as many blocks as it has, and at most two for each
+-- value of the other list and one
 pub record ReadsWalked (lanes : ℕ) (one other : List ℕ) (old new : Reads) : Type 0 where
   pub entries : new.entries ≤ old.entries + whole_blocks lanes (length one)
   pub blocks : new.blocks ≤ old.blocks + min (whole_blocks lanes (length one)) (2 * length other + 1)
   pub grown : HasGrown old new
 
--- of the list that is searched: for each value of the other list at most as many entries as the count of its blocks has binary digits;
--- at most as many blocks as it has, and at most one for each value of the other list
+-- of the list that is searched: for each value of the other list at most as many skip entries as the count of its blocks has binary
+-- digits; at most as many blocks as it has, and at most one for each value of the other list
 pub record ReadsSearched (lanes : ℕ) (one other : List ℕ) (old new : Reads) : Type 0 where
   pub entries : (digits : ℕ) → whole_blocks lanes (length other) < 2 ^ digits → new.entries ≤ old.entries + length one * digits
   pub blocks : new.blocks ≤ old.blocks + min (whole_blocks lanes (length other)) (length one)

@@ -27,42 +27,42 @@ abbrev pub LooseFitsSmaller : Type 0
 LooseFitsSmaller = (lanes width : ℕ) (codes bytes : List ℕ) → Layout lanes width codes bytes
     → IsTrue (is_loose lanes width bytes) ↔ ((smaller : ℕ) × (smaller < width) × Fits codes smaller)
 
--- values have at most one text of version 1
+-- values have at most one encoded list of version 1
 abbrev pub OneText1 : Type 0
 OneText1 = (lanes : ℕ) (kind : ListKind) (values text other : List ℕ) → 0 < lanes → AreBytes text → AreBytes other
     → List1 lanes kind values text → List1 lanes kind values other → other ≡ text
 
--- values in any order have a text of version 1, if they are not too many
+-- values in any order have an encoded list of version 1, if they are not too many
 abbrev pub HasText1 : Type 0
 HasText1 = (lanes : ℕ) (kind : ListKind) (values : List ℕ) → 0 < lanes → lanes < 2 ^ 8 → AreWords values → length values ≤ 2 ^ 28
     → (text : List ℕ) × AreBytes text × List1 lanes kind values text
 
--- a text of version 1 belongs to one kind and one list
+-- an encoded list of version 1 belongs to one kind and one list
 abbrev pub OneList1 : Type 0
 OneList1 = (lanes : ℕ) (kind kind' : ListKind) (values others text : List ℕ) → 0 < lanes
     → List1 lanes kind values text → List1 lanes kind' others text → (kind' ≡ kind) × (others ≡ values)
 
--- bytes have no fault exactly if they are the text of some list
+-- bytes have no fault exactly if they encode some list
 abbrev pub NoFault1 : Type 0
 NoFault1 = (lanes : ℕ) (bytes : List ℕ) → 0 < lanes → AreBytes bytes
     → (fault1 lanes bytes ≡ None) ↔ ((kind : ListKind) × (values : List ℕ) × List1 lanes kind values bytes)
 
--- values have at most one text of version 2
+-- values have at most one encoded list of version 2
 abbrev pub OneText2 : Type 0
 OneText2 = (lanes : ℕ) (kind : ListKind) (values text other : List ℕ) → 0 < lanes → AreBytes text → AreBytes other
     → List2 lanes kind values text → List2 lanes kind values other → other ≡ text
 
--- values in the order of their kind have a text of version 2, if they are not too many
+-- values in the order of their kind have an encoded list of version 2, if they are not too many
 abbrev pub HasText2 : Type 0
 HasText2 = (lanes : ℕ) (kind : ListKind) (values : List ℕ) → 0 < lanes → lanes < 2 ^ 8 → AreWords values → length values ≤ 2 ^ 28
     → first_out kind values ≡ None → (text : List ℕ) × AreBytes text × List2 lanes kind values text
 
--- a text of version 2 belongs to one kind and one list
+-- an encoded list of version 2 belongs to one kind and one list
 abbrev pub OneList2 : Type 0
 OneList2 = (lanes : ℕ) (kind kind' : ListKind) (values others text : List ℕ) → 0 < lanes → AreBytes text
     → List2 lanes kind values text → List2 lanes kind' others text → (kind' ≡ kind) × (others ≡ values)
 
--- bytes have no fault exactly if they are the text of some list
+-- bytes have no fault exactly if they encode some list
 abbrev pub NoFault2 : Type 0
 NoFault2 = (lanes : ℕ) (bytes : List ℕ) → 0 < lanes → AreBytes bytes
     → (fault2 lanes bytes ≡ None) ↔ ((kind : ListKind) × (values : List ℕ) × List2 lanes kind values bytes)

@@ -1,4 +1,4 @@
--- Laws of version 3, proved of the definitions alone: of its texts, its numbers and its groups.
+-- Laws of version 3, proved of the definitions alone: of its encoded lists, its varints and its groups.
 use Rattle.std.specs.Prelude.{◌≡◌, ◌≢◌, ◌↔◌, ℕ, ◌+◌, ◌*◌, ◌^◌, ◌<◌, ◌≤◌, List, ◌++◌, length, take, drop, Some, None}
 use Rattle.bitpacking.specs.Bits.{AreBytes}
 use Rattle.bitpacking.specs.Codes.{AreWords}
@@ -11,52 +11,52 @@ use Rattle.bitpack_lists.specs.Version1.{fault1}
 use Rattle.bitpack_lists.specs.Version2.{List2, fault2, first_out, tail_start}
 use Rattle.bitpack_lists.specs.Version3.{HasCode, List3, fault3, header_end}
 
--- ---- texts
+-- ---- encoded lists
 
--- values have at most one text of version 3
+-- values have at most one encoded list of version 3
 abbrev pub OneText3 : Type 0
 OneText3 = (lanes : ℕ) (kind : ListKind) (values text other : List ℕ) → 0 < lanes → AreBytes text → AreBytes other
     → List3 lanes kind values text → List3 lanes kind values other → other ≡ text
 
--- values in the order of their kind have a text of version 3, if they are not too many
+-- values in the order of their kind have an encoded list of version 3, if they are not too many
 abbrev pub HasText3 : Type 0
 HasText3 = (lanes : ℕ) (kind : ListKind) (values : List ℕ) → 0 < lanes → AreWords values → length values ≤ 2 ^ 28
     → first_out kind values ≡ None → (text : List ℕ) × AreBytes text × List3 lanes kind values text
 
--- a text of version 3 belongs to one kind and one list
+-- an encoded list of version 3 belongs to one kind and one list
 abbrev pub OneList3 : Type 0
 OneList3 = (lanes : ℕ) (kind kind' : ListKind) (values others text : List ℕ) → 0 < lanes → AreBytes text
     → List3 lanes kind values text → List3 lanes kind' others text → (kind' ≡ kind) × (others ≡ values)
 
--- bytes have no fault exactly if they are the text of some list, for each number of lanes that a text can say
+-- bytes have no fault exactly if they encode some list, for each number of lanes that a header can state
 abbrev pub NoFault3 : Type 0
 NoFault3 = (lanes : ℕ) (bytes : List ℕ) → 0 < lanes → HasCode lanes → AreBytes bytes
     → (fault3 lanes bytes ≡ None) ↔ ((kind : ListKind) × (values : List ℕ) × List3 lanes kind values bytes)
 
--- the entries and the bodies of a list are the same bytes in versions 2 and 3
+-- the skip entries and the bodies of a list are the same bytes in versions 2 and 3
 abbrev pub SameBlocks3 : Type 0
 SameBlocks3 = (lanes : ℕ) (kind : ListKind) (values text other : List ℕ) → 0 < lanes → AreBytes text → AreBytes other
     → List2 lanes kind values text → List3 lanes kind values other
     → take (tail_start lanes (whole_blocks lanes (length values)) (drop (header_end other) other)) (drop (header_end other) other)
     ≡ take (tail_start lanes (whole_blocks lanes (length values)) (drop 7 text)) (drop 7 text)
 
--- what is a text of one version is refused as any other, whatever the lanes: version 3 refuses the number of the version, and versions 1
--- and 2 a text of version 3 for its first byte or its length
+-- an encoded list of one version is refused as any other, whatever the lanes: version 3 refuses the number of the version, and versions
+-- 1 and 2 refuse a version 3 list for its first byte or its length
 abbrev pub OneVersion : Type 0
 OneVersion = (lanes other : ℕ) (bytes : List ℕ)
     → (fault1 lanes bytes ≡ None → (fault2 other bytes ≡ Some (BadVersion 1)) × (fault3 other bytes ≡ Some (BadVersion 1)))
     × (fault2 lanes bytes ≡ None → (fault1 other bytes ≡ Some (BadVersion 2)) × (fault3 other bytes ≡ Some (BadVersion 2)))
     × (fault3 lanes bytes ≡ None → (fault1 other bytes ≢ None) × (fault2 other bytes ≢ None))
 
--- ---- numbers and groups
+-- ---- varints and groups
 
--- bytes without a fault begin with the bytes of the number that is read from them, and of no other number
+-- bytes without a fault begin with the varint of the number that is read from them, and of no other number
 abbrev pub OneNumber : Type 0
 OneNumber = (bytes : List ℕ) → AreBytes bytes → number_fault bytes ≡ None
     → (number_value bytes < 2 ^ 32) × (take (number_end bytes) bytes ≡ number (number_value bytes))
     × ((other : ℕ) (rest : List ℕ) → other < 2 ^ 32 → bytes ≡ number other ++ rest → other ≡ number_value bytes)
 
--- bytes that begin with the bytes of a number have no fault, and the number is read from them
+-- bytes that begin with the varint of a number have no fault, and the number is read from them
 abbrev pub NumberReadsBack : Type 0
 NumberReadsBack = (x : ℕ) (rest : List ℕ) → x < 2 ^ 32
     → (number_fault (number x ++ rest) ≡ None) × (number_value (number x ++ rest) ≡ x) × (number_end (number x ++ rest) ≡ length (number x))

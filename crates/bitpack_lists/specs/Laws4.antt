@@ -1,4 +1,4 @@
--- Laws of version 4, proved of the definitions alone: of its texts, its bodies and its bit sets.
+-- Laws of version 4, proved of the definitions alone: of its encoded lists, its bodies and its bit sets.
 use Rattle.std.specs.Prelude.{◌≡◌, ◌≢◌, ◌↔◌, ◌⊎◌, ℕ, ◌-◌, ◌*◌, ◌^◌, ◌<◌, ◌≤◌, ⊤, true, Option, None, Some, List, length, drop, slice_index}
 use Rattle.std.specs.List.Sorted.{IsStrictlyIncreasing}
 use Rattle.bitpacking.specs.declared.kind.Kind.{Kind}
@@ -17,29 +17,29 @@ use Rattle.bitpack_lists.specs.Version2.{List2, body_at, fault2, first_out, widt
 use Rattle.bitpack_lists.specs.Version3.{HasCode, fault3}
 use Rattle.bitpack_lists.specs.Version4.{IsBody4, List4, body_at4, body_fault4, body_values, codes4, fault4, header_end4, is_mark, kind_at4, mark_at, size_at}
 
--- ---- texts
+-- ---- encoded lists
 
--- values have at most one text of version 4
+-- values have at most one encoded list of version 4
 abbrev pub OneText4 : Type 0
 OneText4 = (lanes : ℕ) (kind : ListKind) (values text other : List ℕ) → 0 < lanes → AreBytes text → AreBytes other
     → List4 lanes kind values text → List4 lanes kind values other → other ≡ text
 
--- values of a block or more in the order of their kind have a text of version 4, if they are not too many
+-- values of a block or more in the order of their kind have an encoded list of version 4, if they are not too many
 abbrev pub HasText4 : Type 0
 HasText4 = (lanes : ℕ) (kind : ListKind) (values : List ℕ) → 0 < lanes → AreWords values → 32 * lanes ≤ length values → length values ≤ 2 ^ 28
     → first_out kind values ≡ None → (text : List ℕ) × AreBytes text × List4 lanes kind values text
 
--- a text of version 4 belongs to one kind and one list
+-- an encoded list of version 4 belongs to one kind and one list
 abbrev pub OneList4 : Type 0
 OneList4 = (lanes : ℕ) (kind kind' : ListKind) (values others text : List ℕ) → 0 < lanes → AreBytes text
     → List4 lanes kind values text → List4 lanes kind' others text → (kind' ≡ kind) × (others ≡ values)
 
--- bytes have no fault exactly if they are the text of some list, for each number of lanes that a text can say
+-- bytes have no fault exactly if they encode some list, for each number of lanes that a header can state
 abbrev pub NoFault4 : Type 0
 NoFault4 = (lanes : ℕ) (bytes : List ℕ) → 0 < lanes → HasCode lanes → AreBytes bytes
     → (fault4 lanes bytes ≡ None) ↔ ((kind : ListKind) × (values : List ℕ) × List4 lanes kind values bytes)
 
--- a text of version 4 has a fault as one of any other version, and a text of any other version as one of version 4
+-- an encoded list of version 4 has a fault as one of any other version, and a list of any other version as one of version 4
 abbrev pub NotAnother4 : Type 0
 NotAnother4 = (lanes other : ℕ) (bytes : List ℕ)
     → (fault4 lanes bytes ≡ None → (fault1 other bytes ≢ None) × (fault2 other bytes ≢ None) × (fault3 other bytes ≢ None))
@@ -66,20 +66,20 @@ pub record IsStrictBlock (lanes start last : ℕ) (values : List ℕ) : Type 0 w
   pub after : number_of_bit start 0 ≤ slice_index values 0
   pub ends : slice_index values (32 * lanes - 1) ≡ last
 
--- bytes that a reader takes as a bit set
+-- bytes that a reader accepts as a bit set
 pub record IsRightBits (lanes start last : ℕ) (body : List ℕ) : Type 0 where
   pub bytes : AreBytes body
   pub byte_count : length body ≡ size lanes (bits_size lanes start last)
   pub right : are_right lanes start last body ≡ true
 
--- bytes that a reader takes as a bit set are the bit set of the block that is read from them, and of no other
+-- bytes that a reader accepts as a bit set are the bit set of the block that is read from them, and of no other
 abbrev pub OneBlockOfBits : Type 0
 OneBlockOfBits = (lanes start last : ℕ) (body : List ℕ) → 0 < lanes → lanes ≤ 8 → start < 2 ^ 32 → last < 2 ^ 32 → number_of_bit start 0 ≤ last
     → IsRightBits lanes start last body
     → IsStrictBlock lanes start last (bit_values start body) × IsBits lanes start last (bit_values start body) body
     × ((others : List ℕ) → IsStrictBlock lanes start last others → IsBits lanes start last others body → others ≡ bit_values start body)
 
--- a block of a strict list has one bit set; a reader takes it, and reads the block from it
+-- a block of a strict list has one bit set; a reader accepts it, and reads the block from it
 abbrev pub OneBitsOfBlock : Type 0
 OneBitsOfBlock = (lanes start last : ℕ) (values : List ℕ) → 0 < lanes → start < 2 ^ 32 → last < 2 ^ 32
     → IsStrictBlock lanes start last values

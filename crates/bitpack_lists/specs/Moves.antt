@@ -1,11 +1,11 @@
--- Where a place stands in a list that is read block by block, and how it moves there.
+-- The position of a cursor in a list that is read block by block, and how it moves.
 use Rattle.std.specs.Prelude.{◌≡◌, ℕ, ◌+◌, ◌*◌, ◌^◌, ◌<◌, ◌≤◌, List, take}
 use Rattle.bitpack_lists.specs.declared.blocks.reads.Reads.{Reads}
 use Rattle.bitpack_lists.specs.declared.opened.place.Place.{Place}
 use Rattle.bitpack_lists.specs.Blocks.{IsPlaceOf, ReadsOne}
 use Rattle.bitpack_lists.specs.Places.{InOrder}
 
--- how many values are before a place
+-- how many values are before the cursor
 abbrev pub position_of : ℕ → Place → ℕ
 position_of lanes place = 32 * lanes * place.block + place.index
 
@@ -18,7 +18,7 @@ abbrev pub IsNext : ℕ → ℕ → ℕ → Type 0
 IsNext len old new = (old < len → new ≡ old + 1) × (len ≤ old → new ≡ old)
 
 module _ (lanes : ℕ) (Has : List ℕ → Type 0) where
-  -- it is a place of the list
+  -- it is a position of the list
   pub record IsAt (Ordered : Type 0) (place : Place) : Type 0 where
     pub here : (all : List ℕ) → Has all → IsPlaceOf lanes all place.block place.index place.len place.values
     pub ordered : Ordered → InOrder (current place)

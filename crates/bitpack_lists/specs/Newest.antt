@@ -1,4 +1,5 @@
--- The newest text of values: of version 3 if they are fewer than a block, and of version 4 otherwise. And what is written in a version.
+-- The newest encoded list of values: of version 3 if they are fewer than a block, and of version 4 otherwise. And what is written in a
+-- version.
 use Rattle.std.specs.Prelude.{ℕ, ◌*◌, ◌<◌, ◌≤◌, List, length}
 use Rattle.bitpack_lists.specs.declared.list_kind.ListKind.{ListKind}
 use Rattle.bitpack_lists.specs.declared.version.Version.{Version}
@@ -11,7 +12,7 @@ pub record IsNewest (lanes : ℕ) (kind : ListKind) (values text : List ℕ) : T
   pub short : length values < 32 * lanes → List3 lanes kind values text
   pub long : 32 * lanes ≤ length values → List4 lanes kind values text
 
--- the text that is written in a version: in version 4 the newest
+-- the encoded list that is written in a version: in version 4 the newest
 abbrev pub IsWritten : Version → ℕ → ListKind → List ℕ → List ℕ → Type 0
 IsWritten versions.Two = List2
 IsWritten versions.Three = List3

@@ -1,16 +1,16 @@
--- Numbers of the format: seven bits a byte, the lowest first, with 128 added to every byte but the last. A number has five bytes at most.
+-- Varints: integers of seven bits a byte, the lowest first, with 128 added to every byte but the last. A varint has at most five bytes.
 use Rattle.std.specs.Prelude.{ℕ, zero, suc, max, ◌+◌, ◌*◌, ◌/◌, ◌%◌, ◌^◌, ◌&&◌, ◌==◌, nat_lt, nat_le, if◌then◌else◌, List, [], ◌∷◌, length, slice_index, Option, Some, None}
 use Rattle.std.specs.Option.{option_or}
 use Rattle.bitpacking.specs.Words.{joined}
 use Rattle.bitpack_lists.specs.declared.list_error.ListError.{ListError}
 use Rattle.bitpack_lists.specs.declared.list_error.ListError.TheVariants.{Short, BadNumber, TooLong}
 
--- the bytes of a number, at most the given number of them
+-- the bytes of a varint, at most this many of them
 unfoldable pub number_in : ℕ → ℕ → List ℕ
 number_in zero x = []
 number_in (suc more) x = if nat_lt x 128 then x ∷ [] else (x % 128 + 128) ∷ number_in more (x / 128)
 
--- the bytes of a number below 2 ^ 32
+-- the varint of a number below 2 ^ 32
 abbrev pub number : ℕ → List ℕ
 number x = number_in 5 x
 
@@ -20,15 +20,15 @@ going_on zero bytes = 0
 going_on (suc most) [] = 0
 going_on (suc most) (byte ∷ bytes) = if nat_lt byte 128 then 0 else suc (going_on most bytes)
 
--- how many bytes the number at the front has
+-- how many bytes the varint at the front has
 unfoldable pub number_end : List ℕ → ℕ
 number_end bytes = going_on 5 bytes + 1
 
--- the number at the front: seven bits of each of its bytes
+-- the number of the varint at the front: seven bits of each of its bytes
 unfoldable pub number_value : List ℕ → ℕ
 number_value bytes = joined 7 (λ i. slice_index bytes i % 128) (number_end bytes)
 
--- the first fault of the number at the front
+-- the first fault of the varint at the front
 unfoldable pub number_fault : List ℕ → Option ListError
 number_fault bytes =
     if going_on 5 bytes == 5 then Some BadNumber
@@ -37,7 +37,7 @@ number_fault bytes =
     else if nat_le (2 ^ 32) (number_value bytes) then Some BadNumber
     else None
 
--- the first fault of the number at the front as a count that is at least `least`
+-- the first fault of the varint at the front as a count that is at least `least`
 unfoldable pub count_fault : ℕ → List ℕ → Option ListError
 count_fault least bytes =
     option_or (number_fault bytes)

@@ -1,4 +1,4 @@
--- What a packed list that was opened shows: its text, its kind and its values.
+-- What a packed list that was opened shows: its bytes, its kind and its values.
 use Rattle.std.specs.Prelude.{ℕ, List, map}
 use Rattle.std.specs.List.{range_with_len}
 use Rattle.bitpacking.specs.declared.bit_packer.BitPacker.{Ghosts}
@@ -25,7 +25,7 @@ module _ {P : Type 0} {members : Ghosts P} (list : PackedList P members) where
 abbrev pub text : {P : Type 0} {members : Ghosts P} → PackedList P members → List ℕ
 text list = list.bytes.now
 
--- the version of its text
+-- the version of its bytes
 abbrev pub version_of : {P : Type 0} {members : Ghosts P} → PackedList P members → Version
 version_of list = list.version
 
@@ -33,7 +33,7 @@ version_of list = list.version
 abbrev pub kind_of : {P : Type 0} {members : Ghosts P} → PackedList P members → ListKind
 kind_of list = list.kind
 
--- the numbers that a function gives at the positions below a count
+-- the numbers that a function returns at the positions below a count
 unfoldable pub first_of : (ℕ → ℕ) → ℕ → List ℕ
 first_of value count = map value (range_with_len 0 count)
 

@@ -1,4 +1,4 @@
--- What opening a text found, in numbers.
+-- What opening found in bytes, in numbers.
 use Rattle.std.specs.Prelude.{◌≡◌, ◌≢◌, ℕ, ◌*◌, ◌^◌, ◌≤◌, ◌==◌, nat_lt, if◌then◌else◌, List, length, drop, Some, None}
 use Rattle.bitpacking.specs.Bits.{AreBytes}
 use Rattle.bitpacking.specs.declared.kind.Kind.{Kind}
@@ -26,7 +26,7 @@ before_of (blocks.Sorted last) = last
 before_of (blocks.StrictlySorted None) = 0
 before_of (blocks.StrictlySorted (Some last)) = last
 
--- what is packed in a tail after this value, in place of its values
+-- what is packed in a tail after this value, instead of its values
 abbrev pub kind_of_tail : ℕ → ListKind → ℕ → ℕ → Kind
 kind_of_tail lanes kind count before = if nat_lt count (32 * lanes) then first_kind kind else next_kind (first_kind kind) before
 

@@ -1,4 +1,4 @@
--- What an owned text shows: its version, its bytes, and the kind and the values of its list.
+-- What an owned list shows: its version, its bytes, and its kind and values.
 use Rattle.std.specs.Prelude.{ℕ, List, drop}
 use Rattle.bitpacking.specs.declared.bit_packer.BitPacker.{Ghosts}
 use Rattle.bitpack_lists.specs.declared.list_kind.ListKind.{ListKind}
@@ -7,7 +7,7 @@ use Rattle.bitpack_lists.specs.declared.version.Version.{Version}
 use Rattle.bitpack_lists.specs.Opened.{first_of}
 use Rattle.bitpack_lists.specs.Texts.{stated_count, stated_end, stated_kind, value_in, version_in}
 
--- the values of a text, as its header and its bytes state them
+-- the values of an encoded list, as its header and its bytes state them
 abbrev pub stated_values : Version → ℕ → List ℕ → List ℕ
 stated_values version lanes bytes =
     first_of (value_in version lanes (stated_count version bytes) (stated_kind version bytes) (drop (stated_end version bytes) bytes)) (stated_count version bytes)

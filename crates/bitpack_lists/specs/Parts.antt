@@ -87,7 +87,7 @@ first_kind lists.Plain = blocks.Plain
 first_kind lists.Sorted = blocks.Sorted 0
 first_kind lists.StrictlySorted = blocks.StrictlySorted None
 
--- the kind of each block, by a function that gives the last value of each block
+-- the kind of each block, by a function that returns the last value of each block
 abbrev pub kind_after : ListKind → (ℕ → ℕ) → ℕ → Kind
 kind_after kind last zero = first_kind kind
 kind_after kind last (suc block) = next_kind (first_kind kind) (last block)

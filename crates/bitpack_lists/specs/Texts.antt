@@ -1,4 +1,4 @@
--- Texts of versions 2 to 4: what a list that was opened from one keeps of it, and the values that it finds there.
+-- Encoded lists of versions 2 to 4: what opening one finds, and the values that a reader finds there.
 use Rattle.std.specs.Prelude.{◌≡◌, ◌≢◌, ℕ, nat_lt, if◌then◌else◌, List, drop, slice_index, Option, None}
 use Rattle.bitpacking.specs.declared.kind.Kind.{Kind}
 use Rattle.bitpacking.specs.Words.{word}
@@ -12,7 +12,7 @@ use Rattle.bitpack_lists.specs.Version2.{List2, block_at, fault2, last_at, tail_
 use Rattle.bitpack_lists.specs.Version3.{List3, count3, fault3, header_end, kind3, tail_values3}
 use Rattle.bitpack_lists.specs.Version4.{List4, block_at4, count4, fault4, header_end4, kind4, mark_at, tail_start4, tail_values4}
 
--- bytes are the text of a list
+-- bytes encode a list
 abbrev pub IsText : Version → ℕ → ListKind → List ℕ → List ℕ → Type 0
 IsText versions.Two = List2
 IsText versions.Three = List3
@@ -63,7 +63,7 @@ pub record States (version : Version) (lanes : ℕ) (bytes : List ℕ) (kind : L
   pub count_is : count ≡ stated_count version bytes
   pub rest_is : rest ≡ drop (stated_end version bytes) bytes
 
--- ---- what a reader finds in the rest of a text, of `blocks` blocks
+-- ---- what a reader finds in the rest of a list of `blocks` blocks
 
 -- the mark of a block, by which a block is found
 abbrev pub mark_in : Version → ℕ → List ℕ → ℕ → ℕ

@@ -12,7 +12,7 @@ use Rattle.bitpack_lists.specs.declared.list_error.ListError.TheVariants.{Short,
 use Rattle.bitpack_lists.specs.Chains.{second_kind}
 use Rattle.bitpack_lists.specs.Parts.{header_fault, count_of, whole_blocks, tail_values, first_kind, is_loose, BeginsWithHeader}
 
--- ---- the text of a list
+-- ---- the encoded list
 
 -- a block as its least width and the bytes that hold it
 pub record IsPart1 (lanes : ℕ) (kind : Kind) (block part : List ℕ) : Type 0 where
@@ -35,7 +35,7 @@ abbrev pub IsRead1 : ℕ → Kind → List ℕ → List ℕ → Kind → List �
 IsRead1 lanes kind block bytes next rest =
     (part : List ℕ) × AreWords block × IsPart1 lanes kind block part × (bytes ≡ part ++ rest) × (next ≡ second_kind lanes kind block)
 
--- the values are words, and the bytes are their text
+-- the values are words, and the bytes encode them
 pub record List1 (lanes : ℕ) (kind : ListKind) (values bytes : List ℕ) : Type 0 where
   pub words : AreWords values
   pub begins : BeginsWithHeader 1 lanes kind (length values) bytes
@@ -84,6 +84,6 @@ body_fault1 lanes count bytes =
     let tail = 4 * tail_values lanes count in
     if nat_lt (length bytes) (blocks + tail) then Some Short else blocks_fault1 lanes tail 0 blocks bytes
 
--- of a text of version 1
+-- of a version 1 list
 unfoldable pub fault1 : ℕ → List ℕ → Option ListError
 fault1 lanes bytes = option_or (header_fault 1 lanes bytes) (body_fault1 lanes (count_of bytes) (drop 7 bytes))

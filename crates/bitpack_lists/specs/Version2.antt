@@ -1,5 +1,5 @@
--- Packed lists of version 2: the header, an entry for each whole block, the bodies of the blocks, and the tail's values. The values
--- are in the order of their kind. What is after the header is called the rest of the text.
+-- Packed lists of version 2: the header, a skip entry for each whole block, the bodies of the blocks, and the tail's values. The
+-- values are in the order of their kind. What is after the header is called the rest of the bytes.
 use Rattle.std.specs.Prelude.{◌≡◌, ℕ, zero, suc, ◌+◌, ◌-◌, ◌*◌, ◌^◌, ◌<◌, ◌≤◌, Bool, false, not, ◌&&◌, ◌==◌, nat_lt, nat_le, if◌then◌else◌, List, [], ◌∷◌, ◌++◌, length, take, drop, slice_index, Option, Some, None}
 use Rattle.std.specs.Option.{option_or, option_map}
 use Rattle.bitpacking.specs.declared.kind.Kind.{Kind}
@@ -35,9 +35,9 @@ unfoldable pub values_fault : ListKind → List ℕ → Option ListError
 values_fault kind values =
     if nat_lt (2 ^ 28) (length values) then Some (TooLong (length values)) else option_map NotSorted (first_out kind values)
 
--- ---- the parts of the rest of a text, and their places
+-- ---- the parts of the rest of the bytes, and their offsets
 
--- the entry of a block: its width, the sum of the widths before it, and its last value
+-- the skip entry of a block: its width, the sum of the widths before it, and its last value
 abbrev pub width_at : List ℕ → ℕ → ℕ
 width_at rest block = slice_index rest (9 * block)
 
@@ -52,11 +52,11 @@ abbrev pub widths_before : List ℕ → ℕ → ℕ
 widths_before rest zero = 0
 widths_before rest (suc block) = widths_before rest block + width_at rest block
 
--- the kind of a block: it goes on from the last value that the entry before gives
+-- the kind of a block: it goes on from the last value that the skip entry before has
 abbrev pub kind_at : ListKind → List ℕ → ℕ → Kind
 kind_at kind rest = kind_after kind (last_at rest)
 
--- the body of a block, in a text of `blocks` blocks
+-- the body of a block, in a list of `blocks` blocks
 abbrev pub body_start : ℕ → ℕ → List ℕ → ℕ → ℕ
 body_start lanes blocks rest block = 9 * blocks + 4 * lanes * offset_at rest block
 
@@ -72,13 +72,13 @@ parts_before lanes blocks rest (suc block) = parts_before lanes blocks rest bloc
 abbrev pub tail_start : ℕ → ℕ → List ℕ → ℕ
 tail_start lanes blocks rest = 9 * blocks + 4 * lanes * widths_before rest blocks
 
--- ---- the text of a list
+-- ---- the encoded list
 
 -- a block of the values
 abbrev pub block_of : ℕ → List ℕ → ℕ → List ℕ
 block_of lanes values block = take (32 * lanes) (drop (32 * lanes * block) values)
 
--- the entry of a block is right
+-- the skip entry of a block is right
 pub record IsEntry2 (lanes : ℕ) (kind : ListKind) (values rest : List ℕ) (block : ℕ) : Type 0 where
   pub least : IsWidth (kind_at kind rest block) (block_of lanes values block) (width_at rest block)
   pub offset : offset_at rest block ≡ widths_before rest block
@@ -89,27 +89,27 @@ abbrev pub IsBody2 : ℕ → ℕ → ListKind → List ℕ → List ℕ → ℕ 
 IsBody2 lanes blocks kind values rest block =
     Holds lanes (width_at rest block) (kind_at kind rest block) (block_of lanes values block) (body_at lanes blocks rest block)
 
--- `blocks` whole blocks of the values are in the rest of a text, as versions 2 and 3 have them
+-- `blocks` whole blocks of the values are in the rest of a list, as versions 2 and 3 have them
 pub record HasBlocks (lanes blocks : ℕ) (kind : ListKind) (values rest : List ℕ) : Type 0 where
   pub entries : (block : ℕ) → block < blocks → IsEntry2 lanes kind values rest block
   pub bodies : (block : ℕ) → block < blocks → IsBody2 lanes blocks kind values rest block
   pub room : tail_start lanes blocks rest ≤ length rest
 
--- the rest of the text of values that have `blocks` whole blocks
+-- the rest of the bytes of values that have `blocks` whole blocks
 pub record IsRest2 (lanes blocks : ℕ) (kind : ListKind) (values rest : List ℕ) : Type 0 where
   pub whole : HasBlocks lanes blocks kind values rest
   pub tail : drop (tail_start lanes blocks rest) rest ≡ bytes_of_words (drop (32 * lanes * blocks) values)
 
--- the values are words in order, and the bytes are their text
+-- the values are words in order, and the bytes encode them
 pub record List2 (lanes : ℕ) (kind : ListKind) (values bytes : List ℕ) : Type 0 where
   pub words : AreWords values
   pub ordered : first_out kind values ≡ None
   pub begins : BeginsWithHeader 2 lanes kind (length values) bytes
   pub rest : IsRest2 lanes (whole_blocks lanes (length values)) kind values (drop 7 bytes)
 
--- ---- the values that the rest of a text gives
+-- ---- the values that the rest of the bytes encodes
 
--- a block, in a text of `blocks` blocks
+-- a block, in a list of `blocks` blocks
 abbrev pub block_at : ℕ → ℕ → ListKind → List ℕ → ℕ → List ℕ
 block_at lanes blocks kind rest block = values_of (kind_at kind rest block) (codes_of lanes (width_at rest block) (body_at lanes blocks rest block))
 
@@ -128,7 +128,7 @@ unfoldable pub first_fault : (ℕ → Option ListError) → ℕ → Option ListE
 first_fault fault zero = None
 first_fault fault (suc blocks) = option_or (first_fault fault blocks) (fault blocks)
 
--- of an entry
+-- of a skip entry
 unfoldable pub entry_fault2 : List ℕ → ℕ → Option ListError
 entry_fault2 rest block =
     if nat_lt 32 (width_at rest block) then Some (BadWidth block (width_at rest block))
@@ -142,12 +142,12 @@ block_fault2 lanes kind block width last body =
     else if not (slice_index (values_of kind (codes_of lanes width body)) (32 * lanes - 1) == last) then Some (BadLast block)
     else None
 
--- of the body of a block, in a text of `blocks` blocks
+-- of the body of a block, in a list of `blocks` blocks
 abbrev pub body_fault2 : ℕ → ℕ → ListKind → List ℕ → ℕ → Option ListError
 body_fault2 lanes blocks kind rest block =
     block_fault2 lanes (kind_at kind rest block) block (width_at rest block) (last_at rest block) (body_at lanes blocks rest block)
 
--- of bytes that end before a place, or after it
+-- of bytes that end before an offset, or after it
 abbrev pub short_of : ℕ → List ℕ → Option ListError
 short_of end bytes = if nat_lt (length bytes) end then Some Short else None
 
@@ -175,7 +175,7 @@ rest_fault2 lanes kind count rest =
     (option_or (order_fault kind (value_at lanes blocks kind rest) count)
     (trailing_after (tail_start lanes blocks rest + tail) rest))
 
--- of a text of version 2
+-- of a version 2 list
 unfoldable pub fault2 : ℕ → List ℕ → Option ListError
 fault2 lanes bytes =
     option_or (header_fault 2 lanes bytes) (rest_fault2 lanes (kind_of_byte (slice_index bytes 1)) (count_of bytes) (drop 7 bytes))

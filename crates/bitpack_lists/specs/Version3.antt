@@ -1,5 +1,5 @@
--- Packed lists of version 3: a short header, the entries and bodies of version 2, and the tail in groups. A list without a block has
--- its first value as a number before the groups. What is after the header is called the rest of the text.
+-- Packed lists of version 3: a short header, the skip entries and bodies of version 2, and the tail in groups. A list without a
+-- block has its first value as a varint before the groups. What is after the header is called the rest of the bytes.
 use Rattle.std.specs.Prelude.{◌≡◌, ℕ, zero, suc, min, ◌+◌, ◌-◌, ◌*◌, ◌/◌, ◌%◌, ◌^◌, ◌≤◌, Bool, not, ◌&&◌, ◌==◌, nat_lt, if◌then◌else◌, List, [], ◌∷◌, ◌++◌, length, drop, slice_index, Option, Some, None}
 use Rattle.std.specs.Option.{option_or}
 use Rattle.bitpacking.specs.Codes.{AreWords, codes, values_of}
@@ -20,7 +20,7 @@ lanes_of code = if code == 1 then 1 else if code == 2 then 4 else 8
 abbrev pub lanes_code : ℕ → ℕ
 lanes_code lanes = if lanes == 1 then 1 else if lanes == 4 then 2 else 3
 
--- a text can state this number of lanes
+-- a header can state this number of lanes
 abbrev pub HasCode : ℕ → Type 0
 HasCode lanes = lanes_of (lanes_code lanes) ≡ lanes
 
@@ -53,7 +53,7 @@ header_fault3 lanes bytes =
 
 -- ---- the tail
 
--- whether the first code of a tail is a number: only in a list without a block
+-- whether the first code of a tail is a varint: only in a list without a block
 abbrev pub has_first : ℕ → ℕ → Bool
 has_first blocks tail = blocks == 0 && nat_lt 0 tail
 
@@ -82,14 +82,14 @@ after_tail3 blocks tail bytes =
     then after_groups (groups_of (tail - 1)) (tail - 1) (drop (number_end bytes) bytes)
     else after_groups (groups_of tail) tail bytes
 
--- ---- the text of a list
+-- ---- the encoded list
 
--- the rest of the text of values that have `blocks` whole blocks
+-- the rest of the bytes of values that have `blocks` whole blocks
 pub record IsRest3 (lanes blocks : ℕ) (kind : ListKind) (values rest : List ℕ) : Type 0 where
   pub whole : HasBlocks lanes blocks kind values rest
   pub tail : IsTail3 blocks (codes (kind_at kind rest blocks) (drop (32 * lanes * blocks) values)) (drop (tail_start lanes blocks rest) rest)
 
--- the values are words in order, and the bytes are their text
+-- the values are words in order, and the bytes encode them
 pub record List3 (lanes : ℕ) (kind : ListKind) (values bytes : List ℕ) : Type 0 where
   pub words : AreWords values
   pub few : length values ≤ 2 ^ 28
@@ -120,6 +120,6 @@ rest_fault3 lanes kind count rest =
     (option_or (order_fault kind (value_at3 lanes blocks tail kind rest) count)
     (trailing_after 0 (after_tail3 blocks tail later))))
 
--- of a text of version 3
+-- of a version 3 list
 unfoldable pub fault3 : ℕ → List ℕ → Option ListError
 fault3 lanes bytes = option_or (header_fault3 lanes bytes) (rest_fault3 lanes (kind3 bytes) (count3 bytes) (drop (header_end bytes) bytes))

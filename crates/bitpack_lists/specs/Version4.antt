@@ -1,5 +1,5 @@
 -- Packed lists of version 4, of a block or more: a short header, the end and the mark of each block as integers of one to four bytes, the
--- bodies, and the tail in groups. A strict list may have bit sets as bodies. What is after the header is called the rest of the text: it
+-- bodies, and the tail in groups. A strict list may have bit sets as bodies. What is after the header is called the rest of the bytes: it
 -- begins with the byte of the sizes.
 use Rattle.std.specs.Prelude.{◌≡◌, ℕ, zero, suc, ◌+◌, ◌-◌, ◌*◌, ◌/◌, ◌%◌, ◌^◌, ◌<◌, ◌≤◌, Bool, true, false, not, ◌&&◌, ◌||◌, ◌==◌, nat_lt, nat_le, if◌then◌else◌, List, ◌∷◌, ◌++◌, length, map, take, drop, slice_index, Option, Some, None}
 use Rattle.std.specs.List.{list_all, list_any}
@@ -49,7 +49,7 @@ pub record IsBody4 (lanes : ℕ) (kind : Kind) (mark size_is : ℕ) (block body 
   pub packed : if_strict lanes kind mark (λ bits. nat_le bits width) ≡ false
       → (size_is ≡ width) × Layout lanes width (codes4 kind mark block) body
 
--- the values that a body of this size gives
+-- the values that a body of this size holds
 abbrev pub body_values : ℕ → Kind → ℕ → ℕ → List ℕ → List ℕ
 body_values lanes kind mark size body =
     if if_strict lanes kind mark (λ bits. size == bits) then bit_values (start kind) body else values_of4 kind mark (codes_of lanes size body)
@@ -63,7 +63,7 @@ body_fault4 lanes kind block mark size body =
     else if not (is_mark kind values mark) then Some (BadLast block)
     else None
 
--- ---- the parts of the rest of a text, of `blocks` blocks
+-- ---- the parts of the rest of a list of `blocks` blocks
 
 -- how many bytes each end has, and each mark: what the byte of the sizes says
 abbrev pub end_len : List ℕ → ℕ
@@ -101,9 +101,9 @@ kind_at4 blocks kind rest = kind_after kind (mark_at blocks rest)
 abbrev pub body_at4 : ℕ → ℕ → List ℕ → ℕ → List ℕ
 body_at4 lanes blocks rest block = take (size lanes (size_at rest block)) (drop (bodies_start blocks rest + size lanes (begin_at rest block)) rest)
 
--- ---- the text of a list
+-- ---- the encoded list
 
--- a block of the values is in the rest of a text
+-- a block of the values is in the rest of the bytes
 pub record IsBlock4 (lanes blocks : ℕ) (kind : ListKind) (values rest : List ℕ) (block : ℕ) : Type 0 where
   pub rising : begin_at rest block ≤ end_at rest block
   pub mark : is_mark (kind_at4 blocks kind rest block) (block_of lanes values block) (mark_at blocks rest block) ≡ true
@@ -115,7 +115,7 @@ pub record AreShort (blocks : ℕ) (rest : List ℕ) : Type 0 where
   pub ends : end_len rest ≡ byte_count (begin_at rest blocks)
   pub marks : mark_len rest ≡ byte_count (greatest (mark_at blocks rest) blocks)
 
--- the rest of the text of values that have `blocks` whole blocks
+-- the rest of the bytes of values that have `blocks` whole blocks
 pub record IsRest4 (lanes blocks : ℕ) (kind : ListKind) (values rest : List ℕ) : Type 0 where
   pub short : AreShort blocks rest
   pub whole : (block : ℕ) → block < blocks → IsBlock4 lanes blocks kind values rest block
@@ -127,7 +127,7 @@ pub record IsRest4 (lanes blocks : ℕ) (kind : ListKind) (values rest : List �
 unfoldable pub header4 : ListKind → ℕ → ℕ → List ℕ
 header4 kind lanes count = (16 * lanes_code lanes + 4 + kind_byte kind) ∷ number count
 
--- the values are words in order, and the bytes are their text
+-- the values are words in order, and the bytes encode them
 pub record List4 (lanes : ℕ) (kind : ListKind) (values bytes : List ℕ) : Type 0 where
   pub words : AreWords values
   pub many : 32 * lanes ≤ length values
@@ -139,7 +139,7 @@ pub record List4 (lanes : ℕ) (kind : ListKind) (values bytes : List ℕ) : Typ
 
 -- ---- what a reader finds
 
--- a block, in a text of `blocks` blocks
+-- a block, in a list of `blocks` blocks
 abbrev pub block_at4 : ℕ → ℕ → ListKind → List ℕ → ℕ → List ℕ
 block_at4 lanes blocks kind rest block =
     body_values lanes (kind_at4 blocks kind rest block) (mark_at blocks rest block) (size_at rest block) (body_at4 lanes blocks rest block)
@@ -222,6 +222,6 @@ header_fault4 lanes bytes =
     else if not (lanes_of (slice_index bytes 0 / 16) == lanes) then Some (WrongLanes (lanes_of (slice_index bytes 0 / 16)))
     else count_fault (32 * lanes) (drop 1 bytes)
 
--- of a text of version 4
+-- of a version 4 list
 unfoldable pub fault4 : ℕ → List ℕ → Option ListError
 fault4 lanes bytes = option_or (header_fault4 lanes bytes) (rest_fault4 lanes (kind4 bytes) (count4 bytes) (drop (header_end4 bytes) bytes))

@@ -1,4 +1,4 @@
--- Texts of versions 1 and 2 worked by hand, with which the definitions are tested. Both versions have the texts of the same lists.
+-- Lists of versions 1 and 2 encoded by hand, with which the definitions are tested. The lists are the same in both versions.
 use Rattle.std.specs.Prelude.{◌≡◌, ℕ, ◌+◌, ◌*◌, ◌%◌, List, [], ◌∷◌, ◌++◌, drop, slice_index, Some, None}
 use Rattle.bitpack_lists.specs.declared.list_kind.ListKind.{ListKind}
 use Rattle.bitpack_lists.specs.declared.list_kind.ListKind.TheVariants.{Plain, Sorted, StrictlySorted}

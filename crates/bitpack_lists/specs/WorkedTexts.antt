@@ -1,4 +1,5 @@
--- Texts of version 3 worked by hand, with which the definitions are tested. Each text has no fault, and gives its kind and its values.
+-- Lists of version 3 encoded by hand, with which the definitions are tested. The bytes of each have no fault, and hold its kind and
+-- its values.
 use Rattle.std.specs.Prelude.{◌≡◌, ℕ, ◌+◌, ◌*◌, ◌%◌, List, [], ◌∷◌, ◌++◌, drop, map, replicate, Some, None}
 use Rattle.std.specs.List.{range_with_len}
 use Rattle.bitpack_lists.specs.declared.list_kind.ListKind.{ListKind}
@@ -11,7 +12,7 @@ use Rattle.bitpack_lists.specs.Version3.{count3, fault3, header_end, kind3, valu
 abbrev pub listed : (ℕ → ℕ) → ℕ → List ℕ
 listed f n = map f (range_with_len 0 n)
 
--- the values that a text gives
+-- the values that bytes encode
 abbrev pub values3 : ℕ → List ℕ → List ℕ
 values3 lanes bytes =
     listed (value_at3 lanes (whole_blocks lanes (count3 bytes)) (tail_values lanes (count3 bytes)) (kind3 bytes) (drop (header_end bytes) bytes)) (count3 bytes)

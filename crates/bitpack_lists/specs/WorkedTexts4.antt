@@ -1,4 +1,5 @@
--- Texts of version 4 worked by hand, with which the definitions are tested. Each text has no fault, and gives its kind and its values.
+-- Lists of version 4 encoded by hand, with which the definitions are tested. The bytes of each have no fault, and hold its kind and
+-- its values.
 use Rattle.std.specs.Prelude.{◌≡◌, ℕ, zero, suc, ◌+◌, ◌*◌, ◌/◌, ◌%◌, List, [], ◌∷◌, ◌++◌, drop, replicate, Some, None}
 use Rattle.bitpack_lists.specs.declared.list_kind.ListKind.{ListKind}
 use Rattle.bitpack_lists.specs.declared.list_kind.ListKind.TheVariants.{Plain, Sorted, StrictlySorted}
@@ -12,7 +13,7 @@ abbrev pub times : ℕ → List ℕ → List ℕ
 times zero bytes = []
 times (suc more) bytes = bytes ++ times more bytes
 
--- the values that a text gives
+-- the values that bytes encode
 abbrev pub values4 : ℕ → List ℕ → List ℕ
 values4 lanes bytes =
     listed (value_at4 lanes (whole_blocks lanes (count4 bytes)) (tail_values lanes (count4 bytes)) (kind4 bytes) (drop (header_end4 bytes) bytes)) (count4 bytes)

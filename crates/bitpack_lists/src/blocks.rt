@@ -1,4 +1,4 @@
-//! What all versions share of whole blocks: their entries, widths and order.
+//! What all versions share of whole blocks: their skip entries, widths and order.
 
 pub(crate) mod measuring;
 pub(crate) mod order;

@@ -57,7 +57,7 @@ pub fn pack_measured<P: BitPacker>(
     written
 }
 
-/// The number of bytes that [`pack_all`] and [`pack_measured`] write for the whole blocks of these values.
+/// Returns the number of bytes that [`pack_all`] and [`pack_measured`] write for the whole blocks of these values.
 pub fn packed_len<P: BitPacker>(packer: &P, kind: Kind, values: &[u32]) -> usize
     ensures { IsChainSize P.lanes kind values.now (length values.now / P.BLOCK_LEN) result }
 {

@@ -23,7 +23,7 @@ pub(crate) struct Header {
 }
 
 impl Header {
-    /// Tests the header of a text of this version, for a packer of `lanes` lanes.
+    /// Tests the header of an encoded list of this version, for a packer of `lanes` lanes.
     #[tactic(auto, unfolding(crate::specs::Parts::header_fault))]
     pub(crate) fn test(version: u8, lanes: usize, bytes: &[u8]) -> Result<Header, ListError>
         ensures fault { FindsFault result (header_fault version lanes bytes.now) }

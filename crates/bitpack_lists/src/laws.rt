@@ -18,13 +18,13 @@ ghost use Rattle.bitpack_lists.specs.Version2.{first_out};
 use crate::opened::PackedList;
 use bitpacking::BitPacker;
 
-/// `unpack_all` gives back the values that `pack_all` was given.
+/// `unpack_all` returns the values that `pack_all` packed.
 pub fn chains_read_back()
     ensures { ChainsReadBack }
 {}
 
-/// Values have at most one text of each version, and a text belongs to one kind and one list. Bytes have no fault exactly if
-/// they are a text; a fault in a width says that a smaller one holds the same codes.
+/// Values have at most one encoded list of each version, and an encoded list belongs to one kind and one list. Bytes have no fault exactly if
+/// they are an encoded list; a fault in a width says that a smaller one holds the same codes.
 pub fn one_text()
     ensures text { OneText1 }
     ensures list { OneList1 }
@@ -38,14 +38,14 @@ pub fn one_text()
     ensures fault3 { NoFault3 }
 {}
 
-/// At most 2 ^ 28 values have a text of each version from 1 to 3. In versions 2 and 3 they have to be in the order of their kind.
+/// At most 2 ^ 28 values have an encoded list of each version from 1 to 3. In versions 2 and 3 they have to be in the order of their kind.
 pub fn text_exists()
     ensures one { HasText1 }
     ensures two { HasText2 }
     ensures three { HasText3 }
 {}
 
-/// How long a text can be, by the number of its values: in each version, and in all of them.
+/// How long an encoded list can be, by the number of its values: in each version, and in all of them.
 pub fn text_fits()
     ensures one { Longest1 }
     ensures two { Longest2 }
@@ -54,24 +54,24 @@ pub fn text_fits()
     ensures room { FitsRoom }
 {}
 
-/// The text of an opened list is the text of its kind and its values, and of no other list.
+/// The bytes of an opened list encode its kind and its values, and no other list.
 pub fn opened_text<P: BitPacker>(list: &PackedList<'_, P>)
     ensures list { IsText (version_of list.now) P.lanes (kind_of list.now) (values list.now) (text list.now) }
     ensures only { IsTextOfNoOther (version_of list.now) P.lanes (kind_of list.now) (values list.now) (text list.now) }
     ensures ordered { first_out (kind_of list.now) (values list.now) ≡ None }
 {}
 
-/// The widths, the bodies of the blocks and the tail of a list are the same bytes in its texts of versions 1 and 2.
+/// The widths, the bodies of the blocks and the tail of a list are the same bytes in versions 1 and 2.
 pub fn same_bodies()
     ensures { SameBodies }
 {}
 
-/// The entries and the bodies of the blocks of a list are the same bytes in its texts of versions 2 and 3.
+/// The skip entries and the bodies of the blocks of a list are the same bytes in versions 2 and 3.
 pub fn same_blocks()
     ensures { SameBlocks3 }
 {}
 
-/// A text of one version is refused by the readers of the others.
+/// The readers of one version refuse an encoded list of another.
 pub fn one_version()
     ensures { OneVersion }
 {}
@@ -94,8 +94,7 @@ pub fn one_common()
     ensures short { CommonIsShort }
 {}
 
-/// Bytes without a fault begin with the bytes of one number, the one that is read from them. Bytes that begin with the bytes of a number
-/// are read as it.
+/// Bytes without a fault begin with one varint, the one that is read from them. Bytes that begin with a varint are read as it.
 pub fn one_number()
     ensures one { OneNumber }
     ensures back { NumberReadsBack }
@@ -111,8 +110,8 @@ pub fn one_group()
     ensures tail_back { GroupsReadBack }
 {}
 
-/// Values of a block or more have one text of version 4, and such a text belongs to one kind and one list. Bytes have no fault exactly if they
-/// are a text.
+/// Values of a block or more have one encoded list of version 4, and such a list belongs to one kind and these values. Bytes have no fault
+/// exactly if they are an encoded list.
 pub fn one_text4()
     ensures text { OneText4 }
     ensures exists { HasText4 }
@@ -120,7 +119,7 @@ pub fn one_text4()
     ensures fault { NoFault4 }
 {}
 
-/// A text of version 4 is refused by the readers of the others, and their texts by the reader of version 4.
+/// The readers of other versions refuse an encoded list of version 4, and the reader of version 4 refuses lists of other versions.
 pub fn one_version4()
     ensures { NotAnother4 }
 {}

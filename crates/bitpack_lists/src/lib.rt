@@ -1,11 +1,11 @@
 //! Chains of packed blocks, and packed lists.
 //!
-//! [`chain`] packs many blocks of one kind end to end. [`list`] writes a list of any length as one text, and reads untrusted
-//! texts. [`list2`] writes lists that are read in place, by search or by position, and reads them. The texts of [`list3`] are shorter for
-//! short lists, and [`list2`] reads them too. [`writing`] writes a list of either version to a slice, for callers whose version is a
-//! value. [`list4::ListBuilder`] collects the values of a list, and then writes it.
+//! [`chain`] packs many blocks of one kind end to end. [`list`] encodes a list of any length, and decodes untrusted bytes. [`list2`]
+//! encodes lists that are read without unpacking, by search or by position, and reads them. Lists of [`list3`] are shorter if they have
+//! few values, and [`list2`] reads them too. [`writing`] writes a list of a version that is a value to a slice. [`list4::ListBuilder`]
+//! collects the values of a list, and then writes it.
 //!
-//! The crate `bitpack` gives these modules again, and `bitpack_sorted` combines lists by their cursors. The tests of chains are in
+//! The crate `bitpack` re-exports these modules, and `bitpack_sorted` combines lists by their cursors. The tests of chains are in
 //! `bitpack_main`, tests of lists in `bitpack_uses`.
 #![tactic(auto)]
 

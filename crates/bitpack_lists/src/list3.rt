@@ -1,6 +1,6 @@
-//! Packed lists of version 3: a short header, the entries and bodies of version 2, and the tail in groups of 32 codes. Texts of short
-//! lists are about half as long as in version 2. [`PackedList::open3`](crate::list2::PackedList::open3) opens a text, and the list that
-//! it returns is read as one of version 2. [`upgrade`] converts a text of version 1 or 2.
+//! Packed lists of version 3: a short header, the skip entries and bodies of version 2, and the tail in groups of 32 codes. Short lists
+//! take about half as many bytes as in version 2. [`PackedList::open3`](crate::list2::PackedList::open3) opens bytes, and the list that
+//! it returns is read as one of version 2. [`upgrade`] converts a list of version 1 or 2.
 //!
 //! ```text
 //! 6f 21                         strictly sorted, 1 lane, 33 values
@@ -21,10 +21,10 @@ use crate::v4::newest::{append_list, list_len, write_list};
 use crate::version::Version;
 use bitpacking::BitPacker;
 
-/// Appends the text of version 3 of the values, which have to be in the order of their kind, as for `list2::encode`.
+/// Appends the encoded list of the values in version 3. They have to be in the order of their kind, as for `list2::encode`.
 ///
-/// The packer has 1, 4 or 8 lanes: a text can state no other number. A list has at most 268,435,456 values. The vector grows once at
-/// most.
+/// The packer has 1, 4 or 8 lanes: an encoded list can state no other number. A list has at most 268,435,456 values. The vector grows
+/// at most once.
 pub fn encode<P: BitPacker>(
     packer: &P,
     kind: ListKind,
@@ -32,7 +32,7 @@ pub fn encode<P: BitPacker>(
     out: &mut Vec<u8>,
 ) -> Result<(), ListError>
     requires lanes { HasCode P.lanes }
-    // What is appended is the text of the values.
+    // What is appended is the encoded list of the values.
     ensures ok { OnOk result ((text : List ℕ) × AreBytes text × List3 P.lanes kind values.now text
         × (out.new.items ≡ out.old.items ++ text)) }
     // Too many values are refused as such, values out of order at the first that is, and others only if memory runs out.
@@ -40,7 +40,7 @@ pub fn encode<P: BitPacker>(
     ensures order { length values.now ≤ 2 ^ 28
         → MatchOption (first_out kind values.now) (IfErr result (λ e. e ≡ ListError.Memory))
         (λ position. result ≡ Err (ListError.NotSorted position)) }
-    // Memory runs out only if the vector has no room for the text.
+    // Memory runs out only if the vector has no room for the encoded list.
     ensures room { length values.now ≤ 2 ^ 28 → first_out kind values.now ≡ None
         → OnErr result ((text : List ℕ) → List3 P.lanes kind values.now text
         → vec_capacity out.old < vec_len out.old + length text) }
@@ -49,11 +49,10 @@ pub fn encode<P: BitPacker>(
     append_list(Version::Three, packer, kind, values, out)
 }
 
-/// Writes the text of version 3 of the values at the start of the slice, and returns its length in bytes. Allocates nothing.
+/// Writes the encoded list of the values in version 3 at the start of the slice, and returns its length in bytes. Allocates nothing.
 ///
-/// The packer has 1, 4 or 8 lanes, and the values have to be in the order of their kind, as for [`encode`]. A slice that is too short
-/// is refused with `Short`; then nothing is written. The bytes after the text stay as they were. [`encoded_len`] tells how many bytes
-/// are needed.
+/// The packer has 1, 4 or 8 lanes, and the values have to be in the order of their kind, as for [`encode`]. If the slice is too short,
+/// it fails with `Short` and writes nothing. The bytes after the list are unchanged. [`encoded_len`] returns how many bytes are needed.
 pub fn encode_to<P: BitPacker>(
     packer: &P,
     kind: ListKind,
@@ -61,20 +60,21 @@ pub fn encode_to<P: BitPacker>(
     bytes: &mut [u8],
 ) -> Result<usize, ListError>
     requires lanes { HasCode P.lanes }
-    // What is written is the text of the values, and what is after it stays. Values with a fault are refused for the first, and others
-    // only if the slice has no room for the text.
+    // The encoded list of the values is written, and what is after it is unchanged. Values with a fault are refused for the first, and
+    // others only if the slice has no room.
     ensures { WritesOne (List3 P.lanes kind values.now) kind values.now result bytes.old bytes.new }
 {
     write_list(Version::Three, packer, kind, values, bytes)
 }
 
-/// The length in bytes of the text of version 3 of the values, which have to be in the order of their kind, as for [`encode`].
+/// Returns the length in bytes of the encoded list of the values in version 3. They have to be in the order of their kind, as for
+/// [`encode`].
 pub fn encoded_len<P: BitPacker>(
     packer: &P,
     kind: ListKind,
     values: &[u32],
 ) -> Result<usize, ListError>
-    // What is returned is the length of the text. Values with a fault are refused for the first.
+    // What is returned is the length of the encoded list. Values with a fault are refused for the first.
     ensures { MeasuresOne (List3 P.lanes kind values.now) kind values.now result }
 {
     list_len(Version::Three, packer, kind, values)

@@ -1,4 +1,4 @@
-//! A packed list that owns its text.
+//! A packed list that owns its bytes.
 
 ghost use Rattle.std.specs.Prelude.{◌≡◌, None};
 ghost use Rattle.bitpack_lists.specs.Texts.{fault_of_any};
@@ -10,7 +10,7 @@ use crate::opened::PackedList;
 use bitpacking::BitPacker;
 use std::alloc::Global;
 
-/// A packed list that owns its text of version 2, 3 or 4, which was tested once.
+/// A packed list of version 2, 3 or 4 that owns its bytes, which were tested once.
 ///
 /// <!-- crates/bitpack_uses/src/tests/doc_examples.rt -->
 /// ```rust
@@ -34,7 +34,7 @@ impl<P: BitPacker> ListBuf<P> {
     ghost use Rattle.bitpack_lists.specs.Texts.{IsText};
     ghost use Rattle.bitpack_lists.specs.Version2.{List2, fault2, first_out};
 
-    /// Opens a text of version 2, which is tested whole. Accepts any bytes, and allocates nothing.
+    /// Opens an encoded list of version 2. Tests all bytes, accepts any, and allocates nothing.
     ///
     /// Returns the bytes beside the first fault if they are refused.
     pub fn open(packer: P, bytes: Vec<u8>) -> Result<ListBuf<P>, (ListError, Vec<u8>)>
@@ -50,7 +50,7 @@ impl<P: BitPacker> ListBuf<P> {
         }
     }
 
-    /// Opens a text of version 2, 3 or 4, whichever its first byte says, as [`ListBuf::open`] does.
+    /// Opens an encoded list of version 2, 3 or 4, whichever its first byte says, as [`ListBuf::open`] does.
     pub fn open_any(packer: P, bytes: Vec<u8>) -> Result<ListBuf<P>, (ListError, Vec<u8>)>
         ensures sound { IfOk result (λ _. fault_of_any P.lanes bytes.items ≡ None) }
         ensures bytes { IfOk result (λ list. bytes_of_buf list ≡ bytes.items) }
@@ -86,7 +86,7 @@ impl<P: BitPacker> ListBuf<P> {
         Ok(ListBuf { packer, bytes })
     }
 
-    /// The list, which borrows the text. Nothing is tested again.
+    /// Returns the list, which borrows the bytes. Nothing is tested again.
     pub fn as_list(&self) -> PackedList<'_, P>
         ensures text { text result ≡ bytes_of_buf self.now }
         ensures kind { kind_of result ≡ kind_of_buf self.now }
@@ -98,14 +98,14 @@ impl<P: BitPacker> ListBuf<P> {
         PackedList::from_validated_any(self.packer, self.bytes.as_slice())
     }
 
-    /// The text.
+    /// Returns the bytes of the list.
     pub fn as_bytes(&self) -> &[u8]
         ensures { result.now ≡ bytes_of_buf self.now }
     {
         self.bytes.as_slice()
     }
 
-    /// The vector with the text.
+    /// Returns the vector with the bytes.
     pub fn into_bytes(self) -> Vec<u8>
         ensures bytes { result.items ≡ bytes_of_buf self }
         ensures sound { fault_of_any P.lanes result.items ≡ None }

@@ -11,9 +11,9 @@ use crate::version::Version;
 use bitpacking::BitPacker;
 use std::alloc::Global;
 
-/// The values of a list that is not finished. They are kept in a vector, since the text of a list begins with their number.
+/// The values of a list that is not finished. A vector holds them, since an encoded list begins with their number.
 ///
-/// A value that is out of order is refused when it is pushed, and the builder is then as it was.
+/// A value that is out of order is refused when it is pushed, and the builder is unchanged.
 ///
 /// <!-- crates/bitpack_uses/src/tests/doc_examples.rt -->
 /// ```rust
@@ -41,7 +41,7 @@ impl<P: BitPacker> ListBuilder<P> {
     ghost use Rattle.bitpack_lists.specs.Version3.{HasCode};
     ghost use Rattle.bitpack_lists.specs.Written.{WritesOne};
 
-    /// A builder without values. Allocates nothing.
+    /// Returns a builder without values. Allocates nothing.
     pub fn new(alloc: Global, packer: P, kind: ListKind) -> ListBuilder<P>
         ensures kind { kind_of_builder result ≡ kind }
         ensures values { values_of_builder result ≡ [] }
@@ -56,7 +56,7 @@ impl<P: BitPacker> ListBuilder<P> {
     /// Pushes a value. It costs one comparison, and now and then the vector grows.
     ///
     /// Fails with `TooLong` if there are 268,435,456 values, with `NotSorted` and the number of values so far if the value is out of order
-    /// after the last of them, or with `Memory`. The builder is then as it was.
+    /// after the last of them, or with `Memory`. The builder is then unchanged.
     pub fn push(&mut self, value: u32) -> Result<(), ListError>
         ensures kind { kind_of_builder self.new ≡ kind_of_builder self.old }
         ensures pushes { Pushes ListError.Memory (kind_of_builder self.old) (room_of_builder self.old)
@@ -69,10 +69,10 @@ impl<P: BitPacker> ListBuilder<P> {
         }
     }
 
-    /// Pushes all these values, or none. The vector grows once at most.
+    /// Pushes all these values, or none. The vector grows at most once.
     ///
     /// Fails as [`push`](ListBuilder::push) does: `NotSorted` has the position in the list of the first value that is out of order. The
-    /// builder is then as it was.
+    /// builder is then unchanged.
     pub fn extend(&mut self, values: &[u32]) -> Result<(), ListError>
         ensures kind { kind_of_builder self.new ≡ kind_of_builder self.old }
         ensures pushes { Pushes ListError.Memory (kind_of_builder self.old) (room_of_builder self.old)
@@ -102,30 +102,32 @@ impl<P: BitPacker> ListBuilder<P> {
         }
     }
 
-    /// How many values were pushed.
+    /// Returns how many values were pushed.
     pub fn len(&self) -> usize
         ensures { result ≡ length (values_of_builder self.now) }
     {
         self.values.len()
     }
 
-    /// The values that were pushed.
+    /// Returns the values that were pushed.
     pub fn values(&self) -> &[u32]
         ensures { result.now ≡ values_of_builder self.now }
     {
         self.values.as_slice()
     }
 
-    /// The kind of the list.
+    /// Returns the kind of the list.
     pub fn kind(&self) -> ListKind
         ensures { result ≡ kind_of_builder self.now }
     {
         self.kind
     }
 
-    /// Appends the newest text of the values, as [`encode`](crate::list4::encode) does. The builder keeps them, so that more can be pushed.
+    /// Appends the encoded list of the values in the newest version, as [`encode`](crate::list4::encode) does. The builder retains them, so
+    /// that more can be pushed.
     ///
-    /// The packer has 1, 4 or 8 lanes. Fails with `Memory` if `out` has no room for the text and cannot grow; it grows once at most.
+    /// The packer has 1, 4 or 8 lanes. Fails with `Memory` if `out` has no room for the encoded list and cannot grow; it grows at most
+    /// once.
     pub fn finish(&self, out: &mut Vec<u8>) -> Result<(), ListError>
         requires lanes { HasCode P.lanes }
         ensures ok { OnOk result ((text : List ℕ) × AreBytes text
@@ -141,7 +143,8 @@ impl<P: BitPacker> ListBuilder<P> {
         append_newest(&self.packer, self.kind, self.values.as_slice(), out)
     }
 
-    /// Writes the text of the values in a version to the start of a slice, and returns its length. The bytes after it stay.
+    /// Writes the encoded list of the values in a version to the start of a slice, and returns its length. The bytes after it are
+    /// unchanged.
     ///
     /// Fails with `Short` if the slice is too short. Then nothing is written.
     pub fn finish_to(&self, version: Version, bytes: &mut [u8]) -> Result<usize, ListError>

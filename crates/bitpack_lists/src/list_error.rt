@@ -16,7 +16,7 @@ pub enum ListError {
     BadVersion(u8),
     /// The kind is above 2; or it is 0, plain, and the list was to be searched.
     BadKind(u8),
-    /// The text was packed in this many lanes, and not in the packer's.
+    /// The list was packed in this many lanes, and not in the packer's.
     WrongLanes(u8),
     /// These are more than 268,435,456 values.
     TooLong(usize),
@@ -27,7 +27,7 @@ pub enum ListError {
     /// The offset of this block is not the sum of the widths before it; or in version 4, its end is below the one before it, or more than 32
     /// above it.
     BadOffset(usize),
-    /// The last value of this block is not the one that its entry gives; or in a plain list of version 4, its least value is not its mark.
+    /// The last value of this block is not the one in its skip entry; or in a plain list of version 4, its least value is not its mark.
     BadLast(usize),
     /// The value at this position is the first out of order.
     NotSorted(usize),
@@ -35,21 +35,21 @@ pub enum ListError {
     Trailing,
     /// The vector could not grow.
     Memory,
-    /// A number of version 3 is not written in its one form, or is too small or too large for its place. Or two lists are joined, and a value
-    /// of the second is above `u32::MAX` with the base that is added.
+    /// A varint of version 3 is not written in its one form, or is too small or too large here. Or two lists are joined, and a value of the
+    /// second is above `u32::MAX` with the base that is added.
     BadNumber,
     /// A bit is set after the last code of a group.
     Padding,
-    /// The list is of the first kind, and the caller asked for the second.
+    /// The list is of the first kind, and the caller wants the second.
     WrongKind(ListKind, ListKind),
-    /// The byte of the sizes, in a text of version 4, does not say the least counts of bytes from 1 to 4.
+    /// The byte of the sizes, in a list of version 4, does not say the least counts of bytes from 1 to 4.
     BadSizes(u8),
     /// The bit set of this block does not have as many bits as a block has values, or ends with another value than its mark.
     BadBits(usize),
 }
 
 impl ListError {
-    /// The number of the refusal: from 1 to 17 in the order of the variants.
+    /// Returns the number of the refusal: from 1 to 17 in the order of the variants.
     pub fn number(&self) -> u8
         ensures { result ≡ number_of self.now }
     {

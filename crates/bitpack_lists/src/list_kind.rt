@@ -7,7 +7,7 @@ ghost use Rattle.bitpack_lists.specs.Parts.{first_kind, kind_byte, kind_of_byte}
 use bitpacking::Kind;
 use std::fmt;
 
-/// What is packed in place of the values of a list.
+/// What is packed instead of the values of a list.
 #[derive(Clone, Copy, PartialEq, Eq, Debug)]
 pub enum ListKind {
     /// The values.

@@ -1,4 +1,4 @@
-//! Numbers as bytes: values as four bytes, the least first, and numbers of version 3, seven bits a byte.
+//! Integers as bytes: values as four bytes, the least first, and varints, seven bits a byte.
 
 ghost use Rattle.std.specs.Prelude.{◌≡◌, ◌+◌, ◌*◌, ◌/◌, ◌<◌, ◌≤◌, ◌++◌, ℕ, List, drop, length, slice_index, take, vec_len, vec_capacity, IfOk, None};
 ghost use Rattle.bitpacking.specs.Codes.{AreWords};
@@ -64,10 +64,10 @@ pub(crate) fn write_all(values: &[u32], out: &mut Vec<u8>)
     }
 }
 
-/// The most bytes of a number.
+/// The most bytes of a varint.
 pub(crate) const LONGEST_NUMBER: usize = 5;
 
-/// Tests the number at the front of the bytes, and returns its value and how many bytes it has.
+/// Tests the varint at the front of the bytes, and returns its value and how many bytes it has.
 #[inline(always)]
 pub(crate) fn test_number(bytes: &[u8]) -> Result<(u32, usize), ListError>
     ensures fault { FindsFault result (number_fault bytes.now) }
@@ -95,7 +95,7 @@ pub(crate) fn test_number(bytes: &[u8]) -> Result<(u32, usize), ListError>
     Err(ListError::BadNumber)
 }
 
-/// The value of the number at the front of the bytes, which has no fault, and how many bytes it has.
+/// The value of the varint at the front of the bytes, which has no fault, and how many bytes it has.
 #[inline(always)]
 pub(crate) fn unpack_number(bytes: &[u8]) -> (u32, usize)
     requires sound { number_fault bytes.now ≡ None }
@@ -112,7 +112,7 @@ pub(crate) fn unpack_number(bytes: &[u8]) -> (u32, usize)
     (value as u32, index + 1)
 }
 
-/// Writes the bytes of a number at the start of the slice, and returns how many they are.
+/// Writes the bytes of a varint at the start of the slice, and returns how many they are.
 pub(crate) fn write_number(value: u32, bytes: &mut [u8]) -> usize
     requires room { length (number value) ≤ length bytes.old }
     ensures len { result ≡ length (number value) }

@@ -1,4 +1,4 @@
-//! A packed list of version 2, 3 or 4, read in place: it borrows its text.
+//! A packed list of version 2, 3 or 4, read without unpacking all of it. It is zero-copy: it borrows its bytes.
 
 mod bits;
 mod blocks;
@@ -43,7 +43,7 @@ pub use place::Place;
 pub use read_blocks::ReadBlocks;
 use std::alloc::AllocError;
 
-/// A packed list whose text was tested when it was opened, so that reading it tests nothing again and cannot fail.
+/// A packed list whose bytes were tested when it was opened, so that reading it tests nothing again and cannot fail.
 #[derive(Drop)]
 pub struct PackedList<'a, P: BitPacker> {
     packer: P,
@@ -54,9 +54,9 @@ pub struct PackedList<'a, P: BitPacker> {
     // What is after the header, and its end.
     rest: &'a [u8],
     tail: &'a [u8],
-    // What is packed in a tail of groups in place of its values.
+    // What is packed in a tail of groups instead of its values.
     tail_kind: Kind,
-    // The text has no fault, so that it is the text of a list, which is of this kind and has this count of values.
+    // The bytes have no fault, and so encode a list, which is of this kind and has this count of values.
     pub ghost are_bytes: { AreBytes bytes.now },
     ghost few: { count ≤ 2 ^ 28 },
     ghost states: { States version P.lanes bytes.now kind count rest.now },
@@ -65,7 +65,7 @@ pub struct PackedList<'a, P: BitPacker> {
         → tail_kind ≡ kind_in version (whole_blocks P.lanes count) kind rest.now (whole_blocks P.lanes count) },
 }
 
-/// A whole block of a list: which it is, and what is packed in place of its values.
+/// A whole block of a list: which it is, and what is packed instead of its values.
 #[derive(Clone, Copy)]
 pub(crate) struct ListBlock {
     pub(crate) number: usize,
@@ -110,12 +110,12 @@ impl<'a, P: BitPacker> PackedList<'a, P> {
     ghost use Rattle.bitpack_lists.specs.Texts.{IsTextOfNoOther};
     ghost use Rattle.bitpack_lists.specs.Version2.{List2, fault2};
 
-    /// Opens a text of version 2, which is tested whole. Any bytes are taken, and no memory.
+    /// Opens an encoded list of version 2. Tests all bytes, accepts any, and allocates nothing.
     pub fn open(packer: P, bytes: &'a [u8]) -> Result<PackedList<'a, P>, ListError>
         // Bytes with a fault are refused for the first, and bytes without one are opened.
         ensures fault { FindsFault result (fault2 P.lanes bytes.now) }
         ensures bytes { IfOk result (λ list. text list ≡ bytes.now) }
-        // The bytes are the text of this kind and these values, and of no other list.
+        // The bytes encode the list of this kind and these values, and no other.
         ensures list { IfOk result (λ list. List2 P.lanes (kind_of list) (values list) bytes.now) }
         ensures only { IfOk result (λ list.
             IsTextOfNoOther Version.Two P.lanes (kind_of list) (values list) bytes.now) }
@@ -125,8 +125,8 @@ impl<'a, P: BitPacker> PackedList<'a, P> {
         Ok(PackedList::of_text(packer, header, bytes))
     }
 
-    /// The list of a text of version 2 that was opened before: the blocks are not tested again. It is for a caller who keeps the
-    /// text alone, and the fact that it has no fault.
+    /// The list of version 2 whose bytes were opened before: the blocks are not tested again. It is for a caller who stores only
+    /// the bytes, and the fact that they have no fault.
     pub fn from_validated(packer: P, bytes: &'a [u8]) -> PackedList<'a, P>
         requires sound { fault2 P.lanes bytes.now ≡ None }
         ensures bytes { text result ≡ bytes.now }
@@ -137,7 +137,7 @@ impl<'a, P: BitPacker> PackedList<'a, P> {
         PackedList::of_text(packer, Header::of_bytes(bytes), bytes)
     }
 
-    // The list of a text of version 2 that has this header.
+    // The list of version 2 whose bytes have this header.
     fn of_text(packer: P, header: Header, bytes: &'a [u8]) -> PackedList<'a, P>
         requires sound { fault2 P.lanes bytes.now ≡ None }
         requires begins { BeginsWithHeader 2 P.lanes header.kind header.count bytes.now }
@@ -221,7 +221,7 @@ impl<'a, P: BitPacker> PackedList<'a, P> {
         }
     }
 
-    /// Unpacks a block, whose body is in the text.
+    /// Unpacks a block, whose body is in the bytes.
     fn unpack_block(&self, block: ListBlock, values: &mut [u32], reads: &mut Reads)
         requires block { IsListBlock self.now block }
         requires room { P.BLOCK_LEN ≤ length values.old }

@@ -1,4 +1,4 @@
-//! Converts texts of versions 1 to 3 to the newest version. The bytes are untrusted.
+//! Converts lists of versions 1 to 3 to the newest version. The bytes are untrusted.
 
 ghost use Rattle.std.specs.Prelude.{◌≡◌, ◌⊎◌, ◌+◌, ◌<◌, ◌≤◌, ◌++◌, ⊤, ℕ, List, ◌||◌, ◌==◌, nat_le, None, length, slice_index, OnOk, OnErr, IfOk, IfErr, MatchOption, vec_len, vec_capacity};
 ghost use Rattle.bitpacking.specs.Bits.{AreBytes};
@@ -23,14 +23,14 @@ use bitpacking::BitPacker;
 /// Converts a list of version 1, 2 or 3 to the newest version and appends the result: to version 4 if the list has a block or more, and
 /// otherwise to version 3.
 ///
-/// Accepts any bytes, and tests all of them before it appends a byte: as a text of version 3 if they begin with 64 or more, as one of
-/// version 2 if they begin with 2, and otherwise as one of version 1. So a text of version 4 is refused with `BadVersion`. Values out of
+/// Accepts any bytes, and tests all of them before it appends a byte: as a list of version 3 if they begin with 64 or more, as one of
+/// version 2 if they begin with 2, and otherwise as one of version 1. So a list of version 4 is refused with `BadVersion`. Values out of
 /// order are refused, as in [`list2::upgrade`](crate::list2::upgrade). The packer has 1, 4 or 8 lanes, as for
 /// [`encode`](crate::list4::encode).
 ///
 /// The values are unpacked into `values`, after what it holds, and are taken away again. Each vector grows at most once: `out` by the
-/// length of the new text, and `values` by the length of the list. A vector that is kept for the next call makes these calls allocate
-/// nothing for `values`.
+/// length of the new list, and `values` by the length of the list. If the caller uses `values` again for the next call, that call need
+/// not allocate for it.
 ///
 /// <!-- crates/bitpack_uses/src/tests/doc_examples.rt -->
 /// ```rust
@@ -48,7 +48,7 @@ pub fn upgrade<P: BitPacker>(
     out: &mut Vec<u8>,
 ) -> Result<(), ListError>
     requires lanes { HasCode P.lanes }
-    // The bytes are the text of some values in version 1, 2 or 3, and what is appended is the newest text of the same.
+    // The bytes encode some values in version 1, 2 or 3, and what is appended is the newest encoded list of the same.
     ensures ok { OnOk result ((kind : ListKind) × (all : List ℕ) × (text : List ℕ)
         × IsBefore4 P.lanes kind all bytes.now × AreBytes text × IsNewest P.lanes kind all text
         × (out.new.items ≡ out.old.items ++ text)) }
@@ -58,7 +58,7 @@ pub fn upgrade<P: BitPacker>(
     ensures order { (kind : ListKind) (all : List ℕ) → IsBefore4 P.lanes kind all bytes.now
         → MatchOption (first_out kind all) (IfErr result (λ e. e ≡ ListError.Memory))
         (λ position. result ≡ Err (ListError.NotSorted position)) }
-    // Memory runs out only if one of the vectors has no room: for the values, or for the text.
+    // Memory runs out only if one of the vectors has no room: for the values, or for the new list.
     ensures room { (kind : ListKind) (all text : List ℕ) → IsBefore4 P.lanes kind all bytes.now
         → IsNewest P.lanes kind all text → OnErr result
         ((vec_capacity values.old < vec_len values.old + length all)
@@ -77,7 +77,7 @@ pub fn upgrade<P: BitPacker>(
     result
 }
 
-/// Tests the whole text and the order of its values, appends these, and returns the kind of the list.
+/// Tests all bytes and the order of the values, appends these, and returns the kind of the list.
 fn append_values<P: BitPacker>(
     packer: &P,
     bytes: &[u8],
@@ -104,14 +104,14 @@ fn append_values<P: BitPacker>(
     Ok(list.kind())
 }
 
-/// Whether the bytes begin as a text of version 2 or 3.
+/// Returns whether the bytes begin as a list of version 2 or 3.
 fn is_opened(bytes: &[u8]) -> bool
     ensures { result ≡ (slice_index bytes.now 0 == 2) || nat_le 64 (slice_index bytes.now 0) }
 {
     is_two(bytes) || bytes.len() > 0 && bytes[0] >= FIRST_OF_3
 }
 
-/// Appends the values of a text of version 1 as [`append_values`] does.
+/// Appends the values of a version 1 list as [`append_values`] does.
 fn append_values1<P: BitPacker>(
     packer: &P,
     bytes: &[u8],

@@ -1,4 +1,4 @@
-//! Version 4: its bit sets; its header, blocks and texts, tested, read, measured and written.
+//! Version 4: its bit sets; its header, blocks and lists, tested, read, measured and written.
 
 pub(crate) mod bit_search;
 pub(crate) mod bit_set;

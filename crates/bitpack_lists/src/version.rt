@@ -1,12 +1,12 @@
-//! The versions of texts that are read in place.
+//! The versions of lists that are opened and read without unpacking all of them.
 
 ghost use Rattle.std.specs.Prelude.{◌≡◌};
 ghost use Rattle.bitpack_lists.specs.Outlines.{version_number, version_of_number};
 
-/// The first byte of a text of version 3 is at least this.
+/// The first byte of a version 3 list is at least this.
 pub(crate) const FIRST_OF_3: u8 = 64;
 
-/// The version of a text that is read in place. Versions 2 and 3 differ in the header and in the tail, and version 4 in the blocks too.
+/// The version of a list that can be opened. Versions 2 and 3 differ in the header and in the tail, and version 4 in the blocks too.
 #[derive(Clone, Copy, PartialEq, Eq)]
 pub enum Version {
     /// A header of seven bytes, and a tail of words.
@@ -17,7 +17,7 @@ pub enum Version {
     Four,
 }
 
-/// A version before 4, whose texts have the entries and bodies of version 2.
+/// A version before 4, with the skip entries and bodies of version 2.
 #[derive(Clone, Copy)]
 pub(crate) enum OlderVersion {
     /// Version 2.

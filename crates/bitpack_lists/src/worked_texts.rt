@@ -1,4 +1,4 @@
-//! Texts worked by hand, which the definitions hold of apart from any code.
+//! Encoded lists worked by hand. The definitions hold of them apart from any code.
 
 ghost use Rattle.bitpack_lists.specs.WorkedOlderTexts.{WorkedFaults1, WorkedFaults2, WorkedTexts1, WorkedTexts2};
 ghost use Rattle.bitpack_lists.specs.WorkedTexts.{WorkedFaults, WorkedTexts};

@@ -169,7 +169,7 @@ without-drop xs ys w e here = sym (ap (λ (zs : List ℕ). without zs ys) (first
 pub without-first : (xs ys : List ℕ) (w : ℕ) → first xs ≡ Some w → has ys w ≡ false → first (without xs ys) ≡ Some w
 without-first xs ys w e lacks = rw (first_head xs w e, without-kept w (after_first xs) ys lacks) refl
 
--- The first that is kept is one that the second lacks.
+-- The first that is retained is one that the second lacks.
 pub without-next : (xs ys : List ℕ) (w : ℕ) → first xs ≡ Some w → first (without xs ys) ≡ Some w → without (after_first xs) ys ≡ after_first (without xs ys)
 without-next xs ys w e f =
     let among = and_parts (has xs w) (not (has ys w)) (sym (has-without xs ys w) ∙ first_has (without xs ys) w f) in
@@ -202,7 +202,7 @@ at_least-above target xs v e =
     let among = and_parts (has xs v) (leb target v) (sym (has-at_least target xs v) ∙ first_has (at_least target xs) v e) in
     leb-true target v among.1
 
--- ---- two cursors that have met
+-- ---- two cursors at the same value
 
 -- if the second has not ended, the first is at what both share, or has ended
 met_first : (xs ys : List ℕ) (w : ℕ) → HaveMet xs ys → first ys ≡ Some w → first xs ≡ first (shared xs ys)

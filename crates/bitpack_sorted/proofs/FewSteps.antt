@@ -1,4 +1,4 @@
--- Each turn keeps the value of the lowest bit that is left.
+-- Each turn retains the value of the lowest bit that is left.
 use Prim.Native.Nat.{zero, suc}
 use Rattle.std.proofs.Common.{◌≡◌, ◌≢◌, ℕ, ◌+◌, ◌-◌, ◌*◌, ◌/◌, ◌%◌, ◌^◌, ◌<◌, ◌≤◌, List, ◌++◌, length, drop, take, get_or, set, bit_and, refl, sym, ◌∙◌, ap, arith, inl, inr, append-nil, w64}
 use Rattle.std.specs.Int.{bit_at, bit_not, trailing_zeros}
@@ -9,14 +9,14 @@ use Rattle.std.proofs.lemmas.Nat.Bits.{bit_at-lt, bit_at-trailing_zeros, bit_at-
 use Rattle.bitpack_sorted.specs.inner.Marks.{IsKeeping, marked}
 use Rattle.bitpack_sorted.proofs.KeepSteps.{kept_more}
 
--- the first `done` values are kept, and the bits of the others are left
+-- the first `done` values are retained, and the bits of the others are left
 pub record IsKeepingFew (bits left : ℕ) (old new : List ℕ) (kept from next done count : ℕ) : Type 0 where
   pub keeping : IsKeeping bits old new kept from next done
   pub within : done ≤ count
   pub same : (k : ℕ) → k < 64 → done ≤ k → bit_at left k ≡ bit_at bits k
   pub none : (k : ℕ) → k < done → bit_at left k ≡ 0
 
--- where no bit is set nothing is kept
+-- if no bit is set nothing is retained
 pub none_marked : (bits : ℕ) (xs : List ℕ) (from n : ℕ) → ((k : ℕ) → from ≤ k → k < from + n → bit_at bits k ≡ 0) → marked bits xs (from + n) ≡ marked bits xs from
 none_marked bits xs from zero none =
     let e : from + 0 ≡ from = omega arith in
@@ -84,7 +84,7 @@ few_done bits left old new kept from next done count few end before =
     keeping_further bits old new kept from next done count before.keeping before.within
     (λ k ge lt. sym (before.same k (omega arith) ge) ∙ ap (λ x. bit_at x k) end ∙ bit_at-zero k)
 
--- what is kept hangs on the first bits alone
+-- what is retained hangs on the first bits alone
 marked_same : (bits bits' : ℕ) (xs : List ℕ) (n : ℕ) → ((k : ℕ) → k < n → bit_at bits k ≡ bit_at bits' k) → marked bits xs n ≡ marked bits' xs n
 marked_same bits bits' xs zero same = refl
 marked_same bits bits' xs (suc n) same =

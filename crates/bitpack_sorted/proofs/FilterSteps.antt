@@ -1,4 +1,4 @@
--- Each turn keeps some of the next values.
+-- Each turn retains some of the next values.
 use Prim.Native.Nat.{zero, suc}
 use Rattle.std.proofs.Common.{◌≡◌, ◌⊎◌, ℕ, ◌+◌, ◌-◌, ◌^◌, ◌<◌, ◌≤◌, Bool, true, false, not, w64, List, [], ◌∷◌, ◌++◌, length, drop, take, get_or, refl, sym, ◌∙◌, ap, arith, inl, inr, append-nil}
 use Rattle.std.specs.Int.{bit_at, bit_not}
@@ -90,7 +90,8 @@ module _ (test : ℕ → Bool) (old ys : List ℕ) (kept from : ℕ) (s : AreKep
 
 -- ---- the values up to the last of a block
 
--- from one place to another values are filtered; those still to come are as they were and increase, and the first `passed` of the block are below them
+-- from one state to another values are filtered; those still to come are unchanged and increase, and the first `passed` of the block are
+-- below them
 pub record AreFiltered (lacking : Bool) (block values : List ℕ) (kept from : ℕ) (values' : List ℕ) (kept' from' passed : ℕ) : Type 0 where
   pub filters : Filters lacking block values kept from values' kept' from'
   pub forward : from ≤ from'
@@ -122,7 +123,7 @@ not_marked : (bits q : ℕ) (b : Bool) → bits < 2 ^ 64 → q < 64 → bit_at b
 not_marked bits q true small lt is = omega (arith, is, bit_at_not w64 bits q small lt)
 not_marked bits q false small lt is = omega (arith, is, bit_at_not w64 bits q small lt)
 
--- the bits of those that are kept
+-- the bits of the retained ones
 pub chosen : (lacking : Bool) (block : List ℕ) (bits chosen q v : ℕ) → bits < 2 ^ 64 → q < 64 → bit_at bits q ≡ mark_of (has block v)
     → ((lacking ≡ true) × (chosen ≡ bit_not w64 bits)) ⊎ ((lacking ≡ false) × (chosen ≡ bits)) → bit_at chosen q ≡ mark_of (keeps lacking block v)
 chosen lacking block bits c q v small lt is (inl (l, e)) = rw (l, e) (not_marked bits q (has block v) small lt is)

@@ -1,4 +1,4 @@
--- Current blocks, and what two places do not share, once their blocks are merged.
+-- Current blocks, and what two cursors do not share, once their blocks are merged.
 use Rattle.std.proofs.Common.{◌≡◌, ◌⊎◌, ℕ, zero, suc, ◌+◌, ◌<◌, ◌≤◌, Bool, true, false, ◌&&◌, ◌||◌, List, [], ◌∷◌, length, take, drop, get_or, Some, None, refl, sym, ◌∙◌, ap, arith, inl, inr, leb, eqb}
 use Rattle.std.proofs.Math.Bool.{and-false}
 use Rattle.std.proofs.lemmas.Bool.{cases_lt, eq-eqb, eqb-true, false_from_ne_true, false≢true, le-leb, lt-leb, or_right, true≢false}
@@ -119,7 +119,7 @@ first_of_none (x ∷ block) e = absurd (omega arith)
 
 -- ---- a merge
 
--- no value before the two places is in both lists
+-- no value before the two positions is in both lists
 pub record IsParted (one other : List ℕ) (i j : ℕ) (xs ys : List ℕ) : Type 0 where
   pub passed : (k : ℕ) → k < i → has ys (get_or one k 0) ≡ false
   pub other_passed : (k : ℕ) → k < j → has xs (get_or other k 0) ≡ false

@@ -1,4 +1,4 @@
--- Values of a slice that are combined with a cursor in their place: what is done is in front, and what is to come begins at an index.
+-- Values of a slice that are combined with a cursor in the slice: what is done is in front, and what is to come begins at an index.
 use Rattle.std.proofs.Common.{◌≡◌, ℕ, suc, ◌+◌, ◌-◌, ◌<◌, ◌≤◌, List, [], ◌∷◌, ◌++◌, length, drop, take, set, refl, ◌∙◌, ap, arith, inl, inr}
 use Rattle.std.specs.List.Sorted.{IsStrictlyIncreasing}
 use Rattle.std.proofs.lemmas.Bool.{cases_lt, lt-leb}

@@ -1,4 +1,4 @@
--- Each turn moves one value behind those that were kept, and counts it if its bit is set.
+-- Each turn moves one value after the retained ones, and counts it if its bit is set.
 use Prim.Native.Nat.{zero, suc}
 use Rattle.std.proofs.Common.{◌/◌, ◌^◌, bit_and, inl, inr, add-one, append-nil, ◌≡◌, ℕ, ◌+◌, ◌<◌, ◌≤◌, Bool, true, false, cond, List, [], ◌∷◌, ◌++◌, length, drop, take, get_or, set, refl, sym, ◌∙◌, ap, arith, eqb}
 use Rattle.std.specs.Int.{bit_at}

@@ -62,7 +62,7 @@ mask_small xs n is few t =
     let small : mask_l (map (top 31) (map (λ x. lane (t x)) xs)) < 2 ^ n = subst (λ k. mask_l (map (top 31) (map (λ x. lane (t x)) xs)) < 2 ^ k) long (mask_l-lt (map (top 31) (map (λ x. lane (t x)) xs))) in
     rw (mask_l-mod (map (top 31) (map (λ x. lane (t x)) xs)) 64 (omega (arith, long, few))) small
 
--- whether a number is one of n from a place on, test by test
+-- whether a number is one of n from an index on, test by test
 abbrev hits : ℕ → List ℕ → ℕ → ℕ → ℕ → Bool
 hits zero block j k v = false
 hits (suc n) block j k v = eqb (get_or block (j + k) 0) v || hits n block j (suc k) v

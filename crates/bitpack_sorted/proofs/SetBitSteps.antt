@@ -49,7 +49,7 @@ clear_is word j e = rw e refl
 
 -- ---- the bits of a word
 
--- the numbers of the bits before a place are written, and the other bits are left
+-- the numbers of the bits before a bit number are written, and the other bits are left
 pub record IsWriting (word left bits from done : ℕ) (old new : List ℕ) (written next : ℕ) : Type 0 where
   pub within : done ≤ bits
   pub few : next ≤ written + done

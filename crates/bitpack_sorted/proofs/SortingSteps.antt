@@ -1,4 +1,5 @@
--- Values that are sorted and then dropped if they repeat: what is kept is in front, and the values to come that are above it come next.
+-- Values that are sorted and then dropped if they repeat: what is retained is in front, and the values to come that are above it come
+-- next.
 use Rattle.std.proofs.Common.{◌≡◌, ◌⊎◌, ℕ, ◌+◌, ◌-◌, ◌<◌, ◌≤◌, Bool, true, false, ◌&&◌, ◌||◌, List, [], ◌∷◌, ◌++◌, length, drop, take, get_or, set, refl, sym, ◌∙◌, ap, arith, inl, inr, leb, eqb, add-zero, append-nil}
 use Rattle.std.specs.List.Sorted.{IsPermutation}
 use Rattle.std.proofs.Math.Bool.{and-false}
@@ -61,7 +62,7 @@ module _ (low x : ℕ) (xs : List ℕ) (order : IsOrdered (x ∷ xs)) where
   absent : (v : ℕ) → v < x → has xs v ≡ false
   absent v lt = below_all x v xs order.0 lt
 
-  -- it was kept before
+  -- it was retained before
   pub again : low ≡ x + 1 → left_from low (x ∷ xs) ≡ left_from (x + 1) xs
   again is =
       same_numbers (left_from low (x ∷ xs)) (left_from (x + 1) xs) (rising_left low (x ∷ xs) order) (rising_left (x + 1) xs order.1)
@@ -88,7 +89,7 @@ module _ (low x : ℕ) (xs : List ℕ) (order : IsOrdered (x ∷ xs)) where
 
 -- ---- a turn
 
--- what is kept, and then what is to come and above it
+-- what is retained, and then what is to come and above it
 pub record IsKept (old values : List ℕ) (kept index low : ℕ) : Type 0 where
   pub few : kept ≤ index
   pub order : IsOrdered (drop index values)

@@ -1,4 +1,4 @@
--- Values that are kept by the bits of their numbers.
+-- Values that are retained by the bits of their numbers.
 use Rattle.std.proofs.Common.{◌≡◌, ◌⊎◌, ℕ, ◌+◌, ◌-◌, ◌*◌, ◌/◌, ◌%◌, ◌^◌, ◌<◌, ◌≤◌, ◌==◌, Bool, true, false, w64, List, length, drop, get_or, bit_and, bit_or, refl, ◌∙◌, ap, arith, inl, inr}
 use Rattle.std.specs.Int.{bit_at, bit_not}
 use Rattle.std.specs.List.Sorted.{IsStrictlyIncreasing}
@@ -97,7 +97,7 @@ module _ (values : List ℕ) (from : ℕ) (words : List ℕ) (count reached bits
     clear = after;
   }
 
--- ---- values that are kept by these bits
+-- ---- values that are retained by these bits
 
 pub tested_kept : (lacking : Bool) (values : List ℕ) (from : ℕ) (words : List ℕ) (count reached bits c : ℕ) → bits < 2 ^ 64
     → IsStrictlyIncreasing (drop from values) → HasTested values from words count reached bits

@@ -1,4 +1,4 @@
--- Values of a slice to which those of a cursor are added in their place: the slice's are moved to the end, and both are merged to the front.
+-- Values of a slice to which those of a cursor are added in the slice: the slice's are moved to the end, and both are merged to the front.
 use Rattle.std.proofs.Common.{◌≡◌, ℕ, ◌+◌, ◌-◌, ◌<◌, ◌≤◌, true, ◌||◌, List, [], ◌∷◌, ◌++◌, append-nil, length, drop, take, Option, Some, refl, sym, subst, ◌∙◌, ap, arith, inl, inr}
 use Rattle.std.specs.List.{copy_within}
 use Rattle.std.proofs.lemmas.Bool.{cases_lt, or_cases, true≢false}

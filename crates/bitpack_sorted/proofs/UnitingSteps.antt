@@ -1,5 +1,5 @@
--- A slice that is united with others in its place: a turn of a merge writes the first value that is still to come, or passes one at hand
--- that was written.
+-- A slice that is united with others in the slice: a turn of a merge writes the first value that is still to come, or passes one of the
+-- current block that was written.
 use Rattle.std.proofs.Common.{◌≡◌, ◌⊎◌, ℕ, add-zero, ◌+◌, ◌-◌, ◌^◌, ◌<◌, ◌≤◌, Bool, true, false, ◌&&◌, List, [], ◌∷◌, ◌++◌, length, drop, take, get_or, set, max, min, None, Some, refl, sym, ◌∙◌, ap, arith, inl, inr, leb}
 use Rattle.std.specs.List.{copy_within}
 use Rattle.std.proofs.Math.Bool.{and-false}
@@ -144,7 +144,7 @@ module _ (values ys : List ℕ) (written from low : ℕ) (other : IsIncreasing y
         ∙ one_kept values written x (united (drop next values) (at_least (x + 1) ys)) (omega (arith, lt, ahead.within))
         ∙ ap (λ rest. take written values ++ rest) (sym parts)
 
--- what is above what is done is the same, and what was passed at hand is not
+-- what is above what is done is the same, and what was passed of the current block is not
 pub record IsTurned (ys hand old : List ℕ) (written from low : ℕ) (new : List ℕ) (written' from' low' passed' : ℕ) : Type 0 where
   pub to_come : IsStillToCome new (at_least low' ys) written' from' low'
   pub all : all_of new (at_least low' ys) written' from' ≡ all_of old (at_least low ys) written from
@@ -168,7 +168,7 @@ module _ (values hand ys : List ℕ) (written from low passed : ℕ) (other : Is
     ]
   ]
 
-  -- a value at hand that was written before
+  -- a value of the current block that was written before
   turned_again : get_or hand passed 0 < low → (x : ℕ) → IsTurned ys hand values written from low (set values written x) written from low (passed + 1)
   turned_again done x = record {
     to_come = still_to_come values ys written from low other ahead lt x;
@@ -183,7 +183,7 @@ module _ (values hand ys : List ℕ) (written from low passed : ℕ) (other : Is
     there : first left ≡ Some y
     there = first_of_block hand ys low passed other front before some above
 
-    -- a value at hand that is the first of all
+    -- a value of the current block that is the first of all
     turned_other : Some y ≡ first (united (drop from values) left) → drop from values ≡ at_least (y + 1) (drop from values)
         → IsTurned ys hand values written from low (set values written y) (written + 1) from (y + 1) (passed + 1)
     turned_other place moved = record {

@@ -1,4 +1,4 @@
--- The current block of a place in increasing values: those that it shows at once, such as the rest of a block of a list.
+-- The current block of a cursor over increasing values: those that it shows at once, such as the rest of a block of a list.
 use Rattle.std.specs.Prelude.{◌≡◌, ℕ, ◌<◌, true, false, List, length, slice_index}
 use Rattle.bitpack_sorted.specs.Increasing.{first, has}
 use Rattle.bitpack_lists.specs.Places.{InOrder}

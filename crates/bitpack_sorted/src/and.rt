@@ -10,7 +10,7 @@ use super::first_alone::first_alone;
 use super::sorted_cursor::SortedCursor;
 use super::words::shared_bits;
 
-/// The values that two cursors share. Each seeks the value of the other until both have the same.
+/// The values that two cursors share. They leapfrog: each seeks the value of the other until both have the same.
 #[derive(Drop)]
 pub struct And<A: SortedCursor, B: SortedCursor> {
     one: A,
@@ -19,7 +19,7 @@ pub struct And<A: SortedCursor, B: SortedCursor> {
 }
 
 impl<A: SortedCursor, B: SortedCursor> And<A, B> {
-    /// A cursor over the values that both have left. Moves both to the first of them.
+    /// Returns a cursor over the values that both have left. Moves both to the first of them.
     pub fn new(one: A, other: B) -> And<A, B>
         ensures { shared (A.rest result.one) (B.rest result.other) ≡ shared (A.rest one) (B.rest other) }
     {
@@ -75,7 +75,7 @@ impl<A: SortedCursor, B: SortedCursor> SortedCursor for And<A, B> {
     }
 }
 
-/// Moves both to the first value that they share, and returns it. Each seeks the value of the other.
+/// Moves both to the first value that they share, and returns it. They leapfrog: each seeks the value of the other.
 pub(super) fn next_shared<A: SortedCursor, B: SortedCursor>(
     one: &mut A,
     other: &mut B,
@@ -101,8 +101,8 @@ pub(super) fn next_shared<A: SortedCursor, B: SortedCursor>(
     None
 }
 
-/// A number from one on below which two places share no value from there on. With bits at hand it is the first value that they share, if
-/// that is near.
+/// Returns a number from one on below which two cursors share no value from their positions on. If both have bits, it is the first
+/// value that they share, if that is near.
 #[inline(always)]
 fn first_shared<A: SortedCursor, B: SortedCursor>(one: &A, other: &B, from: u32) -> u32
     ensures from { from ≤ result }
@@ -131,13 +131,13 @@ fn pass_unshared<A: SortedCursor, B: SortedCursor>(one: &mut A, other: &mut B)
 /// How many values of two slices are looked at to see whether it pays to merge them.
 const FEW: usize = 8;
 
-/// Whether two slices are about as dense: some values further in each, the other is further too.
+/// Returns whether two slices are about as dense: some values further in each, the other is further too.
 #[inline(always)]
 fn are_even(one: &[u32], other: &[u32]) -> bool {
     one.len() > FEW && other.len() > FEW && one[FEW] > other[2] && other[FEW] > one[2]
 }
 
-/// Merges the current blocks of two places, if it pays: returns a target below which they share no value, and how many values of each
+/// Merges the current blocks of two cursors, if it pays: returns a target below which they share no value, and how many values of each
 /// are below it.
 #[inline(always)]
 fn merge(one: &[u32], other: &[u32]) -> (u32, usize, usize)

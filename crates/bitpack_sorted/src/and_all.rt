@@ -20,7 +20,7 @@ pub struct AndAll<C: SortedCursor> {
 }
 
 impl<C: SortedCursor> AndAll<C> {
-    /// A cursor over the values that all of these have left. Moves them to the first of these values.
+    /// Returns a cursor over the values that all of these have left. Moves them to the first of these values.
     pub fn new(cursors: Vec<C>) -> AndAll<C>
         ensures { shared_by_all (map C.rest result.cursors.items) ≡ shared_by_all (map C.rest cursors.items) }
     {
@@ -97,7 +97,7 @@ fn meet_from<C: SortedCursor>(cursors: &mut Vec<C>, target: u32) -> Option<u32>
     None
 }
 
-/// Moves one after the other to a target. Stops at the first that lacks it, and returns the value that this one has in its place.
+/// Moves one after the other to a target. Stops at the first that lacks it, and returns the value that this one has instead.
 fn leap<C: SortedCursor>(cursors: &mut [C], target: u32) -> Option<u32>
     ensures { IsLeapt target result (map C.rest cursors.old) (map C.rest cursors.new) }
 {

@@ -18,7 +18,7 @@ pub struct AndNot<A: SortedCursor, B: SortedCursor> {
 }
 
 impl<A: SortedCursor, B: SortedCursor> AndNot<A, B> {
-    /// A cursor over the values left in the first that the second lacks.
+    /// Returns a cursor over the values left in the first that the second lacks.
     pub fn new(one: A, other: B) -> AndNot<A, B>
         ensures { without (A.rest result.one) (B.rest result.other) ≡ without (A.rest one) (B.rest other) }
     {

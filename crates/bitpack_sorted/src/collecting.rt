@@ -12,7 +12,7 @@ use std::alloc::AllocError;
 /// Of how many numbers the bits are taken at once to append values to a vector.
 const PAGE: usize = 256;
 
-/// Appends the values from the place of a cursor on, which moves to the end.
+/// Appends the values from the position of a cursor on, which moves to the end.
 ///
 /// If allocation fails, what was appended stays, and the cursor is at the first value that was not. So nothing is lost, and the
 /// caller can go on.
@@ -53,10 +53,10 @@ fn append_bits(words: &[u64], count: usize, from: u32, out: &mut Vec<u32>)
     let _room = out.extend_from_slice(&page[..written]);
 }
 
-/// Writes the values from the place of a cursor on to the front of a slice, all if they fit, and otherwise as many as it has room for.
-/// Returns their number.
+/// Writes the values from the position of a cursor on to the front of a slice, all if they fit, and otherwise as many as it has room
+/// for. Returns their number.
 ///
-/// The cursor moves past these values. The rest of the slice stays as it was.
+/// The cursor moves past these values. The rest of the slice is unchanged.
 ///
 /// <!-- crates/bitpack_uses/src/tests/doc_examples.rt -->
 /// ```rust
@@ -91,7 +91,7 @@ pub fn collect_to<C: SortedCursor>(cursor: &mut C, out: &mut [u32]) -> usize
     written
 }
 
-/// Counts the values from the place of a cursor on, which moves to the end.
+/// Counts the values from the position of a cursor on, which moves to the end.
 pub fn count<C: SortedCursor>(cursor: &mut C) -> usize
     ensures count { result ≡ length (C.rest cursor.old) }
     ensures end { C.rest cursor.new ≡ [] }

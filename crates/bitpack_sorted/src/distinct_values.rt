@@ -36,7 +36,7 @@ pub struct DistinctValues<'a, P: BitPacker> {
 impl<'a, P: BitPacker> DistinctValues<'a, P> {
     ghost use Rattle.bitpack_sorted.specs.Remaining.{remaining};
 
-    /// The values from the place of the cursor on.
+    /// Returns the values from the position of the cursor on.
     pub fn new(cursor: Cursor<'a, P>) -> DistinctValues<'a, P>
         requires { CanSeek cursor }
         ensures { remaining result ≡ distinct (values_left cursor.entry) }
@@ -75,7 +75,7 @@ impl<'a, P: BitPacker> DistinctValues<'a, P> {
         Some(value)
     }
 
-    /// Whether the next value is at hand, and no bits are; or the value here is the greatest number.
+    /// Returns whether the next value is in the current block, and there are no bits; or the value here is the greatest number.
     #[inline(always)]
     fn goes_by_value(&self, value: u32) -> bool
         requires { first (remaining self.now) ≡ Some value }
@@ -88,7 +88,7 @@ impl<'a, P: BitPacker> DistinctValues<'a, P> {
         }
     }
 
-    /// Whether a value of the current block is at least a target. Only time depends on the answer.
+    /// Returns whether a value of the current block is at least a target. Only time depends on the result.
     #[inline(always)]
     fn reaches(&self, target: u32) -> bool {
         match self.cursor.block() {

@@ -1,4 +1,4 @@
-//! The increasing values of a slice, combined with a cursor in their place.
+//! The increasing values of a slice, combined with a cursor in the slice.
 
 ghost use Rattle.std.specs.Prelude.{◌≡◌, ◌+◌, ◌<◌, ◌≤◌, IfSome, None, drop, length, take};
 ghost use Rattle.std.specs.List.Sorted.{IsStrictlyIncreasing};
@@ -14,10 +14,10 @@ use super::words::WORDS;
 use bitpack_lists::list2::first_from;
 use bitpacking::MAX_BLOCK_LEN;
 
-/// Keeps the values of a slice that a cursor has too: moves them to the front, in their order. Returns how many these are.
+/// Retains the values of a slice that a cursor has too: moves them to the front, in their order. Returns how many these are.
 ///
-/// The values increase. What is after those that are kept is of no use. Values and cursor seek each other, as in [`super::And`],
-/// so either may be much longer than the other. Allocates nothing.
+/// The values increase. What is after the retained ones is of no use. Values and cursor leapfrog: they seek each other, as in
+/// [`super::And`], so either may be much longer than the other. Allocates nothing.
 ///
 /// <!-- crates/bitpack_uses/src/tests/doc_examples.rt -->
 /// ```rust
@@ -40,9 +40,9 @@ pub fn intersect_in_place<C: SortedCursor>(values: &mut [u32], cursor: &mut C) -
     done.kept
 }
 
-/// Keeps the values of a slice that a cursor lacks: moves them to the front, in their order. Returns how many these are.
+/// Retains the values of a slice that a cursor lacks: moves them to the front, in their order. Returns how many these are.
 ///
-/// The values increase. What is after those that are kept is of no use. The cursor seeks values that it may have. Allocates nothing.
+/// The values increase. What is after the retained ones is of no use. The cursor seeks values that it may have. Allocates nothing.
 ///
 /// <!-- crates/bitpack_uses/src/tests/doc_examples.rt -->
 /// ```rust
@@ -124,8 +124,8 @@ fn next_from<C: SortedCursor>(values: &[u32], from: usize, cursor: &mut C) -> Op
     Some(from + to.saturating_sub(1))
 }
 
-/// Of the values from an index on, keeps those that a cursor has, or those that it lacks: as far as its bits at hand reach, if these are
-/// several values, and otherwise as far as its current block.
+/// Of the values from an index on, retains those that a cursor has, or those that it lacks: as far as its bits reach, if these are several
+/// values, and otherwise as far as its current block.
 #[inline(always)]
 fn keep_at_hand<C: SortedCursor>(
     values: &mut [u32],
@@ -147,7 +147,7 @@ fn keep_at_hand<C: SortedCursor>(
     }
 }
 
-/// The first values of the current block of a cursor, as many as a block of a list may have.
+/// Returns the first values of the current block of a cursor, as many as a block of a list may have.
 #[inline(always)]
 fn first_part<C: SortedCursor>(cursor: &C) -> &[u32]
     ensures front { IsFront result.now (C.rest cursor.now) }

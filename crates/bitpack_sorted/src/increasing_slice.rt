@@ -15,7 +15,7 @@ pub struct IncreasingSlice<'a> {
 }
 
 impl<'a> IncreasingSlice<'a> {
-    /// A cursor at the first value of a slice.
+    /// Returns a cursor at the first value of a slice.
     pub fn new(values: &'a [u32]) -> IncreasingSlice<'a>
         requires { IsStrictlyIncreasing values.now }
         ensures { result.values.now ≡ values.now }

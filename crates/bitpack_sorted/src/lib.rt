@@ -1,8 +1,8 @@
 //! Cursors over increasing values: intersections, unions and differences.
 //!
-//! A [`SortedCursor`] is a place in increasing values that only moves forward. [`DistinctValues`] is one over a packed list, and
-//! [`IncreasingSlice`] one over a slice. [`And`], [`Or`] and [`AndNot`] combine any two, [`AndAll`]
-//! and [`OrAll`] any number of one type. They are such cursors themselves.
+//! A [`SortedCursor`] is a position in increasing values that only moves forward. [`DistinctValues`] is one over a packed list,
+//! and [`IncreasingSlice`] one over a slice. [`And`], [`Or`] and [`AndNot`] combine any two, [`AndAll`] and [`OrAll`] any number
+//! of one type. They are such cursors themselves.
 //!
 //! ```text
 //! AndNot::new(And::new(a, Or::new(b, c)), d)      a AND (b OR c) AND NOT d

@@ -1,4 +1,4 @@
-//! Values that a block has, marked by the bits of a word, and kept in their place.
+//! Values that a block has, marked by the bits of a word, and retained in their slice.
 
 mod filtering;
 mod group;

@@ -17,7 +17,7 @@ pub struct Or<A: SortedCursor, B: SortedCursor> {
 }
 
 impl<A: SortedCursor, B: SortedCursor> Or<A, B> {
-    /// A cursor over the values left in either.
+    /// Returns a cursor over the values left in either.
     pub fn new(one: A, other: B) -> Or<A, B>
         ensures { united (A.rest result.one) (B.rest result.other) ≡ united (A.rest one) (B.rest other) }
     {
@@ -82,7 +82,7 @@ impl<A: SortedCursor, B: SortedCursor> SortedCursor for Or<A, B> {
     }
 }
 
-/// The lesser of two values, or the one that there is.
+/// Returns the lesser of two values, or the one that there is.
 #[inline(always)]
 fn lesser(one: Option<u32>, other: Option<u32>) -> Option<u32>
     ensures { result ≡ lesser_of one other }

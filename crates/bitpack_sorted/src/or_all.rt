@@ -21,7 +21,7 @@ pub struct OrAll<C: SortedCursor> {
 }
 
 impl<C: SortedCursor> OrAll<C> {
-    /// A cursor over the values left in any.
+    /// Returns a cursor over the values left in any.
     pub fn new(cursors: Vec<C>) -> OrAll<C>
         ensures { united_all (map C.rest result.cursors.items) ≡ united_all (map C.rest cursors.items) }
     {
@@ -103,7 +103,7 @@ fn least_from<C: SortedCursor>(cursors: &mut [C], target: u32) -> usize
     at
 }
 
-/// Whether there is a value that is less than another, or the only one.
+/// Returns whether there is a value that is less than another, or the only one.
 #[inline(always)]
 fn is_lesser(one: Option<u32>, other: Option<u32>) -> bool
     ensures { result ≡ is_lesser one other }

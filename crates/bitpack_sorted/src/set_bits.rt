@@ -11,7 +11,7 @@ use super::sorted_cursor::SortedCursor;
 /// The fewest numbers whose bits cost less than a step for each value.
 const FEWEST: usize = 16;
 
-/// Takes bits of the numbers from one on if a cursor has many at hand, at most of as many numbers as given. Returns of how many, or 0.
+/// Takes bits of the numbers from one on if a cursor has many, for at most as many numbers as given. Returns for how many, or 0.
 #[inline(always)]
 pub(super) fn take_bits<C: SortedCursor>(
     cursor: &C,

@@ -1,11 +1,11 @@
-//! The trait of places in increasing values.
+//! The trait of cursors over increasing values.
 
 ghost use Rattle.std.specs.Prelude.{◌≡◌, ℕ, List};
 ghost use Rattle.bitpack_sorted.specs.Bits.{AreBitsFrom};
 ghost use Rattle.bitpack_sorted.specs.Fronts.{IsFront};
 ghost use Rattle.bitpack_sorted.specs.Increasing.{IsIncreasing, after_first, at_least, first};
 
-/// A place in increasing values that only moves forward.
+/// A position in increasing values that only moves forward.
 ///
 /// Each call costs what it costs the type that implements it; none allocates and none fails. A move returns the value that is then here.
 ///
@@ -22,12 +22,12 @@ pub trait SortedCursor: Drop {
     // The values from here on. They increase, so each is there once.
     ghost rest: { Self → List ℕ };
 
-    /// The current block: the first of the values from here on, in order, such as the rest of a block of a list. It has at least one
-    /// value, except at the end. A value that is repeated there may be too.
+    /// Returns the current block: the first of the values from here on, in order, such as the rest of a block of a list. It has at least
+    /// one value, except at the end. A value that is repeated there may be too.
     fn block(&self) -> &[u32]
         ensures { IsFront result.now (rest self.now) };
 
-    /// The value here, or `None` after the last.
+    /// Returns the value here, or `None` after the last.
     #[inline(always)]
     fn value(&self) -> Option<u32>
         ensures { result ≡ first (rest self.now) }
@@ -49,7 +49,7 @@ pub trait SortedCursor: Drop {
         ensures rest { rest self.new ≡ at_least target (rest self.old) }
         ensures value { result ≡ first (rest self.new) };
 
-    /// As `seek`. It is faster if the value is `ahead` values of the current block ahead of this place.
+    /// As `seek`. It is faster if the value is `ahead` values of the current block ahead of the cursor.
     #[inline(always)]
     fn seek_ahead(&mut self, target: u32, _ahead: usize) -> Option<u32>
         ensures rest { rest self.new ≡ at_least target (rest self.old) }
@@ -59,10 +59,10 @@ pub trait SortedCursor: Drop {
     }
 
     /// Says of numbers that follow each other whether they are among the values from here on, if this takes no more than to copy bits: bit
-    /// `i % 64` of word `i / 64` is then set exactly if the number `from + i` is a value. Returns of how many numbers, which may be 0.
+    /// `i % 64` of word `i / 64` is then set exactly if the number `from + i` is a value. Returns for how many numbers, which may be 0.
     ///
-    /// The bits after these are of no use. A block of a list that is a set of bits has them at hand, and so has the combination of two
-    /// cursors if both have.
+    /// The bits after these are of no use. A block of a list that is a set of bits has them, and so has the combination of two cursors if
+    /// both have.
     #[inline(always)]
     fn bits_at_hand(&self, _from: u32, _words: &mut [u64]) -> usize
         ensures { AreBitsFrom _from result _words.new (rest self.now) }

@@ -1,4 +1,4 @@
-//! The values of a slice, sorted in their place and each once.
+//! The values of a slice, sorted in the slice and each once.
 
 ghost use Rattle.std.specs.Prelude.{◌≡◌, ℕ, ◌≤◌, length, take};
 ghost use Rattle.std.specs.List.Sorted.{IsStrictlyIncreasing};
@@ -12,8 +12,8 @@ use super::uniting::one_if_from;
 /// Sorts the values of a slice and drops repeats: afterwards each value is at the front once, in increasing order. Returns how many these
 /// are.
 ///
-/// The values may be in any order. What is after those that are returned is of no use. Allocates nothing. Of n values, it takes at most
-/// a constant times n * log2(n) steps.
+/// The values may be in any order. What is after those that are returned is of no use. Allocates nothing. Of n values, it does at most a
+/// constant times n * log2(n) steps.
 ///
 /// <!-- crates/bitpack_uses/src/tests/doc_examples.rt -->
 /// ```rust

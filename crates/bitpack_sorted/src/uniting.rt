@@ -1,4 +1,4 @@
-//! A slice united with the current block of a cursor, in its place.
+//! A slice united with the current block of a cursor, in the slice.
 
 ghost use Rattle.std.specs.Prelude.{◌≡◌, ◌≢◌, ◌+◌, ◌<◌, ◌≤◌, ◌^◌, ◌++◌, None, drop, length, take};
 ghost use Rattle.bitpack_sorted.specs.Increasing.{first};

@@ -21,14 +21,14 @@ pub struct Values<C: SortedCursor> {
 }
 
 impl<C: SortedCursor> Values<C> {
-    /// The values from the place of the cursor on.
+    /// Returns the values from the position of the cursor on.
     pub fn new(cursor: C) -> Values<C>
         ensures { result.cursor ≡ cursor }
     {
         Values { cursor }
     }
 
-    /// The cursor, at the first value that did not come yet.
+    /// Returns the cursor, at the first value that did not come yet.
     pub fn into_cursor(self) -> C
         ensures { result ≡ self.cursor }
     {

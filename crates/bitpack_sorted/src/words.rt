@@ -10,7 +10,7 @@ use super::sorted_cursor::SortedCursor;
 /// The most words that are taken at once: the bits of 1,024 numbers. Few blocks have more.
 pub(super) const WORDS: usize = 16;
 
-/// The bits of the values that two cursors share, if both have bits at hand.
+/// The bits of the values that two cursors share, if both have bits.
 #[inline(always)]
 pub(super) fn shared_bits<A: SortedCursor, B: SortedCursor>(
     one: &A,
@@ -30,7 +30,7 @@ pub(super) fn shared_bits<A: SortedCursor, B: SortedCursor>(
     count.min(other_count)
 }
 
-/// The bits of the values that at least one of two cursors has, if both have bits at hand.
+/// The bits of the values that at least one of two cursors has, if both have bits.
 #[inline(always)]
 pub(super) fn united_bits<A: SortedCursor, B: SortedCursor>(
     one: &A,
@@ -50,7 +50,7 @@ pub(super) fn united_bits<A: SortedCursor, B: SortedCursor>(
     count.min(other_count)
 }
 
-/// The bits of the values of the first cursor that the second lacks, if both have bits at hand.
+/// The bits of the values of the first cursor that the second lacks, if both have bits.
 #[inline(always)]
 pub(super) fn bits_without<A: SortedCursor, B: SortedCursor>(
     one: &A,

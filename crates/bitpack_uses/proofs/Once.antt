@@ -1,4 +1,4 @@
--- Ids that are sorted, and then each kept once, are the same ids.
+-- Ids that are sorted, and then each once, are the same ids.
 use Rattle.std.proofs.Common.{◌↔◌, ℕ, List, Contains, eqb}
 use Rattle.std.specs.List.{dedup}
 use Rattle.std.specs.List.Sorted.{IsPermutation}

@@ -1,4 +1,4 @@
--- A text that is measured fits a slice with room for any, and is written at its front.
+-- A list that is measured fits a slice with room for any, and is written at its front.
 use Rattle.std.proofs.Common.{◌≡◌, ℕ, ◌<◌, ◌≤◌, List, ◌++◌, length, take, drop, sym, ◌∙◌, ap, append_assoc, arith}
 use Rattle.std.proofs.lemmas.List.{drop_at, take_at}
 

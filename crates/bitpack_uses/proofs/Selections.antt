@@ -72,7 +72,7 @@ pub both_ok : {T E : Type 0} (r : Result T E) (P Q R : T → Type 0) → IfOk r 
 both_ok (Ok x) P Q R one other both = both x one other
 both_ok (Err e) P Q R one other both = tt
 
--- a valid text is refused exactly if its list is plain
+-- valid bytes are refused exactly if their list is plain
 module _ (kind : ListKind) (values bytes : List ℕ) (valid : fault2 4 bytes ≡ None) (list : List2 4 kind values bytes) where
   kind_there : slice_index bytes 1 ≡ kind_byte kind
   kind_there = (header_bytes 2 4 kind (length values) bytes list.begins).kind_is

@@ -1,11 +1,11 @@
--- What a posting list shows, and what is asked of its ids.
+-- What a posting list shows, and what its ids have to be.
 use Rattle.std.specs.Prelude.{ℕ, ◌<◌, ◌≤◌, List, Contains, Option, Some, None}
 use Rattle.bitpacking.specs.declared.bit_packer.BitPacker.{Ghosts}
 use Rattle.bitpack_sorted.specs.Distinct.{distinct}
 use Rattle.bitpack_lists.specs.Owned.{bytes_of_buf, values_of_buf}
 use Rattle.bitpack_uses.specs.declared.postings.Postings.{Postings}
 
--- its ids, and its text
+-- its ids, and its bytes
 module _ {P : Type 0} {members : Ghosts P} (postings : Postings P members) where
   abbrev pub ids_of : List ℕ
   ids_of = values_of_buf postings.list

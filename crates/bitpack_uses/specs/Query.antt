@@ -1,4 +1,4 @@
--- Queries over numbered lists: which ids they ask for, and which of their terms name no list in order.
+-- Queries over numbered lists: which ids they mean, and which of their terms name no list in order.
 use Rattle.std.specs.Prelude.{◌≡◌, ℕ, Bool, ◌&&◌, ◌||◌, not, nat_lt, if◌then◌else◌, List, [], get_or, length, Option, None, Some}
 use Rattle.std.specs.List.Sorted.{IsStrictlyIncreasing}
 use Rattle.bitpack_lists.specs.declared.list_kind.ListKind.{ListKind}
@@ -11,13 +11,13 @@ use Rattle.bitpack_uses.specs.declared.query.Query.TheVariants.{Term, Pair'}
 use Rattle.bitpack_uses.specs.declared.query.QueryError.{QueryError}
 use Rattle.bitpack_uses.specs.declared.query.QueryError.TheVariants.{NoList, PlainList}
 
--- whether an id is wanted, if it is told whether each of two parts asks for it
+-- whether an id is wanted, if it is known whether each of two parts wants it
 abbrev pub joins : Operator → Bool → Bool → Bool
 joins operators.And one other = one && other
 joins operators.Or one other = one || other
 joins operators.AndNot one other = one && not other
 
--- whether a query asks for an id
+-- whether a query wants an id
 abbrev pub asks : List (List ℕ) → Query → ℕ → Bool
 asks lists (Term index) id = has (get_or lists index []) id
 asks lists (Pair' p left operator q right) id = joins operator (asks lists left id) (asks lists right id)
@@ -27,7 +27,7 @@ pub record AreThose (wanted : ℕ → Bool) (ids : List ℕ) : Type 0 where
   pub increasing : IsStrictlyIncreasing ids
   pub same : (id : ℕ) → has ids id ≡ wanted id
 
--- why a list of a kind cannot be asked for ids
+-- why a list of a kind cannot be used in a query
 abbrev pub fault_of_kind : ListKind → ℕ → Option QueryError
 fault_of_kind lists.Plain index = Some (PlainList index)
 fault_of_kind lists.Sorted index = None

@@ -12,7 +12,7 @@ pub record CanWrite (kind : ListKind) (values bytes : List ℕ) : Type 0 where
   pub right : values_fault kind values ≡ None
   pub room : list_room (length values) ≤ length bytes
 
--- the first `count` bytes are now the text of the values, and the others stay
+-- the first `count` bytes are now the encoded list of the values, and the others are unchanged
 pub record IsWritten (version : Version) (lanes : ℕ) (kind : ListKind) (values old new : List ℕ) (count : ℕ) : Type 0 where
   pub bytes : AreBytes (take count new)
   pub text : IsText version lanes kind values (take count new)

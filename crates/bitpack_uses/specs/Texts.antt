@@ -1,4 +1,4 @@
--- Bytes that are the text of a list.
+-- Bytes that encode a list.
 use Rattle.std.specs.Prelude.{ℕ, List}
 use Rattle.bitpack_lists.specs.declared.list_kind.ListKind.{ListKind}
 use Rattle.bitpack_lists.specs.Version1.{List1}

@@ -18,7 +18,7 @@ use bitpack_sorted::{And, DistinctValues, SortedCursor, collect_into};
 use bitpacking::{BitPacker, BitPacker4x};
 use std::alloc::Global;
 
-/// The documents that are in all three lists. The texts may be untrusted.
+/// The documents that are in all three lists. The bytes may be untrusted.
 pub fn in_all_three(
     alloc: Global,
     first: &[u8],
@@ -26,7 +26,7 @@ pub fn in_all_three(
     third: &[u8],
 ) -> Result<Vec<u32>, ListError>
     ensures documents { IfOk result (λ documents. AreInAll first.now second.now third.now documents.items) }
-    // Texts that are refused are so for the first fault of the first of them, and others only if memory runs out.
+    // Bytes that are refused are so for the first fault of the first list with one, and others only if memory runs out.
     ensures fault { FailsWith
         (option_or (ids_fault first.now) (option_or (ids_fault second.now) (ids_fault third.now))) result }
 {
@@ -51,7 +51,7 @@ pub(crate) fn open(bytes: &[u8]) -> Result<Ids<'_>, ListError>
     Ok(DistinctValues::new(list.cursor()))
 }
 
-/// The values from the place of a cursor on.
+/// The values from the position of a cursor on.
 pub(crate) fn collect<C: SortedCursor>(alloc: Global, mut cursor: C) -> Result<Vec<u32>, ListError>
     ensures all { IfOk result (λ found. found.items ≡ C.rest cursor) }
     ensures increasing { IfOk result (λ found. IsStrictlyIncreasing found.items) }

@@ -9,7 +9,7 @@ use bitpack::{ListError, ListKind};
 use bitpacking::BitPacker;
 use std::alloc::Global;
 
-/// Packs the values of two parts as one list. If it is refused, then for the first fault of all values, or for want of memory.
+/// Packs the values of two parts as one list. A refusal is for the first fault of all values, or because memory ran out.
 pub fn of_two_parts<P: BitPacker>(
     alloc: Global,
     packer: P,

@@ -15,7 +15,7 @@ pub fn block(values: &[u32; 32]) -> [u32; 32] {
     unpacked
 }
 
-/// Packs 70 increasing document numbers as two blocks and a tail of six, and unpacks them again.
+/// Packs 70 increasing doc ids as two blocks and a tail of six, and unpacks them again.
 pub fn chain(documents: &[u32; 70]) -> [u32; 70] {
     let packer = BitPacker1x::new();
     let start = Kind::StrictlySorted(None);

@@ -19,7 +19,7 @@ use bitpack::{ListError, ListKind, list, list2};
 use bitpacking::BitPacker;
 use std::alloc::Global;
 
-/// Packs a list by two packers of one format. The texts are equal.
+/// Packs a list by two packers of one format. The bytes are equal.
 pub fn text_by_two<P: BitPacker, Q: BitPacker>(
     alloc: Global,
     packer: &P,
@@ -40,7 +40,7 @@ pub fn text_by_two<P: BitPacker, Q: BitPacker>(
     Ok((text, same))
 }
 
-/// Packs a list in version 2; packs it in version 1 and upgrades that text. The texts are equal.
+/// Packs a list in version 2; packs it in version 1 and upgrades the result. The bytes are equal.
 pub fn text_by_upgrade<P: BitPacker>(
     alloc: Global,
     packer: &P,
@@ -60,7 +60,7 @@ pub fn text_by_upgrade<P: BitPacker>(
     Ok((text, same))
 }
 
-/// A text of version 2 belongs to one list.
+/// A version 2 encoding belongs to one list.
 pub fn no_two_lists()
     ensures { (kind other_kind : ListKind) (values others text : List ℕ) → AreBytes text
         → List2 4 kind values text → List2 4 other_kind others text
@@ -84,7 +84,7 @@ pub fn a_smaller_width()
     one_text();
 }
 
-/// After the header the text of version 1 of a list of one whole block has the width, the body and the tail of version 2.
+/// After the header a version 1 list of one whole block has the width, the body and the tail of version 2.
 pub fn parts_of_a_block()
     ensures { (kind : ListKind) (values text other : List ℕ) → 32 ≤ length values → length values < 64
         → AreBytes text → AreBytes other → List1 1 kind values text → List2 1 kind values other
@@ -94,7 +94,7 @@ pub fn parts_of_a_block()
     same_bodies();
 }
 
-/// The values of a strictly sorted text increase, and values that do not fall are in the order of a sorted list.
+/// The values of a strictly sorted list increase, and values that do not fall are in the order of a sorted list.
 pub fn texts_in_order()
     ensures strict { (values text : List ℕ) → List2 4 ListKind.StrictlySorted values text
         → IsStrictlyIncreasing values }

@@ -16,7 +16,7 @@ use bitpack::{ListError, ListKind, list3};
 use bitpacking::{BitPacker, BitPacker4x};
 use std::alloc::Global;
 
-/// Packs a list in version 3 by both kernels. The texts are equal.
+/// Packs a list in version 3 by both kernels. The bytes are equal.
 pub fn text_by_both(
     alloc: Global,
     kind: ListKind,
@@ -32,7 +32,7 @@ pub fn text_by_both(
     Ok((text, same))
 }
 
-/// A text of version 3 belongs to one list.
+/// A version 3 encoding belongs to one list.
 pub fn no_two_lists3()
     ensures { (kind other_kind : ListKind) (values others text : List ℕ) → AreBytes text
         → List3 4 kind values text → List3 4 other_kind others text
@@ -41,7 +41,7 @@ pub fn no_two_lists3()
     one_text();
 }
 
-/// The entries and bodies of a list of one whole block are the same bytes in versions 2 and 3.
+/// The skip entries and bodies of a list of one whole block are the same bytes in versions 2 and 3.
 pub fn entry_and_body()
     ensures { (kind : ListKind) (values text other : List ℕ) → 128 ≤ length values → length values < 256
         → AreBytes text → AreBytes other → List2 4 kind values text → List3 4 kind values other
@@ -51,7 +51,7 @@ pub fn entry_and_body()
     same_blocks();
 }
 
-/// A text of one version is refused by readers of the others, whatever their packer.
+/// A list of one version is refused by readers of the others, whatever their packer.
 pub fn no_two_versions()
     ensures one { (bytes : List ℕ) → fault1 4 bytes ≡ None
         → (fault2 1 bytes ≡ Some (ListError.BadVersion 1)) × (fault3 8 bytes ≡ Some (ListError.BadVersion 1)) }

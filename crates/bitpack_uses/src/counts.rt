@@ -44,7 +44,7 @@ pub fn unpack<P: Counted>(
     steps
 }
 
-/// Takes the width of a block and returns what was moved: 32 loads.
+/// Measures the width of a block and returns what was moved: 32 loads.
 pub fn measure<P: Counted>(packer: &P, kind: Kind, values: &[u32]) -> Steps
     requires { length values.now ≡ P.BLOCK_LEN }
     ensures loads { result.loads ≡ 32 }

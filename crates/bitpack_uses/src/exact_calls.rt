@@ -1,5 +1,4 @@
-//! Calls that meet their conditions with nothing to spare. Each edit of this file breaks one of these conditions
-//! and keeps the others.
+//! Calls that just meet their preconditions. Each edit of this file breaks one of these and leaves the others.
 
 use bitpack::ListKind;
 use bitpack::chain::{pack_all, pack_measured, packed_len, unpack_all};
@@ -47,7 +46,7 @@ pub fn unpack_chain() -> usize {
     unpack_all(&packer, Kind::Plain, &[1, 2], &[0xff; 12], &mut [0; 64])
 }
 
-/// Searches a text whose list is not plain. The text may be untrusted.
+/// Searches a list that is not plain. The bytes may be untrusted.
 pub fn seek(text: &[u8], target: u32) -> Option<(usize, u32)> {
     let list = PackedList::open(BitPacker1x::new(), text).ok()?;
     if list.kind() == ListKind::Plain {
@@ -56,7 +55,7 @@ pub fn seek(text: &[u8], target: u32) -> Option<(usize, u32)> {
     list.seek(target, &mut Reads::new())
 }
 
-/// Appends what the lists of two texts share. Neither may be plain. The texts may be untrusted.
+/// Appends what two lists share. Neither may be plain. The bytes may be untrusted.
 pub fn intersect(first: &[u8], second: &[u8], out: &mut Vec<u32>) -> Option<()> {
     let a = PackedList::open(BitPacker1x::new(), first).ok()?;
     let b = PackedList::open(BitPacker1x::new(), second).ok()?;
@@ -79,13 +78,13 @@ pub fn pack_measured_chain(values: &[u32; 64], out: &mut [u8]) -> Option<usize> 
     Some(pack_measured(&packer, kind, values, &mut [0; 2], &mut out[..size]))
 }
 
-/// A list whose text was opened before.
+/// A list whose bytes were opened before.
 pub fn reopened(text: &[u8]) -> Option<PackedList<'_, BitPacker1x>> {
     PackedList::open(BitPacker1x::new(), text).ok()?;
     Some(PackedList::from_validated(BitPacker1x::new(), text))
 }
 
-/// Unpacks a list into as many places as it has values.
+/// Unpacks a list into a slice with as many values.
 pub fn copy(list: &PackedList<'_, BitPacker1x>, out: &mut [u32]) -> Option<usize> {
     let count = list.len();
     if out.len() < count {
@@ -94,7 +93,7 @@ pub fn copy(list: &PackedList<'_, BitPacker1x>, out: &mut [u32]) -> Option<usize
     Some(list.copy_to(&mut out[..count]))
 }
 
-/// Unpacks a block, or what is left after all blocks, into the places of one.
+/// Unpacks a block, or what is left after all blocks, into a slice of a block.
 pub fn read_block(list: &PackedList<'_, BitPacker1x>, block: usize) -> Option<[u32; 32]> {
     if block > list.len() / 32 {
         return None;
@@ -140,7 +139,7 @@ pub fn left_in_place() -> usize {
     subtract_in_place(&mut [5, 6], &mut IncreasingSlice::new(&[6, 7]))
 }
 
-/// Unites two increasing values with two others, in as many places.
+/// Unites two increasing values with two others, in a slice of four.
 pub fn united_in_place() -> usize {
     unite_in_place(&mut [5, 6, 0, 0], 2, &mut IncreasingSlice::new(&[6, 7]))
 }

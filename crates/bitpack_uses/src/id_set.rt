@@ -45,7 +45,7 @@ impl<P: BitPacker> IdSet<P> {
         of_increasing(alloc, packer, &ids)
     }
 
-    /// Opens a text, which may be untrusted.
+    /// Opens bytes, which may be untrusted.
     pub fn open(packer: P, bytes: Vec<u8>) -> Result<IdSet<P>, ListError>
         ensures text { IfOk result (λ set. List2 P.lanes ListKind.StrictlySorted set bytes.items) }
         ensures ids { (ids : List ℕ) → List2 P.lanes ListKind.StrictlySorted ids bytes.items
@@ -62,16 +62,16 @@ impl<P: BitPacker> IdSet<P> {
         }
     }
 
-    /// The text, to be stored.
+    /// The bytes, to be stored.
     pub fn as_bytes(&self) -> &[u8]
         ensures { List2 P.lanes ListKind.StrictlySorted self.now result.now }
     {
-        // Its contract says that the bytes are the text of the ids.
+        // Its contract says that the bytes encode the ids.
         let _list = self.postings.as_list();
         self.postings.as_bytes()
     }
 
-    /// The vector with the text.
+    /// The vector with the bytes.
     pub fn into_bytes(self) -> Vec<u8>
         ensures { List2 P.lanes ListKind.StrictlySorted self result.items }
     {
@@ -154,7 +154,7 @@ fn of_increasing<P: BitPacker>(alloc: Global, packer: P, ids: &[u32]) -> Result<
     Ok(IdSet { packer, postings })
 }
 
-/// Packs a set, opens its text again and tests it for an id.
+/// Packs a set, opens its bytes again and tests it for an id.
 pub fn packed_set_contains<P: BitPacker>(
     alloc: Global,
     packer: P,

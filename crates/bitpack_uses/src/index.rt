@@ -13,7 +13,7 @@ use bitpacking::BitPacker;
 use std::alloc::{AllocError, Global};
 use std::collections::BTreeMap;
 
-/// Document numbers by word.
+/// Doc ids by word.
 #[derive(Drop)]
 pub struct Builder {
     documents_of: BTreeMap<String, Vec<u32>>,

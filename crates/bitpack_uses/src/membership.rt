@@ -1,4 +1,4 @@
-//! Whether a packed list has a value, by one search. The laws of searches and of order say what its answer means.
+//! Whether a packed list has a value, by one search. The laws of searches and of order say what its result means.
 
 ghost use Rattle.std.specs.Prelude.{◌≢◌, ◌↔◌, Contains, IsTrue};
 ghost use Rattle.bitpack_lists.specs.declared.list_kind.ListKind.{ListKind};

@@ -1,4 +1,4 @@
-//! Lists of one kind, lists that own their texts, values that are unpacked into a slice, and values one by one.
+//! Lists of one kind, lists that own their bytes, values that are unpacked into a slice, and values one by one.
 
 ghost use Rattle.std.specs.Prelude.{◌≡◌, ℕ, List, IfErr, IfOk, IfSome, slice_get, sum, take};
 ghost use Rattle.bitpack_lists.specs.declared.list_error.ListError.{ListError};
@@ -14,7 +14,7 @@ use bitpack::{ListError, ListKind};
 use bitpacking::BitPacker;
 use std::alloc::Global;
 
-/// The ids that two packed sets share. The texts may be untrusted, and each of version 2, 3 or 4.
+/// The ids that two packed sets share. The bytes may be untrusted, and each of version 2, 3 or 4.
 pub fn shared_ids<P: BitPacker>(
     alloc: Global,
     packer: P,
@@ -60,7 +60,7 @@ pub fn sum_of_values<P: BitPacker>(list: &PackedList<'_, P>) -> Option<u64>
     Some(total)
 }
 
-/// Packs values, keeps them packed, and reads one of them.
+/// Packs values into an owned list, and reads one of them.
 pub fn value_of_packed<P: BitPacker>(
     alloc: Global,
     packer: P,
@@ -74,7 +74,7 @@ pub fn value_of_packed<P: BitPacker>(
     Ok(list.as_list().get(position))
 }
 
-/// Sends a list as its text, and opens the text again, which cannot fail.
+/// Sends a list as its bytes, and opens the bytes again, which cannot fail.
 pub fn sent<P: BitPacker>(packer: P, list: ListBuf<P>) -> ListBuf<P>
     ensures { bytes_of_buf result ≡ bytes_of_buf list }
 {

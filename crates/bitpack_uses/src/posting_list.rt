@@ -1,10 +1,10 @@
-//! A posting list as one text.
+//! A posting list as one encoded list.
 
 use bitpack::{ListError, ListKind, list};
 use bitpacking::{BitPacker, BitPacker4x};
 use std::alloc::Global;
 
-/// Packs document numbers in increasing order.
+/// Packs increasing doc ids.
 pub fn pack(alloc: Global, documents: &[u32]) -> Result<Vec<u8>, ListError> {
     let packer = BitPacker4x::new();
     let mut text = Vec::new(alloc);
@@ -12,7 +12,7 @@ pub fn pack(alloc: Global, documents: &[u32]) -> Result<Vec<u8>, ListError> {
     Ok(text)
 }
 
-/// Unpacks them. The text may be untrusted.
+/// Unpacks them. The bytes may be untrusted.
 pub fn unpack(alloc: Global, text: &[u8]) -> Result<Vec<u32>, ListError> {
     let packer = BitPacker4x::new();
     let mut documents = Vec::new(alloc);

@@ -1,4 +1,4 @@
-//! Posting lists: increasing ids that are packed, in lists that own their texts.
+//! Posting lists: increasing ids that are packed, in lists that own their bytes.
 
 mod queries;
 
@@ -16,7 +16,7 @@ use bitpacking::BitPacker;
 pub use queries::{and, and_not, first_and_rest, first_shared, or, select};
 use std::alloc::Global;
 
-/// Increasing ids, packed. The text was tested when the list was made.
+/// Increasing ids, packed. The bytes were tested when the list was made.
 #[derive(Drop)]
 pub struct Postings<P: BitPacker> {
     list: ListBuf<P>,
@@ -49,7 +49,7 @@ impl<P: BitPacker> Postings<P> {
         Ok(Postings { list })
     }
 
-    /// Opens a text, which may be untrusted. Returns the bytes beside the first fault if they are refused.
+    /// Opens bytes, which may be untrusted. Returns them beside the first fault if they are refused.
     pub fn open(packer: P, bytes: Vec<u8>) -> Result<Postings<P>, (ListError, Vec<u8>)>
         ensures text { IfOk result (λ postings. text_of postings ≡ bytes.items) }
         ensures ids { (ids : List ℕ) → List2 P.lanes ListKind.StrictlySorted ids bytes.items
@@ -83,14 +83,14 @@ impl<P: BitPacker> Postings<P> {
         Ok(Postings { list })
     }
 
-    /// The text, to be stored.
+    /// The bytes, to be stored.
     pub fn as_bytes(&self) -> &[u8]
         ensures { result.now ≡ text_of self.now }
     {
         self.list.as_bytes()
     }
 
-    /// The vector with the text.
+    /// The vector with the bytes.
     pub fn into_bytes(self) -> Vec<u8>
         ensures { result.items ≡ text_of self }
     {
@@ -104,7 +104,7 @@ impl<P: BitPacker> Postings<P> {
         self.list.as_list().len()
     }
 
-    /// The list in place, which is not tested again.
+    /// The list, which borrows the bytes. Nothing is tested again.
     pub fn as_list(&self) -> PackedList<'_, P>
         ensures ids { values result ≡ ids_of self.now }
         ensures kind { kind_of result ≡ ListKind.StrictlySorted }
@@ -151,7 +151,7 @@ impl<P: BitPacker> Postings<P> {
         Ok(ids)
     }
 
-    /// Keeps the ids that this list has too, of ids that increase. Allocates nothing.
+    /// Retains the ids that this list has too, of ids that increase. Allocates nothing.
     pub fn retain_in(&self, ids: &mut Vec<u32>)
         requires increasing { IsStrictlyIncreasing ids.old.items }
         ensures kept { ids.new.items ≡ filter (has (ids_of self.now)) ids.old.items }

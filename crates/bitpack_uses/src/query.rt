@@ -26,7 +26,7 @@ pub enum Operator {
     AndNot,
 }
 
-/// Which ids are wanted. The boxes left out, `Pair(Term(0), AndNot, Term(1))` asks for the ids of list 0 that list 1 lacks.
+/// Which ids are wanted. Without the boxes, `Pair(Term(0), AndNot, Term(1))` means the ids of list 0 that list 1 lacks.
 #[derive(Drop)]
 pub enum Query {
     /// The ids of the list with this index.
@@ -35,7 +35,7 @@ pub enum Query {
     Pair(Box<Query>, Operator, Box<Query>),
 }
 
-/// Why a query has no answer.
+/// Why a query has no result.
 #[derive(Clone, Copy, PartialEq, Eq, Debug)]
 pub enum QueryError {
     /// There is no list with this index.
@@ -58,12 +58,12 @@ impl fmt::Display for QueryError {
 
 impl Error for QueryError {}
 
-/// The ids that a query asks for, in increasing order, each once.
+/// The ids of a query, in increasing order, each once.
 ///
 /// The lists are sorted or strictly sorted, of version 2, 3 or 4. The ids of the left part of a pair are found first. A term on its right
 /// stays packed: AND and AND NOT unpack only blocks that may have one of these ids. So put the part with the fewest ids on the left.
 ///
-/// Each level of the tree takes stack. So limit the depth of queries that come from outside.
+/// Each level of the tree uses stack. So limit the depth of queries that come from outside.
 pub fn evaluate<P: BitPacker>(
     alloc: Global,
     lists: &[PackedList<'_, P>],

@@ -85,7 +85,7 @@ pub fn read_block(list: &PackedList<'_, BitPacker1x>, out: &mut [u32; 32]) -> Re
     reads
 }
 
-/// Copies a page of up to 100 values, which are in five blocks at most. If the page begins after the last value, none is unpacked.
+/// Copies a page of up to 100 values, which are in at most five blocks. If the page begins after the last value, none is unpacked.
 pub fn copy_page(list: &PackedList<'_, BitPacker1x>, from: usize, page: &mut [u32; 100]) -> Reads
     ensures page { result.blocks ≤ 5 }
     ensures past { length (values list.now) ≤ from → result.blocks ≡ 0 }

@@ -35,7 +35,7 @@ pub fn block<P: BitPacker>(packer: &P, values: &[u32], bytes: &mut [u8], unpacke
     width
 }
 
-/// Packs blocks as a chain and unpacks them. Returns the number of bytes. Later bytes stay as they were.
+/// Packs blocks as a chain and unpacks them. Returns the number of bytes. Later bytes are unchanged.
 pub fn chain<P: BitPacker>(
     packer: &P,
     kind: Kind,
@@ -57,7 +57,7 @@ pub fn chain<P: BitPacker>(
     size
 }
 
-/// Packs a list as one text and unpacks it.
+/// Packs a list as one list and unpacks it.
 pub fn list<P: BitPacker>(
     alloc: Global,
     packer: &P,
@@ -77,7 +77,7 @@ pub fn list<P: BitPacker>(
     Ok(unpacked)
 }
 
-/// Packs a list in order as one text and reads the value at a position from it.
+/// Packs values in order as one list and reads the value at a position from it.
 pub fn value<P: BitPacker>(
     alloc: Global,
     packer: &P,
@@ -94,7 +94,7 @@ pub fn value<P: BitPacker>(
     Ok(list.get(position))
 }
 
-/// Packs a sorted list as one text and finds in it the first value that is at least a target.
+/// Packs sorted values as one list and finds in it the first value that is at least a target.
 pub fn search<P: BitPacker>(
     alloc: Global,
     packer: &P,

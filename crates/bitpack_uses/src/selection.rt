@@ -16,7 +16,7 @@ use bitpack::ListError;
 use bitpack_sorted::{And, AndNot, Or};
 use std::alloc::Global;
 
-/// The ids that are in `a`, and in `b` or `c`, and not in `d`. The texts may be untrusted.
+/// The ids that are in `a`, and in `b` or `c`, and not in `d`. The bytes may be untrusted.
 pub fn select(alloc: Global, a: &[u8], b: &[u8], c: &[u8], d: &[u8]) -> Result<Vec<u32>, ListError>
     ensures ids { IfOk result (λ ids. (ka kb kc kd : ListKind) (va vb vc vd : List ℕ)
         → List2 4 ka va a.now → List2 4 kb vb b.now → List2 4 kc vc c.now → List2 4 kd vd d.now
@@ -24,7 +24,7 @@ pub fn select(alloc: Global, a: &[u8], b: &[u8], c: &[u8], d: &[u8]) -> Result<V
     // Over lists in order it fails only if allocation fails.
     ensures memory { IfErr result (λ e. IsListInOrder a.now → IsListInOrder b.now → IsListInOrder c.now
         → IsListInOrder d.now → e ≡ ListError.Memory) }
-    // Texts that are refused are so for the first fault of the first of them.
+    // Bytes that are refused are so for the first fault of the first list with one.
     ensures fault { FailsWith (option_or (ids_fault a.now)
         (option_or (ids_fault b.now) (option_or (ids_fault c.now) (ids_fault d.now)))) result }
 {

@@ -1,4 +1,4 @@
-//! What an intersection finds, and what it keeps if it fails.
+//! What an intersection finds, and what is unchanged if it fails.
 
 ghost use Rattle.std.specs.Prelude.{◌≡◌, ◌≢◌, ◌++◌, ℕ, Contains, IfErr, IfOk, List, OnErr, OnOk, vec_capacity};
 ghost use Rattle.bitpack_lists.specs.declared.list_error.ListError.{ListError};
@@ -30,7 +30,8 @@ pub fn find<P: BitPacker, Q: BitPacker>(
     Ok(shared)
 }
 
-/// Appends the values that two lists share. If memory runs out, the vector keeps its items, and nothing was read.
+/// Appends the values that two lists share. If memory runs out, the items of the vector are unchanged, and nothing was
+/// read.
 pub fn append<P: BitPacker, Q: BitPacker>(
     a: &PackedList<'_, P>,
     b: &PackedList<'_, Q>,
@@ -46,7 +47,7 @@ pub fn append<P: BitPacker, Q: BitPacker>(
     intersect(a, b, out, reads_a, reads_b)
 }
 
-/// Appends them without a count of reads. If memory runs out, the vector keeps its items and its room.
+/// Appends them without a count of reads. If memory runs out, the items and the room of the vector are unchanged.
 pub fn append_uncounted<P: BitPacker, Q: BitPacker>(
     a: &PackedList<'_, P>,
     b: &PackedList<'_, Q>,

@@ -9,7 +9,7 @@ pub fn sorted_block(values: &[u32; 128]) -> [u32; 128] {
     let mut bytes = [0; MAX_BLOCK_SIZE];
     let size = packer.compress_strictly_sorted(None, values, &mut bytes, width);
 
-    // The bytes do not hold the width: the caller keeps it.
+    // The bytes do not hold the width: the caller stores it.
     let mut unpacked = [0; 128];
     packer.decompress_strictly_sorted(None, &bytes[..size], &mut unpacked, width);
     unpacked

@@ -1,4 +1,4 @@
-//! Blocks whose widths and lengths come from outside: each is tested before the call that asks for it.
+//! Blocks whose widths and lengths come from outside: each is tested before the call that requires it.
 
 ghost use Rattle.std.specs.Prelude.{◌≡◌, ◌*◌, [], ◌∷◌, length, take, drop, sum, OnOk, OnErr, IfOk, IfErr};
 ghost use Rattle.bitpacking.specs.Calls.{IsUnpacked};
@@ -18,7 +18,7 @@ pub enum StoredError {
     WideWidth(u8),
     /// The blocks have more bytes than there are.
     MissingBytes,
-    /// The blocks have more values than there are places for.
+    /// The blocks have more values than there is room for.
     MissingRoom,
 }
 

@@ -255,7 +255,7 @@ fn an_index(rt: HostRuntime) {
     same_values(&rt, &found.expect(&rt, "documents"), &[0, 2]);
 }
 
-/// The short list is given first.
+/// The short list comes first.
 fn short_first(
     rt: &impl Abort,
     short: &PackedList<'_, BitPacker1x>,
@@ -271,7 +271,7 @@ fn short_first(
     returns(rt, outcome, Ok(()), &[]);
 }
 
-/// The long list is given first.
+/// The long list comes first.
 fn long_first(
     rt: &impl Abort,
     short: &PackedList<'_, BitPacker1x>,
@@ -310,7 +310,7 @@ fn intersections(rt: HostRuntime) {
     same_values(&rt, &out, &[5, 5, 5]);
 }
 
-/// The documents that are in all three texts.
+/// The documents that are in all three lists.
 fn in_all_three(
     rt: &impl Abort,
     alloc: Global,

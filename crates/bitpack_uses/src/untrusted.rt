@@ -12,7 +12,7 @@ use bitpack::{ListError, list};
 use bitpacking::{BitPacker, BitPacker4x};
 use std::alloc::{AllocError, Global};
 
-/// Whether the bytes are the text of a list.
+/// Whether the bytes encode a list.
 pub fn is_text<P: BitPacker>(alloc: Global, packer: &P, bytes: &[u8]) -> Result<bool, AllocError>
     ensures { IfOk result (λ is_text. IsTrue is_text ↔ IsText P.lanes bytes.now) }
 {
@@ -25,21 +25,21 @@ pub fn is_text<P: BitPacker>(alloc: Global, packer: &P, bytes: &[u8]) -> Result<
     }
 }
 
-/// Bytes without a fault are the text of a list.
+/// Bytes without a fault encode a list.
 pub fn no_fault_is_a_text<P: BitPacker>(bytes: &[u8])
     ensures { fault1 P.lanes bytes.now ≡ None → IsText P.lanes bytes.now }
 {
     one_text();
 }
 
-/// Bytes without a fault of version 2 are the text of a list of version 2.
+/// Bytes without a fault of version 2 encode a list of version 2.
 pub fn no_fault_is_a_text2<P: BitPacker>(bytes: &[u8])
     ensures { fault2 P.lanes bytes.now ≡ None → IsText2 P.lanes bytes.now }
 {
     one_text();
 }
 
-/// Whether the bytes are the text of a list of version 2, which takes no memory.
+/// Whether the bytes encode a list of version 2. Allocates nothing.
 pub fn is_text2<P: BitPacker>(packer: &P, bytes: &[u8]) -> bool
     ensures { IsTrue result ↔ IsText2 P.lanes bytes.now }
 {
@@ -47,14 +47,14 @@ pub fn is_text2<P: BitPacker>(packer: &P, bytes: &[u8]) -> bool
     PackedList::open(*packer, bytes).is_ok()
 }
 
-/// Bytes without a fault of version 3 are the text of a list of version 3.
+/// Bytes without a fault of version 3 encode a list of version 3.
 pub fn no_fault_is_a_text3(bytes: &[u8])
     ensures { fault3 4 bytes.now ≡ None → IsText3 4 bytes.now }
 {
     one_text();
 }
 
-/// Whether the bytes are the text of a list of version 3 in four lanes.
+/// Whether the bytes encode a list of version 3 in four lanes.
 pub fn is_text3(bytes: &[u8]) -> bool
     ensures { IsTrue result ↔ IsText3 4 bytes.now }
 {

@@ -1,4 +1,4 @@
--- Each bit of the bytes of a block is the place of exactly one bit of one code.
+-- Each bit of the bytes of a block is exactly one bit of one code.
 use Rattle.std.proofs.Common.{◌≡◌, ℕ, ◌+◌, ◌*◌, ◌/◌, ◌%◌, ◌<◌, refl, ◌∙◌, arith}
 use Rattle.std.proofs.lemmas.Nat.{mul-add-lt, div-mul-add, mod-mul-add, mod_below, div_below}
 use Rattle.bitpacking.specs.Layout.{place, size}
@@ -8,14 +8,14 @@ use Rattle.bitpacking.proofs.LaneEquations.{place_at, row_split, row_below, bit_
 abbrev pub row_bit : ℕ → ℕ → ℕ
 row_bit lanes t = t / 32 / lanes * 32 + t % 32
 
--- The code and its bit that are kept in bit t.
+-- The code and its bit that are bit t.
 unfoldable pub code_of : ℕ → ℕ → ℕ → ℕ
 code_of lanes width t = row_bit lanes t / width * lanes + t / 32 % lanes
 
 unfoldable pub offset_of : ℕ → ℕ → ℕ → ℕ
 offset_of lanes width t = row_bit lanes t % width
 
--- The word of a place, for a row's bit p.
+-- The word of a bit number, for a row's bit p.
 pub word_split : (lanes p l : ℕ) → l < lanes
     → ((32 * (lanes * (p / 32) + l) + p % 32) / 32 / lanes ≡ p / 32)
     × ((32 * (lanes * (p / 32) + l) + p % 32) / 32 % lanes ≡ l)
@@ -25,7 +25,7 @@ word_split lanes p l lt =
     let high : (32 * (lanes * (p / 32) + l) + p % 32) / 32 ≡ p / 32 * lanes + l = omega arith in
     (rw high (div-mul-add (p / 32) lanes l lt), rw high (mod-mul-add (p / 32) lanes l lt), omega arith)
 
--- The bit of the row at a place.
+-- The bit of the row at a bit number.
 pub row_bit_place : (lanes width i l j : ℕ) → l < lanes → j < width
     → (row_bit lanes (place lanes width (i * lanes + l) j) ≡ i * width + j)
     × (place lanes width (i * lanes + l) j / 32 % lanes ≡ l)

@@ -53,7 +53,7 @@ bit_of-lane lanes width bytes small l p lt =
 pub bit_place : (width i j : ℕ) → i < 32 → j < width → i * width + j < 32 * width
 bit_place width i j hi hj = omega (arith, mul-add-lt i width j 32 hi hj)
 
--- Where bit j of the code in row i of lane l is kept.
+-- Where bit j of the code in row i of lane l is.
 pub place_at : (lanes width i l j : ℕ) → l < lanes
     → place lanes width (i * lanes + l) j ≡ 32 * (lanes * ((i * width + j) / 32) + l) + (i * width + j) % 32
 unfolding place

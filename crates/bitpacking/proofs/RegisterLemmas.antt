@@ -15,7 +15,7 @@ word-after a b c d bytes q =
     joined-same 8 (λ m. get_or (a ∷ b ∷ c ∷ d ∷ bytes) (4 * suc q + m) 0) (λ m. get_or bytes (4 * q + m) 0) 4
     (λ m lt. let four : 4 * suc q + m ≡ suc (suc (suc (suc (4 * q + m)))) = omega arith in rw four refl)
 
--- the words that a load of bytes gives
+-- the words that a load of bytes returns
 pub get_or-words_of_bytes : (n : ℕ) (bytes : List ℕ) (q : ℕ) → length bytes ≡ 4 * n → q < n
     → get_or (words_of_bytes bytes) q 0 ≡ word bytes q
 unfolding word joined

@@ -4,7 +4,7 @@ use Rattle.std.proofs.lemmas.List.{drop_all, append-nil}
 use Rattle.std.proofs.lemmas.Nat.{mul-le}
 use Rattle.bitpacking.proofs.WordsOfParts.{drop-further, row_first, row_is}
 
--- The codes that are left begin with those of the next register. `old` and `new` are what the transformer gives of the values
+-- The codes that are left begin with those of the next register. `old` and `new` are what the transformer returns for the values
 -- that come, before and after that register.
 pub codes_step : (lanes i : ℕ) (all values row out : List ℕ) (old new : List ℕ → List ℕ)
     → drop (lanes * i) all ≡ old (drop (lanes * i) values) → row ≡ take lanes (drop (lanes * i) values)

@@ -11,7 +11,7 @@ use Rattle.bitpacking.specs.Width.{Fits, Least}
 use Rattle.bitpacking.specs.Layout.{place, size, Layout}
 use Rattle.bitpacking.specs.WorkedBlocks.{ThreeBits, ThreeBitsSorted, FourBits, WrappedFives, FourLanes, AcrossWords, EightLanes, FallWidth, StillWidth, StepsWidth, NoStepsWidth, NoStepsFromLastWidth}
 
--- whether bit j of code k has its place
+-- whether bit j of code k has its bit number
 abbrev in_place : ℕ → ℕ → List ℕ → List ℕ → ℕ → ℕ → Bool
 in_place lanes width codes bytes k j = bit_at (get_or codes k 0) j == bit_of bytes (place lanes width k j)
 

@@ -1,4 +1,4 @@
--- What a call that packs or unpacks a block is given, and what it leaves in the buffer.
+-- The arguments of a call that packs or unpacks a block, and what it leaves in the buffer.
 use Rattle.std.specs.Prelude.{◌≡◌, ℕ, ◌+◌, ◌*◌, ◌<◌, ◌≤◌, List, length, take, drop}
 use Rattle.bitpacking.specs.declared.kind.Kind.{Kind}
 use Rattle.bitpacking.specs.declared.memory.Steps.{Steps}
@@ -24,12 +24,12 @@ pub record CanUnpack (lanes width : ℕ) (bytes values : List ℕ) : Type 0 wher
   pub whole : size lanes width ≤ length bytes
   pub room : 32 * lanes ≤ length values
 
--- the buffer begins with bytes that hold the block, and goes on as it was
+-- the buffer begins with bytes that hold the block, and the rest of it is unchanged
 pub record IsPacked (lanes width : ℕ) (kind : Kind) (block old new : List ℕ) : Type 0 where
   pub bytes : Holds lanes width kind block (take (size lanes width) new)
   pub rest : drop (size lanes width) new ≡ drop (size lanes width) old
 
--- the values begin with the block that the bytes hold, and go on as they were
+-- the values begin with the block that the bytes hold, and the rest of them is unchanged
 pub record IsUnpacked (lanes width : ℕ) (kind : Kind) (bytes old new : List ℕ) : Type 0 where
   pub block : Holds lanes width kind (take (32 * lanes) new) (take (size lanes width) bytes)
   pub rest : drop (32 * lanes) new ≡ drop (32 * lanes) old

@@ -1,4 +1,4 @@
--- The codes of a block: what is packed in place of its values.
+-- The codes of a block: what is packed instead of its values.
 use Rattle.std.specs.Prelude.{ℕ, ◌^◌, ◌<◌, List, map, All, unwrap_or}
 use Rattle.bitpacking_register.specs.Words.{wrapping_sum, wrapping_difference}
 use Rattle.bitpacking_register.specs.Deltas.{differences, running_sums}

@@ -12,7 +12,7 @@ use Rattle.bitpacking.specs.Layout.{codes_of, place, size, Holds, Layout}
 use Rattle.bitpacking.specs.Words.{bytes_of_words, word}
 use Rattle.bitpacking.specs.Calls.{IsPacked, IsUnpacked}
 
--- every bit of the bytes of a block is the place of one bit of one code, and of no other
+-- every bit of the bytes of a block is one bit of one code, and of no other
 abbrev pub OneLayoutPlaces : Type 0
 OneLayoutPlaces = (lanes width t : ℕ) → 0 < lanes → t < 8 * size lanes width
     → (k : ℕ) × (j : ℕ) × (k < 32 * lanes) × (j < width) × (place lanes width k j ≡ t)
@@ -92,12 +92,12 @@ abbrev pub LanesAreOneLaneLayouts : Type 0
 LanesAreOneLaneLayouts = (lanes width lane : ℕ) (codes bytes : List ℕ) → lane < lanes → Layout lanes width codes bytes
     → Layout 1 width (lane_codes lanes lane codes) (lane_bytes lanes lane width bytes)
 
--- bytes that hold a block hold no other: unpacking what was packed gives the block back
+-- bytes that hold a block hold no other: unpacking what was packed returns the block
 abbrev pub BytesHoldOneBlock : Type 0
 BytesHoldOneBlock = (lanes width : ℕ) (kind : Kind) (block other bytes : List ℕ) → AreWords block → AreWords other
     → Holds lanes width kind block bytes → Holds lanes width kind other bytes → other ≡ block
 
--- a block is held by one list of bytes: packing what was unpacked gives the bytes back
+-- a block is held by one list of bytes: packing what was unpacked returns the bytes
 abbrev pub BlockHasOneList : Type 0
 BlockHasOneList = (lanes width : ℕ) (kind : Kind) (block bytes others : List ℕ) → 0 < lanes
     → AreBytes bytes → AreBytes others

@@ -13,8 +13,8 @@ use crate::Kind;
 /// No call fails, allocates or panics: lengths and widths are conditions on the caller. Whether the codes of a block fit a
 /// width is told by the width calls: they fit the least width and every greater one.
 ///
-/// A packer writes `BLOCK_LEN`, `new` and the three calls by kind. The nine calls after them are the same calls, each for the kind in its
-/// name.
+/// A packer implements `BLOCK_LEN`, `new` and the three calls by kind. The nine calls after them are the same calls, each for the kind in
+/// its name.
 ///
 /// # Example
 ///
@@ -44,7 +44,7 @@ pub trait BitPacker: Sized + Clone + Copy {
 
     ghost lanes: { ℕ };
 
-    /// The packer with the fastest kernel.
+    /// Returns the packer with the fastest kernel.
     fn new() -> Self;
 
     /// Packs a block of a kind, as the compress call of that kind does, and returns the number of bytes written.
@@ -71,7 +71,7 @@ pub trait BitPacker: Sized + Clone + Copy {
         ensures size { result ≡ size lanes num_bits }
         ensures unpacked { IsUnpacked lanes num_bits kind compressed.now decompressed.old decompressed.new };
 
-    /// The least width of a block of a kind, from 0 to 32, as the width call of that kind finds it.
+    /// Returns the least width of a block of a kind, from 0 to 32, as the width call of that kind finds it.
     fn num_bits_kind(&self, kind: Kind, decompressed: &[u32]) -> u8
         requires { length decompressed.now ≡ BLOCK_LEN }
         ensures width { IsWidth kind decompressed.now result }
@@ -79,7 +79,7 @@ pub trait BitPacker: Sized + Clone + Copy {
 
     /// Packs a block at `num_bits` bits per value and returns the number of bytes written, 4 * lanes * `num_bits`.
     ///
-    /// Any width from the block's least to 32 will do. Bytes after those written stay as they were.
+    /// Any width from the block's least to 32 will do. Bytes after those written are unchanged.
     #[inline(always)]
     fn compress(&self, decompressed: &[u32], compressed: &mut [u8], num_bits: u8) -> usize
         requires { CanPack lanes num_bits Plain decompressed.now compressed.old }
@@ -89,7 +89,7 @@ pub trait BitPacker: Sized + Clone + Copy {
         self.compress_kind(Kind::Plain, decompressed, compressed, num_bits)
     }
 
-    /// Packs the differences of a block, the first of them from `initial`, which the caller keeps.
+    /// Packs the differences of a block, the first of them from `initial`, which the caller stores.
     ///
     /// The block need not be in order: differences are taken modulo 2 ^ 32.
     #[inline(always)]
@@ -131,7 +131,7 @@ pub trait BitPacker: Sized + Clone + Copy {
 
     /// Unpacks a block of `num_bits` bits per value and returns the number of bytes read, 4 * lanes * `num_bits`.
     ///
-    /// Any bytes are taken. Later bytes are not looked at, and values after the block stay as they were.
+    /// Any bytes are accepted. Later bytes are not read, and values after the block are unchanged.
     #[inline(always)]
     fn decompress(&self, compressed: &[u8], decompressed: &mut [u32], num_bits: u8) -> usize
         requires { CanUnpack lanes num_bits compressed.now decompressed.old }
@@ -179,7 +179,7 @@ pub trait BitPacker: Sized + Clone + Copy {
         )
     }
 
-    /// The least width at which the block can be packed, from 0 to 32.
+    /// Returns the least width at which the block can be packed, from 0 to 32.
     #[inline(always)]
     fn num_bits(&self, decompressed: &[u32]) -> u8
         requires { length decompressed.now ≡ BLOCK_LEN }
@@ -189,7 +189,7 @@ pub trait BitPacker: Sized + Clone + Copy {
         self.num_bits_kind(Kind::Plain, decompressed)
     }
 
-    /// The least width of the block's differences.
+    /// Returns the least width of the block's differences.
     #[inline(always)]
     fn num_bits_sorted(&self, initial: u32, decompressed: &[u32]) -> u8
         requires { length decompressed.now ≡ BLOCK_LEN }
@@ -199,7 +199,7 @@ pub trait BitPacker: Sized + Clone + Copy {
         self.num_bits_kind(Kind::Sorted(initial), decompressed)
     }
 
-    /// The least width of the block's differences, each one less.
+    /// Returns the least width of the block's differences, each one less.
     #[inline(always)]
     fn num_bits_strictly_sorted(&self, initial: Option<u32>, decompressed: &[u32]) -> u8
         requires { length decompressed.now ≡ BLOCK_LEN }
@@ -209,7 +209,7 @@ pub trait BitPacker: Sized + Clone + Copy {
         self.num_bits_kind(Kind::StrictlySorted(initial), decompressed)
     }
 
-    /// How many bytes a block takes at `num_bits` bits per value. Any width is taken, also above 32.
+    /// Returns how many bytes a block takes at `num_bits` bits per value. Accepts any width, also above 32.
     #[must_use]
     fn compressed_block_size(num_bits: u8) -> usize
         ensures { result ≡ size lanes num_bits }

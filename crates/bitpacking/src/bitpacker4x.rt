@@ -14,7 +14,7 @@ use std::simd::prelude::*;
 pub struct BitPacker4x(InstructionSet);
 
 impl BitPacker4x {
-    /// The packer on arrays, a word at a time. It meets the contracts of the one that `new` gives.
+    /// Returns the packer on arrays, a word at a time. It has the contracts of the one that `new` returns.
     pub fn scalar() -> Self {
         BitPacker4x(InstructionSet::Scalar)
     }

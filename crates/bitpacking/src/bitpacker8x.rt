@@ -14,7 +14,7 @@ use std::simd::prelude::*;
 pub struct BitPacker8x(InstructionSet);
 
 impl BitPacker8x {
-    /// The packer on arrays, a word at a time. It meets the contracts of the one that `new` gives.
+    /// Returns the packer on arrays, a word at a time. It has the contracts of the one that `new` returns.
     pub fn scalar() -> Self {
         BitPacker8x(InstructionSet::Scalar)
     }

@@ -103,7 +103,7 @@ pub(crate) fn width_kind<K: RunsOn<R>, R: Register>(
     }
 }
 
-/// The value before a strictly sorted block: `None` means `u32::MAX`.
+/// Returns the value before a strictly sorted block: `None` means `u32::MAX`.
 #[inline(always)]
 fn strict_start(initial: Option<u32>) -> u32
     ensures { result ≡ start (StrictlySorted initial) }

@@ -8,9 +8,9 @@ ghost use Rattle.bitpacking.specs.Moves.{Moves};
 
 use crate::{BitPacker, Kind, Steps};
 
-/// The calls that compress, decompress or give a width, for any kind, with their loads and stores counted.
+/// The calls that compress, decompress or measure a width, for any kind, with their loads and stores counted.
 ///
-/// A load or store of one register moves `BLOCK_LEN` / 32 values, or four times as many bytes. [`Steps`] takes no room at
+/// A load or store of one register moves `BLOCK_LEN` / 32 values, or four times as many bytes. [`Steps`] has no size at
 /// run time: only contracts see the counts.
 pub trait Counted: BitPacker {
     /// Packs a block: 32 loads, and a store for each bit of the width. At width 0 nothing is loaded.
@@ -41,7 +41,7 @@ pub trait Counted: BitPacker {
         ensures unpacked { IsUnpacked Self.lanes num_bits kind compressed.now decompressed.old decompressed.new }
         ensures counts { Moves steps.old steps.new num_bits 32 (32 + num_bits) };
 
-    /// The least width of a block: 32 loads, and nothing is stored or held.
+    /// Returns the least width of a block: 32 loads, and nothing is stored or held.
     fn width_counted(&self, kind: Kind, decompressed: &[u32], steps: &mut Steps) -> u8
         requires { length decompressed.now ≡ Self.BLOCK_LEN }
         ensures width { IsWidth kind decompressed.now result }

@@ -1,4 +1,4 @@
-//! From slices and a width to a kernel: one loop that takes the width, or code of its own for each width.
+//! From slices and a width to a kernel: one loop that has the width as an argument, or code of its own for each width.
 
 ghost use Rattle.std.specs.Prelude.{◌+◌};
 ghost use Rattle.bitpacking.specs.Calls.{CanPackCodes, CanUnpack, MovesToPack};

@@ -1,6 +1,6 @@
 //! The kinds of blocks.
 
-/// What is packed in place of the values of a block.
+/// What is packed instead of the values of a block.
 #[derive(Clone, Copy, PartialEq, Eq, Debug)]
 pub enum Kind {
     /// The values.

@@ -22,8 +22,8 @@ ghost use Rattle.bitpacking.specs.Laws.{
   StrictSavesAtMostABit,
 };
 
-/// Each bit of the bytes of a block is the place of exactly one bit of its codes. Codes that fit a width have exactly one
-/// list of bytes as their layout, and as many bytes as a block has are the layout of exactly one list of codes.
+/// Each bit of the bytes of a block is exactly one bit of its codes. Codes that fit a width have exactly one list of bytes
+/// as their layout, and as many bytes as a block has are the layout of exactly one list of codes.
 pub fn one_layout()
     ensures places { OneLayoutPlaces }
     ensures bytes { OneLayoutBytes }
@@ -56,21 +56,21 @@ pub fn sorted_codes_are_differences()
     ensures { SortedCodesAreDifferences }
 {}
 
-/// The words of each lane are the bytes that the layout of one lane gives for the codes of that lane.
+/// The words of each lane are the bytes of the layout of one lane, for the codes of that lane.
 pub fn lanes_are_one_lane_layouts()
     ensures { LanesAreOneLaneLayouts }
 {}
 
-/// Round trips, for one kind with its initial value and one width. Decompressing what was compressed gives the block back;
-/// compressing what was decompressed gives the bytes back; and two different blocks never share bytes.
+/// Round trips, for one kind with its initial value and one width. Decompressing what was compressed returns the block;
+/// compressing what was decompressed returns the bytes; and two different blocks never share bytes.
 pub fn round_trips()
     ensures block { BytesHoldOneBlock }
     ensures bytes { BlockHasOneList }
     ensures shared { BlocksShareNoBytes }
 {}
 
-/// Calls with equal arguments and equal buffers leave equal buffers, whichever kernel runs: two that meet the clauses of a
-/// compress call, and two that meet the clauses of a decompress call.
+/// Calls with equal arguments and equal buffers leave equal buffers, whichever kernel runs: two that fulfil the clauses of
+/// a compress call, and two that fulfil the clauses of a decompress call.
 pub fn equal_calls_leave_equal_buffers()
     ensures packed { EqualPackedBuffers }
     ensures unpacked { EqualUnpackedValues }

@@ -1,7 +1,7 @@
 //! Blocks of integers, each value packed in as many bits as the greatest code of its block needs.
 //!
-//! A packer takes blocks of a fixed length, finds the least width of a block, and writes the block in that many bits per
-//! value. The bytes hold neither the width nor the kind of the block: the caller keeps both.
+//! A packer packs blocks of a fixed length, finds the least width of a block, and writes the block in that many bits per
+//! value. The bytes hold neither the width nor the kind of the block: the caller stores both.
 //!
 //! <!-- crates/bitpack_uses/src/sorted_block.rt -->
 //! ```rust
@@ -14,7 +14,7 @@
 //!     let mut bytes = [0; MAX_BLOCK_SIZE];
 //!     let size = packer.compress_strictly_sorted(None, values, &mut bytes, width);
 //!
-//!     // The bytes do not hold the width: the caller keeps it.
+//!     // The bytes do not hold the width: the caller stores it.
 //!     let mut unpacked = [0; 128];
 //!     packer.decompress_strictly_sorted(None, &bytes[..size], &mut unpacked, width);
 //!     unpacked

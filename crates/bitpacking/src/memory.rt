@@ -24,9 +24,9 @@ use std::marker::{Model, PhantomData};
 use std::mem::size_of;
 
 /// How many registers were loaded and stored, how many bits of a lane are inside (loaded and not yet stored), and how many
-/// were held at most. A register of values counts the width of the block, one of bytes 32.
+/// were held at most at once. A register of values counts the width of the block, one of bytes 32.
 ///
-/// It takes no room at run time, and no program can read it: the numbers are for contracts.
+/// It has no size at run time, and no program can read it: the numbers are for contracts.
 #[derive(Drop)]
 pub struct Steps {
     marker: PhantomData<()>,
@@ -85,7 +85,8 @@ impl Steps {
     }
 }
 
-/// Values that are loaded a register at a time. Each register counts as the number of bits of a lane given to `new`.
+/// A slice from which values are loaded a register at a time. Each register counts as the number of bits of a lane that `new`
+/// got.
 #[derive(Drop)]
 pub(crate) struct ValueSource<'a> {
     words: &'a [u32],
@@ -115,7 +116,8 @@ impl<'a> ValueSource<'a> {
     }
 }
 
-/// Places into which values are stored a register at a time. Each register counts as the number of bits of a lane given to `new`.
+/// A slice into which values are stored a register at a time. Each register counts as the number of bits of a lane that `new`
+/// got.
 #[derive(Drop)]
 pub(crate) struct ValueTarget<'a> {
     words: &'a mut [u32],

@@ -13,7 +13,7 @@ use Rattle.bitpacking_c.specs.Sets.{Adds, is_plain}
 use Rattle.bitpacking_c.specs.Views.{IsListOf}
 use Rattle.bitpacking_c.proofs.SetSteps.{ordered_kind, plain_kind, rising, writes}
 
--- ---- answers
+-- ---- results
 
 pub has_no_order : (given values before : List ℕ) (kind : ListKind) (room : ℕ) → IsStrictlyIncreasing given → kind ≡ Plain
     → Combines given (is_plain kind) room values before before (negsuc 22)

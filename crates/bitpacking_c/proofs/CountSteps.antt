@@ -269,7 +269,7 @@ counted_all views lists end are le =
     of_any : (v : ℕ) → has (united_all (all_distinct lists)) v ≡ any_has (all_values lists) v
     of_any v = has-united_all (all_distinct lists) v ∙ has-any_distinct lists v
 
--- the answer of the calls
+-- the result of the calls
 pub counts : (plain : Bool) (values : List ℕ) (count : ℕ) (answer : ℤ) → false ≡ plain → answer ≡ pos count → count ≡ length values → Counts plain values answer
 counts true values count answer e is are = absurd cc
 counts false values count answer e is are = is ∙ ap pos are

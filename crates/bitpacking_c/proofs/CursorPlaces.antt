@@ -1,4 +1,4 @@
--- Places of a cursor of C: what is read for a view is of each list that its bytes are; and what a search answers.
+-- Positions of a cursor of C: what is read for a view is of each list that its bytes are; and the result of a search.
 use Rattle.std.proofs.Common.{◌≡◌, ◌≢◌, ℕ, ◌<◌, ◌≤◌, ℤ, pos, List, length, get_or, Some, None, refl, sym, ◌∙◌, arith, inl, inr}
 use Rattle.std.specs.List.{slice_get}
 use Rattle.std.proofs.lemmas.Bool.{cases_lt}
@@ -29,7 +29,7 @@ module _ (lanes : ℕ) (bytes values : List ℕ) (is : HasValues lanes bytes val
     rest = λ past. reads.rest (λ all same. rw same (past values is));
   }
 
--- The answer says whether there is a value.
+-- The result says whether there is a value.
 pub some_within : (xs : List ℕ) (p v : ℕ) → slice_get xs p ≡ Some v → p < length xs
 some_within xs p v some = elim (cases_lt p (length xs)) [
   | inl lt ↦ lt

@@ -30,7 +30,7 @@ length-distinct (x ∷ xs) =
     let rest = length-distinct xs in
     cond_both (has xs x) (distinct xs) (x ∷ distinct xs) (λ (ys : List ℕ). length ys ≤ length (x ∷ xs)) (λ _. omega (arith, rest)) (λ _. omega (arith, rest))
 
--- what is kept by a list that has it too, or that lacks it
+-- what is retained by a list that has it too, or that lacks it
 pub keeps : (lacking : Bool) (view : ListView) (old rest after : List ℕ) (count : ℕ) → AreInFront count (if lacking then without old rest else shared old rest) after
     → ((kind : ListKind) (all : List ℕ) → IsListOf view.lanes view.bytes.now kind all → (v : ℕ) → has rest v ≡ has all v)
     → Leaves view (λ all v. has old v && (if lacking then not (has all v) else has all v)) after count
@@ -62,7 +62,7 @@ pub length-shared : (xs ys : List ℕ) → length (shared xs ys) ≤ length xs
 unfolding shared
 length-shared xs ys = length-filter-le (λ x. has ys x) xs
 
--- the values of a text are in the order of its kind
+-- the values of an encoded list are in the order of its kind
 ordered_text : (version : Version) (lanes : ℕ) (kind : ListKind) (values bytes : List ℕ) → IsText version lanes kind values bytes
     → first_out kind values ≡ None
 ordered_text versions.Two lanes kind values bytes is = is.ordered

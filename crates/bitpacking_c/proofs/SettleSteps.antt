@@ -53,7 +53,7 @@ has_up_to xs n limit v within up_to above = same_tests (has (take n xs) v) (has 
           | inr later ↦ let high = above k later lt in absurd (omega (arith, high, at_k, le))
         ]
 
--- the first of many values are kept
+-- the first of many values are retained
 module _ (before new : List ℕ) (so_far : Gathered) (kept some : ℕ) (within : kept ≤ length new) (positive : 0 < some) (fewer : some < kept)
     (rises : IsStrictlyIncreasing (take kept new))
     (members : (v : ℕ) → has (take kept new) v ≡ (has (take so_far.len before) v && leb v so_far.limit)) where

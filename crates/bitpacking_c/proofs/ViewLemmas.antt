@@ -1,4 +1,4 @@
--- The bytes of a view are the text of its list, and what opening found says the kind and the length of it.
+-- The bytes of a view encode its list, and what opening found says its kind and its length.
 use Rattle.std.proofs.Common.{◌≡◌, ℕ, zero, suc, ◌≤◌, List, length, refl, sym, subst, ◌∙◌, ap, arith}
 use Rattle.bitpack_lists.specs.declared.list_kind.ListKind.{ListKind}
 use Rattle.bitpack_lists.specs.declared.opened.outline.ListOutline.{ListOutline}
@@ -8,7 +8,7 @@ use Rattle.bitpack_lists.specs.Texts.{IsText, version_in}
 use Rattle.bitpack_lists.proofs.ForCallers.{outline_is}
 use Rattle.bitpacking_c.specs.Views.{IsListOf, WasFound}
 
--- a list of some lanes is a text
+-- a list of some lanes is an encoded list
 pub text_of_list : (lanes other : ℕ) (bytes : List ℕ) (kind : ListKind) (values : List ℕ) → lanes ≡ other → 1 ≤ other → IsListOf lanes bytes kind values
     → IsText (version_in bytes) other kind values bytes
 text_of_list zero other bytes kind values e some is = absurd (omega (arith, e, some))

@@ -112,7 +112,7 @@ written_none test out = record {
 
 -- ---- the bits of a word that are left
 
--- the bits from a place on are those of the word, and none below is set
+-- the bits from a bit number on are those of the word, and none below is set
 pub record IsLeft (word left low : ℕ) : Type 0 where
   pub within : low ≤ 64
   pub kept : (j : ℕ) → low ≤ j → j < 64 → is_set left j ≡ is_set word j

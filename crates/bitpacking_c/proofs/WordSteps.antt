@@ -55,7 +55,7 @@ pub word_away : (at len b : ℕ) → (b < 64 * at) ⊎ (64 * (at + len) ≤ b) �
 word_away at len b (inl before) = inl (omega (arith, before))
 word_away at len b (inr after) = inr (omega (arith, after))
 
--- the bits of a word from a place on are cleared
+-- the bits of a word from a bit number on are cleared
 module _ (words : List ℕ) (count : ℕ) (within : count / 64 < length words) where
   masked : (word : ℕ) → word % (1 * 2 ^ (count % 64) % 2 ^ 64) ≡ bit_and word (2 ^ (count % 64) - 1)
   masked word = ap (λ m. word % m) (one_shl (count % 64) 64 (omega arith)) ∙ sym (and_mask word (count % 64))

@@ -1,4 +1,4 @@
--- What the calls for C answer, and what they leave in the caller's buffers.
+-- What the calls for C return, and what they leave in the caller's buffers.
 use Rattle.std.specs.Prelude.{◌≡◌, ◌≢◌, ℕ, ◌*◌, ◌<◌, ◌≤◌, ℤ, pos, negsuc, List, length, take, drop, sum, All, Result, Ok, Err}
 use Rattle.bitpacking.specs.declared.kind.Kind.{Kind}
 use Rattle.bitpacking.specs.Codes.{codes}
@@ -9,7 +9,7 @@ use Rattle.bitpack_lists.specs.Chains.{Chained, IsChainSize, Loose}
 use Rattle.bitpacking_c.specs.declared.call_error.CallError.{CallError}
 use Rattle.bitpacking_c.specs.declared.call_error.CallError.TheVariants.{BadLength, BadWidth, Short, Unfit}
 
--- the number of an answer: the count, or -1 to -4
+-- the number of a result: the count, or -1 to -4
 abbrev pub number_of : Result ℕ CallError → ℤ
 number_of (Ok count) = pos count
 number_of (Err BadLength) = negsuc 0
@@ -17,7 +17,7 @@ number_of (Err BadWidth) = negsuc 1
 number_of (Err Short) = negsuc 2
 number_of (Err Unfit) = negsuc 3
 
--- the number stands for an answer with this meaning
+-- the number stands for a result with this meaning
 abbrev pub Answers : ℤ → (Result ℕ CallError → Type 0) → Type 0
 Answers number Means = (answer : Result ℕ CallError) × (number ≡ number_of answer) × Means answer
 
@@ -31,7 +31,7 @@ CannotPack lanes width kind block room Short = (width ≤ 32) × (length block �
 CannotPack lanes width kind block room Unfit =
     (width ≤ 32) × (length block ≡ 32 * lanes) × (size lanes width ≤ room) × ¬ (Fits (codes kind block) width)
 
--- the bytes of the block were written, or the buffer is as it was
+-- the bytes of the block were written, or the buffer is unchanged
 abbrev pub Packs : ℕ → ℕ → Kind → List ℕ → List ℕ → List ℕ → Result ℕ CallError → Type 0
 Packs lanes width kind block old new (Ok count) =
     (width ≤ 32) × (count ≡ size lanes width) × IsPacked lanes width kind block old new
@@ -44,13 +44,13 @@ CannotUnpack lanes width bytes room BadWidth = (32 * lanes ≤ room) × (32 < wi
 CannotUnpack lanes width bytes room Short = (32 * lanes ≤ room) × (width ≤ 32) × (bytes < size lanes width)
 CannotUnpack lanes width bytes room error = ⊥
 
--- the values of the block were written, or they are as they were
+-- the values of the block were written, or they are unchanged
 abbrev pub Unpacks : ℕ → ℕ → Kind → List ℕ → List ℕ → List ℕ → Result ℕ CallError → Type 0
 Unpacks lanes width kind bytes old new (Ok count) =
     (width ≤ 32) × (count ≡ size lanes width) × IsUnpacked lanes width kind bytes old new
 Unpacks lanes width kind bytes old new (Err error) = (new ≡ old) × CannotUnpack lanes width (length bytes) (length old) error
 
--- the answer is the block's least width, or the values are no block
+-- the result is the block's least width, or the values are no block
 abbrev pub GivesWidth : ℕ → Kind → List ℕ → Result ℕ CallError → Type 0
 GivesWidth lanes kind block (Ok width) = (length block ≡ 32 * lanes) × IsWidth kind block width × (width ≤ 32)
 GivesWidth lanes kind block (Err BadLength) = length block ≢ 32 * lanes
@@ -63,7 +63,7 @@ CannotPackLeast lanes kind block room Short =
     (length block ≡ 32 * lanes) × ((least : ℕ) × IsWidth kind block least × (room < size lanes least))
 CannotPackLeast lanes kind block room error = ⊥
 
--- the bytes of the block at its least width and the width were written, or the buffer and the width are as they were
+-- the bytes of the block at its least width and the width were written, or the buffer and the width are unchanged
 abbrev pub PacksLeast : ℕ → ℕ → ℕ → Kind → List ℕ → List ℕ → List ℕ → Result ℕ CallError → Type 0
 PacksLeast lanes before least kind block old new (Ok count) =
     IsWidth kind block least × (least ≤ 32) × (count ≡ size lanes least) × IsPacked lanes least kind block old new
@@ -79,7 +79,7 @@ CannotPackAll lanes kind values widths room Short =
     (length values ≡ 32 * lanes * widths) × ((size : ℕ) × IsChainSize lanes kind values widths size × (room < size))
 CannotPackAll lanes kind values widths room error = ⊥
 
--- the widths and bytes of the chain were written, or both buffers are as they were
+-- the widths and bytes of the chain were written, or both buffers are unchanged
 abbrev pub PacksAll : ℕ → Kind → List ℕ → List ℕ → List ℕ → List ℕ → List ℕ → Result ℕ CallError → Type 0
 PacksAll lanes kind values before widths old new (Ok count) =
     (count ≡ 4 * lanes * sum widths) × (count ≤ 4 * length values)
@@ -105,7 +105,7 @@ CannotUnpackAll lanes widths bytes room BadWidth = ¬ (AreNarrow widths)
 CannotUnpackAll lanes widths bytes room Short = bytes < 4 * lanes * sum widths
 CannotUnpackAll lanes widths bytes room error = ⊥
 
--- the values of the chain were written, or they are as they were
+-- the values of the chain were written, or they are unchanged
 abbrev pub UnpacksAll : ℕ → Kind → List ℕ → List ℕ → List ℕ → List ℕ → Result ℕ CallError → Type 0
 UnpacksAll lanes kind widths bytes old new (Ok count) =
     (count ≡ 4 * lanes * sum widths)

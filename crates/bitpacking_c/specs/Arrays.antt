@@ -1,4 +1,4 @@
--- What the calls on a list and the values of an array answer.
+-- What the calls on a list and the values of an array return.
 use Rattle.std.specs.Prelude.{◌≡◌, ℕ, ℤ, negsuc, Bool, List, length, take, ◌+◌}
 use Rattle.std.specs.List.Sorted.{IsStrictlyIncreasing}
 use Rattle.bitpack_lists.specs.declared.list_kind.ListKind.{ListKind}
@@ -6,7 +6,7 @@ use Rattle.bitpack_sorted.specs.Distinct.{distinct}
 use Rattle.bitpack_sorted.specs.Increasing.{shared, united, without}
 use Rattle.bitpacking_c.specs.Sets.{Writes, is_plain}
 
--- the given values do not increase, the answer is -30 and nothing was written; or the call writes and answers as those on many lists
+-- the values do not increase, the result is -30 and nothing was written; or the call writes and returns as those on many lists
 abbrev pub Combines : List ℕ → Bool → ℕ → List ℕ → List ℕ → List ℕ → ℤ → Type 0
 Combines given plain room values before after answer =
     ((IsStrictlyIncreasing given → ⊥) → (answer ≡ negsuc 29) × (after ≡ before))

@@ -1,4 +1,4 @@
--- What the calls on builders answer, and what they leave in the caller's buffer.
+-- What the calls on builders return, and what they leave in the caller's buffer.
 use Rattle.std.specs.Prelude.{◌≡◌, ℕ, ℤ, not, ◌&&◌, ◌==◌, if◌then◌else◌, List, [], drop, length, take, Option, Some, None, Result, IfOk}
 use Rattle.std.specs.Option.{option_or}
 use Rattle.bitpack_lists.specs.Builders.{Pushes}
@@ -23,13 +23,13 @@ pub record Starts (version lanes kind : ℕ) (buffer : List ℕ) (builder : List
   pub none : values_of builder ≡ []
   pub same : builder.values.now ≡ buffer
 
--- values were pushed, or refused, and then nothing changed; the answer is how many values the builder has then
+-- values were pushed, or refused, and then nothing changed; the result is how many values the builder has then
 pub record PushesTo (old new : ListBuilder) (pushed : List ℕ) (answer : Result ℕ ListError) : Type 0 where
   pub pushes : Pushes Short (kind_of_byte old.kind) (length old.values.now) (values_of old) pushed (values_of new) answer
   pub count : IfOk answer (λ count. count ≡ length (values_of new))
   pub numbers : (new.version ≡ old.version) × (new.lanes ≡ old.lanes) × (new.kind ≡ old.kind)
   pub rest : drop (length (values_of new)) new.values.now ≡ drop (length (values_of new)) old.values.now
 
--- the number stands for an answer with this meaning
+-- the number stands for a result with this meaning
 abbrev pub AnswersNumber : ℤ → (Result ℕ ListError → Type 0) → Type 0
 AnswersNumber number Means = (answer : Result ℕ ListError) × (number ≡ number_of_size answer) × Means answer

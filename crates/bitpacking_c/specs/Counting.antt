@@ -1,4 +1,4 @@
--- What the calls that count the values of many packed lists answer; and values that are gathered to be counted.
+-- What the calls that count the values of many packed lists return; and values that are gathered to be counted.
 use Rattle.std.specs.Prelude.{◌≡◌, ◌≢◌, ℕ, zero, suc, ◌+◌, ◌^◌, ◌≤◌, if◌then◌else◌, ℤ, pos, negsuc, Bool, true, false, ◌||◌, List, length, take}
 use Rattle.bitpack_sorted.specs.Increasing.{has}
 use Rattle.bitpack_sorted.specs.Many.{shared_by_all, united_all}
@@ -6,9 +6,9 @@ use Rattle.bitpacking_c.specs.declared.list_rounds.Gathered.{Gathered}
 use Rattle.bitpacking_c.specs.declared.list_view.ListView.{ListView}
 use Rattle.bitpacking_c.specs.Sets.{AreListsOf, Lists, all_distinct, any_plain}
 
--- ---- answers
+-- ---- results
 
--- the answer is the number of values; or a list is plain and the answer is -23
+-- the result is the number of values; or a list is plain and the result is -23
 abbrev pub Counts : Bool → List ℕ → ℤ → Type 0
 Counts true values answer = answer ≡ negsuc 22
 Counts false values answer = answer ≡ pos (length values)
@@ -46,8 +46,8 @@ pub record AreFrom (base : ℕ) (values : List ℕ) (gathered : Gathered) : Type
   pub limit : base ≤ gathered.limit
   pub from : (v : ℕ) → has (take gathered.len values) v ≡ true → base ≤ v
 
--- up to the limit, the values in front now are those before and the ones for which a test is true; above it, some of these. The limit is as
--- it was, or one of these
+-- up to the limit, the values in front now are those before and the ones for which a test is true; above it, some of these. The limit is
+-- unchanged, or one of these
 pub record Gathers (test : ℕ → Bool) (before : List ℕ) (old : Gathered) (after : List ℕ) (now : Gathered) : Type 0 where
   pub within : now.len ≤ length after
   pub lower : now.limit ≤ old.limit

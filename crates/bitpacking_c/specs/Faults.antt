@@ -24,7 +24,8 @@ abbrev pub fault_position : ListError → ℕ
 fault_position (faults.NotSorted position) = position
 fault_position fault = nowhere
 
--- the number of the fault is the answer, and its block and its position were written; or there is none, the answer is 0 and nothing was written
+-- the number of the fault is the result, and its block and its position were written; or there is none, the result is 0 and nothing was
+-- written
 abbrev pub TellsFault : ℕ → Option ListError → ℕ × ℕ → ℕ × ℕ → ℤ → Type 0
 TellsFault lanes found before after answer =
     MatchOption found ((answer ≡ pos 0) × (after ≡ before))

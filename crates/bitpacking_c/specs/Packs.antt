@@ -1,4 +1,4 @@
--- What the calls that write packed lists answer, and what they leave in the caller's buffer.
+-- What the calls that write packed lists return, and what they leave in the caller's buffer.
 use Rattle.std.specs.Prelude.{◌≡◌, ℕ, ℤ, pos, negsuc, ◌*◌, not, ◌&&◌, ◌||◌, ◌==◌, nat_lt, if◌then◌else◌, List, ◌++◌, length, Option, Some, None, MatchOption, Result, Ok, Err}
 use Rattle.std.specs.Option.{option_or}
 use Rattle.bitpacking.specs.Codes.{AreWords}
@@ -15,7 +15,7 @@ use Rattle.bitpack_lists.specs.Texts.{version_in}
 use Rattle.bitpack_lists.specs.Written.{MeasuresOne, WritesOne}
 use Rattle.bitpacking_c.specs.Views.{fault_number}
 
--- ---- what is asked for
+-- ---- what is wanted
 
 -- the version with a number from 2 to 4
 abbrev pub version_of : ℕ → Version
@@ -30,28 +30,30 @@ numbers_fault version kind =
 
 -- ---- what is written
 
--- the text of the values is written, or they are refused; for a fault of the numbers, the answer is the first and the buffer is as it was
+-- the encoded list of the values is written, or they are refused; for a fault of the numbers, the result is the first and the buffer is
+-- unchanged
 abbrev pub PacksList : ℕ → ℕ → ℕ → List ℕ → List ℕ → List ℕ → Result ℕ ListError → Type 0
 PacksList lanes version kind values before after answer =
     MatchOption (numbers_fault version kind)
     (WritesOne (IsWritten (version_of version) lanes (kind_of_byte kind) values) (kind_of_byte kind) values answer before after)
     (λ fault. (answer ≡ Err fault) × (after ≡ before))
 
--- the answer is the length of the text of the values, or the first fault
+-- the result is the length of the encoded list of the values, or the first fault
 abbrev pub GivesSize : ℕ → ℕ → ℕ → List ℕ → Result ℕ ListError → Type 0
 GivesSize lanes version kind values answer =
     MatchOption (numbers_fault version kind)
     (MeasuresOne (IsWritten (version_of version) lanes (kind_of_byte kind) values) (kind_of_byte kind) values answer)
     (λ fault. answer ≡ Err fault)
 
--- why a list that is read in place cannot stay as it is if values follow: the view was not opened, or it has whole blocks of an older version
+-- why a list cannot be appended to: the view was not opened, or it has whole blocks of an older version
 abbrev pub append_fault : ℕ → List ℕ → ℕ → Option ListError
 append_fault lanes bytes count =
     if lanes == 0 then Some (WrongLanes 0)
     else if nat_lt count (32 * lanes) || version_number (version_in bytes) == 4 then None
     else Some (BadVersion (version_number (version_in bytes)))
 
--- the newest text of all values is written, or they are refused; a list that cannot stay is refused first, and the buffer is as it was
+-- the newest encoded list of all values is written, or they are refused; a list that cannot be appended to is refused first, and the
+-- buffer is unchanged
 abbrev pub AppendsList : ℕ → List ℕ → ListKind → List ℕ → List ℕ → List ℕ → List ℕ → Result ℕ ListError → Type 0
 AppendsList lanes bytes kind values more before after answer =
     MatchOption (append_fault lanes bytes (length values))
@@ -74,7 +76,7 @@ JoinsList lanes bytes kind values base others room before after answer =
 
 -- ---- numbers
 
--- the number of an answer: the length, -3 for a short buffer, or the number of the fault
+-- the number of a result: the length, -3 for a short buffer, or the number of the fault
 abbrev pub number_of_size : Result ℕ ListError → ℤ
 number_of_size (Ok size) = pos size
 number_of_size (Err Short) = negsuc 2
@@ -85,7 +87,7 @@ abbrev pub position_after : ℕ → Result ℕ ListError → ℕ
 position_after before (Err (NotSorted position)) = position
 position_after before answer = before
 
--- the number and the position stand for an answer with this meaning
+-- the number and the position stand for a result with this meaning
 abbrev pub AnswersSize : ℤ → ℕ → ℕ → (Result ℕ ListError → Type 0) → Type 0
 AnswersSize number before after Means =
     (answer : Result ℕ ListError) × (number ≡ number_of_size answer) × (after ≡ position_after before answer) × Means answer

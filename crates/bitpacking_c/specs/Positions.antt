@@ -1,4 +1,4 @@
--- What the call on many positions of a list answers.
+-- What the call on many positions of a list returns.
 use Rattle.std.specs.Prelude.{◌≡◌, ℕ, ◌<◌, ◌≤◌, ℤ, pos, negsuc, List, length, drop, slice_index}
 use Rattle.bitpack_lists.specs.Positions.{AreWithin, HasAll}
 

@@ -1,4 +1,4 @@
--- What the calls on many packed lists answer: the values that all have, that any has, or that the first has and no other.
+-- What the calls on many packed lists return: the values that all have, that any has, or that the first has and no other.
 use Rattle.std.specs.Prelude.{◌≡◌, ◌≢◌, ℕ, zero, suc, not, ◌<◌, ◌≤◌, ℤ, pos, negsuc, min, Bool, true, false, ◌&&◌, ◌||◌, List, [], ◌∷◌, ◌++◌, length, map, take, ◌+◌, ◌-◌, ⊤}
 use Rattle.std.specs.List.{AllZip, filter, slice_index_or}
 use Rattle.std.specs.List.Sorted.{IsStrictlyIncreasing}
@@ -127,10 +127,10 @@ pub record HasUnion (views : List ListView) (after : List ℕ) (count : ℕ) : T
   pub few : count ≤ length after
   pub united : (lists : Lists) → AreListsOf views lists → AreInFront count (united_all (all_distinct lists)) after
 
--- ---- answers
+-- ---- results
 
--- the values were written to the front, and their number is the answer; or a list is plain and the answer is -23, or there is less room
--- than is always enough and the answer is -3, and nothing was written
+-- the values were written to the front, and their number is the result; or a list is plain and the result is -23, or there is less room
+-- than is always enough and the result is -3, and nothing was written
 abbrev pub Writes : Bool → ℕ → List ℕ → List ℕ → List ℕ → ℤ → Type 0
 Writes true room values before after answer = (answer ≡ negsuc 22) × (after ≡ before)
 Writes false room values before after answer =

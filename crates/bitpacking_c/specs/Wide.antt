@@ -1,4 +1,4 @@
--- What the calls on values above a base answer.
+-- What the calls on values above a base return.
 use Rattle.std.specs.Prelude.{◌≡◌, ℕ, ◌+◌, ◌<◌, ◌≤◌, ℤ, pos, negsuc, List, length, slice_get, slice_index, Option, Some, None}
 use Rattle.bitpacking_c.specs.Views.{WritesFound}
 
@@ -10,12 +10,12 @@ most_base = 18446744069414584320
 abbrev pub HasSums : ℕ → List ℕ → List ℕ → Type 0
 HasSums base values out = (k : ℕ) → k < length values → slice_index out k ≡ base + slice_index values k
 
--- the numbers from an index on are as they were
+-- the numbers from an index on are unchanged
 abbrev pub KeepsFrom : ℕ → List ℕ → List ℕ → Type 0
 KeepsFrom index before after = (k : ℕ) → index ≤ k → slice_index after k ≡ slice_index before k
 
--- the sums of a base and all values were written and their number is the answer; or the base is too great and the answer is -7, or there is no
--- room for them and it is -3, and nothing was written
+-- the sums of a base and all values were written and their number is the result; or the base is too great and the result is -7, or there is
+-- no room for them and it is -3, and nothing was written
 pub record UnpacksSums (base : ℕ) (all before after : List ℕ) (answer : ℤ) : Type 0 where
   pub above : most_base < base → (answer ≡ negsuc 6) × (after ≡ before)
   pub short : base ≤ most_base → length before < length all → (answer ≡ negsuc 2) × (after ≡ before)
@@ -27,7 +27,7 @@ abbrev pub sum_with : ℕ → Option ℕ → Option ℕ
 sum_with base None = None
 sum_with base (Some value) = Some (base + value)
 
--- the sum of a base and the value at a position is found; or the base is too great, the answer is -7 and nothing was written
+-- the sum of a base and the value at a position is found; or the base is too great, the result is -7 and nothing was written
 pub record GetsSum (base : ℕ) (all : List ℕ) (position before after : ℕ) (answer : ℤ) : Type 0 where
   pub above : most_base < base → (answer ≡ negsuc 6) × (after ≡ before)
   pub found : base ≤ most_base → WritesFound (sum_with base (slice_get all position)) before after answer

@@ -1,4 +1,4 @@
-//! A list combined with the increasing values of an array, in their place.
+//! A list combined with the increasing values of an array, in the array.
 
 ghost use Rattle.std.specs.Prelude.{◌≡◌, ℕ, if◌then◌else◌, false, true, List};
 ghost use Rattle.std.specs.List.Sorted.{IsStrictlyIncreasing};
@@ -12,8 +12,8 @@ use super::list_sets::{add_distinct, filter_by};
 use super::list_view::{ListView, bitpacking_list_len, kind};
 use bitpack_lists::ListKind;
 
-/// Keeps the values of an array that the list has too: moves them to the front, in their order, and answers their number. If the array's
-/// values do not increase it answers -30, and if the list is plain -23; then it writes nothing.
+/// Retains the values of an array that the list has too: moves them to the front, in their order, and returns their number. If the array's
+/// values do not increase it returns -30, and if the list is plain -23; then it writes nothing.
 #[unsafe(no_mangle)]
 pub extern "C" fn bitpacking_list_retain(view: &ListView<'_>, values: &mut [u32]) -> isize
     ensures { (kind : ListKind) (all : List ℕ) → IsListOf view.now.lanes view.now.bytes.now kind all
@@ -22,8 +22,8 @@ pub extern "C" fn bitpacking_list_retain(view: &ListView<'_>, values: &mut [u32]
     filter_array(view, values, false)
 }
 
-/// Keeps the values of an array that the list lacks: moves them to the front, in their order, and answers their number. If the array's
-/// values do not increase it answers -30, and if the list is plain -23; then it writes nothing.
+/// Retains the values of an array that the list lacks: moves them to the front, in their order, and returns their number. If the array's
+/// values do not increase it returns -30, and if the list is plain -23; then it writes nothing.
 #[unsafe(no_mangle)]
 pub extern "C" fn bitpacking_list_remove(view: &ListView<'_>, values: &mut [u32]) -> isize
     ensures { (kind : ListKind) (all : List ℕ) → IsListOf view.now.lanes view.now.bytes.now kind all
@@ -32,7 +32,7 @@ pub extern "C" fn bitpacking_list_remove(view: &ListView<'_>, values: &mut [u32]
     filter_array(view, values, true)
 }
 
-/// Keeps the values that the list has too, or those that it lacks.
+/// Retains the values that the list has too, or those that it lacks.
 fn filter_array(view: &ListView<'_>, values: &mut [u32], lacking: bool) -> isize
     ensures { (kind : ListKind) (all : List ℕ) → IsListOf view.now.lanes view.now.bytes.now kind all
         → Combines values.old (is_plain kind) 0 (if lacking then without values.old all else shared values.old all)
@@ -47,8 +47,8 @@ fn filter_array(view: &ListView<'_>, values: &mut [u32], lacking: bool) -> isize
     filter_by(view, values, lacking) as isize
 }
 
-/// Adds the values of the list to the first `count` values of an array, and answers how many these are together, each once and in increasing
-/// order. If the first `count` values do not increase it answers -30, if the list is plain -23, and if the array has less room than for
+/// Adds the values of the list to the first `count` values of an array, and returns how many these are together, each once and in increasing
+/// order. If the first `count` values do not increase it returns -30, if the list is plain -23, and if the array has less room than for
 /// `count` values and all of the list's -3; then it writes nothing.
 #[unsafe(no_mangle)]
 pub extern "C" fn bitpacking_list_add(

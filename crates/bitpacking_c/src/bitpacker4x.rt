@@ -8,7 +8,7 @@ use crate::call_error::number;
 use crate::{block, chain};
 use bitpacking::{BitPacker, BitPacker4x, Kind};
 
-/// Packs a block at its least width, which goes into `num_bits`. The answer is the number of bytes.
+/// Packs a block at its least width, which goes into `num_bits`. Returns the number of bytes.
 #[unsafe(no_mangle)]
 pub extern "C" fn bitpacking_4x_pack(
     decompressed: &[u32],
@@ -27,7 +27,7 @@ pub extern "C" fn bitpacking_4x_pack(
     ))
 }
 
-/// Packs a block at a width. The answer is the number of bytes.
+/// Packs a block at a width. Returns the number of bytes.
 #[unsafe(no_mangle)]
 pub extern "C" fn bitpacking_4x_compress(
     decompressed: &[u32],
@@ -45,7 +45,7 @@ pub extern "C" fn bitpacking_4x_compress(
     ))
 }
 
-/// Unpacks a block. The answer is the number of bytes read.
+/// Unpacks a block. Returns the number of bytes read.
 #[unsafe(no_mangle)]
 pub extern "C" fn bitpacking_4x_decompress(
     compressed: &[u8],
@@ -71,7 +71,7 @@ pub extern "C" fn bitpacking_4x_num_bits(decompressed: &[u32]) -> isize
     number(block::num_bits(&BitPacker4x::new(), Kind::Plain, decompressed))
 }
 
-/// Packs a chain of such blocks, each at its least width. The answer is the number of bytes.
+/// Packs a chain of such blocks, each at its least width. Returns the number of bytes.
 #[unsafe(no_mangle)]
 pub extern "C" fn bitpacking_4x_pack_all(values: &[u32], widths: &mut [u8], out: &mut [u8]) -> isize
     ensures { Answers result (PacksAll 4 Plain values.now widths.old widths.new out.old out.new) }
@@ -79,7 +79,7 @@ pub extern "C" fn bitpacking_4x_pack_all(values: &[u32], widths: &mut [u8], out:
     number(chain::pack_all(&BitPacker4x::new(), Kind::Plain, values, widths, out))
 }
 
-/// Unpacks a chain of such blocks. The answer is the number of bytes read.
+/// Unpacks a chain of such blocks. Returns the number of bytes read.
 #[unsafe(no_mangle)]
 pub extern "C" fn bitpacking_4x_unpack_all(widths: &[u8], bytes: &[u8], values: &mut [u32]) -> isize
     ensures { Answers result (UnpacksAll 4 Plain widths.now bytes.now values.old values.new) }
@@ -87,8 +87,8 @@ pub extern "C" fn bitpacking_4x_unpack_all(widths: &[u8], bytes: &[u8], values: 
     number(chain::unpack_all(&BitPacker4x::new(), Kind::Plain, widths, bytes, values))
 }
 
-/// Packs the differences of a block, the first of them from `initial` at its least width, which goes into `num_bits`. The
-/// answer is the number of bytes.
+/// Packs the differences of a block, the first of them from `initial`, at its least width, which goes into `num_bits`.
+/// Returns the number of bytes.
 #[unsafe(no_mangle)]
 pub extern "C" fn bitpacking_4x_pack_sorted(
     initial: u32,
@@ -108,7 +108,7 @@ pub extern "C" fn bitpacking_4x_pack_sorted(
     ))
 }
 
-/// Packs the differences of a block, the first of them from `initial` at a width. The answer is the number of bytes.
+/// Packs the differences of a block, the first of them from `initial`, at a width. Returns the number of bytes.
 #[unsafe(no_mangle)]
 pub extern "C" fn bitpacking_4x_compress_sorted(
     initial: u32,
@@ -127,7 +127,7 @@ pub extern "C" fn bitpacking_4x_compress_sorted(
     ))
 }
 
-/// Unpacks a block that was packed with the same `initial`. The answer is the number of bytes read.
+/// Unpacks a block that was packed with the same `initial`. Returns the number of bytes read.
 #[unsafe(no_mangle)]
 pub extern "C" fn bitpacking_4x_decompress_sorted(
     initial: u32,
@@ -154,7 +154,7 @@ pub extern "C" fn bitpacking_4x_num_bits_sorted(initial: u32, decompressed: &[u3
     number(block::num_bits(&BitPacker4x::new(), Kind::Sorted(initial), decompressed))
 }
 
-/// Packs a chain of such blocks, each at its least width. The answer is the number of bytes.
+/// Packs a chain of such blocks, each at its least width. Returns the number of bytes.
 #[unsafe(no_mangle)]
 pub extern "C" fn bitpacking_4x_pack_all_sorted(
     initial: u32,
@@ -173,7 +173,7 @@ pub extern "C" fn bitpacking_4x_pack_all_sorted(
     ))
 }
 
-/// Unpacks a chain of such blocks. The answer is the number of bytes read.
+/// Unpacks a chain of such blocks. Returns the number of bytes read.
 #[unsafe(no_mangle)]
 pub extern "C" fn bitpacking_4x_unpack_all_sorted(
     initial: u32,
@@ -192,8 +192,8 @@ pub extern "C" fn bitpacking_4x_unpack_all_sorted(
     ))
 }
 
-/// Packs one less than the differences of a block, the first of them from `initial` at its least width, which goes into
-/// `num_bits`. The answer is the number of bytes.
+/// Packs one less than the differences of a block, the first of them from `initial`, at its least width, which goes into
+/// `num_bits`. Returns the number of bytes.
 #[unsafe(no_mangle)]
 pub extern "C" fn bitpacking_4x_pack_strictly_sorted(
     initial: u32,
@@ -213,7 +213,7 @@ pub extern "C" fn bitpacking_4x_pack_strictly_sorted(
     ))
 }
 
-/// Packs one less than the differences of a block, the first of them from `initial` at a width. The answer is the number of
+/// Packs one less than the differences of a block, the first of them from `initial`, at a width. Returns the number of
 /// bytes.
 #[unsafe(no_mangle)]
 pub extern "C" fn bitpacking_4x_compress_strictly_sorted(
@@ -234,7 +234,7 @@ pub extern "C" fn bitpacking_4x_compress_strictly_sorted(
     ))
 }
 
-/// Unpacks a block that was packed with the same `initial`. The answer is the number of bytes read.
+/// Unpacks a block that was packed with the same `initial`. Returns the number of bytes read.
 #[unsafe(no_mangle)]
 pub extern "C" fn bitpacking_4x_decompress_strictly_sorted(
     initial: u32,
@@ -269,7 +269,7 @@ pub extern "C" fn bitpacking_4x_num_bits_strictly_sorted(
     ))
 }
 
-/// Packs a chain of such blocks, each at its least width. The answer is the number of bytes.
+/// Packs a chain of such blocks, each at its least width. Returns the number of bytes.
 #[unsafe(no_mangle)]
 pub extern "C" fn bitpacking_4x_pack_all_strictly_sorted(
     initial: u32,
@@ -289,7 +289,7 @@ pub extern "C" fn bitpacking_4x_pack_all_strictly_sorted(
     ))
 }
 
-/// Unpacks a chain of such blocks. The answer is the number of bytes read.
+/// Unpacks a chain of such blocks. Returns the number of bytes read.
 #[unsafe(no_mangle)]
 pub extern "C" fn bitpacking_4x_unpack_all_strictly_sorted(
     initial: u32,

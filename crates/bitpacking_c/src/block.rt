@@ -1,4 +1,4 @@
-//! The calls on one block, for any packer. What they are given is tested, so that they ask for nothing.
+//! The calls on one block, for any packer. They test their arguments, and so have no preconditions.
 
 ghost use Rattle.std.specs.Prelude.{◌^◌, ◌<◌, IfOk};
 ghost use Rattle.bitpacking_c.specs.Answers.{GivesWidth, Packs, PacksLeast, Unpacks};
@@ -75,7 +75,7 @@ pub(crate) fn num_bits<P: Counted>(
     Ok(packer.width_counted(kind, decompressed, &mut Steps::new()) as usize)
 }
 
-/// Packs a block at its least width, and gives the width.
+/// Packs a block at its least width, and returns the width.
 #[inline(always)]
 pub(crate) fn pack<P: Counted>(
     packer: &P,

@@ -33,7 +33,7 @@ pub extern "C" fn bitpacking_list_block_count(view: &ListView<'_>) -> usize
     }
 }
 
-/// Writes the last value of a whole block, and answers 0. If the list has no such block it answers -6, and for a plain list, whose blocks are
+/// Writes the last value of a whole block, and returns 0. If the list has no such block it returns -6, and for a plain list, whose blocks are
 /// not in order, -23; both write nothing. Nothing is unpacked.
 #[unsafe(no_mangle)]
 pub extern "C" fn bitpacking_list_block_last(
@@ -82,7 +82,7 @@ fn last<P: BitPacker>(
 }
 
 /// The number of the first whole block, from one on, whose last value is at least the target, or the count of whole blocks if there is none.
-/// For a plain list, which has no order, it answers -23. Nothing is unpacked.
+/// For a plain list, which has no order, it returns -23. Nothing is unpacked.
 #[unsafe(no_mangle)]
 pub extern "C" fn bitpacking_list_find_block(view: &ListView<'_>, from: usize, target: u32) -> isize
     ensures { (kind : ListKind) (all : List ℕ) → IsListOf view.now.lanes view.now.bytes.now kind all
@@ -114,7 +114,7 @@ fn find<P: BitPacker>(
     ensures found { (kind : ListKind) (all : List ℕ) → IsListOf view.now.lanes view.now.bytes.now kind all
         → IsFirstWithLast P.lanes all from target result }
     ensures few { result ≤ 2 ^ 28 }
-    // To block j from block i on it reads at most twice k entries and two if j - i + 1 is at most 2 ^ k.
+    // To block j from block i on it reads at most twice k skip entries and two if j - i + 1 is at most 2 ^ k.
     ensures entries { (k : ℕ) → result + 1 ≤ from + 2 ^ k → reads.new.entries ≤ reads.old.entries + (2 * k + 2) }
     ensures blocks { reads.new.blocks ≡ reads.old.blocks }
 {
@@ -129,8 +129,8 @@ fn find<P: BitPacker>(
     list.find_block(from + 1, target, reads)
 }
 
-/// Writes the values of a block to the front of `values`, and answers their number. The number of all whole blocks means the values that are
-/// left after them. The rest of `values` stays as it was. It answers -6 if there is no such block, and -3 if there is no room for its values;
+/// Writes the values of a block to the front of `values`, and returns their number. The number of all whole blocks means the values that are
+/// left after them. The rest of `values` is unchanged. It returns -6 if there is no such block, and -3 if there is no room for its values;
 /// both write nothing. At most one block is unpacked.
 #[unsafe(no_mangle)]
 pub extern "C" fn bitpacking_list_read_block(

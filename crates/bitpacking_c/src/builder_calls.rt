@@ -10,8 +10,8 @@ use crate::list_packing::{answer, pack, version_and_kind};
 use bitpacking::{BitPacker, BitPacker1x, BitPacker4x, BitPacker8x};
 
 /// Starts a builder of a list: of version 2, 3 or 4, for the packer of 1, 4 or 8 lanes, and of kind 0 for plain, 1 for sorted and 2 for
-/// strictly sorted. What is pushed is kept in `values`, which the builder borrows. Answers 0, or the number of the first fault, and then the
-/// builder is as it was.
+/// strictly sorted. Pushed values go into `values`, which the builder borrows. Returns 0, or the number of the first fault, and then the
+/// builder is unchanged.
 #[unsafe(no_mangle)]
 pub extern "C" fn bitpacking_list_builder_start<'a>(
     builder: &mut ListBuilder<'a>,
@@ -42,7 +42,7 @@ pub extern "C" fn bitpacking_list_builder_start<'a>(
     0
 }
 
-/// Pushes a value and answers how many values there are then. If it is out of order it answers -30, if there are 268,435,456 values -25, and
+/// Pushes a value and returns how many values there are then. If it is out of order it returns -30, if there are 268,435,456 values -25, and
 /// if the buffer is full -3; then nothing is written.
 #[unsafe(no_mangle)]
 pub extern "C" fn bitpacking_list_builder_push(builder: &mut ListBuilder<'_>, value: u32) -> isize
@@ -53,7 +53,7 @@ pub extern "C" fn bitpacking_list_builder_push(builder: &mut ListBuilder<'_>, va
     answer(builder.extend(&[value]), &mut position)
 }
 
-/// Pushes all these values, or none, and answers how many values there are then. It has the faults of `bitpacking_list_builder_push`. The
+/// Pushes all these values, or none, and returns how many values there are then. It has the faults of `bitpacking_list_builder_push`. The
 /// position in the list of the first value out of order is written.
 #[unsafe(no_mangle)]
 pub extern "C" fn bitpacking_list_builder_extend(
@@ -75,8 +75,8 @@ pub extern "C" fn bitpacking_list_builder_len(builder: &ListBuilder<'_>) -> usiz
     builder.count
 }
 
-/// Writes the text of the values at the start of `bytes`, and answers its length. The rest of `bytes` stays as it was. If the text has no room
-/// it answers -3 and writes nothing. A builder that was not started answers -22.
+/// Writes the encoded list of the values at the start of `bytes`, and returns its length. The rest of `bytes` is unchanged. If there is no
+/// room it returns -3 and writes nothing. For a builder that was not started it returns -22.
 #[unsafe(no_mangle)]
 pub extern "C" fn bitpacking_list_builder_finish(
     builder: &ListBuilder<'_>,

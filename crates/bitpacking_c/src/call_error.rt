@@ -1,4 +1,4 @@
-//! Answers as numbers: a count, or why a call failed.
+//! Results as numbers: a count, or why a call failed.
 
 ghost use Rattle.std.specs.Prelude.{◌≡◌, ◌^◌, ◌<◌, IfOk};
 ghost use Rattle.bitpacking_c.specs.Answers.{number_of};
@@ -16,7 +16,7 @@ pub enum CallError {
     Unfit,
 }
 
-/// The number that C is given.
+/// The number for C.
 #[inline(always)]
 pub(crate) fn number(answer: Result<usize, CallError>) -> isize
     requires { IfOk answer (λ count. count < 2 ^ 63) }

@@ -1,4 +1,4 @@
-//! The calls on chains of blocks, for any packer. What they are given is tested, so that they ask for nothing.
+//! The calls on chains of blocks, for any packer. They test their arguments, and so have no preconditions.
 
 ghost use Rattle.std.specs.Prelude.{◌*◌, ◌^◌, ◌<◌, ◌≤◌, sum, OnOk, IfOk, IfErr};
 ghost use Rattle.bitpacking_c.specs.Answers.{AreNarrow, CannotHold, PacksAll, UnpacksAll};

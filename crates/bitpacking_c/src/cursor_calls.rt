@@ -19,7 +19,7 @@ pub extern "C" fn bitpacking_cursor_start<'a>(cursor: &mut ListCursor<'a>, view:
     cursor.start(view, &mut Reads::new());
 }
 
-/// Writes the value at a cursor and answers 1. After the last value it answers 0 and writes nothing.
+/// Writes the value at a cursor and returns 1. After the last value it returns 0 and writes nothing.
 #[unsafe(no_mangle)]
 pub extern "C" fn bitpacking_cursor_value(cursor: &ListCursor<'_>, item: &mut u32) -> i32
     ensures { (kind : ListKind) (all : List ℕ) → IsListOfCursor cursor.now kind all
@@ -42,8 +42,8 @@ pub extern "C" fn bitpacking_cursor_position(cursor: &ListCursor<'_>) -> usize
     cursor.position()
 }
 
-/// Moves a cursor to the next value. Answers 1 if there is a value at the new place, and else 0. After the last value it stays. Unpacks at
-/// most one block, and none if the next value is in the block at hand.
+/// Moves a cursor to the next value. Returns 1 if there is a value at the new position, and else 0. After the last value it stays. Unpacks
+/// at most one block, and none if the next value is in the current block.
 #[unsafe(no_mangle)]
 pub extern "C" fn bitpacking_cursor_advance(cursor: &mut ListCursor<'_>) -> i32
     ensures list { cursor.new.list ≡ cursor.old.list }
@@ -53,8 +53,8 @@ pub extern "C" fn bitpacking_cursor_advance(cursor: &mut ListCursor<'_>) -> i32
     cursor.advance(&mut Reads::new())
 }
 
-/// Moves a cursor to the first value from its place on that is at least the target. Answers 1; 0 if there is none, and then it is at the end;
-/// or -23 for a plain list, and then it stays. Unpacks at most one block, and none if the value is in the block at hand.
+/// Moves a cursor to the first value from its position on that is at least the target. Returns 1; 0 if there is none, and then it is at the
+/// end; or -23 for a plain list, and then it stays. Unpacks at most one block, and none if the value is in the current block.
 #[unsafe(no_mangle)]
 pub extern "C" fn bitpacking_cursor_seek(cursor: &mut ListCursor<'_>, target: u32) -> i32
     ensures list { cursor.new.list ≡ cursor.old.list }
@@ -64,8 +64,8 @@ pub extern "C" fn bitpacking_cursor_seek(cursor: &mut ListCursor<'_>, target: u3
     cursor.seek(target, &mut Reads::new())
 }
 
-/// Moves a cursor to a position, forward or back, or to the end if the list has no such position. Answers 1 if there is a value at the new
-/// place, and else 0. Unpacks at most one block, and none if the position is in the block at hand.
+/// Moves a cursor to a position, forward or back, or to the end if the list has no such position. Returns 1 if there is a value there, and
+/// else 0. Unpacks at most one block, and none if the position is in the current block.
 #[unsafe(no_mangle)]
 pub extern "C" fn bitpacking_cursor_move_to(cursor: &mut ListCursor<'_>, to: usize) -> i32
     ensures list { cursor.new.list ≡ cursor.old.list }
@@ -75,7 +75,7 @@ pub extern "C" fn bitpacking_cursor_move_to(cursor: &mut ListCursor<'_>, to: usi
     cursor.move_to(to, &mut Reads::new())
 }
 
-/// Moves a cursor past the values of the block at hand, to the next one. Unpacks at most one block.
+/// Moves a cursor past the values of the current block, to the next one. Unpacks at most one block.
 #[unsafe(no_mangle)]
 pub extern "C" fn bitpacking_cursor_skip_block(cursor: &mut ListCursor<'_>)
     ensures list { cursor.new.list ≡ cursor.old.list }
@@ -85,8 +85,8 @@ pub extern "C" fn bitpacking_cursor_skip_block(cursor: &mut ListCursor<'_>)
     cursor.skip_block(&mut Reads::new());
 }
 
-/// Writes the values of a list from a position on to the front of `values`, as many as there are and as fit, and answers their number. The
-/// rest of `values` stays as it was. Each block that has one of them is unpacked once, and no other.
+/// Writes the values of a list from a position on to the front of `values`, as many as there are and as fit, and returns their number. The
+/// rest of `values` is unchanged. Each block that has one of them is unpacked once, and no other.
 #[unsafe(no_mangle)]
 pub extern "C" fn bitpacking_list_range(
     view: &ListView<'_>,

@@ -13,7 +13,7 @@ use bitpacking::{BitPacker, BitPacker1x, BitPacker4x, BitPacker8x};
 /// No block, or no position.
 const NOWHERE: usize = usize::MAX;
 
-/// Tests a text as `bitpacking_list_open` does, and answers the same: 0, or the number of the first fault. If there is one, it writes the
+/// Tests bytes as `bitpacking_list_open` does, and returns 0 as well, or the number of the first fault. If there is one, it writes the
 /// number of the block that the fault is in, and the position of the value that is out of order, each 2^64 - 1 if the fault has none.
 #[unsafe(no_mangle)]
 pub extern "C" fn bitpacking_list_fault(
@@ -38,7 +38,7 @@ pub extern "C" fn bitpacking_list_fault(
     -20 - fault.number() as isize
 }
 
-/// The first fault of a text for a packer.
+/// The first fault of bytes for a packer.
 #[inline(always)]
 fn first_fault<P: BitPacker>(packer: P, bytes: &[u8]) -> Option<ListError>
     ensures { result ≡ fault_of_any P.lanes bytes.now }

@@ -10,8 +10,8 @@ use crate::list_view::ListView;
 use bitpack_lists::list2::Reads;
 use bitpacking::{BitPacker, BitPacker1x, BitPacker4x, BitPacker8x};
 
-/// Writes the value at each position to the same index of `values`, and answers their number. The rest of `values` stays as it was. It
-/// answers -3 if there is no room for them, and -5 if one of the positions is not in the list; then it writes nothing. A block is
+/// Writes the value at each position to the same index of `values`, and returns their number. The rest of `values` is unchanged. It
+/// returns -3 if there is no room for them, and -5 if one of the positions is not in the list; then it writes nothing. A block is
 /// unpacked once for each run of positions in it.
 #[unsafe(no_mangle)]
 pub extern "C" fn bitpacking_list_gather(

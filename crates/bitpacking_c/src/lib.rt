@@ -1,4 +1,4 @@
-//! The packers for C: each function tests what it is given, and answers a count or a negative number.
+//! The packers for C: each function tests its arguments, and returns a count or a negative number.
 //!
 //! C's own rules are the only conditions: pointers are to as many items as the lengths say, the buffers that a call writes
 //! overlap no other, and values are aligned. `include/bitpacking.h` has the declarations, with lengths, errors and examples.

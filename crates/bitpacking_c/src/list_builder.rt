@@ -1,4 +1,4 @@
-//! A builder of C: the values of a list that come one after the other, kept in a buffer of the caller.
+//! A builder of C: the values of a list that come one after the other, in a buffer of the caller.
 
 ghost use Rattle.std.specs.Prelude.{◌≡◌, ◌≢◌, ◌^◌, ◌≤◌, None, length, take};
 ghost use Rattle.bitpack_lists.specs.Parts.{kind_of_byte};

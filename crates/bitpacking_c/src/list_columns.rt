@@ -10,8 +10,8 @@ use crate::list_view::{ListView, bitpacking_list_len};
 use bitpack_lists::list2::Reads;
 use bitpacking::{BitPacker, BitPacker1x, BitPacker4x, BitPacker8x};
 
-/// Writes bounds of the values of a whole block, and answers 0: no value of the block is below the first or above the second. If the list
-/// has no such block, it answers -6 and writes nothing. Nothing is unpacked.
+/// Writes bounds of the values of a whole block, and returns 0: no value of the block is below the first or above the second. If the list
+/// has no such block, it returns -6 and writes nothing. Nothing is unpacked.
 #[unsafe(no_mangle)]
 pub extern "C" fn bitpacking_list_bounds(
     view: &ListView<'_>,
@@ -89,8 +89,8 @@ fn count<P: BitPacker>(
     view.list(packer).count_between(low, high, reads)
 }
 
-/// Writes the positions, from one on, of values that are within a range, both ends included, in increasing order and as many as fit. Answers
-/// how many these are. The rest of `positions` stays as it was.
+/// Writes the positions, from one on, of values that are within a range, both ends included, in increasing order and as many as fit. Returns
+/// how many these are. The rest of `positions` is unchanged.
 #[unsafe(no_mangle)]
 pub extern "C" fn bitpacking_list_between(
     view: &ListView<'_>,

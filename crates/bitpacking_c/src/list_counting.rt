@@ -26,8 +26,8 @@ const WINDOW_STARTS: usize = 10;
 
 const ROUND_STARTS: usize = 1500;
 
-/// Answers how many values all of the lists have, each counted once; if a list is plain, -23; without lists, 0. It seeks the values of the
-/// shortest list in each of the others, 1,024 at a time, and keeps those on the stack.
+/// Returns how many values all of the lists have, each counted once; if a list is plain, -23; without lists, 0. It seeks the values of the
+/// shortest list in each of the others, 1,024 at a time, which are on the stack.
 #[unsafe(no_mangle)]
 pub extern "C" fn bitpacking_list_count_common(views: &[ListView<'_>]) -> isize
     ensures { (lists : Lists) → AreListsOf views.now lists → CountsCommon lists result }
@@ -128,7 +128,7 @@ fn count_shared<C: SortedCursor>(
     counted
 }
 
-/// Answers how many values any of the lists has, each counted once; if a list is plain, -23; without lists, 0. It counts the values of
+/// Returns how many values any of the lists has, each counted once; if a list is plain, -23; without lists, 0. It counts the values of
 /// dense lists in windows of 65,536 numbers, 8 KB on the stack, two lists by what both have, and others in rounds, 56 KB on the stack.
 #[unsafe(no_mangle)]
 pub extern "C" fn bitpacking_list_count_any(views: &[ListView<'_>]) -> isize
@@ -158,7 +158,7 @@ fn count_either(views: &[ListView<'_>]) -> usize
     one + other.saturating_sub(both)
 }
 
-/// Whether to count by windows, as that takes less time than by rounds. Only time depends on the answer.
+/// Whether to count by windows, as that takes less time than by rounds. Only time depends on the result.
 fn is_quick_by_windows(views: &[ListView<'_>]) -> bool {
     let of_window = views.len().saturating_add(WINDOW_STARTS);
     let of_round = views.len().saturating_add(ROUND_STARTS);

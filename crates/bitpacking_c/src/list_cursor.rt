@@ -1,4 +1,4 @@
-//! A cursor of C: a place in an opened list, in the caller's memory, with the view.
+//! A cursor of C: a position in an opened list that moves, in the caller's memory, with the view.
 
 ghost use Rattle.std.specs.Prelude.{◌≡◌, ◌≢◌, ℕ, List};
 ghost use Rattle.bitpack_lists.specs.declared.list_kind.ListKind.{ListKind};
@@ -10,7 +10,7 @@ use crate::list_view::{ListView, kind};
 use bitpack_lists::ListKind;
 use bitpack_lists::list2::{Place, Reads};
 
-/// A place in an opened list. It borrows the bytes of the list, as its view does. Only `move_to` can move it back.
+/// A position in an opened list that moves. It borrows the bytes of the list, as its view does. Only `move_to` can move it back.
 ///
 /// However it is moved forward, it unpacks each block of the list at most once: one at its start, and then only the block that it moves to.
 ///
@@ -79,7 +79,7 @@ impl<'a> ListCursor<'a> {
         }
     }
 
-    /// The number of values before this place.
+    /// The number of values before the cursor.
     pub(crate) fn position(&self) -> usize
         ensures { result ≡ position self.now }
     {

@@ -8,11 +8,11 @@ use bitpack_lists::writing::{list_len, write_list};
 use bitpack_lists::{ListError, ListKind, Version};
 use bitpacking::{BitPacker, BitPacker1x, BitPacker4x, BitPacker8x};
 
-/// Writes the text of the values, packed in one lane, at the start of `bytes`, and answers its length. The rest of `bytes` stays as it
-/// was. `version` is 2, 3 or 4, and `kind` is 0 for plain, 1 for sorted and 2 for strictly sorted.
+/// Writes the encoded list of the values, packed in one lane, at the start of `bytes`, and returns its length. The rest of `bytes` is
+/// unchanged. `version` is 2, 3 or 4, and `kind` is 0 for plain, 1 for sorted and 2 for strictly sorted.
 ///
-/// If the text has no room it answers -3, and for a fault the number of the first. Then nothing is written but the position of a value
-/// out of order.
+/// If there is no room it returns -3, and for a fault the number of the first. Then nothing is written but the position of a value out
+/// of order.
 #[unsafe(no_mangle)]
 pub extern "C" fn bitpacking_1x_list_pack(
     version: u8,
@@ -29,7 +29,7 @@ pub extern "C" fn bitpacking_1x_list_pack(
     )
 }
 
-/// Writes the text of the values, packed in four lanes, as [`bitpacking_1x_list_pack`] does.
+/// Writes the encoded list of the values, packed in four lanes, as [`bitpacking_1x_list_pack`] does.
 #[unsafe(no_mangle)]
 pub extern "C" fn bitpacking_4x_list_pack(
     version: u8,
@@ -46,7 +46,7 @@ pub extern "C" fn bitpacking_4x_list_pack(
     )
 }
 
-/// Writes the text of the values, packed in eight lanes, as [`bitpacking_1x_list_pack`] does.
+/// Writes the encoded list of the values, packed in eight lanes, as [`bitpacking_1x_list_pack`] does.
 #[unsafe(no_mangle)]
 pub extern "C" fn bitpacking_8x_list_pack(
     version: u8,
@@ -63,7 +63,7 @@ pub extern "C" fn bitpacking_8x_list_pack(
     )
 }
 
-/// The number of bytes that [`bitpacking_1x_list_pack`] writes for the values. It answers the same faults.
+/// The number of bytes that [`bitpacking_1x_list_pack`] writes for the values. It has the faults of that call.
 #[unsafe(no_mangle)]
 pub extern "C" fn bitpacking_1x_list_size(
     version: u8,
@@ -123,7 +123,7 @@ pub(crate) fn version_and_kind(version: u8, kind: u8) -> Result<(Version, ListKi
     }
 }
 
-/// Writes the text of the values.
+/// Writes the encoded list of the values.
 #[inline(always)]
 pub(crate) fn pack<P: BitPacker>(
     packer: &P,
@@ -139,7 +139,7 @@ pub(crate) fn pack<P: BitPacker>(
     write_list(known, packer, list_kind, values, bytes)
 }
 
-/// The length of the text of the values.
+/// The length of the encoded list of the values.
 #[inline(always)]
 fn size<P: BitPacker>(packer: &P, version: u8, kind: u8, values: &[u32]) -> Result<usize, ListError>
     ensures size { GivesSize P.lanes version kind values.now result }
@@ -149,7 +149,7 @@ fn size<P: BitPacker>(packer: &P, version: u8, kind: u8, values: &[u32]) -> Resu
     list_len(known, packer, list_kind, values)
 }
 
-/// The number that C is given. The position of a value out of order is written.
+/// The number for C. The position of a value out of order is written.
 #[inline(always)]
 pub(crate) fn answer(found: Result<usize, ListError>, position: &mut usize) -> isize
     requires { IfOk found (λ size. size < 2 ^ 63) }

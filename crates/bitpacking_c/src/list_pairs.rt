@@ -18,7 +18,7 @@ use bitpacking::{BitPacker, BitPacker1x, BitPacker4x, BitPacker8x, MAX_BLOCK_LEN
 /// From about this many numbers for each value on, most blocks take more bytes as sets of bits, and so are none.
 const MOST_GAP: u32 = 4;
 
-/// The index of a list to join by bits with the list at an index, or this index if there is none. Only time depends on the answer.
+/// The index of a list to join by bits with the list at an index, or this index if there is none. Only time depends on the result.
 pub(crate) fn partner(views: &[ListView<'_>], index: usize) -> usize
     requires { index < length views.now }
     ensures within { result < length views.now }

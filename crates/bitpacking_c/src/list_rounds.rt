@@ -1,7 +1,7 @@
 //! How many values any of many lists has, counted in rounds.
 //!
 //! A round gathers on the stack the values of all lists from the first number on that is not yet counted, up to a limit. If there is no
-//! room for more, it sorts them, keeps the least half, and lowers the limit to the last of these. At the end it sorts what it has and
+//! room for more, it sorts them, retains the least half, and lowers the limit to the last of these. At the end it sorts what it has and
 //! counts what is up to the limit. Values above are left to later rounds. The next limit is where about 10,752 values are, if they are as
 //! dense as before.
 //!
@@ -25,17 +25,17 @@ use bitpack_lists::list2::first_from;
 use bitpack_sorted::{SortedCursor, sort_distinct};
 use bitpacking::{BitPacker, BitPacker1x, BitPacker4x, BitPacker8x, MAX_BLOCK_LEN};
 
-/// How many values there is room for, and how many of them are kept if that is full.
+/// How many values there is room for, and how many of them are retained if that is full.
 const ROOM: usize = 14336;
 
 const KEPT: usize = 7168;
 
-/// How many values a round is to find, and how many times as many numbers a round looks at as the one before it, at most.
+/// How many values a round is to find, and at most how many times as many numbers a round looks at as the one before it.
 pub(crate) const WANTED: usize = 10752;
 
 const MOST_GROWTH: u64 = 16;
 
-/// Values that are gathered in the first places of a slice, in any order. Those above the limit don't count.
+/// Values that are gathered at the front of a slice, in any order. Those above the limit don't count.
 #[derive(Clone, Copy)]
 pub(crate) struct Gathered {
     pub(crate) len: usize,
@@ -60,14 +60,14 @@ pub(crate) fn count_by_rounds(views: &[ListView<'_>]) -> usize
     counted
 }
 
-/// How many numbers the next round looks at, if this one found values among some. Only time depends on the answer.
+/// How many numbers the next round looks at, if this one found values among some. Only time depends on the result.
 fn next_span(span: u64, found: usize) -> u32 {
     let wanted = span.saturating_mul(WANTED as u64) / (found as u64).max(1);
     let most = span.saturating_mul(MOST_GROWTH);
     wanted.min(most).min(u32::MAX as u64) as u32
 }
 
-/// Counts what any of the lists has from a number on, up to another, which it also returns. It looks at a span of numbers at most.
+/// Counts what any of the lists has from a number on, up to another, which it also returns. It looks at no more than a span of numbers.
 fn count_round(views: &[ListView<'_>], base: u32, span: u32, buffer: &mut [u32]) -> (usize, u64)
     requires { All IsInOrder views.now × (length buffer.old ≡ 14336) }
     ensures next { (base < result.1) × (result.1 ≤ 2 ^ 32) }

@@ -1,7 +1,7 @@
 //! What packed lists have in common, or together, or one without others: any number of views, without memory of ours.
 //!
-//! The caller's room is the work space. The values of one list are written to it, and each further list takes some away, or adds some,
-//! in their place.
+//! The caller's room is the work space. The values of one list are written to it, and each further list removes some of them, or adds
+//! some.
 
 ghost use Rattle.std.specs.Prelude.{◌≡◌, ◌≢◌, ◌⊎◌, ℕ, ◌<◌, ◌≤◌, ◌&&◌, if◌then◌else◌, not, false, true, List, [], None, All, length, slice_index, take};
 ghost use Rattle.std.specs.List.{HoldsAt};
@@ -23,8 +23,8 @@ use bitpack_sorted::{
 };
 use bitpacking::{BitPacker, BitPacker1x, BitPacker4x, BitPacker8x, MAX_BLOCK_LEN};
 
-/// Writes the values that all of the lists have to the front of `out`, each once and in increasing order, and answers their number.
-/// If a list is plain it answers -23, and if there is less room than the length of the shortest list -3; then it writes nothing.
+/// Writes the values that all of the lists have to the front of `out`, each once and in increasing order, and returns their number. If
+/// a list is plain it returns -23, and if there is less room than the length of the shortest list -3; then it writes nothing.
 #[unsafe(no_mangle)]
 pub extern "C" fn bitpacking_list_intersect(views: &[ListView<'_>], out: &mut [u32]) -> isize
     ensures { (lists : Lists) → AreListsOf views.now lists → Intersects lists out.old out.new result }
@@ -57,7 +57,7 @@ fn intersect(views: &[ListView<'_>], shortest: usize, out: &mut [u32]) -> usize
     filter_by_others(views, shortest, other, &mut out[..written])
 }
 
-/// Keeps the values that all of the lists have. The lists at the two indexes have all of them. Returns how many these are.
+/// Retains the values that all of the lists have. The lists at the two indexes have all of them. Returns how many these are.
 pub(crate) fn filter_by_others(
     views: &[ListView<'_>],
     one: usize,
@@ -89,8 +89,8 @@ fn is_either(index: usize, one: usize, other: usize) -> bool
     index == one || index == other
 }
 
-/// Writes the values that any of the lists has to the front of `out`, each once and in increasing order, and answers their number.
-/// If a list is plain it answers -23, and if there is less room than the sum of the lengths -3; then it writes nothing. It merges a few
+/// Writes the values that any of the lists has to the front of `out`, each once and in increasing order, and returns their number. If a
+/// list is plain it returns -23, and if there is less room than the sum of the lengths -3; then it writes nothing. It merges a few
 /// lists in turn, which is fastest if the longest is last, and sorts the values of many.
 #[unsafe(no_mangle)]
 pub extern "C" fn bitpacking_list_unite(views: &[ListView<'_>], out: &mut [u32]) -> isize
@@ -123,8 +123,8 @@ fn unite_in_turn(views: &[ListView<'_>], out: &mut [u32]) -> usize
     written
 }
 
-/// Writes the values of the first list that no other has to the front of `out`, each once and in increasing order, and answers their
-/// number. If a list is plain it answers -23, and if there is less room than the length of the first -3; then it writes nothing.
+/// Writes the values of the first list that no other has to the front of `out`, each once and in increasing order, and returns their
+/// number. If a list is plain it returns -23, and if there is less room than the length of the first -3; then it writes nothing.
 #[unsafe(no_mangle)]
 pub extern "C" fn bitpacking_list_subtract(views: &[ListView<'_>], out: &mut [u32]) -> isize
     ensures { (lists : Lists) → AreListsOf views.now lists → Subtracts lists out.old out.new result }
@@ -219,7 +219,7 @@ pub(crate) fn copy_distinct(view: &ListView<'_>, out: &mut [u32]) -> usize
     }
 }
 
-/// Writes the values of a list of a packer. Those of a list that is strictly sorted are unpacked straight into their place.
+/// Writes the values of a list of a packer. Those of a list that is strictly sorted are unpacked straight into the buffer.
 fn copy_distinct_of<P: BitPacker>(packer: P, view: &ListView<'_>, out: &mut [u32]) -> usize
     requires lanes { view.now.lanes ≡ P.lanes }
     requires room { IsInOrder view.now × FitsIn (length out.old) view.now }
@@ -232,7 +232,7 @@ fn copy_distinct_of<P: BitPacker>(packer: P, view: &ListView<'_>, out: &mut [u32
     collect_to(&mut distinct_of(packer, view, false), out)
 }
 
-/// Keeps the values that a list has too, or those that it lacks, and returns how many these are.
+/// Retains the values that a list has too, or those that it lacks, and returns how many these are.
 pub(crate) fn filter_by(view: &ListView<'_>, values: &mut [u32], lacking: bool) -> usize
     requires { IsInOrder view.now × IsStrictlyIncreasing values.old }
     ensures { Leaves view.now (λ all v. has values.old v && (if lacking then not (has all v) else has all v))
@@ -277,7 +277,7 @@ fn filter_by_few(view: &ListView<'_>, values: &mut [u32], lacking: bool) -> usiz
     filter_by_cursor(&mut IncreasingSlice::new(&all[..len]), values, lacking)
 }
 
-/// Keeps the values that a cursor has too, or those that it lacks.
+/// Retains the values that a cursor has too, or those that it lacks.
 #[inline(always)]
 fn filter_by_cursor<C: SortedCursor>(cursor: &mut C, values: &mut [u32], lacking: bool) -> usize
     requires { IsStrictlyIncreasing values.old }

@@ -11,7 +11,7 @@ use bitpack_sorted::sort_distinct;
 /// Sorting takes about as long as moving each value this often.
 const MOST_MOVES: usize = 6;
 
-/// Whether to add the lists in turn, as that moves each value only a few times on average. Only time depends on the answer.
+/// Whether to add the lists in turn, as that moves each value only a few times on average. Only time depends on the result.
 pub(crate) fn is_quick_in_turn(views: &[ListView<'_>]) -> bool {
     let mut found = 0usize;
     let mut moved = 0usize;

@@ -1,4 +1,4 @@
-//! Packed lists of versions 2 to 4, read in place: a view in the caller's memory holds the bytes, and that they are a list.
+//! Packed lists of versions 2 to 4, opened without a copy: a view in the caller's memory holds the bytes, and that they are a list.
 
 ghost use Rattle.std.specs.Prelude.{◌≡◌, ◌≢◌, ◌≤◌, ℕ, List, None, drop, length, slice_get, take, pos};
 ghost use Rattle.bitpack_lists.specs.declared.list_kind.ListKind.{ListKind};
@@ -16,13 +16,13 @@ use bitpack_lists::list2::{ListOutline, PackedList, Reads};
 use bitpack_sorted::DistinctValues;
 use bitpacking::{BitPacker, BitPacker1x, BitPacker4x, BitPacker8x};
 
-/// The first byte of a text of version 3 is at least this. Divided by this, it is the number that means the lanes.
+/// The first byte of a version 3 list is at least this. Divided by this, it is the number that means the lanes.
 const FIRST_OF_3: u8 = 64;
 
-/// The first byte of a text of version 4 is at least this, and below `FIRST_OF_3`. Divided by this, it is the number that means the lanes.
+/// The first byte of a version 4 list is at least this, and below `FIRST_OF_3`. Divided by this, it is the number that means the lanes.
 const FIRST_OF_4: u8 = 16;
 
-/// A packed list that was opened. It borrows its bytes, which stay as they are while the view is used.
+/// A packed list that was opened. It borrows its bytes, which do not change while the view is used.
 ///
 /// C has to set it before it is opened: to the empty list of the header, or all of it to zero, which is an empty list too.
 #[repr(C)]
@@ -35,7 +35,7 @@ pub struct ListView<'a> {
     // The bytes have no fault for the packer of this many lanes.
     pub ghost sound: { lanes ≢ 0 → fault_of_any lanes bytes.now ≡ None },
     pub ghost known: { lanes ≢ 0 → lanes ≢ 1 → lanes ≢ 4 → lanes ≡ 8 },
-    // What opening the bytes found is what is kept.
+    // What opening the bytes found is stored in the view.
     ghost was_found: { WasFound lanes bytes.now found },
 }
 
@@ -82,7 +82,7 @@ impl<'a> ListView<'a> {
     }
 }
 
-/// Opens a text of version 2, 3 or 4 of any packer, as it says itself. It is tested whole. Answers 0, or the number of the first fault.
+/// Opens a list of version 2, 3 or 4 of any packer, as its bytes say. Tests all bytes. Returns 0, or the number of the first fault.
 #[unsafe(no_mangle)]
 pub extern "C" fn bitpacking_list_open<'a>(bytes: &'a [u8], view: &mut ListView<'a>) -> isize
     ensures answer { result ≡ fault_number (fault_of_bytes bytes.now) }
@@ -97,7 +97,7 @@ pub extern "C" fn bitpacking_list_open<'a>(bytes: &'a [u8], view: &mut ListView<
     }
 }
 
-/// Opens a text of version 2, 3 or 4 of a packer of this many lanes.
+/// Opens a list of version 2, 3 or 4 of a packer of this many lanes.
 #[inline(always)]
 fn open_of<'a, P: BitPacker>(
     packer: P,
@@ -121,7 +121,7 @@ fn open_of<'a, P: BitPacker>(
     }
 }
 
-/// Sets a view to a text that `bitpacking_list_open` accepted before, and does not test it again.
+/// Sets a view to bytes that `bitpacking_list_open` accepted before, and does not test them again.
 #[unsafe(no_mangle)]
 pub extern "C" fn bitpacking_list_open_tested<'a>(bytes: &'a [u8], view: &mut ListView<'a>)
     requires tested { fault_of_bytes bytes.now ≡ None }
@@ -134,7 +134,7 @@ pub extern "C" fn bitpacking_list_open_tested<'a>(bytes: &'a [u8], view: &mut Li
     }
 }
 
-/// The view of a text that was tested, of a packer of this many lanes.
+/// The view of bytes that were tested, of a packer of this many lanes.
 #[inline(always)]
 fn tested_of<P: BitPacker>(packer: P, bytes: &[u8], lanes: u8) -> ListView<'_>
     requires lanes { lanes ≡ P.lanes }
@@ -145,7 +145,7 @@ fn tested_of<P: BitPacker>(packer: P, bytes: &[u8], lanes: u8) -> ListView<'_>
     view_of(&PackedList::from_validated_any(packer, bytes), bytes, lanes)
 }
 
-/// The view of an opened list, whose text these bytes are.
+/// The view of an opened list, which has these bytes.
 #[inline(always)]
 fn view_of<'a, P: BitPacker>(list: &PackedList<'a, P>, bytes: &'a [u8], lanes: u8) -> ListView<'a>
     requires lanes { lanes ≡ P.lanes }
@@ -161,7 +161,7 @@ fn view_of<'a, P: BitPacker>(list: &PackedList<'a, P>, bytes: &'a [u8], lanes: u
     }
 }
 
-/// The lanes that a text says: 1 in place of any but 4 and 8.
+/// The lanes that a header states: 1 for any but 4 and 8.
 pub(crate) fn stated_lanes(bytes: &[u8]) -> u8
     ensures lanes { result ≡ lanes_in bytes.now }
     ensures known { result ≢ 1 → result ≢ 4 → result ≡ 8 }
@@ -212,7 +212,7 @@ pub(crate) fn version(view: &ListView<'_>) -> u8
     view.found.version
 }
 
-/// Whether the list is of the version whose blocks can be sets of bits. Only time depends on the answer.
+/// Whether the list is of the version whose blocks can be sets of bits. Only time depends on the result.
 pub(crate) fn is_newest(view: &ListView<'_>) -> bool {
     view.found.version == 4
 }
@@ -265,7 +265,7 @@ pub(crate) fn value(view: &ListView<'_>, position: usize) -> Option<u32>
     }
 }
 
-/// Writes the value at a position and answers 1. From the length on it answers 0 and writes nothing. One block is unpacked at most.
+/// Writes the value at a position and returns 1. From the length on it returns 0 and writes nothing. At most one block is unpacked.
 #[unsafe(no_mangle)]
 pub extern "C" fn bitpacking_list_get(view: &ListView<'_>, position: usize, item: &mut u32) -> i32
     ensures { (kind : ListKind) (values : List ℕ) → IsListOf view.now.lanes view.now.bytes.now kind values
@@ -280,8 +280,8 @@ pub extern "C" fn bitpacking_list_get(view: &ListView<'_>, position: usize, item
     }
 }
 
-/// Writes all values to the front of `values`, and answers their number. If there is no room for them it answers -3 and writes nothing.
-/// The rest of `values` stays as it was. Each block is unpacked once.
+/// Writes all values to the front of `values`, and returns their number. If there is no room for them it returns -3 and writes nothing.
+/// The rest of `values` is unchanged. Each block is unpacked once.
 #[unsafe(no_mangle)]
 pub extern "C" fn bitpacking_list_unpack(view: &ListView<'_>, values: &mut [u32]) -> isize
     ensures { (kind : ListKind) (all : List ℕ) → IsListOf view.now.lanes view.now.bytes.now kind all
@@ -329,7 +329,7 @@ fn first_at_least(view: &ListView<'_>, target: u32, reads: &mut Reads) -> Option
     }
 }
 
-/// The search, with the entries and blocks that it reads.
+/// The search, with the skip entries and blocks that it reads.
 fn search(
     view: &ListView<'_>,
     target: u32,
@@ -353,8 +353,8 @@ fn search(
     1
 }
 
-/// Writes the position and the value of the first value that is at least the target, and answers 1. If every value is below it, it
-/// answers 0, and for a plain list, which has no order, -23; both write nothing. At most one block is unpacked.
+/// Writes the position and the value of the first value that is at least the target, and returns 1. If every value is below it, it returns
+/// 0, and for a plain list, which has no order, -23; both write nothing. At most one block is unpacked.
 #[unsafe(no_mangle)]
 pub extern "C" fn bitpacking_list_seek(
     view: &ListView<'_>,

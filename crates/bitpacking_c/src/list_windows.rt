@@ -19,7 +19,7 @@ const WINDOW: u32 = 65536;
 
 pub(crate) const WORDS: usize = 1024;
 
-/// How many words of bits a cursor is asked for at once. A set of bits that takes less than four bytes a value seldom has more.
+/// How many words of bits a call wants of a cursor at once. A set of bits that takes less than four bytes a value seldom has more.
 const HAND: usize = 64;
 
 /// What a list and the words of a window cost, and what a value gains for each list after two, but no more than for many: in 2 nanoseconds.
@@ -33,7 +33,7 @@ const MOST_GAIN: usize = 9;
 const SHORT: usize = 128;
 
 /// Whether windows are quicker than the other ways, as there are many values for the numbers from the first to the last. Only time depends on
-/// the answer.
+/// the result.
 pub(crate) fn is_dense(views: &[ListView<'_>]) -> bool {
     let count = count(views);
     if count / SHORT < views.len() {
@@ -143,7 +143,7 @@ fn mark<C: SortedCursor>(cursor: &mut C, number: u32, window: &mut [u64]) -> u64
     1 << 32
 }
 
-/// Sets the bits of a cursor's values in a window, up to a number: by words if their bits are at hand, and otherwise one by one, of its block.
+/// Sets the bits of a cursor's values in a window, up to a number: by words if the cursor has bits, and otherwise one by one, of its block.
 /// Returns this number, and how many values of the block are before it.
 #[inline(always)]
 fn mark_part<C: SortedCursor>(

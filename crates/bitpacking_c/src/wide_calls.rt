@@ -14,8 +14,8 @@ use bitpacking::{BitPacker, BitPacker1x, BitPacker4x, BitPacker8x, MAX_BLOCK_LEN
 /// The greatest base: no value passes 64 bits with it.
 const MOST_BASE: u64 = 18_446_744_069_414_584_320;
 
-/// Writes the sum of a base and the value at a position and answers 1. From the length on it answers 0 and writes nothing. If the base is
-/// above 2^64 - 2^32 it answers -7 and writes nothing. One block is unpacked at most.
+/// Writes the sum of a base and the value at a position and returns 1. From the length on it returns 0 and writes nothing. If the base is
+/// above 2^64 - 2^32 it returns -7 and writes nothing. At most one block is unpacked.
 #[unsafe(no_mangle)]
 pub extern "C" fn bitpacking_list_get_wide(
     view: &ListView<'_>,
@@ -38,8 +38,8 @@ pub extern "C" fn bitpacking_list_get_wide(
     }
 }
 
-/// Writes the sums of a base and all values to the front of `values`, and answers their number. The rest of `values` stays as it was. It
-/// answers -7 if the base is above 2^64 - 2^32, and -3 if there is no room for the sums; both write nothing. Each block is unpacked once.
+/// Writes the sums of a base and all values to the front of `values`, and returns their number. The rest of `values` is unchanged. It
+/// returns -7 if the base is above 2^64 - 2^32, and -3 if there is no room for the sums; both write nothing. Each block is unpacked once.
 #[unsafe(no_mangle)]
 pub extern "C" fn bitpacking_list_unpack_wide(
     view: &ListView<'_>,

@@ -1,4 +1,4 @@
--- What the loops over an array of n words keep, and what they come to.
+-- What does not change in the loops over an array of n words, and what they come to.
 use Rattle.std.proofs.Common.{◌≡◌, ℕ, zero, suc, ◌+◌, ◌-◌, ◌*◌, ◌<◌, ◌≤◌, List, [], ◌∷◌, ◌++◌, get_or, set, take, drop, length, map, replicate, refl, sym, ◌∙◌, ap, add-one, arith, Fits, w32}
 use Rattle.std.proofs.lemmas.List.{length-map, length-replicate, get_or-map}
 use Rattle.std.specs.List.{fold}

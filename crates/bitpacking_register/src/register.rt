@@ -1,4 +1,4 @@
-//! The trait that every register meets: each clause speaks of the whole list of words.
+//! The trait of every register: each clause speaks of the whole list of words.
 
 ghost use Rattle.std.specs.Prelude.{
   ◌≡◌,
@@ -37,11 +37,11 @@ pub trait Register: Copy {
 
     ghost words: { Self → List ℕ };
 
-    /// One word in each lane.
+    /// Returns one word in each lane.
     fn splat(word: u32) -> Self
         ensures { words result ≡ replicate LANES word };
 
-    /// The words of a slice of exactly `LANES`, in its order.
+    /// Returns the words of a slice of exactly `LANES`, in its order.
     fn from_words(values: &[u32]) -> Self
         requires { length values.now ≡ LANES }
         ensures { words result ≡ values.now };
@@ -51,7 +51,7 @@ pub trait Register: Copy {
         requires { length values.old ≡ LANES }
         ensures { values.new ≡ words self };
 
-    /// The words whose little-endian bytes are in a slice of exactly `4 * LANES`.
+    /// Returns the words whose little-endian bytes are in a slice of exactly `4 * LANES`.
     fn from_bytes(bytes: &[u8]) -> Self
         requires { length bytes.now ≡ 4 * LANES }
         ensures { words result ≡ words_of_bytes bytes.now };
@@ -85,7 +85,7 @@ pub trait Register: Copy {
     fn sub(self, other: Self) -> Self
         ensures { words result ≡ zip2 wrapping_difference (words self) (words other) };
 
-    /// The bits that are set in some lane.
+    /// Returns the bits that are set in some lane.
     fn or_lanes(self) -> u32
         ensures { result ≡ fold bit_or 0 (words self) };
 
@@ -93,7 +93,7 @@ pub trait Register: Copy {
     fn delta(current: Self, previous: Self) -> Self
         ensures { words result ≡ differences (slice_index (words previous) (LANES - 1)) (words current) };
 
-    /// The running sums of `delta`, modulo 2 ^ 32, from the last lane of `previous` on.
+    /// Returns the running sums of `delta`, modulo 2 ^ 32, from the last lane of `previous` on.
     fn integrate(previous: Self, delta: Self) -> Self
         ensures { words result ≡ running_sums (slice_index (words previous) (LANES - 1)) (words delta) };
 

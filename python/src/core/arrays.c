@@ -12,7 +12,7 @@ PyObject *new_array(size_t len, PyObject *type, Py_buffer *out)
     return array;
 }
 
-/* The first len items of an array, which are all or a slice that shares its memory. It takes the array and its buffer. */
+/* The first len items of an array, which are all or a slice that shares its memory. It releases the array and its buffer. */
 PyObject *first_of(PyObject *array, Py_buffer *out, size_t len)
 {
     size_t all = (size_t)(out->len / out->itemsize);

@@ -1,4 +1,4 @@
-/* What the files of the extension share. It keeps to the limited API of Python 3.11, so that one build serves 3.11 and later, and it uses
+/* What the files of the extension share. It uses only the limited API of Python 3.11, so that one build serves 3.11 and later, and it uses
  * no API of numpy: arrays are made by numpy.empty, and read and filled by the buffer protocol. */
 #ifndef FIMULOWEN_CORE_H
 #define FIMULOWEN_CORE_H
@@ -21,7 +21,7 @@ enum { MANY = 4096 };
             PyEval_RestoreThread(saved);                                                                                               \
     } while (0)
 
-/* A list in its packed bytes, which the buffer keeps in place for as long as the object lives. */
+/* A list in its packed bytes, which the buffer holds unmoved for as long as the object lives. */
 typedef struct {
     PyObject_HEAD
     Py_buffer buffer;

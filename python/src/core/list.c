@@ -1,7 +1,7 @@
 /* The type of a packed list, and how one is opened. */
 #include "core.h"
 
-/* Takes a buffer of the object for good. Writable memory is copied, since the bytes of an opened list must not change. */
+/* Acquires a buffer of the object for good. Writable memory is copied, since the bytes of an opened list must not change. */
 static int hold(PyObject *data, Py_buffer *buffer)
 {
     PyObject *copy;
@@ -16,7 +16,7 @@ static int hold(PyObject *data, Py_buffer *buffer)
     if (!copy)
         return -1;
     answer = PyObject_GetBuffer(copy, buffer, PyBUF_SIMPLE);
-    Py_DECREF(copy); /* the buffer keeps it */
+    Py_DECREF(copy); /* the buffer holds it */
     return answer;
 }
 

@@ -18,7 +18,7 @@ static pack_call *pack_of(int lanes)
     }
 }
 
-/* A number as the library takes it. One that does not fit is no kind and no version. */
+/* A number as the library accepts it. One that does not fit is no kind and no version. */
 static uint8_t byte_of(int number) { return number < 0 || number > UINT8_MAX ? UINT8_MAX : (uint8_t)number; }
 
 /* The kind with the shortest list that the order of the values allows. */
@@ -75,7 +75,7 @@ PyObject *core_pack(PyObject *m, PyObject *args)
     return list;
 }
 
-/* What pack_many is given, and where it failed. */
+/* The arguments of pack_many, and where it failed. */
 typedef struct {
     const uint32_t *values;
     size_t values_len;

@@ -1,4 +1,4 @@
-/* What a list answers. */
+/* The methods of a list. */
 #include "core.h"
 #include <string.h>
 

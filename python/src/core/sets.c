@@ -26,7 +26,7 @@ static bitpacking_list *views_of(PyObject *lists)
     return views;
 }
 
-/* The room that is always enough for the answer. */
+/* The room that is always enough for the result. */
 static size_t room_of(int call, const bitpacking_list *views, size_t len)
 {
     size_t room = len > 0 ? bitpacking_list_len(views) : 0, i;
@@ -87,7 +87,7 @@ static PyObject *as_packed(int call, const bitpacking_list *views, size_t len)
     return list;
 }
 
-/* combine(call, lists, packed): an array, or a list if packed is true. The tuple keeps the lists. */
+/* combine(call, lists, packed): an array, or a list if packed is true. The tuple holds the lists. */
 PyObject *core_combine(PyObject *m, PyObject *args)
 {
     PyObject *lists, *answer;

@@ -1,4 +1,4 @@
-"""Packed lists of integers, read in place.
+"""Packed lists of integers, opened without a copy.
 
     ids = fimulowen.pack([7, 9, 10, 300])
     len(ids), ids[-1], ids[1:3], 9 in ids, ids.seek(100), (ids & others).to_numpy(), ids.tobytes()

@@ -14,7 +14,7 @@ from .values import private_u32
 class Builder:
     """Collects values, four bytes each, and packs them at the end.
 
-    A value out of order for the kind is refused when it is added, and the builder stays as it was."""
+    A value out of order for the kind is refused when it is added, and the builder is then unchanged."""
 
     def __init__(self, kind: str = "strict", lanes: int = 4):
         self._kind, self._lanes, self._values = _kind(kind or "none"), lanes, array("I")

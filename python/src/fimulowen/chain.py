@@ -1,4 +1,4 @@
-"""Blocks end to end, without a header: the caller keeps the widths, the kind, the number before the first value, and the lanes.
+"""Blocks end to end, without a header: the caller stores the widths, the kind, the number before the first value, and the lanes.
 
 A block has 32 values for each of its 1, 4 or 8 lanes. One block is a chain of one."""
 

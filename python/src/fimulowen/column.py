@@ -24,7 +24,7 @@ _TEXTS = {
 
 
 class _Chunk:
-    """At most 65,536 values: the least and the greatest, and the lists of what is above the least. `missing` is a list, or None."""
+    """At most 65,536 values: the least and the greatest, and the lists of the values less the least. `missing` is a list, or None."""
 
     def __init__(self, least: int, greatest: int, missing: Optional[PackedList], lists: List[PackedList]):
         self.least, self.greatest, self.missing, self.lists = least, greatest, missing, lists
@@ -58,7 +58,7 @@ class _Chunk:
 class Column:
     """Integers of 64 bits, with a sign or without, any of which may be missing. Made by pack_column.
 
-    `Column(data)` opens the bytes of one: it compares each checksum and tests each list, and raises PackedListError. It keeps memory that is read
+    `Column(data)` opens the bytes of one: it compares each checksum and tests each list, and raises PackedListError. It holds memory that is read
     only, which must not change, and copies memory that can be written."""
 
     def __init__(self, data: Any):

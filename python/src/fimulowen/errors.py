@@ -22,7 +22,7 @@ class PackedListError(ValueError):
 
 
 def refused(text, fault, number, data):
-    """The error for bytes that do not open, with its place in them."""
+    """The error for bytes that do not open, with where it is in them."""
     from .faults import place
 
     return PackedListError(text, fault, list=number, **place(data, fault))

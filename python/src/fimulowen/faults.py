@@ -21,8 +21,8 @@ class _Found(Exception):
 
 
 def place(data, fault):
-    """The place of the first fault of the bytes, as the arguments of PackedListError. It is empty if they are many, which takes long to read
-    here, or have another first fault."""
+    """Where the first fault of the bytes is, as the arguments of PackedListError. It is empty if they are many, which is slow to read here,
+    or have another first fault."""
     if len(data) > MOST:
         return {}
     try:
@@ -58,7 +58,7 @@ class _List:
         return (np.frombuffer(part, "u1") if part else np.empty(0, "u1")).astype("u8").reshape(count, size)
 
     def number(self):
-        """A number of one to five bytes."""
+        """A varint: an integer of one to five bytes."""
         value, start = 0, self.at
         for j in range(5):
             _need(start + j < len(self.data), "SHORT", start)
@@ -123,7 +123,7 @@ class _List:
         self.groups()
 
     def entries(self, tail):
-        """The entries and the bodies of versions 2 and 3."""
+        """The skip entries and the bodies of versions 2 and 3."""
         start = self.at
         _need(self.left() >= 9 * self.blocks + tail, "SHORT", start)
         entries = self.bytes_of(self.blocks, 9)
@@ -173,7 +173,7 @@ class _List:
         self.start = mark
 
     def packed(self, m, width, mark, mark_at, above=False):
-        """A packed block: its width, and the value that is kept for it, which a plain block of version 4 is above."""
+        """A packed block: its width, and the value in its skip entry, which is the frame of reference of a plain block of version 4."""
         at, self.at = self.at, self.at + 4 * self.lanes * width
         body = self.data[at : self.at]
         codes = chain.unpack(bytes([width]), body, lanes=self.lanes)

@@ -1,4 +1,4 @@
-"""Packed lists and what is asked of them."""
+"""Packed lists and their calls."""
 
 import pickle
 from typing import Any, Iterator, List, Optional, Tuple
@@ -14,10 +14,10 @@ _PART = 4096
 
 
 class PackedList(_core.List):
-    """A list of integers from 0 to 4294967295 in its packed bytes, read in place.
+    """A list of integers from 0 to 4294967295 in its packed bytes.
 
-    `PackedList(data)` tests all bytes of any object with a buffer, and raises PackedListError with the first fault. It keeps the buffer. Memory
-    that is read only (bytes, such a map or array) is used in place, and must not change; memory that can be written is copied."""
+    `PackedList(data)` tests all bytes of any object with a buffer, and raises PackedListError with the first fault. It holds the buffer. Memory
+    that is read only (bytes, such a map or array) is used without a copy, and must not change; memory that can be written is copied."""
 
     __slots__ = ()
     __array_ufunc__ = None  # array & list must not be a bitwise AND of numbers
@@ -48,7 +48,7 @@ class PackedList(_core.List):
         if len(self) != len(other):
             return False
         if (self.kind, self.lanes, self.version) == (other.kind, other.lanes, other.version):
-            return self.data == other.data  # a list has one text
+            return self.data == other.data  # a list has one encoding
         return all((self[at : at + _PART] == other[at : at + _PART]).all() for at in range(0, len(self), _PART))
 
     def __repr__(self) -> str:
@@ -64,7 +64,7 @@ class PackedList(_core.List):
         return type(self), (pickle.PickleBuffer(self.data) if protocol >= 5 else self.tobytes(),)
 
     def to_numpy(self, out: Optional[np.ndarray] = None, dtype: npt.DTypeLike = None) -> np.ndarray:
-        """All values, as an array of uint32, or of another type. They go to the front of `out` if it is given: an array in C order of
+        """All values, as an array of uint32, or of another type. They go to the front of `out` if there is one: an array in C order of
         uint32, int64 or uint64, with room for all. Returns the part of it that has them."""
         wanted = np.dtype(np.uint32 if dtype is None else dtype)
         if out is None and wanted == np.uint32:
@@ -136,7 +136,7 @@ def pack_many(
 
 
 def open_many(data: Any, bounds: npt.ArrayLike) -> List[PackedList]:
-    """The lists at data[bounds[i]:bounds[i + 1]], which all keep the one buffer. PackedListError, with the number of the list."""
+    """The lists at data[bounds[i]:bounds[i + 1]], which all share the one buffer. PackedListError, with the number of the list."""
     view = memoryview(data)
     return _core.open_many(data if view.readonly else bytes(view), private_index(bounds))
 

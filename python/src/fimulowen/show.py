@@ -1,4 +1,4 @@
-"""What a list looks like: how many bits a value takes in each of its blocks, as text or as a picture."""
+"""What a list looks like: how many bits a value has in each of its blocks, as text or as a picture."""
 
 import numpy as np
 
@@ -6,7 +6,7 @@ _ROWS, _BARS, _MOST = 40, 240, 32
 
 
 def bits_of_blocks(packed) -> np.ndarray:
-    """The bits a value takes in each whole block: the width of a packed block, or the size of a set of bits."""
+    """The bits a value has in each whole block: the width of a packed block, or the size of a set of bits."""
     blocks, data = len(packed) // (32 * packed.lanes), packed.data
     if blocks == 0:
         return np.empty(0, "u1")
@@ -21,7 +21,7 @@ def bits_of_blocks(packed) -> np.ndarray:
 
 def show(packed) -> str:
     """The list as text: a line for each block, or for each run of blocks if there are more than forty, with the position of its first value, the
-    least and most bits that a value takes, and a bar for the mean.
+    least and most bits that a value has, and a bar for the mean.
 
     >>> import fimulowen
     >>> print(fimulowen.show(fimulowen.pack(range(0, 900, 3))))
@@ -51,7 +51,7 @@ def _title(packed) -> str:
 
 
 def svg(packed) -> str:
-    """The list as a picture: a bar for each block, or for each run of blocks if there are many, as high as the most bits that a value takes."""
+    """The list as a picture: a bar for each block, or for each run of blocks if there are many, as high as the most bits that a value has."""
     bits = bits_of_blocks(packed)
     each = max(1, -(-len(bits) // _BARS))
     heights = [int(bits[first : first + each].max()) for first in range(0, len(bits), each)]

@@ -1,4 +1,4 @@
-"""Arrays from what a caller gives. Each is a copy, so that another thread cannot change it while the library reads it."""
+"""Arrays from what a caller passes. Each is a copy, so that another thread cannot change it while the library reads it."""
 
 import numpy as np
 import numpy.typing as npt

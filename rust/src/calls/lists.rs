@@ -57,7 +57,7 @@ impl<'a> ListView<'a> {
         unsafe { std::slice::from_raw_parts(self.bytes, self.bytes_len) }
     }
 
-    /// What opening found, without the bytes. No function takes this.
+    /// What opening found, without the bytes. No function accepts this.
     pub(crate) fn without_bytes(self) -> ListView<'static> {
         ListView { bytes: std::ptr::null(), bytes_len: 0, found: self.found, lanes: self.lanes, borrowed: PhantomData }
     }
@@ -73,7 +73,7 @@ impl<'a> ListView<'a> {
     }
 }
 
-/// A place in an opened list, as the functions see it: the number of the block at hand, an index in it, how many values it has, and
+/// A position in an opened list, as the functions see it: the number of the current block, an index in it, how many values it has, and
 /// these values; and whether the list is not plain.
 #[repr(C)]
 #[derive(Clone)]
@@ -87,13 +87,13 @@ pub(crate) struct ListCursor<'a> {
 }
 
 impl ListCursor<'_> {
-    /// The values from the place to the end of the block at hand.
+    /// The values from the position to the end of the current block.
     #[inline]
     pub(crate) fn at_hand(&self) -> &[u32] {
         &self.values[self.index..self.len]
     }
 
-    /// The value at the place.
+    /// The value at the position.
     #[inline]
     pub(crate) fn value(&self) -> Option<u32> {
         self.values[..self.len].get(self.index).copied()
@@ -124,7 +124,7 @@ pub(crate) fn layouts() -> [Layout; 3] {
     ]
 }
 
-/// What the calls of this thread did since a test asked last.
+/// What the calls of this thread did since a test last looked.
 #[cfg(test)]
 #[derive(Clone, PartialEq, Eq, Debug, Default)]
 pub(crate) struct Done {
@@ -213,7 +213,7 @@ pub(crate) type Combine = unsafe extern "C" fn(*const ListView<'_>, usize, *mut 
 /// A function that counts the values that it makes of many lists.
 pub(crate) type Count = unsafe extern "C" fn(*const ListView<'_>, usize) -> isize;
 
-/// A function that keeps some of the values of an array, by a list.
+/// A function that retains some of the values of an array, by a list.
 pub(crate) type Filter = unsafe extern "C" fn(*const ListView<'_>, *mut u32, usize) -> isize;
 
 /// A count, or the number of what is wrong.
@@ -226,8 +226,8 @@ fn found(number: i32) -> Result<bool, i32> {
     counted(number as isize).map(|count| count > 0)
 }
 
-// The functions ask for what references and slices are, and for views and cursors that they made themselves. Nothing but these
-// functions writes a field of those, except for `advance` below.
+// The functions require what references and slices are, and views and cursors that they made themselves. Only these functions write a
+// field of such a view or cursor, and `advance` below.
 
 impl Lists {
     pub(crate) fn open<'a>(&self, bytes: &'a [u8]) -> Result<ListView<'a>, i32> {
@@ -314,7 +314,7 @@ impl Lists {
         counted(unsafe { (self.gather)(view, from, positions.len(), values.as_mut_ptr(), room) })
     }
 
-    /// Keeps some of the values of a vector. If this fails, the vector stays as it was.
+    /// Retains some of the values of a vector. If this fails, the vector is unchanged.
     pub(crate) fn filter(&self, function: Filter, view: &ListView<'_>, values: &mut Vec<u32>) -> Result<(), i32> {
         // SAFETY: a view that was opened; the pointer and the length of a slice that is borrowed by `&mut`.
         let kept = counted(unsafe { function(view, values.as_mut_ptr(), values.len()) })?;
@@ -341,7 +341,7 @@ impl Lists {
         unsafe { (self.position)(cursor) }
     }
 
-    /// Within a block this is one addition, which is done here: a call takes longer.
+    /// Within a block this is one addition, which is done here: a call is slower.
     #[inline]
     pub(crate) fn advance(&self, cursor: &mut ListCursor<'_>) {
         if cursor.index + 1 < cursor.len {
@@ -385,8 +385,8 @@ pub(crate) fn count(function: Count, lists: &[PackedList<'_>]) -> Result<usize, 
 ///
 /// # Safety
 ///
-/// The call gets a pointer and the number of places from there on. The first of them have the values of the vector, the others may have
-/// none. It returns how many values there are now from the first place on, whatever the other places had; or a negative number, and has
+/// The call gets a pointer and the number of items from there on. The first of them have the values of the vector, the others may have
+/// none. It returns how many values there are now from the first item on, whatever the other items had; or a negative number, and has
 /// written nothing.
 unsafe fn replace(values: &mut Vec<u32>, room: usize, call: impl FnOnce(*mut u32, usize) -> isize) -> Result<(), i32> {
     values.reserve(room.saturating_sub(values.len()));

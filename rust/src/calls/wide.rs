@@ -1,4 +1,4 @@
-//! The calls on values above a base, and on the place of a fault.
+//! The calls on values above a base, and on the position of a fault.
 
 use super::lists::counted;
 use super::{ListView, Lists};

@@ -17,8 +17,8 @@ const BAD_BASE: i32 = -7;
 type Answer = Result<usize, (i32, usize)>;
 
 impl PackedList<'_> {
-    /// The bytes of one list of these values after those of this list, of its packer and kind, and of version 4, or 3 if they are fewer than
-    /// a block.
+    /// Returns the bytes of a list of this list's values and then these values, of its packer and kind, and of version 4, or 3 if they are
+    /// fewer than a block.
     ///
     /// If this list is of version 4, its whole blocks are copied, and only the values after them are packed. Otherwise all values are packed
     /// anew.

@@ -1,4 +1,4 @@
-//! The blocks of a list by their numbers, for callers who keep something of their own for each, such as its greatest score.
+//! The blocks of a list by their numbers, for callers who store something for each, such as its greatest score.
 
 use super::{error, Error, PackedList};
 use crate::calls::best;
@@ -7,13 +7,22 @@ use crate::calls::best;
 const BAD_BLOCK: i32 = -6;
 
 impl PackedList<'_> {
-    /// How many values a whole block has: 32, 128 or 256. Block `b` begins at position `b * block_len()`.
+    /// Returns how many values a whole block has: 32, 128 or 256. Block `b` begins at position `b * block_len()`.
+    ///
+    /// ```
+    /// use bitpacking::list::{Encoder, Kind, PackedList, Version};
+    /// use bitpacking::BitPacker8x;
+    ///
+    /// let bytes = Encoder::new(BitPacker8x, Version::Four).encode(Kind::Plain, &[3, 1])?;
+    /// assert_eq!(PackedList::open(&bytes)?.block_len(), 256);
+    /// # Ok::<(), bitpacking::list::Error>(())
+    /// ```
     #[inline]
     pub fn block_len(&self) -> usize {
         self.view.block_len()
     }
 
-    /// How many whole blocks the list has. What is left after them is a shorter block, whose number is this; it may have no value.
+    /// Returns how many whole blocks the list has. What is left after them is a shorter block, whose number is this; it may have no value.
     ///
     /// ```
     /// use bitpacking::list::{encode, Kind, PackedList};
@@ -28,7 +37,7 @@ impl PackedList<'_> {
         best().lists.block_count(&self.view)
     }
 
-    /// The last value of a whole block, or `None` if the list has no whole block of this number. Nothing is unpacked.
+    /// Returns the last value of a whole block, or `None` if the list has no whole block of this number. Nothing is unpacked.
     ///
     /// # Errors
     ///
@@ -51,8 +60,8 @@ impl PackedList<'_> {
         }
     }
 
-    /// The number of the first whole block, from block `from` on, whose last value is at least `target`, or `None`: then only what is left
-    /// after all whole blocks can have such a value. It tries the nearest blocks first, and unpacks nothing.
+    /// Returns the number of the first whole block, from block `from` on, whose last value is at least `target`, or `None`: then only what
+    /// is left after all whole blocks can have such a value. It gallops from `from` on, and unpacks nothing.
     ///
     /// # Errors
     ///
@@ -72,8 +81,8 @@ impl PackedList<'_> {
         Ok((found < self.block_count()).then_some(found))
     }
 
-    /// Unpacks a block, and returns how many values it has, or `None` if the number is above [`block_count`](PackedList::block_count). Later
-    /// places of `values` stay as they were. [`block_len`](PackedList::block_len) places are always room enough.
+    /// Unpacks a block, and returns how many values it has, or `None` if the number is above [`block_count`](PackedList::block_count).
+    /// Values after them are unchanged. [`block_len`](PackedList::block_len) values are always enough room.
     ///
     /// # Panics
     ///

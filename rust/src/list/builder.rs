@@ -6,10 +6,10 @@ use crate::{BitPacker4x, Packer};
 /// The most values of a list.
 const MOST: usize = 1 << 28;
 
-/// Takes the values of a list one by one, or many at a time, and then writes the list.
+/// Collects the values of a list one by one, or many at a time, and then writes the list.
 ///
-/// It keeps the values in a vector, four bytes for each, since the bytes of a list begin with their number. A value that is out of order is
-/// refused when it is pushed, and the builder is then as it was.
+/// A vector holds the values, four bytes for each, since the bytes of a list begin with their number. A value that is out of order is
+/// refused when it is pushed, and the builder is then unchanged.
 ///
 /// ```
 /// use bitpacking::list::{Error, Kind, ListBuilder};
@@ -31,7 +31,7 @@ pub struct ListBuilder<P = BitPacker4x> {
 }
 
 impl ListBuilder {
-    /// A builder of a list that [`encode`](super::encode) writes. Allocates nothing.
+    /// Returns a builder of a list that [`encode`](super::encode) would write. Allocates nothing.
     ///
     /// ```
     /// use bitpacking::list::{Kind, ListBuilder};
@@ -45,7 +45,7 @@ impl ListBuilder {
 }
 
 impl<P: Packer> ListBuilder<P> {
-    /// A builder of a list that an encoder writes, for another packer or version. Allocates nothing.
+    /// Returns a builder of a list that an encoder writes, for another packer or version. Allocates nothing.
     ///
     /// ```
     /// use bitpacking::list::{Encoder, Kind, ListBuilder, Version};
@@ -65,7 +65,7 @@ impl<P: Packer> ListBuilder<P> {
     /// # Errors
     ///
     /// The first of: the fault of an earlier `extend`; `TooLong`, if there are 268,435,456 values; `NotSorted`, with the number of values so
-    /// far, if the value is out of order after the last one. The builder is then as it was.
+    /// far, if the value is out of order after the last one. The builder is then unchanged.
     ///
     /// ```
     /// use bitpacking::list::{Error, Kind, ListBuilder};
@@ -134,7 +134,7 @@ impl<P: Packer> ListBuilder<P> {
         self.values.reserve(additional);
     }
 
-    /// Drops the values, and the fault of an `extend`. The memory is kept for the values of another list.
+    /// Drops the values, and the fault of an `extend`. The vector retains its memory for the values of another list.
     ///
     /// ```
     /// use bitpacking::list::{Kind, ListBuilder};
@@ -152,7 +152,7 @@ impl<P: Packer> ListBuilder<P> {
         self.fault = None;
     }
 
-    /// How many values were pushed.
+    /// Returns how many values were pushed.
     ///
     /// ```
     /// use bitpacking::list::{Kind, ListBuilder};
@@ -165,7 +165,7 @@ impl<P: Packer> ListBuilder<P> {
         self.values.len()
     }
 
-    /// Whether no value was pushed.
+    /// Returns whether no value was pushed.
     ///
     /// ```
     /// use bitpacking::list::{Kind, ListBuilder};
@@ -176,7 +176,7 @@ impl<P: Packer> ListBuilder<P> {
         self.values.is_empty()
     }
 
-    /// The kind of the list.
+    /// Returns the kind of the list.
     ///
     /// ```
     /// use bitpacking::list::{Kind, ListBuilder};
@@ -187,7 +187,7 @@ impl<P: Packer> ListBuilder<P> {
         self.kind
     }
 
-    /// The values that were pushed.
+    /// Returns the values that were pushed.
     ///
     /// ```
     /// use bitpacking::list::{Kind, ListBuilder};
@@ -201,7 +201,7 @@ impl<P: Packer> ListBuilder<P> {
         &self.values
     }
 
-    /// The list, which is packed and then opened.
+    /// Packs the values and returns the opened list.
     ///
     /// # Errors
     ///
@@ -225,11 +225,11 @@ impl<P: Packer> ListBuilder<P> {
         ListBuf::open(bytes)
     }
 
-    /// Appends the bytes of the list, and returns how many they are. The builder keeps its values: more can be pushed.
+    /// Appends the bytes of the list, and returns how many they are. The builder retains its values: more can be pushed.
     ///
     /// # Errors
     ///
-    /// As [`finish`](ListBuilder::finish). The vector is then as it was.
+    /// As [`finish`](ListBuilder::finish). The vector is then unchanged.
     ///
     /// ```
     /// use bitpacking::list::{encode, Kind, ListBuilder};
@@ -262,7 +262,8 @@ fn first_out(kind: Kind, last: Option<&u32>, values: &[u32]) -> Option<usize> {
     values.windows(2).position(|pair| is_out(pair[0], pair[1])).map(|index| index + 1)
 }
 
-/// Pushes values up to the first that is refused. Its fault is kept: `finish` returns it, and until `clear` so do all calls that push.
+/// Pushes values up to the first that is refused. The builder stores its fault: `finish` returns it, and until `clear` so do all calls that
+/// push.
 ///
 /// ```
 /// use bitpacking::list::{Error, Kind, ListBuilder};
@@ -293,12 +294,12 @@ impl<'a, P: Packer> Extend<&'a u32> for ListBuilder<P> {
 }
 
 impl ListBuf {
-    /// The list of the values of an iterator, as [`ListBuilder`] builds it.
+    /// Returns the list of the values of an iterator, as [`ListBuilder`] builds it.
     ///
     /// # Errors
     ///
     /// `TooLong`, if there are more than 268,435,456 values; or `NotSorted`, with the position of the first value that is not in the order of
-    /// the kind. The iterator is not asked for more values then.
+    /// the kind. Then it reads no more values of the iterator.
     ///
     /// ```
     /// use bitpacking::list::{Error, Kind, ListBuf};

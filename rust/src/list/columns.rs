@@ -5,11 +5,11 @@ use super::PackedList;
 use crate::calls::best;
 
 impl PackedList<'_> {
-    /// Bounds of the values of a block: none of them is below the first, or above the second. `None` if the list has no whole block of this
-    /// number; they are counted from 0 on, and the values after the last one have no bounds. Nothing is unpacked.
+    /// Returns bounds of the values of a block: none of them is below the first, or above the second. `None` if the list has no whole block
+    /// of this number; they are counted from 0 on, and the values after the last one have no bounds. Nothing is unpacked.
     ///
-    /// In a plain list the second is what the width of the block allows. The first is 0 in version 2 or 3, and in version 4 the least value
-    /// of the block, above which the second is then as much as the width allows. In other lists the second is the last value of the block.
+    /// In a plain list the first is 0 in version 2 or 3, and in version 4 the least value of the block. The second is the first plus the
+    /// greatest number of the block's width, and at most `u32::MAX`. In other lists the second is the last value of the block.
     /// The first is the value before the block, or one more in a strictly sorted list; for the first block it is 0.
     ///
     /// ```
@@ -26,8 +26,8 @@ impl PackedList<'_> {
         best().lists.bounds(&self.view, block)
     }
 
-    /// How many values are from `low` to `high`, both included. A block is unpacked at most once, and only if its bounds do not tell: of a
-    /// sorted or strictly sorted list at most two blocks.
+    /// Returns how many values are from `low` to `high`, both included. A block is unpacked at most once, and only if its bounds do not
+    /// tell: of a sorted or strictly sorted list at most two blocks.
     ///
     /// ```
     /// use bitpacking::list::{encode, Kind, PackedList};
@@ -40,7 +40,7 @@ impl PackedList<'_> {
         best().lists.count_between(&self.view, low, high)
     }
 
-    /// The positions of the values from `low` to `high`, both included, in increasing order.
+    /// Returns the positions of the values from `low` to `high`, both included, in increasing order.
     ///
     /// ```
     /// use bitpacking::list::{encode, Kind, PackedList};
@@ -55,8 +55,8 @@ impl PackedList<'_> {
         fitted(positions)
     }
 
-    /// Replaces the positions of a vector by those that [`positions_between`](PackedList::positions_between) returns. The vector keeps its
-    /// memory, which many queries in turn can use.
+    /// Replaces the positions of a vector by those that [`positions_between`](PackedList::positions_between) returns. The vector retains
+    /// its memory, which many queries in turn can use.
     ///
     /// ```
     /// use bitpacking::list::{encode, Kind, PackedList};
@@ -76,7 +76,7 @@ impl PackedList<'_> {
     }
 
     /// Writes the positions, from one on, of the values from `low` to `high`, both included: in increasing order, and as many as there is
-    /// room for. Returns how many it wrote. Later places of `positions` stay as they were.
+    /// room for. Returns how many it wrote. Positions after them are unchanged.
     ///
     /// If it fills the slice, there may be more: go on from the position after the last.
     ///

@@ -1,11 +1,11 @@
-//! A place in a list.
+//! A position in a list that moves.
 
 use std::fmt;
 
 use super::{error, Error, PackedList};
 use crate::calls::{best, ListCursor};
 
-/// A place in an opened list. It has the values of the block at hand, and so takes about 1 KB.
+/// A position in an opened list that moves. It has the values of the current block, and so a size of about 1 KB.
 ///
 /// However it is moved forward, it unpacks each block of the list at most once. Only [`move_to`](Cursor::move_to) can move it back.
 ///
@@ -30,37 +30,77 @@ impl<'a> Cursor<'a> {
         Cursor { cursor: best().lists.start(&list.view) }
     }
 
-    /// The value here, or `None` after the last.
+    /// Returns the value here, or `None` after the last.
+    ///
+    /// ```
+    /// use bitpacking::list::{encode, Kind, PackedList};
+    ///
+    /// let bytes = encode(Kind::StrictlySorted, &[3, 5, 9, 12])?;
+    /// let mut cursor = PackedList::open(&bytes)?.cursor();
+    /// assert_eq!(cursor.value(), Some(3));
+    /// cursor.move_to(4);
+    /// assert_eq!(cursor.value(), None);
+    /// # Ok::<(), bitpacking::list::Error>(())
+    /// ```
     #[inline]
     pub fn value(&self) -> Option<u32> {
         self.cursor.value()
     }
 
-    /// The number of values before this place.
+    /// Returns the position: the number of values before the one here.
+    ///
+    /// ```
+    /// use bitpacking::list::{encode, Kind, PackedList};
+    ///
+    /// let bytes = encode(Kind::StrictlySorted, &[3, 5, 9, 12])?;
+    /// let mut cursor = PackedList::open(&bytes)?.cursor();
+    /// cursor.seek(6)?;
+    /// assert_eq!(cursor.position(), 2);
+    /// # Ok::<(), bitpacking::list::Error>(())
+    /// ```
     pub fn position(&self) -> usize {
         best().lists.position(&self.cursor)
     }
 
     /// Moves to the next value. After the last value it stays.
+    ///
+    /// ```
+    /// use bitpacking::list::{encode, Kind, PackedList};
+    ///
+    /// let bytes = encode(Kind::StrictlySorted, &[3, 5, 9, 12])?;
+    /// let mut cursor = PackedList::open(&bytes)?.cursor();
+    /// cursor.advance();
+    /// assert_eq!(cursor.value(), Some(5));
+    /// # Ok::<(), bitpacking::list::Error>(())
+    /// ```
     #[inline]
     pub fn advance(&mut self) {
         best().lists.advance(&mut self.cursor);
     }
 
     /// Moves to the first value from here on that is at least `target`, and returns it; or to the end, if there is none. Unpacks
-    /// one block at most, and none if the value is in the block at hand.
+    /// at most one block, and none if the value is in the current block.
     ///
     /// # Errors
     ///
     /// `BadKind`, if the list is plain. The cursor stays then.
+    ///
+    /// ```
+    /// use bitpacking::list::{encode, Kind, PackedList};
+    ///
+    /// let bytes = encode(Kind::StrictlySorted, &[3, 5, 9, 12])?;
+    /// let mut cursor = PackedList::open(&bytes)?.cursor();
+    /// assert_eq!((cursor.seek(6)?, cursor.seek(9)?, cursor.seek(13)?), (Some(9), Some(9), None));
+    /// # Ok::<(), bitpacking::list::Error>(())
+    /// ```
     #[inline]
     pub fn seek(&mut self, target: u32) -> Result<Option<u32>, Error> {
         best().lists.seek_from(&mut self.cursor, target).map_err(|number| error::named(number, None))?;
         Ok(self.value())
     }
 
-    /// Moves to a position, forward or back, or to the end if the list has no such position. Unpacks one block at most, and none if the
-    /// position is in the block at hand. The list may be plain.
+    /// Moves to a position, forward or back, or to the end if the list has no such position. Unpacks at most one block, and none if the
+    /// position is in the current block. The list may be plain.
     ///
     /// ```
     /// use bitpacking::list::{encode, Kind, PackedList};
@@ -76,13 +116,33 @@ impl<'a> Cursor<'a> {
         best().lists.move_to(&mut self.cursor, position);
     }
 
-    /// The values from here to the end of the block at hand. It is empty only after the last value of the list.
+    /// Returns the values from here to the end of the current block. It is empty only after the last value of the list.
+    ///
+    /// ```
+    /// use bitpacking::list::{encode, Kind, PackedList};
+    ///
+    /// let bytes = encode(Kind::StrictlySorted, &[3, 5, 9, 12])?;
+    /// let mut cursor = PackedList::open(&bytes)?.cursor();
+    /// cursor.advance();
+    /// assert_eq!(cursor.block(), [5, 9, 12]);
+    /// # Ok::<(), bitpacking::list::Error>(())
+    /// ```
     #[inline]
     pub fn block(&self) -> &[u32] {
         self.cursor.at_hand()
     }
 
-    /// Moves past the values of [`block`](Cursor::block).
+    /// Moves past the values of [`block`](Cursor::block), to the next block.
+    ///
+    /// ```
+    /// use bitpacking::list::{encode, Kind, PackedList};
+    ///
+    /// let bytes = encode(Kind::StrictlySorted, &(0..300).map(|k| 2 * k).collect::<Vec<u32>>())?;
+    /// let mut cursor = PackedList::open(&bytes)?.cursor();
+    /// cursor.skip_block();
+    /// assert_eq!((cursor.position(), cursor.value()), (128, Some(256)));
+    /// # Ok::<(), bitpacking::list::Error>(())
+    /// ```
     pub fn skip_block(&mut self) {
         best().lists.skip_block(&mut self.cursor);
     }

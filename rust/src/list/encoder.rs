@@ -11,13 +11,13 @@ pub enum Version {
     Two,
     /// A short header, and the values after the last block packed: shorter for lists of few values.
     Three,
-    /// As version 3, with less said of each block; close values of a strictly sorted list as a set of bits; and the values of a plain list
-    /// less the least of their block. A list shorter than a block is written in version 3.
+    /// Version 3 with shorter skip entries; with close values of a strictly sorted list as a set of bits; and with plain values by frame of
+    /// reference, less the least of their block. A list shorter than a block is written in version 3.
     #[default]
     Four,
 }
 
-/// Writes lists of one packer and one version. [`encode`] takes `Encoder::default()`, which has [`BitPacker4x`] and version 4.
+/// Writes lists of one packer and one version. [`encode`] uses `Encoder::default()`, which has [`BitPacker4x`] and version 4.
 ///
 /// ```
 /// use bitpacking::list::{Encoder, Kind, Version};
@@ -41,27 +41,58 @@ impl Default for Encoder {
 }
 
 impl<P: Packer> Encoder<P> {
-    /// An encoder of lists of this packer and version.
+    /// Returns an encoder of lists of this packer and version.
+    ///
+    /// ```
+    /// use bitpacking::list::{Encoder, Kind, Version};
+    /// use bitpacking::BitPacker8x;
+    ///
+    /// let encoder = Encoder::new(BitPacker8x, Version::Three);
+    /// assert_eq!(encoder.encoded_len(Kind::Plain, &[])?, 1);
+    /// # Ok::<(), bitpacking::list::Error>(())
+    /// ```
     pub const fn new(packer: P, version: Version) -> Self {
         Encoder { packer, version }
     }
 
-    /// The packer.
+    /// Returns the packer.
+    ///
+    /// ```
+    /// use bitpacking::list::Encoder;
+    /// use bitpacking::BitPacker;
+    ///
+    /// assert_eq!(Encoder::default().packer().num_bits(&[5; 128]), 3);
+    /// ```
     pub const fn packer(&self) -> P {
         self.packer
     }
 
-    /// The version.
+    /// Returns the version.
+    ///
+    /// ```
+    /// use bitpacking::list::{Encoder, Version};
+    ///
+    /// assert_eq!(Encoder::default().version(), Version::Four);
+    /// ```
     pub const fn version(&self) -> Version {
         self.version
     }
 
-    /// The bytes of a list of these values.
+    /// Returns the bytes of a list of these values.
     ///
     /// # Errors
     ///
     /// The first of: `TooLong`, if there are more than 268,435,456 values; `NotSorted`, with the position of the first value that is
     /// not in the order of the kind.
+    ///
+    /// ```
+    /// use bitpacking::list::{Encoder, Error, Kind};
+    ///
+    /// let encoder = Encoder::default();
+    /// assert_eq!(encoder.encode(Kind::StrictlySorted, &[7, 9, 10, 300])?, [0xA4, 7, 9, 1, 0, 0x84, 4]);
+    /// assert_eq!(encoder.encode(Kind::Sorted, &[7, 6]), Err(Error::NotSorted { position: Some(1) }));
+    /// # Ok::<(), Error>(())
+    /// ```
     pub fn encode(&self, kind: Kind, values: &[u32]) -> Result<Vec<u8>, Error> {
         let mut bytes = Vec::new();
         self.encode_into(kind, values, &mut bytes)?;
@@ -72,7 +103,16 @@ impl<P: Packer> Encoder<P> {
     ///
     /// # Errors
     ///
-    /// As [`encode`](Encoder::encode). The vector is then as it was.
+    /// As [`encode`](Encoder::encode). The vector is then unchanged.
+    ///
+    /// ```
+    /// use bitpacking::list::{Encoder, Kind};
+    ///
+    /// let mut bytes = b"ids:".to_vec();
+    /// assert_eq!(Encoder::default().encode_into(Kind::StrictlySorted, &[7, 9, 10, 300], &mut bytes)?, 7);
+    /// assert_eq!(bytes[4..], [0xA4, 7, 9, 1, 0, 0x84, 4]);
+    /// # Ok::<(), bitpacking::list::Error>(())
+    /// ```
     pub fn encode_into(&self, kind: Kind, values: &[u32], bytes: &mut Vec<u8>) -> Result<usize, Error> {
         let (start, size) = (bytes.len(), self.encoded_len(kind, values)?);
         bytes.resize(start + size, 0);
@@ -81,11 +121,18 @@ impl<P: Packer> Encoder<P> {
             .map_err(|(number, position)| error::named(number, Some(position)))
     }
 
-    /// How many bytes a list of these values has. Nothing is written.
+    /// Returns how many bytes a list of these values has. Nothing is written.
     ///
     /// # Errors
     ///
     /// As [`encode`](Encoder::encode).
+    ///
+    /// ```
+    /// use bitpacking::list::{Encoder, Kind};
+    ///
+    /// assert_eq!(Encoder::default().encoded_len(Kind::StrictlySorted, &[7, 9, 10, 300])?, 7);
+    /// # Ok::<(), bitpacking::list::Error>(())
+    /// ```
     pub fn encoded_len(&self, kind: Kind, values: &[u32]) -> Result<usize, Error> {
         P::calls().list_size(self.number(), kind as u8, values).map_err(|(number, position)| error::named(number, Some(position)))
     }
@@ -100,8 +147,8 @@ impl<P: Packer> Encoder<P> {
     }
 }
 
-/// The bytes of a list of these values: in blocks of 128, by [`BitPacker4x`], and of version 4, or 3 if there are fewer than 128 values. An [`Encoder`] has the choice of
-/// others.
+/// Returns the bytes of a list of these values: in blocks of 128, by [`BitPacker4x`], and of version 4, or 3 if there are fewer than 128
+/// values. An [`Encoder`] has the choice of others.
 ///
 /// # Errors
 ///
@@ -120,12 +167,12 @@ pub fn encode(kind: Kind, values: &[u32]) -> Result<Vec<u8>, Error> {
     Encoder::default().encode(kind, values)
 }
 
-/// Appends the bytes that [`encode`] gives, and returns how many they are. Many lists can be put into one vector: the caller keeps
-/// where each begins and ends.
+/// Appends the bytes that [`encode`] returns, and returns how many they are. One vector can have many lists: the caller stores where each
+/// begins and ends, as [`Lists`](super::Lists) requires.
 ///
 /// # Errors
 ///
-/// As [`encode`]. The vector is then as it was.
+/// As [`encode`]. The vector is then unchanged.
 ///
 /// ```
 /// use bitpacking::list::{encode_into, Kind, PackedList};

@@ -8,11 +8,11 @@ use std::fmt;
 pub enum Error {
     /// Bytes are missing.
     Short,
-    /// The text is of another version than 2, 3 and 4.
+    /// The list is of another version than 2, 3 and 4.
     BadVersion,
-    /// The kind of the text is not one of the three. Or a plain list, which has no order, was searched or combined with others.
+    /// The kind of the list is not one of the three. Or a plain list, which has no order, was searched or combined with others.
     BadKind,
-    /// The text was packed by none of the three packers.
+    /// The list was packed by none of the three packers.
     WrongLanes,
     /// There are more than 268,435,456 values.
     TooLong,
@@ -22,28 +22,32 @@ pub enum Error {
     LooseWidth,
     /// A block does not begin at the end of the one before it, or is too long.
     BadOffset,
-    /// The last value of a block, or in a plain list of version 4 the least, is not the one that the text gives.
+    /// The last value of a block, or in a plain list of version 4 the least, is not the one in its skip entry.
     BadLast,
     /// The values are not in the order of the kind, or the values of a vector do not increase.
     NotSorted {
-        /// The position of the first value out of order, from 0 on. Writing a list gives it, combining one with a vector, and
-        /// [`find_fault`](super::PackedList::find_fault); opening bytes does not.
+        /// The position of the first value out of order, from 0 on. Writing a list returns it, and so do combining
+        /// one with a vector and [`find_fault`](super::PackedList::find_fault); opening bytes does not.
         position: Option<usize>,
     },
     /// Bytes are left over.
     Trailing,
-    /// A number of version 3 or 4 is not written in its one form, or is too small or too large for its place.
+    /// A varint of version 3 or 4 is not written in its only form, or is too small or too large.
     BadNumber,
     /// A bit is set after the last code of a group, in version 3 or 4.
     Padding,
-    /// The ends or the marks of a text of version 4 do not have the least count of bytes.
+    /// The ends or the marks of a list of version 4 do not have the least count of bytes.
     BadSizes,
-    /// A set of bits, in version 4, does not have as many bits as a block has values, or ends with another value than the text gives.
+    /// A set of bits, in version 4, does not have as many bits as a block has values, or ends with another value than its skip entry has.
     BadBits,
 }
 
 impl Error {
-    /// The number of the error in `include/bitpacking.h`, such as -21 for `Short`.
+    /// Returns the number of the error in `include/bitpacking.h`.
+    ///
+    /// ```
+    /// assert_eq!(bitpacking::list::Error::Short.number(), -21);
+    /// ```
     pub fn number(&self) -> i32 {
         match self {
             Error::Short => -21,
@@ -110,7 +114,7 @@ pub(super) fn named(number: i32, position: Option<usize>) -> Error {
         -34 => Error::Padding,
         -36 => Error::BadSizes,
         -37 => Error::BadBits,
-        _ => unreachable!("no function of lists answers {number} to this crate"),
+        _ => unreachable!("no function of lists returns {number} to this crate"),
     }
 }
 
@@ -120,16 +124,16 @@ impl fmt::Display for Error {
             Error::Short => f.write_str("bytes are missing"),
             Error::BadVersion => f.write_str("unsupported version"),
             Error::BadKind => f.write_str("the list has none of the three kinds, or is plain, and a plain list has no order"),
-            Error::WrongLanes => f.write_str("no packer has as many lanes as the text"),
+            Error::WrongLanes => f.write_str("no packer has as many lanes as the list"),
             Error::TooLong => f.write_str("there are more than 268435456 values"),
             Error::BadWidth => f.write_str("a block has a width above 32"),
             Error::LooseWidth => f.write_str("a block has a width or a size, and a smaller one holds it"),
             Error::BadOffset => f.write_str("a block does not begin at the end of the one before it, or is too long"),
-            Error::BadLast => f.write_str("the last or the least value of a block is not the one that the text gives"),
+            Error::BadLast => f.write_str("the last or the least value of a block is not the one in its skip entry"),
             Error::NotSorted { position: Some(position) } => write!(f, "the value at position {position} is out of order"),
             Error::NotSorted { position: None } => f.write_str("a value is out of order"),
             Error::Trailing => f.write_str("bytes are left over after the last value"),
-            Error::BadNumber => f.write_str("a number does not have its only form"),
+            Error::BadNumber => f.write_str("a varint does not have its only form"),
             Error::Padding => f.write_str("a bit is set after the last code of a group"),
             Error::BadSizes => f.write_str("the ends or the marks do not have the least count of bytes"),
             Error::BadBits => f.write_str("a set of bits is not the one of its block"),

@@ -39,9 +39,9 @@ impl Part {
 /// It unpacks each block once, when it comes to it: from each end once, if both meet in the block. `nth` skips blocks without
 /// unpacking them. The first step from the back allocates about 1 KB.
 ///
-/// `fold`, and `sum`, `for_each`, `min` and `max` over it, take a block at a time. `collect` unpacks all values that are left in one
-/// call, into a vector that a `Vec` is made of without a copy. It is nearly as fast as [`to_vec`](PackedList::to_vec), and takes four
-/// bytes for each value. `extend` of a `Vec`, and `collect` after an adapter such as `map`, take one value at a time.
+/// `fold`, and `sum`, `for_each`, `min` and `max` over it, unpack a block at a time. `collect` unpacks all values that are left in one
+/// call, into a vector that a `Vec` is made of without a copy. It is nearly as fast as [`to_vec`](PackedList::to_vec), and allocates four
+/// bytes for each value. `extend` of a `Vec`, and `collect` after an adapter such as `map`, read one value at a time.
 ///
 /// ```
 /// use bitpacking::list::{encode, Kind, PackedList};

@@ -1,4 +1,4 @@
-//! Lists with their bytes: one list, or many in one buffer. Each is tested once, and lent without another test.
+//! Lists that own their bytes: one list, or many in one buffer. Each is tested once, and lent without another test.
 
 use std::borrow::Cow;
 use std::fmt;
@@ -8,7 +8,7 @@ use std::sync::Arc;
 use super::{Error, PackedList};
 use crate::calls::ListView;
 
-/// Bytes that stay as they are: a vector, a box, an `Rc` or an `Arc`, a borrowed slice, an array.
+/// Bytes that do not change: a vector, a box, an `Rc` or an `Arc`, a borrowed slice, an array.
 ///
 /// # Safety
 ///
@@ -18,7 +18,7 @@ use crate::calls::ListView;
 /// A mapped file is such bytes only if nothing writes into the file or cuts it, which the caller has to know:
 ///
 /// ```
-/// struct Mapping(Box<[u8]>); // in place of a type that maps a file
+/// struct Mapping(Box<[u8]>); // instead of a type that maps a file
 ///
 /// impl AsRef<[u8]> for Mapping {
 ///     fn as_ref(&self) -> &[u8] {
@@ -46,9 +46,9 @@ unsafe impl StableBytes for Cow<'_, [u8]> {}
 // SAFETY: as above.
 unsafe impl<const N: usize> StableBytes for [u8; N] {}
 
-/// A packed list with its bytes. They are tested when it is opened, and not again when it lends its list.
+/// A packed list that owns its bytes. They are tested when it is opened, and not again when it lends its list.
 ///
-/// It can be kept in a struct, sent to another thread and shared, as its bytes can.
+/// It can be stored in a struct, sent to another thread and shared, as its bytes can.
 ///
 /// ```
 /// use bitpacking::list::{encode, Kind, ListBuf};
@@ -73,25 +73,59 @@ impl<B: StableBytes> ListBuf<B> {
     ///
     /// # Errors
     ///
-    /// The first fault of the bytes. They are dropped then: to keep them, open a [`PackedList`] of them first.
+    /// The first fault of the bytes. They are dropped then: if you need them, open a [`PackedList`] of them first.
+    ///
+    /// ```
+    /// use bitpacking::list::{encode, Error, Kind, ListBuf};
+    ///
+    /// let ids = ListBuf::open(encode(Kind::Sorted, &[7, 9, 9])?)?;
+    /// assert_eq!(ids.as_list().len(), 3);
+    /// assert_eq!(ListBuf::open(vec![0xA1]).err(), Some(Error::Short));
+    /// # Ok::<(), Error>(())
+    /// ```
     pub fn open(bytes: B) -> Result<Self, Error> {
         let found = PackedList::open(bytes.as_ref())?.view.without_bytes();
         Ok(ListBuf { bytes, found })
     }
 
-    /// The list. Nothing is tested or read.
+    /// Returns the list. Nothing is tested or read.
+    ///
+    /// ```
+    /// use bitpacking::list::ListBuf;
+    ///
+    /// let ids = ListBuf::open([0xA4, 7, 9, 1, 0, 0x84, 4])?;
+    /// assert_eq!(ids.as_list().to_vec(), [7, 9, 10, 300]);
+    /// # Ok::<(), bitpacking::list::Error>(())
+    /// ```
     #[inline]
     pub fn as_list(&self) -> PackedList<'_> {
         // SAFETY: these are the bytes that were opened, as the trait promises.
         PackedList { view: unsafe { self.found.with_bytes(self.bytes.as_ref()) } }
     }
 
-    /// The bytes of the list.
+    /// Returns the bytes of the list.
+    ///
+    /// ```
+    /// use bitpacking::list::ListBuf;
+    ///
+    /// let ids = ListBuf::open([0xA4, 7, 9, 1, 0, 0x84, 4])?;
+    /// assert_eq!(ids.as_bytes().len(), 7);
+    /// # Ok::<(), bitpacking::list::Error>(())
+    /// ```
     pub fn as_bytes(&self) -> &[u8] {
         self.bytes.as_ref()
     }
 
-    /// The bytes of the list, without the list.
+    /// Returns the bytes of the list, and drops the list.
+    ///
+    /// ```
+    /// use bitpacking::list::{encode, Kind, ListBuf};
+    ///
+    /// let ids = ListBuf::open(encode(Kind::StrictlySorted, &[7, 9, 10, 300])?)?;
+    /// let bytes: Vec<u8> = ids.into_bytes();
+    /// assert_eq!(bytes, [0xA4, 7, 9, 1, 0, 0x84, 4]);
+    /// # Ok::<(), bitpacking::list::Error>(())
+    /// ```
     pub fn into_bytes(self) -> B {
         self.bytes
     }
@@ -151,6 +185,14 @@ impl<B: StableBytes> Lists<B> {
     /// # Errors
     ///
     /// The first list with a fault. The bytes are dropped then.
+    ///
+    /// ```
+    /// use bitpacking::list::{Error, Lists};
+    ///
+    /// // Two lists without values, and a bound after the last byte.
+    /// let fault = Lists::open([0xA0, 0xA0], vec![0, 1, 3]).err().unwrap();
+    /// assert_eq!((fault.list, fault.error), (1, Error::Short));
+    /// ```
     pub fn open(bytes: B, bounds: Vec<usize>) -> Result<Self, ListFault> {
         for (list, pair) in bounds.windows(2).enumerate() {
             let text = bytes.as_ref().get(pair[0]..pair[1]).ok_or(Error::Short);
@@ -159,17 +201,46 @@ impl<B: StableBytes> Lists<B> {
         Ok(Lists { bytes, bounds })
     }
 
-    /// How many lists there are.
+    /// Returns how many lists there are.
+    ///
+    /// ```
+    /// use bitpacking::list::Lists;
+    ///
+    /// // No values, and 7, 9, 10, 300.
+    /// let lists = Lists::open([0xA0, 0xA4, 7, 9, 1, 0, 0x84, 4], vec![0, 1, 8]).map_err(|fault| fault.error)?;
+    /// assert_eq!(lists.len(), 2);
+    /// # Ok::<(), bitpacking::list::Error>(())
+    /// ```
     pub fn len(&self) -> usize {
         self.bounds.len().saturating_sub(1)
     }
 
-    /// Whether there is no list.
+    /// Returns whether there is no list.
+    ///
+    /// ```
+    /// use bitpacking::list::Lists;
+    ///
+    /// // No values, and 7, 9, 10, 300.
+    /// let lists = Lists::open([0xA0, 0xA4, 7, 9, 1, 0, 0x84, 4], vec![0, 1, 8]).map_err(|fault| fault.error)?;
+    /// assert!(!lists.is_empty());
+    /// # Ok::<(), bitpacking::list::Error>(())
+    /// ```
     pub fn is_empty(&self) -> bool {
         self.len() == 0
     }
 
-    /// The list of a number, from 0 on, or `None` if there is no such list. Its values are not tested, and its blocks are not read.
+    /// Returns the list of a number, from 0 on, or `None` if there is no such list. It reads the header and the last skip entry, and tests
+    /// nothing.
+    ///
+    /// ```
+    /// use bitpacking::list::Lists;
+    ///
+    /// // No values, and 7, 9, 10, 300.
+    /// let lists = Lists::open([0xA0, 0xA4, 7, 9, 1, 0, 0x84, 4], vec![0, 1, 8]).map_err(|fault| fault.error)?;
+    /// assert_eq!(lists.get(1).unwrap().seek(11)?, Some((3, 300)));
+    /// assert!(lists.get(2).is_none());
+    /// # Ok::<(), bitpacking::list::Error>(())
+    /// ```
     #[inline]
     pub fn get(&self, list: usize) -> Option<PackedList<'_>> {
         let (start, end) = (*self.bounds.get(list)?, *self.bounds.get(list.checked_add(1)?)?);
@@ -177,7 +248,16 @@ impl<B: StableBytes> Lists<B> {
         Some(unsafe { PackedList::open_unchecked(&self.bytes.as_ref()[start..end]) })
     }
 
-    /// All lists, in the order of their numbers.
+    /// Returns an iterator over all lists, in the order of their numbers.
+    ///
+    /// ```
+    /// use bitpacking::list::Lists;
+    ///
+    /// // No values, and 7, 9, 10, 300.
+    /// let lists = Lists::open([0xA0, 0xA4, 7, 9, 1, 0, 0x84, 4], vec![0, 1, 8]).map_err(|fault| fault.error)?;
+    /// assert_eq!(lists.iter().map(|list| list.len()).sum::<usize>(), 4);
+    /// # Ok::<(), bitpacking::list::Error>(())
+    /// ```
     pub fn iter(&self) -> impl ExactSizeIterator<Item = PackedList<'_>> + DoubleEndedIterator {
         (0..self.len()).map(|list| self.get(list).expect("the number is below the count of lists"))
     }

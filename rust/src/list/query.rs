@@ -11,8 +11,9 @@ use super::{Cursor, Error, Kind, PackedList};
 /// Which values are wanted of lists that are sorted or strictly sorted: of one list, or of any tree of queries that are joined by
 /// [`and`](Query::and), [`or`](Query::or) and [`and_not`](Query::and_not), also as `&`, `|` and `-`.
 ///
-/// A query borrows its lists and finds nothing before it is asked: [`cursor`](Query::cursor) starts at the first value, and allocates about
-/// 1 KB for each list, and no vector for the values between the parts. Each value comes once, in increasing order.
+/// A query borrows its lists and finds nothing itself: its [`cursor`](Query::cursor) starts at the first value, and allocates about 1 KB
+/// for each list, and no vector for the values between the parts. An AND leapfrogs: its cursors seek each other's value in turn. Each value
+/// comes once, in increasing order.
 ///
 /// If all values are wanted of lists that are joined in one way, [`intersect`](super::intersect), [`union`](super::union) and
 /// [`difference`](super::difference) are faster. A cursor stops early, skips, and joins what these calls cannot.
@@ -20,8 +21,8 @@ use super::{Cursor, Error, Kind, PackedList};
 /// ```
 /// use bitpacking::list::{encode, Kind, PackedList, Query};
 ///
-/// let texts = [[1, 4, 6, 9], [4, 6, 7, 8], [2, 6, 8, 9]].map(|ids| encode(Kind::StrictlySorted, &ids).unwrap());
-/// let [cats, dogs, old] = [0, 1, 2].map(|k| PackedList::open(&texts[k]).unwrap());
+/// let bytes = [[1, 4, 6, 9], [4, 6, 7, 8], [2, 6, 8, 9]].map(|ids| encode(Kind::StrictlySorted, &ids).unwrap());
+/// let [cats, dogs, old] = [0, 1, 2].map(|k| PackedList::open(&bytes[k]).unwrap());
 ///
 /// let found: Vec<u32> = ((&cats | &dogs) - &old).cursor()?.collect();
 /// assert_eq!(found, [1, 4, 7]);
@@ -44,17 +45,44 @@ enum Node<'a> {
 }
 
 impl<'a> Query<'a> {
-    /// The values that all of the queries have. Of no queries there are none.
+    /// Returns the query for the values that all of the queries have. Of no queries there are none.
+    ///
+    /// ```
+    /// use bitpacking::list::{encode, Kind, PackedList, Query};
+    ///
+    /// let bytes = [encode(Kind::StrictlySorted, &[1, 4, 6, 9])?, encode(Kind::StrictlySorted, &[4, 6, 7])?];
+    /// let [cats, dogs] = [PackedList::open(&bytes[0])?, PackedList::open(&bytes[1])?];
+    /// assert_eq!(Query::all([cats, dogs]).cursor()?.collect::<Vec<u32>>(), [4, 6]);
+    /// # Ok::<(), bitpacking::list::Error>(())
+    /// ```
     pub fn all(queries: impl IntoIterator<Item = impl Into<Query<'a>>>) -> Self {
         Query { node: Node::All(queries.into_iter().map(Into::into).collect()) }
     }
 
-    /// The values that at least one of the queries has.
+    /// Returns the query for the values that at least one of the queries has.
+    ///
+    /// ```
+    /// use bitpacking::list::{encode, Kind, PackedList, Query};
+    ///
+    /// let bytes = [encode(Kind::StrictlySorted, &[1, 4, 6, 9])?, encode(Kind::StrictlySorted, &[4, 6, 7])?];
+    /// let [cats, dogs] = [PackedList::open(&bytes[0])?, PackedList::open(&bytes[1])?];
+    /// assert_eq!(Query::any([cats, dogs]).cursor()?.collect::<Vec<u32>>(), [1, 4, 6, 7, 9]);
+    /// # Ok::<(), bitpacking::list::Error>(())
+    /// ```
     pub fn any(queries: impl IntoIterator<Item = impl Into<Query<'a>>>) -> Self {
         Query { node: Node::Any(queries.into_iter().map(Into::into).collect()) }
     }
 
-    /// The values that both have.
+    /// Returns the query for the values that both have, also as `&`.
+    ///
+    /// ```
+    /// use bitpacking::list::{encode, Kind, PackedList, Query};
+    ///
+    /// let bytes = [encode(Kind::StrictlySorted, &[1, 4, 6, 9])?, encode(Kind::StrictlySorted, &[4, 6, 7])?];
+    /// let [cats, dogs] = [PackedList::open(&bytes[0])?, PackedList::open(&bytes[1])?];
+    /// assert_eq!(Query::from(cats).and(dogs).cursor()?.collect::<Vec<u32>>(), [4, 6]);
+    /// # Ok::<(), bitpacking::list::Error>(())
+    /// ```
     pub fn and(self, other: impl Into<Query<'a>>) -> Self {
         match self.node {
             Node::All(mut queries) if !queries.is_empty() => {
@@ -65,7 +93,16 @@ impl<'a> Query<'a> {
         }
     }
 
-    /// The values that at least one of the two has.
+    /// Returns the query for the values that at least one of the two has, also as `|`.
+    ///
+    /// ```
+    /// use bitpacking::list::{encode, Kind, PackedList, Query};
+    ///
+    /// let bytes = [encode(Kind::StrictlySorted, &[1, 4, 6, 9])?, encode(Kind::StrictlySorted, &[4, 6, 7])?];
+    /// let [cats, dogs] = [PackedList::open(&bytes[0])?, PackedList::open(&bytes[1])?];
+    /// assert_eq!(Query::from(cats).or(dogs).cursor()?.collect::<Vec<u32>>(), [1, 4, 6, 7, 9]);
+    /// # Ok::<(), bitpacking::list::Error>(())
+    /// ```
     pub fn or(self, other: impl Into<Query<'a>>) -> Self {
         match self.node {
             Node::Any(mut queries) => {
@@ -76,16 +113,35 @@ impl<'a> Query<'a> {
         }
     }
 
-    /// The values that this query has and the other has not.
+    /// Returns the query for the values that this query has and the other lacks, also as `-`.
+    ///
+    /// ```
+    /// use bitpacking::list::{encode, Kind, PackedList, Query};
+    ///
+    /// let bytes = [encode(Kind::StrictlySorted, &[1, 4, 6, 9])?, encode(Kind::StrictlySorted, &[4, 6, 7])?];
+    /// let [cats, dogs] = [PackedList::open(&bytes[0])?, PackedList::open(&bytes[1])?];
+    /// assert_eq!(Query::from(cats).and_not(dogs).cursor()?.collect::<Vec<u32>>(), [1, 9]);
+    /// # Ok::<(), bitpacking::list::Error>(())
+    /// ```
     pub fn and_not(self, other: impl Into<Query<'a>>) -> Self {
         Query { node: Node::Without(Box::new([self, other.into()])) }
     }
 
-    /// A cursor at the first value. Unpacks the first block of each list, and those on the way to that value.
+    /// Returns a cursor at the first value. Unpacks the first block of each list, and the blocks on the way to that value.
     ///
     /// # Errors
     ///
     /// `BadKind`, if a list is plain.
+    ///
+    /// ```
+    /// use bitpacking::list::{encode, Error, Kind, PackedList, Query};
+    ///
+    /// let bytes = [encode(Kind::StrictlySorted, &[1, 4, 6, 9])?, encode(Kind::Plain, &[4, 6, 7])?];
+    /// let [ids, counts] = [PackedList::open(&bytes[0])?, PackedList::open(&bytes[1])?];
+    /// assert_eq!(Query::from(ids).cursor()?.value(), Some(1));
+    /// assert_eq!(Query::from(counts).cursor().err(), Some(Error::BadKind));
+    /// # Ok::<(), Error>(())
+    /// ```
     pub fn cursor(&self) -> Result<QueryCursor<'a>, Error> {
         let started = |queries: &[Query<'a>]| queries.iter().map(Query::cursor).collect::<Result<Vec<_>, _>>();
         Ok(match &self.node {
@@ -148,7 +204,7 @@ operator!(BitAnd bitand and);
 operator!(BitOr bitor or);
 operator!(Sub sub and_not);
 
-/// A place in the values of a [`Query`], which only moves forward. As an iterator it yields the values from here on.
+/// A position in the values of a [`Query`] that only moves forward. As an iterator it yields the values from here on.
 ///
 /// However it is moved, it unpacks each block of a list at most once.
 #[derive(Clone)]
@@ -167,13 +223,33 @@ enum Walk<'a> {
 }
 
 impl QueryCursor<'_> {
-    /// The value here, or `None` after the last.
+    /// Returns the value here, or `None` after the last.
+    ///
+    /// ```
+    /// use bitpacking::list::{encode, Kind, PackedList};
+    ///
+    /// let bytes = [encode(Kind::StrictlySorted, &[1, 4, 6, 9])?, encode(Kind::StrictlySorted, &[4, 6, 7])?];
+    /// let [cats, dogs] = [PackedList::open(&bytes[0])?, PackedList::open(&bytes[1])?];
+    /// let either = (&cats | &dogs).cursor()?;
+    /// assert_eq!(either.value(), Some(1));
+    /// # Ok::<(), bitpacking::list::Error>(())
+    /// ```
     #[inline]
     pub fn value(&self) -> Option<u32> {
         self.value
     }
 
     /// Moves to the next value, and returns it. After the last value it stays.
+    ///
+    /// ```
+    /// use bitpacking::list::{encode, Kind, PackedList};
+    ///
+    /// let bytes = [encode(Kind::StrictlySorted, &[1, 4, 6, 9])?, encode(Kind::StrictlySorted, &[4, 6, 7])?];
+    /// let [cats, dogs] = [PackedList::open(&bytes[0])?, PackedList::open(&bytes[1])?];
+    /// let mut either = (&cats | &dogs).cursor()?;
+    /// assert_eq!((either.advance(), either.value()), (Some(4), Some(4)));
+    /// # Ok::<(), bitpacking::list::Error>(())
+    /// ```
     pub fn advance(&mut self) -> Option<u32> {
         let here = self.value?;
         self.value = match &mut self.walk {
@@ -195,6 +271,16 @@ impl QueryCursor<'_> {
     }
 
     /// Moves to the first value from here on that is at least `target`, and returns it; or to the end, if there is none.
+    ///
+    /// ```
+    /// use bitpacking::list::{encode, Kind, PackedList};
+    ///
+    /// let bytes = [encode(Kind::StrictlySorted, &[1, 4, 6, 9])?, encode(Kind::StrictlySorted, &[4, 6, 7])?];
+    /// let [cats, dogs] = [PackedList::open(&bytes[0])?, PackedList::open(&bytes[1])?];
+    /// let mut either = (&cats | &dogs).cursor()?;
+    /// assert_eq!((either.seek(7), either.seek(8), either.seek(10)), (Some(7), Some(9), None));
+    /// # Ok::<(), bitpacking::list::Error>(())
+    /// ```
     pub fn seek(&mut self, target: u32) -> Option<u32> {
         if self.value? >= target {
             return self.value;
@@ -248,7 +334,7 @@ fn next_above(cursor: &mut Cursor<'_>, here: u32) -> Option<u32> {
     }
 }
 
-/// Moves all cursors to the first value that they share, and returns it. Each seeks the value of another.
+/// Moves all cursors to the first value that they share, and returns it. They leapfrog: each seeks the value of another.
 fn first_shared(cursors: &mut [QueryCursor<'_>]) -> Option<u32> {
     let mut wanted = cursors.first()?.value?;
     let mut same = 1;
@@ -301,7 +387,7 @@ fn least(heads: &BinaryHeap<Reverse<Head<'_>>>) -> Option<u32> {
     heads.peek().and_then(|Reverse(head)| head.0.value)
 }
 
-/// Moves the cursors with these values, and takes away those that are then at their end.
+/// Moves the cursors with these values, and removes the ones that are then at their end.
 fn move_heads(
     heads: &mut BinaryHeap<Reverse<Head<'_>>>,
     is_moved: impl Fn(u32) -> bool,

@@ -13,8 +13,8 @@ fn counted(function: Count, lists: &[PackedList<'_>]) -> Result<usize, Error> {
     count(function, lists).map_err(|number| error::named(number, None))
 }
 
-/// These values, in a vector that keeps at most as much room again, and 32 places: to give back less takes longer than to combine short
-/// lists. A short answer is copied. If the room shrank in its place instead, the next call could not use its memory again.
+/// Returns these values in a vector with at most as much room again, and room for 32 more: to free less takes longer than to combine short
+/// lists. A short result is copied. If the vector shrank instead, the next call could not use its memory again.
 pub(super) fn fitted<T: Copy>(values: Vec<T>) -> Vec<T> {
     if values.capacity() > 2 * values.len() + 32 {
         values.as_slice().to_vec()
@@ -23,14 +23,14 @@ pub(super) fn fitted<T: Copy>(values: Vec<T>) -> Vec<T> {
     }
 }
 
-/// A vector of what a call replaces the values of one by.
+/// Returns a vector whose values a call has written.
 fn made(call: impl FnOnce(&mut Vec<u32>) -> Result<(), Error>) -> Result<Vec<u32>, Error> {
     let mut values = Vec::new();
     call(&mut values)?;
     Ok(fitted(values))
 }
 
-/// The values that are in every list, in increasing order and each once. Of no lists there are none.
+/// Returns the values that are in every list, in increasing order and each once. Of no lists there are none.
 ///
 /// The lists may be of different packers, versions and kinds. Short lists are walked, and long ones are searched.
 ///
@@ -41,8 +41,8 @@ fn made(call: impl FnOnce(&mut Vec<u32>) -> Result<(), Error>) -> Result<Vec<u32
 /// ```
 /// use bitpacking::list::{encode, intersect, Kind, PackedList};
 ///
-/// let texts = [encode(Kind::Sorted, &[1, 4, 4, 9])?, encode(Kind::Sorted, &[4, 5, 9])?];
-/// let lists = [PackedList::open(&texts[0])?, PackedList::open(&texts[1])?];
+/// let bytes = [encode(Kind::Sorted, &[1, 4, 4, 9])?, encode(Kind::Sorted, &[4, 5, 9])?];
+/// let lists = [PackedList::open(&bytes[0])?, PackedList::open(&bytes[1])?];
 /// assert_eq!(intersect(&lists)?, [4, 9]);
 /// # Ok::<(), bitpacking::list::Error>(())
 /// ```
@@ -50,18 +50,18 @@ pub fn intersect(lists: &[PackedList<'_>]) -> Result<Vec<u32>, Error> {
     made(|values| intersect_into(lists, values))
 }
 
-/// Replaces the values of a vector by those that [`intersect`] returns. The vector keeps its memory, which many queries in turn can use,
+/// Replaces the values of a vector by those that [`intersect`] returns. The vector retains its memory, which many queries in turn can use,
 /// and grows to the length of the shortest list if it is smaller.
 ///
 /// # Errors
 ///
-/// As [`intersect`]. The vector then has the values that it had.
+/// As [`intersect`]. The values of the vector are then unchanged.
 ///
 /// ```
 /// use bitpacking::list::{encode, intersect_into, Kind, PackedList};
 ///
-/// let texts = [encode(Kind::Sorted, &[1, 4, 4, 9])?, encode(Kind::Sorted, &[4, 5, 9])?];
-/// let (one, other) = (PackedList::open(&texts[0])?, PackedList::open(&texts[1])?);
+/// let bytes = [encode(Kind::Sorted, &[1, 4, 4, 9])?, encode(Kind::Sorted, &[4, 5, 9])?];
+/// let (one, other) = (PackedList::open(&bytes[0])?, PackedList::open(&bytes[1])?);
 /// let mut ids = Vec::new();
 /// for lists in [[one, other], [one, one]] {
 ///     intersect_into(&lists, &mut ids)?;
@@ -75,7 +75,8 @@ pub fn intersect_into(lists: &[PackedList<'_>], values: &mut Vec<u32>) -> Result
     combined(best().lists.intersect, lists, shortest, values)
 }
 
-/// How many values [`intersect`] returns. Nothing is allocated: it takes about 6 KB of stack, and up to twice the time of [`intersect`].
+/// Returns how many values [`intersect`] returns. Allocates nothing: it needs about 6 KB of stack, and up to twice the time of
+/// [`intersect`].
 ///
 /// # Errors
 ///
@@ -84,8 +85,8 @@ pub fn intersect_into(lists: &[PackedList<'_>], values: &mut Vec<u32>) -> Result
 /// ```
 /// use bitpacking::list::{encode, intersect_len, Kind, PackedList};
 ///
-/// let texts = [encode(Kind::Sorted, &[1, 4, 4, 9])?, encode(Kind::Sorted, &[4, 5, 9])?];
-/// let lists = [PackedList::open(&texts[0])?, PackedList::open(&texts[1])?];
+/// let bytes = [encode(Kind::Sorted, &[1, 4, 4, 9])?, encode(Kind::Sorted, &[4, 5, 9])?];
+/// let lists = [PackedList::open(&bytes[0])?, PackedList::open(&bytes[1])?];
 /// assert_eq!(intersect_len(&lists)?, 2);
 /// # Ok::<(), bitpacking::list::Error>(())
 /// ```
@@ -93,8 +94,8 @@ pub fn intersect_len(lists: &[PackedList<'_>]) -> Result<usize, Error> {
     counted(best().lists.count_common, lists)
 }
 
-/// The values that are in at least one list, in increasing order and each once. The lists may be in any order. A few are merged, the
-/// shortest first; the values of many are sorted, or set bits if they are dense, so the time is never quadratic.
+/// Returns the values that are in at least one list, in increasing order and each once. The lists may be in any order. A few are merged,
+/// the shortest first; the values of many are sorted, or set bits if they are dense, so the time is never quadratic.
 ///
 /// # Errors
 ///
@@ -103,8 +104,8 @@ pub fn intersect_len(lists: &[PackedList<'_>]) -> Result<usize, Error> {
 /// ```
 /// use bitpacking::list::{encode, union, Kind, PackedList};
 ///
-/// let texts = [encode(Kind::Sorted, &[1, 4, 4, 9])?, encode(Kind::Sorted, &[4, 5, 9])?];
-/// let lists = [PackedList::open(&texts[0])?, PackedList::open(&texts[1])?];
+/// let bytes = [encode(Kind::Sorted, &[1, 4, 4, 9])?, encode(Kind::Sorted, &[4, 5, 9])?];
+/// let lists = [PackedList::open(&bytes[0])?, PackedList::open(&bytes[1])?];
 /// assert_eq!(union(&lists)?, [1, 4, 5, 9]);
 /// # Ok::<(), bitpacking::list::Error>(())
 /// ```
@@ -112,19 +113,19 @@ pub fn union(lists: &[PackedList<'_>]) -> Result<Vec<u32>, Error> {
     made(|values| union_into(lists, values))
 }
 
-/// Replaces the values of a vector by those that [`union`] returns. The vector keeps its memory, and grows to the sum of the lengths if
+/// Replaces the values of a vector by those that [`union`] returns. The vector retains its memory, and grows to the sum of the lengths if
 /// it is smaller.
 ///
 /// # Errors
 ///
-/// As [`union`]. The vector then has the values that it had.
+/// As [`union`]. The values of the vector are then unchanged.
 ///
 /// ```
 /// use bitpacking::list::{encode, union_into, Kind, PackedList};
 ///
-/// let texts = [encode(Kind::Sorted, &[1, 4, 4, 9])?, encode(Kind::Sorted, &[4, 5, 9])?];
+/// let bytes = [encode(Kind::Sorted, &[1, 4, 4, 9])?, encode(Kind::Sorted, &[4, 5, 9])?];
 /// let mut ids = vec![7, 8];
-/// union_into(&[PackedList::open(&texts[0])?, PackedList::open(&texts[1])?], &mut ids)?;
+/// union_into(&[PackedList::open(&bytes[0])?, PackedList::open(&bytes[1])?], &mut ids)?;
 /// assert_eq!(ids, [1, 4, 5, 9]);
 /// # Ok::<(), bitpacking::list::Error>(())
 /// ```
@@ -135,7 +136,7 @@ pub fn union_into(lists: &[PackedList<'_>], values: &mut Vec<u32>) -> Result<(),
     combined(best().lists.unite, &lists, lists.iter().map(PackedList::len).sum(), values)
 }
 
-/// How many values [`union`] returns. Nothing is allocated: it takes about 60 KB of stack. For a few long lists it is faster than
+/// Returns how many values [`union`] returns. Allocates nothing: it needs about 60 KB of stack. For a few long lists it is faster than
 /// [`union`], and for thousands of short ones many times slower.
 ///
 /// # Errors
@@ -145,8 +146,8 @@ pub fn union_into(lists: &[PackedList<'_>], values: &mut Vec<u32>) -> Result<(),
 /// ```
 /// use bitpacking::list::{encode, union_len, Kind, PackedList};
 ///
-/// let texts = [encode(Kind::Sorted, &[1, 4, 4, 9])?, encode(Kind::Sorted, &[4, 5, 9])?];
-/// let lists = [PackedList::open(&texts[0])?, PackedList::open(&texts[1])?];
+/// let bytes = [encode(Kind::Sorted, &[1, 4, 4, 9])?, encode(Kind::Sorted, &[4, 5, 9])?];
+/// let lists = [PackedList::open(&bytes[0])?, PackedList::open(&bytes[1])?];
 /// assert_eq!(union_len(&lists)?, 4);
 /// # Ok::<(), bitpacking::list::Error>(())
 /// ```
@@ -154,7 +155,7 @@ pub fn union_len(lists: &[PackedList<'_>]) -> Result<usize, Error> {
     counted(best().lists.count_any, lists)
 }
 
-/// The values of the first list that are in none of the others, in increasing order and each once. Of no lists there are none.
+/// Returns the values of the first list that are in none of the others, in increasing order and each once. Of no lists there are none.
 ///
 /// # Errors
 ///
@@ -163,8 +164,8 @@ pub fn union_len(lists: &[PackedList<'_>]) -> Result<usize, Error> {
 /// ```
 /// use bitpacking::list::{difference, encode, Kind, PackedList};
 ///
-/// let texts = [encode(Kind::Sorted, &[1, 4, 4, 9])?, encode(Kind::Sorted, &[4, 5])?, encode(Kind::Sorted, &[1, 2])?];
-/// let lists = [PackedList::open(&texts[0])?, PackedList::open(&texts[1])?, PackedList::open(&texts[2])?];
+/// let bytes = [encode(Kind::Sorted, &[1, 4, 4, 9])?, encode(Kind::Sorted, &[4, 5])?, encode(Kind::Sorted, &[1, 2])?];
+/// let lists = [PackedList::open(&bytes[0])?, PackedList::open(&bytes[1])?, PackedList::open(&bytes[2])?];
 /// assert_eq!(difference(&lists)?, [9]);
 /// # Ok::<(), bitpacking::list::Error>(())
 /// ```
@@ -172,19 +173,19 @@ pub fn difference(lists: &[PackedList<'_>]) -> Result<Vec<u32>, Error> {
     made(|values| difference_into(lists, values))
 }
 
-/// Replaces the values of a vector by those that [`difference`] returns. The vector keeps its memory, and grows to the length of the
+/// Replaces the values of a vector by those that [`difference`] returns. The vector retains its memory, and grows to the length of the
 /// first list if it is smaller.
 ///
 /// # Errors
 ///
-/// As [`difference`]. The vector then has the values that it had.
+/// As [`difference`]. The values of the vector are then unchanged.
 ///
 /// ```
 /// use bitpacking::list::{difference_into, encode, Kind, PackedList};
 ///
-/// let texts = [encode(Kind::Sorted, &[1, 4, 4, 9])?, encode(Kind::Sorted, &[4, 5])?];
+/// let bytes = [encode(Kind::Sorted, &[1, 4, 4, 9])?, encode(Kind::Sorted, &[4, 5])?];
 /// let mut ids = vec![7, 8];
-/// difference_into(&[PackedList::open(&texts[0])?, PackedList::open(&texts[1])?], &mut ids)?;
+/// difference_into(&[PackedList::open(&bytes[0])?, PackedList::open(&bytes[1])?], &mut ids)?;
 /// assert_eq!(ids, [1, 9]);
 /// # Ok::<(), bitpacking::list::Error>(())
 /// ```
@@ -192,15 +193,15 @@ pub fn difference_into(lists: &[PackedList<'_>], values: &mut Vec<u32>) -> Resul
     combined(best().lists.subtract, lists, lists.first().map_or(0, PackedList::len), values)
 }
 
-/// A list combined with the values of a vector, which have to increase: with an answer, so that it is combined further and is not packed
-/// for that.
+/// A list combined with the values of a vector, which have to increase: so the result of another call is combined further without packing
+/// it.
 impl PackedList<'_> {
     /// Removes from a vector the values that this list does not have.
     ///
     /// # Errors
     ///
     /// The first of: `NotSorted`, with the position of the first value that is not above the one before it; `BadKind`, if the list is
-    /// plain. The vector then has the values that it had.
+    /// plain. The values of the vector are then unchanged.
     ///
     /// ```
     /// use bitpacking::list::{encode, Error, Kind, PackedList};
@@ -225,9 +226,9 @@ impl PackedList<'_> {
     /// ```
     /// use bitpacking::list::{encode, intersect, Kind, PackedList};
     ///
-    /// let texts = [encode(Kind::Sorted, &[1, 4, 6, 9])?, encode(Kind::Sorted, &[1, 4, 9])?, encode(Kind::Sorted, &[4, 5])?];
-    /// let (one, other) = (PackedList::open(&texts[0])?, PackedList::open(&texts[1])?);
-    /// let deleted = PackedList::open(&texts[2])?;
+    /// let bytes = [encode(Kind::Sorted, &[1, 4, 6, 9])?, encode(Kind::Sorted, &[1, 4, 9])?, encode(Kind::Sorted, &[4, 5])?];
+    /// let (one, other) = (PackedList::open(&bytes[0])?, PackedList::open(&bytes[1])?);
+    /// let deleted = PackedList::open(&bytes[2])?;
     /// let mut ids = intersect(&[one, other])?;
     /// deleted.remove_from(&mut ids)?;
     /// assert_eq!(ids, [1, 9]);

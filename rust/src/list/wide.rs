@@ -7,7 +7,7 @@ use crate::calls::best;
 const MAX_BASE: u64 = u64::MAX - u32::MAX as u64;
 
 impl PackedList<'_> {
-    /// `base` and the value at a position, or `None` if there is no such position. Unpacks one block at most.
+    /// Returns the sum of `base` and the value at a position, or `None` if there is no such position. Unpacks at most one block.
     ///
     /// # Panics
     ///
@@ -26,7 +26,7 @@ impl PackedList<'_> {
         best().lists.get_wide(&self.view, base, position).unwrap_or_else(|_| too_great(base))
     }
 
-    /// Unpacks all values, with `base` added to each, and returns how many they are. Later places of `values` stay as they were.
+    /// Unpacks all values, with `base` added to each, and returns how many they are. Values after them are unchanged.
     ///
     /// # Panics
     ///
@@ -36,9 +36,9 @@ impl PackedList<'_> {
     /// use bitpacking::list::{encode, Kind, PackedList};
     ///
     /// let bytes = encode(Kind::StrictlySorted, &[7, 9, 10])?;
-    /// let mut places = [0; 3];
-    /// assert_eq!(PackedList::open(&bytes)?.unpack_u64(1 << 40, &mut places), 3);
-    /// assert_eq!(places, [(1 << 40) + 7, (1 << 40) + 9, (1 << 40) + 10]);
+    /// let mut offsets = [0; 3];
+    /// assert_eq!(PackedList::open(&bytes)?.unpack_u64(1 << 40, &mut offsets), 3);
+    /// assert_eq!(offsets, [(1 << 40) + 7, (1 << 40) + 9, (1 << 40) + 10]);
     /// # Ok::<(), bitpacking::list::Error>(())
     /// ```
     pub fn unpack_u64(&self, base: u64, values: &mut [u64]) -> usize {

@@ -41,7 +41,7 @@ fn bounds(list: &PackedList<'_>, values: &[u32], (lanes, version): (u8, Version)
     }
 }
 
-/// Page by page, each after the last position of the one before; and the places after a page stay as they were.
+/// Page by page, each after the last position of the one before; and the items after a page are unchanged.
 fn pages(list: &PackedList<'_>, low: u32, high: u32, room: usize) -> Vec<usize> {
     let (mut found, mut from) = (Vec::new(), 0);
     loop {

@@ -1,4 +1,4 @@
-//! The structs that the functions take are as the header has them: the names of the fields, and their places in C.
+//! The structs that the functions take are as the header has them: the names of the fields, and their offsets in C.
 
 use std::collections::HashMap;
 use std::fs;

@@ -8,7 +8,7 @@ use crate::packers::Table;
 use crate::{BitPacker1x, BitPacker4x, BitPacker8x};
 
 /// The features that the ABI of x86-64 names for x86-64-v2 and x86-64-v3, as Rust and as Linux write them. `lahf_lm` of v2 and
-/// `xsave` of v3 are left out, since Rust cannot ask for them; it takes `avx` only if the system keeps its registers.
+/// `xsave` of v3 are left out, since Rust cannot detect them; it has `avx` only if the system saves its registers.
 const V2: [(&str, &str); 6] = [
     ("cmpxchg16b", "cx16"),
     ("popcnt", "popcnt"),
@@ -157,6 +157,6 @@ fn each_table_has_the_functions_of_its_level() {
         assert_eq!([level.lists.len as usize, level.lists.advance as usize], right[3]);
         found.extend(of_lists(&level.lists));
     }
-    // No function has two places: 6 calls, 3 kinds, 3 packers and 2 more for each, and 24 for lists; at 3 levels.
+    // No function is there twice: 6 calls, 3 kinds, 3 packers and 2 more for each, and 24 for lists; at 3 levels.
     assert_eq!(found.len(), ((6 * 3 + 2) * 3 + 24) * 3);
 }

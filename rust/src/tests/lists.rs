@@ -1,4 +1,4 @@
-//! Lists against plain vectors: written, opened, read and searched; the lists and refused texts of `vectors/`; damaged bytes.
+//! Lists against plain vectors: written, opened, read and searched; the lists and refused bytes of `vectors/`; damaged bytes.
 
 use std::fs;
 
@@ -20,7 +20,7 @@ pub(super) const FORMS: [(u8, Version); 9] = [
 ];
 pub(super) const LENGTHS: [usize; 11] = [0, 1, 2, 31, 32, 33, 127, 128, 255, 256, 1000];
 
-/// The text of values, by a packer and a version. Also tries the other calls of the encoder.
+/// The encoded list of values, by a packer and a version. Also tries the other calls of the encoder.
 pub(super) fn encoded((lanes, version): (u8, Version), kind: Kind, values: &[u32]) -> Result<Vec<u8>, Error> {
     macro_rules! by {
         ($packer:expr) => {{
@@ -163,7 +163,7 @@ fn values_out_of_order_are_refused() {
     });
 }
 
-/// The length comes before the order. The values are zeros that take no memory until they are read.
+/// The length comes before the order. The values are zeros that need no memory until they are read.
 #[test]
 fn too_many_values_are_refused() {
     let values = vec![0; 268_435_457];
@@ -291,7 +291,7 @@ fn texts_of_no_version_or_packer() {
     assert_eq!(PackedList::open(&[]).err(), Some(Error::Short));
 }
 
-/// The text of an opened list is the only one of its values: damaged bytes are refused, or are the text of other values.
+/// The values of an opened list have no other bytes: damaged bytes are refused, or encode other values.
 fn is_refused_or_another(form: (u8, Version), bytes: &[u8]) {
     if let Ok(list) = PackedList::open(bytes) {
         let form = match bytes[0] {
@@ -332,16 +332,16 @@ fn each_error_with_its_number_and_text() {
         (Error::Short, -21, "bytes are missing"),
         (Error::BadVersion, -22, "unsupported version"),
         (Error::BadKind, -23, "the list has none of the three kinds, or is plain, and a plain list has no order"),
-        (Error::WrongLanes, -24, "no packer has as many lanes as the text"),
+        (Error::WrongLanes, -24, "no packer has as many lanes as the list"),
         (Error::TooLong, -25, "there are more than 268435456 values"),
         (Error::BadWidth, -26, "a block has a width above 32"),
         (Error::LooseWidth, -27, "a block has a width or a size, and a smaller one holds it"),
         (Error::BadOffset, -28, "a block does not begin at the end of the one before it, or is too long"),
-        (Error::BadLast, -29, "the last or the least value of a block is not the one that the text gives"),
+        (Error::BadLast, -29, "the last or the least value of a block is not the one in its skip entry"),
         (Error::NotSorted { position: Some(7) }, -30, "the value at position 7 is out of order"),
         (Error::NotSorted { position: None }, -30, "a value is out of order"),
         (Error::Trailing, -31, "bytes are left over after the last value"),
-        (Error::BadNumber, -33, "a number does not have its only form"),
+        (Error::BadNumber, -33, "a varint does not have its only form"),
         (Error::Padding, -34, "a bit is set after the last code of a group"),
         (Error::BadSizes, -36, "the ends or the marks do not have the least count of bytes"),
         (Error::BadBits, -37, "a set of bits is not the one of its block"),

@@ -8,7 +8,7 @@ use crate::list::{encode, Error, Kind, PackedList, Query, QueryCursor};
 
 type Set = BTreeSet<u32>;
 
-/// The texts of some lists, and their values.
+/// The bytes of some lists, and their values.
 fn some_lists(numbers: &mut Numbers) -> (Vec<Vec<u8>>, Vec<Set>) {
     let mut lists = (Vec::new(), Vec::new());
     for _ in 0..5 {

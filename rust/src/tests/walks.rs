@@ -85,7 +85,7 @@ fn steps_past_the_end() {
     });
 }
 
-/// A cursor is where it should be. The block at hand is not empty before the end.
+/// A cursor is where it should be. The current block is not empty before the end.
 fn is_at(cursor: &Cursor<'_>, values: &[u32], position: usize) {
     assert_eq!((cursor.position(), cursor.value()), (position, values.get(position).copied()));
     let block = cursor.block();

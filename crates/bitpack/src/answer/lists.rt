@@ -32,7 +32,7 @@ pub(crate) fn answer_enc<P: BitPacker>(
     }
 }
 
-/// Whether byte 0 names version 2. All other bytes are read as a text of version 1.
+/// Whether byte 0 names version 2. All other bytes are read as a version 1 list.
 fn is_version_2(bytes: &[u8]) -> bool
     ensures { result ≡ (slice_index bytes.now 0 == 2) }
 {

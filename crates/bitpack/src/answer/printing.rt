@@ -1,4 +1,5 @@
-//! Answers are put into the output. Values are put one by one, so that a long list needs no memory beside its values.
+//! Writes answers into the output. Values are written one by one, so that a long list needs no memory beside its
+//! values.
 
 ghost use Rattle.std.specs.Prelude.{◌≡◌, [], ◌∷◌, ◌++◌, OnOk, OnErr, IfErr};
 ghost use Rattle.std.specs.Fmt.{decimal};
@@ -71,7 +72,7 @@ fn put_list<W: Write>(
     put_values(output, writer, values)
 }
 
-/// Puts an answer, without its line feed.
+/// Writes an answer, without its line feed.
 pub(crate) fn put_answer<W: Write>(
     output: &mut Output,
     writer: &mut W,

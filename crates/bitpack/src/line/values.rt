@@ -27,7 +27,7 @@ fn parse_item(string: &str) -> Option<Item>
     }
 }
 
-/// Appends the values of an item, unless that gives too many.
+/// Appends the values of an item, unless these are too many.
 fn push_item(values: &mut Vec<u32>, string: &str) -> Result<(), ParseError>
     requires { vec_len values.old ≤ LINE_LIMIT }
     ensures { Parses (λ _. values.new.items) (AddsItem string.now values.old.items) result }

@@ -1,4 +1,4 @@
--- Lemmas of what all versions share: parts of a text, whole blocks, entries, widths and order.
+-- Lemmas of what all versions share: parts of an encoded list, whole blocks, skip entries, widths and order.
 pub mod BlockLemmas
 pub mod BlockValues
 pub mod ChainLemmas

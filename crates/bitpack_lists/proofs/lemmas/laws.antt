@@ -1,4 +1,4 @@
--- Lemmas of the laws, and texts worked by hand.
+-- Lemmas of the laws, and encoded lists worked by hand.
 pub mod Distinct
 pub mod Existence2
 pub mod Existence3

@@ -1,6 +1,4 @@
--- Lemmas of version 4: its bit sets; its blocks, measured and written.
--- Lemmas of version 4: its header, its bit sets.
--- Lemmas of version 4: its short numbers, headers, bit sets, bodies and texts.
+-- Lemmas of version 4: its short integers, headers, bit sets, bodies and lists, measured and written.
 pub mod BitCounts
 pub mod BitGaps
 pub mod BitLaws

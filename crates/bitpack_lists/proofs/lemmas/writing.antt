@@ -1,4 +1,4 @@
--- Lemmas of writing: texts by their plans.
+-- Lemmas of writing: encoded lists by their plans.
 pub mod FillSteps
 pub mod PlannedTexts
 pub mod WrittenPlans

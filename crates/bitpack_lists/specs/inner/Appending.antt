@@ -9,13 +9,14 @@ use Rattle.bitpack_lists.specs.declared.version.Version.{Version}
 use Rattle.bitpack_lists.specs.Newest.{IsWritten}
 use Rattle.bitpack_lists.specs.Version2.{first_out}
 
--- the part follows the items that there were, and no room is given back
+-- the part follows the items that there were, and the vector does not shrink
 pub record HasAppended {X A : Type 0} (old new : Vec X A) (part : List X) : Type 0 where
   pub items : new.items ≡ old.items ++ part
   pub len : vec_len new ≡ vec_len old + length part
   pub capacity : vec_capacity old ≤ vec_capacity new
 
--- the text of the values is appended; or they are refused for their first fault, or memory ran out for want of room, and nothing changed
+-- the encoded list of the values is appended; or they are refused for their first fault, or there is no room and memory ran out, and
+-- nothing changed
 pub record AppendsOne {X A : Type 0} (Is : List ℕ → Type 0) (kind : ListKind) (values : List ℕ) (result : Result X ListError)
     (old new : Vec ℕ A) : Type 0 where
   pub ok : OnOk result ((text : List ℕ) × AreBytes text × Is text × (new.items ≡ old.items ++ text))
@@ -26,6 +27,6 @@ pub record AppendsOne {X A : Type 0} (Is : List ℕ → Type 0) (kind : ListKind
   pub unchanged : OnErr result (new.items ≡ old.items)
   pub kept : OnErr result (vec_capacity new ≡ vec_capacity old)
 
--- the text of a version
+-- the encoded list of a version
 abbrev pub AppendsText : {X A : Type 0} → Version → ℕ → ListKind → List ℕ → Result X ListError → Vec ℕ A → Vec ℕ A → Type 0
 AppendsText version lanes kind values = AppendsOne (IsWritten version lanes kind values) kind values

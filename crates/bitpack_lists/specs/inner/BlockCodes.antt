@@ -1,4 +1,4 @@
--- What a block of an opened list has in place of its values.
+-- What a block of an opened list has instead of its values.
 use Rattle.std.specs.Prelude.{ℕ, List}
 use Rattle.bitpacking.specs.declared.bit_packer.BitPacker.{Ghosts}
 use Rattle.bitpacking.specs.Layout.{codes_of}

@@ -1,4 +1,4 @@
--- What one read of a text returns, and how it counts.
+-- What one read of a list returns, and how it counts.
 use Rattle.std.specs.Prelude.{◌≡◌, ℕ, ◌+◌, ◌^◌, ◌<◌, ◌≤◌, List, length}
 use Rattle.bitpacking.specs.declared.kind.Kind.{Kind}
 use Rattle.bitpacking.specs.Codes.{start}
@@ -6,13 +6,13 @@ use Rattle.bitpack_lists.specs.declared.blocks.reads.Entry.{Entry}
 use Rattle.bitpack_lists.specs.declared.blocks.reads.Reads.{Reads}
 use Rattle.bitpack_lists.specs.Version2.{last_at, offset_at, width_at}
 
--- the entry of a block
+-- the skip entry of a block
 pub record IsEntryOf (rest : List ℕ) (block : ℕ) (entry : Entry) : Type 0 where
   pub width : entry.width ≡ width_at rest block
   pub offset : entry.offset ≡ offset_at rest block
   pub last : entry.last ≡ last_at rest block
 
--- one entry or mark more was read
+-- one more skip entry or mark was read
 pub record ReadsEntry (old new : Reads) : Type 0 where
   pub entries : new.entries ≡ old.entries + 1
   pub blocks : new.blocks ≡ old.blocks

@@ -1,4 +1,4 @@
--- What is kept of a list while its values at many positions are read.
+-- The cached block of a list while its values at many positions are read.
 use Rattle.std.specs.Prelude.{ℕ, ◌≤◌, List}
 use Rattle.bitpacking.specs.declared.bit_packer.BitPacker.{Ghosts}
 use Rattle.bitpack_lists.specs.declared.opened.KeptBlock.{KeptBlock}
@@ -11,6 +11,6 @@ module _ {P : Type 0} {members : Ghosts P} (list : PackedList P members) where
   abbrev pub HoldsBlock : ℕ → List ℕ → Type 0
   HoldsBlock number at_hand = (len : ℕ) × IsBlockOf members.lanes (values list) number len at_hand
 
-  -- so do those that are kept, unless they have the number of no block
+  -- so do the cached ones, unless they have the number of no block
   abbrev pub IsHeld : KeptBlock → Type 0
   IsHeld kept = kept.number ≤ blocks_of list → HoldsBlock kept.number kept.values

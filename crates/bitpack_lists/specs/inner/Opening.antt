@@ -1,4 +1,4 @@
--- What inner functions know of a text of version 2 that they test or write.
+-- What inner functions know of a version 2 list that they test or write.
 use Rattle.std.specs.Prelude.{◌≡◌, ℕ, ◌+◌, ◌-◌, ◌*◌, ◌<◌, Bool, true, false, nat_lt, nat_le, List, ◌∷◌, length, slice_index, None, Some, ⊤}
 use Rattle.bitpacking.specs.declared.kind.Kind.{Kind}
 use Rattle.bitpacking.specs.declared.kind.Kind.TheVariants.{Plain, Sorted, StrictlySorted}
@@ -33,7 +33,7 @@ IsRising (Sorted initial) values = NeverFalls false (initial ∷ values)
 IsRising (StrictlySorted None) values = NeverFalls true values
 IsRising (StrictlySorted (Some initial)) values = NeverFalls true (initial ∷ values)
 
--- the entries of the first `blocks` blocks are right
+-- the skip entries of the first `blocks` blocks are right
 abbrev pub AreEntries : ℕ → ℕ → ListKind → List ℕ → List ℕ → Type 0
 AreEntries lanes blocks kind values rest = (block : ℕ) → block < blocks → IsEntry2 lanes kind values rest block
 

@@ -1,4 +1,4 @@
--- What inner functions know of a text of version 4 that they test.
+-- What inner functions know of version 4 bytes that they test.
 use Rattle.std.specs.Prelude.{◌≡◌, ℕ, ◌+◌, ◌-◌, ◌*◌, ◌^◌, ◌<◌, ◌≤◌, false, nat_lt, ◌==◌, List, length, slice_index, Option, drop, None, Some, ⊤}
 use Rattle.bitpacking.specs.declared.kind.Kind.{Kind}
 use Rattle.bitpacking.specs.declared.kind.Kind.TheVariants as blocks
@@ -46,7 +46,7 @@ pub record AreTested (lanes blocks : ℕ) (list : ListKind) (rest : List ℕ) (u
   pub out_is : (later : ℕ → ℕ)
       → out ≡ least_below (is_out list (value_in_parts lanes blocks (block_at4 lanes blocks list rest) later)) (32 * lanes * upto)
 
--- the bytes have no fault, and this is what the text states: its kind and count, and where its header and its blocks end
+-- the bytes have no fault, and this is what they state: the kind and count, and where the header and the blocks end
 pub record IsStated4 (lanes : ℕ) (bytes : List ℕ) (text : StatedText) : Type 0 where
   pub none : fault4 lanes bytes ≡ None
   pub kind : text.header.kind ≡ kind4 bytes

@@ -1,4 +1,4 @@
--- What is known of a text before it is written: in an older version, or in version 4.
+-- What is known of an encoded list before it is written: in an older version, or in version 4.
 use Rattle.std.specs.Prelude.{◌≡◌, ℕ, ◌*◌, ◌^◌, ◌≤◌, Bool, true, false, List, length, take, Option, Some, None, Result, IfOk}
 use Rattle.bitpack_lists.specs.declared.list_error.ListError.{ListError}
 use Rattle.bitpack_lists.specs.declared.list_kind.ListKind.{ListKind}
@@ -21,7 +21,7 @@ use Rattle.bitpack_lists.specs.inner.Sizes4.{AreKept, IsMeasured, IsPlanned4}
 use Rattle.bitpack_lists.specs.inner.Sources.{IsOnly, IsSource, IsSourceIn, all_of}
 use Rattle.bitpack_lists.specs.declared.v4.source.Source.{Source}
 
--- values without a fault that were measured, and the least widths of the first blocks after those that stay, which were kept
+-- values without a fault that were measured, and the cached least widths of the first blocks after those that stay
 pub record AreReady4 (lanes : ℕ) (source : Source) (widths : List ℕ) (sum most : ℕ) : Type 0 where
   pub source_is : IsSource lanes source
   pub right : values_fault source.kind (all_of lanes source) ≡ None
@@ -43,7 +43,7 @@ pub record PlansOne {A : Type 0} (IsPlan : A → Type 0) (kind : ListKind) (valu
   pub fault : FindsFault result (values_fault kind values)
   pub plan : IfOk result IsPlan
 
--- the plan of a text of an older version: its header and its tail are the first bytes of `front` and `last`
+-- the plan of a list of an older version: its header and its tail are the first bytes of `front` and `last`
 pub record PlansOlder (version : OlderVersion) (lanes : ℕ) (kind : ListKind) (values : List ℕ) (plan : older.Plan) (widths front last : List ℕ) : Type 0 where
   pub planned : IsPlanned version lanes kind values (take plan.header front) (take plan.tail last) plan.size
   pub ready : AreReady lanes kind values widths
@@ -51,7 +51,7 @@ pub record PlansOlder (version : OlderVersion) (lanes : ℕ) (kind : ListKind) (
   pub header : plan.header ≤ length front
   pub tail : plan.tail ≤ length last
 
--- the plan of a text of version 4; its blocks are packed from one on
+-- the plan of a version 4 list; its blocks are packed from one on
 pub record Plans4 (lanes : ℕ) (kind : ListKind) (values : List ℕ) (from : ℕ) (plan : newest.Plan) (widths front last : List ℕ) : Type 0 where
   pub planned : IsPlanned4 lanes kind values (take plan.header front) (take plan.tail last) plan.measured.total plan.measured.greatest plan.size
   pub kept : AreKept lanes kind values from widths
@@ -59,24 +59,24 @@ pub record Plans4 (lanes : ℕ) (kind : ListKind) (values : List ℕ) (from : �
   pub header : plan.header ≤ length front
   pub tail : plan.tail ≤ length last
 
--- the older version in which a text is written; in version 4 a list that is shorter than a block is written in version 3
+-- the older version in which a list is written; in version 4 a list that is shorter than a block is written in version 3
 abbrev pub older_in : Version → Bool → Option OlderVersion
 older_in versions.Two is_short = Some olders.Two
 older_in versions.Three is_short = Some olders.Three
 older_in versions.Four true = Some olders.Three
 older_in versions.Four false = None
 
--- the text of an older version
+-- the encoded list of an older version
 abbrev pub IsOlderText : OlderVersion → ℕ → ListKind → List ℕ → List ℕ → Type 0
 IsOlderText olders.Two = List2
 IsOlderText olders.Three = List3
 
--- the text of either form
+-- the encoded list of either form
 abbrev pub IsTextIn : Form → ℕ → ListKind → List ℕ → List ℕ → Type 0
 IsTextIn (forms.Older version) = IsOlderText version
 IsTextIn (forms.Newest measured) = List4
 
--- its header and its tail, and what is kept of the values
+-- its header and its tail, and what is cached of the values
 abbrev pub IsPlannedIn : Form → ℕ → Source → List ℕ → List ℕ → List ℕ → ℕ → Type 0
 IsPlannedIn (forms.Older version) lanes source widths front tail size =
     IsOnly source × AreReady lanes source.kind (all_of lanes source) widths
@@ -85,7 +85,7 @@ IsPlannedIn (forms.Newest measured) lanes source widths front tail size =
     (32 * lanes ≤ length (all_of lanes source)) × AreKept lanes source.kind (all_of lanes source) source.blocks widths
     × IsPlanned4 lanes source.kind (all_of lanes source) front tail measured.total measured.greatest size
 
--- the plan of the text that is written in a version
+-- the plan of the list that is written in a version
 pub record PlansText (version : Version) (lanes : ℕ) (source : Source) (plan : Plan) (widths front last : List ℕ) : Type 0 where
   pub to : (text : List ℕ) → IsTextIn plan.form lanes source.kind (all_of lanes source) text → IsWritten version lanes source.kind (all_of lanes source) text
   pub from : (text : List ℕ) → IsWritten version lanes source.kind (all_of lanes source) text → IsTextIn plan.form lanes source.kind (all_of lanes source) text

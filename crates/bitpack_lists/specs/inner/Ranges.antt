@@ -13,7 +13,7 @@ use Rattle.bitpack_lists.specs.inner.Searching.{blocks_of, value_of}
 abbrev pub passing : (ℕ → Bool) → ℕ → ℕ → List ℕ
 passing test from count = filter test (range_with_len from count)
 
--- a function gives these values at the positions from one on
+-- a function returns these values at the positions from one on
 abbrev pub IsAt : (ℕ → ℕ) → ℕ → List ℕ → Type 0
 IsAt value start values = (k : ℕ) → k < length values → value (start + k) ≡ slice_index values k
 
@@ -42,7 +42,7 @@ module _ {P : Type 0} {members : Ghosts P} (list : PackedList P members) where
     pub each : (k : ℕ) → k < 32 * members.lanes → value_of list (32 * members.lanes * block + k) ≤ greatest
     pub last : list.kind ≢ lists.Plain → greatest ≡ value_of list (32 * members.lanes * block + (32 * members.lanes - 1))
 
-  -- at most one entry or mark was read for such a bound
+  -- at most one skip entry or mark was read for such a bound
   pub record FindsLeast (block found : ℕ) (old new : Reads) : Type 0 where
     pub least : IsLeast block found
     pub reads : ReadsFew 1 old new

@@ -1,4 +1,4 @@
--- What readers know of the rest of a text of version 4.
+-- What readers know of version 4 bytes after the header.
 use Rattle.std.specs.Prelude.{ℕ, ◌^◌, ◌<◌, ◌≤◌, List, length}
 use Rattle.bitpack_lists.specs.Version4.{begin_at, bodies_start, end_at, end_len, mark_len, size_at, tail_start4}
 

@@ -21,7 +21,7 @@ pub record UnpacksOne (old new : Reads) : Type 0 where
   pub blocks : new.blocks ≤ old.blocks + 1
   pub grown : HasGrown old new
 
--- a search that begins at a number and ends at another reads two marks each time that the distance doubles, and one
+-- a search that gallops from a number to another reads two marks each time that the distance doubles, and one
 pub record IsNear (from to old new : ℕ) : Type 0 where
   pub doubled : ℕ
   pub far : from + 2 ^ doubled ≤ to + 1
@@ -73,23 +73,23 @@ module _ {P : Type 0} {members : Ghosts P} (list : PackedList P members) where
     pub before : EndsBelow target (number_or_all found)
     pub enough : number_or_all found < blocks_of list → target ≤ mark_of_list (number_or_all found)
 
-  -- what is kept is the block of its number, if the list has one
+  -- what is cached is the block of its number, if the list has one
   abbrev pub IsKept : KeptBlock → Type 0
   IsKept kept = kept.number < blocks_of list → take (32 * members.lanes) kept.values ≡ block_of_list kept.number
 
-  -- the block of this number is kept in place of another, and was unpacked for that unless it was the other
+  -- the block of this number is cached instead of another, and was unpacked for that unless it was the other
   pub record KeepsBlock (block : ℕ) (before after : KeptBlock) (old new : Reads) : Type 0 where
     pub kept : IsKept after
     pub number : after.number ≡ block
     pub reads : UnpacksOne old new
     pub again : before.number ≡ block → new.blocks ≡ old.blocks
 
-  -- the answer of a search is in this block
+  -- the result of a search is in this block
   abbrev pub IsInBlock : ℕ → Option (ℕ × ℕ) → Type 0
   IsInBlock block answer =
       IfSome answer (λ found. (32 * members.lanes * block ≤ found.0) × (found.0 < 32 * members.lanes * block + 32 * members.lanes))
 
-  -- a search keeps the block of its answer if that is in one, and reads a mark each time that it halves the blocks
+  -- a search caches the block of its result if that is in one, and reads a mark each time that it halves the blocks
   pub record KeepsOne (answer : Option (ℕ × ℕ)) (before after : KeptBlock) (old new : Reads) : Type 0 where
     pub kept : IsKept after
     pub entries : (digits : ℕ) → blocks_of list < 2 ^ digits → new.entries ≤ old.entries + digits

@@ -1,4 +1,4 @@
--- How long a text is before it is written, and what is kept of the values until then.
+-- How long an encoded list is before it is written, and what is cached of the values until then.
 use Rattle.std.specs.Prelude.{◌≡◌, ℕ, ◌+◌, ◌*◌, ◌/◌, ◌≤◌, List, length, take, drop, sum, None}
 use Rattle.bitpacking.specs.declared.kind.Kind.{Kind}
 use Rattle.bitpacking.specs.Codes.{codes}
@@ -12,12 +12,12 @@ use Rattle.bitpack_lists.specs.Parts.{first_kind, header, whole_blocks}
 use Rattle.bitpack_lists.specs.Version2.{kind_at, values_fault}
 use Rattle.bitpack_lists.specs.Version3.{IsTail3, header3}
 
--- values without a fault, and the least widths of their first blocks, which were kept
+-- values without a fault, and the cached least widths of their first blocks
 pub record AreReady (lanes : ℕ) (kind : ListKind) (values widths : List ℕ) : Type 0 where
   pub right : values_fault kind values ≡ None
   pub least : LeastWidths lanes (first_kind kind) values (take (whole_blocks lanes (length values)) widths)
 
--- the entries and bodies of the whole blocks of the values have `size` bytes
+-- the skip entries and bodies of the whole blocks of the values have `size` bytes
 pub record IsBlocksSize (lanes : ℕ) (kind : ListKind) (values : List ℕ) (size : ℕ) : Type 0 where
   pub room : 9 * whole_blocks lanes (length values) ≤ size
   pub long : (widths : List ℕ) → length widths ≡ whole_blocks lanes (length values) → LeastWidths lanes (first_kind kind) values widths
@@ -37,7 +37,7 @@ abbrev pub IsTailOf : OlderVersion → ℕ → Kind → List ℕ → List ℕ �
 IsTailOf versions.Two blocks kind values bytes = bytes ≡ bytes_of_words values
 IsTailOf versions.Three blocks kind values bytes = IsTail3 blocks (codes kind values) bytes
 
--- the header and the tail of the text of the values, which has `size` bytes
+-- the header and the tail of the encoded list of the values, which has `size` bytes
 pub record IsPlanned (version : OlderVersion) (lanes : ℕ) (kind : ListKind) (values front tail : List ℕ) (size : ℕ) : Type 0 where
   pub whole : ℕ
   pub blocks : IsBlocksSize lanes kind values whole

@@ -1,4 +1,4 @@
--- The marks and the sizes of the blocks of a text of version 4, before it is written, and what is written of them.
+-- The marks and the sizes of the blocks of a version 4 list, before it is written, and what is written of them.
 use Rattle.std.specs.Prelude.{◌≡◌, ℕ, zero, suc, min, ◌+◌, ◌-◌, ◌*◌, ◌^◌, ◌<◌, ◌≤◌, true, false, nat_le, List, length, take, drop, slice_index}
 use Rattle.bitpacking.specs.declared.kind.Kind.{Kind}
 use Rattle.bitpacking.specs.declared.kind.Kind.TheVariants as blocks
@@ -51,7 +51,7 @@ IsSizeOf lanes kind values block size =
 abbrev pub AreSizes : ℕ → ListKind → List ℕ → (ℕ → ℕ) → Type 0
 AreSizes lanes kind values size = (block : ℕ) → block < whole_blocks lanes (length values) → IsSizeOf lanes kind values block (size block)
 
--- the least widths of the codes of blocks from one on, which were kept
+-- the cached least widths of the codes of blocks from one on
 abbrev pub IsWidthOf : ℕ → ListKind → List ℕ → ℕ → ℕ → Type 0
 IsWidthOf lanes kind values block width =
     Least (codes4 (kind_of lanes kind values block) (mark_of lanes kind values block) (block_of lanes values block)) width
@@ -86,13 +86,13 @@ pub record AreWritten (lanes : ℕ) (kind : ListKind) (values : List ℕ) (size_
   pub bodies_are : (block : ℕ) → block < upto → IsBody4 lanes (kind_of lanes kind values block) (mark_of lanes kind values block) (size_of block)
       (block_of lanes values block) (take (size lanes (size_of block)) (drop (size lanes (total size_of block)) bodies))
 
--- the rest of a text begins with the whole blocks of the values, up to this place
+-- the rest of the bytes begins with the whole blocks of the values, up to this offset
 pub record BeginsRest4 (lanes : ℕ) (kind : ListKind) (values rest : List ℕ) (end : ℕ) : Type 0 where
   pub short : AreShort (whole_blocks lanes (length values)) rest
   pub whole : (block : ℕ) → block < whole_blocks lanes (length values) → IsBlock4 lanes (whole_blocks lanes (length values)) kind values rest block
   pub ends : tail_start4 lanes (whole_blocks lanes (length values)) rest ≡ end
 
--- the header and the tail of the text of the values, which has `size_is` bytes
+-- the header and the tail of the encoded list of the values, which has `size_is` bytes
 pub record IsPlanned4 (lanes : ℕ) (kind : ListKind) (values front tail : List ℕ) (sum most size_is : ℕ) : Type 0 where
   pub measured : IsMeasured lanes kind values sum most
   pub front_is : front ≡ header4 kind lanes (length values)

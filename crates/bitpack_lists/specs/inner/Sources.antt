@@ -1,4 +1,4 @@
--- The values of a list that is to be written: the whole blocks of a text of version 4 that stay as they are, and values after them.
+-- The values of a list that is to be written: the whole blocks of a version 4 list, which are copied, and values after them.
 use Rattle.std.specs.Prelude.{◌≡◌, ◌≢◌, ◌⊎◌, ℕ, ◌*◌, ◌^◌, ◌<◌, ◌≤◌, [], List, ◌++◌, length, slice_index, None}
 use Rattle.bitpacking.specs.Codes.{AreWords}
 use Rattle.bitpack_lists.specs.declared.v4.source.Source.{Source}

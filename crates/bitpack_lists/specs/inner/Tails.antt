@@ -9,7 +9,7 @@ use Rattle.bitpack_lists.specs.Texts.{tail_start_in}
 use Rattle.bitpack_lists.specs.Version3.{tail_codes3}
 use Rattle.bitpack_lists.specs.inner.Searching.{kind_of_list}
 
--- the values that its groups give
+-- the values that its groups hold
 abbrev pub groups_of_list : {P : Type 0} {members : Ghosts P} → PackedList P members → List ℕ
 groups_of_list {members = members} list =
     let blocks = blocks_of list in

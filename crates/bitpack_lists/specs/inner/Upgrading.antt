@@ -1,4 +1,4 @@
--- What inner functions know of a text of version 1 or 2 that is upgraded.
+-- What inner functions know of a list of version 1 or 2 that is upgraded.
 use Rattle.std.specs.Prelude.{◌≡◌, ℕ, ◌+◌, ◌*◌, ◌^◌, ◌≤◌, Bool, true, false, List, length, None}
 use Rattle.bitpacking.specs.declared.kind.Kind.{Kind}
 use Rattle.bitpacking.specs.Codes.{AreWords}
@@ -13,25 +13,25 @@ pub record IsTested1 (lanes count : ℕ) (rest : List ℕ) : Type 0 where
   pub few : count ≤ 2 ^ 28
   pub sound : IsSound1 lanes count rest
 
--- the values are words, as many as the header says, and the rest of the text is their blocks and tail
+-- the values are words, as many as the header says, and the rest of the bytes is their blocks and tail
 pub record IsRest1 (lanes : ℕ) (kind : ListKind) (count : ℕ) (values rest : List ℕ) : Type 0 where
   pub words : AreWords values
   pub long : length values ≡ count
   pub blocks : Blocks1 lanes (whole_blocks lanes count) (first_kind kind) values rest
 
--- the rest of a text of version 2, or of version 1, of the values
+-- the rest of the bytes of the values in version 2, or in version 1
 abbrev pub IsOlderRest : Bool → ℕ → ListKind → ℕ → List ℕ → List ℕ → Type 0
 IsOlderRest true lanes kind count values rest = (length values ≡ count) × IsRest2 lanes (whole_blocks lanes count) kind values rest
 IsOlderRest false lanes kind count values rest = IsRest1 lanes kind count values rest
 
--- it was tested, and entries and bodies have `whole` bytes in version 3
+-- it was tested, and skip entries and bodies have `whole` bytes in version 3
 abbrev pub IsTestedRest : Bool → ℕ → ℕ → ℕ → List ℕ → Type 0
 IsTestedRest true lanes count whole rest = whole + 4 * tail_values lanes count ≡ length rest
 IsTestedRest false lanes count whole rest =
     IsTested1 lanes count rest × (whole + 4 * tail_values lanes count ≡ length rest + 8 * whole_blocks lanes count)
 
--- what is said of the text of version 3 of values in order: how many these are, how many bytes the entries and bodies have, and what is
--- packed in the tail in place of values
+-- what is known of the version 3 list of values in order: how many these are, how many bytes the skip entries and bodies have, and what
+-- is packed in the tail instead of values
 pub record States3 (lanes : ℕ) (kind : ListKind) (count whole : ℕ) (tail_kind : Kind) (values : List ℕ) : Type 0 where
   pub words : AreWords values
   pub long : length values ≡ count

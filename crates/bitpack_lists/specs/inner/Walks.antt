@@ -45,7 +45,7 @@ pub record IsShared (one other : Values) (done want : ℕ) (shared : List ℕ) :
   pub sound : (k : ℕ) → k < length shared → IsOneOf one (slice_index shared k) × IsOneOf other (slice_index shared k) × (slice_index shared k < want)
   pub complete : (value : ℕ) → IsOneOf one value → IsOneOf other value → value < want → Has shared value
 
--- how many searches a place in the other list allows: two for each value before it, and one more if its value is wanted, or if
+-- how many searches a position in the other list allows: two for each value before it, and one more if its value is wanted, or if
 -- nothing is
 abbrev pub Allows : Values → ℕ → ℕ → ℕ → Type 0
 Allows other want place searches =
@@ -53,7 +53,7 @@ Allows other want place searches =
     ⊎ (((searches ≤ 2 * place + 1) × (place < other.count) × (other.value place ≡ want))
     ⊎ ((want ≡ 2 ^ 32) × (searches ≤ 2 * other.count + 1)))
 
--- a place in the other list before which all is below what is wanted
+-- a position in the other list before which all is below what is wanted
 pub record IsPast (other : Values) (want count searches : ℕ) : Type 0 where
   pub place : ℕ
   pub within : place ≤ other.count
@@ -76,8 +76,8 @@ pub record Begun : Type 0 where
 abbrev pub begun_with : List ℕ → Reads → Reads → Begun
 begun_with items reads other_reads = record { items = items; reads = reads; other_reads = other_reads }
 
--- how far a walk has come: `done` values of one list were met, and `blocks` blocks of it were unpacked. For each of these blocks a
--- value was searched, but for one while what is wanted is below `due`.
+-- how far a walk has come: `done` values of one list were visited, and `blocks` blocks of it were unpacked. For each of these
+-- blocks a value was searched, but for one while what is wanted is below `due`.
 pub record Stage : Type 0 where
   pub one : Values
   pub begun : Begun
@@ -101,11 +101,11 @@ pub record IsWalked (lanes : ℕ) (other : Values) (stage : Stage) (want last : 
   pub grown : HasGrown stage.begun.other_reads other_reads
   pub paid : (stage.blocks ≤ stage.begun.reads.blocks + searches) ⊎ ((stage.blocks ≤ stage.begun.reads.blocks + searches + 1) × (want < stage.due))
 
--- `more` more values were met
+-- `more` more values were visited
 abbrev pub further : Stage → ℕ → Stage
 further stage more = record { one = stage.one; begun = stage.begun; done = stage.done + more; blocks = stage.blocks; due = stage.due }
 
--- the values that are met next, of values in order
+-- the values that are visited next, of values in order
 pub record AreNext (stage : Stage) (values : List ℕ) : Type 0 where
   pub within : stage.done + length values ≤ stage.one.count
   pub are : (k : ℕ) → k < length values → stage.one.value (stage.done + k) ≡ slice_index values k
@@ -129,7 +129,7 @@ module _ {P : Type 0} {members : Ghosts P} (list : PackedList P members) where
     pub walked : IsWalked members.lanes values_in stage walk.want walk.kept.number out.items (vec_capacity out) reads
 
 module _ {P Q : Type 0} {members : Ghosts P} {others : Ghosts Q} (one : PackedList P members) (other : PackedList Q others) where
-  -- `done` values of one list were met by a walk that searches them in the other
+  -- `done` values of one list were visited by a walk that searches them in the other
   pub record IsWalkingOver {A : Type 0} (begun : Begun) (done blocks : ℕ) (walk : Walk) (out : Vec ℕ A) (reads : Reads) : Type 0 where
     pub ordered : one.kind ≢ lists.Plain
     pub walking : IsWalking other (stage_in one begun done blocks) walk out reads

@@ -1,4 +1,4 @@
-//! The length of a text before it is written. The least widths of its first blocks are kept from here to the writing.
+//! The length of an encoded list before it is written. The least widths of its first blocks are cached from here to the writing.
 
 ghost use Rattle.std.specs.Prelude.{◌≡◌, ◌+◌, ◌*◌, ◌^◌, ◌<◌, ◌≤◌, ◌∷◌, ◌++◌, [], ℕ, List, length, sum, take, slice_index};
 ghost use Rattle.bitpacking.specs.Width.{IsWidth};
@@ -9,17 +9,17 @@ use crate::header::HEADER_LEN;
 use crate::list_kind::{ListKind, next_kind};
 use bitpacking::{BitPacker, Kind};
 
-/// How many widths are kept from the measuring of a list to its writing. Blocks after those are measured twice.
+/// How many widths are cached from the measuring of a list to its writing. Later blocks are measured twice.
 pub(crate) const KEPT_WIDTHS: usize = 1024;
 
-/// How many are kept of a list that has no more blocks than that. Little room takes less time to clear.
+/// How many are cached for a list with at most that many blocks. Little room takes less time to clear.
 pub(crate) const FEW_WIDTHS: usize = 64;
 
-/// How many are kept of a list that has more blocks than `KEPT_WIDTHS`, and so takes much longer to write than this room to clear.
+/// How many are cached for a list with more blocks than `KEPT_WIDTHS`, which takes much longer to write than this room to clear.
 pub(crate) const MANY_WIDTHS: usize = 8192;
 
-/// How many bytes a text of the values has in version 1, which has one byte for each whole block beside its body. The least widths of its
-/// first blocks are kept.
+/// The length in bytes of the encoded list of the values in version 1, which has one byte for each whole block beside its body. Caches
+/// the least widths of the first blocks.
 pub(crate) fn text_len<P: BitPacker>(
     packer: &P,
     kind: ListKind,
@@ -41,8 +41,8 @@ pub(crate) fn text_len<P: BitPacker>(
     size + 4 * (values.len() % P::BLOCK_LEN)
 }
 
-/// How many bytes the whole blocks of the values have in a text, with `entry_len` bytes for each beside its body. The least widths of the
-/// first blocks are kept.
+/// How many bytes the whole blocks of the values have in an encoded list, with `entry_len` bytes for each beside its body. Caches the
+/// least widths of the first blocks.
 pub(crate) fn blocks_len<P: BitPacker>(
     packer: &P,
     kind: ListKind,
@@ -76,7 +76,7 @@ pub(crate) fn blocks_len<P: BitPacker>(
     size
 }
 
-/// Keeps the width of the block with this index, if there is a place for it.
+/// Caches the width of the block with this index, if there is room for it.
 fn keep_width(widths: &mut [u8], index: usize, width: u8)
     ensures kept { index < length widths.old → take (index + 1) widths.new ≡ take index widths.old ++ width ∷ [] }
     ensures past { length widths.old ≤ index → widths.new ≡ widths.old }
@@ -86,7 +86,7 @@ fn keep_width(widths: &mut [u8], index: usize, width: u8)
     }
 }
 
-/// The least width of the block with this index: the one that was kept, or else measured again.
+/// The least width of the block with this index: the cached one, or else measured again.
 pub(crate) fn width_of<P: BitPacker>(
     packer: &P,
     kind: Kind,

@@ -15,7 +15,7 @@ use crate::list_kind::{ListKind, next_kind};
 use crate::numbers::read_one;
 use bitpacking::{BitPacker, Kind, MAX_BLOCK_LEN};
 
-/// Tests the order of the values of a list. The least widths of its first blocks were kept. If they show the order of a block, only its
+/// Tests the order of the values of a list. The least widths of its first blocks are cached. If they show the order of a block, only its
 /// last value is read.
 pub(crate) fn test_values<P: BitPacker>(
     _packer: &P,
@@ -217,7 +217,7 @@ fn is_narrow(width: u8, len: usize) -> bool
     (len as u64) << width <= 1 << 32
 }
 
-/// As above, of `count` values, given as their bytes.
+/// As above, of `count` values in their bytes.
 pub(crate) fn first_out_of_words(
     kind: ListKind,
     position: usize,

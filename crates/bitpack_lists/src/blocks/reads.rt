@@ -1,5 +1,5 @@
-//! What is read of a packed list: each entry, mark and block counts in `Reads`. No other code reads one of these from a text or unpacks
-//! a block of it.
+//! What is read of a packed list: each skip entry, mark and block counts in `Reads`. No other code reads one of these from the bytes or
+//! unpacks a block.
 
 ghost use Rattle.std.specs.Prelude.{◌≡◌, ◌+◌, ◌*◌, ◌≤◌, ◌∷◌, [], length, take, drop, vec_len, vec_capacity, ℕ};
 ghost use Rattle.bitpacking.specs.Layout.{size, codes_of};
@@ -15,10 +15,10 @@ use bitpacking::{BitPacker, Kind};
 use std::marker::{Model, PhantomData};
 use std::mem::size_of;
 
-/// The bytes of an entry.
+/// The bytes of a skip entry.
 pub(crate) const ENTRY_LEN: usize = 9;
 
-/// What an entry says of its block: its width, the sum of the widths before it, and its last value.
+/// A skip entry: the width of its block, the sum of the widths before it, and its last value.
 #[derive(Clone, Copy)]
 pub(crate) struct Entry {
     pub(crate) width: u8,
@@ -29,7 +29,7 @@ pub(crate) struct Entry {
 impl Entry {
     ghost use Rattle.bitpack_lists.specs.inner.CountedReads.{IsEntryOf};
 
-    /// The body of the entry's block, in a list of `blocks` blocks. The bytes are the ones after a header.
+    /// The body of the block of this skip entry, in a list of `blocks` blocks. The bytes are the ones after a header.
     pub(crate) fn body(self, lanes: usize, blocks: usize, rest: &[u8]) -> &[u8]
         requires lanes { lanes ≤ 8 }
         requires body { ENTRY_LEN * blocks + 4 * lanes * self.offset + size lanes self.width ≤ length rest.now }
@@ -41,7 +41,7 @@ impl Entry {
         &rest[start..start + 4 * lanes * self.width as usize]
     }
 
-    // The entry of a block. The bytes are the ones after a header.
+    // The skip entry of a block. The bytes are the ones after a header.
     fn read(rest: &[u8], block: usize) -> Entry
         requires { ENTRY_LEN * block + ENTRY_LEN ≤ length rest.now }
         ensures { IsEntryOf rest.now block result }
@@ -54,7 +54,7 @@ impl Entry {
         }
     }
 
-    /// The bytes of the entry.
+    /// The bytes of the skip entry.
     pub(crate) fn bytes(self) -> [u8; ENTRY_LEN]
         ensures { result ≡ self.width ∷ bytes_of_words (self.offset ∷ self.last ∷ []) }
     {
@@ -63,7 +63,7 @@ impl Entry {
         [self.width, a, b, c, d, e, f, g, h]
     }
 
-    /// Appends the entry. There is room for it.
+    /// Appends the skip entry. There is room for it.
     pub(crate) fn write(self, out: &mut Vec<u8>)
         requires { vec_len out.old + ENTRY_LEN ≤ vec_capacity out.old }
         ensures { HasAppended out.old out.new (self.width ∷ bytes_of_words (self.offset ∷ self.last ∷ [])) }
@@ -72,12 +72,12 @@ impl Entry {
     }
 }
 
-/// How many entries were read, and how many blocks were unpacked. Values of the tail do not count.
+/// How many skip entries were read, and how many blocks were unpacked. Values of the tail do not count.
 ///
-/// A search reads of an entry only the last value of its block, which counts as one entry. To unpack a block also reads its size, its place
-/// and the value before it: this counts as the block alone.
+/// A search reads only the last value of a skip entry, which counts as one entry. To unpack a block also reads its size, its offset and the
+/// value before it: this counts as the block alone.
 ///
-/// It takes no room at run time, and no program can read it: the numbers are for contracts.
+/// It has no size at run time, and no program can read it: the numbers are for contracts.
 #[derive(Drop)]
 pub struct Reads {
     marker: PhantomData<()>,
@@ -104,13 +104,13 @@ impl Reads {
         }
     }
 
-    // How many entries were read, and how many blocks unpacked. Only functions that read or unpack these call it.
+    // How many skip entries were read, and how many blocks unpacked. Only functions that read or unpack these call it.
     pub(crate) fn record(&mut self, entries: u32, blocks: u32)
         ensures entries { self.new.entries ≡ self.old.entries + entries }
         ensures blocks { self.new.blocks ≡ self.old.blocks + blocks }
     {}
 
-    /// Reads the entry of a block. The bytes are those after a header.
+    /// Reads the skip entry of a block. The bytes are those after a header.
     pub(crate) fn read_entry(&mut self, rest: &[u8], block: usize) -> Entry
         requires { ENTRY_LEN * block + ENTRY_LEN ≤ length rest.now }
         ensures entry { IsEntryOf rest.now block result }
@@ -152,7 +152,7 @@ impl Reads {
         self.unpack_body(packer, kind, Entry::read(rest, block), blocks, rest, values);
     }
 
-    /// Unpacks the block of an entry, in a list of `blocks` blocks. The bytes are the ones after a header.
+    /// Unpacks the block of a skip entry, in a list of `blocks` blocks. The bytes are the ones after a header.
     pub(crate) fn unpack_body<P: BitPacker>(
         &mut self,
         packer: &P,

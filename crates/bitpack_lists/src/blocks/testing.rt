@@ -1,4 +1,4 @@
-//! Testing the entries and the bodies of whole blocks, which versions 2 and 3 share.
+//! Testing the skip entries and the bodies of whole blocks, which versions 2 and 3 share.
 
 ghost use Rattle.std.specs.Prelude.{◌≡◌, ◌+◌, ◌-◌, ◌*◌, ◌^◌, ◌<◌, ◌≤◌, ◌&&◌, ℕ, List, length, nat_lt, slice_index, sum, IfOk, None, ◌/◌, ◌%◌, Decides};
 ghost use Rattle.bitpacking.specs.declared.kind.Kind.{Kind};
@@ -78,7 +78,7 @@ pub(crate) fn test_room(bytes: &[u8], end: usize) -> Result<(), ListError>
     Ok(())
 }
 
-/// Tests the entries of all blocks, and returns the sum of their widths.
+/// Tests the skip entries of all blocks, and returns the sum of their widths.
 fn test_entries(rest: &[u8], blocks: usize) -> Result<usize, ListError>
     requires few { blocks ≤ 2 ^ 28 }
     requires room { ENTRY_LEN * blocks ≤ length rest.now }
@@ -101,8 +101,8 @@ fn test_entries(rest: &[u8], blocks: usize) -> Result<usize, ListError>
     Ok(widths)
 }
 
-/// Tests the bodies of the blocks, whose entries were tested. Returns the last value of the last block, the first position out of
-/// order in the blocks, and the kind of what follows.
+/// Tests the bodies of the blocks, whose skip entries were tested. Returns the last value of the last block, the first position out
+/// of order in the blocks, and the kind of what follows.
 fn test_bodies<P: BitPacker>(
     packer: &P,
     header: Header,
@@ -149,7 +149,8 @@ fn test_bodies<P: BitPacker>(
     Ok((last, out, kind))
 }
 
-/// Tests that the width of a block is the least of its codes, and that the block, of this kind, ends with the value of its entry.
+/// Tests that the width of a block is the least of its codes, and that the block, of this kind, ends with the value of its skip
+/// entry.
 pub(crate) fn test_block(
     block: usize,
     entry: Entry,

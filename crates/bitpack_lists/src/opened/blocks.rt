@@ -1,4 +1,4 @@
-//! The blocks of an opened list by their numbers, for callers that keep their own place in it.
+//! The blocks of an opened list by their numbers, for callers with a cursor of their own.
 
 ghost use Rattle.std.specs.Prelude.{◌≡◌, ◌≢◌, ◌+◌, ◌-◌, ◌*◌, ◌^◌, ◌<◌, ◌≤◌, ℕ, length, slice_index, take, drop, min, IfSome};
 ghost use native.Mathlib.Omega.{arith};
@@ -68,7 +68,7 @@ impl<'a, P: BitPacker> PackedList<'a, P> {
         self.count / P::BLOCK_LEN
     }
 
-    /// Returns the last value of a whole block, of a list that is sorted or strictly sorted. It reads one entry, and unpacks nothing.
+    /// Returns the last value of a whole block, of a list that is sorted or strictly sorted. It reads one skip entry, and unpacks nothing.
     ///
     /// <!-- crates/bitpack_uses/src/tests/doc_examples.rt -->
     /// ```rust
@@ -86,9 +86,9 @@ impl<'a, P: BitPacker> PackedList<'a, P> {
     }
 
     /// Unpacks the block of a number to the start of a slice, and returns how many values it has. The number of all blocks means the values
-    /// that are left after them. The rest of the slice stays as it was.
+    /// that are left after them. The rest of the slice is unchanged.
     ///
-    /// Beside the entry of the block it reads at most one.
+    /// Beside the skip entry of the block it reads at most one.
     pub fn read_block(&self, block: usize, out: &mut [u32], reads: &mut Reads) -> usize
         requires block { block ≤ whole_blocks P.lanes (length (values self.now)) }
         requires room { min (32 * P.lanes) (length (values self.now) - 32 * P.lanes * block) ≤ length out.old }
@@ -120,13 +120,13 @@ impl<'a, P: BitPacker> PackedList<'a, P> {
     /// Requires a list that is sorted or strictly sorted, and a number to begin at that is at most the count of whole blocks. If this is
     /// not 0, the value before its block has to be below the target.
     ///
-    /// It reads at most two entries for each time that the distance doubles, and one. It unpacks nothing.
+    /// It gallops: it reads at most two skip entries for each time that the distance doubles, and one. It unpacks nothing.
     pub fn find_block(&self, from: usize, target: u32, reads: &mut Reads) -> usize
         requires from { from ≤ whole_blocks P.lanes (length (values self.now)) }
         requires ordered { kind_of self.now ≢ ListKind.Plain }
         requires below { 0 < from → slice_index (values self.now) (32 * P.lanes * from - 1) < target }
         ensures found { IsFirstReaching P.lanes (values self.now) target from result }
-        // To block j from block i on it reads at most twice k entries and one if j - i + 2 is at most 2 ^ k.
+        // To block j from block i on it reads at most twice k skip entries and one if j - i + 2 is at most 2 ^ k.
         ensures entries { (k : ℕ) → result + 2 ≤ from + 2 ^ k → reads.new.entries ≤ reads.old.entries + (2 * k + 1) }
         ensures blocks { reads.new.blocks ≡ reads.old.blocks }
         ensures grown { HasGrown reads.old reads.new }
@@ -143,7 +143,7 @@ impl<'a, P: BitPacker> PackedList<'a, P> {
     }
 
     /// Writes the values from a position on to the start of a slice, as many as there are and as fit. Returns how many these are. The rest
-    /// of the slice stays as it was.
+    /// of the slice is unchanged.
     ///
     /// Each block that has one of these values is unpacked once, and no other.
     pub fn copy_from(&self, from: usize, out: &mut [u32], reads: &mut Reads) -> usize

@@ -123,7 +123,7 @@ impl<'a, P: BitPacker> PackedList<'a, P> {
     }
 
     /// Writes the positions, from one on, of values that are within a range, both ends included, in increasing order and as many as fit.
-    /// Returns how many these are. The rest of the slice stays as it was.
+    /// Returns how many these are. The rest of the slice is unchanged.
     ///
     /// If the slice is full, a caller goes on from the position after the last. A block is unpacked at most once, and only if its bounds do
     /// not tell. In a sorted or strictly sorted list these are at most two.

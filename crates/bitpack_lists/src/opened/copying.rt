@@ -34,7 +34,7 @@ impl<'a, P: BitPacker> PackedList<'a, P> {
 
     /// Writes all values at the start of the slice, and returns their number. Unpacks each block once, and allocates nothing.
     ///
-    /// Requires room for all values. The rest of the slice stays as it was.
+    /// Requires room for all values. The rest of the slice is unchanged.
     pub fn copy_to(&self, out: &mut [u32]) -> usize
         requires room { length (values self.now) ≤ length out.old }
         ensures len { result ≡ length (values self.now) }
@@ -46,7 +46,7 @@ impl<'a, P: BitPacker> PackedList<'a, P> {
         count
     }
 
-    // Unpacks each block once, straight into its place, and reads the tail.
+    // Unpacks each block once, straight to its position, and reads the tail.
     fn copy_values(&self, out: &mut [u32], reads: &mut Reads)
         requires room { length out.old ≡ self.now.count }
         ensures values { out.new ≡ values self.now }

@@ -1,4 +1,4 @@
-//! A cursor: a place in an opened list, with the list.
+//! A cursor: a position in an opened list that moves, with the list.
 
 ghost use Rattle.std.specs.Prelude.{◌≡◌, ◌≢◌, ℕ, List, ◌+◌, ◌-◌, ◌*◌, ◌^◌, ◌<◌, ◌≤◌, length, min};
 ghost use Rattle.bitpack_lists.specs.Moves.{IsAt};
@@ -13,9 +13,9 @@ use crate::blocks::reads::Reads;
 use crate::list_kind::ListKind;
 use bitpacking::BitPacker;
 
-/// A place in an opened list that only moves forward. It has the values of the current block, and so takes about 1 KB.
+/// A position in an opened list that only moves forward. It has the values of the current block, and so takes about 1 KB.
 ///
-/// However it is moved, it unpacks each block of the list at most once. It is an iterator over the values from its place on.
+/// However it is moved, it unpacks each block of the list at most once. It is an iterator over the values from its position on.
 ///
 /// <!-- crates/bitpack_uses/src/tests/doc_examples.rt -->
 /// ```rust
@@ -46,7 +46,7 @@ impl<'a, P: BitPacker> PackedList<'a, P> {
     pub fn cursor(&self) -> Cursor<'a, P>
         ensures values { values_of_cursor result ≡ Rattle.bitpack_lists.specs.Opened.values self.now }
         ensures kind { kind_of result.list ≡ kind_of self.now }
-        // The text is the list of this kind and these values.
+        // The bytes encode the list of this kind and these values.
         ensures list { IsText (version_of self.now) P.lanes
             (kind_of self.now) (Rattle.bitpack_lists.specs.Opened.values self.now) (text self.now) }
         ensures ordered { kind_of self.now ≢ ListKind.Plain → CanSeek result }
@@ -100,9 +100,9 @@ impl<'a, P: BitPacker> Cursor<'a, P> {
         self.place.value()
     }
 
-    /// The number of values before this place.
+    /// The number of values before the cursor.
     ///
-    /// The cursor has unpacked at most the blocks that begin at this place or before it, each at most once.
+    /// The cursor has unpacked at most the blocks that begin at this position or before it, each at most once.
     pub fn position(&self) -> usize
         ensures at { result ≡ position self.now }
         ensures within { result ≤ length (values_of_cursor self.now) }
@@ -141,8 +141,8 @@ impl<'a, P: BitPacker> Cursor<'a, P> {
         self.place.skip_block(&self.list, &mut self.reads);
     }
 
-    /// Moves forward to a position, or to the end if the list has no such position. Unpacks at most one block, and none if the position is
-    /// in the current block. Requires a position that is not before this place.
+    /// Moves forward to a position, or to the end if the list has no such position. Unpacks at most one block, and none if the position is in
+    /// the current block. Requires a position that is not before the cursor.
     ///
     /// <!-- crates/bitpack_uses/src/tests/doc_examples.rt -->
     /// ```rust
@@ -159,22 +159,22 @@ impl<'a, P: BitPacker> Cursor<'a, P> {
         self.place.move_to(&self.list, to, &mut self.reads);
     }
 
-    /// Moves to the first value from here on that is at least the target, or to the end if there is none. Unpacks at most one
-    /// block. If the value is in the current block, it unpacks none and reads no entry. To a block that is further it reads at most
-    /// two entries for each time that the distance doubles.
+    /// Moves to the first value from here on that is at least the target, or to the end if there is none. Unpacks at most one block. If the
+    /// value is in the current block, it unpacks none and reads no skip entry. Otherwise it gallops: it reads at most two entries for each
+    /// time that the distance doubles.
     #[inline(always)]
     pub fn seek(&mut self, target: u32)
         requires { CanSeek self.old }
         ensures moved { HasMoved self.old self.new }
         ensures sought { IsSoughtFrom (values_of_cursor self.old) target (position self.old) (position self.new) }
-        // From block i to block j it reads at most twice k entries if j - i + 1 is at most 2 ^ k.
+        // From block i to block j it reads at most twice k skip entries if j - i + 1 is at most 2 ^ k.
         ensures entries { (k : ℕ) → block_number self.new + 1 ≤ block_number self.old + 2 ^ k
             → entries_read self.new ≤ entries_read self.old + 2 * k }
     {
         self.seek_ahead(target, 0);
     }
 
-    /// Moves as `seek` does, and tries the value some places ahead first.
+    /// Moves as `seek` does, and tries the value some positions ahead first.
     #[inline(always)]
     pub fn seek_ahead(&mut self, target: u32, ahead: usize)
         requires { CanSeek self.old }
@@ -238,7 +238,7 @@ impl<'a, P: BitPacker> Cursor<'a, P> {
     }
 }
 
-/// The values from the place of the cursor on, in order. A value that the list repeats comes as often as it is there.
+/// The values from the cursor on, in order. A value that the list repeats comes as often as it is in the list.
 ///
 /// <!-- crates/bitpack_uses/src/tests/doc_examples.rt -->
 /// ```rust

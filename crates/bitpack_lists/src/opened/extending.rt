@@ -1,4 +1,4 @@
-//! The values of an opened list and more values after them, written as one list. The bodies of its whole blocks stay as they are.
+//! The values of an opened list and more values after them, written as one list. The bodies of its whole blocks are copied.
 
 ghost use Rattle.std.specs.Prelude.{◌≡◌, ◌+◌, ◌*◌, ◌^◌, ◌<◌, ◌≤◌, ◌++◌, ℕ, List, true, false, length, take, drop, OnOk, OnErr, IfErr, MatchOption, None, vec_len, vec_capacity};
 ghost use Rattle.bitpacking.specs.Bits.{AreBytes};
@@ -18,8 +18,8 @@ use crate::version::Version;
 use bitpacking::{BitPacker, MAX_BLOCK_LEN};
 
 impl<'a, P: BitPacker> PackedList<'a, P> {
-    /// Whether the whole blocks of the list can stay as they are when more values follow: the list is shorter than a block, or its text is of
-    /// version 4. Any other list can be upgraded first.
+    /// Whether the whole blocks of the list can be copied when more values follow: the list is shorter than a block, or of version 4. Any
+    /// other list can be upgraded first.
     pub fn keeps_blocks(&self) -> bool
         ensures yes { result ≡ true → 0 < blocks_of self.now → version_of self.now ≡ Version.Four }
         ensures no { result ≡ false → (0 < blocks_of self.now → version_of self.now ≡ Version.Four) → ⊥ }
@@ -27,13 +27,13 @@ impl<'a, P: BitPacker> PackedList<'a, P> {
         self.count < P::BLOCK_LEN || self.version == Version::Four
     }
 
-    /// Appends the newest text of the values of the list and of more values after them.
+    /// Appends the newest encoded list of the values of the list and of more values after them.
     ///
     /// The bodies of the list's whole blocks are copied, and only the values after these are packed. All values together have to be in the
-    /// order of the list's kind, and are at most 268,435,456, as for [`encode`](crate::list4::encode). The vector grows once at most.
+    /// order of the list's kind, and are at most 268,435,456, as for [`encode`](crate::list4::encode). The vector grows at most once.
     pub fn encode_more(&self, more: &[u32], out: &mut Vec<u8>) -> Result<(), ListError>
         requires keeps { 0 < blocks_of self.now → version_of self.now ≡ Version.Four }
-        // What is appended is the text of all values.
+        // What is appended encodes all values.
         ensures ok { OnOk result ((text : List ℕ) × AreBytes text
             × IsNewest P.lanes (kind_of self.now) (values self.now ++ more.now) text
             × (out.new.items ≡ out.old.items ++ text)) }
@@ -43,7 +43,7 @@ impl<'a, P: BitPacker> PackedList<'a, P> {
         ensures order { length (values self.now ++ more.now) ≤ 2 ^ 28
             → MatchOption (first_out (kind_of self.now) (values self.now ++ more.now))
             (IfErr result (λ e. e ≡ ListError.Memory)) (λ position. result ≡ Err (ListError.NotSorted position)) }
-        // Memory runs out only if the vector has no room for the text.
+        // Memory runs out only if the vector has no room for the encoded list.
         ensures room { length (values self.now ++ more.now) ≤ 2 ^ 28
             → first_out (kind_of self.now) (values self.now ++ more.now) ≡ None
             → OnErr result ((text : List ℕ) → IsNewest P.lanes (kind_of self.now) (values self.now ++ more.now) text
@@ -63,16 +63,16 @@ impl<'a, P: BitPacker> PackedList<'a, P> {
         append_source(Version::Four, &self.packer, &source, out)
     }
 
-    /// Writes the newest text of the values of the list and of more values after them at the start of the slice, as [`encode_more`] appends
-    /// it, and returns its length in bytes. Allocates nothing.
+    /// Writes the newest encoded list of the values of the list and of more values after them at the start of the slice, as [`encode_more`]
+    /// appends it, and returns its length in bytes. Allocates nothing.
     ///
-    /// A slice that is too short is refused with `Short`; then nothing is written. The bytes after the text stay as they were.
+    /// If the slice is too short, it fails with `Short` and writes nothing. The bytes after the list are unchanged.
     ///
     /// [`encode_more`]: PackedList::encode_more
     pub fn encode_more_to(&self, more: &[u32], bytes: &mut [u8]) -> Result<usize, ListError>
         requires keeps { 0 < blocks_of self.now → version_of self.now ≡ Version.Four }
-        // What is written is the text of all values, and what is after it stays. Values with a fault are refused for the first, and others
-        // only if the slice has no room for the text.
+        // What is written encodes all values, and what is after it is unchanged. Values with a fault are refused for the first, and others
+        // only if the slice has no room.
         ensures { WritesOne (IsNewest P.lanes (kind_of self.now) (values self.now ++ more.now)) (kind_of self.now)
             (values self.now ++ more.now) result bytes.old bytes.new }
     {

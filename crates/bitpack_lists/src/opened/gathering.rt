@@ -13,7 +13,7 @@ impl<'a, P: BitPacker> PackedList<'a, P> {
     ghost use Rattle.bitpack_lists.specs.inner.Searching.{blocks_of};
     ghost use Rattle.bitpack_lists.specs.inner.Holding.{HoldsBlock, IsHeld};
 
-    /// Writes the value at each position to the same index of a slice. Later values of the slice stay as they were.
+    /// Writes the value at each position to the same index of a slice. Later values of the slice are unchanged.
     ///
     /// The positions may be in any order, and one may come twice. If one of them is not in the list, nothing is written or unpacked, and
     /// the error is the index of the first such position.
@@ -63,7 +63,7 @@ impl<'a, P: BitPacker> PackedList<'a, P> {
         }
     }
 
-    // Unpacks a block, or what is left after all blocks, unless it is the one at hand.
+    // Unpacks a block, or what is left after all blocks, unless it is the cached one.
     fn hold(&self, number: usize, kept: &mut KeptBlock, reads: &mut Reads)
         requires number { number ≤ blocks_of self.now }
         requires held { IsHeld self.now kept.old }

@@ -8,8 +8,8 @@ use bitpacking::MAX_BLOCK_LEN;
 /// How many values are tried one by one before any is skipped.
 const NEAR: usize = 8;
 
-/// The first index from one on whose value is at least the target, or the count of values. Tries the nearest one by one, then
-/// values at growing distances, and then halves.
+/// The first index from one on whose value is at least the target, or the count of values. Tries the nearest one by one, then gallops,
+/// and then halves.
 ///
 /// <!-- crates/bitpack_uses/src/tests/doc_examples.rt -->
 /// ```rust
@@ -59,7 +59,7 @@ pub fn count_below(values: &[u32], target: u32) -> usize
     below as usize
 }
 
-/// Finds what `first_from` finds, and tries the value some places ahead first.
+/// Finds what `first_from` finds, and tries the value some positions ahead first.
 #[inline(always)]
 pub fn first_ahead(values: &[u32], from: usize, ahead: usize, target: u32) -> usize
     requires from { from ≤ length values.now }

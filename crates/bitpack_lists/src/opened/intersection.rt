@@ -128,7 +128,7 @@ fn walk_block<P: BitPacker, Q: BitPacker>(
     }
 }
 
-/// Meets the values of the tail.
+/// Visits the values of the tail.
 fn walk_tail<P: BitPacker, Q: BitPacker>(
     one: &PackedList<'_, P>,
     other: &PackedList<'_, Q>,

@@ -1,4 +1,4 @@
-//! Two opened lists written as one: the values of the first, and after them the values of the second with a base added to each.
+//! The values of two opened lists, with a base added to each of the second, written as one list.
 
 ghost use Rattle.std.specs.Prelude.{◌≡◌, ◌+◌, ◌*◌, ◌^◌, ◌<◌, ◌≤◌, ◌++◌, ℕ, List, true, false, length, take, slice_index, OnOk, OnErr, IfOk, IfErr, MatchOption, None, vec_len, vec_capacity};
 ghost use Rattle.bitpacking.specs.Bits.{AreBytes};
@@ -16,10 +16,10 @@ use crate::list_error::ListError;
 use bitpacking::BitPacker;
 
 impl<'a, P: BitPacker> PackedList<'a, P> {
-    /// Appends the newest text of the values of the list and, after them, the values of another list with `base` added to each.
+    /// Appends the newest encoded list of the values of the list and, after them, of the values of another list with `base` added to each.
     ///
     /// The bodies of the list's whole blocks are copied, as [`encode_more`] does. The values of the other list, which may be of another
-    /// packer, kind and version, are unpacked into `room` and packed again. The vector grows once at most.
+    /// packer, kind and version, are unpacked into `room` and packed again. The vector grows at most once.
     ///
     /// Fails with `BadNumber` if a value with the base is above `u32::MAX`, and otherwise as [`encode_more`] does: all values together have
     /// to be in the order of the list's kind.
@@ -34,7 +34,7 @@ impl<'a, P: BitPacker> PackedList<'a, P> {
     ) -> Result<(), ListError>
         requires keeps { 0 < blocks_of self.now → version_of self.now ≡ Version.Four }
         requires room { length (values other.now) ≤ length room.old }
-        // What is appended is the text of all values.
+        // What is appended is the encoded list of all values.
         ensures ok { OnOk result ((text : List ℕ) × AreBytes text
             × IsNewest P.lanes (kind_of self.now) (joined (values self.now) base (values other.now)) text
             × (out.new.items ≡ out.old.items ++ text)) }
@@ -48,7 +48,7 @@ impl<'a, P: BitPacker> PackedList<'a, P> {
             → length (joined (values self.now) base (values other.now)) ≤ 2 ^ 28
             → MatchOption (first_out (kind_of self.now) (joined (values self.now) base (values other.now)))
             (IfErr result (λ e. e ≡ ListError.Memory)) (λ position. result ≡ Err (ListError.NotSorted position)) }
-        // Memory runs out only if the vector has no room for the text.
+        // Memory runs out only if the vector has no room for the encoded list.
         ensures room { AreWords (moved base (values other.now))
             → length (joined (values self.now) base (values other.now)) ≤ 2 ^ 28
             → first_out (kind_of self.now) (joined (values self.now) base (values other.now)) ≡ None
@@ -64,10 +64,10 @@ impl<'a, P: BitPacker> PackedList<'a, P> {
         self.encode_more(&room[..other.len()], out)
     }
 
-    /// Writes the newest text of the values of both lists at the start of the slice, as [`encode_joined`] appends it, and returns its length
-    /// in bytes. Allocates nothing.
+    /// Writes the newest encoded list of the values of the list and of another list at the start of the slice, as [`encode_joined`] appends
+    /// it, and returns its length in bytes. Allocates nothing.
     ///
-    /// A slice that is too short is refused with `Short`; then nothing is written. The bytes after the text stay as they were.
+    /// If the slice is too short, it fails with `Short` and writes nothing. The bytes after the list are unchanged.
     ///
     /// [`encode_joined`]: PackedList::encode_joined
     pub fn encode_joined_to<Q: BitPacker>(
@@ -79,8 +79,8 @@ impl<'a, P: BitPacker> PackedList<'a, P> {
     ) -> Result<usize, ListError>
         requires keeps { 0 < blocks_of self.now → version_of self.now ≡ Version.Four }
         requires room { length (values other.now) ≤ length room.old }
-        // What is written is the text of all values, and what is after it stays. Values that are no words are refused as such, others with a
-        // fault for the first, and the rest only if the slice has no room for the text.
+        // What is written is the encoded list of all values, and what is after it is unchanged. Values that are no words are refused as
+        // such, others with a fault for the first, and the rest only if the slice has no room.
         ensures writes { AreWords (moved base (values other.now))
             → WritesOne (IsNewest P.lanes (kind_of self.now) (joined (values self.now) base (values other.now)))
             (kind_of self.now) (joined (values self.now) base (values other.now)) result bytes.old bytes.new }

@@ -1,4 +1,4 @@
-//! Opening a text as a list of one kind.
+//! Opening bytes as a list of one kind.
 
 ghost use Rattle.std.specs.Prelude.{◌≡◌, ℕ, List, IfOk, IsOk};
 ghost use Rattle.bitpack_lists.specs.declared.version.Version.{Version};
@@ -15,7 +15,7 @@ use crate::list_kind::ListKind;
 use bitpacking::BitPacker;
 
 impl<'a, P: BitPacker> PackedList<'a, P> {
-    /// Opens a text as [`PackedList::open`] does, if its list is of this kind.
+    /// Opens bytes as [`PackedList::open`] does, if their list is of this kind.
     ///
     /// Accepts any bytes, and allocates nothing. A list of another kind is refused with `WrongKind`, after all other faults.
     pub fn open_as(
@@ -28,7 +28,7 @@ impl<'a, P: BitPacker> PackedList<'a, P> {
         ensures bytes { IfOk result (λ list. text list ≡ bytes.now) }
         ensures kind { IfOk result (λ list. kind_of list ≡ kind) }
         ensures list { IfOk result (λ list. List2 P.lanes kind (values list) bytes.now) }
-        // These are all texts of lists of this kind.
+        // These are all encoded lists of this kind.
         ensures every { (all : List ℕ) → List2 P.lanes kind all bytes.now → IsOk result }
     {
         let list = PackedList::open(packer, bytes)?;
@@ -38,7 +38,7 @@ impl<'a, P: BitPacker> PackedList<'a, P> {
         Ok(list)
     }
 
-    /// Opens a text of version 2, 3 or 4 as [`PackedList::open_any`] does, if its list is of this kind.
+    /// Opens an encoded list of version 2, 3 or 4 as [`PackedList::open_any`] does, if it is of this kind.
     ///
     /// Accepts any bytes, and allocates nothing. A list of another kind is refused with `WrongKind`, after all other faults.
     pub fn open_any_as(
@@ -51,7 +51,7 @@ impl<'a, P: BitPacker> PackedList<'a, P> {
         ensures bytes { IfOk result (λ list. text list ≡ bytes.now) }
         ensures kind { IfOk result (λ list. kind_of list ≡ kind) }
         ensures list { IfOk result (λ list. IsText (version_of list) P.lanes kind (values list) bytes.now) }
-        // These are all texts of lists of this kind, for each number of lanes that a text can say.
+        // These are all encoded lists of this kind, for each number of lanes that a header can state.
         ensures every { (version : Version) (all : List ℕ) → HasCode P.lanes
             → IsText version P.lanes kind all bytes.now → IsOk result }
     {

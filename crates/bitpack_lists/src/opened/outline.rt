@@ -1,4 +1,4 @@
-//! The outline of an opened list: what opening found, in numbers that a caller keeps beside the bytes.
+//! The outline of an opened list: what opening found, in numbers that a caller stores beside the bytes.
 
 ghost use Rattle.std.specs.Prelude.{◌≡◌};
 ghost use Rattle.bitpack_lists.specs.Opened.{text, version_of};
@@ -11,9 +11,9 @@ use crate::list_kind::{ListKind, next_kind};
 use crate::version::Version;
 use bitpacking::{BitPacker, Kind};
 
-/// What opening found in a text: its version, kind and lengths, the start of the tail, and the value before the tail.
+/// What opening found in bytes: its version, kind and lengths, the start of the tail, and the value before the tail.
 ///
-/// [`PackedList::from_outline`] makes the list again from it and the bytes, and reads none of them. Zeros are the outline of no text.
+/// [`PackedList::from_outline`] makes the list again from it and the bytes, and reads none of them. Zeros are the outline of no list.
 #[repr(C)]
 #[derive(Clone, Copy)]
 pub struct ListOutline {
@@ -80,7 +80,7 @@ impl<'a, P: BitPacker> PackedList<'a, P> {
     }
 }
 
-/// The value before the tail, from what is packed there in place of values: 0 if that tells none.
+/// The value before the tail, from what is packed there instead of values: 0 if there is none.
 fn value_before(kind: Kind) -> u32
     ensures { result ≡ before_of kind }
 {
@@ -91,7 +91,7 @@ fn value_before(kind: Kind) -> u32
     }
 }
 
-/// What is packed in a tail in place of its values, from the value before it.
+/// What is packed in a tail instead of its values, from the value before it.
 #[inline(always)]
 fn tail_kind<P: BitPacker>(kind: ListKind, count: usize, before: u32) -> Kind
     ensures { result ≡ kind_of_tail P.lanes kind count before }

@@ -1,4 +1,4 @@
-//! A place in a list that is read block by block: the current block, and an index in it.
+//! A position in a list that is read block by block: the current block, and an index in it.
 
 ghost use Rattle.std.specs.Prelude.{◌≤◌, length};
 
@@ -8,10 +8,10 @@ use super::{ListBlock, PackedList};
 use crate::blocks::reads::Reads;
 use bitpacking::{BitPacker, MAX_BLOCK_LEN};
 
-/// A place in a list. It has the values of the current block, and so takes about 1 KB.
+/// A position in a list, without the list. It has the values of the current block, and so takes about 1 KB.
 ///
-/// The list is not a part of it. Each move takes the list, which has to be the one that it was started in. Only `move_to` can move it back.
-/// However it is moved forward, it unpacks each block at most once: one at its start, and then only the block that it moves to.
+/// Each move takes the list, which has to be the one that it was started in. Only `move_to` can move it back. However it moves forward, it
+/// unpacks each block at most once: one at its start, and then only the block that it moves to.
 #[repr(C)]
 #[derive(Drop)]
 pub struct Place {
@@ -32,7 +32,7 @@ impl Place {
     ghost use Rattle.bitpack_lists.specs.Places.{IsSoughtFrom};
     ghost use Rattle.bitpack_lists.specs.inner.Searching.{IsFirstFrom};
 
-    /// At the end of an empty list: the place that is all zero.
+    /// The end of an empty list: all zero.
     pub fn empty() -> Place
         ensures { (result.block ≡ 0) × (result.index ≡ 0) × (result.len ≡ 0) }
     {
@@ -76,7 +76,7 @@ impl Place {
         &self.values[self.index..self.len]
     }
 
-    /// The number of values before this place.
+    /// The number of values before this one.
     #[inline(always)]
     pub fn position<L: ReadBlocks>(&self, list: &L) -> usize
         requires { IsAt (L.lanes list.now) (L.has list.now) (L.ordered list.now) self.now }
@@ -183,7 +183,7 @@ impl Place {
     /// Moves to the first value from here on that is at least the target, or to the end if there is none. Tries the value `ahead` values ahead
     /// first.
     ///
-    /// Unpacks at most one block. If the value is in the current block, it unpacks none and reads no entry. To a block that is further it
+    /// Unpacks at most one block. If the value is in the current block, it unpacks none and reads no skip entry. Otherwise it gallops: it
     /// reads at most two entries for each time that the distance doubles.
     #[inline(always)]
     pub fn seek<L: ReadBlocks>(&mut self, list: &L, target: u32, ahead: usize, reads: &mut Reads)
@@ -193,7 +193,7 @@ impl Place {
             self.old self.new reads.old reads.new }
         ensures sought { (all : List ℕ) → L.has list.now all → IsSoughtFrom all target
             (position_of (L.lanes list.now) self.old) (position_of (L.lanes list.now) self.new) }
-        // From block i to block j it reads at most twice k entries if j - i + 1 is at most 2 ^ k.
+        // From block i to block j it reads at most twice k skip entries if j - i + 1 is at most 2 ^ k.
         ensures entries { (k : ℕ) → self.new.block + 1 ≤ self.old.block + 2 ^ k
             → reads.new.entries ≤ reads.old.entries + 2 * k }
     {

@@ -32,7 +32,7 @@ pub trait ReadBlocks {
         ensures read { HasRead (lanes self.now) (has self.now) (ordered self.now) block result out.new }
         ensures one { ReadsOne (lanes self.now) (has self.now) block reads.old.blocks reads.new.blocks };
 
-    /// As `read_at`, but reads no entry of another block. Requires the last value before the block.
+    /// As `read_at`, but reads no skip entry of another block. Requires the last value before the block.
     fn read_next(&self, block: usize, before: u32, out: &mut [u32], reads: &mut Reads) -> usize
         requires block { HasBlock (lanes self.now) (has self.now) block }
         requires before { IsBefore (lanes self.now) (has self.now) block before }
@@ -62,7 +62,7 @@ pub trait ReadBlocks {
             → IsFirstReaching (lanes self.now) all target from result.0 }
         ensures read { HasRead (lanes self.now) (has self.now) (ordered self.now) result.0 result.1 out.new }
         ensures one { ReadsOne (lanes self.now) (has self.now) result.0 reads.old.blocks reads.new.blocks }
-        // To block j from block i on it reads at most twice k entries if j - i + 2 is at most 2 ^ k.
+        // To block j from block i on it reads at most twice k skip entries if j - i + 2 is at most 2 ^ k.
         ensures entries { (k : ℕ) → result.0 + 2 ≤ from + 2 ^ k → reads.new.entries ≤ reads.old.entries + 2 * k };
 
     ghost none: { (list : Self) (all : List ℕ) → has list all → lanes list ≡ 0 → length all ≡ 0 };

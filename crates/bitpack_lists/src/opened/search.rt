@@ -15,7 +15,7 @@ use crate::v4::bodies::start_of;
 use crate::version::Version;
 use bitpacking::{BitPacker, Kind, MAX_BLOCK_LEN};
 
-/// The step of a search that halves all blocks, and of one that tries the nearest first.
+/// The step of a search that halves all blocks, and of one that gallops.
 pub(crate) const HALVES: usize = usize::MAX;
 
 pub(crate) const DOUBLES: usize = 0;
@@ -52,12 +52,12 @@ impl<'a, P: BitPacker> PackedList<'a, P> {
 
     /// The first value that is at least the target, with its position, or `None` if every value is below it.
     ///
-    /// The list has to be sorted or strictly sorted. Its entries are searched by halves. Unpacks at most one block, and none that is a
-    /// bit set, or the groups of the tail up to the value.
+    /// The list has to be sorted or strictly sorted. The search halves its skip entries. Unpacks at most one block, and none that is a bit
+    /// set, or the groups of the tail up to the value.
     pub fn seek(&self, target: u32, reads: &mut Reads) -> Option<(usize, u32)>
         requires { kind_of self.now ≢ ListKind.Plain }
         ensures found { result ≡ first_at_least (values self.now) target }
-        // The entries that it reads are at most as many as the count of whole blocks has binary digits.
+        // It reads at most as many skip entries as the count of whole blocks has binary digits.
         ensures reads { IsSearched P.lanes (length (values self.now)) result reads.old reads.new }
     {
         match self.first_block(target, reads) {
@@ -114,7 +114,7 @@ impl<'a, P: BitPacker> PackedList<'a, P> {
         first_in_block(&room[..len], len * block.number, target)
     }
 
-    /// As `seek`, with the block that was unpacked last at hand.
+    /// As `seek`, with the cached block that was unpacked last.
     pub(crate) fn seek_kept(
         &self,
         target: u32,
@@ -143,8 +143,7 @@ impl<'a, P: BitPacker> PackedList<'a, P> {
         }
     }
 
-    /// The first whole block from one on, which has this kind, whose mark is at least the target. Tries the first blocks at
-    /// distances that grow from a step, and then halves.
+    /// The first whole block from one on, which has this kind, whose mark is at least the target. Gallops from a step on, and then halves.
     pub(crate) fn find(
         &self,
         from: usize,
@@ -224,7 +223,7 @@ impl<'a, P: BitPacker> PackedList<'a, P> {
         first_in_block(&kept.values[..len], len * block.number, target)
     }
 
-    /// Unpacks a block, unless it is the one at hand.
+    /// Unpacks a block, unless it is the cached one.
     pub(crate) fn cache_block(&self, block: ListBlock, kept: &mut KeptBlock, reads: &mut Reads)
         requires block { IsListBlock self.now block }
         requires kept { IsKept self.now kept.old }

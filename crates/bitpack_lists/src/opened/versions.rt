@@ -1,4 +1,4 @@
-//! Opening texts of version 3, of version 4, and of any version.
+//! Opening lists of version 3, of version 4, and of any version.
 
 ghost use Rattle.std.specs.Prelude.{◌≡◌, IfOk, None};
 ghost use Rattle.bitpack_lists.specs.declared.version.Version.{Version};
@@ -16,18 +16,18 @@ use crate::v4::opening::{stated4, test_version4};
 use crate::version::{FIRST_OF_3, Version};
 use bitpacking::BitPacker;
 
-/// The first byte of a text of version 4 is at least this, and below the next number. In versions 1 and 2 it is the number of the version.
+/// The first byte of a list of version 4 is at least this, and below the next number. In versions 1 and 2 it is the number of the version.
 const FIRST_OF_4: u8 = 16;
 
 impl<'a, P: BitPacker> PackedList<'a, P> {
-    /// Opens a text of version 3, which is tested whole. Accepts any bytes, and allocates nothing.
+    /// Opens an encoded list of version 3. Tests all bytes, accepts any, and allocates nothing.
     ///
     /// The list has the calls of one of version 2.
     pub fn open3(packer: P, bytes: &'a [u8]) -> Result<PackedList<'a, P>, ListError>
         // Bytes with a fault are refused for the first, and bytes without one are opened.
         ensures fault { FindsFault result (fault3 P.lanes bytes.now) }
         ensures bytes { IfOk result (λ list. text list ≡ bytes.now) }
-        // The bytes are the text of this kind and these values, and of no other list.
+        // The bytes encode the list of this kind and these values, and no other.
         ensures list { IfOk result (λ list. List3 P.lanes (kind_of list) (values list) bytes.now) }
         ensures only { IfOk result (λ list.
             IsTextOfNoOther Version.Three P.lanes (kind_of list) (values list) bytes.now) }
@@ -37,7 +37,7 @@ impl<'a, P: BitPacker> PackedList<'a, P> {
         Ok(PackedList::of_stated(Version::Three, packer, found, bytes))
     }
 
-    /// Opens a text of version 4, which is tested whole. Accepts any bytes, and allocates nothing.
+    /// Opens an encoded list of version 4. Tests all bytes, accepts any, and allocates nothing.
     ///
     /// The list has the calls of one of version 2.
     pub fn open4(packer: P, bytes: &'a [u8]) -> Result<PackedList<'a, P>, ListError>
@@ -52,7 +52,7 @@ impl<'a, P: BitPacker> PackedList<'a, P> {
         Ok(PackedList::of_stated(Version::Four, packer, found, bytes))
     }
 
-    // The list of a text of this version that states this.
+    // The list of this version whose bytes state this.
     fn of_stated(
         version: Version,
         packer: P,
@@ -75,9 +75,9 @@ impl<'a, P: BitPacker> PackedList<'a, P> {
         }
     }
 
-    /// Opens a text of version 2, 3 or 4, whichever its first byte says.
+    /// Opens an encoded list of version 2, 3 or 4, whichever its first byte says.
     ///
-    /// Accepts any bytes, and allocates nothing. A text of version 1 is refused with `BadVersion(1)`.
+    /// Accepts any bytes, and allocates nothing. A list of version 1 is refused with `BadVersion(1)`.
     pub fn open_any(packer: P, bytes: &'a [u8]) -> Result<PackedList<'a, P>, ListError>
         ensures fault { FindsFault result (fault_of_any P.lanes bytes.now) }
         ensures bytes { IfOk result (λ list. text list ≡ bytes.now) }
@@ -97,7 +97,7 @@ impl<'a, P: BitPacker> PackedList<'a, P> {
         Ok(list)
     }
 
-    /// The list of a text of version 2, 3 or 4 that was opened before, as [`PackedList::from_validated`] gives one of version 2.
+    /// The list of version 2, 3 or 4 whose bytes were opened before, as [`PackedList::from_validated`] returns one of version 2.
     pub fn from_validated_any(packer: P, bytes: &'a [u8]) -> PackedList<'a, P>
         requires sound { fault_of_any P.lanes bytes.now ≡ None }
         ensures bytes { text result ≡ bytes.now }

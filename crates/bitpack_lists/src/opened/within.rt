@@ -17,8 +17,8 @@ pub(super) fn within(low: u32, high: u32, value: u32) -> bool
     low <= value && value <= high
 }
 
-/// Writes the positions of these values that are within a range, and others after them up to `AHEAD` places. The first value has the
-/// position `start`. Returns how many are within the range. No branch depends on a value.
+/// Writes the positions of these values that are within a range, and others after them up to `AHEAD` of them. The first value has
+/// the position `start`. Returns how many are within the range. No branch depends on a value.
 #[inline(always)]
 pub(super) fn find_in(values: &[u32], start: usize, low: u32, high: u32, found: &mut [u32]) -> usize
     requires can { (start + length values.now ≤ 2 ^ 32) × (length values.now + AHEAD ≤ length found.old) }
@@ -44,7 +44,7 @@ fn find_by_eight(values: &[u32], start: usize, low: u32, high: u32, found: &mut 
     next
 }
 
-/// As `find_in`, for the values from an index on. The values before it gave the first `done` positions.
+/// As `find_in`, for the values from an index on. The values before it account for the first `done` positions.
 #[inline(always)]
 fn find_rest(
     values: &[u32],

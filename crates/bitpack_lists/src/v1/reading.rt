@@ -1,4 +1,4 @@
-//! Texts into their lists. The bytes are untrusted.
+//! From bytes to lists. The bytes are untrusted.
 
 ghost use Rattle.std.specs.Prelude.{◌≡◌, ◌+◌, ◌-◌, ◌*◌, ◌<◌, ◌≤◌, ◌/◌, ◌%◌, ◌++◌, ℕ, List, length, slice_index, OnOk, OnErr, IfOk, IfErr, MatchOption, None, vec_len, vec_capacity};
 ghost use Rattle.bitpacking.specs.Codes.{AreWords};
@@ -14,16 +14,16 @@ use crate::numbers::read_all;
 use crate::reserved::append_zeros;
 use bitpacking::{BitPacker, Kind};
 
-/// Appends the values of a text and returns its kind.
+/// Appends the values of an encoded list and returns its kind.
 ///
-/// Any bytes are taken. The whole text is tested before a value is appended, and the vector grows once at most, by as many
-/// values as the text has: at most 32 for each lane and byte of the text.
+/// Any bytes are accepted. All bytes are tested before a value is appended, and the vector grows at most once, by as many
+/// values as the list has: at most 32 for each lane and byte.
 pub fn decode<P: BitPacker>(
     packer: &P,
     bytes: &[u8],
     out: &mut Vec<u32>,
 ) -> Result<ListKind, ListError>
-    // The bytes are the text of these values, which are appended to what the vector held.
+    // The bytes encode these values, which are appended to what the vector held.
     ensures ok { IfOk result (λ kind. (values : List ℕ) × List1 P.lanes kind values bytes.now
         × (out.new.items ≡ out.old.items ++ values)) }
     // Bytes with a fault are refused for the first, and bytes without one only if memory runs out.
@@ -33,7 +33,7 @@ pub fn decode<P: BitPacker>(
     ensures room { fault1 P.lanes bytes.now ≡ None
         → OnErr result (vec_capacity out.old < vec_len out.old + count_of bytes.now) }
     ensures unchanged { OnErr result (out.new.items ≡ out.old.items) }
-    // A refusal takes no room either, whatever the header promises.
+    // A refusal allocates nothing either, whatever the header promises.
     ensures kept { OnErr result (vec_capacity out.new ≡ vec_capacity out.old) }
 {
     let header = test_version1(packer, bytes)?;
@@ -44,7 +44,7 @@ pub fn decode<P: BitPacker>(
     Ok(header.kind)
 }
 
-/// Tests the whole text.
+/// Tests all bytes.
 pub(crate) fn test_version1<P: BitPacker>(packer: &P, bytes: &[u8]) -> Result<Header, ListError>
     ensures fault { FindsFault result (fault1 P.lanes bytes.now) }
     ensures header { IfOk result (λ header. BeginsWithHeader 1 P.lanes header.kind header.count bytes.now) }

@@ -1,4 +1,4 @@
-//! Lists into their texts.
+//! From lists to their bytes.
 
 ghost use Rattle.std.specs.Prelude.{◌≡◌, ◌+◌, ◌^◌, ◌<◌, ◌≤◌, ◌++◌, ℕ, List, length, take, OnOk, OnErr, IfErr, vec_len, vec_capacity};
 ghost use Rattle.bitpacking.specs.Bits.{AreBytes};
@@ -17,22 +17,22 @@ use crate::numbers::write_all;
 use crate::reserved::append;
 use bitpacking::{BitPacker, Kind, MAX_BLOCK_SIZE};
 
-/// Appends the text of the values. They may be in any order, whatever the kind.
+/// Appends the encoded list of the values. They may be in any order, whatever the kind.
 ///
-/// A list has at most 268,435,456 values. The vector grows once at most.
+/// A list has at most 268,435,456 values. The vector grows at most once.
 pub fn encode<P: BitPacker>(
     packer: &P,
     kind: ListKind,
     values: &[u32],
     out: &mut Vec<u8>,
 ) -> Result<(), ListError>
-    // What is appended is the text of the values.
+    // What is appended is the encoded list of the values.
     ensures ok { OnOk result ((text : List ℕ) × AreBytes text × List1 P.lanes kind values.now text
         × (out.new.items ≡ out.old.items ++ text)) }
     // Too many values are refused as such, and others only if memory runs out.
     ensures long { 2 ^ 28 < length values.now → result ≡ Err (ListError.TooLong (length values.now)) }
     ensures memory { length values.now ≤ 2 ^ 28 → IfErr result (λ e. e ≡ ListError.Memory) }
-    // Memory runs out only if the vector has no room for the text.
+    // Memory runs out only if the vector has no room for the encoded list.
     ensures room { length values.now ≤ 2 ^ 28 → OnErr result ((text : List ℕ) → List1 P.lanes kind values.now text
         → vec_capacity out.old < vec_len out.old + length text) }
     ensures unchanged { OnErr result (out.new.items ≡ out.old.items) }
@@ -54,7 +54,7 @@ pub fn encode<P: BitPacker>(
     Ok(())
 }
 
-/// Appends the blocks and the tail of the values. There is room for them. The widths are the ones that were kept.
+/// Appends the blocks and the tail of the values. There is room for them. The widths are the cached ones.
 fn write_blocks<P: BitPacker>(
     packer: &P,
     kind: Kind,

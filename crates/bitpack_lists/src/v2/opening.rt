@@ -1,4 +1,4 @@
-//! Tests of texts of version 2. The bytes are untrusted.
+//! Tests of version 2 lists. The bytes are untrusted.
 
 ghost use Rattle.std.specs.Prelude.{◌+◌, ◌-◌, ◌*◌, ◌^◌, ◌<◌, ◌≤◌, IfOk};
 ghost use Rattle.bitpack_lists.specs.Parts.{BeginsWithHeader, FindsFault};
@@ -10,7 +10,7 @@ use crate::header::{HEADER_LEN, Header};
 use crate::list_error::ListError;
 use bitpacking::BitPacker;
 
-/// Tests the whole text, and returns its header.
+/// Tests all bytes, and returns the header.
 pub(crate) fn test_version2<P: BitPacker>(packer: &P, bytes: &[u8]) -> Result<Header, ListError>
     ensures fault { FindsFault result (fault2 P.lanes bytes.now) }
     ensures header { IfOk result (λ header. BeginsWithHeader 2 P.lanes header.kind header.count bytes.now) }

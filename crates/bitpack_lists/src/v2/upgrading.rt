@@ -1,4 +1,4 @@
-//! Converts texts of version 1 to version 2. The bytes are untrusted.
+//! Converts version 1 lists to version 2. The bytes are untrusted.
 
 ghost use Rattle.std.specs.Prelude.{◌≡◌, ◌+◌, ◌*◌, ◌≤◌, ◌<◌, ◌++◌, ⊤, ℕ, List, length, drop, OnOk, OnErr, IsOk, IfOk, IfErr, MatchOption, vec_len, vec_capacity};
 ghost use Rattle.bitpacking.specs.Bits.{AreBytes};
@@ -24,10 +24,10 @@ use bitpacking::{BitPacker, Kind, MAX_BLOCK_LEN};
 ///
 /// Accepts any bytes, and tests all of them before it appends a byte. Values out of order are refused: the values of a sorted list
 /// may not decrease, and the values of a strictly sorted one have to increase. The bodies of the blocks are copied, since they are
-/// the same bytes in both versions. The vector grows at most once, by the length of the new text, which has eight bytes more than
+/// the same bytes in both versions. The vector grows at most once, by the length of the new list, which has eight bytes more than
 /// the old one for each whole block.
 pub fn upgrade<P: BitPacker>(packer: &P, bytes: &[u8], out: &mut Vec<u8>) -> Result<(), ListError>
-    // The bytes are the text of some values, and what is appended is the text of version 2 of the same.
+    // The bytes encode some values, and what is appended is the version 2 list of the same.
     ensures ok { OnOk result ((kind : ListKind) × (values : List ℕ) × (text : List ℕ)
         × List1 P.lanes kind values bytes.now × AreBytes text × List2 P.lanes kind values text
         × (out.new.items ≡ out.old.items ++ text)) }
@@ -37,7 +37,7 @@ pub fn upgrade<P: BitPacker>(packer: &P, bytes: &[u8], out: &mut Vec<u8>) -> Res
     ensures order { (kind : ListKind) (values : List ℕ) → List1 P.lanes kind values bytes.now
         → MatchOption (first_out kind values) (IfErr result (λ e. e ≡ ListError.Memory))
         (λ position. result ≡ Err (ListError.NotSorted position)) }
-    // Memory runs out only if the vector has no room for the text.
+    // Memory runs out only if the vector has no room for the new list.
     ensures room { (kind : ListKind) (values text : List ℕ) → List1 P.lanes kind values bytes.now
         → List2 P.lanes kind values text → OnErr result (vec_capacity out.old < vec_len out.old + length text) }
     ensures unchanged { OnErr result (out.new.items ≡ out.old.items) }
@@ -49,7 +49,7 @@ pub fn upgrade<P: BitPacker>(packer: &P, bytes: &[u8], out: &mut Vec<u8>) -> Res
         return Err(ListError::NotSorted(position));
     }
     let blocks = header.count / P::BLOCK_LEN;
-    // A text of version 1 has one byte in place of each entry.
+    // A version 1 list has one byte instead of each skip entry.
     if out.reserve(bytes.len() + (ENTRY_LEN - 1) * blocks).is_err() {
         return Err(ListError::Memory);
     }
@@ -96,7 +96,7 @@ pub(crate) fn test_order<P: BitPacker>(
     }
 }
 
-/// Appends an entry for each whole block. There is room for them.
+/// Appends a skip entry for each whole block. There is room for them.
 pub(crate) fn write_entries<P: BitPacker>(
     packer: &P,
     header: Header,

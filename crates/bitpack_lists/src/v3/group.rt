@@ -66,7 +66,7 @@ struct GroupTotals {
     later: u32,
 }
 
-/// The first `count` codes together, and those after them. No branch depends on a code, and the loop always takes 32 steps, so that the
+/// The first `count` codes together, and those after them. No branch depends on a code, and the loop always has 32 steps, so that the
 /// compiler adds several at once.
 #[inline(always)]
 fn add_group(count: usize, codes: &[u32]) -> GroupTotals

@@ -1,4 +1,4 @@
-//! The header of version 3: one byte of lanes, kind and a count below 15, or the count as a number after it.
+//! The header of version 3: one byte of lanes, kind and a count below 15, or the count as a varint after it.
 
 ghost use Rattle.std.specs.Prelude.{◌≡◌, ℕ, ◌+◌, ◌*◌, ◌^◌, ◌≤◌, IfOk, None, length, drop, take};
 ghost use Rattle.bitpack_lists.specs.declared.list_kind.ListKind.{ListKind};
@@ -24,7 +24,7 @@ pub(crate) struct ShortHeader {
 }
 
 impl ShortHeader {
-    /// Tests the header of a text, for a packer of `lanes` lanes.
+    /// Tests the header of an encoded list, for a packer of `lanes` lanes.
     #[tactic(auto, unfolding(crate::specs::Version3::header_fault3))]
     #[inline(always)]
     pub(crate) fn test(lanes: usize, bytes: &[u8]) -> Result<ShortHeader, ListError>
@@ -65,7 +65,7 @@ impl ShortHeader {
         })
     }
 
-    /// The header of a text, which has no fault.
+    /// The header of bytes without a fault.
     pub(crate) fn of_bytes(bytes: &[u8]) -> ShortHeader
         requires sound { (lanes : ℕ) × (header_fault3 lanes bytes.now ≡ None) }
         ensures kind { result.kind ≡ kind3 bytes.now }
@@ -105,7 +105,7 @@ pub(crate) fn lanes_of(code: u8) -> u8
     }
 }
 
-/// Tests the number at the front of the bytes as a count that is at least `least`. Returns it, and how many bytes it has.
+/// Tests the varint at the front of the bytes as a count that is at least `least`. Returns it, and how many bytes it has.
 #[tactic(auto, unfolding(crate::specs::Numbers::count_fault))]
 pub(crate) fn test_count(least: usize, bytes: &[u8]) -> Result<(usize, usize), ListError>
     ensures fault { FindsFault result (count_fault least bytes.now) }

@@ -1,4 +1,4 @@
-//! Tests of texts of version 3. The bytes are untrusted.
+//! Tests of version 3 lists. The bytes are untrusted.
 
 ghost use Rattle.std.specs.Prelude.{◌≡◌, true, ℕ, ◌+◌, ◌*◌, ◌^◌, ◌<◌, ◌≤◌, IfOk, None, slice_index};
 ghost use Rattle.bitpacking.specs.Codes.{values_of};
@@ -18,7 +18,7 @@ use crate::list_error::ListError;
 use crate::list_kind::{ListKind, next_kind};
 use bitpacking::{BitPacker, Kind, MAX_BLOCK_LEN};
 
-/// What a text without a fault states: its header, where its tail begins after that, and what is packed there in place of values.
+/// What bytes without a fault state: the header, where the tail begins after it, and what is packed there instead of values.
 #[derive(Clone, Copy)]
 pub(crate) struct StatedText {
     pub(crate) header: ShortHeader,
@@ -26,7 +26,7 @@ pub(crate) struct StatedText {
     pub(crate) tail_kind: Kind,
 }
 
-/// Tests the whole text.
+/// Tests all bytes.
 #[tactic(auto, unfolding(crate::specs::Version3::fault3))]
 pub(crate) fn test_version3<P: BitPacker>(packer: &P, bytes: &[u8]) -> Result<StatedText, ListError>
     ensures fault { FindsFault result (fault3 P.lanes bytes.now) }
@@ -102,7 +102,7 @@ pub(crate) fn first_out_of_tail<P: BitPacker>(
     first_out(header.kind, header.count - len, blocks.last, values)
 }
 
-/// What a text without a fault states, as `test_version3` returns it. Only the header and the last entry are read.
+/// What bytes without a fault state, as `test_version3` returns it. Only the header and the last skip entry are read.
 pub(crate) fn stated<P: BitPacker>(bytes: &[u8]) -> StatedText
     requires sound { fault3 P.lanes bytes.now ≡ None }
     ensures { IsStated3 P.lanes bytes.now result }
@@ -117,7 +117,7 @@ pub(crate) fn stated<P: BitPacker>(bytes: &[u8]) -> StatedText
     }
 }
 
-/// Where the tail begins, and what is packed there in place of values. Reads the last entry.
+/// Where the tail begins, and what is packed there instead of values. Reads the last skip entry.
 fn start_of_tail<P: BitPacker>(kind: ListKind, blocks: usize, rest: &[u8]) -> (usize, Kind)
     requires entries { EntriesAreSound P.lanes blocks rest.now }
     ensures start { result.0 ≡ tail_start P.lanes blocks rest.now }

@@ -1,4 +1,4 @@
-//! The tail of a list: its codes in groups, after the first one as a number if the list has no whole block.
+//! The tail of a list: its codes in groups, after the first one as a varint if the list has no whole block.
 
 ghost use Rattle.std.specs.Prelude.{◌≡◌, true, ℕ, List, ◌+◌, ◌^◌, ◌<◌, ◌≤◌, IfOk, None, length, min, take};
 ghost use Rattle.bitpacking.specs.Codes.{codes, start, values_of};
@@ -140,7 +140,7 @@ fn before_groups(blocks: usize) -> usize
     if blocks == 0 { 1 } else { 0 }
 }
 
-/// The bytes of a tail at most: four for each value, one for each group, and one for the number before the groups.
+/// At most this many bytes are a tail: four for each value, one for each group, and one for the varint before the groups.
 pub(crate) const LONGEST_TAIL: usize = 4 * MAX_BLOCK_LEN + MAX_BLOCK_LEN / LONGEST_GROUP + 2;
 
 /// Writes the tail of the values, which follow `blocks` whole blocks, at the start of the slice, and returns its length in bytes.
@@ -233,7 +233,7 @@ fn take_apart(before: u32, less: u32, values: &[u32], out: &mut [u32])
     }
 }
 
-/// Puts the values that have these codes in their place.
+/// Replaces these codes by the values that have them.
 pub(crate) fn to_values(kind: Kind, codes: &mut [u32])
     ensures { codes.new ≡ values_of kind codes.old }
 {

@@ -1,4 +1,4 @@
-//! Makes texts of version 3 from texts of versions 1 and 2. The bytes are untrusted.
+//! Converts lists of versions 1 and 2 to version 3. The bytes are untrusted.
 
 ghost use Rattle.std.specs.Prelude.{◌≡◌, ◌+◌, ◌*◌, ◌^◌, ◌≤◌, ◌<◌, ◌++◌, ⊤, ℕ, List, ◌==◌, length, take, drop, slice_index, OnOk, OnErr, IsOk, IfOk, IfErr, MatchOption, vec_len, vec_capacity};
 ghost use Rattle.bitpacking.specs.Bits.{AreBytes};
@@ -26,11 +26,11 @@ use crate::v2::opening;
 use crate::v2::upgrading::{copy_bodies, test_order, write_entries};
 use bitpacking::{BitPacker, Kind, MAX_BLOCK_LEN};
 
-/// The first byte of a text of version 2.
+/// The first byte of a version 2 list.
 const FIRST_OF_2: u8 = 2;
 
-/// What a text of version 1 or 2 says of its text of version 3: how many bytes the entries and bodies have there, and what is packed
-/// in the tail in place of values.
+/// What a list of version 1 or 2 says of itself in version 3: how many bytes the skip entries and bodies have there, and what is packed
+/// in the tail instead of values.
 #[derive(Clone, Copy)]
 struct OldText {
     is_two: bool,
@@ -39,15 +39,15 @@ struct OldText {
     tail_kind: Kind,
 }
 
-/// Appends the text of version 3 of a list whose text of version 1 or 2 these bytes are.
+/// Converts a list of version 1 or 2 to version 3 and appends the result.
 ///
-/// Any bytes are taken, and they are tested whole before a byte is appended: as a text of version 2 if they begin with 2, and otherwise
-/// as one of version 1. Values out of order are refused, as in [`list2::upgrade`](crate::list2::upgrade). The bodies of the blocks are
-/// copied, since they are the same bytes in each version. The vector grows once at most, by the length of the new text. The packer has 1,
-/// 4 or 8 lanes, as for [`encode`](crate::list3::encode).
+/// Accepts any bytes, and tests all of them before it appends a byte: as a list of version 2 if they begin with 2, and otherwise as one
+/// of version 1. Values out of order are refused, as in [`list2::upgrade`](crate::list2::upgrade). The bodies of the blocks are copied,
+/// since they are the same bytes in each version. The vector grows at most once, by the length of the new list. The packer has 1, 4 or 8
+/// lanes, as for [`encode`](crate::list3::encode).
 pub fn upgrade<P: BitPacker>(packer: &P, bytes: &[u8], out: &mut Vec<u8>) -> Result<(), ListError>
     requires lanes { HasCode P.lanes }
-    // The bytes are the text of some values in version 1 or 2, and what is appended is the text of version 3 of the same.
+    // The bytes encode some values in version 1 or 2, and what is appended is the version 3 list of the same.
     ensures ok { OnOk result ((kind : ListKind) × (values : List ℕ) × (text : List ℕ)
         × IsOlder P.lanes kind values bytes.now × AreBytes text × List3 P.lanes kind values text
         × (out.new.items ≡ out.old.items ++ text)) }
@@ -57,7 +57,7 @@ pub fn upgrade<P: BitPacker>(packer: &P, bytes: &[u8], out: &mut Vec<u8>) -> Res
     ensures order { (kind : ListKind) (values : List ℕ) → IsOlder P.lanes kind values bytes.now
         → MatchOption (first_out kind values) (IfErr result (λ e. e ≡ ListError.Memory))
         (λ position. result ≡ Err (ListError.NotSorted position)) }
-    // Memory runs out only if the vector has no room for the text.
+    // Memory runs out only if the vector has no room for the new list.
     ensures room { (kind : ListKind) (values text : List ℕ) → IsOlder P.lanes kind values bytes.now
         → List3 P.lanes kind values text → OnErr result (vec_capacity out.old < vec_len out.old + length text) }
     ensures unchanged { OnErr result (out.new.items ≡ out.old.items) }
@@ -81,7 +81,7 @@ pub fn upgrade<P: BitPacker>(packer: &P, bytes: &[u8], out: &mut Vec<u8>) -> Res
     Ok(())
 }
 
-/// Tests the whole text, and the order of its values.
+/// Tests all bytes, and the order of the values.
 fn test_text<P: BitPacker>(packer: &P, bytes: &[u8]) -> Result<OldText, ListError>
     ensures fault { MatchOption (older_fault P.lanes bytes.now) ⊤ (λ fault. result ≡ Err fault) }
     ensures order { (kind : ListKind) (values : List ℕ) → IsOlder P.lanes kind values bytes.now
@@ -110,7 +110,7 @@ fn test_text<P: BitPacker>(packer: &P, bytes: &[u8]) -> Result<OldText, ListErro
         Ok(tail_kind) => Ok(OldText {
             is_two: false,
             header,
-            // In version 1 one byte is in place of each entry.
+            // In version 1 there is one byte instead of each skip entry.
             whole: rest.len() - words + (ENTRY_LEN - 1) * (header.count / P::BLOCK_LEN),
             tail_kind,
         }),
@@ -118,14 +118,14 @@ fn test_text<P: BitPacker>(packer: &P, bytes: &[u8]) -> Result<OldText, ListErro
     }
 }
 
-/// Whether the bytes begin as a text of version 2.
+/// Whether the bytes begin as a version 2 list.
 pub(crate) fn is_two(bytes: &[u8]) -> bool
     ensures { result ≡ (slice_index bytes.now 0 == 2) }
 {
     bytes.len() > 0 && bytes[0] == FIRST_OF_2
 }
 
-/// The kind of what follows this many blocks, by the entry of the last one.
+/// The kind of what follows this many blocks, by the skip entry of the last one.
 fn kind_after(kind: ListKind, blocks: usize, rest: &[u8]) -> Kind
     requires { ENTRY_LEN * blocks ≤ length rest.now }
     ensures { result ≡ kind_at kind rest.now blocks }
@@ -153,7 +153,7 @@ fn pack_words(kind: Kind, blocks: usize, words: &[u8], bytes: &mut [u8]) -> usiz
     pack_tail(kind, blocks, values, bytes)
 }
 
-/// Appends the entries and the bodies, if there is room for them.
+/// Appends the skip entries and the bodies, if there is room for them.
 fn append_blocks<P: BitPacker>(packer: &P, old: OldText, rest: &[u8], out: &mut Vec<u8>)
     requires tested { IsTestedRest old.is_two P.lanes old.header.count old.whole rest.now }
     requires room { vec_len out.old + old.whole ≤ vec_capacity out.old }

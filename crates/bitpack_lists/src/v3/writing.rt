@@ -1,4 +1,4 @@
-//! Lists into their texts of version 2 or 3. The version is a value: only the header and the tail differ.
+//! From lists to bytes of version 2 or 3. The version is a value: only the header and the tail differ.
 
 ghost use Rattle.std.specs.Prelude.{◌≡◌, ◌-◌, ◌^◌, ◌<◌, ◌≤◌, ◌++◌, ℕ, List, length, take, slice_index};
 ghost use Rattle.bitpacking.specs.Bits.{AreBytes};
@@ -21,7 +21,7 @@ use crate::v3::tail::pack_tail;
 use crate::version::OlderVersion;
 use bitpacking::{BitPacker, Kind, MAX_BLOCK_LEN};
 
-/// What is known of a text before it is written: how many bytes it has, and how many of these are its header and its tail.
+/// What is known of an encoded list before it is written: how many bytes it has, and how many of these are its header and its tail.
 #[derive(Clone, Copy)]
 pub(crate) struct Plan {
     pub(crate) size: usize,
@@ -29,8 +29,8 @@ pub(crate) struct Plan {
     pub(crate) tail: usize,
 }
 
-/// Measures the text of the values and tests their order. Its header and its tail are written here; the least widths of the first blocks are
-/// kept.
+/// Measures the encoded list of the values and tests their order. Writes its header and its tail here, and caches the least widths of the
+/// first blocks.
 pub(crate) fn plan_older<P: BitPacker>(
     version: OlderVersion,
     packer: &P,
@@ -120,7 +120,7 @@ fn kind_of_tail(kind: ListKind, values: &[u32]) -> Kind
     next_kind(kind.first(), values[values.len() - 1])
 }
 
-/// Fills the slice with the text that has this header and this tail. The caller has kept the widths.
+/// Fills the slice with the encoded list that has this header and this tail. The caller has cached the widths.
 pub(crate) fn fill_older<P: BitPacker>(
     packer: &P,
     kind: ListKind,
@@ -144,7 +144,7 @@ pub(crate) fn fill_older<P: BitPacker>(
     fill_blocks(packer, kind, values, widths, &mut bytes[start..end]);
 }
 
-/// Fills the slice with the entries of the whole blocks and then their bodies. The caller has kept the widths.
+/// Fills the slice with the skip entries of the whole blocks and then their bodies. The caller has cached the widths.
 fn fill_blocks<P: BitPacker>(
     packer: &P,
     kind: ListKind,

@@ -11,7 +11,7 @@ use super::byte_bits::{eight_lanes, put_byte};
 use bitpacking::MAX_BLOCK_LEN;
 use std::simd::prelude::*;
 
-/// How many places after the last value are written too.
+/// How many values after the last one are written too.
 pub(crate) const AHEAD: usize = 8;
 
 /// The values of a block of four lanes.
@@ -49,7 +49,7 @@ pub(crate) fn pack_bits(values: &[u32], start: u32, body: &mut [u8])
     }
 }
 
-/// The word at hand, whose index is `at`, if this is the index asked for, and else 0.
+/// The current word, whose index is `at`, if this is the index wanted, and else 0.
 #[inline(always)]
 fn word_at(index: u32, at: u32, word: u32) -> u32
     ensures same { index ≡ at → result ≡ word }
@@ -58,7 +58,8 @@ fn word_at(index: u32, at: u32, word: u32) -> u32
     if index == at { word } else { 0 }
 }
 
-/// Writes the `len` values of a bit set to the front of a slice: faster if this has `AHEAD` places more, and what these held is then lost.
+/// Writes the `len` values of a bit set to the front of a slice: faster if it has room for `AHEAD` more values. What the slice held there
+/// is then lost.
 pub(crate) fn unpack_bits_in_front(body: &[u8], start: u32, len: usize, values: &mut [u32])
     requires few { len ≤ MAX_BLOCK_LEN }
     requires set { HasOnes len body.now }
@@ -99,7 +100,7 @@ fn unpack_through(body: &[u8], start: u32, room: &mut [u32], values: &mut [u32])
     values.copy_from_slice(&room[..values.len()]);
 }
 
-/// Writes the values of a bit set, and others after them up to `AHEAD` places. No branch depends on a bit. It takes four bytes at a time.
+/// Writes the values of a bit set, and others after them up to `AHEAD` of them. No branch depends on a bit. It reads four bytes at a time.
 #[inline(always)]
 pub(crate) fn unpack_bits_ahead(body: &[u8], start: u32, values: &mut [u32])
     requires whole { length body.now % 4 ≡ 0 }

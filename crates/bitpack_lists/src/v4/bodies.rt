@@ -54,7 +54,7 @@ pub(crate) fn unpack_packed<P: BitPacker>(
     packer.decompress_kind(kind, body, block, width);
 }
 
-/// Unpacks the body of a block. `entry` is what the text says of the block. A bit set is unpacked faster if there is more room than for a
+/// Unpacks the body of a block. `entry` is the skip entry of the block. A bit set is unpacked faster if there is more room than for a
 /// block.
 pub(crate) fn unpack_block4<P: BitPacker>(
     packer: &P,

@@ -31,8 +31,8 @@ pub(super) struct BlockPlace {
     pub(super) before: u32,
 }
 
-/// Tests the body of a block. `entry` is what the text says of the block. Returns its last value, and the first position out of order in it.
-/// A bit set is unpacked faster if there is more room than for a block.
+/// Tests the body of a block. `entry` is the skip entry of the block. Returns its last value, and the first position out of order in it. A
+/// bit set is unpacked faster if there is more room than for a block.
 #[inline(always)]
 pub(super) fn test_body4<P: BitPacker>(
     packer: &P,

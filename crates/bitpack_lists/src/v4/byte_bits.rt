@@ -20,7 +20,7 @@ pub(crate) fn put_byte(byte: u8, base: u32x8, values: &mut [u32], next: usize) -
     next + byte.count_ones() as usize
 }
 
-/// Eight lanes of 8, the bits of a byte. The compiler does not see that it is always 8, and so reads it once and keeps it in a register.
+/// Eight lanes of 8, the bits of a byte. The compiler does not see that it is always 8, and so loads it once into a register.
 #[inline(always)]
 pub(super) fn eight_lanes(values: &[u32]) -> u32x8
     requires { 8 ≤ length values.now }

@@ -1,4 +1,4 @@
-//! The blocks of a text of version 4 that stay as they are in another one, copied.
+//! The blocks of a version 4 list that stay as they are in another one, copied.
 
 ghost use Rattle.std.specs.Prelude.{◌≡◌, ◌+◌, ◌*◌, ◌<◌, ◌≤◌, ◌^◌, ℕ, length};
 ghost use Rattle.bitpacking.specs.Layout.{size};

@@ -14,7 +14,7 @@ use crate::blocks::reads::Reads;
 use bitpacking::{BitPacker, Kind};
 
 impl Reads {
-    /// Reads the mark of a block, in a text of `blocks` blocks.
+    /// Reads the mark of a block, in a list of `blocks` blocks.
     #[inline(always)]
     pub(crate) fn read_mark4(&mut self, blocks: usize, rest: &[u8], block: usize) -> u32
         requires { HasMarks blocks rest.now × (block < blocks) }
@@ -25,7 +25,7 @@ impl Reads {
         mark_at(blocks, rest, block)
     }
 
-    /// Reads what a text of `blocks` blocks says of one.
+    /// Reads the skip entry of a block, in a list of `blocks` blocks.
     pub(crate) fn read_entry4(&mut self, blocks: usize, rest: &[u8], block: usize) -> Block4
         requires { HasMarks blocks rest.now × (block < blocks) × Rises rest.now block }
         ensures is { (result.size ≡ size_at rest.now block)
@@ -36,7 +36,7 @@ impl Reads {
         read_block4(blocks, rest, block)
     }
 
-    /// Unpacks a block, in a text of `blocks` blocks.
+    /// Unpacks a block, in a list of `blocks` blocks.
     pub(crate) fn unpack_block4<P: BitPacker>(
         &mut self,
         packer: &P,

@@ -1,4 +1,4 @@
-//! The whole blocks of a text of version 4, written.
+//! The whole blocks of a version 4 list, written.
 
 ghost use Rattle.std.specs.Prelude.{◌≡◌, ◌+◌, ◌*◌, ◌≤◌, ◌++◌, ℕ, List, length};
 ghost use Rattle.bitpacking.specs.Layout.{size};

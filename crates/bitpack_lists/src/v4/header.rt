@@ -1,4 +1,4 @@
-//! The header of version 4: one byte of lanes and kind, and the count as a number.
+//! The header of version 4: one byte of lanes and kind, and the count as a varint.
 
 ghost use Rattle.std.specs.Prelude.{◌≡◌, ℕ, ◌*◌, ◌^◌, ◌≤◌, IfOk, None, length};
 ghost use Rattle.bitpack_lists.specs.Parts.{FindsFault};
@@ -10,7 +10,7 @@ use crate::list_kind::ListKind;
 use crate::numbers::unpack_number;
 use crate::v3::header::{ShortHeader, lanes_of, test_count};
 
-/// Tests the header of a text, for a packer of `lanes` lanes.
+/// Tests the header of an encoded list, for a packer of `lanes` lanes.
 #[tactic(auto, unfolding(crate::specs::Version4::header_fault4))]
 pub(crate) fn test_header4(lanes: usize, bytes: &[u8]) -> Result<ShortHeader, ListError>
     requires lanes { lanes ≤ 8 }
@@ -44,7 +44,7 @@ pub(crate) fn test_header4(lanes: usize, bytes: &[u8]) -> Result<ShortHeader, Li
     })
 }
 
-/// The header of a text, which has no fault.
+/// The header of bytes without a fault.
 pub(crate) fn header4_of(bytes: &[u8]) -> ShortHeader
     requires sound { (lanes : ℕ) × (header_fault4 lanes bytes.now ≡ None) }
     ensures kind { result.kind ≡ kind4 bytes.now }

@@ -1,4 +1,4 @@
-//! The sizes of blocks before they are written. The least widths of the first blocks are kept from here to the writing.
+//! The sizes of blocks before they are written. The least widths of the first blocks are cached from here to the writing.
 
 ghost use Rattle.std.specs.Prelude.{◌≡◌, ◌<◌, ◌≤◌, true, false, nat_le, length, slice_index};
 ghost use Rattle.bitpacking.specs.Codes.{start};
@@ -23,8 +23,8 @@ pub(crate) struct Measured {
     pub(crate) greatest: u32,
 }
 
-/// Measures the whole blocks of the values, and returns the kind of what follows them. The least widths of the first blocks after those that
-/// stay are kept.
+/// Measures the whole blocks of the values, and returns the kind of what follows them. Caches the least widths of the first blocks after the
+/// copied ones.
 pub(crate) fn measure_blocks<P: BitPacker>(
     packer: &P,
     source: &Source,
@@ -56,7 +56,7 @@ pub(crate) fn measure_blocks<P: BitPacker>(
     (Measured { total, greatest }, kind)
 }
 
-/// The size of the body of the block with this index: by the width that was kept, or else measured again.
+/// The size of the body of the block with this index: by the cached width, or else measured again.
 #[inline(always)]
 pub(crate) fn size_of_block<P: BitPacker>(
     packer: &P,

@@ -1,5 +1,5 @@
-//! Lists into their texts, in a version that is a value: each text is planned, and then written over its bytes. In version 4 a list that is
-//! shorter than a block is written in version 3.
+//! From lists to bytes, in a version that is a value: each encoded list is planned, and then written. In version 4 a list that is shorter
+//! than a block is written in version 3.
 
 ghost use Rattle.std.specs.Prelude.{◌≡◌, ◌+◌, ◌*◌, ◌^◌, ◌≤◌, ℕ, List, length, None};
 ghost use Rattle.bitpacking.specs.Bits.{AreBytes};
@@ -24,17 +24,17 @@ use crate::v3::writing::{fill_older, plan_older};
 use crate::version::{OlderVersion, Version};
 use bitpacking::BitPacker;
 
-/// The bytes of the tail of a short list at most. Little room takes less time to clear.
+/// At most this many bytes are the tail of a short list. Little room takes less time to clear.
 const SHORT_TAIL: usize = 4 * LONGEST_GROUP + 2;
 
-/// What a text is written as: in an older version, or in version 4 with the measures of its blocks.
+/// The form of an encoded list: in an older version, or in version 4 with the measures of its blocks.
 #[derive(Clone, Copy)]
 enum Form {
     Older(OlderVersion),
     Newest(Measured),
 }
 
-/// What is known of a text before it is written: how many bytes it has, and how many of these are its header and its tail.
+/// What is known of an encoded list before it is written: how many bytes it has, and how many of these are its header and its tail.
 #[derive(Clone, Copy)]
 struct Plan {
     size: usize,
@@ -43,7 +43,7 @@ struct Plan {
     form: Form,
 }
 
-/// Appends the newest text of the values.
+/// Appends the encoded list of the values in the newest version.
 pub(crate) fn append_newest<P: BitPacker>(
     packer: &P,
     kind: ListKind,
@@ -55,7 +55,7 @@ pub(crate) fn append_newest<P: BitPacker>(
     append_list(Version::Four, packer, kind, values, out)
 }
 
-/// Appends the text of the values, as the `encode` of this version does.
+/// Appends the encoded list of the values, as the `encode` of this version does.
 pub(crate) fn append_list<P: BitPacker>(
     version: Version,
     packer: &P,
@@ -68,7 +68,7 @@ pub(crate) fn append_list<P: BitPacker>(
     append_source(version, packer, &Source::of_values(kind, values), out)
 }
 
-/// Appends the text of the values as [`append_list`] does. Blocks may stay only in version 4.
+/// Appends the encoded list of the values as [`append_list`] does. Blocks may be copied only in version 4.
 pub(crate) fn append_source<P: BitPacker>(
     version: Version,
     packer: &P,
@@ -96,7 +96,7 @@ pub(crate) fn append_source<P: BitPacker>(
     append_planned(version, packer, source, widths, tail, out)
 }
 
-/// Appends the text as [`append_source`] does, with room for the widths that are kept and for the tail.
+/// Appends the encoded list as [`append_source`] does, with room for the cached widths and for the tail.
 fn append_planned<P: BitPacker>(
     version: Version,
     packer: &P,
@@ -128,7 +128,8 @@ fn append_planned<P: BitPacker>(
     Ok(())
 }
 
-/// Writes the text of the values at the start of the slice, as the `encode_to` of this version does, and returns its length in bytes.
+/// Writes the encoded list of the values at the start of the slice, as the `encode_to` of this version does, and returns its length in
+/// bytes.
 ///
 /// In version 4 a list that is shorter than a block is written in version 3.
 pub fn write_list<P: BitPacker>(
@@ -143,7 +144,7 @@ pub fn write_list<P: BitPacker>(
     write_source(version, packer, &Source::of_values(kind, values), bytes)
 }
 
-/// Writes the text of the values as [`write_list`] does. Blocks may stay only in version 4.
+/// Writes the encoded list of the values as [`write_list`] does. Blocks may be copied only in version 4.
 pub(crate) fn write_source<P: BitPacker>(
     version: Version,
     packer: &P,
@@ -172,7 +173,7 @@ pub(crate) fn write_source<P: BitPacker>(
     write_planned(version, packer, source, widths, tail, bytes)
 }
 
-/// Writes the text as [`write_source`] does, with room for the widths that are kept and for the tail.
+/// Writes the encoded list as [`write_source`] does, with room for the cached widths and for the tail.
 fn write_planned<P: BitPacker>(
     version: Version,
     packer: &P,
@@ -204,7 +205,7 @@ fn write_planned<P: BitPacker>(
     Ok(size)
 }
 
-/// The length in bytes of the text of the values, as the `encoded_len` of this version returns it.
+/// Returns the length in bytes of the encoded list of the values, as the `encoded_len` of this version returns it.
 pub fn list_len<P: BitPacker>(
     version: Version,
     packer: &P,
@@ -226,8 +227,8 @@ pub fn list_len<P: BitPacker>(
     Ok(plan.size)
 }
 
-/// Measures the text of the values and tests their order. Its header and its tail are written here; the least widths of the first blocks after
-/// those that stay are kept. In version 4 a list that is shorter than a block is planned in version 3.
+/// Measures the encoded list of the values and tests their order. Writes its header and its tail here, and caches the least widths of the
+/// first blocks after the copied ones. In version 4 a list that is shorter than a block is planned in version 3.
 fn plan_text<P: BitPacker>(
     version: Version,
     packer: &P,
@@ -261,7 +262,7 @@ fn plan_text<P: BitPacker>(
     })
 }
 
-/// The older version in which a text is written, or `None` for version 4.
+/// Returns the older version in which a list is written, or `None` for version 4.
 fn older_in(version: Version, is_short: bool) -> Option<OlderVersion>
     ensures { result ≡ Rattle.bitpack_lists.specs.inner.Planned.older_in version is_short }
 {
@@ -278,7 +279,7 @@ fn older_in(version: Version, is_short: bool) -> Option<OlderVersion>
     }
 }
 
-/// Fills the slice with the text that has this header and this tail. The caller has kept the widths.
+/// Fills the slice with the encoded list that has this header and this tail. The caller has cached the widths.
 fn fill_text<P: BitPacker>(
     packer: &P,
     source: &Source,

@@ -1,4 +1,4 @@
-//! Tests of texts of version 4. The bytes are untrusted.
+//! Tests of version 4 lists. The bytes are untrusted.
 
 ghost use Rattle.std.specs.Prelude.{◌≡◌, ◌*◌, ◌^◌, ◌≤◌, IfOk, None, length};
 ghost use Rattle.bitpack_lists.specs.Parts.{FindsFault, whole_blocks};
@@ -20,7 +20,7 @@ use crate::v3::opening::{StatedText, first_out_of_tail};
 use crate::v3::tail::test_tail;
 use bitpacking::{BitPacker, Kind, MAX_BLOCK_LEN};
 
-/// Tests the whole text.
+/// Tests all bytes.
 #[tactic(auto, unfolding(crate::specs::Version4::fault4))]
 pub(crate) fn test_version4<P: BitPacker>(packer: &P, bytes: &[u8]) -> Result<StatedText, ListError>
     ensures fault { FindsFault result (fault4 P.lanes bytes.now) }
@@ -135,7 +135,7 @@ fn test_bodies4<P: BitPacker>(
     Ok((last, out, kind))
 }
 
-/// What a text without a fault states, as `test_version4` returns it. Only the header, the last end and the last mark are read.
+/// What bytes without a fault state, as `test_version4` returns it. Only the header, the last end and the last mark are read.
 pub(crate) fn stated4<P: BitPacker>(bytes: &[u8]) -> StatedText
     requires sound { fault4 P.lanes bytes.now ≡ None }
     ensures { IsStated4 P.lanes bytes.now result }

@@ -1,4 +1,4 @@
-//! The text of a list of version 4: planned, and then written over its bytes.
+//! A version 4 list: planned, and then written.
 
 ghost use Rattle.std.specs.Prelude.{◌≡◌, ◌≢◌, ◌-◌, ◌*◌, ◌^◌, ◌<◌, ◌≤◌, ◌++◌, ℕ, List, length, slice_index};
 ghost use Rattle.bitpacking.specs.Bits.{AreBytes};
@@ -20,8 +20,8 @@ use crate::list_kind::ListKind;
 use crate::v3::tail::pack_tail;
 use bitpacking::BitPacker;
 
-/// What is known of a text before it is written: how many bytes it has, how many of these are its header and its tail, and the measures of
-/// its blocks.
+/// What is known of an encoded list before it is written: how many bytes it has, how many of these are its header and its tail, and the
+/// measures of its blocks.
 #[derive(Clone, Copy)]
 pub(crate) struct Plan {
     pub(crate) size: usize,
@@ -30,8 +30,8 @@ pub(crate) struct Plan {
     pub(crate) measured: Measured,
 }
 
-/// Measures the text of the values, which are a block or more, and tests their order. Its header and its tail are written here; the least
-/// widths of the first blocks after those that stay are kept.
+/// Measures the encoded list of the values, which are a block or more, and tests their order. Writes its header and its tail here, and
+/// caches the least widths of the first blocks after the copied ones.
 pub(crate) fn plan_text<P: BitPacker>(
     packer: &P,
     source: &Source,
@@ -62,7 +62,7 @@ pub(crate) fn plan_text<P: BitPacker>(
     })
 }
 
-/// Tests the order of the values. The least widths of the first blocks after those that stay were kept.
+/// Tests the order of the values. The least widths of the first blocks after the copied ones are cached.
 fn test_order<P: BitPacker>(packer: &P, source: &Source, widths: &[u8]) -> Result<(), ListError>
     requires source { IsListSource P.lanes source.now }
     requires kept { AreKept P.lanes source.now.kind (all_of P.lanes source.now) source.now.blocks widths.now }
@@ -121,7 +121,7 @@ fn blocks_len(lanes: usize, blocks: usize, measured: Measured) -> usize
     1 + entry * blocks + 4 * lanes * measured.total
 }
 
-/// Fills the slice with the text that has this header and this tail. The caller has kept the widths.
+/// Fills the slice with the encoded list that has this header and this tail. The caller has cached the widths.
 pub(crate) fn fill_text<P: BitPacker>(
     packer: &P,
     source: &Source,

@@ -1,4 +1,4 @@
-//! Reading the rest of a text of version 4: the ends, the marks and the bodies of its blocks.
+//! Reading a version 4 list after its header: the ends, the marks and the bodies of its blocks.
 
 ghost use Rattle.std.specs.Prelude.{◌≡◌, ℕ, ◌+◌, ◌*◌, ◌^◌, ◌<◌, ◌≤◌, drop, length};
 ghost use Rattle.bitpacking.specs.Layout.{size};
@@ -10,7 +10,7 @@ use crate::list_kind::{ListKind, next_kind};
 use crate::numbers::read_one;
 use bitpacking::Kind;
 
-/// What a text says of a block: the size of its body, the sum of the sizes before it, and its mark.
+/// The skip entry of a block: the size of its body, the sum of the sizes before it, and its mark.
 #[derive(Clone, Copy)]
 pub(crate) struct Block4 {
     pub(crate) size: u8,
@@ -73,7 +73,7 @@ pub(crate) fn begin_at(rest: &[u8], block: usize) -> u32
     }
 }
 
-/// The mark of a block, in a text of `blocks` blocks.
+/// The mark of a block, in a list of `blocks` blocks.
 #[inline(always)]
 pub(crate) fn mark_at(blocks: usize, rest: &[u8], block: usize) -> u32
     requires { HasMarks blocks rest.now × (block < blocks) }
@@ -93,7 +93,7 @@ pub(crate) fn bodies_start(blocks: usize, rest: &[u8]) -> usize
     1 + (rest[0] % 16 + rest[0] / 16) as usize * blocks
 }
 
-/// What a text of `blocks` blocks says of one.
+/// The skip entry of a block, in a list of `blocks` blocks.
 #[inline(always)]
 pub(crate) fn read_block4(blocks: usize, rest: &[u8], block: usize) -> Block4
     requires marks { HasMarks blocks rest.now × (block < blocks) }
@@ -110,7 +110,7 @@ pub(crate) fn read_block4(blocks: usize, rest: &[u8], block: usize) -> Block4
     }
 }
 
-/// What is packed in a block, or in the tail, in place of values.
+/// What is packed in a block, or in the tail, instead of values.
 #[inline(always)]
 pub(crate) fn kind_of_block4(kind: ListKind, blocks: usize, rest: &[u8], block: usize) -> Kind
     requires { HasMarks blocks rest.now × (block ≤ blocks) }
@@ -122,7 +122,7 @@ pub(crate) fn kind_of_block4(kind: ListKind, blocks: usize, rest: &[u8], block: 
     next_kind(kind.first(), mark_at(blocks, rest, block - 1))
 }
 
-/// The body of a block. `entry` is what the text says of the block.
+/// The body of a block. `entry` is the skip entry of the block.
 #[inline(always)]
 pub(crate) fn body_of4(
     lanes: usize,

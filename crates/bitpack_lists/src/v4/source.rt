@@ -1,4 +1,4 @@
-//! The values of a list that is to be written: the whole blocks of a text of version 4 that stay as they are, and values after them.
+//! The values of a list that is to be written: the whole blocks of a version 4 list, which are copied, and values after them.
 
 ghost use Rattle.std.specs.Prelude.{◌≡◌, ℕ, suc, ◌+◌, ◌*◌, ◌<◌, ◌≤◌, drop, length, take};
 ghost use Rattle.bitpack_lists.specs.Version4;
@@ -10,7 +10,7 @@ use super::testing::greatest_mark;
 use crate::list_kind::{ListKind, next_kind};
 use bitpacking::{BitPacker, Kind};
 
-/// Whole blocks of a text of version 4, `rest` being what is after its header, and the values after these blocks, in two slices. The first
+/// Whole blocks of a version 4 list, whose bytes after the header are `rest`, and the values after these blocks, in two slices. The first
 /// has no value, or the values of one block, or fewer if the second has none.
 #[derive(Clone, Copy)]
 pub(crate) struct Source<'a> {

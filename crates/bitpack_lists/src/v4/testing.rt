@@ -1,4 +1,4 @@
-//! Tests of what a text of version 4 says of its blocks, before their bodies. The bytes are untrusted.
+//! Tests of the skip entries of a version 4 list, before the bodies. The bytes are untrusted.
 
 ghost use Rattle.std.specs.Prelude.{◌≡◌, ℕ, ◌+◌, ◌*◌, ◌<◌, ◌≤◌, ◌^◌, IfOk, None, length};
 ghost use Rattle.bitpack_lists.specs.Numbers;

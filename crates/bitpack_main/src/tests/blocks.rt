@@ -7,7 +7,7 @@ use bitpacking::laws::one_least_width;
 use bitpacking::{BitPacker, BitPacker1x, BitPacker4x, BitPacker8x, Counted, Kind, Steps};
 use std::process::Abort;
 
-/// Past the bytes of a block 64 more are looked at, and past its values three more places.
+/// The tests look at 64 bytes after a block, and at three items after its values.
 const BYTES_AFTER: usize = 64;
 
 const PLACES_AFTER: usize = 3;
@@ -74,8 +74,7 @@ pub(super) fn all_values_are(values: &[u32], wanted: u32) -> bool {
     true
 }
 
-/// Packs the block at the width, compares, and reads it back over places that hold another number. No later byte or place has
-/// changed.
+/// Packs the block at the width, compares, and reads it back over items of another number. No later byte or item has changed.
 pub(super) fn packs_to<P: BitPacker>(
     rt: &impl Abort,
     packer: &P,
@@ -95,7 +94,7 @@ pub(super) fn packs_to<P: BitPacker>(
     unpacks_to(rt, packer, kind, bytes, num_bits, block);
 }
 
-/// Unpacks bytes, which no call of ours need have written, over places that hold another number. No later place has changed.
+/// Unpacks bytes, which no call of ours need have written, over items of another number. No later item has changed.
 pub(super) fn unpacks_to<P: BitPacker>(
     rt: &impl Abort,
     packer: &P,
@@ -129,7 +128,7 @@ fn packs_codes<P: BitPacker>(
     packs_to(rt, packer, kind, block, num_bits, bytes);
 }
 
-/// The width call gives the least width of these codes, and they are packed at that and at 32.
+/// The width call returns the least width of these codes, and they are packed at that and at 32.
 fn each_kind_of_codes<P: BitPacker>(rt: &impl Abort, packer: &P, codes: &[u32]) {
     let least = least_width(codes);
     for kind in KINDS {
@@ -255,7 +254,7 @@ fn counted_calls_at<P: Counted>(rt: &impl Abort, packer: &P, width: u8) {
     }
 }
 
-/// The counted calls answer as the others do.
+/// The counted calls return what the others do.
 pub(super) fn counted_calls<P: Counted>(rt: &impl Abort, packer: &P) {
     for width in 0..33u8 {
         counted_calls_at(rt, packer, width);
@@ -279,7 +278,7 @@ fn pack_equally<P: BitPacker>(
     assert!(rt; out == other_out);
 }
 
-/// Two packers read the same over equal places.
+/// Two packers read the same over equal items.
 fn unpack_equally<P: BitPacker>(rt: &impl Abort, packer: &P, other: &P, kind: Kind, width: u8) {
     let bytes = bytes::<ALL_BYTES>();
     let mut back = numbers::<ALL_PLACES>(32);

@@ -1,7 +1,7 @@
 //! When a run reads and writes, and how often.
 //!
 //! The number of calls is worked by hand: an input is read in pieces of at most 65,536 bytes, and answers are written when
-//! as many bytes are held, and before each read.
+//! that many bytes are held, and before each read.
 
 use super::fakes::{Asker, Counter, Giver, Hearer, Taker};
 use super::running::{run_asking, run_counting, run_over};
@@ -71,7 +71,7 @@ fn no_call_is_in_vain(rt: HostRuntime) -> Result<(), Fail> {
         // All answers, byte by byte.
         (1_000_000, 1, 3, answers, answers),
         (20, 1, 5001, answers, answers),
-        // Each answer takes 22 calls of three bytes.
+        // Each answer needs 22 calls of three bytes.
         (20, 3, 5001, 110_000, 110_000),
     ];
     for (read, written, reads, least, most) in cases {
@@ -125,7 +125,7 @@ fn counts_are(rt: &impl Abort, alloc: Global, line: &str, bytes: usize, values: 
 
 /// The greatest answer that a line can have.
 ///
-/// The text is sorted, in eight lanes: a block of width 22 whose codes are all 4194303, and 32,052 blocks of width 0, which
+/// The list is sorted, in eight lanes: a block of width 22 whose codes are all 4194303, and 32,052 blocks of width 0, which
 /// repeat its last value. The values of the first block are 4194303 times 1 to 256: two have seven digits, 21 have eight,
 /// 215 have nine and 18 ten. All 8,205,312 values after them have ten digits.
 #[test]

@@ -9,7 +9,7 @@ use bitpack::chain::{pack_all, unpack_all};
 use bitpacking::{BitPacker, BitPacker1x, BitPacker4x, BitPacker8x, Kind};
 use std::process::Abort;
 
-/// Places: the first go on from `previous` in steps, modulo 2 ^ 32. The others hold 9.
+/// Items: the first go on from `previous` in steps, modulo 2 ^ 32. The others hold 9.
 fn rising<const N: usize>(count: usize, previous: u32, step: u32) -> [u32; N] {
     let mut value = previous;
     let mut places = [9; N];
@@ -152,7 +152,7 @@ fn value_of(kind: Kind, previous: u32, code: u32) -> u32 {
     }
 }
 
-/// Three blocks, of the codes 1, 2 and 5. The places after them hold 9.
+/// Three blocks, of the codes 1, 2 and 5. The items after them hold 9.
 fn blocks_of_three_codes(len: usize, kind: Kind, start: u32) -> [u32; 769] {
     let mut values = [9; 769];
     let mut value = start;

@@ -1,4 +1,4 @@
-//! Readers and writers over memory that give and take little a call, and that fail at a call of the test's choice.
+//! Readers and writers over memory that move few bytes a call, and that fail at a call of the test's choice.
 
 use std::alloc::Global;
 use std::cell::Cell;
@@ -8,7 +8,7 @@ use std::io::{Error, ErrorKind, Read, Write};
 /// No call is the one that fails.
 pub const NEVER: usize = usize::MAX;
 
-/// Gives bytes, then a number of letters `a`, which need no memory, and then further bytes: at most `step` bytes a call. The call
+/// Reads bytes, then a number of letters `a`, which need no memory, and then further bytes: at most `step` bytes a call. The call
 /// numbered `fails_at` is interrupted, and so is each call after the last byte if `fails_at_end`; a further one would go on.
 #[derive(Drop)]
 pub struct Giver<'a> {
@@ -60,7 +60,7 @@ impl<'a> Read for Giver<'a> {
     }
 }
 
-/// Takes at most `step` bytes a call. The call numbered `fails_at` is interrupted; a further one would go on.
+/// Accepts at most `step` bytes a call. The call numbered `fails_at` is interrupted; a further one would go on.
 #[derive(Drop)]
 pub struct Taker {
     pub taken: Vec<u8>,
@@ -106,7 +106,7 @@ impl Write for Taker {
     }
 }
 
-/// Gives at most `step` bytes a call, and counts the calls that come before each line that it gave is answered.
+/// Reads at most `step` bytes a call, and counts the calls that come before each line that it read is answered.
 #[derive(Drop)]
 pub struct Asker<'a> {
     left: &'a [u8],
@@ -142,7 +142,7 @@ impl<'a> Read for Asker<'a> {
     }
 }
 
-/// Takes at most `step` bytes a call, keeps none, and counts the answers, which end with a line feed.
+/// Accepts at most `step` bytes a call, stores none, and counts the answers, which end with a line feed.
 #[derive(Drop)]
 pub struct Hearer<'a> {
     step: usize,
@@ -184,7 +184,7 @@ fn occurrences(bytes: &[u8], wanted: u8) -> usize {
     count
 }
 
-/// Takes all that it is given and keeps none of it: it counts bytes, commas and calls.
+/// Accepts all bytes and stores none of them: it counts bytes, commas and calls.
 #[derive(Drop)]
 pub struct Counter {
     pub bytes: usize,

@@ -1,4 +1,4 @@
-//! Lines and their answers, as the format and the blocks worked by hand give them.
+//! Lines and their answers, as the format and the blocks worked by hand say.
 
 use super::fakes::{Giver, Taker};
 use super::running::{each_is_answered, line_is_answered, none_is_a_line, run_over, writes};

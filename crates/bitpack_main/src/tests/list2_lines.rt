@@ -1,4 +1,4 @@
-//! Lines for packed lists of version 2: a search, and the way from version 1. The single texts were worked by hand.
+//! Lines for packed lists of version 2: a search, and the way from version 1. The single lists were worked by hand.
 
 use super::running::{each_is_answered, line_is_answered, none_is_a_line, run_over_bytes};
 use super::texts::{Part, parts_are_answered};
@@ -36,7 +36,7 @@ fn seek_lines() -> [(&'static str, &'static str); 7] {
     ]
 }
 
-/// A plain list is refused for its kind, after the faults of its text.
+/// A plain list is refused for its kind, after the faults of its bytes.
 fn refused_seeks() -> [(&'static str, &'static str); 6] {
     [
         ("seek 1x 0 02000100000000", "refused 23"),
@@ -83,7 +83,7 @@ fn rising<P: BitPacker>(alloc: Global) -> Result<Vec<u32>, AllocError> {
     Ok(values)
 }
 
-/// The texts of a list in version 1 and in version 2.
+/// The bytes of a list in version 1 and in version 2.
 fn encode_both<P: BitPacker>(
     rt: &impl Abort,
     packer: &P,
@@ -96,7 +96,7 @@ fn encode_both<P: BitPacker>(
     assert!(rt; list2::encode(packer, kind, values, new) == Ok(()));
 }
 
-/// The line `upgrade` converts a text of version 1 to version 2.
+/// The line `upgrade` converts a version 1 list to version 2.
 fn is_upgraded(
     rt: &impl Abort,
     alloc: Global,
@@ -122,7 +122,7 @@ fn have_one_answer(rt: &impl Abort, alloc: Global, line: &str, other: &str) {
     assert!(rt; read.as_slice() == other_read.as_slice());
 }
 
-/// The line `dec` reads both texts alike.
+/// The line `dec` reads both versions alike.
 fn are_read_alike(
     rt: &impl Abort,
     alloc: Global,
@@ -173,7 +173,8 @@ fn lists_of_each_packer_are_upgraded(rt: HostRuntime) -> Result<(), Fail> {
     each_is_upgraded(&rt, rt.alloc(), &BitPacker8x::scalar(), "8s")
 }
 
-/// A line of 65,516 bytes: 3,638 blocks of zeros, whose entries are nine bytes of zeros, and 5 at the position 931,328.
+/// A line of 65,516 bytes: 3,638 blocks of zeros, whose skip entries are nine bytes of zeros, and 5 at the position
+/// 931,328.
 #[test]
 fn a_search_in_a_long_line(rt: HostRuntime) -> Result<(), Fail> {
     let line = [

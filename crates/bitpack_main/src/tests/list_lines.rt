@@ -1,4 +1,4 @@
-//! Lines for packed lists, and their answers. Each text was written down by hand from the format: the seven bytes of the
+//! Lines for packed lists, and their answers. Each list was written down by hand from the format: the seven bytes of the
 //! header, a byte of width and the bytes of each whole block, and four bytes for each value after them.
 
 use super::running::{each_is_answered, none_is_a_line, writes};
@@ -20,7 +20,7 @@ fn short_lists() -> [(&'static str, &'static str); 7] {
     ]
 }
 
-/// A tail may be in any order in every kind, and keeps its values.
+/// A tail may be in any order in every kind, and its values are packed as they are.
 fn lists() -> [(&'static str, &'static str); 9] {
     [
         (
@@ -93,7 +93,7 @@ fn refused_lengths() -> [(&'static str, &'static str); 9] {
 /// Which fault is the first.
 fn first_faults() -> [(&'static str, &'static str); 5] {
     [
-        // Room for a byte of each block and for the tail is asked for before a width is looked at.
+        // Room for a byte of each block and for the tail is required before a width is looked at.
         ("dec 1x 0100012100000021", "refused 21"),
         // A block with a loose width is refused before the block that is missing after it.
         ("dec 1x 010001400000000100000000", "refused 27"),
@@ -104,7 +104,7 @@ fn first_faults() -> [(&'static str, &'static str); 5] {
     ]
 }
 
-/// Version 2. Its entry has the width, the offset and the last value; 1f is 31, and 20 is 32.
+/// Version 2. Its skip entry has the width, the offset and the last value; 1f is 31, and 20 is 32.
 fn lists_of_version_2() -> [(&'static str, &'static str); 11] {
     [
         ("dec 1x 02", "refused 21"),
@@ -134,7 +134,7 @@ fn faults_of_version_2() -> [(&'static str, &'static str); 5] {
             "dec 1x 0200014000000001000000000000000001010000000000000000000000",
             "refused 21",
         ),
-        // The offset of entry 0 before the width of entry 1; of one entry the width before the offset.
+        // The offset of skip entry 0 before the width of entry 1; of one entry the width before the offset.
         (
             "dec 1x 02000140000000000100000000000000210000000000000000",
             "refused 28",
@@ -244,7 +244,7 @@ fn is_shared(
     Ok(())
 }
 
-/// The packers of a pair share the text of a list.
+/// The packers of a pair write the same bytes of a list.
 fn is_shared_both_ways(
     rt: &impl Abort,
     alloc: Global,
@@ -260,7 +260,7 @@ fn is_shared_both_ways(
     is_shared(rt, alloc, other, kind, values.as_str(), text.as_str())
 }
 
-/// Values and text of lists, in four and in eight lanes.
+/// Values and bytes of lists, in four and in eight lanes.
 #[test]
 fn the_packers_of_a_pair_share_texts(rt: HostRuntime) -> Result<(), Fail> {
     let (four, eight) = (("4x", "4s"), ("8x", "8s"));
@@ -323,7 +323,7 @@ fn the_packers_of_a_pair_share_texts(rt: HostRuntime) -> Result<(), Fail> {
     Ok(())
 }
 
-/// The most values that a line can give, and many more than that: a byte of width 0 is a whole block.
+/// The most values that a line can have, and many more than that: a byte of width 0 is a whole block.
 #[test]
 fn long_lists(rt: HostRuntime) -> Result<(), Fail> {
     let alloc = rt.alloc();

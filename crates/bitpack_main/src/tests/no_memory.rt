@@ -1,4 +1,4 @@
-//! Blocks and chains take no memory: they answer as ever when none is left.
+//! Blocks and chains allocate nothing: they work as ever when no memory is left.
 
 use super::blocks::{counted_calls, every_width};
 use super::chains::chains;

@@ -12,7 +12,7 @@ use std::alloc::{AllocError, Global};
 use std::process::Abort;
 use std::test::Fail;
 
-/// Makes the stack as large as the calls of a test need, since it cannot grow once memory was taken. Each test that takes all
+/// Makes the stack as large as the calls of a test need, since it cannot grow once all memory is allocated. Each test that allocates all
 /// memory calls it first.
 #[inline(never)]
 pub(super) fn grow_stack(rt: &impl Abort) {
@@ -25,7 +25,7 @@ pub(super) fn grow_stack(rt: &impl Abort) {
     assert!(rt; sum != 1);
 }
 
-/// Takes all the memory that there is to take, in blocks of falling size, until even a byte is refused.
+/// Allocates all the memory that there is, in blocks of falling size, until even a byte is refused.
 pub(super) fn take_all(alloc: Global) -> Result<Vec<Vec<u8>>, AllocError> {
     let mut blocks = Vec::with_capacity(alloc, 100_000)?;
     let mut size = 1usize << 46;
@@ -88,7 +88,8 @@ fn are_in_part(
     assert!(rt; outcome == want);
 }
 
-/// The number of bytes that are written with memory for this number of growths, and that was given before for one growth less.
+/// The number of bytes that are written with memory for this number of growths, and the number that was written before with one growth
+/// less.
 fn written_with(
     rt: &impl Abort,
     alloc: Global,
@@ -140,7 +141,7 @@ fn each_growth_is_refused_in_turn(rt: HostRuntime) -> Result<(), Fail> {
     Ok(())
 }
 
-/// Two lines and their answers, with memory for more and more growths. The first answer has the length that is given.
+/// Two lines and their answers, with memory for more and more growths. The first answer has this length.
 fn both_are_answered(
     rt: &impl Abort,
     alloc: Global,
@@ -241,7 +242,7 @@ fn is_answered_from(
     Ok(())
 }
 
-/// The fourth growth has room for 64 bytes, which a list of up to four fields takes.
+/// The fourth growth has room for 64 bytes, which a list of up to four fields needs.
 #[test]
 fn short_lines_with_memory_for_so_many_doublings(rt: HostRuntime) -> Result<(), Fail> {
     grow_stack(&rt);
@@ -253,8 +254,8 @@ fn short_lines_with_memory_for_so_many_doublings(rt: HostRuntime) -> Result<(), 
     Ok(())
 }
 
-/// Lines whose values or whose new text take more than they do: the eighth growth has room for 256 values, and the seventh for a text of
-/// 28 entries.
+/// Lines whose values or whose new list need more memory than the line: the eighth growth has room for 256 values, and the seventh for a
+/// list of 28 skip entries.
 #[test]
 fn values_with_memory_for_so_many_doublings(rt: HostRuntime) -> Result<(), Fail> {
     grow_stack(&rt);

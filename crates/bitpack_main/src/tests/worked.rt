@@ -90,7 +90,7 @@ fn one_lane_packs_to_its_last_bit(rt: HostRuntime) {
     one_lane_packs_to(&rt, Kind::StrictlySorted(Some(0)), &[5; 32], 32, &bytes);
 }
 
-/// Bytes that are all this one give values that are all this one.
+/// Bytes that are all this one unpack to values that are all this one.
 fn one_lane_unpacks_alike(rt: &impl Abort, num_bits: u8, byte: u8, value: u32) {
     let bytes = [byte; 128];
     let size = BitPacker1x::compressed_block_size(num_bits);
@@ -347,7 +347,7 @@ fn pack_greatest<P: BitPacker>(rt: &impl Abort, packer: &P, block: &[u32], out: 
     packer.compress(block, out, num_bits);
 }
 
-/// The bytes of a packer, over places that held another number, give the block; and a copy and a clone pack as their packer does.
+/// The bytes of a packer, over items of another number, unpack to the block; and a copy and a clone pack as their packer does.
 fn greatest_width_and_copies<P: BitPacker>(rt: &impl Abort, packer: &P) {
     let mut block = [2_147_483_648; 256];
     block[0] = 0;
@@ -360,7 +360,7 @@ fn greatest_width_and_copies<P: BitPacker>(rt: &impl Abort, packer: &P) {
     copies_pack(rt, packer, block, &bytes);
 }
 
-/// A copy and a clone give the bytes that their packer gave.
+/// A copy and a clone write the bytes that their packer wrote.
 fn copies_pack<P: BitPacker>(rt: &impl Abort, packer: &P, block: &[u32], bytes: &[u8]) {
     let copy = *packer;
     let mut copied = [0; 1024];

@@ -1,4 +1,4 @@
--- A place at a bit of a block that was not unpacked.
+-- A position at a bit of a block that was not unpacked.
 use Rattle.std.specs.Prelude.{◌≡◌, ℕ, ◌≤◌}
 use Rattle.bitpacking.specs.declared.bit_packer.BitPacker.{Ghosts}
 use Rattle.bitpack_lists.specs.declared.opened.bits.BlockBits.{BlockBits}

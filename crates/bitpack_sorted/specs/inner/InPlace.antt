@@ -1,4 +1,4 @@
--- Values of a slice that are combined with others in their place.
+-- Values of a slice that are combined with others in the slice.
 use Rattle.std.specs.Prelude.{◌≡◌, ◌≢◌, ℕ, ◌<◌, ◌≤◌, Bool, true, false, List, None, drop, length, slice_index}
 use Rattle.std.specs.List.Sorted.{IsStrictlyIncreasing}
 use Rattle.bitpack_sorted.specs.Increasing.{at_least, first, has}
@@ -31,7 +31,8 @@ pub record CanFilterBy (values rest : List ℕ) (kept from : ℕ) : Type 0 where
   pub some : first rest ≢ None
   pub reached : (v : ℕ) → has rest v ≡ true → slice_index values from ≤ v
 
--- from one place to another values are kept that all others have, or lack, if the others that are left are all from the first value on
+-- from one state to another values are retained that all others have, or lack, if the others that are left are all from the first
+-- value on
 abbrev pub FiltersBy : Bool → List ℕ → List ℕ → ℕ → ℕ → List ℕ → ℕ → ℕ → Type 0
 FiltersBy lacking rest values kept from values' kept' from' =
     (old all : List ℕ) → ((v : ℕ) → slice_index values from ≤ v → has all v ≡ has rest v)

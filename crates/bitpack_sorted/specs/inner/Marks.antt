@@ -1,4 +1,4 @@
--- Bits of a word that say which values a block has, and values that are kept by them.
+-- Bits of a word that say which values a block has, and values that are retained by them.
 use Rattle.std.specs.Prelude.{◌≡◌, ℕ, zero, suc, ◌+◌, ◌-◌, ◌*◌, ◌<◌, ◌≤◌, ◌^◌, ◌==◌, Bool, true, not, if◌then◌else◌, List, [], ◌∷◌, ◌++◌, drop, length, slice_index, take}
 use Rattle.std.specs.Int.{bit_at}
 use Rattle.std.specs.List.{filter}
@@ -7,7 +7,7 @@ use Rattle.bitpack_lists.specs.Places.{InOrder}
 use Rattle.bitpack_sorted.specs.Bits.{is_bit_set}
 use Rattle.bitpack_sorted.specs.Increasing.{has}
 
--- the bit of an answer
+-- the bit of a result
 abbrev pub mark_of : Bool → ℕ
 mark_of b = if b then 1 else 0
 
@@ -46,7 +46,7 @@ pub record IsPassed (values block : List ℕ) (passed : ℕ) : Type 0 where
   pub within : passed ≤ length block
   pub below : (q j : ℕ) → q < length values → j < passed → slice_index block j < slice_index values q
 
--- the bits of values mark some that the block has: all that are before a place in the values, and all that are before one in the block
+-- the bits of values mark some that the block has: all that are before an index in the values, and all that are before one in the block
 pub record AreMarked (values block : List ℕ) (from passed bits : ℕ) : Type 0 where
   pub from_in : from ≤ length values
   pub passed_in : passed ≤ length block
@@ -56,7 +56,8 @@ pub record AreMarked (values block : List ℕ) (from passed bits : ℕ) : Type 0
   pub low : (q : ℕ) → q < from → slice_index values q ≤ last_of block
   pub below : (j : ℕ) → j < passed → slice_index block j ≤ last_of values
 
--- the bits mark all values that the block has; values before a place are at most its last, and before one in the block none is above all values
+-- the bits mark all values that the block has; values before an index are at most its last, and before one in the block none is above all
+-- values
 pub record HasMarked (values block : List ℕ) (from passed bits : ℕ) : Type 0 where
   pub each : (q : ℕ) → q < length values → bit_at bits q ≡ mark_of (has block (slice_index values q))
   pub from_in : from ≤ length values
@@ -70,24 +71,24 @@ abbrev pub marked : ℕ → List ℕ → ℕ → List ℕ
 marked bits xs zero = []
 marked bits xs (suc q) = marked bits xs q ++ (if bit_at bits q == 1 then slice_index xs q ∷ [] else [])
 
--- up to 64 values from an index on are in a slice, behind those that are kept
+-- up to 64 values from an index on are in a slice, after the retained ones
 pub record CanKeep (kept from count : ℕ) (values : List ℕ) : Type 0 where
   pub behind : kept ≤ from
   pub within : from + count ≤ length values
   pub few : count ≤ 64
 
--- of the first q values from an index on those whose bit is set are behind the first `kept`, up to `next`
+-- of the first q values from an index on those whose bit is set are after the first `kept`, up to `next`
 pub record IsKeeping (bits : ℕ) (old new : List ℕ) (kept from next q : ℕ) : Type 0 where
   pub front : take next new ≡ take kept old ++ marked bits (drop from old) q
   pub ahead : drop (from + q) new ≡ drop (from + q) old
   pub few : next ≤ from + q
   pub long : length new ≡ length old
 
--- whether a number is kept that a list has, or lacks
+-- whether a number is retained that a list has, or lacks
 abbrev pub keeps : Bool → List ℕ → ℕ → Bool
 keeps lacking ys v = if lacking then not (has ys v) else has ys v
 
--- the values before an index that are kept are in front, and the others are as they were
+-- the retained values before an index are in front, and the others are unchanged
 pub record AreKept (test : ℕ → Bool) (old new : List ℕ) (kept from : ℕ) : Type 0 where
   pub front : take kept new ≡ filter test (take from old)
   pub ahead : drop from new ≡ drop from old
@@ -95,7 +96,8 @@ pub record AreKept (test : ℕ → Bool) (old new : List ℕ) (kept from : ℕ) 
   pub within : from ≤ length old
   pub long : length new ≡ length old
 
--- from one place to another values are kept that all others have, or lack, if the block has what these have from the first value on up to its last
+-- from one state to another values are retained that all others have, or lack, if the block has what these have from the first value on up to
+-- its last
 abbrev pub Filters : Bool → List ℕ → List ℕ → ℕ → ℕ → List ℕ → ℕ → ℕ → Type 0
 Filters lacking block values kept from values' kept' from' =
     (old all : List ℕ) → ((v : ℕ) → slice_index values from ≤ v → v ≤ last_of block → has all v ≡ has block v)

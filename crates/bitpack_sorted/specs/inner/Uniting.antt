@@ -1,4 +1,4 @@
--- A slice that is united with others in its place: some values are done, at its front, and those from an index on are still to come.
+-- A slice that is united with others in the slice: some values are done, at its front, and those from an index on are still to come.
 use Rattle.std.specs.Prelude.{◌≡◌, ℕ, ◌+◌, ◌<◌, ◌≤◌, ◌^◌, List, ◌++◌, drop, length, take}
 use Rattle.std.specs.List.Sorted.{IsStrictlyIncreasing}
 use Rattle.bitpack_sorted.specs.declared.uniting.Place.{Place}
@@ -16,7 +16,7 @@ pub record IsStillToCome (values others : List ℕ) (written from low : ℕ) : T
 abbrev pub all_of : List ℕ → List ℕ → ℕ → ℕ → List ℕ
 all_of values others written from = take written values ++ united (drop from values) others
 
--- from one place to a later one some of what was still to come was done, and all is as it was
+-- from one state to a later one some of what was still to come was done, and all else is unchanged
 pub record IsUnitedTo (old others : List ℕ) (place : Place) (new left : List ℕ) (next : Place) : Type 0 where
   pub to_come : IsStillToCome new left next.written next.from next.low
   pub all : all_of new left next.written next.from ≡ all_of old others place.written place.from

@@ -1,4 +1,4 @@
-//! Values of a slice that are kept in their place if a block has them, or lacks them.
+//! Values of a slice that are retained if a block has them, or lacks them.
 
 ghost use Rattle.std.specs.Prelude.{◌≡◌, ◌+◌, ◌<◌, ◌≤◌, drop, length, take};
 ghost use Rattle.bitpack_sorted.specs.inner.Marks.{CanFilter, CanMark, Filters, HasMarked, IsPassed};
@@ -7,15 +7,15 @@ use super::group::same;
 use super::keeping::{keep_each, keep_marked};
 use super::marking::{Marks, marks_of};
 
-/// How many values are kept in front, and the index of those that are still to come.
+/// How many values are retained in front, and the index of those that are still to come.
 #[derive(Clone, Copy)]
 pub(crate) struct Filtered {
     pub(crate) kept: usize,
     pub(crate) from: usize,
 }
 
-/// Of the values from an index on, as far as a block reaches, keeps those that it has, or those that it lacks. None of the block is below
-/// the first of them.
+/// Of the values from an index on, as far as a block reaches, retains those that it has, or those that it lacks. None of the block is
+/// below the first of them.
 pub(crate) fn keep_in_block(
     values: &mut [u32],
     done: Filtered,
@@ -46,7 +46,7 @@ pub(crate) fn keep_in_block(
     Filtered { kept, from }
 }
 
-/// Keeps the value at an index if a block has it, or if it lacks it. None of the block is below that value.
+/// Retains the value at an index if a block has it, or if it lacks it. None of the block is below that value.
 #[inline(always)]
 fn keep_first(values: &mut [u32], done: Filtered, block: &[u32], lacking: bool) -> Filtered
     requires { CanFilter values.old block.now done.kept done.from }
@@ -62,7 +62,7 @@ fn keep_first(values: &mut [u32], done: Filtered, block: &[u32], lacking: bool) 
     }
 }
 
-/// Which of up to 64 values from an index on a block has, as `marks_of` says.
+/// Returns which of up to 64 values from an index on a block has, as `marks_of` says.
 #[inline(always)]
 fn marks_from(values: &[u32], from: usize, count: usize, block: &[u32], passed: usize) -> Marks
     requires within { from + count ≤ length values.now }

@@ -1,4 +1,4 @@
-//! Values of a slice that are kept in their place if their bit is set, or if it is clear.
+//! Values of a slice that are retained if their bit is set, or if it is clear.
 
 ghost use Rattle.std.specs.Prelude.{◌≡◌, ℕ, ◌+◌, ◌*◌, ◌<◌, ◌≤◌, true, List, drop, length, slice_index};
 ghost use Rattle.std.specs.List.Sorted.{IsStrictlyIncreasing};
@@ -28,8 +28,8 @@ pub(crate) fn reach_several(values: &[u32], from: usize, count: usize) -> bool
     next < values.len() && ((values[next] - values[from]) as usize) < count
 }
 
-/// Of up to 64 values from an index on, as far as the first `count` bits reach, keeps those whose bit is set, or those whose bit is clear.
-/// Bit 0 belongs to the first of them.
+/// Of up to 64 values from an index on, as far as the first `count` bits reach, retains those whose bit is set, or those whose bit is
+/// clear. Bit 0 belongs to the first of them.
 pub(crate) fn keep_in_bits(
     values: &mut [u32],
     done: Filtered,

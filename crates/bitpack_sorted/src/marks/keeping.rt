@@ -1,4 +1,4 @@
-//! Values that are kept in place if their bit is set.
+//! Values that are retained in a slice if their bit is set.
 
 ghost use Rattle.std.specs.Prelude.{◌≡◌, ℕ, ◌<◌, ◌≤◌, ◌^◌};
 ghost use Rattle.std.specs.Int.{bit_at};
@@ -7,7 +7,7 @@ ghost use Rattle.bitpack_sorted.specs.inner.Marks.{CanKeep, IsKeeping};
 /// The most bits for which a step for each bit is faster than one for each value.
 const FEW: u32 = 12;
 
-/// Of up to 64 values from an index on, moves each whose bit is set behind the first `kept` values, in their order. Returns how many values
+/// Of up to 64 values from an index on, moves each whose bit is set after the first `kept` values, in their order. Returns how many values
 /// are in front then.
 #[inline(always)]
 pub(crate) fn keep_marked(

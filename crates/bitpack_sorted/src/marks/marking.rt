@@ -64,7 +64,7 @@ fn mark_few(values: &[u32], block: &[u32], passed: usize) -> Marks
     }
 }
 
-/// The first index from one on whose value is at least another, or the end.
+/// Returns the first index from one on whose value is at least another, or the end.
 #[inline(always)]
 fn first_reaching(block: &[u32], from: usize, target: u32) -> usize
     requires { IsBlock block.now × (from ≤ length block.now) }
@@ -113,7 +113,7 @@ fn mark_rest(values: &[u32], block: &[u32], marks: Marks) -> Marks
     Marks { from, passed, bits }
 }
 
-/// The first index from one on whose value is above another, or the end.
+/// Returns the first index from one on whose value is above another, or the end.
 #[inline(always)]
 fn first_above(values: &[u32], from: usize, last: u32) -> usize
     requires { from ≤ length values.now }

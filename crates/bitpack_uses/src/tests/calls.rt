@@ -21,7 +21,7 @@ pub(super) fn encode1<P: BitPacker>(
     list::encode(packer, kind, values, out)
 }
 
-/// Decodes a text of version 1.
+/// Decodes a version 1 list.
 pub(super) fn decode1<P: BitPacker>(
     packer: &P,
     text: &[u8],
@@ -40,7 +40,7 @@ pub(super) fn encode2<P: BitPacker>(
     list2::encode(packer, kind, values, out)
 }
 
-/// Whether a text of version 3 can state the lanes of the packer, as it can for all packers here.
+/// Whether a version 3 header can state the lanes of the packer, as it can for all packers here.
 fn has_code<P: BitPacker>() -> bool
     ensures { IsTrue result → HasCode P.lanes }
 {
@@ -73,7 +73,7 @@ pub(super) fn encode4<P: BitPacker>(
     list4::encode(packer, kind, values, out)
 }
 
-/// A version of texts that are written into slices.
+/// A version of lists that are written into slices.
 #[derive(Clone, Copy)]
 pub(super) enum Version {
     Two,
@@ -114,7 +114,7 @@ pub(super) fn encode_to<P: BitPacker>(
     }
 }
 
-/// The length of a text of a version.
+/// The length of an encoded list of a version.
 pub(super) fn encoded_len<P: BitPacker>(
     version: Version,
     packer: &P,
@@ -131,7 +131,7 @@ pub(super) fn encoded_len<P: BitPacker>(
     }
 }
 
-/// Opens a text of version 3.
+/// Opens a version 3 list.
 pub(super) fn open3<'a, P: BitPacker>(
     packer: &P,
     text: &'a [u8],
@@ -139,7 +139,7 @@ pub(super) fn open3<'a, P: BitPacker>(
     PackedList::open3(*packer, text)
 }
 
-/// Opens a text of version 4.
+/// Opens a version 4 list.
 pub(super) fn open4<'a, P: BitPacker>(
     packer: &P,
     text: &'a [u8],
@@ -147,7 +147,7 @@ pub(super) fn open4<'a, P: BitPacker>(
     PackedList::open4(*packer, text)
 }
 
-/// Opens a text of version 2, 3 or 4.
+/// Opens a list of version 2, 3 or 4.
 pub(super) fn open_any<'a, P: BitPacker>(
     packer: &P,
     text: &'a [u8],
@@ -155,7 +155,7 @@ pub(super) fn open_any<'a, P: BitPacker>(
     PackedList::open_any(*packer, text)
 }
 
-/// Makes a text of version 2 of one of version 1.
+/// Converts a version 1 list to version 2.
 pub(super) fn upgrade<P: BitPacker>(
     packer: &P,
     text: &[u8],
@@ -164,7 +164,7 @@ pub(super) fn upgrade<P: BitPacker>(
     list2::upgrade(packer, text, out)
 }
 
-/// Makes a text of version 3 of one of version 1 or 2.
+/// Converts a list of version 1 or 2 to version 3.
 pub(super) fn upgrade3<P: BitPacker>(
     packer: &P,
     text: &[u8],
@@ -176,7 +176,7 @@ pub(super) fn upgrade3<P: BitPacker>(
     list3::upgrade(packer, text, out)
 }
 
-/// Makes a newest text of one of version 1, 2 or 3.
+/// Converts a list of version 1, 2 or 3 to the newest version.
 pub(super) fn upgrade4<P: BitPacker>(
     packer: &P,
     text: &[u8],
@@ -189,7 +189,7 @@ pub(super) fn upgrade4<P: BitPacker>(
     list4::upgrade(packer, text, values, out)
 }
 
-/// Opens a text of version 2.
+/// Opens a version 2 list.
 pub(super) fn open<'a, P: BitPacker>(
     packer: &P,
     text: &'a [u8],
@@ -227,7 +227,7 @@ pub(super) fn seek<P: BitPacker>(
     list.seek(target, &mut Reads::new())
 }
 
-/// What `intersect` returns for the lists of two texts, or `None` if one of them is no text of a list in order.
+/// What `intersect` returns for two lists, or `None` if the bytes of one of them are no list in order.
 pub(super) fn intersect_texts<P: BitPacker, Q: BitPacker>(
     (packer, text): (&P, &[u8]),
     (other_packer, other_text): (&Q, &[u8]),
@@ -266,7 +266,7 @@ pub(super) fn walk<P: BitPacker>(list: &PackedList<'_, P>) -> usize {
     walked
 }
 
-/// Keeps the items that a list has too, if both are in order.
+/// Retains the items that a list has too, if both are in order.
 pub(super) fn retain<P: BitPacker>(
     rt: &impl Abort,
     list: &PackedList<'_, P>,
@@ -280,7 +280,7 @@ pub(super) fn retain<P: BitPacker>(
     items.truncate(kept);
 }
 
-/// Appends the newest text of a list and more values.
+/// Appends the newest encoded list of a list and more values.
 pub(super) fn encode_more<P: BitPacker>(
     list: &PackedList<'_, P>,
     more: &[u32],

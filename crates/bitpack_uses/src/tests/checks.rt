@@ -13,7 +13,7 @@ pub(super) fn holds(rt: &impl Abort, fact: bool, what: &str) {
     assert!(rt; fact, "{what}");
 }
 
-/// The call that this text is of returned this.
+/// The call on these bytes returned this.
 pub(super) fn returns(
     rt: &impl Abort,
     found: Result<(), ListError>,
@@ -23,12 +23,12 @@ pub(super) fn returns(
     assert_eq!(rt; found, expected, "{text:?}");
 }
 
-/// The call on this text succeeded.
+/// The call on these bytes succeeded.
 pub(super) fn succeeds(rt: &impl Abort, found: Result<(), ListError>, text: &[u8]) {
     returns(rt, found, Ok(()), text);
 }
 
-/// The error that was found in this text, or none.
+/// The error that was found in these bytes, or none.
 pub(super) fn same_fault(
     rt: &impl Abort,
     found: Option<ListError>,
@@ -70,13 +70,13 @@ pub(super) fn appended_values(rt: &impl Abort, out: &[u32], first: u32, expected
     same_values(rt, out.get(1..).unwrap_or(&[]), expected);
 }
 
-/// The vector holds what `nine` gave, in the room that it had.
+/// The vector holds what `nine` returned, in the room that it had.
 pub(super) fn kept_bytes(rt: &impl Abort, out: &Vec<u8>, room: usize) {
     same_bytes(rt, out, &[9]);
     same_number(rt, out.capacity(), room, "room");
 }
 
-/// The vector holds what `one_value` gave, in the room that it had.
+/// The vector holds what `one_value` returned, in the room that it had.
 pub(super) fn kept_values(rt: &impl Abort, out: &Vec<u32>, first: u32, room: usize) {
     same_values(rt, out, &[first]);
     same_number(rt, out.capacity(), room, "room");
@@ -119,7 +119,7 @@ pub(super) fn push_bytes(rt: &impl Abort, text: &mut Vec<u8>, bytes: &[u8]) {
     text.extend_from_slice(bytes).expect(rt, "memory");
 }
 
-/// The text with the byte 0 after it.
+/// The bytes with the byte 0 after them.
 pub(super) fn with_zero(rt: &impl Abort, alloc: Global, text: &[u8]) -> Vec<u8> {
     let mut longer = Vec::from_slice(alloc, text).expect(rt, "memory");
     push_bytes(rt, &mut longer, &[0]);

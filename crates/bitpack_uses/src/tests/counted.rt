@@ -111,7 +111,7 @@ fn counted(rt: &impl Abort, counts: &Counts, expected: [usize; 3], what: &str) {
 
 const KIND: ListKind = ListKind::StrictlySorted;
 
-/// The text of these values in version 1. Each block is measured once and packed once.
+/// The version 1 bytes of these values. Each block is measured once and packed once.
 fn text1(rt: &impl Abort, alloc: Global, values: &[u32], blocks: usize) -> Vec<u8> {
     let counts = new_counts(rt, alloc);
     let mut text = Vec::new(alloc);

@@ -1,4 +1,4 @@
-//! Sets of ids. The texts and the ids were worked by hand.
+//! Sets of ids. The bytes and the ids were worked by hand.
 
 use super::checks::{holds, same_bytes, same_values};
 use crate::id_set::{IdSet, packed_set_contains};
@@ -64,7 +64,7 @@ fn texts_of_sets(rt: HostRuntime) {
     has(&rt, alloc, opened, &[5, 7, 9]);
     let error = ListError::WrongKind(ListKind::Sorted, ListKind::StrictlySorted);
     is_refused(&rt, alloc, &SORTED, error);
-    // Strictly sorted 7, 5; and a text of version 1.
+    // Strictly sorted 7, 5; and a version 1 list.
     let unsorted = [2, 2, 1, 2, 0, 0, 0, 7, 0, 0, 0, 5, 0, 0, 0];
     is_refused(&rt, alloc, &unsorted, ListError::NotSorted(1));
     let version = [1, 2, 1, 0, 0, 0, 0];

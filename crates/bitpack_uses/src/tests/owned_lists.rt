@@ -1,4 +1,4 @@
-//! Lists of one kind, owned lists, and values in a slice. The texts were worked by hand.
+//! Lists of one kind, owned lists, and values in a slice. The bytes were worked by hand.
 
 use super::checks::{holds, returns, same_bytes, same_number, same_values, says};
 use crate::owned_lists;
@@ -20,12 +20,13 @@ const SORTED: [u8; 19] = [2, 1, 1, 3, 0, 0, 0, 5, 0, 0, 0, 5, 0, 0, 0, 9, 0, 0, 
 /// Plain 7.
 const PLAIN: [u8; 11] = [2, 0, 1, 1, 0, 0, 0, 7, 0, 0, 0];
 
-/// Sorted 1 to 32 and 40: a block with an entry of width 1, offset 0 and last value 32, four bytes with each bit set, and the tail.
+/// Sorted 1 to 32 and 40: a block with a skip entry of width 1, offset 0 and last value 32, four bytes with each bit set, and the
+/// tail.
 const BLOCK_AND_TAIL: [u8; 24] = [
     2, 1, 1, 33, 0, 0, 0, 1, 0, 0, 0, 0, 32, 0, 0, 0, 255, 255, 255, 255, 40, 0, 0, 0,
 ];
 
-/// The text is opened as a list of this kind, or refused for this.
+/// The bytes are opened as a list of this kind, or refused for this.
 fn opens_as(rt: &impl Abort, kind: ListKind, text: &[u8], expected: Result<(), ListError>) {
     let found = match PackedList::open_as(BitPacker1x::new(), kind, text) {
         Ok(list) => {
@@ -75,7 +76,7 @@ fn lists_of_one_kind(rt: HostRuntime) {
     opens_as(&rt, strict, &[], Err(ListError::Short));
 }
 
-/// The text of version 2, 3 or 4 is opened as a list of this kind, or refused for this.
+/// The bytes of version 2, 3 or 4 are opened as a list of this kind, or refused for this.
 fn opens_any_as(rt: &impl Abort, kind: ListKind, text: &[u8], expected: Result<(), ListError>) {
     let found = match PackedList::open_any_as(BitPacker1x::new(), kind, text) {
         Ok(list) => {

@@ -1,4 +1,5 @@
-//! Packed lists, by what no clause says: bytes from outside, each call for every packer and kind, and how much memory a call takes.
+//! Packed lists, by what no clause says: bytes from outside, each call for every packer and kind, and how much memory a call
+//! allocates.
 
 mod builders;
 mod changed_lists;

@@ -55,7 +55,7 @@ fn gathered<P: BitPacker>(
     refused(rt, &list, &[usize::MAX], 0);
 }
 
-/// Asks for these positions, with room for more values.
+/// Reads these positions, with room for more values.
 fn found<P: BitPacker>(
     rt: &impl Abort,
     list: &PackedList<'_, P>,
@@ -70,7 +70,7 @@ fn found<P: BitPacker>(
     same_values(rt, rest, &[7; 16][front.len()..]);
 }
 
-/// Asks for positions. The one at this index is the first that is not in the list.
+/// Reads positions. The one at this index is the first that is not in the list.
 fn refused<P: BitPacker>(
     rt: &impl Abort,
     list: &PackedList<'_, P>,

@@ -1,4 +1,4 @@
-//! Posting lists. The texts and the ids were worked by hand.
+//! Posting lists. The bytes and the ids were worked by hand.
 
 use super::checks::{holds, is_increasing, same_bytes, same_number, same_values};
 use crate::postings::{Postings, and, and_not, first_shared, or, select};
@@ -33,7 +33,7 @@ fn a_posting_list(rt: HostRuntime) {
     same_values(&rt, &ids, &[7, 9]);
 }
 
-/// The bytes are opened, or refused for this and given back.
+/// The bytes are opened, or refused for this and returned.
 fn opens(rt: &impl Abort, alloc: Global, bytes: &[u8], expected: Option<ListError>) {
     let owned = Vec::from_slice(alloc, bytes).expect(rt, "memory");
     match Postings::open(BitPacker1x::new(), owned) {

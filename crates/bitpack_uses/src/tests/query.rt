@@ -1,4 +1,4 @@
-//! Queries. The texts and the ids were worked by hand.
+//! Queries. The bytes and the ids were worked by hand.
 
 use super::calls::open_any;
 use super::checks::{holds, same_values, same_words};
@@ -17,7 +17,8 @@ const SECOND: [u8; 4] = [0x62, 7, 1, 1];
 /// Sorted 5, 5, 9, in version 2.
 const THIRD: [u8; 19] = [2, 1, 1, 3, 0, 0, 0, 5, 0, 0, 0, 5, 0, 0, 0, 9, 0, 0, 0];
 
-/// Sorted 1 to 32 and 40: a block with an entry of width 1, offset 0 and last value 32, four bytes with each bit set, and the tail.
+/// Sorted 1 to 32 and 40: a block with a skip entry of width 1, offset 0 and last value 32, four bytes with each bit set, and the
+/// tail.
 const LONG: [u8; 24] = [
     2, 1, 1, 33, 0, 0, 0, 1, 0, 0, 0, 0, 32, 0, 0, 0, 255, 255, 255, 255, 40, 0, 0, 0,
 ];
@@ -72,7 +73,7 @@ fn answer(rt: &impl Abort, alloc: Global, line: &[u8]) -> Result<Vec<u32>, Query
     evaluate(alloc, &lists, &query(rt, alloc, line))
 }
 
-/// Lines and the ids that they ask for.
+/// Lines with their queries, and the ids that are wanted.
 const ANSWERS: [(&[u8], &[u32]); 12] = [
     (b"0", &[5, 7, 9]),
     (b"2", &[5, 9]),

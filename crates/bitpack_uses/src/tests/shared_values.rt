@@ -1,4 +1,4 @@
-//! What is found in packed lists by a search and by an intersection. The texts and the answers were worked by hand.
+//! What is found in packed lists by a search and by an intersection. The bytes and the results were worked by hand.
 
 use super::calls::open;
 use super::checks::{holds, returns, same_values};

@@ -42,7 +42,7 @@ fn has(set: u32, number: u32) -> bool {
     }
 }
 
-/// The text of a set. Those with an odd number are sorted lists that have each value twice.
+/// The encoded list of a set. Those with an odd number are sorted lists that have each value twice.
 fn text_of(rt: &impl Abort, alloc: Global, set: u32) -> Vec<u8> {
     let mut values = Vec::new(alloc);
     for value in numbers_of(rt, alloc, set).iter() {

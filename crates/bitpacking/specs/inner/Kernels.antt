@@ -1,4 +1,5 @@
--- What a kernel is given, and what it leaves: as the clauses of the calls, but of codes in place of a block and its kind.
+-- The arguments of a kernel, and what it leaves: as the clauses of the calls, but of codes instead of a block and its
+-- kind.
 use Rattle.std.specs.Prelude.{◌≡◌, ℕ, ◌*◌, ◌<◌, List, take, drop}
 use Rattle.bitpacking.specs.Bits.{AreBytes}
 use Rattle.bitpacking.specs.Calls.{CanPackCodes, CanUnpack}
@@ -6,7 +7,7 @@ use Rattle.bitpacking.specs.Layout.{size, Layout}
 use Rattle.bitpacking.specs.declared.memory.ByteTarget.{ByteTarget}
 use Rattle.bitpacking.specs.declared.memory.ValueTarget.{ValueTarget}
 
--- as a call is given it, with the bits of a lane that each register of values counts for
+-- as the arguments of a call, with the bits of a lane that each register of values counts for
 pub record KernelCanPack (lanes width counted : ℕ) (values codes buffer : List ℕ) : Type 0 where
   pub can : CanPackCodes lanes width values codes buffer
   pub bits : counted ≡ width
@@ -17,7 +18,7 @@ pub record KernelCanUnpack (lanes width counted : ℕ) (bytes values : List ℕ)
   pub bits : counted ≡ width
   pub are_bytes : AreBytes bytes
 
--- as a kernel is given it that packs or unpacks codes of fewer than 32 bits
+-- as the arguments of a kernel that packs or unpacks codes of fewer than 32 bits
 pub record NarrowCanPack (lanes width counted : ℕ) (values codes buffer : List ℕ) : Type 0 where
   pub narrow : width < 32
   pub can : KernelCanPack lanes width counted values codes buffer
@@ -26,13 +27,14 @@ pub record NarrowCanUnpack (lanes width counted : ℕ) (bytes values : List ℕ)
   pub narrow : width < 32
   pub can : KernelCanUnpack lanes width counted bytes values
 
--- the buffer begins with the layout of the codes, which has as many bytes as were written, and goes on as it was
+-- the buffer begins with the layout of the codes, which has as many bytes as were written, and the rest of it is
+-- unchanged
 pub record PackedCodes (lanes width : ℕ) (codes old new : List ℕ) (written : ℕ) : Type 0 where
   pub layout : Layout lanes width codes (take (size lanes width) new)
   pub rest : drop (size lanes width) new ≡ drop (size lanes width) old
   pub count : written ≡ size lanes width
 
--- the values begin with the block whose codes were read, and go on as they were
+-- the values begin with the block whose codes were read, and the rest of them is unchanged
 pub record UnpackedCodes (lanes width : ℕ) (values_of : List ℕ → List ℕ) (bytes old new : List ℕ) (read : ℕ) : Type 0 where
   pub block : (codes : List ℕ) × Layout lanes width codes (take (size lanes width) bytes)
       × (take (32 * lanes) new ≡ values_of codes)

@@ -41,7 +41,7 @@ pub record RowsCanUnpack (lanes width row stored counted : ℕ) (bytes values : 
   pub room : 32 * lanes ≤ length values
   pub loaded : left_at width row ≤ inside
 
--- The rows before row n of the codes are packed; `next` gives the codes of the values from that row on.
+-- The rows before row n of the codes are packed; `next` returns the codes of the values from that row on.
 pub record RowsPacked (lanes width n : ℕ) (codes values : List ℕ) (next : List ℕ → List ℕ) (bytes pending : List ℕ) : Type 0 where
   pub code_count : length codes ≡ 32 * lanes
   pub fits : Fits codes width
@@ -51,7 +51,7 @@ pub record RowsPacked (lanes width n : ℕ) (codes values : List ℕ) (next : Li
       → Packed width (λ q. word bytes (lanes * q + l)) (λ i. slice_index codes (i * lanes + l))
       n (n * width / 32) (n * width % 32) (slice_index pending l)
 
--- The rows before row n of the codes are unpacked; `next` gives the values of the codes from that row on.
+-- The rows before row n of the codes are unpacked; `next` returns the values of the codes from that row on.
 pub record RowsUnpacked (lanes width n : ℕ) (bytes codes : List ℕ) (next : List ℕ → List ℕ) (values words pending : List ℕ) : Type 0 where
   pub layout : Layout lanes width codes (take (size lanes width) bytes)
   pub are_bytes : AreBytes bytes

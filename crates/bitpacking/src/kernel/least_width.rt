@@ -36,7 +36,7 @@ pub(crate) fn width<R: Register, T: Transformer<R>>(
     most_significant_bit(all.or_lanes() | others.or_lanes())
 }
 
-/// The number of binary digits of a number, 0 for 0.
+/// Returns the number of binary digits of a number, 0 for 0.
 #[inline(always)]
 fn most_significant_bit(word: u32) -> u8
     ensures { count_leading_zeros 32 word + result ≡ 32 }

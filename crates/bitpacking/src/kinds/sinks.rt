@@ -1,4 +1,4 @@
-//! From codes to values, a register at a time, and the values to their places.
+//! From codes to values, a register at a time, which go into a slice.
 
 ghost use Rattle.std.specs.Prelude.{
   ◌≡◌,
@@ -24,7 +24,7 @@ ghost use Rattle.bitpacking.specs.Moves.{IsStore};
 use crate::memory::{Steps, ValueTarget};
 use bitpacking_register::Register;
 
-/// Stores the values of the codes that it is given, one register after another.
+/// Stores the values of codes, one register after another.
 pub(crate) trait Sink<R: Register>: Drop {
     // How many registers were stored.
     ghost rows_stored: { Self → ℕ };

@@ -8,7 +8,7 @@ ghost use Rattle.bitpacking.specs.CodeLaws.{length-differences, length-strict};
 
 use bitpacking_register::Register;
 
-/// Gives the codes of the registers that it is given, in their order.
+/// Returns the codes of the registers passed to it, in their order.
 pub(crate) trait Transformer<R: Register>: Drop {
     // The codes of the values that come next.
     ghost codes: { Self → List ℕ → List ℕ };

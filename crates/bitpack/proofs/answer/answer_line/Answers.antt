@@ -1,4 +1,4 @@
--- The line feed is put after the answer. If memory runs out, no part of the answer is put.
+-- The line feed comes after the answer. If memory runs out, no part of the answer is appended.
 use Rattle.std.proofs.Common.{◌≡◌, ◌∷◌, [], ◌++◌, IfErr, append_assoc, rules, subst}
 use Rattle.bitpack.specs.declared.run_error.RunError.TheVariants.{Write}
 use Rattle.bitpack.specs.Answers.{printed}

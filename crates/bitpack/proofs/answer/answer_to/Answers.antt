@@ -1,4 +1,4 @@
--- Each return is the refusal or the reply that the definition of an answer asks for.
+-- Each return is the refusal or the reply that the definition of an answer requires.
 use Rattle.std.proofs.Common.{arith}
 use Rattle.std.proofs.lemmas.Result.{IfOk-weaker}
 use Rattle.bitpack.specs.Answers.{IsAnswer, Passed, Refused}

@@ -1,4 +1,4 @@
--- The kept part of a line grows by the byte, or is full.
+-- The held part of a line grows by the byte, or is full.
 use Rattle.std.proofs.Common.{◌∙◌, arith}
 use Rattle.bitpack.proofs.LineLemmas.{kept_part-grows, kept_part-full}
 use Rattle.bitpack.proofs.line_loop.push_byte.Goals as goal

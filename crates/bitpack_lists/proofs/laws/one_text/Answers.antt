@@ -1,4 +1,4 @@
--- The clauses of the law are lemmas on texts and on loose widths.
+-- The clauses of the law are lemmas on encoded lists and on loose widths.
 use Rattle.bitpack_lists.proofs.lemmas.v1.Soundness1.{one_text1, one_list1, no_fault1, loose_fits_smaller}
 use Rattle.bitpack_lists.proofs.lemmas.v2.OneText2.{one_text2, one_list2, no_fault2}
 use Rattle.bitpack_lists.proofs.lemmas.v3.Soundness3.{no_fault3, one_list3, one_text3}

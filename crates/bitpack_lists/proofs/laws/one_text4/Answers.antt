@@ -1,4 +1,4 @@
--- The clauses of the law are lemmas on texts of version 4.
+-- The clauses of the law are lemmas on lists of version 4.
 use Rattle.bitpack_lists.proofs.lemmas.v4.Existence4.{text_of4}
 use Rattle.bitpack_lists.proofs.lemmas.v4.OneText4.{one_text4}
 use Rattle.bitpack_lists.proofs.lemmas.v4.Soundness4.{no_fault4, one_list4}

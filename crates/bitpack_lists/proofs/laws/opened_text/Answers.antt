@@ -1,4 +1,4 @@
--- Each opened list has a text without a fault.
+-- The bytes of each opened list have no fault.
 use Rattle.bitpack_lists.proofs.lemmas.opened.OpenedValues.{opened_list, opened_only, opened_ordered_values}
 use Rattle.bitpack_lists.proofs.laws.opened_text.Goals as goal
 

@@ -1,4 +1,4 @@
--- The clauses of the law are lemmas on texts.
+-- The clauses of the law are lemmas on encoded lists.
 use Rattle.bitpack_lists.proofs.lemmas.laws.Existence2.{text_of2}
 use Rattle.bitpack_lists.proofs.lemmas.laws.Existence3.{text_of3}
 use Rattle.bitpack_lists.proofs.lemmas.blocks.ListLemmas.{text_of}

@@ -1,4 +1,4 @@
--- The clauses of the law are lemmas on texts.
+-- The clauses of the law are lemmas on encoded lists.
 use Rattle.bitpack_lists.proofs.lemmas.laws.TextLengths.{fits_room, longest1, longest2, longest3, longest4}
 use Rattle.bitpack_lists.proofs.laws.text_fits.Goals as goal
 

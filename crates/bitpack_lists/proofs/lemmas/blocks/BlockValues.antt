@@ -1,4 +1,4 @@
--- Version 2: the block that a body gives.
+-- Version 2: the block of a body.
 -- Serves blocks, v4.
 use Rattle.std.proofs.Common.{◌≡◌, ℕ, ◌^◌, ◌<◌, ◌≤◌, List, length}
 use Rattle.bitpacking.specs.declared.kind.Kind.{Kind}

@@ -228,7 +228,7 @@ bound-more lanes done size_of width i le e narrow =
     let most : lanes * width ≤ lanes * 32 = mul-le lanes width lanes 32 (omega arith) narrow in
     omega arith
 
--- Lists that agree past a place agree past each later one.
+-- Lists that agree past an index agree past each later one.
 pub drop-further : (start more : ℕ) (xs ys : List ℕ) → drop start xs ≡ drop start ys → drop (start + more) xs ≡ drop (start + more) ys
 drop-further start more xs ys e = sym (drop-drop more start xs) ∙ ap (drop more) e ∙ drop-drop more start ys
 

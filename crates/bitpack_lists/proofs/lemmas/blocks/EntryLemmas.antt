@@ -1,4 +1,5 @@
--- Version 2: what is where in the rest of a text stays as bytes are appended; entries and bodies, one more at a time.
+-- Version 2: what is where in the rest of the bytes stays as bytes are appended; skip entries and bodies, one more at a
+-- time.
 -- Serves blocks, laws, v2, v3, writing.
 use Rattle.std.proofs.Common.{◌≡◌, ℕ, zero, suc, ◌+◌, ◌-◌, ◌*◌, ◌^◌, ◌<◌, ◌≤◌, List, [], ◌∷◌, ◌++◌, length, drop, get_or, refl, sym, ◌∙◌, ap, arith, inl, inr, add-one}
 use Rattle.std.proofs.lemmas.Bool.{cases_lt}

@@ -93,7 +93,7 @@ pub none_first : {A : Type 0} (one other : Option A) → option_or one other ≡
 none_first None other e = (refl, e)
 none_first (Some x) other e = absurd cc
 
--- ---- a whole text
+-- ---- a whole list
 
 pub header_first : (lanes : ℕ) (bytes : List ℕ) (fault : ListError) → header_fault 1 lanes bytes ≡ Some fault → fault1 lanes bytes ≡ Some fault
 unfolding fault1

@@ -73,7 +73,7 @@ written-next total i count k codes new le long len is same =
       | inr all ↦ take-put_mid (32 * i) k codes new (32 * (i + 1)) (omega arith) (omega arith)
     ]
 
--- What is written keeps the length.
+-- What is written leaves the length unchanged.
 pub length-written : (a k : ℕ) (codes new : List ℕ) → a ≤ length codes → length new ≡ k → a + k ≤ length codes → length (put_mid a k codes new) ≡ length codes
 length-written a k codes new le long room =
     let rest : List ℕ = drop k (drop a codes) in
@@ -120,7 +120,7 @@ pub tail-first : (blocks tail : ℕ) (bytes : List ℕ) → blocks ≡ 0 → 0 <
 unfolding tail_codes3
 tail-first blocks tail bytes none some = rw (none, lt-ltb 0 tail some) refl
 
--- What is written in the place of the tail: the number, and the codes that are read from what is after it.
+-- What is written at the offset of the tail: the varint, and the codes that are read from what is after it.
 pub tail_written : (blocks first size : ℕ) (codes new bytes : List ℕ) → blocks ≡ 0 → 0 < length codes → first ≡ number_value bytes → size ≡ number_end bytes
     → new ≡ groups_codes (groups_of (length (take (length (set codes 0 first) - 1) (drop 1 (set codes 0 first)))))
     (length (take (length (set codes 0 first) - 1) (drop 1 (set codes 0 first)))) (take (length bytes - size) (drop size bytes))

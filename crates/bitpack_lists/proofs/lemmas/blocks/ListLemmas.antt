@@ -1,4 +1,4 @@
--- Version 1: a header before blocks and tail is a text.
+-- Version 1: a header before blocks and tail is an encoded list.
 -- Serves ForCallers, blocks, laws, opened, upgrading, v1, v2, v3, v4.
 use Rattle.std.proofs.Common.{◌≡◌, ℕ, ◌*◌, ◌/◌, ◌^◌, ◌<◌, ◌≤◌, List, ◌++◌, length, true, false, Result, Ok, Err, OnOk, OnErr, is_err, arith}
 use Rattle.std.proofs.lemmas.List.{take_at, drop_at}
@@ -23,7 +23,7 @@ List1-from_blocks lanes kind values later words few blocks =
       blocks = rw (drop_at front later 7 seven) blocks;
     }
 
--- What is after the header of values, and with the header is their text.
+-- What is after the header of values, and with the header is their encoded list.
 pub text_of : (lanes : ℕ) (kind : ListKind) (values : List ℕ) → 1 ≤ lanes → lanes < 2 ^ 8 → AreWords values → length values ≤ 2 ^ 28
     → (later : List ℕ) × AreBytes later × Blocks1 lanes (whole_blocks lanes (length values)) (first_kind kind) values later
     × AreBytes (header 1 kind lanes (length values) ++ later) × List1 lanes kind values (header 1 kind lanes (length values) ++ later)

@@ -1,4 +1,4 @@
--- How long a text of either version is, by the least widths of its blocks.
+-- How long an encoded list of either version is, by the least widths of its blocks.
 -- Serves blocks, chain, laws, v1, v3, writing.
 use Rattle.std.proofs.Common.{◌≡◌, ℕ, zero, suc, ◌+◌, ◌-◌, ◌*◌, ◌%◌, ◌<◌, ◌≤◌, List, [], ◌∷◌, length, take, drop, get_or, sum, refl, sym, ◌∙◌, ap, arith, mul-suc, add-one, zero-add}
 use Rattle.std.proofs.Math.Nat.{mod-eq-sub-mul-div}

@@ -1,4 +1,5 @@
--- Version 2: entries and bodies with the tail after them are the rest of a text, and with the header before it a text; how long it is.
+-- Version 2: skip entries and bodies with the tail after them are the rest of the bytes, and with the header before it
+-- an encoded list; how long it is.
 -- Serves laws, v2, v3, writing.
 use Rattle.std.proofs.Common.{◌≡◌, ℕ, ◌+◌, ◌-◌, ◌*◌, ◌/◌, ◌%◌, ◌^◌, ◌≤◌, List, ◌++◌, length, drop, None, refl, sym, ◌∙◌, ap, arith}
 use Rattle.std.proofs.Math.Nat.{mod-eq-sub-mul-div}

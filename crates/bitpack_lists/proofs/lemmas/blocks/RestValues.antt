@@ -1,4 +1,5 @@
--- Version 2: what right entries say of the bodies, and the value at each position that the rest of a text gives.
+-- Version 2: what right skip entries say of the bodies, and the value at each position that the rest of the bytes
+-- encodes.
 -- Serves blocks, opened, v3, v4.
 use Rattle.std.proofs.Common.{◌≡◌, ℕ, zero, suc, ◌+◌, ◌-◌, ◌*◌, ◌^◌, ◌<◌, ◌≤◌, List, length, drop, get_or, None, sym, ◌∙◌, ap, arith}
 use Rattle.std.proofs.lemmas.List.{length-drop, length-take-le}
@@ -49,7 +50,7 @@ module _ (lanes blocks : ℕ) (rest : List ℕ) (right : first_fault (entry_faul
       let from : ℕ = body_start lanes blocks rest block in
       length-take-le (size lanes (width_at rest block)) (drop from rest) (omega (arith, length-drop from rest, body_room room))
 
-  -- The body holds the block that it gives.
+  -- The body holds the block that is read from it.
   pub Holds-block_at : (kind : ListKind) → tail_start lanes blocks rest ≤ length rest → AreBytes rest
       → Holds lanes (width_at rest block) (kind_at kind rest block) (block_at lanes blocks kind rest block) (body_at lanes blocks rest block)
   Holds-block_at kind room small =

@@ -1,4 +1,4 @@
--- The entries and the bodies of values are one list of bytes in the rest of a text.
+-- The skip entries and the bodies of values are one list of bytes in the rest of an encoded list.
 -- Serves opened, v2, v3, v4.
 use Rattle.std.proofs.Common.{◌≡◌, ℕ, zero, suc, ◌+◌, ◌*◌, ◌<◌, ◌≤◌, List, [], ◌∷◌, ◌++◌, length, take, drop, get_or, refl, sym, ◌∙◌, ap, arith, add-zero, take-add}
 use Rattle.std.proofs.lemmas.List.{drop-drop, get_or-drop, length-drop, take-append-drop}
@@ -59,7 +59,7 @@ module _ (lanes blocks : ℕ) (kind : ListKind) (values one two : List ℕ) (a :
   same_offset : (block : ℕ) → block < blocks → offset_at one block ≡ offset_at two block
   same_offset block lt = (a block lt).offset ∙ same_sum block (omega arith) ∙ sym (b block lt).offset
 
-  -- They say that the bodies end at the same place.
+  -- They say that the bodies end at the same offset.
   pub same_start : tail_start lanes blocks two ≡ tail_start lanes blocks one
   same_start = ap (λ x. 9 * blocks + 4 * lanes * x) (sym (same_sum blocks (omega arith)))
 
@@ -123,7 +123,7 @@ module _ (lanes blocks : ℕ) (kind : ListKind) (values one two : List ℕ) (som
   pub same_front : take (tail_start lanes blocks one) two ≡ take (tail_start lanes blocks one) one
   same_front = sym (same_bodies blocks (omega arith))
 
-  -- So the texts are one where what follows is.
+  -- So the bytes are the same if what follows is.
   pub same_whole : drop (tail_start lanes blocks two) two ≡ drop (tail_start lanes blocks one) one → two ≡ one
   same_whole tail =
       let start : ℕ = tail_start lanes blocks one in

@@ -12,7 +12,7 @@ use Rattle.bitpack_lists.proofs.lemmas.blocks.Orders.{least_below-found, least_b
 
 -- ---- halves
 
--- A span that is not empty takes a digit less once it is halved, whichever half is left.
+-- A span that is not empty has a digit less once it is halved, whichever half is left.
 pub halved : (low high left : ℕ) → low < high → high - low < 2 ^ left
     → (less : ℕ) × (left ≡ suc less) × (low + (high - low) / 2 - low < 2 ^ less) × (high - (low + (high - low) / 2 + 1) < 2 ^ less)
 halved low high zero lt fits = absurd (omega arith)

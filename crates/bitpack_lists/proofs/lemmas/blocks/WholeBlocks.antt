@@ -1,5 +1,5 @@
--- The whole blocks of versions 2 and 3: bytes without a fault there hold the blocks that they give, and bytes that hold blocks have no
--- fault there. What a tail gives is a parameter.
+-- The whole blocks of versions 2 and 3: bytes without a fault there hold the blocks that are read from them, and bytes
+-- that hold blocks have no fault there. The values of a tail are a parameter.
 -- Serves opened, v2, v3, v4.
 use Rattle.std.proofs.Common.{◌≡◌, ℕ, ◌+◌, ◌-◌, ◌*◌, ◌^◌, ◌<◌, ◌≤◌, List, length, drop, get_or, Option, Some, None, refl, sym, ◌∙◌, ap, arith}
 use Rattle.std.specs.Option.{option_map}
@@ -115,7 +115,7 @@ module _ (lanes : ℕ) (kind : ListKind) (values rest : List ℕ) (some : 1 ≤ 
   narrow_block block lt =
       narrow_least (kind_at kind rest block) (block_of lanes values block) (width_at rest block) (AreWords-block_of lanes block values words) (has.entries block lt).least
 
-  -- The block that the body gives is that of the values.
+  -- The block that is read from the body is the one of the values.
   pub block_given : (block : ℕ) → block < blocks_of → block_of lanes values block ≡ block_at lanes blocks_of kind rest block
   block_given block lt =
       let holds = has.bodies block lt in
@@ -123,7 +123,7 @@ module _ (lanes : ℕ) (kind : ListKind) (values rest : List ℕ) (some : 1 ≤ 
       (start-kind_at kind rest block small) (narrow_block block lt) holds.byte_count (block_of lanes values block)
       (AreWords-block_of lanes block values words) holds
 
-  -- The value at each position is the one that the bytes give, where those of the tail are.
+  -- The value at each position is the one that the bytes encode, if so are the values of the tail.
   pub value_held : (tail : ℕ → ℕ) → ((k : ℕ) → k < length (drop (32 * lanes * blocks_of) values) → get_or (drop (32 * lanes * blocks_of) values) k 0 ≡ tail k)
       → (p : ℕ) → p < length values → get_or values p 0 ≡ value_with lanes blocks_of kind rest tail p
   value_held tail = value_is_given lanes values (block_at lanes blocks_of kind rest) tail some block_given

@@ -1,4 +1,4 @@
--- The loops that measure and write a text: what is after the blocks so far, and the widths that are kept.
+-- The loops that measure and write a list: what is after the blocks so far, and the cached widths.
 -- Serves blocks, chain, v1, v2, v3, v4.
 use Rattle.std.proofs.Common.{◌≡◌, ℕ, suc, ◌+◌, ◌-◌, ◌*◌, ◌/◌, ◌%◌, ◌<◌, ◌≤◌, List, [], ◌∷◌, ◌++◌, length, take, drop, get_or, sym, ◌∙◌, ap, arith, append_assoc, add-one, inl, inr}
 use Rattle.std.proofs.Math.Nat.{mod-eq-sub-mul-div, mul-div-le}
@@ -39,7 +39,7 @@ last-block lanes kind len values block some whole e =
 pub one-less : (blocks i : ℕ) → i < blocks → blocks - i ≡ suc (blocks - (i + 1))
 one-less blocks i lt = omega arith
 
--- ---- the widths that are kept
+-- ---- the cached widths
 
 -- The widths so far, with the least widths of blocks after them, are least widths.
 abbrev pub Kept : ℕ → Kind → Kind → List ℕ → List ℕ → List ℕ → Type 0
@@ -55,7 +55,7 @@ pub kept_done : (lanes : ℕ) (first kind : Kind) (values rest widths : List ℕ
     → LeastWidths lanes first values widths
 kept_done lanes first kind values rest widths before = rw (append-nil widths) at (before [] tt)
 
--- Kept or not, the widths of one block more are least widths.
+-- Cached or not, the widths of one block more are least widths.
 pub least_step : (lanes : ℕ) (first kind : Kind) (values rest old new : List ℕ) (i width : ℕ) → IsWidth kind (take (32 * lanes) rest) width
     → (i < length old → take (i + 1) new ≡ take i old ++ width ∷ []) → (length old ≤ i → new ≡ old)
     → (i ≤ length old → Kept lanes first kind values rest (take i old)) → LeastWidths lanes first values (take i old)
@@ -67,7 +67,7 @@ least_step lanes first kind values rest old new i width least kept past before s
       | inr le ↦ rw (past le, take_all (i + 1) old (omega arith), ← take_all i old le) so_far
     ]
 
--- A width that was kept, and those after it.
+-- A cached width, and those after it.
 pub kept_first : (lanes : ℕ) (kind : Kind) (rest widths : List ℕ) (i : ℕ) → i < length widths → LeastWidths lanes kind rest (drop i widths)
     → IsWidth kind (take (32 * lanes) rest) (get_or widths i 0)
     × LeastWidths lanes (second_kind lanes kind rest) (drop (32 * lanes) rest) (drop (i + 1) widths)
@@ -83,7 +83,7 @@ kept_rest lanes kind rest widths i least =
       | inr le ↦ rw (drop_all (i + 1) widths (omega arith)) tt
     ]
 
--- ---- what is written, with what is left of the text after it
+-- ---- what is written, with what is left of the bytes after it
 
 abbrev pub Written : ℕ → ℕ → Kind → List ℕ → List ℕ → List ℕ → Type 0
 Written lanes left kind rest out all = (later : List ℕ) × AreBytes later × Blocks1 lanes left kind rest later × (out ++ later ≡ all)
@@ -137,7 +137,7 @@ packable lanes width kind block buffer least whole narrow few room = record {
   fits = least.fits;
 }
 
--- ---- the parts of a text
+-- ---- the parts of an encoded list
 
 -- Where the whole blocks end.
 pub whole_end : (lanes len count : ℕ) → len ≡ 32 * lanes → count - count % len ≡ 32 * lanes * whole_blocks lanes count

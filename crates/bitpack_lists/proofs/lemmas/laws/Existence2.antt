@@ -1,4 +1,4 @@
--- Version 2: values in order have a text.
+-- Version 2: values in order have an encoded list.
 -- Serves ForCallers, laws, writing.
 use Rattle.std.proofs.Common.{◌≡◌, ℕ, zero, suc, ◌+◌, ◌-◌, ◌*◌, ◌^◌, ◌<◌, ◌≤◌, List, [], ◌∷◌, ◌++◌, length, drop, get_or, None, refl, ◌∙◌, arith, add-one}
 use Rattle.bitpacking.specs.declared.kind.Kind.{Kind}

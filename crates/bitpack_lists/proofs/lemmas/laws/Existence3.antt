@@ -1,4 +1,4 @@
--- Version 3: values in order have a text.
+-- Version 3: values in order have an encoded list.
 -- Serves laws.
 use Rattle.std.proofs.Common.{◌≡◌, ℕ, ◌+◌, ◌*◌, ◌^◌, ◌<◌, min, List, [], ◌++◌, length, drop, refl, arith, inl, inr}
 use Rattle.std.proofs.lemmas.Bool.{cases_lt}

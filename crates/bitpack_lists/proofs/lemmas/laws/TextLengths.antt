@@ -1,4 +1,4 @@
--- How long texts can be: no width is above 32, and no group has more than a byte beside its codes.
+-- How long encoded lists can be: no width is above 32, and no group has more than a byte beside its codes.
 -- Serves laws, v3.
 use Rattle.std.proofs.Common.{◌≡◌, ℕ, zero, suc, ◌+◌, ◌*◌, ◌/◌, ◌%◌, ◌^◌, ◌<◌, ◌≤◌, List, [], ◌∷◌, length, take, drop, sum, ◌∙◌, ap, arith, inl, inr}
 use Rattle.std.proofs.lemmas.Bool.{cases_lt, le-ltb, lt-ltb}

@@ -1,4 +1,4 @@
--- The worked texts of versions 1 and 2, by computing.
+-- The worked lists of versions 1 and 2, by computing.
 -- Serves worked_texts.
 use Rattle.std.proofs.Common.{◌≡◌, [], ◌∷◌, ◌++◌, ◌+◌, ◌*◌, ◌%◌, ◌^◌, ◌≤◌, ℕ, false, true, List, length, refl}
 use Rattle.std.specs.List.{list_all}

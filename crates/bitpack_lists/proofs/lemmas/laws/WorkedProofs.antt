@@ -1,4 +1,4 @@
--- The worked texts, by computing.
+-- The worked lists, by computing.
 -- Serves worked_texts.
 use Rattle.std.proofs.Common.{refl}
 use Rattle.bitpacking.specs.Layout.{codes_of, place}

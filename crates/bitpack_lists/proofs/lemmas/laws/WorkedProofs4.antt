@@ -1,4 +1,4 @@
--- The worked texts of version 4, by computing.
+-- The worked lists of version 4, by computing.
 -- Serves worked_texts.
 use Rattle.std.proofs.Common.{refl}
 use Rattle.bitpacking.specs.Layout.{codes_of, place}

@@ -235,7 +235,7 @@ module _ {P : Type 0} {members : Ghosts P} (list : PackedList P members) (some :
       bits = has_bits;
     }
 
--- what was read of the text of a block
+-- what was read of the bytes of a block
 pub facts_read : {P : Type 0} {members : Ghosts P} (list : PackedList P members) → 1 ≤ members.lanes → members.lanes ≤ 8 → list.version ≡ versions.Four
     → (block : ListBlock) → IsListBlock list block → (last size_is : ℕ) (body : List ℕ) → last ≡ mark_at (blocks_of list) (rest_of list) block.number
     → size_is ≡ size_at (rest_of list) block.number → body ≡ body_at4 members.lanes (blocks_of list) (rest_of list) block.number

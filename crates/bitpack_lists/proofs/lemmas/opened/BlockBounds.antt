@@ -29,7 +29,7 @@ use Rattle.bitpack_lists.proofs.lemmas.opened.OpenedValues.{length-values, opene
 use Rattle.bitpack_lists.proofs.lemmas.opened.OpenedWalks.{opened_words}
 use Rattle.bitpack_lists.proofs.lemmas.opened.TextBlocks.{marks_last}
 
--- ---- values in order, of which a function gives the last of each block
+-- ---- values in order, with a function that returns the last of each block
 
 -- each value of a block is at least this, and this at least the value before the block
 pub record IsStart (n : ℕ) (value : ℕ → ℕ) (block least : ℕ) : Type 0 where

@@ -49,7 +49,7 @@ module _ (n total from count done : ℕ) (some : 1 ≤ n) (end : from + count �
           le-div (q / n) (from + (done + more) - 1) n (omega arith) (omega (arith, div-mul-le_self q n, some_more)) in
           omega (arith, le)
 
--- no number of a block after all blocks is asked for
+-- no number of a block after all blocks is wanted
 pub block_of : (n total p : ℕ) → 1 ≤ n → p < total → p / n ≤ total / n
 block_of n total p some lt = le-div (p / n) total n (omega arith) (omega (arith, div-mul-le_self p n))
 

@@ -9,7 +9,7 @@ use Rattle.bitpack_lists.specs.Opened.{first_of}
 use Rattle.bitpack_lists.proofs.lemmas.blocks.ChainLemmas.{put_end, take-put_block}
 use Rattle.bitpack_lists.proofs.lemmas.opened.CursorSteps.{first_of-same}
 
--- the numbers below a place are those that a function gives
+-- the numbers below an index are those that a function returns
 abbrev pub HoldsUpTo : (ℕ → ℕ) → ℕ → List ℕ → Type 0
 HoldsUpTo value place xs = (k : ℕ) → k < place → get_or xs k 0 ≡ value k
 

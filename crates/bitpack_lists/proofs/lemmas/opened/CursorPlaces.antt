@@ -1,4 +1,4 @@
--- Places in a list by its blocks: the value there, the place after it, and where a search ends.
+-- Positions in a list by its blocks: the value there, the position after it, and where a search ends.
 -- Serves ForCallers, opened.
 use Rattle.std.proofs.Common.{◌≡◌, ℕ, ◌+◌, ◌-◌, ◌*◌, ◌/◌, ◌<◌, ◌≤◌, List, length, drop, take, get_or, Some, refl, sym, ◌∙◌, ap, arith, inl, inr}
 use Rattle.std.specs.List.{slice_get}
@@ -121,7 +121,7 @@ module _ (lanes : ℕ) (all : List ℕ) (none : lanes ≡ 0 → length all ≡ 0
         get_or-drop index (take len xs) k 0 ∙ get_or-take len xs (index + k) 0 inside ∙ is
         ∙ sym (get_or-take left (drop here all) k 0 (omega arith) ∙ get_or-drop here all k 0))
 
-    -- A value at hand is the first that reaches a target.
+    -- A value of the current block is the first that reaches a target.
     module _ (target found : ℕ) (room : len ≤ length xs) (some : index < len) (reaches : target ≤ get_or xs (len - 1) 0)
         (sought : IsSoughtFrom (take len xs) target index found) where
       cut : length (take len xs) ≡ len
@@ -225,7 +225,7 @@ module _ (lanes : ℕ) (all : List ℕ) (none : lanes ≡ 0 → length all ≡ 0
             ];
           }
 
-    -- Where all values at hand are below the target and none follow, all are.
+    -- If all values of the current block are below the target and none follow, all are.
     module _ (target : ℕ) (room : len ≤ length xs) (sorted : InOrder (take len xs)) (below : index < len → get_or xs (len - 1) 0 < target)
         (short : len ≡ n → len ≡ 0) where
       pub none_sought : IsSoughtFrom all target here (n * block + len)

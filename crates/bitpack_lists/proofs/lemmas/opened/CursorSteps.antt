@@ -1,4 +1,4 @@
--- Places of a cursor: how the count of values, the block at hand and the index in it go together.
+-- The position of a cursor: how the count of values, the current block and the index in it go together.
 -- Serves opened, v4.
 use Rattle.std.proofs.Common.{◌≡◌, ℕ, ◌+◌, ◌-◌, ◌*◌, ◌/◌, ◌%◌, ◌<◌, ◌≤◌, min, List, length, get_or, Some, ◌∙◌, ap, arith, inl, inr}
 use Rattle.std.specs.List.{slice_get}
@@ -55,7 +55,7 @@ module _ (n count : ℕ) (some : 1 ≤ n) where
   pub left_tail : left blocks ≡ count - n * blocks
   left_tail = omega (arith, tail_end.0, tail_end.1)
 
-  -- The part at hand is within the list, and ends it where it is the tail.
+  -- The current part is within the list, and ends it if it is the tail.
   pub left_within : (block : ℕ) → block ≤ blocks → n * block + left block ≤ count
   left_within block le = elim (cases_lt block blocks) [
     | inl lt ↦ omega (arith, part_end block lt)

@@ -1,4 +1,4 @@
--- The first byte of a text says its version.
+-- The first byte of an encoded list says its version.
 -- Serves ForCallers, list_buf, opened, v4.
 use Rattle.std.proofs.Common.{◌≡◌, ℕ, List, get_or, None, refl, arith}
 use Rattle.std.proofs.lemmas.Bool.{le-ltb, lt-ltb}
@@ -11,7 +11,7 @@ use Rattle.bitpack_lists.proofs.lemmas.v2.Soundness2.{header_right2}
 use Rattle.bitpack_lists.proofs.lemmas.v3.Soundness3.{header_right3}
 use Rattle.bitpack_lists.proofs.lemmas.v4.OtherVersions.{first_byte}
 
--- A text of version 2 to 4 is one of the version that its first byte says.
+-- An encoded list of version 2 to 4 is of the version that its first byte says.
 pub version_right : (version : Version) (lanes : ℕ) (bytes : List ℕ) → fault_in version lanes bytes ≡ None → version_in bytes ≡ version
 version_right versions.Two lanes bytes none =
     let first : get_or bytes 0 0 ≡ 2 = (version_is 2 lanes bytes (header_right2 lanes bytes none)).1 in

@@ -17,7 +17,7 @@ module _ (lanes : ℕ) (all : List ℕ) (some : 1 ≤ lanes) where
   abbrev n : ℕ
   n = 32 * lanes
 
-  -- A place that is not before another is in its block, or in a later one.
+  -- A position that is not before another is in its block, or in a later one.
   pub block_ahead : (block index len block' index' len' : ℕ) (xs xs' : List ℕ) → IsPlaceOf lanes all block index len xs → IsPlaceOf lanes all block' index' len' xs'
       → n * block + index ≤ n * block' + index' → block ≤ block'
   block_ahead block index len block' index' len' xs xs' old new le = elim (cases_lt block' block) [

@@ -1,4 +1,4 @@
--- What an opened list says of its blocks, its values and its tail: its text has no fault.
+-- What an opened list says of its blocks, its values and its tail: its bytes have no fault.
 -- Serves opened.
 use Rattle.std.proofs.Common.{◌≡◌, ◌≢◌, ℕ, suc, ◌+◌, ◌-◌, ◌*◌, ◌/◌, ◌%◌, ◌^◌, ◌<◌, ◌≤◌, true, List, length, take, drop, get_or, Option, None, sym, subst, ◌∙◌, ap, arith}
 use Rattle.std.specs.Prelude.{◌==◌}

@@ -1,4 +1,4 @@
--- The kind and the values of an opened list are those of its text.
+-- The kind and the values of an opened list are the ones that its bytes encode.
 -- Serves ForCallers, laws, list_buf, opened.
 use Rattle.std.proofs.Common.{◌≡◌, ℕ, ◌≤◌, List, length, drop, get_or, Some, None, sym, subst, ◌∙◌, ap, arith}
 use Rattle.bitpacking.specs.Bits.{AreBytes}
@@ -44,7 +44,7 @@ module _ {P : Type 0} {members : Ghosts P} (list : PackedList P members) where
       first_same (value_of list) (λ p. get_or (values list) p 0) list.count target are_listed.1
       ∙ ap (λ count. first_reaching (λ p. get_or (values list) p 0) count target) are_listed.0
 
--- ---- a text gives the kind and the values of its list, and of no other
+-- ---- bytes encode the kind and the values of their list, and of no other
 
 GivenOnly : Version → Type 0
 GivenOnly version = (lanes : ℕ) (bytes : List ℕ) → 1 ≤ lanes → AreBytes bytes
@@ -107,7 +107,7 @@ given_of version lanes bytes kind count rest some small states =
 -- ---- an opened list
 
 module _ {P : Type 0} {members : Ghosts P} (list : PackedList P members) (some : 1 ≤ members.lanes) where
-  -- these are the kind and the values of its text
+  -- these are the kind and the values of its bytes
   pub opened_list : IsText (version_of list) members.lanes (kind_of list) (values list) (text list)
   opened_list = (given_of list.version members.lanes list.bytes.now list.kind list.count list.rest.now some list.are_bytes list.states).0
 
@@ -151,7 +151,7 @@ module _ {P : Type 0} {members : Ghosts P} (list : PackedList P members) (some :
       words versions.Three is = is.words
       words versions.Four is = is.words
 
-  -- what is the text of a list of version 2 was opened as such
+  -- bytes that encode a list of version 2 were opened as such
   same_version : (version : Version) → fault_in version members.lanes (text list) ≡ None
       → (kind : ListKind) (others : List ℕ) → List2 members.lanes kind others (text list) → IsText version members.lanes kind others (text list)
   same_version versions.Two none kind others is = is
@@ -166,7 +166,7 @@ module _ {P : Type 0} {members : Ghosts P} (list : PackedList P members) (some :
       let clash : Some (BadVersion 2) ≡ None = sym wrong ∙ none in
       absurd cc
 
-  -- the kind and the values of each list whose text was opened are those of the opened list
+  -- the kind and the values of each list whose bytes were opened are those of the opened list
   pub kind_is : (kind : ListKind) (others : List ℕ) → List2 members.lanes kind others (text list) → kind_of list ≡ kind
   kind_is kind others is = (opened_only kind others (same_version list.version list.states.none kind others is)).0
 

@@ -1,4 +1,4 @@
--- What an opened list keeps of its text is an outline of it, from which the list is made again.
+-- What an opened list stores beside its bytes is an outline of it, from which the list is made again.
 -- Serves ForCallers, opened.
 use Rattle.std.proofs.Common.{◌≡◌, ℕ, zero, suc, ◌-◌, ◌*◌, ◌/◌, ◌<◌, ◌≤◌, List, length, drop, refl, sym, ◌∙◌, ap, arith, inl, inr}
 use Rattle.std.proofs.Math.Nat.{div-lt_iff_lt-mul}

@@ -1,4 +1,4 @@
--- Eight lanes that are compared with both ends of a range, and the positions that their marks give.
+-- Eight lanes that are compared with both ends of a range, and the positions of their marks.
 -- Serves opened.
 use Rattle.std.proofs.Common.{◌≡◌, ℕ, zero, suc, ◌+◌, ◌-◌, ◌%◌, ◌^◌, ◌<◌, ◌≤◌, ◌&&◌, ◌++◌, Bool, true, false, cond, eqb, List, [], ◌∷◌, length, get_or, map, replicate, take, drop, bit_and, w32, refl, sym, subst, ◌∙◌, ap, arith}
 use Rattle.std.specs.Prelude.{nat_le}
@@ -84,7 +84,7 @@ marks_from values at low high room =
 pub small_from : (values : List ℕ) (at low high : ℕ) → at + 8 ≤ length values → mask (take 8 (drop at values)) low high < 2 ^ 8
 small_from values at low high room = mask_small (take 8 (drop at values)) low high (length-chunk at 8 values room)
 
--- ---- positions that the marks give
+-- ---- positions of the marks
 
 -- numbers that pass, moved
 moved : (test : ℕ → Bool) (first m n : ℕ) → first + m + n ≤ 2 ^ 32

@@ -1,4 +1,4 @@
--- What two lists share below what is wanted, once one more value of one of them was met.
+-- What two lists share below what is wanted, once one more value of one of them was visited.
 -- Serves laws, opened.
 use Rattle.std.proofs.Common.{◌≡◌, ℕ, zero, suc, Bool, true, false, cond, Option, Some, None, ◌+◌, ◌-◌, ◌*◌, ◌^◌, ◌<◌, ◌≤◌, List, [], ◌∷◌, ◌++◌, length, get_or, refl, sym, ◌∙◌, ap, subst, arith, inl, inr}
 use Rattle.std.specs.List.{Contains}
@@ -23,7 +23,7 @@ pub record IsFirst (values : Values) (target position value : ℕ) : Type 0 wher
   pub enough : target ≤ value
   pub before : (k : ℕ) → k < position → values.value k < target
 
--- ---- what a search answers
+-- ---- what a search returns
 
 least_below-some : (test : ℕ → Bool) (bound position : ℕ) → least_below test bound ≡ Some position
     → (position < bound) × (test position ≡ true) × ((k : ℕ) → k < position → test k ≡ false)
@@ -115,7 +115,7 @@ module _ (one other : Values) (shared : List ℕ) (done want : ℕ) (order : InO
     complete = before.complete;
   }
 
-  -- a value that is not below what is wanted is at the value met or after it
+  -- a value that is not below what is wanted is at the value visited or after it
   from_here : (v : ℕ) → want ≤ v → IsOneOf one v → one.value done ≤ v
   from_here v le (k, within, e) = elim (cases_lt k done) [
     | inl inside ↦
@@ -126,7 +126,7 @@ module _ (one other : Values) (shared : List ℕ) (done want : ℕ) (order : InO
         omega arith
   ]
 
-  -- the other list has nothing from the value met up to what is wanted next
+  -- the other list has nothing from the value visited up to what is wanted next
   pub shared_next : (next : ℕ) → want ≤ one.value done → one.value done < next
       → ((v : ℕ) → IsOneOf other v → one.value done ≤ v → v < next → ⊥) → IsShared one other (done + 1) next shared
   shared_next next le gt none = record {
@@ -231,7 +231,7 @@ shared_common one other xs ys shared want are are' is = record {
 -- ---- how far the other list was passed
 
 module _ (other : Values) (want count searches value : ℕ) (before : IsPast other want count searches) (le : want ≤ value) (small : value < 2 ^ 32) where
-  -- a value that is found is at the place or after it
+  -- a value that is found is at the position or after it
   pub found_past : (position found : ℕ) → IsFirst other value position found → before.place ≤ position
   found_past position found is = elim (cases_lt position before.place) [
     | inl inside ↦

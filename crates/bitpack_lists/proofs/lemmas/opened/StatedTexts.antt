@@ -1,4 +1,4 @@
--- What a text of version 3 or 4 states, in the words of all versions.
+-- What bytes of version 3 or 4 state, in the words of all versions.
 -- Serves opened.
 use Rattle.std.proofs.Common.{◌≡◌, ℕ, ◌≤◌, List, drop, ap}
 use Rattle.bitpacking.specs.Bits.{AreBytes}

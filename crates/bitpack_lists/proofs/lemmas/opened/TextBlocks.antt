@@ -1,4 +1,4 @@
--- What a text without a fault says of its blocks and its tail, in each version.
+-- What bytes without a fault say of their blocks and their tail, in each version.
 -- Serves opened.
 use Rattle.std.proofs.Common.{◌≡◌, ◌≢◌, ℕ, false, ltb, ◌+◌, ◌-◌, ◌*◌, ◌<◌, ◌≤◌, List, length, drop, get_or, None, refl, sym, ◌∙◌, ap, arith}
 use Rattle.std.specs.Prelude.{◌==◌}
@@ -137,7 +137,7 @@ pub groups-codes : (blocks tail : ℕ) (bytes : List ℕ) → 0 < blocks → tai
 unfolding tail_codes3
 groups-codes blocks tail bytes some = rw (no_first blocks tail some) refl
 
--- That of another version is groups without a fault, which give its values.
+-- The tail of another version is groups without a fault, which hold its values.
 pub record HasGroups (version : Version) (lanes count : ℕ) (kind : ListKind) (rest : List ℕ) : Type 0 where
   pub right : tail_fault3 (whole_blocks lanes count) (tail_values lanes count) (drop (tail_start_in version lanes (whole_blocks lanes count) rest) rest) ≡ None
   pub values : (k : ℕ) → tail_value version lanes count kind rest k ≡ get_or (values_of (kind_in version (whole_blocks lanes count) kind rest (whole_blocks lanes count))

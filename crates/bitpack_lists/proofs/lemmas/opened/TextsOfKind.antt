@@ -1,4 +1,4 @@
--- Texts of versions 2 to 4 and the kind that they state.
+-- Lists of versions 2 to 4 and the kind that their headers state.
 -- Serves opened, v4.
 use Rattle.std.proofs.Common.{◌≡◌, ℕ, ◌≤◌, List, None, ◌∙◌, ap, subst}
 use Rattle.bitpacking.specs.Bits.{AreBytes}
@@ -22,7 +22,7 @@ none_in versions.Two lanes kind values bytes some known small is = none_from_lis
 none_in versions.Three lanes kind values bytes some known small is = none_from_list3 lanes kind values bytes some known small is
 none_in versions.Four lanes kind values bytes some known small is = none_from_list4 lanes kind values bytes some known small is
 
--- A text has no fault as one of the version that its first byte says.
+-- An encoded list has no fault as one of the version that its first byte says.
 pub none_of_any : (version : Version) (lanes : ℕ) (kind : ListKind) (values bytes : List ℕ) → 1 ≤ lanes → HasCode lanes → AreBytes bytes
     → IsText version lanes kind values bytes → fault_of_any lanes bytes ≡ None
 none_of_any version lanes kind values bytes some known small is =

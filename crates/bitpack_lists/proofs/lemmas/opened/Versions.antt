@@ -1,4 +1,5 @@
--- A text of one version is none of another, and the entries and bodies of versions 2 and 3 are the same bytes.
+-- An encoded list of one version is none of another, and the skip entries and bodies of versions 2 and 3 are the same
+-- bytes.
 -- Serves laws, opened, v4.
 use Rattle.std.proofs.Common.{◌≡◌, ◌≢◌, ℕ, ◌<◌, ◌≤◌, List, [], ◌∷◌, length, take, drop, get_or, Some, None, refl, ◌∙◌, ap, arith, false, eqb}
 use Rattle.std.proofs.lemmas.Bool.{eqb-true, false_from_ne_true, le-ltb, lt-ltb, ltb-false, not-false}
@@ -41,7 +42,7 @@ unfolding header_fault3
 high_version lanes [] none = absurd cc
 high_version lanes (byte ∷ later) none = (first_right lanes byte later none).0
 
--- ---- whole texts
+-- ---- whole lists
 
 pub header_none1 : (lanes : ℕ) (bytes : List ℕ) → fault1 lanes bytes ≡ None → header_fault 1 lanes bytes ≡ None
 unfolding fault1

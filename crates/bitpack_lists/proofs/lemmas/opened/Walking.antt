@@ -13,8 +13,8 @@ use Rattle.bitpack_lists.proofs.lemmas.opened.Sharing.{InOrder, IsFirst, found_p
 abbrev pub stage_of : Values → Begun → ℕ → ℕ → ℕ → Stage
 stage_of one begun done blocks due = record { one = one; begun = begun; done = done; blocks = blocks; due = due }
 
--- What a search for a value answers, which block it leaves kept, and what it reads: a block is unpacked only where the answer is in one
--- that was not kept.
+-- The result of a search for a value, which block it caches, and what it reads: a block is unpacked only if the result is in one that
+-- was not cached.
 pub record IsSought (lanes : ℕ) (other : Values) (value : ℕ) (answer : Option (ℕ × ℕ)) (last last' : ℕ) (old new : Reads) : Type 0 where
   pub answers : first_reaching other.value other.count value ≡ answer
   pub entries : (digits : ℕ) → whole_blocks lanes other.count < 2 ^ digits → new.entries ≤ old.entries + digits
@@ -37,7 +37,7 @@ grown_further first old new before more =
 
 module _ (lanes : ℕ) (other : Values) (want value next block block' start : ℕ) (old new : Reads) (before : IsLastBlock lanes other want block start old.blocks)
     (le : want ≤ value) (further : value ≤ next) (one_more : new.blocks ≤ old.blocks + 1) (again : block' ≡ block → new.blocks ≡ old.blocks) where
-  -- the answer is in no whole block, so nothing was unpacked
+  -- the result is in no whole block, so nothing was unpacked
   last_outside : block' ≡ block → IsLastBlock lanes other next block' start new.blocks
   last_outside same =
       let still = again same in
@@ -271,7 +271,7 @@ module _ (lanes : ℕ) (one other : Values) (begun : Begun) (done want last : �
     paid = paid;
   }
 
-  -- a block of the list was met to its end, and its last value was not below what was wanted before
+  -- a block of the list was visited to its end, and its last value was not below what was wanted before
   pub walked_block : (end : ℕ) → end < done → due ≡ one.value end + 1 → IsWalked lanes other (stage_of one begun done unpacked 0) want last items capacity old
   walked_block end lt is = walked_paid unpacked 0 (elim before.paid [
     | inl paid ↦ inl paid
@@ -298,7 +298,7 @@ module _ (lanes : ℕ) (one other : Values) (begun : Begun) (done want last : �
         | inr owed ↦ absurd (omega (arith, owed.1))
       ]
 
-  -- no more blocks of the other list were unpacked than it has, nor than values were met
+  -- no more blocks of the other list were unpacked than it has, nor than values were visited
   pub blocks_few : old.blocks ≤ begun.other_reads.blocks + min (whole_blocks lanes other.count) done
   blocks_few =
       let each = before.each in

@@ -1,4 +1,4 @@
--- A place in a whole block: other blocks follow, or the tail.
+-- A position in a whole block: other blocks follow, or the tail.
 -- Serves opened.
 use Rattle.std.proofs.Common.{◌≡◌, ℕ, ◌+◌, ◌*◌, ◌/◌, ◌<◌, ◌≤◌, List, length, ap, arith, inl, inr}
 use Rattle.std.proofs.Math.Nat.{div-add-mod, mod-lt}

@@ -1,4 +1,4 @@
--- Version 1: parts and texts are one for one block and one list, and each list has its text.
+-- Version 1: parts and encoded lists are one for one block and one list, and each list has an encoded one.
 -- Serves blocks, laws, v1, v2.
 use Rattle.std.proofs.Common.{◌≡◌, ℕ, zero, suc, ◌+◌, ◌*◌, ◌^◌, ◌<◌, ◌≤◌, List, ◌∷◌, ◌++◌, length, take, drop, get_or, refl, sym, ◌∙◌, ap, arith, mul-suc}
 use Rattle.std.proofs.lemmas.List.{take_at, drop_at, length-take, length-drop, take-append-drop}
@@ -85,7 +85,7 @@ part_of lanes kind block some words long =
 
 -- ---- blocks and tail
 
--- Values have one text.
+-- Values have one encoded list.
 pub same_blocks : (lanes count : ℕ) (kind : Kind) (values one other : List ℕ) → 0 < lanes → AreBytes one → AreBytes other
     → Blocks1 lanes count kind values one → Blocks1 lanes count kind values other → other ≡ one
 same_blocks lanes zero kind values one other some small small' a b = b ∙ sym a
@@ -99,7 +99,7 @@ same_blocks lanes (suc count) kind values one other some small small' (part, res
     (AreBytes-right part rest bytes) (AreBytes-right part' rest' bytes') more more' in
     e' ∙ rw (front, back) (sym e)
 
--- A text is that of one list.
+-- Bytes encode one list.
 pub same_values : (lanes count : ℕ) (kind kind' : Kind) (values others bytes : List ℕ) → 1 ≤ lanes → kind' ≡ kind → AreWords values → AreWords others
     → Blocks1 lanes count kind values bytes → Blocks1 lanes count kind' others bytes → others ≡ values
 same_values lanes zero kind kind' values others bytes some same words words' a b = same_words others values words' words (sym b ∙ a)
@@ -114,7 +114,7 @@ same_values lanes (suc count) kind kind' values others bytes some same words wor
     (All-drop P n values words) (All-drop P n others words') more (rw found.2 at more') in
     sym (take-append-drop n others) ∙ rw (found.0, back) (take-append-drop n values)
 
--- Values of so many blocks and more have a text.
+-- Values of that many blocks and more have an encoded list.
 pub blocks_of : (lanes count : ℕ) (kind : Kind) (values : List ℕ) → 1 ≤ lanes → AreWords values → 32 * lanes * count ≤ length values
     → (text : List ℕ) × AreBytes text × Blocks1 lanes count kind values text
 blocks_of lanes zero kind values some words room = (bytes_of_words values, AreBytes-words values, refl)

@@ -1,4 +1,4 @@
--- Version 1: bytes without a fault are the text of one list, and a text has no fault.
+-- Version 1: bytes without a fault encode one list, and an encoded list has no fault.
 -- Serves ForCallers, laws, upgrading, v1, v2, v3.
 use Rattle.std.proofs.Common.{◌≡◌, ℕ, ◌+◌, ◌*◌, ◌^◌, ◌<◌, ◌≤◌, List, length, take, drop, None, refl, sym, subst, ◌∙◌, ap, arith}
 use Rattle.std.proofs.lemmas.List.{take-append-drop}
@@ -46,7 +46,7 @@ list_from_none lanes count kind bytes some small begins none =
       },
     )
 
--- A text has no fault.
+-- An encoded list has no fault.
 pub none_from_list : (lanes : ℕ) (kind : ListKind) (values bytes : List ℕ) → 1 ≤ lanes → List1 lanes kind values bytes
     → fault1 lanes bytes ≡ None
 none_from_list lanes kind values bytes some list =

@@ -1,4 +1,4 @@
--- Version 2: values have one text, and a text is that of one kind and one list.
+-- Version 2: values have one encoded list, and it belongs to one kind and one list.
 -- Serves ForCallers, laws, opened.
 use Rattle.std.proofs.Common.{◌≡◌, length, take, drop, sym, ◌∙◌, ap, arith}
 use Rattle.std.proofs.lemmas.List.{ext_get_or, take-append-drop}
@@ -10,7 +10,7 @@ use Rattle.bitpack_lists.proofs.lemmas.blocks.PartLemmas.{AreBytes-drop}
 use Rattle.bitpack_lists.proofs.lemmas.blocks.SameBlocks.{same_whole}
 use Rattle.bitpack_lists.proofs.lemmas.v2.Soundness2.{header_right2, list_from_none2, none_from_list2, value_given}
 
--- ---- a text has one list
+-- ---- bytes encode one list
 
 pub one_list2 : OneList2
 one_list2 lanes kind kind' values others text some small one two =
@@ -26,7 +26,7 @@ one_list2 lanes kind kind' values others text some small one two =
           ∙ sym (value_given lanes kind values text some small one p (omega (arith, lt, long)))),
     )
 
--- ---- a list has one text
+-- ---- a list has one encoding
 
 pub one_text2 : OneText2
 one_text2 lanes kind values text other some small small' one two =

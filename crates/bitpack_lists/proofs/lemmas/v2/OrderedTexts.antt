@@ -1,4 +1,5 @@
--- A text of version 1 whose order is tested: bytes with a fault are none, and what the header and the test of order say of its values.
+-- A version 1 list whose order is tested: bytes with a fault are none, and what the header and the test of order say of
+-- its values.
 -- Serves upgrading, v2.
 use Rattle.std.proofs.Common.{◌≡◌, ◌-◌, ◌≤◌, ℕ, List, length, take, drop, true, Some, None, Result, Ok, Err, is_ok, MatchOption, sym, ◌∙◌, arith}
 use Rattle.std.proofs.lemmas.List.{length-drop, take_all}

@@ -1,4 +1,4 @@
--- Version 2: bytes without a fault are the text of one list, and a text has no fault.
+-- Version 2: bytes without a fault encode one list, and an encoded list has no fault.
 -- Serves list_buf, opened, v2, v3, v4.
 use Rattle.std.proofs.Common.{◌≡◌, ℕ, ◌+◌, ◌*◌, ◌^◌, ◌<◌, ◌≤◌, List, length, drop, get_or, Some, None, refl, sym, subst, ◌∙◌, ap, arith}
 use Rattle.std.proofs.lemmas.Bool.{le-ltb, ltb-false}
@@ -141,7 +141,7 @@ module _ (lanes : ℕ) (kind : ListKind) (values bytes : List ℕ) (some : 1 ≤
   abbrev blocks_of : ℕ
   blocks_of = whole_blocks lanes (length values)
 
-  -- The value at each position is the one that the bytes give.
+  -- The value at each position is the one that the bytes encode.
   pub value_given : (p : ℕ) → p < length values → get_or values p 0 ≡ value_at lanes blocks_of kind rest p
   value_given =
       let left : List ℕ = drop (32 * lanes * blocks_of) values in
@@ -163,7 +163,7 @@ module _ (lanes : ℕ) (kind : ListKind) (values bytes : List ℕ) (some : 1 ≤
         omega (arith, over, length-drop start rest, list.rest.whole.room);
   }
 
--- A text has no fault.
+-- An encoded list has no fault.
 pub none_from_list2 : (lanes : ℕ) (kind : ListKind) (values bytes : List ℕ) → 1 ≤ lanes → AreBytes bytes → List2 lanes kind values bytes → fault2 lanes bytes ≡ None
 none_from_list2 lanes kind values bytes some small list =
     rest_next lanes (length values) kind bytes list.begins

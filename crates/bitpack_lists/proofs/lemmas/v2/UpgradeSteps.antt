@@ -1,4 +1,4 @@
--- The loops that upgrade a text of version 1: the values that are left are those of the bytes that are left.
+-- The loops that upgrade a version 1 list: the values that are left are those of the bytes that are left.
 -- Serves v2, v3.
 use Rattle.std.proofs.Common.{◌≡◌, ℕ, zero, suc, ◌+◌, ◌-◌, ◌*◌, ◌/◌, ◌%◌, ◌^◌, ◌<◌, ◌≤◌, List, [], ◌∷◌, ◌++◌, length, take, drop, get_or, true, Option, Some, None, Result, Ok, Err, is_ok, MatchOption, refl, sym, ◌∙◌, ap, arith, append_assoc}
 use Rattle.std.proofs.Math.Nat.{div-add-mod, sub-zero}

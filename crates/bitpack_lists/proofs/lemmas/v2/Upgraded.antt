@@ -1,4 +1,4 @@
--- A list in both versions: what the header of its text of version 1 says, how long the two texts are, and the bytes that they share.
+-- A list in both versions: what its version 1 header says, how long it is in both, and the bytes that they share.
 -- Serves laws, v2, v3.
 use Rattle.std.proofs.Common.{◌≡◌, ℕ, zero, suc, ◌+◌, ◌-◌, ◌*◌, ◌<◌, ◌≤◌, List, ◌∷◌, ◌++◌, length, drop, get_or, refl, sym, ◌∙◌, ap, arith, add-one, append_assoc}
 use Rattle.std.proofs.lemmas.List.{get_or-take, length-append, length-drop}
@@ -22,7 +22,7 @@ use Rattle.bitpack_lists.proofs.lemmas.blocks.PartLemmas.{AreBytes-drop, AreByte
 use Rattle.bitpack_lists.proofs.lemmas.blocks.RestLemmas.{length-tail, length-text2}
 use Rattle.bitpack_lists.proofs.lemmas.v1.OneText1.{length-part}
 
--- The text is that of the kind and the count that its header says.
+-- The bytes encode the kind and the count that the header says.
 pub listed : (lanes count : ℕ) (kind kind' : ListKind) (values bytes : List ℕ) → BeginsWithHeader 1 lanes kind count bytes → List1 lanes kind' values bytes
     → (kind' ≡ kind) × IsRest1 lanes kind count values (drop 7 bytes)
 listed lanes count kind kind' values bytes begins list =
@@ -34,7 +34,7 @@ listed lanes count kind kind' values bytes begins list =
       record { words = list.words; long = long; blocks = rw (← long, ← same) list.blocks },
     )
 
--- ---- both texts, block by block
+-- ---- both versions, block by block
 
 module _ (lanes blocks : ℕ) (kind : ListKind) (values other : List ℕ) (some : 1 ≤ lanes) (entries : AreEntries lanes blocks kind values other) where
   -- The kind of the block after one is the same in both.

@@ -1,4 +1,4 @@
--- Version 3: bytes without a fault are the text of one list, and a text has no fault.
+-- Version 3: bytes without a fault encode one list, and an encoded list has no fault.
 -- Serves laws, opened, v3, v4.
 use Rattle.std.proofs.Common.{◌≡◌, ℕ, ◌*◌, ◌^◌, ◌<◌, ◌≤◌, List, [], ◌++◌, length, drop, get_or, None, refl, sym, subst, ◌∙◌, ap, arith}
 use Rattle.std.proofs.Math.Nat.{mod-eq-sub-mul-div}
@@ -93,7 +93,7 @@ module _ (lanes count : ℕ) (kind : ListKind) (rest : List ℕ) (some : 1 ≤ l
     },
   )
 
--- A fault of the header would be one of the text.
+-- A fault of the header would be one of the bytes.
 pub header_right3 : (lanes : ℕ) (bytes : List ℕ) → fault3 lanes bytes ≡ None → header_fault3 lanes bytes ≡ None
 unfolding fault3
 header_right3 lanes bytes none = (none_first (header_fault3 lanes bytes) _ none).0
@@ -184,7 +184,7 @@ module _ (lanes : ℕ) (kind : ListKind) (values rest : List ℕ) (some : 1 ≤ 
       ap (values_of kind_of_tail) codes_given
       ∙ sym ((one_block kind_of_tail (codes kind_of_tail left_of) (start-kind_at kind rest blocks_of small) codes_left).2 left_of words_left refl)
 
-  -- The value at each position is the one that the bytes give.
+  -- The value at each position is the one that the bytes encode.
   pub value_given3 : (p : ℕ) → p < length values → get_or values p 0 ≡ value_at3 lanes blocks_of tail_of kind rest p
   value_given3 =
       value_held lanes kind values rest some small words is.whole (λ k. get_or (tail_values3 lanes blocks_of tail_of kind rest) k 0)
@@ -208,7 +208,7 @@ none_from_list3 lanes kind values bytes some known small list =
     rw (list.parts, found.no_fault known, found.kind_is, found.count_is, found.rest_is)
     (none_from_rest3 lanes kind values list.rest some small' list.words list.is_rest list.ordered)
 
--- What a text gives is the kind and the values of its list.
+-- What bytes encode is the kind and the values of their list.
 pub list_given3 : (lanes : ℕ) (kind : ListKind) (values bytes : List ℕ) → 1 ≤ lanes → AreBytes bytes → List3 lanes kind values bytes
     → (kind3 bytes ≡ kind) × (count3 bytes ≡ length values)
     × ((p : ℕ) → p < count3 bytes → value_at3 lanes (whole_blocks lanes (count3 bytes)) (tail_values lanes (count3 bytes)) (kind3 bytes) (drop (header_end bytes) bytes) p

@@ -1,4 +1,5 @@
--- Upgrading to version 3: what a tested text of version 1 or 2 says of the text of version 3, its tail, and its entries and bodies.
+-- Upgrading to version 3: what a tested list of version 1 or 2 says of itself in version 3, its tail, and its skip
+-- entries and bodies.
 -- Serves v3, v4.
 use Rattle.std.proofs.Common.{◌≡◌, ◌≢◌, ℕ, zero, suc, ◌+◌, ◌-◌, ◌*◌, ◌<◌, ◌≤◌, Bool, true, false, List, [], ◌++◌, length, take, drop, get_or, None, refl, sym, ◌∙◌, ap, arith, append_assoc, inl, inr}
 use Rattle.std.proofs.lemmas.List.{drop-drop, drop_at, ext_get_or, length-append, length-drop, length-take-le, take-append-drop}
@@ -22,7 +23,7 @@ use Rattle.bitpack_lists.proofs.lemmas.blocks.SameBlocks.{same_kind_after, same_
 use Rattle.bitpack_lists.proofs.lemmas.v2.Upgraded.{length_left, listed}
 use Rattle.bitpack_lists.proofs.lemmas.v3.WriteSteps3.{AreCodesOfTail}
 
--- ---- the version of a text
+-- ---- the version of bytes
 
 pub not_two : (lanes : ℕ) (kind : ListKind) (values bytes : List ℕ) → List1 lanes kind values bytes → get_or bytes 0 0 ≡ 2 → ⊥
 not_two lanes kind values bytes list is = absurd (omega (arith, is, (header_bytes 1 lanes kind (length values) bytes list.begins).version_is))
@@ -37,7 +38,7 @@ pub older_long : (lanes : ℕ) (kind : ListKind) (values bytes : List ℕ) → I
 older_long lanes kind values bytes (inl one) = (header_bytes 1 lanes kind (length values) bytes one.begins).long
 older_long lanes kind values bytes (inr two) = (header_bytes 2 lanes kind (length values) bytes two.begins).long
 
--- ---- what a text of version 2 says
+-- ---- what version 2 bytes say
 
 pub states2 : (lanes count whole : ℕ) (kind kind' : ListKind) (tail_kind : Kind) (values bytes : List ℕ) → BeginsWithHeader 2 lanes kind count bytes
     → whole ≡ tail_start lanes (whole_blocks lanes count) (drop 7 bytes) → tail_kind ≡ kind_at kind (drop 7 bytes) (whole_blocks lanes count)
@@ -66,7 +67,7 @@ states2 lanes count whole kind kind' tail_kind values bytes begins whole_is kind
       (long, is),
     )
 
--- ---- what a text of version 1 says
+-- ---- what version 1 bytes say
 
 pub states1 : (lanes count whole : ℕ) (kind kind' : ListKind) (tail_kind : Kind) (values bytes : List ℕ) → 1 ≤ lanes → BeginsWithHeader 1 lanes kind count bytes
     → whole + 4 * tail_values lanes count ≡ length (drop 7 bytes) + 8 * whole_blocks lanes count
@@ -154,7 +155,7 @@ codes_of_tail lanes count whole kind tail_kind values found states e rest are =
 
 -- ---- entries and bodies of version 2
 
--- They are still there when what follows the bodies is left out.
+-- They are still there when what follows the bodies is absent.
 module _ (lanes blocks : ℕ) (kind : ListKind) (values front tail : List ℕ) (has : HasBlocks lanes blocks kind values (front ++ tail))
     (end : length front ≡ tail_start lanes blocks (front ++ tail)) where
   entry_room : (block : ℕ) → block < blocks → 9 * block + 9 ≤ length front

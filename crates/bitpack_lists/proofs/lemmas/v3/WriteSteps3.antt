@@ -1,4 +1,4 @@
--- Writing a text: the kind of its tail. A text of version 3: how long it is, and its parts one after the other.
+-- Writing a list: the kind of its tail. A version 3 list: how long it is, and its parts one after the other.
 -- Serves v3.
 use Rattle.std.proofs.Common.{◌≡◌, ℕ, zero, suc, ◌+◌, ◌-◌, ◌*◌, ◌^◌, ◌<◌, ◌≤◌, List, ◌++◌, length, take, drop, get_or, None, refl, sym, ◌∙◌, ap, arith}
 use Rattle.std.proofs.lemmas.List.{get_or-take, length-append, length-drop, length-take-le}
@@ -42,7 +42,7 @@ module _ (lanes : ℕ) (kind : ListKind) (values found_codes : List ℕ) (codes_
   abbrev blocks_of : ℕ
   blocks_of = whole_blocks lanes (length values)
 
-  -- How long any text of the values is, as its parts were measured.
+  -- How long any encoded list of the values is, as its parts were measured.
   pub length-text3 : (head whole tail : ℕ) (text : List ℕ) → List3 lanes kind values text → length (header3 kind lanes (length values)) ≡ head
       → ((rest : List ℕ) → AreEntries lanes blocks_of kind values rest → whole ≡ tail_start lanes blocks_of rest)
       → ((bytes : List ℕ) → IsTail3 blocks_of found_codes bytes → length bytes ≡ tail) → length text ≡ head + whole + tail
@@ -62,7 +62,7 @@ module _ (lanes : ℕ) (kind : ListKind) (values found_codes : List ℕ) (codes_
         list.is_rest.whole.room,
       )
 
-  -- The header, the entries with the bodies, and the tail are a text.
+  -- The header, the skip entries with the bodies, and the tail are an encoded list.
   pub text_done : (rest tail : List ℕ) → AreWords values → length values ≤ 2 ^ 28 → first_out kind values ≡ None → HasBodies lanes blocks_of kind values rest blocks_of
       → IsTail3 blocks_of found_codes tail → List3 lanes kind values (header3 kind lanes (length values) ++ (rest ++ tail))
   text_done rest tail words few ordered has is =

@@ -1,4 +1,4 @@
--- The blocks of a text, one after the other: the kind of the next, and the first value out of order up to its end.
+-- The blocks of a list, one after the other: the kind of the next, and the first value out of order up to its end.
 -- Serves v4.
 use Rattle.std.proofs.Common.{◌≡◌, ℕ, zero, suc, ◌+◌, ◌-◌, ◌*◌, ◌^◌, ◌<◌, ◌≤◌, List, length, drop, get_or, Option, None, refl, sym, ◌∙◌, ap, arith, add-one}
 use Rattle.bitpacking.specs.declared.kind.Kind.{Kind}

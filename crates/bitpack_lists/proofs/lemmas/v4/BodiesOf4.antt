@@ -1,4 +1,4 @@
--- Version 4: what bytes without a fault in their blocks give to readers of one block.
+-- Version 4: what readers of one block find in bytes without a fault in their blocks.
 -- Serves opened.
 use Rattle.std.proofs.Common.{◌≡◌, ℕ, ◌^◌, ◌<◌, ◌≤◌, true, List, arith}
 use Rattle.std.specs.Prelude.{◌==◌}

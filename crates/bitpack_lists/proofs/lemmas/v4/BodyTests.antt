@@ -50,7 +50,7 @@ module _ (lanes : ℕ) (kind : Kind) (block mark size : ℕ) (body : List ℕ) w
   unfolding body_fault4
   fault_is = refl
 
-  -- the fault, if these are the answers of the tests
+  -- the fault, if these are the results of the tests
   pub fault_from : (bad loose marked : Bool) → (set && not (are_right lanes (start kind) mark body)) ≡ bad → (are_loose size (codes4 kind mark values) || far) ≡ loose
       → is_mark kind values mark ≡ marked → body_fault4 lanes kind block mark size body ≡ first_of block size bad loose marked
   fault_from bad loose marked e f g = fault_is ∙ same_first block size _ bad _ loose _ marked e f g

@@ -1,4 +1,4 @@
--- Values of a block or more in the order of their kind have a text of version 4.
+-- Values of a block or more in the order of their kind have an encoded list of version 4.
 -- Serves laws.
 use Rattle.std.proofs.Common.{◌≡◌, ℕ, zero, suc, ◌-◌, ◌*◌, ◌^◌, ◌<◌, ◌≤◌, true, cond, eqb, leb, List, [], ◌++◌, length, drop, get_or, None, refl, sym, subst, ◌∙◌, ap, arith, inl, inr}
 use Rattle.std.proofs.lemmas.Bool.{cases_Bool, cases_eq, cases_lt, eq-eqb, ne_eqb}
@@ -89,7 +89,7 @@ total-few : (number : ℕ → ℕ) (count : ℕ) → ((m : ℕ) → m < count �
 total-few number zero few = omega arith
 total-few number (suc count) few = omega (arith, total-few number count (λ m lt. few m (omega arith)), few count (omega arith))
 
--- ---- the text
+-- ---- the encoded list
 
 module _ (lanes : ℕ) (kind : ListKind) (values : List ℕ) (some : 1 ≤ lanes) (words : AreWords values) (few : length values ≤ 2 ^ 28)
     (ordered : first_out kind values ≡ None) where

@@ -1,4 +1,4 @@
--- What a search among the values of a block answers.
+-- The result of a search among the values of a block.
 -- Serves v4.
 use Rattle.std.proofs.Common.{◌≡◌, ◌+◌, ◌-◌, ◌<◌, ◌≤◌, ℕ, Some, None, List, length, get_or, sym, ◌∙◌, ap, arith, inl, inr}
 use Rattle.std.proofs.lemmas.Bool.{cases_lt}

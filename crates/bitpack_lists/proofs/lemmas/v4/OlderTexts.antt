@@ -1,4 +1,4 @@
--- Texts of versions 1 to 3, told apart by their first byte: one of version 1 is decoded, and the others are opened.
+-- Lists of versions 1 to 3, told apart by their first byte: one of version 1 is decoded, and the others are opened.
 -- Serves upgrading.
 use Rattle.std.proofs.Common.{◌≡◌, ◌⊎◌, ℕ, ◌^◌, ◌<◌, ◌≤◌, Bool, true, false, eqb, leb, ◌||◌, List, length, get_or, None, sym, ◌∙◌, subst, arith, inl, inr}
 use Rattle.std.proofs.lemmas.Bool.{eq-eqb, eqb-true, leb-false, leb-true, or_cases, or_parts}
@@ -74,7 +74,7 @@ module _ (lanes : ℕ) (bytes : List ℕ) (some : 1 ≤ lanes) (known : HasCode 
     opened_order kind all (inl (inr two)) = two.ordered
     opened_order kind all (inr three) = three.ordered
 
-    -- They are a text of the version as that they were opened.
+    -- They encode a list of the version as that they were opened.
     pub opened_as : (version : Version) → fault_in version lanes bytes ≡ None → (kind : ListKind) (all : List ℕ) → IsBefore4 lanes kind all bytes
         → IsText version lanes kind all bytes
     opened_as version none kind all (inl (inl one)) = absurd (not_between bytes (first_cases bytes opened) (inl (one_low kind all one)))

@@ -1,4 +1,4 @@
--- Where the bits that are 1 are: each place in their list, and how many come before a bit.
+-- Where the bits that are 1 are: the number of each, and how many come before a bit.
 -- Serves v4.
 use Rattle.std.proofs.Common.{◌≡◌, ◌⊎◌, ℕ, zero, suc, ◌+◌, ◌-◌, ◌*◌, ◌/◌, ◌%◌, ◌^◌, ◌<◌, ◌≤◌, List, [], ◌∷◌, ◌++◌, length, min, get_or, sym, ◌∙◌, ap, arith, inl, inr}
 use Rattle.std.proofs.lemmas.Bool.{cases_eq, cases_lt}
@@ -110,7 +110,7 @@ module _ (body : List ℕ) (t : ℕ) (within : t ≤ 8 * length body) where
       let same = ap (λ xs. get_or xs k 0) whole in
       omega (arith, le, same)
 
--- a bit that is 1 has the place that is the count of those before it
+-- a bit that is 1 has the number that is the count of the ones before it
 pub one_at : (body : List ℕ) (t : ℕ) → t < 8 * length body → bit_of body t ≡ 1
     → (length (ones_to body t) < length (ones body)) × (get_or (ones body) (length (ones_to body t)) 0 ≡ t)
 one_at body t lt one =

@@ -1,4 +1,5 @@
--- Values have at most one text of version 4: their blocks have one mark, one size and one body each, and so the bytes are the same.
+-- Values have at most one encoded list of version 4: their blocks have one mark, one size and one body each, and so the
+-- bytes are the same.
 -- Serves laws, v4.
 use Rattle.std.proofs.Common.{◌≡◌, ℕ, zero, suc, ◌+◌, ◌-◌, ◌*◌, ◌^◌, ◌<◌, ◌≤◌, List, [], ◌∷◌, ◌++◌, length, take, drop, get_or, None, refl, sym, subst, ◌∙◌, ap, arith}
 use Rattle.std.proofs.lemmas.List.{length-drop, take-append-drop}

@@ -1,4 +1,4 @@
--- A text of version 4 is none of another version, by its first byte.
+-- An encoded list of version 4 is none of another version, by its first byte.
 -- Serves laws, opened, v4.
 use Rattle.std.proofs.Common.{◌≡◌, ℕ, ◌<◌, ◌≤◌, List, length, get_or, Some, None, refl, arith}
 use Rattle.std.proofs.lemmas.Bool.{le-ltb, lt-leb, not-false}

@@ -1,4 +1,4 @@
--- How a bit set is written: value by value, with the word of the last of them at hand.
+-- How a bit set is written: value by value, with the current word, of the last of them.
 -- Serves v4.
 use Rattle.std.proofs.Common.{◌≡◌, ◌↔◌, ℕ, zero, suc, ◌+◌, ◌-◌, ◌*◌, ◌/◌, ◌%◌, ◌^◌, ◌<◌, ◌≤◌, List, [], ◌∷◌, ◌++◌, Contains, length, get_or, take, w32, bit_or, refl, sym, ◌∙◌, ap, arith, inl, inr}
 use Rattle.std.specs.Int.{bit_at}
@@ -29,7 +29,7 @@ pub record Packs (start : ℕ) (values body : List ℕ) (count at word : ℕ) : 
   pub later : (t : ℕ) → 32 * (at + 1) ≤ t → bit_of body t ≡ 0
   pub reached : (k : ℕ) → count ≤ k → k < length values → 32 * at ≤ place start (get_or values k 0)
 
--- what is asked of the values and of the body
+-- what is required of the values and of the body
 pub record CanPack (start : ℕ) (values : List ℕ) (bytes : ℕ) : Type 0 where
   pub small : start < 2 ^ 32
   pub words : (k : ℕ) → get_or values k 0 < 2 ^ 32

@@ -1,4 +1,4 @@
--- Version 4: ends, marks, bodies and groups one after the other are the rest of a text.
+-- Version 4: ends, marks, bodies and groups one after the other are the rest of the bytes.
 -- Serves v4.
 use Rattle.std.proofs.Common.{◌≡◌, ℕ, zero, suc, ◌+◌, ◌*◌, ◌^◌, ◌<◌, ◌≤◌, List, [], ◌∷◌, ◌++◌, length, take, drop, refl, sym, ◌∙◌, ap, arith, inl, inr, append_assoc}
 use Rattle.std.proofs.lemmas.Bool.{cases_lt}

@@ -1,4 +1,5 @@
--- The whole blocks of a text of version 4 by the parts that were written: the byte of the sizes, the ends, the marks and the bodies.
+-- The whole blocks of a version 4 list by the parts that were written: the byte of the sizes, the ends, the marks and
+-- the bodies.
 -- Serves v4.
 use Rattle.std.proofs.Common.{◌≡◌, ℕ, zero, suc, ◌+◌, ◌-◌, ◌*◌, ◌^◌, ◌<◌, ◌≤◌, true, List, ◌∷◌, ◌++◌, length, take, drop, refl, sym, ◌∙◌, ap, arith, inl, inr}
 use Rattle.std.proofs.lemmas.Bool.{cases_lt, le-ltb, lt-ltb}

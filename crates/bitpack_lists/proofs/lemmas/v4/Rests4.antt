@@ -1,4 +1,4 @@
--- Version 4: where the bodies of the blocks are in the rest of a text.
+-- Version 4: where the bodies of the blocks are in the rest of the bytes.
 -- Serves v4.
 use Rattle.std.proofs.Common.{◌≡◌, ℕ, ◌+◌, ◌*◌, ◌<◌, ◌≤◌, ◌^◌, List, length, drop, Some, None, ltb, refl, arith}
 use Rattle.std.proofs.lemmas.Bool.{le-ltb, lt-ltb, ltb-false}
@@ -43,7 +43,7 @@ has_bodies lanes blocks rest marks ends room = record {
   room = ltb-false _ _ (passed (ltb (length rest) (tail_start4 lanes blocks rest)) Short None room).0;
 }
 
--- So does a text without a fault.
+-- So do bytes without a fault.
 pub sound_bodies : (lanes blocks : ℕ) (kind : ListKind) (rest : List ℕ) → blocks ≤ 2 ^ 28 → AreSound4 lanes blocks kind rest → HasBodies4 lanes blocks rest
 sound_bodies lanes blocks kind rest few sound = record {
   marks = record { few = few; ends = sound.end_bytes; marks = sound.mark_bytes; room = omega (arith, sound.room) };

@@ -1,4 +1,4 @@
--- How a bit that is 1 is found by its place among them: its word, and then the bit in the word.
+-- How a bit that is 1 is found by its number among them: its word, and then the bit in the word.
 -- Serves v4.
 use Rattle.std.proofs.Common.{◌≡◌, ℕ, ◌+◌, ◌-◌, ◌*◌, ◌%◌, ◌^◌, ◌<◌, ◌≤◌, List, [], ◌∷◌, length, w64, sym, ◌∙◌, ap, arith, inl, inr, suc}
 use Rattle.std.specs.Int.{bit_at, trailing_zeros}

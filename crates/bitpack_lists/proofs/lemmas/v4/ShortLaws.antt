@@ -80,7 +80,7 @@ bytes_same f g (suc n) small small' e i lt =
           rw here top
     ]
 
--- Bytes that give the same numbers are the same.
+-- Bytes that hold the same numbers are the same.
 pub same_shorts : (len count : ℕ) (one two : List ℕ) → AreBytes one → AreBytes two → len * count ≤ length one → len * count ≤ length two
     → ((m : ℕ) → m < count → short_at len one m ≡ short_at len two m) → take (len * count) one ≡ take (len * count) two
 unfolding short_at
@@ -119,7 +119,7 @@ joined_bytes x (suc n) =
     let next : 8 * suc n ≡ 8 + 8 * n = omega arith in
     rw (joined_bytes x n, next) (sym (mod-pow-add x 8 (8 * n)))
 
--- A number is at a place that has its bytes.
+-- A number is at an offset that has its bytes.
 pub short-is : (len : ℕ) (bytes : List ℕ) (m x : ℕ) → x < 2 ^ (8 * len)
     → ((k : ℕ) → k < len → get_or bytes (len * m + k) 0 ≡ x / 2 ^ (8 * k) % 2 ^ 8) → short_at len bytes m ≡ x
 unfolding short_at

@@ -7,7 +7,7 @@ use Rattle.bitpacking.specs.Words.{joined, word}
 use Rattle.bitpack_lists.specs.Numbers.{short_at}
 use Rattle.bitpack_lists.proofs.lemmas.blocks.PartLemmas.{is_word}
 
--- ---- the places of its bytes
+-- ---- the offsets of its bytes
 
 same_digits : (f g : ℕ → ℕ) (n : ℕ) → ((i : ℕ) → f i ≡ g i) → joined 8 f n ≡ joined 8 g n
 unfolding joined

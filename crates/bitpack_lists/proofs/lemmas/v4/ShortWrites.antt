@@ -26,14 +26,14 @@ joined_bytes x (suc n) =
     let next : 8 * suc n ≡ 8 + 8 * n = omega arith in
     rw (joined_bytes x n, next) (sym (mod-pow-add x 8 (8 * n)))
 
--- A number is at a place that has its bytes.
+-- A number is at an offset that has its bytes.
 pub short-is : (len : ℕ) (bytes : List ℕ) (m x : ℕ) → x < 2 ^ (8 * len)
     → ((k : ℕ) → k < len → get_or bytes (len * m + k) 0 ≡ x / 2 ^ (8 * k) % 2 ^ 8) → short_at len bytes m ≡ x
 unfolding short_at
 short-is len bytes m x small each =
     joined_same (λ k. get_or bytes (len * m + k) 0) (λ k. x / 2 ^ (8 * k) % 2 ^ 8) len each ∙ joined_bytes x len ∙ mod-eq_of_lt small
 
--- The same bytes give the same number.
+-- The same bytes hold the same number.
 pub short-same : (len : ℕ) (bytes others : List ℕ) (m : ℕ) → ((k : ℕ) → k < len → get_or bytes (len * m + k) 0 ≡ get_or others (len * m + k) 0)
     → short_at len bytes m ≡ short_at len others m
 unfolding short_at

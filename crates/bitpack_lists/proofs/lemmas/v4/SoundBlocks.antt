@@ -1,4 +1,4 @@
--- The blocks of version 4: what bytes without a fault there say of the ends, the marks, the bodies and the blocks that these give.
+-- The blocks of version 4: what bytes without a fault there say of the ends, the marks, the bodies and their blocks.
 -- Serves opened, v4.
 use Rattle.std.proofs.Common.{◌≡◌, ◌≢◌, ℕ, zero, suc, ◌+◌, ◌-◌, ◌*◌, ◌^◌, ◌<◌, ◌≤◌, Bool, true, false, cond, eqb, leb, ltb, List, length, drop, get_or, Some, None, refl, sym, ◌∙◌, ap, arith, inl, inr}
 use Rattle.std.proofs.lemmas.Bool.{and_parts, cases_Bool, cases_lt, cond-false, cond-true, eq-eqb, eqb-true, le-leb, le-ltb, leb-true, lt-ltb, ltb-false, ltb-true, not-false, or_from, or_parts}
@@ -36,7 +36,7 @@ module _ (lanes : ℕ) (kind : Kind) (block mark width : ℕ) (body : List ℕ) 
   pub is_mark-body : is_mark kind values mark ≡ true
   is_mark-body = (tests_of lanes kind block mark width body none).2
 
-  -- It gives as many values as a block has, whether it is a bit set or packed, and whatever its mark is.
+  -- It holds as many values as a block has, whether it is a bit set or packed, and whatever its mark is.
   pub block_of_body : start kind < 2 ^ 32 → mark < 2 ^ 32 → width ≤ 32 → length body ≡ size lanes width → (length values ≡ 32 * lanes) × AreWords values
   block_of_body small word narrow long = elim (cases_Bool is_set) [
     | inl set ↦

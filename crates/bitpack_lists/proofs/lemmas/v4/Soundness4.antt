@@ -1,4 +1,4 @@
--- Version 4: bytes without a fault are the text of one list, and a text has no fault.
+-- Version 4: bytes without a fault encode one list, and an encoded list has no fault.
 -- Serves laws, opened, v4.
 use Rattle.std.proofs.Common.{◌≡◌, ◌≢◌, ℕ, suc, ◌+◌, ◌-◌, ◌*◌, ◌^◌, ◌<◌, ◌≤◌, Bool, true, false, cond, List, [], ◌++◌, length, drop, get_or, None, refl, sym, subst, ◌∙◌, ap, arith}
 use Rattle.std.specs.Prelude.{◌==◌}
@@ -35,7 +35,7 @@ use Rattle.bitpack_lists.proofs.lemmas.v4.SoundBlocks.{AreBytes-body_at4, AreSou
 
 -- ---- from bytes to a list
 
--- A number of lanes that a text can say.
+-- A number of lanes that a header can state.
 few_lanes : (lanes : ℕ) → HasCode lanes → lanes ≤ 8
 few_lanes lanes known = subst (λ n. n ≤ 8) known (most (lanes_code lanes == 1) (lanes_code lanes == 2))
   where
@@ -160,7 +160,7 @@ module _ (lanes count : ℕ) (kind : ListKind) (rest : List ℕ) (some : 1 ≤ l
       },
     )
 
--- ---- a text without a fault
+-- ---- bytes without a fault
 
 pub header_right4 : (lanes : ℕ) (bytes : List ℕ) → fault4 lanes bytes ≡ None → header_fault4 lanes bytes ≡ None
 unfolding fault4
@@ -170,7 +170,7 @@ rest_right4 : (lanes : ℕ) (bytes : List ℕ) → fault4 lanes bytes ≡ None �
 unfolding fault4
 rest_right4 lanes bytes none = (none_first (header_fault4 lanes bytes) _ none).1
 
--- What a reader knows of a text without a fault.
+-- What a reader knows of bytes without a fault.
 pub record IsSound4 (lanes : ℕ) (bytes : List ℕ) : Type 0 where
   pub many : 32 * lanes ≤ count4 bytes
   pub few : count4 bytes ≤ 2 ^ 28
@@ -254,7 +254,7 @@ module _ (lanes : ℕ) (kind : ListKind) (values rest : List ℕ) (some : 1 ≤ 
   pub body_bytes : (m : ℕ) → AreBytes (body_at4 lanes blocks_of rest m)
   body_bytes m = AreBytes-body_at4 lanes blocks_of rest m small
 
-  -- The block that the body gives is that of the values.
+  -- The block that is read from the body is the one of the values.
   back : (m : ℕ) → m < blocks_of → (fault_at4 lanes blocks_of kind rest m ≡ None) × (block_at4 lanes blocks_of kind rest m ≡ block_of lanes values m)
   back m lt =
       body_reads_back lanes (kind_of m) m (mark_of m) (size_at rest m) (block_of lanes values m) (body_at4 lanes blocks_of rest m) some (start_word m) (mark_word m)
@@ -305,7 +305,7 @@ module _ (lanes : ℕ) (kind : ListKind) (values rest : List ℕ) (some : 1 ≤ 
       ap (values_of (kind_of blocks_of)) read_of.1
       ∙ sym ((one_block (kind_of blocks_of) (codes (kind_of blocks_of) left_of) (start_word blocks_of) codes_of_left).2 left_of words_left refl)
 
-  -- The value at each position is the one that the bytes give.
+  -- The value at each position is the one that the bytes encode.
   pub value_given4 : (p : ℕ) → p < length values → get_or values p 0 ≡ value_at4 lanes blocks_of tail_of kind rest p
   value_given4 =
       value_is_given lanes values (block_at4 lanes blocks_of kind rest) (λ k. get_or (tail_values4 lanes blocks_of tail_of kind rest) k 0) some
@@ -328,7 +328,7 @@ none_from_list4 lanes kind values bytes some known small list =
     rw (list.parts, found.no_fault known list.many, found.kind_is, found.count_is, found.rest_is)
     (none_from_rest4 lanes kind values list.rest some small' list.words list.ordered list.is_rest)
 
--- What a text gives is the kind and the values of its list.
+-- What bytes encode is the kind and the values of their list.
 pub list_given4 : (lanes : ℕ) (kind : ListKind) (values bytes : List ℕ) → 1 ≤ lanes → AreBytes bytes → List4 lanes kind values bytes
     → (kind4 bytes ≡ kind) × (count4 bytes ≡ length values)
     × ((p : ℕ) → p < count4 bytes → value_at4 lanes (whole_blocks lanes (count4 bytes)) (tail_values lanes (count4 bytes)) (kind4 bytes) (drop (header_end4 bytes) bytes) p

@@ -1,4 +1,4 @@
--- A text of version 4 by its plan: the header, the whole blocks and the tail make it, and say how long it is.
+-- A version 4 list by its plan: the header, the whole blocks and the tail make it, and say how long it is.
 -- Serves v4, writing.
 use Rattle.std.proofs.Common.{◌≡◌, ℕ, zero, suc, ◌+◌, ◌-◌, ◌*◌, ◌/◌, ◌^◌, ◌<◌, ◌≤◌, List, [], ◌∷◌, ◌++◌, length, take, drop, get_or, None, refl, sym, ◌∙◌, ap, arith, add-one, inl, inr, mul-suc}
 use Rattle.std.proofs.Math.Nat.{div-add-mod}
@@ -99,7 +99,7 @@ left_kind lanes kind values front (suc m) some positive few is room = by_kind ki
     by_kind lists.Sorted = ap (next_kind (first_kind lists.Sorted)) last
     by_kind lists.StrictlySorted = ap (next_kind (first_kind lists.StrictlySorted)) last
 
--- ---- the widths that were kept are least widths of a list that is not plain
+-- ---- the cached widths are least widths of a list that is not plain
 
 codes4_same : (kind : ListKind) (last : ℕ → ℕ) (i mark : ℕ) (block : List ℕ) → (kind ≡ lists.Plain → ⊥)
     → codes4 (kind_after kind last i) mark block ≡ codes (kind_after kind last i) block
@@ -149,7 +149,7 @@ pub header_fits4 : (kind : ListKind) (lanes count : ℕ) → length (header4 kin
 unfolding header4
 header_fits4 kind lanes count = omega (arith, length-number_in 5 count)
 
--- ---- the parts of a text that are written in their places
+-- ---- the parts of an encoded list that are written at their offsets
 
 pub text_parts : (header tail rest bytes : List ℕ) → length header + length tail ≤ length bytes
     → put_mid (length header) (length bytes - length tail - length header)
@@ -170,7 +170,7 @@ text_parts header tail rest bytes within =
     ∙ drop_at (take m xs) tail m (length-take-le m xs (omega (arith, long))) in
     ap (λ ys. ys ++ (rest ++ drop (m - h) (drop h zs))) front ∙ ap (λ ys. header ++ (rest ++ ys)) back
 
--- ---- the text
+-- ---- the encoded list
 
 pub text4 : (lanes sum most size_is : ℕ) (kind : ListKind) (values front tail rest : List ℕ) → 1 ≤ lanes → 32 * lanes ≤ length values
     → IsPlanned4 lanes kind values front tail sum most size_is → AreWords values → values_fault kind values ≡ None

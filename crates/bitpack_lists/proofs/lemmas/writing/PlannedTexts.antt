@@ -1,4 +1,5 @@
--- A text by its plan: the header, the entries with the bodies, and the tail make it, and say how long it is.
+-- An encoded list by its plan: the header, the skip entries with the bodies, and the tail make it, and say how long it
+-- is.
 -- Serves v4, writing.
 use Rattle.std.proofs.Common.{◌≡◌, ℕ, ◌*◌, ◌^◌, ◌<◌, ◌≤◌, List, ◌++◌, length, drop, None, ◌∙◌, ap, arith}
 use Rattle.std.proofs.lemmas.List.{length-append, length-drop}

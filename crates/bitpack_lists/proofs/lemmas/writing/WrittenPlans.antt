@@ -1,4 +1,4 @@
--- The plan of a text in the version that it is written in: older, or 4.
+-- The plan of a list in the version that it is written in: older, or 4.
 -- Serves v4.
 use Rattle.std.proofs.Common.{◌≡◌, ℕ, ◌*◌, ◌<◌, ◌≤◌, Bool, true, false, List, length, Some, None, refl, arith}
 use Rattle.bitpack_lists.specs.declared.list_kind.ListKind.{ListKind}

@@ -1,4 +1,4 @@
--- The number ends at the byte that is at hand or after it, and the value is that of seven bits of the bytes so far.
+-- The varint ends at the current byte or after it, and the value is that of seven bits of the bytes so far.
 use Rattle.std.proofs.Common.{◌≡◌, ◌+◌, ◌-◌, ◌*◌, ◌%◌, ◌^◌, ◌<◌, drop, get_or, length}
 use Rattle.bitpacking.specs.Words.{joined}
 use Rattle.bitpack_lists.specs.Numbers.{going_on}

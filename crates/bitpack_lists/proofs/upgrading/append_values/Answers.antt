@@ -1,4 +1,4 @@
--- A text of version 1 is decoded, and one of version 2 or 3 is opened: its values are those of the list.
+-- A version 1 list is decoded, and one of version 2 or 3 is opened: its values are those of the list.
 use Rattle.std.proofs.Common.{◌≡◌, ◌≤◌, ◌++◌, ℕ, List, length, true, Some, None, sym, ◌∙◌, ap, subst, arith, inl}
 use Rattle.std.proofs.lemmas.Result.{IfOk-weaker, err_from_is_err_and}
 use Rattle.bitpacking.specs.Bits.{AreBytes}

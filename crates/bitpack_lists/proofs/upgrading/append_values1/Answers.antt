@@ -1,4 +1,4 @@
--- A text of version 1 is tested, then its order; the values that are read are those of the text.
+-- A version 1 list is tested, then its order; the values that are read are its values.
 use Rattle.std.proofs.Common.{◌≡◌, ◌++◌, Some, None, refl, sym, ◌∙◌, ap, arith}
 use Rattle.bitpacking.specs.Bits.{AreBytes}
 use Rattle.bitpacking.proofs.ForCallers.{AreBytes-from_slice}

@@ -1,4 +1,4 @@
--- The values that were appended are those of the text, so that their newest text is that of the list.
+-- The values that were appended are those of the list, so that they have its newest encoding.
 use Rattle.std.proofs.Common.{◌≡◌, ◌-◌, ◌++◌, ℕ, List, length, take, drop, Option, Some, None, Result, Ok, Err, MatchOption, refl, sym, ◌∙◌, ap, arith, inr}
 use Rattle.std.specs.Prelude.{⊤}
 use Rattle.std.proofs.lemmas.List.{drop_at, length-drop, take_all, take_at}

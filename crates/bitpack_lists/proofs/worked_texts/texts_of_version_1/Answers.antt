@@ -1,4 +1,4 @@
--- The worked texts, by computing.
+-- The worked lists, by computing.
 use Rattle.bitpack_lists.proofs.lemmas.laws.WorkedOlderProofs.{worked_faults1, worked_texts1}
 use Rattle.bitpack_lists.proofs.worked_texts.texts_of_version_1.Goals as goal
 

@@ -1,4 +1,4 @@
--- The worked texts, by computing.
+-- The worked lists, by computing.
 use Rattle.bitpack_lists.proofs.lemmas.laws.WorkedProofs.{worked_faults, worked_texts}
 use Rattle.bitpack_lists.proofs.worked_texts.texts_of_version_3.Goals as goal
 

@@ -1,4 +1,4 @@
--- The worked texts, by computing.
+-- The worked lists, by computing.
 use Rattle.bitpack_lists.proofs.lemmas.laws.WorkedProofs4.{worked_faults4, worked_texts4}
 use Rattle.bitpack_lists.proofs.worked_texts.texts_of_version_4.Goals as goal
 

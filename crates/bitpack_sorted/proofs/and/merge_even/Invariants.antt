@@ -1,4 +1,4 @@
--- What is passed is not in both; each turn passes one value at hand.
+-- What is passed is not in both; each turn passes one value of a current block.
 use Rattle.std.proofs.Common.{length, ◌-◌, ℕ, List, ◌+◌, ◌≤◌}
 use Rattle.bitpack_sorted.specs.Fronts.{IsFront}
 use Rattle.bitpack_sorted.proofs.FrontLemmas.{IsParted}

@@ -1,4 +1,4 @@
--- What is kept stays the same; the first has fewer values left each time.
+-- What is retained is unchanged; the first has fewer values left each time.
 use Rattle.std.proofs.Common.{◌≡◌, length}
 use Rattle.bitpack_sorted.specs.Increasing.{first, without}
 use Rattle.bitpack_sorted.proofs.and_not.skip_shared.Given as goal

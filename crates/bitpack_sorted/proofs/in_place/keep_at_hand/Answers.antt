@@ -1,4 +1,4 @@
--- Bits at hand, and the current block, say what is left of all.
+-- The bits of a cursor, and its current block, say what is left of all.
 use Rattle.std.proofs.Common.{◌<◌, ℕ, List, length, get_or, ◌∙◌}
 use Rattle.bitpack_sorted.proofs.FilteringSteps.{bits_of_all, block_has}
 use Rattle.bitpack_sorted.proofs.FrontLemmas.{front_some}

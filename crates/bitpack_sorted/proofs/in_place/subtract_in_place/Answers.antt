@@ -1,4 +1,5 @@
--- Each turn filters as far as the current block of the cursor reaches; if nothing is left, all that is still to come is kept.
+-- Each turn filters as far as the current block of the cursor reaches; if nothing is left, all that is still to come is
+-- retained.
 use Rattle.std.proofs.Common.{◌≡◌, ℕ, List, true, not, Some, None, get_or, sym, ◌∙◌, ap, arith}
 use Rattle.bitpack_sorted.specs.Increasing.{first}
 use Rattle.bitpack_sorted.specs.inner.Marks.{keeps}

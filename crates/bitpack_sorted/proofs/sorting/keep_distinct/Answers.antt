@@ -1,4 +1,4 @@
--- Each turn keeps a value, or passes one that was kept.
+-- Each turn retains a value, or passes one that was retained.
 use Rattle.std.proofs.Common.{◌≤◌, length, take, arith}
 use Rattle.bitpack_sorted.specs.Distinct.{distinct}
 use Rattle.bitpack_sorted.specs.DistinctLaws.{IsOrdered-from, increasing_distinct}

@@ -1,4 +1,4 @@
--- What is kept is in front, and with what is still to come and above it, it is all values, each once.
+-- What is retained is in front, and with what is still to come and above it, it is all values, each once.
 use Rattle.bitpack_sorted.proofs.SortingSteps.{IsKept}
 use Rattle.bitpack_sorted.proofs.sorting.keep_distinct.Given as goal
 

@@ -1,4 +1,5 @@
--- What the three cursors begin with are the values of the three lists. The first text that is refused has the fault, and those before it none.
+-- What the three cursors begin with are the values of the three lists. The first bytes that are refused have the fault, and those before it
+-- none.
 use Rattle.std.proofs.Common.{◌≡◌, ℕ, List, Err, refl, ◌∙◌, ap, rules}
 use Rattle.bitpack_sorted.specs.Increasing.{shared}
 use Rattle.bitpack_sorted.specs.Remaining.{remaining}

@@ -1,4 +1,4 @@
--- The law `one_layout`: each bit is the place of one bit of one code.
+-- The law `one_layout`: each bit is one bit of one code.
 use Rattle.std.proofs.Common.{arith}
 use Rattle.bitpack_uses.proofs.by_law.every_bit_is_used.Goals as goal
 

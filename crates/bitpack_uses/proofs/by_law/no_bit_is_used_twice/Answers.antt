@@ -1,4 +1,4 @@
--- The law `one_layout`: a bit is the place of no other bit of a code.
+-- The law `one_layout`: a bit is no other bit of a code.
 use Rattle.std.proofs.Common.{◌∙◌, arith, sym}
 use Rattle.bitpack_uses.proofs.by_law.no_bit_is_used_twice.Goals as goal
 

@@ -1,4 +1,4 @@
--- The law `one_text`: a text is that of one list.
+-- The law `one_text`: bytes encode at most one list.
 use Rattle.std.proofs.Common.{arith}
 use Rattle.bitpack_uses.proofs.by_list_law.no_two_lists.Goals as goal
 

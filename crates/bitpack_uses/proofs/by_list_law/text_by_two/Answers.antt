@@ -1,4 +1,4 @@
--- The law `one_text`: values have one text.
+-- The law `one_text`: values have one encoded list.
 use Rattle.std.proofs.Common.{◌≡◌, ◌∙◌, sym}
 use Rattle.bitpack_uses.proofs.by_list_law.text_by_two.Goals as goal
 

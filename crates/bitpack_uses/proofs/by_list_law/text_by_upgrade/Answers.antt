@@ -1,4 +1,4 @@
--- The law `one_text`: the text of version 1 is that of these values alone, which have one text of version 2.
+-- The law `one_text`: the version 1 list has these values alone, which have one version 2 list.
 use Rattle.std.proofs.Common.{◌≡◌, ◌∙◌, sym}
 use Rattle.bitpack_uses.proofs.by_list_law.text_by_upgrade.Goals as goal
 

@@ -1,4 +1,4 @@
--- The law `one_text`: values have one text.
+-- The law `one_text`: values have one encoded list.
 use Rattle.std.proofs.Common.{◌≡◌, ◌∙◌, sym, arith}
 use Rattle.bitpack_uses.proofs.by_version_law.text_by_both.Goals as goal
 

@@ -1,4 +1,4 @@
--- The answer is at most 4,096 blocks away, and 4,098 are at most 2 ^ 13.
+-- The result is at most 4,096 blocks away, and 4,098 are at most 2 ^ 13.
 use Rattle.std.proofs.Common.{arith}
 use Rattle.bitpack_uses.proofs.reads.find_block.Goals as goal
 

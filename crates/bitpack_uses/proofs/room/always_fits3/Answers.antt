@@ -1,4 +1,4 @@
--- Values in order have a text, which the room is enough for.
+-- Values in order have an encoded list, for which the room is enough.
 use Rattle.std.proofs.Common.{ℕ, ◌≤◌, List, length, take, drop, sym, ◌∙◌, arith}
 use Rattle.std.proofs.lemmas.List.{length-take-le}
 use Rattle.bitpacking.proofs.ForCallers.{AreWords-from_slice}

@@ -1,4 +1,4 @@
--- The law `one_text`: the text that was written has no fault, and belongs to no other list.
+-- The law `one_text`: the bytes that were written have no fault, and encode no other list.
 use Rattle.std.proofs.Common.{◌≡◌, ◌≤◌, length, Some, None, refl, sym, ◌∙◌, ap, arith}
 use Rattle.std.specs.List.{slice_get}
 use Rattle.std.proofs.lemmas.List.{length-take-le}

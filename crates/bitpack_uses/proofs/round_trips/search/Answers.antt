@@ -1,4 +1,4 @@
--- The text is that of the sorted list that was packed, and of no other. It has no fault, so that it is opened.
+-- The bytes encode the sorted list that was packed, and no other. They have no fault, so that the list is opened.
 use Rattle.std.proofs.Common.{◌≡◌, ◌∙◌, sym, ap, None, Some, Err, rules}
 use Rattle.bitpack_lists.specs.declared.list_kind.ListKind.TheVariants as lists
 use Rattle.bitpack_lists.specs.Search.{first_at_least}

@@ -1,4 +1,4 @@
--- The text is that of the list that was packed, and of no other. It has no fault, so that it is opened.
+-- The bytes encode the list that was packed, and no other. They have no fault, so that the list is opened.
 use Rattle.std.proofs.Common.{◌≡◌, ◌∙◌, ap, sym, None, Some, Err, rules}
 use Rattle.std.specs.List.{slice_get}
 use Rattle.bitpack_lists.specs.Version2.{values_fault}

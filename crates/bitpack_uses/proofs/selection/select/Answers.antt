@@ -1,4 +1,5 @@
--- What the four cursors begin with are the values of the four lists. The first text that is refused has the fault, and those before it none.
+-- What the four cursors begin with are the values of the four lists. The first bytes that are refused have the fault, and those before it
+-- none.
 use Rattle.std.proofs.Common.{◌≡◌, Err, refl, rules}
 use Rattle.bitpack_uses.proofs.Selections.{both_ok, selected}
 use Rattle.bitpack_uses.proofs.selection.select.Goals as goal

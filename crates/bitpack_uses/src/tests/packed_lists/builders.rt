@@ -1,4 +1,4 @@
-//! Lists that are built value by value, and what a builder refuses. The texts were worked by hand.
+//! Lists that are built value by value, and what a builder refuses. The bytes were worked by hand.
 
 use super::memory::{grow_stack, take_all};
 use crate::built_lists::{of_two_parts, one_by_one};
@@ -95,7 +95,7 @@ fn values_out_of_order(rt: HostRuntime) {
     takes(&rt, alloc, strict, &[], None);
 }
 
-/// The text is written into a slice of 9s in these versions, or refused as short.
+/// The list is written into a slice of 9s in these versions, or refused as short.
 fn writes(rt: &impl Abort, builder: &Builder, version: Version, text: &[u8]) {
     let mut bytes = [9; 30];
     let (short, _) = bytes.split_at_mut(text.len().saturating_sub(1).min(30));

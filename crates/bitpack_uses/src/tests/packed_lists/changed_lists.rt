@@ -1,7 +1,7 @@
-//! Texts of packed lists with one bit changed. What opens is the text of the values that come out; everything else is refused with
-//! the fault that a walk over the bytes finds, and leaves the vector as it was.
+//! Packed lists with one bit changed. Bytes that open encode the values that come out; all others are refused with the fault that
+//! a walk over the bytes finds, and the vector is unchanged.
 //!
-//! The texts were worked by hand from the format.
+//! The bytes were worked by hand from the format.
 
 use super::lists::is_written;
 use super::walk::first_fault;
@@ -12,12 +12,12 @@ use bitpacking::{BitPacker, BitPacker1x, BitPacker4x, BitPacker8x};
 use std::alloc::Global;
 use std::process::Abort;
 
-/// The walk over the text finds this fault first, or none.
+/// The walk over the bytes finds this fault first, or none.
 fn has_fault<P: BitPacker>(rt: &impl Abort, text: &[u8], fault: Option<ListError>) {
     same_fault(rt, first_fault::<P>(text), fault, text);
 }
 
-/// The walk finds no fault in the text of the values after the 7.
+/// The walk finds no fault in the encoded list of the values after the 7.
 fn is_of_values<P: BitPacker>(
     rt: &impl Abort,
     alloc: Global,
@@ -32,7 +32,7 @@ fn is_of_values<P: BitPacker>(
     is_written(rt, alloc, packer, kind, values, text);
 }
 
-/// The text opens, and belongs to the values that come out; or it is refused with its first fault, and the vector is as it was.
+/// The bytes open, and encode the values that come out; or they are refused with their first fault, and the vector is unchanged.
 fn opens_or_is_refused<P: BitPacker>(rt: &impl Abort, alloc: Global, packer: &P, text: &[u8]) {
     let mut values = one_value(rt, alloc, 7);
     let room = values.capacity();
@@ -45,7 +45,7 @@ fn opens_or_is_refused<P: BitPacker>(rt: &impl Abort, alloc: Global, packer: &P,
     }
 }
 
-/// Each bit of a byte of the text is changed in turn.
+/// Each bit of a byte of the list is changed in turn.
 fn bits_of_byte<P: BitPacker>(
     rt: &impl Abort,
     alloc: Global,
@@ -67,7 +67,7 @@ fn change(text: &mut Vec<u8>, index: usize, bits: u8) {
     }
 }
 
-/// The text opens. Each of its bits is changed in turn, and each proper beginning is Short to the walk too.
+/// The list opens. Each of its bits is changed in turn, and each proper beginning is Short to the walk too.
 fn every_bit<P: BitPacker>(rt: &impl Abort, alloc: Global, packer: &P, text: &[u8]) {
     has_fault::<P>(rt, text, None);
     opens_or_is_refused(rt, alloc, packer, text);

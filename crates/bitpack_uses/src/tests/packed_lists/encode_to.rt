@@ -1,5 +1,5 @@
-//! Lists that are written into slices: the bytes are those that `encode` appends and the worked texts of the other tests, the bytes
-//! after them stay, and a slice that is refused stays as it was.
+//! Lists that are written into slices: the bytes are those that `encode` appends and the worked lists of the other tests, the bytes
+//! after them are unchanged, and so is a slice that is refused.
 
 use crate::tests::calls::{Version, encode_as, encode_to, encoded_len};
 use crate::tests::checks::{Numbers, holds, push, push_bytes, same_bytes, succeeds};
@@ -17,7 +17,7 @@ fn filled(rt: &impl Abort, alloc: Global, count: usize) -> Vec<u8> {
     bytes
 }
 
-/// The values are written at the start of a slice, which then holds these bytes. Their text has this length.
+/// The values are written at the start of a slice, which then holds these bytes. Their encoded list has this length.
 fn fills<P: BitPacker>(
     rt: &impl Abort,
     alloc: Global,
@@ -33,7 +33,7 @@ fn fills<P: BitPacker>(
     same_bytes(rt, &bytes, expected);
 }
 
-/// The values have this text, in a slice of its length and in a longer one, whose other bytes stay.
+/// The values have these bytes, in a slice of their length and in a longer one, whose other bytes are unchanged.
 pub(super) fn is_written_to<P: BitPacker>(
     rt: &impl Abort,
     alloc: Global,
@@ -51,7 +51,7 @@ pub(super) fn is_written_to<P: BitPacker>(
     fills(rt, alloc, version, packer, (kind, values), len, &longer);
 }
 
-/// The values are refused for a slice of this length, which stays as it was.
+/// The values are refused for a slice of this length, which is unchanged.
 fn is_refused<P: BitPacker>(
     rt: &impl Abort,
     alloc: Global,
@@ -82,7 +82,7 @@ fn increasing(rt: &impl Abort, alloc: Global, count: usize) -> Vec<u32> {
     values
 }
 
-/// The values have this text in a slice, and with a byte less of room or none they are refused.
+/// The values have these bytes in a slice, and with a byte less of room or none they are refused.
 fn is_written_or_refused<P: BitPacker>(
     rt: &impl Abort,
     alloc: Global,

@@ -10,7 +10,7 @@ use bitpacking::{BitPacker, BitPacker1x};
 use std::alloc::Global;
 use std::process::Abort;
 
-/// The text of these values.
+/// The encoded list of these values.
 fn packed(rt: &impl Abort, alloc: Global, values: &[u32]) -> Vec<u8> {
     let mut text = Vec::new(alloc);
     let kind = ListKind::StrictlySorted;

@@ -1,4 +1,4 @@
-//! Intersections of packed lists. The answers for single texts were worked by hand; those for lists that are packed here are found by
+//! Intersections of packed lists. The results for single lists were worked by hand; those for lists that are packed here are found by
 //! a walk over the values, or by the rule that made the values.
 
 use super::list2::thirty_three;
@@ -25,7 +25,7 @@ fn returned(
     assert_eq!(rt; found, expected, "{text:?} and {other:?}");
 }
 
-/// What the lists of two texts share is appended, and what was in the vector stays.
+/// What two lists share is appended, and what was in the vector is unchanged.
 fn texts_share<P: BitPacker, Q: BitPacker>(
     rt: &impl Abort,
     alloc: Global,
@@ -71,7 +71,7 @@ fn lists_share<P: BitPacker, Q: BitPacker>(
     );
 }
 
-/// Pairs of texts of one lane share these values.
+/// Pairs of lists of one lane share these values.
 fn pairs_share(rt: &impl Abort, alloc: Global, cases: &[(&[u8], &[u8], &[u32])]) {
     let packer = BitPacker1x::new();
     for (text, other, shared) in cases {
@@ -301,7 +301,7 @@ fn grows_once(
     same_number(rt, out.capacity(), room, "room");
 }
 
-/// With no memory `intersect` answers so, and the vector holds its one item in the room that it had.
+/// With no memory `intersect` returns this, and the vector holds its one item in the room that it had.
 fn is_kept(rt: &impl Abort, alloc: Global, text: &[u8], other: &[u8]) {
     let mut out = one_value(rt, alloc, 9);
     let room = out.capacity();
@@ -334,7 +334,7 @@ fn intersect_grows_once(rt: HostRuntime) {
     let (values, others) = (rising(&rt, alloc, 1, 2_000), rising(&rt, alloc, 2, 1_500));
     let text = packed(&rt, alloc, &packer, strict, &values);
     let other = packed(&rt, alloc, &packer, strict, &others);
-    // 10 to 2,009 and 10 to 3,008 in steps of 2: 1,000 are in both. Room is asked for the 1,500 of the shorter list.
+    // 10 to 2,009 and 10 to 3,008 in steps of 2: 1,000 are in both. The call reserves room for the 1,500 of the shorter list.
     let shared = rising(&rt, alloc, 2, 1_000);
     grows_once(&rt, alloc, &text, &other, &shared, 1_501);
     is_kept(&rt, alloc, &text, &other);

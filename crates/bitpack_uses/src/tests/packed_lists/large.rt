@@ -18,7 +18,7 @@ fn push_zeros(rt: &impl Abort, text: &mut Vec<u8>, count: usize) {
     }
 }
 
-/// 16,797 blocks of width 32: the text takes more than 16 MiB.
+/// 16,797 blocks of width 32: the list has more than 16 MiB.
 #[test]
 fn a_text_of_17_megabytes(rt: HostRuntime) {
     let values = turns(&rt, rt.alloc(), 256 * 16_797);

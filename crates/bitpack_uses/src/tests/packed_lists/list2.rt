@@ -1,5 +1,5 @@
-//! Packed lists of version 2. The expected bytes, values and refusals were worked by hand from the format: the header, the entries
-//! with least width, offset and last value, the layout of each block's bits, the tail. None is the program's own output.
+//! Packed lists of version 2. The expected bytes, values and refusals were worked by hand from the format: the header, the skip
+//! entries with least width, offset and last value, the layout of each block's bits, the tail. None is the program's own output.
 
 use super::encode_to::is_written_to;
 use super::lists::{before_first, push_block, push_words};
@@ -14,7 +14,7 @@ use bitpacking::{BitPacker, BitPacker1x, BitPacker4x, BitPacker8x};
 use std::alloc::Global;
 use std::process::Abort;
 
-/// What opening the text gives, without the list.
+/// What opening the bytes returns, without the list.
 pub(super) fn opened<P: BitPacker>(packer: &P, text: &[u8]) -> Result<(), ListError> {
     match open(packer, text) {
         Ok(_) => Ok(()),
@@ -22,12 +22,12 @@ pub(super) fn opened<P: BitPacker>(packer: &P, text: &[u8]) -> Result<(), ListEr
     }
 }
 
-/// The text is refused.
+/// The bytes are refused.
 pub(super) fn is_refused<P: BitPacker>(rt: &impl Abort, packer: &P, text: &[u8], error: ListError) {
     returns(rt, opened(packer, text), Err(error), text);
 }
 
-/// Each text is refused.
+/// All of these bytes are refused.
 pub(super) fn are_refused<P: BitPacker>(rt: &impl Abort, packer: &P, cases: &[(&[u8], ListError)]) {
     for (text, error) in cases {
         is_refused(rt, packer, text, *error);
@@ -60,7 +60,7 @@ fn has_values<P: BitPacker>(
     has_value(rt, list, usize::MAX, None);
 }
 
-/// The text is opened, and has this kind and these values, and so has a clone.
+/// The bytes are opened, and have this kind and these values, and so has a clone.
 pub(super) fn is_list<P: BitPacker>(
     rt: &impl Abort,
     packer: &P,
@@ -78,7 +78,7 @@ pub(super) fn is_list<P: BitPacker>(
     }
 }
 
-/// The values have this text, which is appended, and written into slices.
+/// The values have these bytes, which are appended, and written into slices.
 pub(super) fn is_written<P: BitPacker>(
     rt: &impl Abort,
     alloc: Global,
@@ -93,8 +93,8 @@ pub(super) fn is_written<P: BitPacker>(
     is_written_to(rt, alloc, Version::Two, packer, (kind, values), text);
 }
 
-/// The values have this text, which is appended, and the text has these values. Each proper beginning is refused, and so is the text
-/// with a byte more.
+/// The values have these bytes, which are appended, and the bytes have these values. Each proper beginning is refused, and so are
+/// the bytes with one more.
 fn is_text<P: BitPacker>(
     rt: &impl Abort,
     alloc: Global,
@@ -112,7 +112,7 @@ fn is_text<P: BitPacker>(
     is_refused(rt, packer, &longer, ListError::Trailing);
 }
 
-/// Strictly sorted, 0 to 32, with other bytes at four places: the width, and the lowest bytes of the offset, the last value and the
+/// Strictly sorted, 0 to 32, with other bytes at four offsets: the width, and the lowest bytes of the offset, the last value and the
 /// tail. With 0, 0, 31 and 32 it is right.
 pub(super) fn thirty_three(width: u8, offset: u8, last: u8, tail: u8) -> [u8; 20] {
     [
@@ -247,7 +247,7 @@ pub(super) fn blocks_of<P: BitPacker>(
     values
 }
 
-/// Appends the entries of blocks that have these last values.
+/// Appends the skip entries of blocks that have these last values.
 fn push_entries(rt: &impl Abort, text: &mut Vec<u8>, blocks: usize, lasts: [u32; 3]) {
     for block in 0..blocks.min(3) {
         push_bytes(rt, text, &[block as u8 + 1, [0, 1, 3][block], 0, 0, 0]);
@@ -262,7 +262,7 @@ fn push_bodies(rt: &impl Abort, text: &mut Vec<u8>, blocks: usize, lanes: usize)
     }
 }
 
-/// The text of the values of `blocks_of`. Its kind has this byte, and its blocks these last values.
+/// The encoded list of the values of `blocks_of`. Its kind has this byte, and its blocks these last values.
 pub(super) fn text_of<P: BitPacker>(
     rt: &impl Abort,
     alloc: Global,

@@ -1,4 +1,4 @@
-//! Packed lists of version 2 short of memory: `encode` grows its vector once, to the size that it ends with, and leaves it as it was
+//! Packed lists of version 2 short of memory: `encode` grows its vector once, to the size that it ends with, and leaves it unchanged
 //! if that fails; all else allocates nothing.
 
 use super::list2::{are_refused, is_list, is_refused, opened};
@@ -12,7 +12,7 @@ use bitpacking::{BitPacker, BitPacker1x, BitPacker4x, BitPacker8x};
 use std::alloc::Global;
 use std::process::Abort;
 
-/// What `encode` answers with memory for this number of bytes, and no more.
+/// What `encode` returns with memory for this number of bytes, and no more.
 fn encode_within<P: BitPacker>(
     rt: &impl Abort,
     alloc: Global,
@@ -97,10 +97,10 @@ pub(super) fn turns(rt: &impl Abort, alloc: Global, count: usize) -> Vec<u32> {
     values
 }
 
-/// With room for the one growth `encode` succeeds; with none it answers `Memory`, but for a fault of the values.
+/// With room for the one growth `encode` succeeds; with none it returns `Memory`, but for a fault of the values.
 ///
-/// Ten blocks, in which values of 32 bits take turns, and five values: the text takes more than the thousand bytes up to which the
-/// C library keeps a freed block for an equal one.
+/// Ten blocks, in which values of 32 bits take turns, and five values: the list has more than the thousand bytes up to which the C
+/// library caches a freed block for an equal one.
 fn one_growth<P: BitPacker>(rt: &impl Abort, alloc: Global, packer: &P) {
     let len = P::BLOCK_LEN;
     let values = turns(rt, alloc, len * 10 + 5);

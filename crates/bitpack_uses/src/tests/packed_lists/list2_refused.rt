@@ -1,4 +1,4 @@
-//! Texts of version 2 with a fault, and values out of order: which refusal comes first. All were worked by hand from the format.
+//! Version 2 bytes with a fault, and values out of order: which refusal comes first. All were worked by hand from the format.
 
 use super::list2::{are_refused, is_refused, thirty_three};
 use crate::tests::calls::encode2;
@@ -8,7 +8,7 @@ use bitpacking::{BitPacker, BitPacker1x};
 use std::alloc::Global;
 use std::process::Abort;
 
-/// Texts of one lane with more than one fault: the first in the order of the format is answered.
+/// Bytes of one lane with more than one fault: the first in the order of the format is returned.
 fn bodies_refused(rt: &impl Abort) {
     let cases: [(&[u8], ListError); 7] = [
         // The missing body of block 1 before the loose width of block 0.
@@ -19,14 +19,14 @@ fn bodies_refused(rt: &impl Abort) {
             ],
             ListError::Short,
         ),
-        // The offset of entry 0 before the width of entry 1.
+        // The offset of skip entry 0 before the width of entry 1.
         (
             &[
                 2, 0, 1, 0x40, 0, 0, 0, 0, 1, 0, 0, 0, 0, 0, 0, 0, 33, 0, 0, 0, 0, 0, 0, 0, 0,
             ],
             ListError::BadOffset(0),
         ),
-        // The width of an entry before its offset.
+        // The width of a skip entry before its offset.
         (
             &[2, 0, 1, 0x20, 0, 0, 0, 33, 1, 0, 0, 0, 0, 0, 0, 0],
             ListError::BadWidth(0, 33),

@@ -19,7 +19,7 @@ fn has_values<P: BitPacker>(rt: &impl Abort, list: &PackedList<'_, P>, values: &
     holds(rt, after.is_none(), "after the last value");
 }
 
-/// The list gives these values all together.
+/// The list returns these values all together.
 fn has_all<P: BitPacker>(rt: &impl Abort, alloc: Global, list: &PackedList<'_, P>, values: &[u32]) {
     let mut all = Vec::new(alloc);
     holds(rt, list.append_to(&mut all).is_ok(), "room for all values");
@@ -39,7 +39,7 @@ fn is_list<P: BitPacker>(
     has_values(rt, list, values);
 }
 
-/// `open3` and `open_any` read this list from the text, and `open` refuses it.
+/// `open3` and `open_any` read this list from the bytes, and `open` refuses them.
 pub(super) fn is_read<P: BitPacker>(
     rt: &impl Abort,
     alloc: Global,
@@ -59,7 +59,7 @@ pub(super) fn is_read<P: BitPacker>(
     );
 }
 
-/// The values have this text, which is appended, and written into slices.
+/// The values have these bytes, which are appended, and written into slices.
 fn is_written<P: BitPacker>(
     rt: &impl Abort,
     alloc: Global,
@@ -75,7 +75,7 @@ fn is_written<P: BitPacker>(
     is_read(rt, alloc, packer, kind, values, text);
 }
 
-/// Each list has this text.
+/// Each list has these bytes.
 fn are_written<P: BitPacker>(
     rt: &impl Abort,
     alloc: Global,
@@ -146,7 +146,7 @@ fn lists_with_groups(rt: HostRuntime) {
 fn lists_with_blocks(rt: HostRuntime) {
     let alloc = rt.alloc();
     let packer = BitPacker1x::new();
-    // An entry, a block of width 0, and a group of the code 0.
+    // A skip entry, a block of width 0, and a group of the code 0.
     let text = [0x6F, 0x21, 0, 0, 0, 0, 0, 31, 0, 0, 0, 0];
     let values = steps(&rt, alloc, 0, 1, 33);
     is_written(
@@ -158,7 +158,7 @@ fn lists_with_blocks(rt: HostRuntime) {
         &text,
     );
 
-    // Two entries, and blocks of the widths 1 and 2: 32 ones and 32 twos.
+    // Two skip entries, and blocks of the widths 1 and 2: 32 ones and 32 twos.
     let text = [
         0x5F, 0x40, 1, 0, 0, 0, 0, 32, 0, 0, 0, 2, 1, 0, 0, 0, 96, 0, 0, 0, 0xFF, 0xFF, 0xFF, 0xFF,
         0xAA, 0xAA, 0xAA, 0xAA, 0xAA, 0xAA, 0xAA, 0xAA,

@@ -1,5 +1,5 @@
-//! Texts of version 3 with a fault: which refusal comes first. All were worked by hand from the format. And texts with one bit changed:
-//! what opens is the text of the values that come out.
+//! Version 3 bytes with a fault: which refusal comes first. All were worked by hand from the format. And lists with one bit changed:
+//! bytes that open encode the values that come out.
 
 use crate::tests::calls::{encode3, open_any, open3};
 use crate::tests::checks::{holds, push_bytes, same_bytes, same_fault, succeeds};
@@ -8,7 +8,7 @@ use bitpacking::{BitPacker, BitPacker1x, BitPacker4x};
 use std::alloc::Global;
 use std::process::Abort;
 
-/// The text is refused with this error.
+/// The bytes are refused with this error.
 fn is_refused(rt: &impl Abort, text: &[u8], error: ListError) {
     let packer = BitPacker1x::new();
     same_fault(rt, open3(&packer, text).err(), Some(error), text);
@@ -86,7 +86,7 @@ fn blocks_of_version_3(rt: HostRuntime) {
     are_refused(&rt, &cases);
 }
 
-/// The front of the text of 0 to 32, up to its tail, with this tail.
+/// The front of the list of 0 to 32, up to its tail, with this tail.
 fn with_tail(rt: &impl Abort, alloc: Global, tail: &[u8]) -> Vec<u8> {
     let mut text = Vec::new(alloc);
     let front = [0x6F, 0x21, 0, 0, 0, 0, 0, 0x1F, 0, 0, 0];
@@ -120,7 +120,7 @@ fn tails_of_version_3(rt: HostRuntime) {
     are_refused(&rt, &cases);
 }
 
-/// The text is refused, or it is the text of the values that come out.
+/// The bytes are refused, or encode the values that come out.
 fn opens_or_is_refused<P: BitPacker>(rt: &impl Abort, alloc: Global, packer: &P, text: &[u8]) {
     match open3(packer, text) {
         Ok(list) => {
@@ -141,7 +141,7 @@ fn change(text: &mut Vec<u8>, index: usize, bits: u8) {
     }
 }
 
-/// Each bit of a byte of the text is changed in turn.
+/// Each bit of a byte of the list is changed in turn.
 fn bits_of_byte<P: BitPacker>(
     rt: &impl Abort,
     alloc: Global,
@@ -156,7 +156,7 @@ fn bits_of_byte<P: BitPacker>(
     }
 }
 
-/// The text opens, and no proper beginning of it does.
+/// The list opens, and no proper beginning of it does.
 fn opens_whole<P: BitPacker>(rt: &impl Abort, packer: &P, text: &[u8]) {
     holds(rt, open3(packer, text).is_ok(), "the text opens");
     for end in 0..text.len() {
@@ -165,7 +165,7 @@ fn opens_whole<P: BitPacker>(rt: &impl Abort, packer: &P, text: &[u8]) {
     }
 }
 
-/// Each bit of the text is changed in turn, and no proper beginning of it opens.
+/// Each bit of the list is changed in turn, and no proper beginning of it opens.
 fn every_bit<P: BitPacker>(rt: &impl Abort, alloc: Global, packer: &P, text: &[u8]) {
     opens_whole(rt, packer, text);
     let mut changed = Vec::new(alloc);

@@ -31,7 +31,7 @@ fn is_list<P: BitPacker>(
     holds(rt, after.is_none(), "after the last value");
 }
 
-/// The values have this text, which is appended, and written into slices, and from which they are read.
+/// The values have these bytes, which are appended, and written into slices, and from which they are read.
 fn is_written<P: BitPacker>(
     rt: &impl Abort,
     packer: &P,
@@ -151,7 +151,7 @@ fn plain_blocks_above_their_least_value(rt: HostRuntime) {
     );
 }
 
-/// The text is refused with this error.
+/// The bytes are refused with this error.
 fn is_refused(rt: &impl Abort, text: &[u8], error: ListError) {
     let packer = BitPacker1x::new();
     same_fault(rt, open4(&packer, text).err(), Some(error), text);

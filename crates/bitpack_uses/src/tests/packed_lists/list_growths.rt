@@ -12,7 +12,7 @@ use bitpacking::{BitPacker, BitPacker1x, BitPacker4x, BitPacker8x};
 use std::alloc::Global;
 use std::process::Abort;
 
-/// Takes up to a hundred blocks of a size.
+/// Allocates up to a hundred blocks of a size.
 fn take_blocks(alloc: Global, taken: &mut Vec<Vec<u8>>, size: usize) {
     for _ in 0..100 {
         let Ok(block) = Vec::with_capacity(alloc, size) else {
@@ -24,7 +24,7 @@ fn take_blocks(alloc: Global, taken: &mut Vec<Vec<u8>>, size: usize) {
     }
 }
 
-/// Takes all memory, and then the freed blocks of each size that the C library keeps for equal ones.
+/// Allocates all memory, and then the freed blocks of each size that the C library caches for equal ones.
 fn take_everything(rt: &impl Abort, alloc: Global) -> Vec<Vec<u8>> {
     let mut taken = take_all(rt, alloc);
     for size in 1..1100usize {
@@ -40,8 +40,8 @@ fn one_item<T: Copy>(rt: &impl Abort, alloc: Global, item: T, room: usize) -> Ve
     items
 }
 
-/// With no memory left both calls answer `Memory`. Each proper beginning of the text is Short all the same, and the text with a byte
-/// more Trailing.
+/// With no memory left both calls return `Memory`. Each proper beginning of the bytes is Short all the same, and the bytes with one
+/// more are Trailing.
 fn calls_refused<P: BitPacker>(
     rt: &impl Abort,
     packer: &P,
@@ -61,7 +61,7 @@ fn calls_refused<P: BitPacker>(
     decodes(rt, decoded, Err(ListError::Trailing), longer);
 }
 
-/// With room for a number of bytes and values, and no more memory, the calls leave the vectors as they were.
+/// With room for a number of bytes and values, and no more memory, the calls leave the vectors unchanged.
 fn growth_refused<P: BitPacker>(
     rt: &impl Abort,
     alloc: Global,
@@ -96,7 +96,7 @@ fn growths_refused<P: BitPacker>(
     growth_refused(rt, alloc, packer, list, halves);
 }
 
-/// From room for a number of bytes `encode` grows to what the text takes, and no further.
+/// From room for a number of bytes `encode` grows to the size of the list, and no further.
 fn room_of_text<P: BitPacker>(
     rt: &impl Abort,
     alloc: Global,
@@ -125,7 +125,7 @@ fn room_of_values<P: BitPacker>(
     same_number(rt, read.capacity(), words, "room for values");
 }
 
-/// From room for one item a call grows to what the text or its values take, and no further. From room for half of it, it grows
+/// From room for one item a call grows to the size of the list or its values, and no further. From room for half of it, it grows
 /// once, and from room for all of it not at all.
 fn room_taken<P: BitPacker>(
     rt: &impl Abort,
@@ -142,7 +142,7 @@ fn room_taken<P: BitPacker>(
     }
 }
 
-/// A thousand texts one after the other change the capacity of their vector fewer than twenty times.
+/// A thousand lists one after the other change the capacity of their vector fewer than twenty times.
 fn a_thousand_texts<P: BitPacker>(
     rt: &impl Abort,
     alloc: Global,
@@ -250,7 +250,7 @@ fn room_of_three_blocks(rt: HostRuntime) {
     room_of(&rt, rt.alloc(), &BitPacker8x::scalar(), headers(8, 5, 3));
 }
 
-/// With no memory left the values of the text are not read.
+/// With no memory left the values of the list are not read.
 fn values_refused(rt: &impl Abort, alloc: Global, text: &[u8]) {
     let mut read = one_item(rt, alloc, 7u32, 1);
     let taken = take_everything(rt, alloc);
@@ -260,7 +260,7 @@ fn values_refused(rt: &impl Abort, alloc: Global, text: &[u8]) {
     kept_values(rt, &read, 7, 1);
 }
 
-/// Of the texts worked by hand those whose values are too many for the block of one item.
+/// Of the lists worked by hand those whose values are too many for the block of one item.
 #[test]
 fn growths_of_worked_texts(rt: HostRuntime) {
     grow_stack(&rt);

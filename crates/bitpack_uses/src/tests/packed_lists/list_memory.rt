@@ -60,7 +60,7 @@ fn encode_grows_once<P: BitPacker>(
     same_bytes(rt, &written, text);
 }
 
-/// With no memory `encode` answers `Memory`, and the vector holds its one item.
+/// With no memory `encode` returns `Memory`, and the vector holds its one item.
 fn encode_refused<P: BitPacker>(rt: &impl Abort, alloc: Global, packer: &P, values: &[u32]) {
     let mut written = nine(rt, alloc);
     let outcome = encode_within(rt, alloc, packer, values, &mut written, 0);
@@ -82,7 +82,7 @@ fn decode_grows_once<P: BitPacker>(
     same_values(rt, &read, all);
 }
 
-/// With no memory `decode` answers this, and the vector holds its one item.
+/// With no memory `decode` returns this, and the vector holds its one item.
 fn decode_refused<P: BitPacker>(
     rt: &impl Abort,
     alloc: Global,
@@ -113,10 +113,10 @@ fn growth_of_values<P: BitPacker>(
     decode_refused(rt, alloc, packer, text, ListError::Memory);
 }
 
-/// With room for the one growth each call succeeds; with none it answers `Memory`, and the vector holds its one item.
+/// With room for the one growth each call succeeds; with none it returns `Memory`, and the vector holds its one item.
 ///
-/// Ten blocks of width 32 and five values: text and values take more than the thousand bytes up to which the C library keeps
-/// a freed block for an equal one.
+/// Ten blocks of width 32 and five values: bytes and values take more than the thousand bytes up to which the C library
+/// caches a freed block for an equal one.
 fn one_growth<P: BitPacker>(rt: &impl Abort, alloc: Global, packer: &P) {
     let mut values = Vec::new(alloc);
     push_steps(rt, &mut values, u32::MAX, 0, P::BLOCK_LEN * 10 + 5);

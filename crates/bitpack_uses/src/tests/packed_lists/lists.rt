@@ -11,7 +11,7 @@ use bitpacking::{BitPacker, BitPacker1x, BitPacker4x, BitPacker8x};
 use std::alloc::Global;
 use std::process::Abort;
 
-/// The call on this text returned this.
+/// The call on these bytes returned this.
 pub(super) fn decodes(
     rt: &impl Abort,
     found: Result<ListKind, ListError>,
@@ -21,7 +21,7 @@ pub(super) fn decodes(
     assert_eq!(rt; found, expected, "{text:?}");
 }
 
-/// The values have this text. What the vector held before comes before it.
+/// The values have these bytes. What the vector held before comes before them.
 pub(super) fn is_written<P: BitPacker>(
     rt: &impl Abort,
     alloc: Global,
@@ -35,7 +35,7 @@ pub(super) fn is_written<P: BitPacker>(
     appended_bytes(rt, &written, text);
 }
 
-/// The text has these values. What the vector held before comes before them.
+/// The bytes have these values. What the vector held before comes before them.
 fn is_read<P: BitPacker>(
     rt: &impl Abort,
     alloc: Global,
@@ -49,8 +49,8 @@ fn is_read<P: BitPacker>(
     appended_values(rt, &read, 7, values);
 }
 
-/// The values have this text, and the text these values. Each proper beginning of the text is refused, and so is the text with a
-/// byte more.
+/// The values have these bytes, and the bytes these values. Each proper beginning of the bytes is refused, and so are the bytes
+/// with one more.
 fn is_text<P: BitPacker>(
     rt: &impl Abort,
     alloc: Global,
@@ -68,7 +68,7 @@ fn is_text<P: BitPacker>(
     is_refused(rt, alloc, packer, &longer, ListError::Trailing);
 }
 
-/// The text is refused, and the vector holds what it held, in the room that it had.
+/// The bytes are refused, and the vector holds what it held, in the room that it had.
 fn is_refused<P: BitPacker>(
     rt: &impl Abort,
     alloc: Global,
@@ -82,7 +82,7 @@ fn is_refused<P: BitPacker>(
     kept_values(rt, &read, 7, room);
 }
 
-/// Each text is refused.
+/// All of these bytes are refused.
 fn are_refused<P: BitPacker>(
     rt: &impl Abort,
     alloc: Global,
@@ -151,7 +151,7 @@ fn refusals_of_1x(rt: HostRuntime) {
         (&[2, 3, 4, 1, 0, 0, 0x10], ListError::BadVersion(2)),
         (&[1, 3, 4, 1, 0, 0, 0x10], ListError::BadKind(3)),
         (&[1, 0, 4, 1, 0, 0, 0x10], ListError::WrongLanes(4)),
-        // A byte for each block and the tail are asked for before the width 33 is seen.
+        // A byte for each block and the tail are required before the width 33 is seen.
         (&[1, 0, 1, 0x21, 0, 0, 0, 0x21], ListError::Short),
         // Block 0 is loose, and block 1 is missing.
         (
@@ -273,8 +273,8 @@ fn push_repeated(rt: &impl Abort, text: &mut Vec<u8>, word: &[u8], count: usize)
     }
 }
 
-/// Their text. Each lane has one word of width 1, two of width 2 and three of width 3; the bits of the last are `101` again
-/// and again.
+/// Their bytes. Each lane has one word of width 1, two of width 2 and three of width 3; the bits of the last are `101` again and
+/// again.
 pub(super) fn three_blocks_text<P: BitPacker>(
     rt: &impl Abort,
     alloc: Global,

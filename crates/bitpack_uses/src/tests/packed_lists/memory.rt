@@ -1,11 +1,11 @@
-//! A machine with no memory left, for calls that have to answer without.
+//! A machine with no memory left, for calls that have to return without.
 
 use crate::tests::checks::room_for;
 use std::alloc::Global;
 use std::process::Abort;
 
-/// Makes the stack as large as the calls of a test need, since it cannot grow once memory was taken. Each test that takes all
-/// memory calls it first.
+/// Makes the stack as large as the calls of a test need, since it cannot grow once all memory is allocated. Each test that
+/// allocates all memory calls it first.
 #[inline(never)]
 pub(super) fn grow_stack(rt: &impl Abort) {
     let mut places = [0u32; 65_536];
@@ -22,7 +22,7 @@ pub(super) fn grow_stack(rt: &impl Abort) {
     assert!(rt; sum != 1);
 }
 
-/// Takes all the memory that there is to take, in blocks of falling size, until even a byte is refused.
+/// Allocates all the memory that there is, in blocks of falling size, until even a byte is refused.
 pub(super) fn take_all(rt: &impl Abort, alloc: Global) -> Vec<Vec<u8>> {
     let mut blocks = room_for(rt, alloc, 100_000);
     let mut size = 1usize << 46;

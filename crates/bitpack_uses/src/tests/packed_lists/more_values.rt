@@ -10,8 +10,8 @@ use bitpacking::{BitPacker, BitPacker1x, BitPacker4x};
 use std::alloc::Global;
 use std::process::Abort;
 
-/// The list of this text has, with more values, this other text. A slice that is a byte shorter is refused, and the bytes after the text
-/// stay.
+/// The list of these bytes has, with more values, these other bytes. A slice that is a byte shorter is refused, and the bytes after the
+/// list are unchanged.
 fn becomes<P: BitPacker>(
     rt: &impl Abort,
     alloc: Global,
@@ -38,7 +38,7 @@ fn becomes<P: BitPacker>(
     same_bytes(rt, &slice, &longer);
 }
 
-/// The values are refused, and the vector stays as it was.
+/// The values are refused, and the vector is unchanged.
 fn refuses(rt: &impl Abort, alloc: Global, old: &[u8], more: &[u32], error: ListError) {
     let list = open_any(&BitPacker1x::new(), old).expect(rt, "a list");
     let mut out = nine(rt, alloc);
@@ -53,7 +53,7 @@ fn values_after_few(rt: HostRuntime) {
     let cases: [(&[u8], &[u32], &[u8]); 8] = [
         // Nothing more.
         (&[0x42, 3, 1, 1], &[], &[0x42, 3, 1, 1]),
-        // Without a block the text is of version 3.
+        // Without a block the list is of version 3.
         (&[0x40], &[3, 1], &[0x42, 3, 1, 1]),
         (&[2, 0, 1, 1, 0, 0, 0, 3, 0, 0, 0], &[1], &[0x42, 3, 1, 1]),
         // Strictly sorted, 0 to 31: a run. After it 32, in the tail, and then 33 too, of code 0.

@@ -1,4 +1,5 @@
-//! How much room a call makes in an empty vector, with memory to spare: no more than the text takes, or the shorter of two lists.
+//! How much room a call makes in an empty vector, with memory to spare: no more than the list has bytes, or the shorter of two
+//! lists.
 
 use crate::tests::calls::{encode1, encode2, intersect_texts, open, unpack, upgrade, upgrade3};
 use crate::tests::checks::{holds, same_number, steps, succeeds};
@@ -28,7 +29,7 @@ fn encodes_to<P: BitPacker>(
     is_full(rt, &text, bytes);
 }
 
-/// So does `upgrade` of their text of version 1.
+/// So does `upgrade` of their version 1 list.
 fn upgrades_to<P: BitPacker>(
     rt: &impl Abort,
     alloc: Global,
@@ -44,7 +45,7 @@ fn upgrades_to<P: BitPacker>(
     is_full(rt, &text, bytes);
 }
 
-/// `upgrade` to version 3 makes room for this number of bytes, from the text of version 1 or 2.
+/// `upgrade` to version 3 makes room for this number of bytes, from the list of version 1 or 2.
 fn upgrades_to_3<P: BitPacker>(
     rt: &impl Abort,
     alloc: Global,

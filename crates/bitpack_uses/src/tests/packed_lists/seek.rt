@@ -1,4 +1,4 @@
-//! Searches in packed lists of version 2. The answers for single texts were worked by hand, as the texts were; those for lists that are
+//! Searches in packed lists of version 2. The results for single lists were worked by hand, as the lists were; those for lists that are
 //! packed here are found by a walk over the values.
 
 use super::list2::thirty_three;
@@ -11,7 +11,7 @@ use bitpacking::{BitPacker, BitPacker1x, BitPacker4x, BitPacker8x};
 use std::alloc::Global;
 use std::process::Abort;
 
-/// Sorted, one lane: 7 in each of 64 places. Each code is 0 but the first, which is 7.
+/// Sorted, one lane: 7 at each of 64 positions. Each code is 0 but the first, which is 7.
 pub(super) const SEVENS: [u8; 37] = [
     2, 1, 1, 0x40, 0, 0, 0, 3, 0, 0, 0, 0, 7, 0, 0, 0, 0, 3, 0, 0, 0, 7, 0, 0, 0, 7, 0, 0, 0, 0, 0,
     0, 0, 0, 0, 0, 0,
@@ -39,7 +39,7 @@ fn list_finds<P: BitPacker>(
     assert_eq!(rt; seek(rt, list, target), found, "{target}");
 }
 
-/// A search in the text, which is of a list in order, finds this.
+/// A search in the list, which is in order, finds this.
 fn finds(rt: &impl Abort, text: &[u8], target: u32, found: Option<(usize, u32)>) {
     match open(&BitPacker1x::new(), text) {
         Ok(list) => list_finds(rt, &list, target, found),
@@ -47,7 +47,7 @@ fn finds(rt: &impl Abort, text: &[u8], target: u32, found: Option<(usize, u32)>)
     }
 }
 
-/// Each search in the text, which is of a list in order, finds what stands beside its target.
+/// Each search in the list, which is in order, finds what stands beside its target.
 fn finds_each(rt: &impl Abort, text: &[u8], searches: &[(u32, Option<(usize, u32)>)]) {
     for (target, found) in searches {
         finds(rt, text, *target, *found);
@@ -87,7 +87,7 @@ fn walk(values: &[u32], target: u32) -> Option<(usize, u32)> {
     None
 }
 
-/// The list finds this value, and the ones before and after it, at the places that a walk over its values finds.
+/// The list finds this value, and the ones before and after it, at the positions that a walk over its values finds.
 fn finds_near<P: BitPacker>(rt: &impl Abort, list: &PackedList<'_, P>, values: &[u32], value: u32) {
     for target in [value.saturating_sub(1), value, value.saturating_add(1)] {
         list_finds(rt, list, target, walk(values, target));

@@ -1,4 +1,4 @@
-//! Texts of version 1, converted to version 2. The expected bytes and refusals were worked by hand from the format. None is the
+//! Version 1 lists, converted to version 2. The expected bytes and refusals were worked by hand from the format. None is the
 //! program's own output.
 
 use super::list2::{SHAPES, blocks_of, each_kind, is_list, is_written, text_of, thirty_three};
@@ -9,14 +9,14 @@ use bitpacking::{BitPacker, BitPacker1x, BitPacker4x, BitPacker8x};
 use std::alloc::Global;
 use std::process::Abort;
 
-/// The text of version 1 gives this one of version 2, which is appended.
+/// The version 1 list becomes this one of version 2, which is appended.
 fn is_upgraded<P: BitPacker>(rt: &impl Abort, alloc: Global, packer: &P, old: &[u8], new: &[u8]) {
     let mut out = nine(rt, alloc);
     succeeds(rt, upgrade(packer, old, &mut out), old);
     appended_bytes(rt, &out, new);
 }
 
-/// The text is refused, and the vector holds what it held, in the room that it had.
+/// The list is refused, and the vector holds what it held, in the room that it had.
 fn is_refused<P: BitPacker>(
     rt: &impl Abort,
     alloc: Global,
@@ -30,7 +30,7 @@ fn is_refused<P: BitPacker>(
     kept_bytes(rt, &out, room);
 }
 
-/// Each text is refused.
+/// Each list is refused.
 fn are_refused<P: BitPacker>(
     rt: &impl Abort,
     alloc: Global,
@@ -135,7 +135,7 @@ fn refusals_of_1x(rt: HostRuntime) {
     wrapped_block_refused(&rt, rt.alloc());
 }
 
-/// The text of version 1 gives this one of version 2. Each proper beginning of the text of version 1 is refused, and so is the text
+/// The version 1 list becomes this one of version 2. Each proper beginning of the version 1 list is refused, and so is the list
 /// with a byte more.
 fn alone_is_upgraded<P: BitPacker>(
     rt: &impl Abort,
@@ -152,7 +152,7 @@ fn alone_is_upgraded<P: BitPacker>(
     is_refused(rt, alloc, packer, &longer, ListError::Trailing);
 }
 
-/// The list has this text of version 2, which comes of its text of version 1 too, and opens.
+/// The values have this list of version 2, which their version 1 list becomes too, and it opens.
 fn is_same<P: BitPacker>(
     rt: &impl Abort,
     alloc: Global,

@@ -1,5 +1,5 @@
-//! `list3::upgrade` makes texts of version 3 from texts of versions 1 and 2. The expected bytes and refusals were worked by hand from the
-//! format. None is the program's own output.
+//! `list3::upgrade` converts lists of versions 1 and 2 to version 3. The expected bytes and refusals were worked by hand from the format.
+//! None is the program's own output.
 
 use super::list2::thirty_three;
 use crate::tests::calls::{encode1, encode2, encode3, upgrade3};
@@ -11,7 +11,7 @@ use bitpacking::{BitPacker, BitPacker1x, BitPacker4x, BitPacker8x};
 use std::alloc::Global;
 use std::process::Abort;
 
-/// The text gives this one of version 3, which is appended. With a byte more or less it is refused.
+/// The list becomes this one of version 3, which is appended. With a byte more or less it is refused.
 fn is_upgraded<P: BitPacker>(rt: &impl Abort, alloc: Global, packer: &P, old: &[u8], new: &[u8]) {
     let mut out = nine(rt, alloc);
     succeeds(rt, upgrade3(packer, old, &mut out), old);
@@ -22,7 +22,7 @@ fn is_upgraded<P: BitPacker>(rt: &impl Abort, alloc: Global, packer: &P, old: &[
     is_refused(rt, alloc, packer, shorter, ListError::Short);
 }
 
-/// The text is refused, and the vector holds what it held, in the room that it had.
+/// The list is refused, and the vector holds what it held, in the room that it had.
 fn is_refused<P: BitPacker>(
     rt: &impl Abort,
     alloc: Global,
@@ -36,7 +36,7 @@ fn is_refused<P: BitPacker>(
     kept_bytes(rt, &out, room);
 }
 
-/// The text of a list without a block: its header, and its values as four bytes each.
+/// A list without a block: its header, and its values as four bytes each.
 fn short_text(
     rt: &impl Abort,
     alloc: Global,
@@ -52,7 +52,7 @@ fn short_text(
     text
 }
 
-/// Both texts of each list without a block give this one of version 3.
+/// A list without a block becomes this one of version 3, from both versions.
 fn are_upgraded<P: BitPacker>(
     rt: &impl Abort,
     alloc: Global,
@@ -105,7 +105,7 @@ fn short_lists_of_others(rt: &impl Abort, alloc: Global) {
     are_upgraded(rt, alloc, &BitPacker8x::new(), 8, &cases);
 }
 
-/// Lists of whole blocks and a tail: their texts of versions 1, 2 and 3.
+/// Lists of whole blocks and a tail, in versions 1, 2 and 3.
 fn lists_with_blocks(rt: &impl Abort, alloc: Global) {
     let cases: [(&[u8], &[u8], &[u8]); 4] = [
         // Plain, 0 to 7 four times.
@@ -238,7 +238,7 @@ fn refusals_of_2(rt: &impl Abort, alloc: Global) {
             &[2, 2, 1, 2, 0, 0, 0, 5, 0, 0, 0, 5, 0, 0, 0],
             ListError::NotSorted(1),
         ),
-        // In version 2 the order comes before bytes after the text.
+        // In version 2 the order comes before bytes after the list.
         (
             &[2, 1, 1, 2, 0, 0, 0, 5, 0, 0, 0, 4, 0, 0, 0, 0],
             ListError::NotSorted(1),
@@ -276,7 +276,7 @@ fn values_of(rt: &impl Abort, alloc: Global, kind: ListKind, count: usize) -> Ve
     values
 }
 
-/// `encode` writes a text of version 3, and `upgrade` makes the same bytes from the texts of versions 1 and 2.
+/// `encode` writes a version 3 list, and `upgrade` converts the lists of versions 1 and 2 to the same bytes.
 fn has_one_text<P: BitPacker>(
     rt: &impl Abort,
     alloc: Global,

@@ -1,5 +1,5 @@
-//! `list4::upgrade` makes texts of version 4, or 3, from texts of versions 1 to 3. The expected bytes and refusals were worked by hand from
-//! the format. None is the program's own output.
+//! `list4::upgrade` converts lists of versions 1 to 3 to version 4, or 3. The expected bytes and refusals were worked by hand from the
+//! format. None is the program's own output.
 
 use super::list2::thirty_three;
 use super::list4::fours;
@@ -13,7 +13,7 @@ use bitpacking::{BitPacker, BitPacker1x, BitPacker4x, BitPacker8x};
 use std::alloc::Global;
 use std::process::Abort;
 
-/// The text gives this newest one, which is appended; the other vector holds what it held.
+/// The list becomes this newest one, which is appended; the other vector holds what it held.
 fn gives<P: BitPacker>(rt: &impl Abort, alloc: Global, packer: &P, old: &[u8], new: &[u8]) {
     let mut values = one_value(rt, alloc, 7);
     let mut out = nine(rt, alloc);
@@ -31,7 +31,7 @@ fn is_upgraded<P: BitPacker>(rt: &impl Abort, alloc: Global, packer: &P, old: &[
     is_refused(rt, alloc, packer, shorter, ListError::Short);
 }
 
-/// The text is refused, and both vectors hold what they held, in the room that they had.
+/// The list is refused, and both vectors hold what they held, in the room that they had.
 fn is_refused<P: BitPacker>(
     rt: &impl Abort,
     alloc: Global,
@@ -150,7 +150,7 @@ fn refusals_by_the_first_byte(rt: HostRuntime) {
             &[2, 1, 4, 2, 0, 0, 0, 5, 0, 0, 0, 5, 0, 0, 0],
             ListError::WrongLanes(4),
         ),
-        // A text of version 4 is read as one of version 1.
+        // A version 4 list is read as one of version 1.
         (&[0x16, 0x21, 0x11, 0, 31, 0], ListError::Short),
         (&[0x14, 0x20, 0x11, 3, 0, 0, 0], ListError::BadVersion(0x14)),
         (&[0x3F, 0, 0, 0, 0, 0, 0], ListError::BadVersion(0x3F)),
@@ -164,7 +164,7 @@ fn refusals_by_the_first_byte(rt: HostRuntime) {
     }
 }
 
-/// Each older text of the values gives the text that `encode` writes.
+/// Each older list of the values becomes the list that `encode` writes.
 fn has_one_text<P: BitPacker>(
     rt: &impl Abort,
     alloc: Global,

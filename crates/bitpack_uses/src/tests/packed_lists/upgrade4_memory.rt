@@ -1,4 +1,4 @@
-//! `list4::upgrade` short of memory: it grows each vector once, to the size that it ends with, and leaves both as they were if that fails.
+//! `list4::upgrade` short of memory: it grows each vector once, to the size that it ends with, and leaves both unchanged if that fails.
 
 use super::list2_memory::turns;
 use super::memory::{grow_stack, take_all};
@@ -12,7 +12,7 @@ use bitpacking::{BitPacker, BitPacker1x, BitPacker4x, BitPacker8x};
 use std::alloc::Global;
 use std::process::Abort;
 
-/// What `upgrade` answers with memory for these numbers of values and of bytes, and no more.
+/// What `upgrade` returns with memory for these numbers of values and of bytes, and no more.
 fn upgrade_within<P: BitPacker>(
     rt: &impl Abort,
     alloc: Global,
@@ -31,7 +31,7 @@ fn upgrade_within<P: BitPacker>(
     outcome
 }
 
-/// With no memory the text is refused, and both vectors hold their one item in the room that they had.
+/// With no memory the list is refused, and both vectors hold their one item in the room that they had.
 fn is_kept<P: BitPacker>(
     rt: &impl Abort,
     alloc: Global,
@@ -68,7 +68,7 @@ fn grows_once<P: BitPacker>(
     same_number(rt, values.capacity(), room, "room for values");
 }
 
-/// A vector that has room for the values grows no more: without room for the text `Memory` is returned, and with it the text.
+/// A vector that has room for the values grows no more: without room for the new list it returns `Memory`, and with room the list.
 fn reuses_room<P: BitPacker>(
     rt: &impl Abort,
     alloc: Global,
@@ -99,7 +99,7 @@ fn unsorted_is_kept<P: BitPacker>(rt: &impl Abort, alloc: Global, packer: &P, va
     is_kept(rt, alloc, packer, &wrapped, ListError::NotSorted(1));
 }
 
-/// One text of the list, which is upgraded to this one.
+/// The list in an older version, which is upgraded to this one.
 fn growths<P: BitPacker>(
     rt: &impl Abort,
     alloc: Global,

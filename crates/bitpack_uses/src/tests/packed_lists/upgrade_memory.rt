@@ -1,4 +1,4 @@
-//! `upgrade` short of memory: it grows its vector once, to the size that it ends with, and leaves it as it was if that fails.
+//! `upgrade` short of memory: it grows its vector once, to the size that it ends with, and leaves it unchanged if that fails.
 
 use super::list2_memory::turns;
 use super::memory::{grow_stack, take_all};
@@ -11,7 +11,7 @@ use bitpacking::{BitPacker, BitPacker1x, BitPacker4x, BitPacker8x};
 use std::alloc::Global;
 use std::process::Abort;
 
-/// What `upgrade` answers with memory for this number of bytes, and no more.
+/// What `upgrade` returns with memory for this number of bytes, and no more.
 fn upgrade_within<P: BitPacker>(
     rt: &impl Abort,
     alloc: Global,
@@ -28,7 +28,7 @@ fn upgrade_within<P: BitPacker>(
     outcome
 }
 
-/// With no memory the text is refused, and the vector holds its one item in the room that it had.
+/// With no memory the list is refused, and the vector holds its one item in the room that it had.
 fn is_kept<P: BitPacker>(
     rt: &impl Abort,
     alloc: Global,
@@ -51,7 +51,7 @@ fn grows_once<P: BitPacker>(rt: &impl Abort, alloc: Global, packer: &P, old: &[u
     same_bytes(rt, &written, text);
 }
 
-/// The text of version 2 after one byte, by `encode` and by `upgrade`.
+/// The version 2 list after one byte, by `encode` and by `upgrade`.
 fn upgraded<P: BitPacker>(
     rt: &impl Abort,
     alloc: Global,
@@ -76,10 +76,11 @@ fn unsorted_is_kept<P: BitPacker>(rt: &impl Abort, alloc: Global, packer: &P, va
     is_kept(rt, alloc, packer, &wrapped, ListError::NotSorted(1));
 }
 
-/// With room for the one growth `upgrade` succeeds; with none it answers `Memory`, but for a fault of the text and values out of order.
+/// With room for the one growth `upgrade` succeeds; with none it returns `Memory`, but for a fault of the bytes and values out of
+/// order.
 ///
-/// Ten blocks, in which values of 32 bits take turns, and five values: the text takes more than the thousand bytes up to which the
-/// C library keeps a freed block for an equal one.
+/// Ten blocks, in which values of 32 bits take turns, and five values: the list has more than the thousand bytes up to which the C
+/// library caches a freed block for an equal one.
 fn one_growth<P: BitPacker>(rt: &impl Abort, alloc: Global, packer: &P) {
     let len = P::BLOCK_LEN;
     let values = turns(rt, alloc, len * 10 + 5);

@@ -1,10 +1,10 @@
-//! The first fault of a text of version 1, found by a plain walk over its bytes: the table of refusals in docs/FORMAT.md, line by
+//! The first fault of a version 1 list, found by a plain walk over its bytes: the table of refusals in docs/FORMAT.md, line by
 //! line. Nothing of the library is called; only the faults have its names.
 
 use bitpack::ListError;
 use bitpacking::BitPacker;
 
-/// The first fault of the text for this packer, if it has one.
+/// The first fault of the bytes for this packer, if they have one.
 pub(super) fn first_fault<P: BitPacker>(text: &[u8]) -> Option<ListError> {
     let [version, kind, lanes, n0, n1, n2, n3, rest @ ..] = text else {
         return Some(ListError::Short);

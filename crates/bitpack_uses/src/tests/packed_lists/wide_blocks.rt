@@ -11,7 +11,7 @@ use bitpacking::{BitPacker, BitPacker1x, BitPacker4x, BitPacker8x};
 use std::alloc::Global;
 use std::process::Abort;
 
-/// The text of version 2 of blocks with these widths and last values.
+/// The version 2 list of blocks with these widths and last values.
 fn ones(rt: &impl Abort, alloc: Global, start: [u8; 3], blocks: &[(u8, u32)]) -> Vec<u8> {
     let mut entries = Vec::new(alloc);
     let (mut count, mut offset): (u32, u32) = (0, 0);

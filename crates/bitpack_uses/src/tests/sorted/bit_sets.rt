@@ -201,7 +201,7 @@ fn joined(rt: &impl Abort, alloc: Global, rule: u32, one: &[u32], other: &[u32])
     values
 }
 
-/// Takes all values by pages of 70.
+/// Reads all values by pages of 70.
 fn pages<C: SortedCursor>(rt: &impl Abort, alloc: Global, cursor: C, expected: usize) -> Vec<u32> {
     let mut cursor = cursor;
     let mut found = Vec::new(alloc);
@@ -252,7 +252,7 @@ fn has_joined<A: SortedCursor, B: SortedCursor>(
     }
 }
 
-/// Keeps the values that a cursor has, or lacks.
+/// Retains the values that a cursor has, or lacks.
 fn keeps<C: SortedCursor>(
     rt: &impl Abort,
     alloc: Global,
@@ -274,7 +274,7 @@ fn keeps<C: SortedCursor>(
     same_values(rt, &own, expected);
 }
 
-/// Two lists as one by each rule and in each way; a list and a slice; and the values of one in their place.
+/// Two lists as one by each rule and in each way; a list and a slice; and the values of one in a slice.
 fn pair<P: BitPacker, Q: BitPacker>(
     rt: &impl Abort,
     alloc: Global,
@@ -307,7 +307,7 @@ fn pair<P: BitPacker, Q: BitPacker>(
     bits
 }
 
-/// Lists of each packer, whose first values are up to 200 apart. Some blocks of theirs are sets of bits, which cursors have at hand.
+/// Lists of each packer, whose first values are up to 200 apart. Some blocks of theirs are sets of bits, which cursors have as bits.
 fn pairs(rt: &impl Abort, alloc: Global, seed: u32, first: u32) {
     let mut numbers = Numbers::new(seed);
     let mut bits = 0usize;

@@ -24,7 +24,7 @@ const STEPS: [(u32, u32, u32); 6] = [
     (1, 1, 64),
 ];
 
-/// Keeps what a cursor has, or lacks: these values are to be in front then.
+/// Retains what a cursor has, or lacks: these values are to be in front then.
 fn keeps<C: SortedCursor>(
     rt: &impl Abort,
     alloc: Global,
@@ -46,7 +46,7 @@ fn keeps<C: SortedCursor>(
     same_values(rt, &own, expected);
 }
 
-/// The text of a list of four lanes that has each value as often as this.
+/// A list of four lanes that has each value as often as this.
 fn text_of(rt: &impl Abort, alloc: Global, values: &[u32], times: u32) -> Vec<u8> {
     let mut all = Vec::new(alloc);
     for value in values {
@@ -65,7 +65,7 @@ fn text_of(rt: &impl Abort, alloc: Global, values: &[u32], times: u32) -> Vec<u8
     text
 }
 
-/// Keeps what a slice has, what lists have that repeat no value or each, and what a cursor has that shows one value at a time.
+/// Retains what a slice has, what lists have that repeat no value or each, and what a cursor has that shows one value at a time.
 fn keeps_all(
     rt: &impl Abort,
     alloc: Global,
@@ -83,7 +83,7 @@ fn keeps_all(
     }
 }
 
-/// Of values in steps keeps those that others in steps have, or lack.
+/// Of values in steps retains those that others in steps have, or lack.
 fn keeps_steps(
     rt: &impl Abort,
     alloc: Global,

@@ -1,4 +1,4 @@
-//! Any number of cursors as one, and items that lists keep, against plain sets.
+//! Any number of cursors as one, and items that lists retain, against plain sets.
 
 use super::{COUNT, SETS, are_those, has, has_those, numbers_of, opened, slice, texts};
 use crate::and_query::{Ids, collect};
@@ -80,7 +80,7 @@ fn each_pair_and_triple_as_many(rt: HostRuntime) {
     }
 }
 
-/// Sixteen sets: one in each place, and in the other places another.
+/// Sixteen sets: one at each index, and at the other indexes another.
 fn sixteen(rt: &impl Abort, alloc: Global, texts: &[Vec<u8>], set: u32, other: u32) {
     for place in [0, 7, 15] {
         let mut sets = [other; 16];

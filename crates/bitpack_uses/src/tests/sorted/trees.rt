@@ -296,7 +296,7 @@ fn five_thousand(rt: &impl Abort, alloc: Global, seed: u32) {
     }
 }
 
-// Together these are 20,000 trees. In one test they take longer than the minute that `rt try` gives a test.
+// Together these are 20,000 trees. One test with all of them would run longer than the minute that `rt try` allows.
 #[test]
 fn trees_from_seed_6(rt: HostRuntime) {
     five_thousand(&rt, rt.alloc(), 6);

@@ -1,4 +1,4 @@
--- The words stored are in place, and all others are as they were.
+-- The words stored are at their indexes, and all others are unchanged.
 use Rattle.std.proofs.Common.{◌<◌, length, ◌∙◌, ap, arith}
 use Rattle.bitpacking.specs.Words.{word}
 use Rattle.bitpacking.proofs.WordsOfParts.{word-row_stored, word-row_before, drop-row}

@@ -1,4 +1,4 @@
--- The bytes are the text of one list, and the block that is found is of it.
+-- The bytes encode one list, and the block that is found is of it.
 use Rattle.std.proofs.Common.{◌≡◌, ◌-◌, ◌*◌, ◌<◌, ◌≤◌, length, get_or, sym}
 use Rattle.bitpack_lists.specs.Opened.{CanSearch, kind_of, values}
 use Rattle.bitpack_lists.specs.Parts.{whole_blocks}

@@ -1,4 +1,4 @@
--- The call says of the texts of each version what C is told.
+-- The call says of the lists of each version what C is told.
 use Rattle.bitpacking_c.proofs.list_packing.pack.Goals as goal
 
 pub returns-clause-packs : goal.returns-clause-packs

@@ -1,4 +1,4 @@
--- The call says of the texts of each version what C is told.
+-- The call says of the lists of each version what C is told.
 use Rattle.bitpacking_c.proofs.list_packing.size.Goals as goal
 
 pub returns-clause-size : goal.returns-clause-size

@@ -1,4 +1,4 @@
--- The first of the values that are sorted are kept.
+-- The first of the values that are sorted are retained.
 use Rattle.std.proofs.Common.{arith}
 use Rattle.bitpacking_c.proofs.SettleSteps.{some_kept}
 use Rattle.bitpacking_c.proofs.list_rounds.room_for.Goals as goal

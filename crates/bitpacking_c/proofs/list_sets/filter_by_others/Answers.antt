@@ -1,4 +1,4 @@
--- Each other list takes away what it lacks.
+-- Each other list removes what it lacks.
 use Rattle.std.proofs.Common.{◌≡◌, ℕ, ◌<◌, ◌&&◌, List, get_or, length, take, ◌∙◌, ap, arith, rules}
 use Rattle.std.proofs.lemmas.List.{length-take-le, take-append-le, take_all}
 use Rattle.bitpack_sorted.specs.Increasing.{has}

@@ -1,4 +1,4 @@
--- Each list takes its length from the room.
+-- The length of each list is subtracted from the room.
 use Rattle.std.proofs.Common.{◌≡◌, ℕ, ◌<◌, get_or, length, sym, arith, rules}
 use Rattle.std.proofs.lemmas.List.{drop_all}
 use Rattle.bitpacking_c.specs.Sets.{HasLength, values_at}

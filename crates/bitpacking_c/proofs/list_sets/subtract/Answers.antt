@@ -1,4 +1,4 @@
--- Each list but the first takes away what it has.
+-- Each list but the first removes what it has.
 use Rattle.std.proofs.Common.{◌≡◌, ℕ, ◌<◌, ◌++◌, drop, List, get_or, length, take, ◌∙◌, ap, arith, rules}
 use Rattle.std.proofs.lemmas.List.{length-append, take-append-le}
 use Rattle.bitpack_sorted.specs.Increasing.{has}

@@ -1,4 +1,4 @@
--- Each list is written after those before it, and takes no more room than its length.
+-- Each list is written after those before it, and needs no more room than its length.
 use Rattle.std.proofs.Common.{◌≡◌, ℕ, ◌-◌, ◌<◌, ◌≤◌, List, get_or, length, take, ◌∙◌, ap, arith, rules}
 use Rattle.std.proofs.lemmas.List.{length-take-le, take_all}
 use Rattle.bitpack_sorted.specs.Increasing.{has}

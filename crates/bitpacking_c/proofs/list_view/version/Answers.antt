@@ -1,4 +1,4 @@
--- What opening found says the version that the text says.
+-- What opening found says the version that the bytes say.
 use Rattle.bitpacking_c.proofs.list_view.version.Goals as goal
 
 pub returns : goal.returns

@@ -1,4 +1,4 @@
--- The bits of the last word from the place of the count on are cleared.
+-- The bits of the last word from the number of the count on are cleared.
 use Rattle.std.proofs.Common.{◌/◌, ◌<◌, length, arith}
 use Rattle.bitpacking_c.proofs.WordSteps.{bits_cleared, bits_kept}
 use Rattle.bitpacking_c.proofs.list_windows.clear_after.Goals as goal

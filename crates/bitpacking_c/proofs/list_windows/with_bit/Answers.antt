@@ -1,4 +1,4 @@
--- The bit of the place is set, and the others are as they were.
+-- The bit of this number is set, and the others are unchanged.
 use Rattle.bitpacking_c.proofs.WindowSteps.{with_bit}
 use Rattle.bitpacking_c.proofs.list_windows.with_bit.Goals as goal
 

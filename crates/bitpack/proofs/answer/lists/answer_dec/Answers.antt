@@ -1,4 +1,4 @@
--- An opened list is the one that its text has.
+-- An opened list is the one that its bytes encode.
 use Rattle.std.proofs.Common.{refl, rules}
 use Rattle.bitpack_lists.specs.Opened.{kind_of, values}
 use Rattle.bitpack.proofs.ListAnswers.{second_listed}

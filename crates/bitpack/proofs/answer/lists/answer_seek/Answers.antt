@@ -1,4 +1,4 @@
--- An opened list is the one that its text has.
+-- An opened list is the one that its bytes encode.
 use Rattle.std.proofs.lemmas.Result.{IfOk-weaker}
 use Rattle.bitpack_lists.specs.Opened.{kind_of, values}
 use Rattle.bitpack.specs.Answers.{printed}

@@ -1,4 +1,4 @@
--- A refusal is the first fault of the text, or that of the first value out of order.
+-- A refusal is the first fault of the bytes, or the one of the first value out of order.
 use Rattle.std.proofs.Common.{◌≡◌, ◌+◌, ◌∙◌, ap, rules}
 use Rattle.std.proofs.lemmas.Result.{IfOk-weaker}
 use Rattle.bitpacking.proofs.ForCallers.{AreBytes-from_slice}

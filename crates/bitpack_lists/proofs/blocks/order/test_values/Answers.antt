@@ -30,7 +30,7 @@ loop-index-init g c =
       next = record { first = λ _. c.first-block_kind.ensures; next = λ lt. absurd (omega (arith, none, lt)) };
     }
 
--- A width that was kept fits the codes.
+-- A cached width fits the codes.
 width_fits : (lanes blocks i : ℕ) (kind : Kind) (left widths block : List ℕ) → i < blocks → i < length widths → block ≡ take (32 * lanes) left → AreWords block
     → LeastWidths lanes kind left (drop i (take blocks widths)) → (get_or widths i 0 ≤ 32) × Fits (codes kind block) (get_or widths i 0)
 width_fits lanes blocks i kind left widths block below lt is words least =

@@ -1,4 +1,4 @@
--- The values so far are in order, and the widths of those that are left were kept.
+-- The values so far are in order, and the widths of those that are left are cached.
 use Rattle.std.proofs.Common.{◌≡◌, ◌*◌, length, take, drop, get_or}
 use Rattle.bitpack_lists.specs.Chains.{LeastWidths}
 use Rattle.bitpack_lists.specs.Parts.{whole_blocks}

@@ -1,4 +1,4 @@
--- A text without a fault is that of the list that it states.
+-- Bytes without a fault encode the list that they state.
 use Rattle.std.proofs.Common.{subst, ◌∙◌}
 use Rattle.bitpacking.specs.Bits.{AreBytes}
 use Rattle.bitpack_lists.specs.Owned.{bytes_of_buf, version_of_buf}

@@ -1,4 +1,4 @@
--- What was encoded is the whole text.
+-- What was encoded is the whole list.
 use Rattle.std.proofs.Common.{◌≡◌, ℕ, ◌≤◌, List, ◌++◌, sym, subst, ◌∙◌, ap}
 use Rattle.bitpacking.specs.Bits.{AreBytes}
 use Rattle.bitpack_lists.specs.declared.list_kind.ListKind.{ListKind}

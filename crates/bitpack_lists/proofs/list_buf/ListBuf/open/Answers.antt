@@ -1,4 +1,4 @@
--- A text of version 2 has no fault as one of any version.
+-- A version 2 list has no fault as one of any version.
 use Rattle.std.proofs.Common.{◌≡◌, None, rules}
 use Rattle.bitpack_lists.specs.declared.version.Version.TheVariants as versions
 use Rattle.bitpack_lists.specs.Version2.{fault2}

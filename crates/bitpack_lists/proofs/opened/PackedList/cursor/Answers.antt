@@ -1,4 +1,4 @@
--- The values of an opened list are those of its text, and in order if it is not plain.
+-- The values of an opened list are the ones that its bytes encode, and in order if it is not plain.
 use Rattle.bitpack_lists.proofs.lemmas.opened.BlockPlaces.{once_first}
 use Rattle.bitpack_lists.proofs.lemmas.opened.OpenedValues.{opened_list}
 use Rattle.bitpack_lists.proofs.lemmas.opened.ReadParts.{can_search}

@@ -1,4 +1,4 @@
--- The version is that of its number, and what is kept of the bytes is what the outline says.
+-- The version is that of its number, and what is stored of the bytes is what the outline says.
 use Rattle.std.proofs.Common.{◌≡◌, ◌-◌, ℕ, List, length, take, drop, ◌∙◌, ap, refl}
 use Rattle.std.proofs.lemmas.List.{take_rest}
 use Rattle.bitpack_lists.specs.Outlines.{kind_of_tail, version_of_number}

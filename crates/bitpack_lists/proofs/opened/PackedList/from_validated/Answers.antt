@@ -1,4 +1,4 @@
--- The header of a text without a fault has none.
+-- The header of bytes without a fault has none.
 use Rattle.std.proofs.Common.{◌≡◌, ℕ, List, None, get_or, subst}
 use Rattle.bitpacking.specs.Bits.{AreBytes}
 use Rattle.bitpacking.proofs.ForCallers.{AreBytes-from_slice}

@@ -1,4 +1,4 @@
--- The list is that of its text, of the version that its first byte says.
+-- The list is the one of its bytes, of the version that the first byte says.
 use Rattle.std.proofs.Common.{◌≡◌, ℕ, List, subst, rules}
 use Rattle.bitpack_lists.specs.Opened.{kind_of, values, version_of}
 use Rattle.bitpack_lists.specs.Texts.{IsText, IsTextOfNoOther, version_in}

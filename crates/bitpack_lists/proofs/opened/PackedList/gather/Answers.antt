@@ -1,4 +1,4 @@
--- The value at the next position is in the block that is now at hand.
+-- The value at the next position is in the block that is cached now.
 use Rattle.std.proofs.Common.{◌≡◌, ◌+◌, ◌-◌, ◌*◌, ◌/◌, ◌%◌, ◌<◌, ℕ, List, Some, length, get_or, sym, ◌∙◌, ap, arith}
 use Rattle.std.specs.List.{slice_get}
 use Rattle.std.proofs.lemmas.List.{drop-set-lt, length-set}

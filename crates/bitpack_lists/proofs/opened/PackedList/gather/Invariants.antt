@@ -1,4 +1,4 @@
--- The values at the positions so far were written, and the block of the last of them is at hand.
+-- The values at the positions so far were written, and the block of the last of them is cached.
 use Rattle.std.proofs.Common.{◌≡◌, ◌+◌, ◌-◌, ◌*◌, ◌/◌, ◌<◌, ◌≤◌, ℕ, length, drop, get_or, Some}
 use Rattle.std.specs.List.{slice_get}
 use Rattle.bitpack_lists.specs.Opened.{values}

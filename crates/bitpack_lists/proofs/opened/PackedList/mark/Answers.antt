@@ -1,4 +1,4 @@
--- The entries, or the marks, are within the text.
+-- The skip entries, or the marks, are within the bytes.
 use Rattle.std.proofs.Common.{◌≡◌, ◌*◌, sym, ◌∙◌, arith}
 use Rattle.bitpack_lists.proofs.lemmas.opened.OpenedLists.{opened_mark, opened_mark4, opened_marks4, opened_room}
 use Rattle.bitpack_lists.proofs.opened.PackedList.mark.Goals as goal

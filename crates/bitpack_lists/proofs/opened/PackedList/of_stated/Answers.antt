@@ -1,4 +1,4 @@
--- The header and the blocks end within the text.
+-- The header and the blocks end within the bytes.
 use Rattle.std.proofs.Common.{length, ap, arith}
 use Rattle.std.proofs.lemmas.List.{take_rest}
 use Rattle.bitpack_lists.proofs.opened.PackedList.of_stated.Goals as goal

@@ -1,4 +1,4 @@
--- The header is at the front of the text, and the tail at its end.
+-- The header is at the front of the bytes, and the tail at their end.
 use Rattle.std.proofs.Common.{◌≡◌, ◌+◌, ◌-◌, ◌*◌, ◌%◌, ◌≤◌, ℕ, List, length, take, drop, None, refl, sym, ◌∙◌, ap, arith}
 use Rattle.std.proofs.lemmas.List.{length-drop, take_all}
 use Rattle.bitpacking.proofs.ForCallers.{AreBytes-from_slice}

@@ -1,4 +1,4 @@
--- The kind and the values of an opened list are those of its text.
+-- The kind and the values of an opened list are the ones that its bytes encode.
 use Rattle.std.proofs.Common.{subst}
 use Rattle.bitpack_lists.specs.declared.version.Version.TheVariants as versions
 use Rattle.bitpack_lists.specs.Opened.{kind_of, values}

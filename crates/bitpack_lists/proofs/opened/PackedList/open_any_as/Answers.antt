@@ -1,4 +1,4 @@
--- A text without a fault is of one kind, which its header gives.
+-- Bytes without a fault are of one kind, which the header states.
 use Rattle.std.proofs.Common.{◌≡◌, sym, ◌∙◌, subst, rules}
 use Rattle.bitpacking.proofs.ForCallers.{AreBytes-from_slice}
 use Rattle.bitpack_lists.specs.Opened.{values}

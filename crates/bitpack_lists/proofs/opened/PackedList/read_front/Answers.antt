@@ -1,4 +1,4 @@
--- A fault of the first groups would be one of the text, and their values are those of its tail.
+-- A fault of the first groups would be one of the bytes, and their values are values of the tail.
 use Rattle.std.proofs.Common.{◌≡◌, ◌*◌, length, ◌∙◌, ap}
 use Rattle.bitpacking.specs.Codes.{values_of}
 use Rattle.bitpack_lists.proofs.lemmas.opened.OpenedLists.{front_right, front_values}

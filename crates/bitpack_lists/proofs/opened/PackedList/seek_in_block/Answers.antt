@@ -6,7 +6,7 @@ use Rattle.bitpack_lists.proofs.lemmas.opened.ReadParts.{in_order_from_kind, par
 use Rattle.bitpack_lists.proofs.lemmas.opened.OpenedLists.{opened_inside, opened_search}
 use Rattle.bitpack_lists.proofs.opened.PackedList.seek_in_block.Goals as goal
 
--- What is kept is the block of the number.
+-- What is cached is the block of the number.
 kept_values : (len n number at : ℕ) (block : ℕ → List ℕ) (kept : List ℕ) → len ≡ n → at ≡ number → take n kept ≡ block at → take len kept ≡ block number
 kept_values len n number at block kept whole same is = ap (λ m. take m kept) whole ∙ is ∙ ap block same
 

@@ -1,4 +1,4 @@
--- The body of a block is within the text, and gives the block.
+-- The body of a block is within the bytes, and unpacks to the block.
 use Rattle.std.proofs.Common.{◌≡◌, ◌*◌, ℕ, sym, ◌∙◌, ap}
 use Rattle.bitpacking.specs.Codes.{values_of}
 use Rattle.bitpack_lists.specs.Version4.{body_at4, body_values, mark_at, size_at}

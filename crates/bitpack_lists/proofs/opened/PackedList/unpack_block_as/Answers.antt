@@ -1,4 +1,4 @@
--- The entry and the body of a block are within the text.
+-- The skip entry and the body of a block are within the bytes.
 use Rattle.std.proofs.Common.{◌≡◌, ◌*◌, ℕ, ◌∙◌, arith}
 use Rattle.bitpack_lists.specs.inner.Searching.{blocks_of, rest_of}
 use Rattle.bitpack_lists.proofs.lemmas.opened.OpenedLists.{opened_room, opened_sound}

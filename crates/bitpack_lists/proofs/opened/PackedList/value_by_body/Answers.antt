@@ -1,4 +1,4 @@
--- What the text says of the block gives its values.
+-- What the bytes say of the block determines its values.
 use Rattle.std.proofs.Common.{◌≡◌, ◌*◌, ◌/◌, ℕ, List, get_or, sym, ◌∙◌, ap, arith}
 use Rattle.bitpacking.specs.declared.kind.Kind.{Kind}
 use Rattle.bitpack_lists.specs.Version4.{body_at4, body_values, mark_at, size_at}

@@ -1,4 +1,4 @@
--- The codes of the block give its values.
+-- The codes of the block determine its values.
 use Rattle.std.proofs.Common.{ℕ, take, get_or, sym, ◌∙◌, ap}
 use Rattle.bitpacking.specs.Codes.{values_of}
 use Rattle.bitpack_lists.specs.inner.BlockCodes.{codes_of_list}

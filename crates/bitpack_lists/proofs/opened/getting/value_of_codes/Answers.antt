@@ -1,4 +1,4 @@
--- The value at the index is the last of those that the first codes give.
+-- The value at the index is the last of the values of the first codes.
 use Rattle.std.proofs.Common.{◌≡◌, ◌+◌, ◌-◌, ◌%◌, ◌^◌, ◌<◌, ℕ, List, length, take, get_or, sym, ◌∙◌, ap, refl, arith}
 use Rattle.std.specs.Prelude.{unwrap_or}
 use Rattle.std.proofs.lemmas.List.{get_or-take, length-take}

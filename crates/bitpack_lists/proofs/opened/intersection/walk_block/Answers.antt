@@ -1,4 +1,4 @@
--- A block is unpacked and its values met, or all of them are below what is wanted.
+-- A block is unpacked and its values visited, or all of them are below what is wanted.
 use Rattle.std.proofs.Common.{◌≡◌, ◌+◌, ◌-◌, ◌*◌, ℕ, length, take, refl, sym, ◌∙◌, ap, vec_capacity, arith}
 use Rattle.bitpack_lists.specs.inner.Walks.{values_in}
 use Rattle.bitpack_lists.proofs.lemmas.opened.OpenedLists.{opened_last}

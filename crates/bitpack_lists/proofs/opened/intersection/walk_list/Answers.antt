@@ -1,4 +1,4 @@
--- The walk begins with no value met, and ends with all of them.
+-- The walk begins with no value visited, and ends with all of them.
 use Rattle.std.proofs.Common.{◌≡◌, ◌*◌, ◌/◌, ◌<◌, ℕ, ◌∙◌, ap, vec_capacity, arith, add-one}
 use Rattle.bitpack_lists.specs.Chains.{next_kind}
 use Rattle.bitpack_lists.specs.inner.Searching.{blocks_of}

@@ -1,4 +1,4 @@
--- The blocks before the number were met or passed over, none of them with more than one mark and one block read.
+-- The blocks before the number were visited or skipped, none of them with more than one mark and one block read.
 use Rattle.std.proofs.Common.{◌≡◌, ◌+◌, ◌*◌, ◌≤◌}
 use Rattle.bitpack_lists.specs.Search.{HasGrown}
 use Rattle.bitpack_lists.specs.inner.Searching.{kind_of_list}

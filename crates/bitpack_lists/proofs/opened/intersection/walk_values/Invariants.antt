@@ -1,4 +1,4 @@
--- The values before the index were met.
+-- The values before the index were visited.
 use Rattle.bitpack_lists.specs.inner.Walks.{AreNext, IsWalking, Stage, further}
 use Rattle.bitpack_lists.proofs.opened.intersection.walk_values.Given as goal
 

@@ -1,4 +1,4 @@
--- A text without a fault is that of the values appended; each failure is the fault, or Memory.
+-- Bytes without a fault encode the values appended; each failure is the fault, or Memory.
 use Rattle.std.proofs.Common.{◌≡◌, ◌-◌, ◌++◌, ℕ, List, length, take, drop, refl, sym, ◌∙◌, ap, subst, arith}
 use Rattle.std.proofs.lemmas.List.{take_all, length-drop}
 use Rattle.std.proofs.lemmas.Result.{err_from_is_err_and}

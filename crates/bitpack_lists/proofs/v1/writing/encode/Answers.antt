@@ -1,4 +1,4 @@
--- There is room for the text, and header, blocks and tail are it.
+-- There is room for the encoded list, which is header, blocks and tail.
 use Rattle.std.proofs.Common.{◌≡◌, ◌/◌, ◌<◌, ◌++◌, ◌^◌, ℕ, List, length, sym, ◌∙◌, ap, arith, append_assoc}
 use Rattle.std.proofs.lemmas.List.{length-append}
 use Rattle.bitpacking.specs.Codes.{AreWords}

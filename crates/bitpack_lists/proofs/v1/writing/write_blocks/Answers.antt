@@ -21,7 +21,7 @@ loop-index-init g c = record {
   written = λ text small blocks. (text, small, rw sub-zero blocks, refl);
 }
 
--- The values have a text, and there is room for it.
+-- The values have an encoded list, and there is room for it.
 module _ (lanes : ℕ) (kind : Kind) (values : List ℕ) (len old capacity : ℕ) (some : 1 ≤ lanes) (whole : len ≡ 32 * lanes) (words : AreWords values)
     (room : (text : List ℕ) → Blocks1 lanes (whole_blocks lanes (length values)) kind values text → old + length text ≤ capacity) where
   text_with_room : (text : List ℕ) × AreBytes text × Blocks1 lanes (length values / len) kind values text × (old + length text ≤ capacity)

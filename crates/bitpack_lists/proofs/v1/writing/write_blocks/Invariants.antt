@@ -1,4 +1,4 @@
--- What was written and what is left of the text are the text.
+-- What was written and what is left of the encoded list are the whole of it.
 use Rattle.std.proofs.Common.{◌≡◌, ◌+◌, ◌-◌, ◌*◌, ◌≤◌, ◌++◌, ℕ, List, length, take, drop, vec_capacity}
 use Rattle.bitpacking.specs.Bits.{AreBytes}
 use Rattle.bitpack_lists.specs.Version1.{Blocks1}

@@ -1,4 +1,5 @@
--- The values are those of the text; header, entries, bodies and tail are their text of version 2, for which there is room.
+-- The values are those of the bytes; header, skip entries, bodies and tail are their version 2 list, for which there is
+-- room.
 use Rattle.std.proofs.Common.{◌≡◌, ◌+◌, ◌-◌, ◌*◌, ◌/◌, ◌≤◌, ◌++◌, ℕ, List, length, take, drop, Some, None, refl, sym, ◌∙◌, ap, arith, append_assoc}
 use Rattle.std.proofs.lemmas.List.{length-append, length-drop}
 use Rattle.bitpacking.specs.Bits.{AreBytes}
@@ -18,7 +19,7 @@ use Rattle.bitpack_lists.proofs.lemmas.v2.Upgraded.{length_upgraded}
 use Rattle.bitpack_lists.proofs.lemmas.v2.UpgradeSteps.{enough_left, none_from_ok}
 use Rattle.bitpack_lists.proofs.v2.upgrading.upgrade.Goals as goal
 
--- ---- bytes with a fault of version 1 are no text
+-- ---- bytes with a fault of version 1 encode no list
 
 pub returns-in_err-header-clause-order : goal.returns-in_err-header-clause-order
 returns-in_err-header-clause-order g c = λ kind values list.
@@ -114,7 +115,7 @@ write_entries-requires-clause-room g c =
       c.reserve.ensures.len,
     )
 
--- The values of the text.
+-- The values of the bytes.
 module _ (lanes count : ℕ) (kind : ListKind) (bytes : List ℕ) (some : 1 ≤ lanes) (small : AreBytes bytes) (begins : BeginsWithHeader 1 lanes kind count bytes)
     (none : fault1 lanes bytes ≡ None) where
   values : List ℕ
@@ -192,7 +193,7 @@ append-requires g c =
       );
     }
 
--- ---- the text
+-- ---- the encoded list
 
 pub returns-clause-ok : goal.returns-clause-ok
 returns-clause-ok g c =

@@ -1,4 +1,4 @@
--- What the test says of the values is the length of their text of version 3, for which there is room, and its parts are that text.
+-- What the test says of the values is the length of their version 3 list, for which there is room, and its parts are that list.
 use Rattle.std.proofs.Common.{◌≡◌, ◌+◌, ◌-◌, ◌*◌, ◌/◌, ◌%◌, ◌^◌, ◌<◌, ◌≤◌, ◌++◌, ℕ, Bool, List, length, take, drop, refl, sym, ◌∙◌, ap, arith, append_assoc}
 use Rattle.std.proofs.lemmas.List.{length-drop, length-take-le, take_all}
 use Rattle.std.proofs.lemmas.List.Elements.{All-drop}
@@ -23,7 +23,7 @@ use Rattle.bitpack_lists.proofs.v3.upgrading.upgrade.Goals as goal
 lent : (bytes : List ℕ) → take (length bytes - 7) (drop 7 bytes) ≡ drop 7 bytes
 lent bytes = take_all (length bytes - 7) (drop 7 bytes) (omega (arith, length-drop 7 bytes))
 
--- What the test says of any values that have the bytes as their text, of which there are some.
+-- What the test says of any values that the bytes encode, and there are some.
 record Says (lanes count whole : ℕ) (two : Bool) (kind : ListKind) (tail_kind : Kind) (bytes : List ℕ) : Type 0 where
   some : (values : List ℕ) × IsOlder lanes kind values bytes
   all : (kind' : ListKind) (values : List ℕ) → IsOlder lanes kind' values bytes
@@ -68,7 +68,7 @@ module _ (lanes len count whole : ℕ) (two : Bool) (kind : ListKind) (tail_kind
         let (same, states, of) = says.all kind' values older in
         codes_of_tail lanes count whole kind' tail_kind values (codes tail_kind (left values)) states refl
 
-    -- ---- how long the text is
+    -- ---- how long the encoded list is
 
     text_long : (kind' : ListKind) (values text : List ℕ) → IsOlder lanes kind' values bytes → List3 lanes kind' values text
         → length text ≡ length (header3 kind lanes count) + whole + length tail
@@ -165,7 +165,7 @@ append-requires-2 g c = record {
       );
 }
 
--- ---- the text
+-- ---- the encoded list
 
 pub returns-clause-ok : goal.returns-clause-ok
 returns-clause-ok g c =

@@ -1,4 +1,4 @@
--- Each turn takes the lowest bit that is 1 away.
+-- Each turn clears the lowest bit that is 1.
 use Rattle.std.proofs.Common.{◌+◌, ◌*◌, ◌<◌, length, arith, rules}
 use Rattle.bitpack_lists.specs.inner.BitWords.{ones_to}
 use Rattle.bitpack_lists.proofs.lemmas.v4.SearchBits.{lacks_more, lacks_none, lowest_count, lowest_one, some_left}

@@ -1,4 +1,4 @@
--- The bit that was found has the index that is asked for.
+-- The bit that was found has the index that is wanted.
 use Rattle.std.proofs.Common.{◌≡◌, length, arith}
 use Rattle.bitpack_lists.specs.inner.BitWords.{ones_to}
 use Rattle.bitpack_lists.proofs.lemmas.v4.OnePlaces.{value_is}

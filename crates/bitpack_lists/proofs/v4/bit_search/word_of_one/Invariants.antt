@@ -1,4 +1,4 @@
--- The bits of the words so far are counted, and the word at hand too.
+-- The bits of the words so far are counted, and the current word too.
 use Rattle.std.proofs.Common.{◌≡◌, ◌+◌, ◌-◌, ◌*◌, ◌%◌, ◌≤◌, length}
 use Rattle.bitpack_lists.specs.inner.BitWords.{ones_to}
 use Rattle.bitpack_lists.proofs.v4.bit_search.word_of_one.Given as goal

@@ -1,4 +1,4 @@
--- Each turn sets the bit of one value more, in the word at hand or in a later one.
+-- Each turn sets the bit of one value more, in the current word or in a later one.
 use Rattle.std.proofs.Common.{length, arith, rules, refl, ◌∙◌}
 use Rattle.bitpack_lists.proofs.lemmas.v4.PackSteps.{can_pack, packs_all, packs_more, place_room}
 use Rattle.bitpack_lists.proofs.v4.bit_set.pack_bits.Goals as goal

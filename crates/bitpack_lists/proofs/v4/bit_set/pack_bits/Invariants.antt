@@ -1,4 +1,4 @@
--- The bits of the values so far are 1, and the word of the last of them is at hand.
+-- The bits of the values so far are 1, and the word of the last of them is the current one.
 use Rattle.bitpack_lists.proofs.lemmas.v4.PackSteps.{Packs}
 use Rattle.bitpack_lists.proofs.v4.bit_set.pack_bits.Given as goal
 

@@ -1,4 +1,4 @@
--- The zeros in the room that is reserved become the text.
+-- The zeros in the room that is reserved become the encoded list.
 use Rattle.std.proofs.Common.{rules, ◌≡◌, ◌++◌, ℕ, List, length, replicate, Err, refl, sym, ◌∙◌, ap, arith}
 use Rattle.std.proofs.lemmas.List.{length-replicate}
 use Rattle.std.proofs.lemmas.Result.{err_from_is_err_and}
@@ -45,7 +45,7 @@ returns-then-is_err g c = record {
   kept = search rules;
 }
 
--- ---- the text
+-- ---- the encoded list
 
 pub fill_text-requires-clause-planned : goal.fill_text-requires-clause-planned
 fill_text-requires-clause-planned g c =

@@ -1,4 +1,4 @@
--- The length that was measured is that of the text.
+-- The length that was measured is the one of the encoded list.
 use Rattle.std.proofs.Common.{rules, Err, refl, ◌∙◌, ap}
 use Rattle.std.proofs.lemmas.Result.{err_from_is_err_and}
 use Rattle.bitpack_lists.proofs.lemmas.writing.WrittenPlans.{size_in}

@@ -1,4 +1,4 @@
--- The text is planned in the version that it is written in.
+-- The list is planned in the version that it is written in.
 use Rattle.std.proofs.Common.{◌≡◌, ◌*◌, ◌<◌, ◌≤◌, ℕ, Bool, List, true, false, sym, ◌∙◌, arith, rules}
 use Rattle.std.specs.Prelude.{nat_lt}
 use Rattle.std.proofs.lemmas.Bool.{ltb-false, ltb-true}

@@ -1,4 +1,4 @@
--- The text is written if the slice has room for it.
+-- The list is written if the slice has room for it.
 use Rattle.std.proofs.Common.{rules, ◌≡◌, ℕ, List, length, Some, None, Err, refl, sym, ◌∙◌, ap, arith}
 use Rattle.std.proofs.lemmas.List.{length-take-le}
 use Rattle.std.proofs.lemmas.Result.{err_from_is_err_and}
@@ -35,7 +35,7 @@ returns-then-bytes-size g c = record {
   unchanged = search rules;
 }
 
--- ---- the text
+-- ---- the encoded list
 
 pub fill_text-requires-clause-planned : goal.fill_text-requires-clause-planned
 fill_text-requires-clause-planned g c =

@@ -11,7 +11,7 @@ use Rattle.bitpack_lists.proofs.lemmas.v4.Rests4.{sound_bodies}
 use Rattle.bitpack_lists.proofs.lemmas.v4.Soundness4.{header_right4, sound_from_none4}
 use Rattle.bitpack_lists.proofs.v4.opening.stated4.Goals as goal
 
--- What the text says, as the code reads it.
+-- What the bytes say, as the code reads them.
 module _ (lanes count end len : ℕ) (bytes : List ℕ) (some : 1 ≤ lanes) (small : AreBytes bytes) (none : fault4 lanes bytes ≡ None) (count_is : count ≡ count4 bytes)
     (end_is : end ≡ header_end4 bytes) (whole : len ≡ 32 * lanes) where
   rest_is : take (length bytes - end) (drop end bytes) ≡ drop (header_end4 bytes) bytes

@@ -1,4 +1,4 @@
--- Each block is the one that its body gives: the first with a fault is found, and the first value out of order.
+-- Each block is the one of its body: the first with a fault is found, and the first value out of order.
 use Rattle.std.proofs.Common.{◌≡◌, ◌+◌, ◌-◌, ◌*◌, ◌/◌, ◌<◌, ◌≤◌, ℕ, List, length, get_or, None, refl, sym, subst, ◌∙◌, ap, arith}
 use Rattle.std.proofs.lemmas.Result.{err_from_is_err_and}
 use Rattle.bitpacking.specs.declared.kind.Kind.{Kind}

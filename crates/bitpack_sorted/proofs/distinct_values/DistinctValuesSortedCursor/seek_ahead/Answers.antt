@@ -1,4 +1,4 @@
--- Without bits the cursor moves, and the values that are left are those from its place on.
+-- Without bits the cursor moves, and the values that are left are those from its position on.
 use Rattle.std.proofs.Common.{◌≡◌, ℕ, drop, ◌∙◌, ap}
 use Rattle.bitpack_lists.specs.Cursors.{position, values_left, values_of_cursor}
 use Rattle.bitpack_lists.specs.Opened.{values}

@@ -1,4 +1,4 @@
--- All values are at hand.
+-- All values are the current block.
 use Rattle.bitpack_sorted.proofs.FrontLemmas.{slice_front}
 use Rattle.bitpack_sorted.proofs.SliceSteps.{increasing_order}
 use Rattle.bitpack_sorted.proofs.increasing_slice.IncreasingSliceSortedCursor.block.Goals as goal

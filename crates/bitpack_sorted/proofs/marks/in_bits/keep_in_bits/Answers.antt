@@ -1,4 +1,4 @@
--- The bits of the values tell which are kept.
+-- The bits of the values say which are retained.
 use Rattle.std.proofs.Common.{◌≡◌, ◌⊎◌, true, false, w64, rules, inl, inr}
 use Rattle.std.specs.Int.{bit_not}
 use Rattle.bitpack_sorted.proofs.TestSteps.{tested_kept}

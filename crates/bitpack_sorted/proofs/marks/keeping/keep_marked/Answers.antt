@@ -1,4 +1,4 @@
--- What is kept hangs on the first bits alone.
+-- What is retained depends on the first bits alone.
 use Rattle.bitpack_sorted.proofs.FewSteps.{keeping_same}
 use Rattle.bitpack_sorted.proofs.marks.keeping.keep_marked.Goals as goal
 

@@ -1,4 +1,4 @@
--- The text is of version 2, and its list is strictly sorted.
+-- The bytes are of version 2, and their list is strictly sorted.
 use Rattle.std.proofs.Common.{subst}
 use Rattle.bitpack_lists.specs.declared.version.Version.TheVariants as versions
 use Rattle.bitpack_lists.specs.Owned.{bytes_of_buf, kind_of_buf, values_of_buf}

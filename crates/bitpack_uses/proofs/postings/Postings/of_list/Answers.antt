@@ -1,4 +1,4 @@
--- The list in place has the values of its text.
+-- The opened list has the values that its bytes encode.
 use Rattle.std.proofs.Common.{◌∙◌, sym}
 use Rattle.bitpack_lists.specs.declared.list_kind.ListKind.TheVariants.{StrictlySorted}
 use Rattle.bitpack_lists.proofs.ForCallers.{values_are}

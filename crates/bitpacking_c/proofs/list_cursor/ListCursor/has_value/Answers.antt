@@ -1,4 +1,4 @@
--- There is a value of the list if there is one of the place.
+-- There is a value of the list if there is one at the position.
 use Rattle.std.proofs.Common.{sym, ◌∙◌}
 use Rattle.bitpack_lists.proofs.ForCallers.{value_at}
 use Rattle.bitpacking_c.specs.Cursors.{position}

@@ -1,4 +1,4 @@
--- The place moved in the list.
+-- The cursor moved in the list.
 use Rattle.bitpacking_c.proofs.CursorPlaces.{says_no, says_yes}
 use Rattle.bitpacking_c.proofs.list_cursor.ListCursor.move_to.Goals as goal
 

@@ -1,4 +1,4 @@
--- The place moved in the list, which is not plain.
+-- The cursor moved in the list, which is not plain.
 use Rattle.bitpacking_c.proofs.CursorPlaces.{says_no, says_yes, seeks_on}
 use Rattle.bitpacking_c.proofs.list_cursor.ListCursor.seek.Goals as goal
 

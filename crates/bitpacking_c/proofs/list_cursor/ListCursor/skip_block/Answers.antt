@@ -1,4 +1,4 @@
--- The place moved in the list.
+-- The cursor moved in the list.
 use Rattle.bitpacking_c.proofs.list_cursor.ListCursor.skip_block.Goals as goal
 
 pub returns-clause-moved : goal.returns-clause-moved

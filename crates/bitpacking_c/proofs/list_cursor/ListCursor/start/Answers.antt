@@ -1,4 +1,4 @@
--- The place was started in the list of the view.
+-- The cursor was started in the list of the view.
 use Rattle.bitpacking_c.proofs.list_cursor.ListCursor.start.Goals as goal
 
 pub invariant_of-self-clause-at : goal.invariant_of-self-clause-at

@@ -1,4 +1,4 @@
--- The value is that of the place.
+-- The value is the one at the position.
 use Rattle.std.proofs.Common.{◌∙◌}
 use Rattle.bitpack_lists.proofs.ForCallers.{value_at}
 use Rattle.bitpacking_c.specs.ViewLaws.{none_of_zero}

@@ -1,4 +1,4 @@
--- The bytes are the text of the list.
+-- The bytes encode the list.
 use Rattle.std.proofs.Common.{subst}
 use Rattle.bitpack_lists.specs.Opened.{kind_of, values, version_of}
 use Rattle.bitpack_lists.specs.Texts.{IsText, IsTextOfNoOther}

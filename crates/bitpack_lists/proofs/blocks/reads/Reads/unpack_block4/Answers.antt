@@ -1,4 +1,4 @@
--- What is unpacked is what the text says of the block.
+-- What is unpacked is what the bytes say of the block.
 use Rattle.std.proofs.Common.{◌≡◌, ℕ, ◌/◌, List, ◌∙◌, ap}
 use Rattle.bitpack_lists.specs.Version4.{body_values, mark_at, size_at}
 use Rattle.bitpack_lists.proofs.lemmas.blocks.ListLemmas.{lanes-is}

@@ -1,4 +1,4 @@
--- What was unpacked is the block that the body gives.
+-- What was unpacked is the block of the body.
 use Rattle.std.proofs.Common.{◌≡◌, ◌*◌, ◌/◌, ◌<◌, ◌^◌, ℕ, List, length, take, ◌∙◌, ap, arith}
 use Rattle.std.proofs.lemmas.List.{take_all}
 use Rattle.std.proofs.lemmas.List.Elements.{All-take}

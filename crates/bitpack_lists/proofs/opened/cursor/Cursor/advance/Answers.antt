@@ -1,4 +1,4 @@
--- The place is in the list, and no block was unpacked twice.
+-- The position is in the list, and no block was unpacked twice.
 use Rattle.bitpack_lists.proofs.lemmas.opened.BlockPlaces.{once_kept}
 use Rattle.bitpack_lists.proofs.opened.cursor.Cursor.advance.Goals as goal
 

@@ -1,4 +1,4 @@
--- The place is in the list, and no block was unpacked twice.
+-- The position is in the list, and no block was unpacked twice.
 use Rattle.std.proofs.Common.{refl, arith}
 use Rattle.bitpack_lists.specs.Opened.{values}
 use Rattle.bitpack_lists.proofs.lemmas.opened.BlockPlaces.{once_kept}

@@ -1,4 +1,4 @@
--- The place is in the list, no block was unpacked twice, and a block that is left is a whole one.
+-- The position is in the list, no block was unpacked twice, and a block that is left is a whole one.
 use Rattle.std.proofs.Common.{◌<◌, refl, arith}
 use Rattle.bitpack_lists.specs.Opened.{blocks_of, values}
 use Rattle.bitpack_lists.specs.inner.Searching.{value_of}

@@ -1,4 +1,4 @@
--- The value is that of the place.
+-- The value is the one at the position.
 use Rattle.std.proofs.Common.{◌≡◌, length, refl, ◌∙◌, arith}
 use Rattle.bitpack_lists.specs.Opened.{values}
 use Rattle.bitpack_lists.proofs.lemmas.opened.CursorPlaces.{value_at}
