@@ -13,7 +13,8 @@ use Rattle.bitpack_lists.specs.Newest.{IsNewest, IsWritten}
 use Rattle.bitpack_lists.specs.Outlines.{version_number}
 use Rattle.bitpack_lists.specs.Texts.{version_in}
 use Rattle.bitpack_lists.specs.Written.{MeasuresOne, WritesOne}
-use Rattle.bitpacking_c.specs.Views.{fault_number}
+use Rattle.bitpacking_c.specs.declared.list_view.ListView.{ListView}
+use Rattle.bitpacking_c.specs.Views.{IsListOf, fault_number}
 
 -- ---- what is wanted
 
@@ -73,6 +74,13 @@ JoinsList lanes bytes kind values base others room before after answer =
         → WritesOne (IsNewest lanes kind (joined values base others)) kind (joined values base others) answer before after)
         × ((AreWords (moved base others) → ⊥) → (answer ≡ Err BadNumber) × (after ≡ before)))
     (λ fault. (answer ≡ Err fault) × (after ≡ before))
+
+-- the lists of two views are joined so
+abbrev pub JoinsViews : ListView → ℕ → ListView → ℕ → List ℕ → List ℕ → Result ℕ ListError → Type 0
+JoinsViews view base other room before after answer =
+    (kind : ListKind) (all : List ℕ) → IsListOf view.lanes view.bytes.now kind all
+    → (others_kind : ListKind) (others : List ℕ) → IsListOf other.lanes other.bytes.now others_kind others
+    → JoinsList view.lanes view.bytes.now kind all base others room before after answer
 
 -- ---- numbers
 

@@ -5,7 +5,7 @@ ghost use Rattle.bitpack_lists.specs.declared.list_kind.ListKind.{ListKind};
 ghost use Rattle.bitpack_lists.specs.declared.version.Version.{Version};
 ghost use Rattle.bitpack_lists.specs.Opened.{blocks_of, kind_of, values, version_of};
 ghost use Rattle.bitpack_lists.specs.Parts.{FindsFault};
-ghost use Rattle.bitpacking_c.specs.Packs.{AnswersJoin, AnswersSize, AppendsList, JoinsList, append_fault, number_of_join, position_after};
+ghost use Rattle.bitpacking_c.specs.Packs.{AnswersJoin, AnswersSize, AppendsList, JoinsViews, append_fault, number_of_join, position_after};
 ghost use Rattle.bitpacking_c.specs.Views.{IsListOf};
 
 use crate::list_packing::answer;
@@ -54,10 +54,8 @@ pub extern "C" fn bitpacking_list_join(
     bytes: &mut [u8],
     position: &mut usize,
 ) -> isize
-    ensures { (kind : ListKind) (all : List ℕ) → IsListOf view.now.lanes view.now.bytes.now kind all
-        → (others_kind : ListKind) (others : List ℕ) → IsListOf other.now.lanes other.now.bytes.now others_kind others
-        → AnswersJoin result position.old position.new
-        (JoinsList view.now.lanes view.now.bytes.now kind all base others (length room.old) bytes.old bytes.new) }
+    ensures { AnswersJoin result position.old position.new
+        (JoinsViews view.now base other.now (length room.old) bytes.old bytes.new) }
 {
     answer_join(joined(view, base, other, room, bytes), position)
 }
@@ -84,10 +82,7 @@ fn joined(
     room: &mut [u32],
     bytes: &mut [u8],
 ) -> Result<usize, ListError>
-    ensures joins { (kind : ListKind) (all : List ℕ) → IsListOf view.now.lanes view.now.bytes.now kind all
-        → (others_kind : ListKind) (others : List ℕ) → IsListOf other.now.lanes other.now.bytes.now others_kind others
-        → JoinsList view.now.lanes view.now.bytes.now kind all base others (length room.old)
-        bytes.old bytes.new result }
+    ensures joins { JoinsViews view.now base other.now (length room.old) bytes.old bytes.new result }
     ensures small { IfOk result (λ count. count < 2 ^ 63) }
 {
     match view.lanes {
@@ -148,10 +143,7 @@ fn join<P: BitPacker>(
     bytes: &mut [u8],
 ) -> Result<usize, ListError>
     requires lanes { view.now.lanes ≡ P.lanes }
-    ensures joins { (kind : ListKind) (all : List ℕ) → IsListOf view.now.lanes view.now.bytes.now kind all
-        → (others_kind : ListKind) (others : List ℕ) → IsListOf other.now.lanes other.now.bytes.now others_kind others
-        → JoinsList view.now.lanes view.now.bytes.now kind all base others (length room.old)
-        bytes.old bytes.new result }
+    ensures joins { JoinsViews view.now base other.now (length room.old) bytes.old bytes.new result }
     ensures small { IfOk result (λ count. count < 2 ^ 63) }
 {
     match other.lanes {
@@ -174,10 +166,7 @@ fn join_both<P: BitPacker, Q: BitPacker>(
 ) -> Result<usize, ListError>
     requires lanes { view.now.lanes ≡ P.lanes }
     requires others_lanes { other.now.lanes ≡ Q.lanes }
-    ensures joins { (kind : ListKind) (all : List ℕ) → IsListOf view.now.lanes view.now.bytes.now kind all
-        → (others_kind : ListKind) (others : List ℕ) → IsListOf other.now.lanes other.now.bytes.now others_kind others
-        → JoinsList view.now.lanes view.now.bytes.now kind all base others (length room.old)
-        bytes.old bytes.new result }
+    ensures joins { JoinsViews view.now base other.now (length room.old) bytes.old bytes.new result }
     ensures small { IfOk result (λ count. count < 2 ^ 63) }
 {
     let list = joinable(packer, view)?;
