@@ -8,7 +8,7 @@
   `module _ (..) where`, by their names or by whole paths, also where another file passes them on. A public contract is the clauses of a
   `pub` function, what a `pub` trait says, and the ghost members of a `pub` type that are public or of a trait; the functions of laws.rt and
   lemmas are left out, since they are proved. Each line of these definitions counts, without comments. None is in specs/inner. `MOST` says
-  how many lines there may be, and docs/PROOFS.md how many each crate has.
+  how many lines there may be, and docs/PROOFS.md this number and how many each crate has.
 
 Then the wrong changes of scripts/mutate/edits/clauses/ are tried, as scripts/mutate/changes.py says. The last line is 'N passed, M failed'.
 """
@@ -32,7 +32,7 @@ LIMITS = {
 }
 BELIEVED = ["bitpacking_register", "bitpacking", "bitpack_lists", "bitpack_sorted", "bitpack", "bitpacking_c", "bitpack_uses"]
 # The most lines of definitions to believe. If there are fewer, it is lowered.
-MOST = 1540
+MOST = 1565
 PAGE = "docs/PROOFS.md"
 
 
@@ -189,6 +189,8 @@ def definitions():
     for crate, lines in found.items():
         if said.get(crate) != str(lines):
             yield f"{crate} has {lines} lines of definitions to believe, and {PAGE} says {said.get(crate)}"
+    if f"{MOST:,} lines" not in text_of(PAGE):
+        yield f"{PAGE} does not say that there are {MOST:,} lines of definitions to believe"
     yield from (f"{crate}: a public contract cites {name} of specs/inner" for crate, file, name in believed() if file.startswith("inner."))
     if sum(found.values()) > MOST:
         yield f"there are {sum(found.values())} lines of definitions to believe, more than {MOST}: {PAGE}"

@@ -8,6 +8,9 @@
 
 What a code span has does not count. `PATTERNS` has the phrases. A comment that begins with `The same` leaves the reader to find out as what.
 *Where* is for places: what counts is *where* after a comma, at the start of a sentence, or beside words that make it an *if*.
+`GLOSSARY` has the words for which the terms of docs/FORMAT.md have others. They count in the pages, and in comments and texts of errors if
+`GLOSSARY_IN_COMMENTS` says so. *Text* is for characters: text files, lines of text, error texts, and what tests print. *Place* is only in
+*in place*.
 
 First the patterns are tried on a few sentences. It prints `FILE:LINE: PHRASE` for each phrase. The last line is 'N passed, M failed', one for
 each file.
@@ -44,6 +47,24 @@ PATTERNS = {
         ]
     ),
 }
+GLOSSARY = {
+    "text for bytes": "|".join(
+        [
+            r"(?<!error )(?<!\b[Aa]s )(?<!\bof )(?<!\bfrom )\btext\b(?! files?\b| of (?:an? |the )?errors?\b)",
+            r"(?<!error )\btexts\b(?! of (?:an? |the )?errors?\b)",
+        ]
+    ),
+    "place": r"(?<!\b[Ii]n )(?<!take the )(?<!takes the )\bplaces?\b",
+    "at hand": r"\bat hand\b",
+    "kept": r"\b(?:kept|keeps)\b",
+    "growing steps": r"\bgrowing steps\b",
+    "document number": r"\bdocument numbers?\b|\bnumbers? of an? document\b",
+    "above its least value": r"\b(?:above|less) (?:its|their|the) least (?:value|one)\b",
+    "takes memory": r"\b(?:takes?|taking) (?:no |any |more )?memory\b",
+    "gives again": r"\bgives? again\b",
+}
+# Whether the words of the glossary count in comments and in texts of errors too.
+GLOSSARY_IN_COMMENTS = False
 THE_SAME = re.compile(r"the same\b", re.I)
 # What is found in a text of a file, and texts in which nothing is found.
 TRIED = [
@@ -59,6 +80,15 @@ TRIED = [
     ("a.md", "The bytes stay where they are. This says where it begins, and where the tail ends.", []),
     ("a.md", "## Where expected values come from", []),
     ("a.md", "The code `so many`.\n\n```\nso many\n```\n\n    so many\n", []),
+    ("a.md", "The text of a list. A list of texts of the same values.", ["text for bytes", "text for bytes"]),
+    ("a.md", "A text file, lines of text, an error text, the texts of errors, numbers as text, queries from text.", []),
+    ("a.md", "The place of a bit, and places of values.", ["place", "place"]),
+    ("a.md", "In place of another it is read in place, and takes the place of it.", []),
+    ("a.md", "The block at hand is kept, and keeps values above their least value.", ["above its least value", "at hand", "kept", "kept"]),
+    ("a.md", "A document number, found by growing steps, takes no memory.", ["document number", "growing steps", "takes memory"]),
+    ("a.md", "It gives again the number of a document.", ["document number", "gives again"]),
+    ("a.rt", "/// The kept text.", ["kept", "text for bytes"] if GLOSSARY_IN_COMMENTS else []),
+    ("tests/a.rt", "/// The kept text.", ["kept"] if GLOSSARY_IN_COMMENTS else []),
     ("a.rt", "/// The same as `f`,\n/// for so many.\nfn g() {}", ["The same", "so many"]),
     ("a.rt", "    // The same\n    f(); // for those of g", ["The same", "those of"]),
     ("a.rt", 'write(out, "a width above that of f")', ["that of"]),
@@ -87,14 +117,22 @@ def blocks_of(lines):
             block.append((number, re.sub(r"^\s*(?:[-*]|\d+\.|#+) ", "", line)))
 
 
-def phrases(block):
-    """The phrases in a block, each with the number of its line."""
+def patterns_of(path):
+    """The patterns that count in a file."""
+    if path.endswith(".md"):
+        return PATTERNS | GLOSSARY
+    found = PATTERNS | GLOSSARY if GLOSSARY_IN_COMMENTS else PATTERNS
+    return {name: it for name, it in found.items() if name != "text for bytes" or "tests" not in path}
+
+
+def phrases(block, patterns):
+    """The phrases in a block that are of these patterns, each with the number of its line."""
     text, starts = "", []
     for number, line in block:
         starts.append((len(text), number))
         text += line.strip() + " "
     text = re.sub(r"(`+).+?\1", lambda it: "_" * len(it[0]), text)
-    for name, pattern in PATTERNS.items():
+    for name, pattern in patterns.items():
         for found in re.finditer(pattern, text):
             yield max(number for start, number in starts if start <= found.start()), name
 
@@ -126,15 +164,15 @@ def quoted(text):
 
 def found_in(path, text):
     """The phrases in a file, each with the number of its line."""
+    found, patterns = [], patterns_of(path)
     if path.endswith(".md"):
-        return [it for block in blocks_of(list(enumerate(text.split("\n"), 1))) for it in phrases(block)]
-    found = []
+        return [it for block in blocks_of(list(enumerate(text.split("\n"), 1))) for it in phrases(block, patterns)]
     for comment in comments_of(path, text):
         if THE_SAME.match(comment[0][1].strip()):
             found.append((comment[0][0], "The same"))
-        found += [it for block in blocks_of(comment) for it in phrases(block)]
+        found += [it for block in blocks_of(comment) for it in phrases(block, patterns)]
     if not path.endswith(".antt") and "tests" not in path:
-        found += [it for line in quoted(text) for it in phrases([line])]
+        found += [it for line in quoted(text) for it in phrases([line], patterns)]
     return found
 
 
