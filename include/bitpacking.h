@@ -660,7 +660,7 @@ ptrdiff_t bitpacking_list_builder_finish(const bitpacking_list_builder *builder,
 ptrdiff_t bitpacking_list_append(const bitpacking_list *view, const uint32_t *values, size_t values_len,
                                  uint8_t *bytes, size_t bytes_len, size_t *position);
 
-/* Writes the list of a view and, after its values, those of another list with base added to each as one list, as bitpacking_list_append does:
+/* Writes the list of a view, and after it the values of another list with base added to each, as one list, as bitpacking_list_append does:
  * two segments become one, whose second part begins at doc id base. The lists may be of any packers, kinds and versions; the result has packer and
  * kind of the first. room is work space for the values of the other list: room_len is at least its length.
  *

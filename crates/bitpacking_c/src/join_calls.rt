@@ -1,4 +1,4 @@
-//! A packed list and more values after it, or those of another list, written as one list.
+//! A packed list and more values after it, or another list, written as one list.
 
 ghost use Rattle.std.specs.Prelude.{◌≡◌, ◌^◌, ◌<◌, ℕ, List, length, IfOk};
 ghost use Rattle.bitpack_lists.specs.declared.list_kind.ListKind.{ListKind};
@@ -57,7 +57,13 @@ pub extern "C" fn bitpacking_list_join(
     ensures { AnswersJoin result position.old position.new
         (JoinsViews view.now base other.now (length room.old) bytes.old bytes.new) }
 {
-    answer_join(joined(view, base, other, room, bytes), position)
+    let found = match view.lanes {
+        0 => Err(ListError::WrongLanes(0)),
+        1 => join(BitPacker1x::new(), view, base, other, room, bytes),
+        4 => join(BitPacker4x::new(), view, base, other, room, bytes),
+        _ => join(BitPacker8x::new(), view, base, other, room, bytes),
+    };
+    answer_join(found, position)
 }
 
 /// The number that C is told. A value that passes 32 bits has one of its own.
@@ -70,26 +76,6 @@ fn answer_join(found: Result<usize, ListError>, position: &mut usize) -> isize
     match found {
         Err(ListError::BadNumber) => -7,
         other => answer(other, position),
-    }
-}
-
-/// Writes the list of a view and those of another after it.
-#[inline(always)]
-fn joined(
-    view: &ListView<'_>,
-    base: u32,
-    other: &ListView<'_>,
-    room: &mut [u32],
-    bytes: &mut [u8],
-) -> Result<usize, ListError>
-    ensures joins { JoinsViews view.now base other.now (length room.old) bytes.old bytes.new result }
-    ensures small { IfOk result (λ count. count < 2 ^ 63) }
-{
-    match view.lanes {
-        0 => Err(ListError::WrongLanes(0)),
-        1 => join(BitPacker1x::new(), view, base, other, room, bytes),
-        4 => join(BitPacker4x::new(), view, base, other, room, bytes),
-        _ => join(BitPacker8x::new(), view, base, other, room, bytes),
     }
 }
 
@@ -132,7 +118,7 @@ fn append<P: BitPacker>(
     list.encode_more_to(values, bytes)
 }
 
-/// Writes the list and those of another after it, for the packer of the first. A view that was not opened has no values.
+/// Writes the list and another after it, for the packer of the first. A view that was not opened has no values.
 #[inline(always)]
 fn join<P: BitPacker>(
     packer: P,

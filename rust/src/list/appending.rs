@@ -1,4 +1,4 @@
-//! A list and more values after it, or those of another list, written as one list.
+//! A list and more values after it, or another list, written as one list.
 
 use super::{error, Encoder, Error, PackedList, Version};
 use crate::calls::best;
