@@ -13,9 +13,9 @@ struct word { struct word *next; struct numbers documents, counts; char text[]; 
 static struct word *chains[CHAINS];
 static struct { struct word **items; size_t len; } words;
 
-/* The bytes of the index, where its items begin, and how many words each document has. */
+/* The bytes of the index, where its items begin, and the classes of the lengths of documents. */
 static FILE *out;
-static struct numbers bounds, lengths;
+static struct numbers bounds, classes;
 
 /* Writes the last bytes of an item. */
 static void end_item(const void *bytes, size_t len)
@@ -56,7 +56,7 @@ static struct word *find_word(const char *letters, size_t len)
 /* Adds a document, which begins in a line of a file, if it has a word. */
 static void add_document(const char *path, size_t line, const char *text, const char *end)
 {
-    uint32_t document = (uint32_t)lengths.len, length = 0;
+    uint32_t document = (uint32_t)classes.len, length = 0;
     for (const char *at = text; at < end; at++) {
         const char *start = at;
         while (isalnum((unsigned char)*at))
@@ -73,7 +73,7 @@ static void add_document(const char *path, size_t line, const char *text, const 
     }
     if (length == 0)
         return;
-    PUSH(lengths, length);
+    PUSH(classes, class_of(length));
     size_t kept = strcspn(text, "\r\n");
     while (kept > LONGEST_LINE || (kept > 0 && (text[kept] & 0xC0) == 0x80))
         kept--; /* it does not end within a character of UTF-8 */
@@ -157,7 +157,7 @@ void make_index(char *folder, const char *file, int paragraphs)
         write_list(BITPACKING_STRICTLY_SORTED, &words.items[i]->documents);
         write_list(BITPACKING_PLAIN, &words.items[i]->counts);
     }
-    write_list(BITPACKING_PLAIN, &lengths);
+    write_list(BITPACKING_PLAIN, &classes);
     uint32_t start = bounds.items[bounds.len - 1];
     write_list(BITPACKING_STRICTLY_SORTED, &bounds);
     end_item((uint8_t[]){start & 0xFF, start >> 8 & 0xFF, start >> 16 & 0xFF, start >> 24}, 4);
@@ -169,5 +169,5 @@ void make_index(char *folder, const char *file, int paragraphs)
         remove(name);
         exit(2);
     }
-    printf("%zu documents and %zu words in %zu bytes\n", lengths.len, words.len, size);
+    printf("%zu documents and %zu words in %zu bytes\n", classes.len, words.len, size);
 }

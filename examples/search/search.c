@@ -3,7 +3,7 @@
 #include "search.h"
 
 #include <fcntl.h>
-#include <math.h>
+#include <inttypes.h>
 #include <sys/mman.h>
 #include <sys/stat.h>
 
@@ -11,30 +11,30 @@ static const char help[] =
     "A small search engine over packed lists.\n\n"
     "    search index [--paragraphs] FOLDER FILE\n"
     "        writes an index of the text files below FOLDER to FILE; a document is a file, or a paragraph\n"
-    "    search find [--count] [--explain] [--best N] FILE QUERY\n"
-    "        prints which lists it reads (--explain), how many documents answer QUERY, and if not --count the best:\n"
-    "        10, or N up to 999\n\n"
+    "    search find [--best N] [--scan] [--count] [--explain] FILE QUERY\n"
+    "        prints the 10 best documents that answer QUERY, or the N best up to 999, without reading all its lists, or with\n"
+    "        reading all (--scan); or how many answer (--count); and which lists and how many of their blocks it reads (--explain)\n\n"
     "A query has words next to each other (documents with all of them), a | b (with one of them), -c (without it),\n"
     "pre* (all words that begin so), and brackets: 'packed (list | block) -chain*'\n\n"
     "The status is 0 if a document was found, 1 if none was, and 2 if something is wrong.\n";
 
 #define DAMAGED "%s: the index is damaged: "
-#define BLOCKS(len) (((len) + BITPACKING_4X_BLOCK_LEN - 1) / BITPACKING_4X_BLOCK_LEN)
+#define BLOCKS(len) (((len) + BLOCK - 1) / BLOCK)
 
-enum { GROUP = 16, LONGEST_QUERY = 1000 }; /* the most lists that one call unites, and the most signs of a query */
+enum { LONGEST_QUERY = 1000 }; /* signs */
 
 struct lists { bitpacking_list *items; size_t len; };
 typedef ptrdiff_t set_call(const bitpacking_list *views, size_t views_len, uint32_t *out, size_t out_len);
 
-/* An index file, where its items begin, and what is known of its documents; and a query, and where it is read. */
+/* An index file, and where its items begin; and a query, and where it is read. */
 struct search {
     const char *file, *query, *at;
     const uint8_t *bytes;
     const uint32_t *bounds;
     size_t documents, words;
-    struct numbers lengths;
-    double total, *scores;
-    int explain;
+    struct lengths lengths;
+    struct ranking ranking;
+    int explain, alone; /* whether any of words are wanted: their lists are ranked without making one of them */
 };
 
 void *grown(void *items, size_t len, size_t size)
@@ -48,17 +48,16 @@ void *grown(void *items, size_t len, size_t size)
 
 uint8_t *pack(uint8_t kind, const struct numbers *values, size_t *size)
 {
-    size_t position;
-    ptrdiff_t packed = bitpacking_4x_list_size(BITPACKING_LIST_NEWEST, kind, values->items, values->len, &position);
+    uint8_t *bytes = grown(NULL, BITPACKING_LIST_ROOM(values->len), 1);
+    ptrdiff_t packed = bitpacking_4x_list_pack(BITPACKING_LIST_NEWEST, kind, values->items, values->len, bytes,
+                                               BITPACKING_LIST_ROOM(values->len), NULL);
     if (packed < 0)
         errx(2, "a list: %s", bitpacking_error_text(packed));
     *size = (size_t)packed;
-    uint8_t *bytes = grown(NULL, *size, 1);
-    bitpacking_4x_list_pack(BITPACKING_LIST_NEWEST, kind, values->items, values->len, bytes, *size, &position);
     return bytes;
 }
 
-static struct numbers unpack(bitpacking_list list)
+struct numbers unpack(bitpacking_list list)
 {
     struct numbers values = {NULL, bitpacking_list_len(&list)};
     values.items = grown(NULL, values.len, sizeof *values.items);
@@ -70,8 +69,8 @@ static bitpacking_list open_list(const struct search *s, size_t item, uint8_t ki
 {
     bitpacking_list list = BITPACKING_LIST_EMPTY;
     ptrdiff_t opened = bitpacking_list_open(s->bytes + s->bounds[item], s->bounds[item + 1] - s->bounds[item], &list);
-    if (opened < 0 || bitpacking_list_kind(&list) != kind)
-        errx(2, DAMAGED "a list of %s: %s", s->file, name, opened < 0 ? bitpacking_error_text(opened) : "wrong kind");
+    if (opened < 0 || bitpacking_list_kind(&list) != kind || bitpacking_list_block_len(&list) != BLOCK)
+        errx(2, DAMAGED "a list of %s: %s", s->file, name, opened < 0 ? bitpacking_error_text(opened) : "wrong kind or blocks");
     return list;
 }
 
@@ -101,11 +100,17 @@ static void open_index(struct search *s)
     if (bounds.len < 2 || bounds.items[0] != sizeof MAGIC || bounds.items[bounds.len - 1] != start)
         errx(2, DAMAGED "the bounds are of other items", s->file);
     s->bounds = bounds.items;
-    s->lengths = unpack(open_list(s, bounds.len - 2, BITPACKING_PLAIN, "lengths"));
-    s->documents = s->lengths.len;
+    struct numbers classes = unpack(open_list(s, bounds.len - 2, BITPACKING_PLAIN, "classes"));
+    s->documents = classes.len;
     s->words = (bounds.len - 2 - s->documents) / 3;
     if (s->documents > bounds.len - 2 || s->documents + 3 * s->words != bounds.len - 2)
         errx(2, DAMAGED "the number of items is wrong", s->file);
+    s->lengths.documents = s->documents;
+    s->lengths.classes = grown(NULL, s->documents, 1);
+    for (size_t i = 0; i < s->documents; s->lengths.classes[i] = (uint8_t)classes.items[i], i++)
+        if (classes.items[i] >= CLASSES)
+            errx(2, DAMAGED "a length has no class", s->file);
+    set_lengths(&s->lengths);
     for (size_t i = 0; i < s->words; i++) {
         const char *word = word_at(s, i);
         len = s->bounds[s->documents + i + 1] - s->bounds[s->documents + i] - 1;
@@ -114,23 +119,8 @@ static void open_index(struct search *s)
     }
 }
 
-/* Adds what a word is worth to the scores of its documents, by BM25 with the usual constants. */
-static void add_scores(const struct search *s, bitpacking_list list, bitpacking_list counted)
-{
-    struct numbers documents = unpack(list), counts = unpack(counted);
-    if (counts.len != documents.len)
-        errx(2, DAMAGED "a word has more or fewer counts than documents", s->file);
-    double all = (double)s->documents, have = (double)counts.len, rare = log(1 + (all - have + 0.5) / (have + 0.5));
-    for (size_t i = 0; i < counts.len; i++) {
-        double count = counts.items[i], length = s->lengths.items[documents.items[i]] / fmax(s->total / all, 1);
-        s->scores[documents.items[i]] += rare * count * 2.2 / (count + 1.2 * (0.25 + 0.75 * length));
-    }
-    free(documents.items);
-    free(counts.items);
-}
-
 /* Opens the list of the documents that have a word. Unless it is negative it counts for their order. */
-static bitpacking_list open_word(const struct search *s, size_t word, int negative)
+static bitpacking_list open_word(struct search *s, size_t word, int negative)
 {
     size_t item = s->documents + s->words + 2 * word;
     bitpacking_list list = open_list(s, item, BITPACKING_STRICTLY_SORTED, word_at(s, word));
@@ -140,16 +130,20 @@ static bitpacking_list open_word(const struct search *s, size_t word, int negati
         errx(2, DAMAGED "'%s' is in no document, or in one that is not there", s->file, word_at(s, word));
     if (s->explain)
         fprintf(stderr, "%s: %zu documents in %zu blocks\n", word_at(s, word), len, BLOCKS(len));
-    if (s->scores && !negative)
-        add_scores(s, list, open_list(s, item + 1, BITPACKING_PLAIN, word_at(s, word)));
+    if (s->ranking.room == 0 || negative)
+        return list;
+    bitpacking_list counts = open_list(s, item + 1, BITPACKING_PLAIN, word_at(s, word));
+    if (bitpacking_list_len(&counts) != len)
+        errx(2, DAMAGED "a word has more or fewer counts than documents", s->file);
+    PUSH(s->ranking.terms, term_of(&s->lengths, &list, &counts));
     return list;
 }
 
 /* What a function of the library makes of lists. One list stays as it is. */
 static bitpacking_list combine(const struct search *s, const char *name, set_call *call, const struct lists *lists)
 {
-    if (lists->len == 1)
-        return lists->items[0];
+    if (lists->len == 1 || s->alone)
+        return lists->len > 0 ? lists->items[0] : bitpacking_list_none();
     size_t room = 0, most = 0, sought = SIZE_MAX;
     for (size_t i = 0; i < lists->len; i++) {
         size_t len = bitpacking_list_len(&lists->items[i]);
@@ -169,8 +163,8 @@ static bitpacking_list combine(const struct search *s, const char *name, set_cal
     values.len = (size_t)found;
     size_t size;
     uint8_t *bytes = pack(BITPACKING_STRICTLY_SORTED, &values, &size);
-    bitpacking_list list = BITPACKING_LIST_EMPTY;
-    bitpacking_list_open(bytes, size, &list); /* it does not fail: these bytes are a list */
+    bitpacking_list list;
+    bitpacking_list_open_tested(bytes, size, &list); /* these bytes are a list */
     free(values.items);
     return list;
 }
@@ -206,11 +200,6 @@ static bitpacking_list read_word(struct search *s, int negative)
     /* Of the words that begin so, the one that ends there is the first. */
     while (low < s->words && strncasecmp(word_at(s, low), text, len) == 0 && (prefix || !word_at(s, low)[len]))
         PUSH(lists, open_word(s, low++, negative));
-    for (size_t count = 0, i; lists.len > GROUP; lists.len = count, count = 0)
-        for (i = 0; i < lists.len; i += GROUP) {
-            struct lists group = {lists.items + i, lists.len - i < GROUP ? lists.len - i : GROUP};
-            lists.items[count++] = combine(s, "unite", bitpacking_list_unite, &group);
-        }
     return combine(s, "unite", bitpacking_list_unite, &lists);
 }
 
@@ -238,41 +227,64 @@ static bitpacking_list read_query(struct search *s, int negative, char end)
     return combine(s, "unite", bitpacking_list_unite, &any);
 }
 
-/* Prints how many documents answer a query, and the best. Returns the status of the program. */
-static int find(const char *file, const char *query, int explain, size_t best)
+/* Ranks the documents that answer a query. Any of words are ranked by their lists; for other queries the documents are found first. */
+static void find_best(struct search *s, int scans)
+{
+    struct ranking *r = &s->ranking;
+    size_t words = 0, bars = 0;
+    for (const char *at = s->query; *at; at++) {
+        bars += *at == '|';
+        words += isalnum((unsigned char)*at) && (at == s->query || !isalnum((unsigned char)at[-1]));
+    }
+    s->alone = !scans && !strpbrk(s->query, "-(*") && words == bars + 1 && words <= MOST_TERMS;
+    bitpacking_list documents = read_query(s, 0, 0);
+    if (scans || r->terms.len > MOST_TERMS)
+        scan(r, unpack(documents), calloc(s->documents, sizeof(double)));
+    else if (s->alone)
+        rank_any(r);
+    else
+        rank_these(r, unpack(documents));
+}
+
+/* Prints the best documents that answer a query, or how many answer. Returns the status of the program. */
+static int find(const char *file, const char *query, int explain, int scans, size_t best)
 {
     struct search s = {.file = file, .query = query, .at = query, .explain = explain};
     if (strlen(query) > LONGEST_QUERY)
         errx(2, "%s: the query is too long", file);
     open_index(&s);
-    s.scores = best > 0 ? grown(NULL, s.documents, sizeof *s.scores) : NULL;
-    for (size_t i = 0; best > 0 && i < s.documents; s.scores[i++] = 0)
-        s.total += s.lengths.items[i];
-    struct numbers found = unpack(read_query(&s, 0, 0));
-    printf("%zu of %zu documents\n", found.len, s.documents);
-    for (size_t n = 0; n < best && n < found.len; n++) {
-        uint32_t first = found.items[0];
-        for (size_t i = 1; i < found.len; i++)
-            if (s.scores[found.items[i]] > s.scores[first])
-                first = found.items[i];
-        printf("%7.3f  ", s.scores[first]);
-        for (size_t at = s.bounds[first]; at < s.bounds[first + 1]; at++)
+    s.ranking = (struct ranking){.lengths = &s.lengths, .best = calloc(best, sizeof *s.ranking.best), .room = best};
+    if (best == 0) {
+        bitpacking_list documents = read_query(&s, 0, 0);
+        printf("%zu of %zu documents\n", bitpacking_list_len(&documents), s.documents);
+        return bitpacking_list_len(&documents) == 0;
+    }
+    find_best(&s, scans);
+    for (size_t i = 0; i < s.ranking.len; i++) {
+        struct found found = s.ranking.best[i];
+        printf("%7.3f  ", found.score);
+        for (size_t at = s.bounds[found.document]; at < s.bounds[found.document + 1]; at++)
             putchar(iscntrl(s.bytes[at]) ? '?' : s.bytes[at]); /* a terminal could take it for a command */
         putchar('\n');
-        s.scores[first] = -1;
+        if (explain)
+            fprintf(stderr, "document %" PRIu32 ": %.17g\n", found.document, found.score);
     }
-    return found.len == 0;
+    if (explain)
+        fprintf(stderr, "%zu blocks unpacked to rank\n", s.ranking.unpacked);
+    return s.ranking.len == 0;
 }
 
 int main(int len, char **arguments)
 {
     char *command = len > 1 ? arguments[1] : "", rest;
-    int paragraphs = 0, explain = 0, best = 10, right = len > 3, status = 0;
+    int paragraphs = 0, explain = 0, scans = 0, best = 10, right = len > 3, status = 0;
     for (int i = 2; i < len - 2; i++)
         if (strcmp(arguments[i], "--paragraphs") == 0)
             paragraphs = 1;
         else if (strcmp(arguments[i], "--count") == 0)
             best = 0;
+        else if (strcmp(arguments[i], "--scan") == 0)
+            scans = 1;
         else if (strcmp(arguments[i], "--explain") == 0)
             explain = 1;
         else
@@ -280,7 +292,7 @@ int main(int len, char **arguments)
     if (strcmp(command, "index") == 0 && right)
         make_index(arguments[len - 2], arguments[len - 1], paragraphs);
     else if (strcmp(command, "find") == 0 && right && best >= 0)
-        status = find(arguments[len - 2], arguments[len - 1], explain, (size_t)best);
+        status = find(arguments[len - 2], arguments[len - 1], explain, scans, (size_t)best);
     else if (strcmp(command, "--help") == 0)
         fputs(help, stdout);
     else

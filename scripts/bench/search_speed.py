@@ -2,8 +2,11 @@
 """Measures the lists of the search engine of examples/search/ beside plain arrays, CRoaring and Xapian, from nothing:
 
     scripts/bench/search_speed.py [--core N] [--passes N] [--tsv FILE] [--keep FOLDER] [--roaring FOLDER] [--ways WAY,WAY ..]
-                                  [--threads N,N ..] [--archive FILE] [FOLDER ..]
+                                  [--threads N,N ..] [--ranked] [--archive FILE] [FOLDER ..]
     scripts/bench/search_speed.py --try
+
+Then the best ten of queries of one to five words are ranked by BM25: by the skipping of the engine over packed lists and over plain arrays, by
+its scan of whole lists, and by Xapian.
 
 It copies the text files below the folders (/usr/share and /usr/include if none is given) to a folder of its own, and has each way index
 their paragraphs by itself. Then each answers the same random queries, in one process, on one core and on four. The answers have to be the
@@ -13,16 +16,18 @@ It needs 200 MB of text with 500,000 paragraphs; `apt-get install linux-doc` bri
 libroaring-dev and libxapian-dev of Debian. Debian's CRoaring is built for any x86-64; --roaring adds one built for this processor, from its
 sources in FOLDER. --keep uses the texts that an earlier run left in FOLDER. The archive is the one of scripts/build/archives.py, which is
 called if it is not there, or the one of --archive. --ways measures only these ways, of which `lists` is always one. `lists3`, which is not
-measured unless it is named, is the engine with lists of version 3. --threads says on how many threads, 1,4 if it is left out.
+measured unless it is named, is the engine with lists of version 3. --threads says on how many threads, 1,4 if it is left out. --ranked
+measures only the best ten.
 
---try measures nothing: it compiles the programs, and compares the answers on examples/search/corpus/. Ways that are not installed are left
-out. The last line is 'N passed, M failed'.
+--try measures nothing: it compiles the programs, compares the answers on examples/search/corpus/, and compares the table of the best ten in
+docs/SPEED.md with docs/speed/best.tsv, which --tsv wrote. Ways that are not installed are left out. The last line is 'N passed, M failed'.
 """
 import argparse
 import glob
 import os
 import random
 import shutil
+import statistics
 import subprocess
 import sys
 import tempfile
@@ -31,7 +36,9 @@ import time
 sys.path.insert(1, f"{sys.path[0]}/..")
 from common import ROOT, leave_out, missing, report, run, source
 import archives
+import best_ten
 from measured import Numbers
+import search_table
 
 HERE = f"{ROOT}/scripts/bench/search_speed"
 ARCHIVE = f"{archives.OUT}/{archives.ALL}"
@@ -111,9 +118,11 @@ def commands(folder, ways, roaring, archive, level):
     for name, changes in [ENGINES[way] for way in ways if way in ENGINES]:
         yield name, ["cc", "-std=c99", "-O2", include, *engine_sources(folder, name, changes), archive, "-lm"]
     yield "words", ["g++", "-std=c++20", *flags, f"{HERE}/words.cpp"]
-    yield "lists", [*cpp, include, f"{HERE}/lists.cpp", archive]
-    if "arrays" in ways:
-        yield "arrays", [*cpp, f"{HERE}/arrays.cpp"]
+    for way, headers in ("lists", include), ("arrays", f"-I{HERE}/plain"):
+        if way in ways:
+            both = [headers, f"-I{ROOT}/examples/search"]
+            yield f"{way}.best", ["cc", "-std=c99", *flags, *both, "-c", f"{ROOT}/examples/search/best.c"]
+            yield way, [*cpp, *both, f"{HERE}/{way}.cpp", f"{folder}/{way}.best", *([archive] if way == "lists" else [])]
     if "roaring" in ways:
         yield "roaring", [*cpp, f"{HERE}/roaring.cpp", "-lroaring"]
     if "roaring_here" in ways:
@@ -153,9 +162,9 @@ class Machine:
         said = [line.split("\t") for line in text.split("\n")]
         return said, usage.ru_utime + usage.ru_stime, time.time() - start, usage.ru_maxrss * 1024
 
-    def answers(self, way):
+    def answers(self, way, queries="answers"):
         """What a way answered, as a line for each query."""
-        with open(f"{self.folder}/answers.{way}", encoding="ascii") as file:
+        with open(f"{self.folder}/{queries}.{way}", encoding="ascii") as file:
             return file.readlines()
 
 
@@ -166,15 +175,15 @@ def read_sample(path):
     return {word: int(count) for word, count in map(str.split, text.split("\n"))}, [line.split() for line in chosen.split("\n")]
 
 
-def write_queries(path, counts, chosen, documents):
-    """Random queries, as SETS says. The seed is fixed."""
+def write_queries(path, counts, chosen, documents, sets):
+    """Random queries, as the sets say. The seed is fixed."""
     dice, lines, alphabet = random.Random(1), [], sorted(counts)
     fits = {
         "any": lambda word: True,
         "dense": lambda word: counts[word] * DENSE >= documents,
         "rare": lambda word: 1 < counts[word] < documents / RARE,
     }
-    for name, (operation, count, kinds) in SETS.items():
+    for name, (operation, count, kinds) in sets.items():
         if isinstance(kinds, int):
             starts = range(0, max(1, len(alphabet) - kinds + 1), kinds)
             choices = [[(run, len(run), len(run))] for run in (alphabet[start : start + kinds] for start in starts)]
@@ -233,68 +242,38 @@ def measure_queries(machine, way, numbers, threads, rounds, one_of):
             numbers.add(f"{mode}: seconds", way, float(wall) / int(count), name, threads)
 
 
-def measure(machine, ways, numbers, passes, counts_of_threads):
-    """Has the ways answer the queries in turn, and compares the answers. Last it opens all lists of documents."""
+def measure_way(machine, way, numbers, threads, only_ranked):
+    """Has a way answer the queries, and compares the answers with those of the lists. Xapian rounds lengths otherwise, and has other scores."""
+    rounds, _, one_of = WAYS[way]
+    if not only_ranked:
+        measure_queries(machine, way, numbers, threads, rounds, one_of)
+        if machine.answers(way) != machine.answers("lists")[::one_of]:
+            sys.exit(f"{way} has other answers than the lists")
+    if way in best_ten.WAYS:
+        best_ten.measure(
+            machine, way, numbers, threads, [program_of(way), "ranked", index_of(way)], [str(rounds), str(threads), str(one_of)]
+        )
+        if way != "xapian" and machine.answers(way, "ranked") != machine.answers("lists", "ranked"):
+            sys.exit(f"{way} has other best documents than the lists")
+
+
+def measure(machine, ways, numbers, passes, counts_of_threads, only_ranked):
+    """Has the ways answer the queries in turn. Last it opens all lists of documents."""
     for number in range(passes):
         for threads in counts_of_threads:
             for way in ways:
-                rounds, most, one_of = WAYS[way]
-                if number >= most:
-                    continue
-                measure_queries(machine, way, numbers, threads, rounds, one_of)
-                if machine.answers(way) != machine.answers("lists")[::one_of]:
-                    sys.exit(f"{way} has other answers than the lists")
+                if number < WAYS[way][1]:
+                    measure_way(machine, way, numbers, threads, only_ranked)
         numbers.save()
         print(f"pass {number + 1} of {passes}: the answers are the same; load {os.getloadavg()[0]:.1f}", flush=True)
+    if 1 in counts_of_threads:
+        best_ten.add_gains(machine, {way: WAYS[way][2] for way in best_ten.WAYS if way in ways}, numbers)
     for way in [way for way in ways if way in ENGINES]:
         for words in machine.run(program_of(way), "open", index_of(way), "5")[0]:
             if words[0] == "open":
                 numbers.add("opening all: lists", way, int(words[1]))
                 numbers.add("opening all: processor seconds", way, float(words[3]))
     numbers.save()
-
-
-def table(ways, numbers):
-    """Prints the numbers as a page has them. What a way does not have is left empty."""
-    postings = numbers.get("postings", "texts")
-
-    def row(name, value):
-        print(f"| {name} | " + " | ".join("" if value(way) is None else value(way) for way in ways) + " |")
-
-    def number(measure_name, form, scale=1.0, threads=""):
-        def value(way):
-            found = numbers.get(measure_name, way, "", threads)
-            return None if found is None else form.format(found * scale)
-
-        return value
-
-    def rates(measure_name, part, threads):
-        def value(way):
-            found = numbers.get(measure_name, way, part, threads)
-            return None if found is None else f"{1 / found:,.0f}"
-
-        return value
-
-    def left_if_opening(part):
-        def value(way):
-            once, anew = [numbers.get(f"{mode}: processor seconds", way, part, 1) for mode in ("query", "opening")]
-            return None if once is None or anew is None else f"{100 * once / anew:.0f}"
-
-        return value
-
-    print("| | " + " | ".join(ways) + " |\n|---|" + "---|" * len(ways))
-    row("index, s of the processor", number("index: processor seconds", "{:.1f}"))
-    row("index, memory in MB", number("index: bytes of memory", "{:,.0f}", 1e-6))
-    row("bytes of documents", number("bytes of documents", "{:,.0f}"))
-    row("bits a posting", number("bytes of documents", "{:.2f}", 8 / postings))
-    row("bits of its count", number("bytes of counts", "{:.2f}", 8 / postings))
-    row("queries, memory in MB", number("queries: bytes of memory", "{:,.0f}", 1e-6, 1))
-    for mode, threads in [("query", 1), ("lists", 1), ("opening", 1), ("bitmaps", 1), ("counts", 1), ("query", 4)]:
-        for part in SETS:
-            kind = "processor seconds" if threads == 1 else "seconds"
-            row(f"{mode}, {part}, {threads} threads, a s", rates(f"{mode}: {kind}", part, threads))
-    for part in SETS:
-        row(f"{part}, speed left if each query opens its lists, %", left_if_opening(part))
 
 
 def tried():
@@ -304,6 +283,10 @@ def tried():
         if not os.path.exists(path):
             leave_out(f"the way {way}", f"since there is no {package}")
             ways.remove(way)
+    rows = [line.split("\t") for line in source("docs/speed/best.tsv").split("\n")[2:] if line]
+    written = {tuple(row[:4]): float(row[4]) for row in rows}
+    lacks = [row for row in best_ten.page_rows(lambda *key: written[key]) if row not in source("docs/SPEED.md").split("\n")]
+    yield "the table of the best ten", f"docs/SPEED.md lacks {lacks[0]}" if lacks else None
     with tempfile.TemporaryDirectory(prefix="search-speed-") as folder:
         os.symlink(CORPUS, f"{folder}/texts")
         done = list(built(folder, ways, None, ARCHIVE, "-O1"))
@@ -312,12 +295,19 @@ def tried():
             return
         machine, numbers = Machine(folder, None), Numbers()
         measure_index(machine, ways, numbers, 1)
-        write_queries(f"{folder}/queries", *read_sample(f"{folder}/sample"), numbers.get("paragraphs", "texts"))
+        for name, sets in ("queries", SETS), ("ranked", best_ten.SETS):
+            write_queries(f"{folder}/{name}", *read_sample(f"{folder}/sample"), numbers.get("paragraphs", "texts"), sets)
         for threads in 1, 4:
             for way in ways:
                 measure_queries(machine, way, numbers, threads, 1, 1)
                 right = machine.answers(way) == machine.answers("lists") and len(machine.answers(way)) > 1000
                 yield f"the answers of {way} with {threads} threads", None if right else "they are others than the lists have"
+            for way in [way for way in best_ten.WAYS if way in ways]:
+                best_ten.measure(machine, way, numbers, threads, [program_of(way), "ranked", index_of(way)], ["1", str(threads), "1"])
+                right = way == "xapian" or machine.answers(way, "ranked") == machine.answers("lists", "ranked")
+                right = right and len(machine.answers(way, "ranked")) > 1000
+                yield f"the best documents of {way} with {threads} threads", None if right else "they are others than the lists have"
+        best_ten.add_gains(machine, {way: WAYS[way][2] for way in best_ten.WAYS if way in ways}, numbers)
 
 
 def main():
@@ -329,6 +319,7 @@ def main():
     parser.add_argument("--roaring")
     parser.add_argument("--ways")
     parser.add_argument("--threads", default="1,4")
+    parser.add_argument("--ranked", action="store_true")
     parser.add_argument("--archive", default=ARCHIVE)
     parser.add_argument("--try", action="store_true", dest="only_try")
     parser.add_argument("folders", nargs="*", default=["/usr/share", "/usr/include"])
@@ -369,9 +360,10 @@ def measured(given, ways):
     for name, least in LEAST.items():
         if numbers.get(name, "texts") < least:
             sys.exit(f"{numbers.get(name, 'texts'):,} {name} are too few: name more folders, or `apt-get install linux-doc`")
-    write_queries(f"{folder}/queries", *read_sample(f"{folder}/sample"), numbers.get("paragraphs", "texts"))
-    measure(machine, ways, numbers, given.passes, [int(count) for count in given.threads.split(",")])
-    table(ways, numbers)
+    for name, sets in ("queries", SETS), ("ranked", best_ten.SETS):
+        write_queries(f"{folder}/{name}", *read_sample(f"{folder}/sample"), numbers.get("paragraphs", "texts"), sets)
+    measure(machine, ways, numbers, given.passes, [int(count) for count in given.threads.split(",")], given.ranked)
+    search_table.show(ways, numbers, SETS)
     return 0
 
 

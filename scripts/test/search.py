@@ -1,7 +1,7 @@
 #!/usr/bin/env python3
 """Builds the search engine of examples/search/ in Rust and in C, with warnings as errors, and tries both on the same files: their indexes
 have to be the same bytes, and their answers the same text. The answers on examples/search/corpus/ are compared with `grep`, others with
-numbers worked by hand. Last it searches in a thousand damaged indexes, in C with the address sanitizer where the compiler has it.
+numbers worked by hand, and the best documents with those of ranked.py. Last come a thousand damaged indexes, in C with the address sanitizer.
 It takes the archives that scripts/build/archives.py wrote, which is called where they are not there. The last line is 'N passed, M failed'.
 """
 import os
@@ -16,18 +16,19 @@ sys.path.insert(1, f"{sys.path[0]}/..")
 from common import ROOT, leave_out, report, run
 import archives
 import c
+from forging import ITEMS, assembled, forged
+import ranked
 import rust
 
 FOLDER = "examples/search"
 CORPUS = f"{ROOT}/{FOLDER}/corpus"
-SOURCES = [f"{ROOT}/{FOLDER}/{name}.c" for name in ("search", "index")]
+SOURCES = [f"{ROOT}/{FOLDER}/{name}.c" for name in ("search", "index", "best")]
 # The status of a program that the sanitizer ends.
 STOPPED = 99
 ENVIRONMENT = dict(os.environ, ASAN_OPTIONS=f"detect_leaks=0:exitcode={STOPPED}", UBSAN_OPTIONS=f"exitcode={STOPPED}", LC_ALL="C")
 # Seconds for one search, which takes far below one.
 PATIENCE = 30
 DAMAGES = 1000
-PLAIN, STRICTLY_SORTED = 0, 2  # kinds of lists
 
 # Queries, and what they mean by the sets of documents in which grep finds a word.
 QUERIES = {
@@ -63,13 +64,13 @@ COUNTS = {
     "n7 even": 0,
 }
 # What is read for a query, and how many answer it, by hand. A list of 1000 values has 8 blocks, and an AND with one value reads 3 of them.
-# With 3 begin 3, 30 to 39 and 300 to 399, whose 111 lists are united by sixteen; of these numbers 1 + 4 + 34 are multiples of 3.
+# With 3 begin 3, 30 to 39 and 300 to 399, whose 111 lists are united; of these numbers 1 + 4 + 34 are multiples of 3.
 BEGIN_WITH_3 = [f"n{k}: 1 documents in 1 blocks" for k in sorted(map(str, [3, *range(30, 40), *range(300, 400)]))]
-UNITED = [f"unite of {count} lists: at most 1 blocks of each unpacked" for count in [16] * 6 + [15, 7]]
+UNITED = "unite of 111 lists: at most 1 blocks of each unpacked"
 TWO = "of 2 lists: at most 3 blocks of each unpacked"
 EXPLAINED = {
     "number n30": (["number: 1000 documents in 8 blocks", "n30: 1 documents in 1 blocks", f"intersect {TWO}"], 1),
-    "fizz -n3*": (["fizz: 333 documents in 3 blocks", *BEGIN_WITH_3, *UNITED, f"subtract {TWO}"], 333 - 39),
+    "fizz -n3*": (["fizz: 333 documents in 3 blocks", *BEGIN_WITH_3, UNITED, f"subtract {TWO}"], 333 - 39),
 }
 # Files, and the names that their documents get, in the order of their bytes. None is there for a file that is left out.
 FILES = {
@@ -87,10 +88,10 @@ FILES = {
 # has `a` three times: 0.182 * 3 * 2.2 / (3 + 1.2 * (0.25 + 0.75 * 3/2.5)) = 0.182 * 1.507.
 SCORED = {"1": b"a b", "2": b"a, a; A!"}
 SCORES = {
-    "b": "1 of 2 documents\n  0.755  F/1:1  a b\n",
-    "a": "2 of 2 documents\n  0.275  F/2:1  a, a; A!\n  0.199  F/1:1  a b\n",
+    "b": "  0.755  F/1:1  a b\n",
+    "a": "  0.275  F/2:1  a, a; A!\n  0.199  F/1:1  a b\n",
     # The first document has b, which comes after a minus, and so does not count.
-    "a -(b c)": "2 of 2 documents\n  0.275  F/2:1  a, a; A!\n  0.199  F/1:1  a b\n",
+    "a -(b c)": "  0.275  F/2:1  a, a; A!\n  0.199  F/1:1  a b\n",
 }
 # Queries that are refused, after which part of them, and why.
 NO_TERM = "a word is missing, or a space after it"
@@ -268,7 +269,7 @@ def refusals(programs):
         "no place for the index": (["index", "files", "nowhere/new"], "nowhere/new: No such file or directory"),
         "a folder in the place of the index": (["index", "files", "split"], "split: Is a directory"),
         "no index": (["find", "nowhere", "a"], "nowhere: No such file or directory"),
-        "text for an index": (["find", "files/b-x", "a"], "files/b-x: this is no index: it does not begin with 'search1'"),
+        "text for an index": (["find", "files/b-x", "a"], "files/b-x: this is no index: it does not begin with 'search2'"),
     }
     before = sorted(os.listdir(programs.folder))
     for what, (arguments, message) in calls.items():
@@ -279,49 +280,6 @@ def refusals(programs):
     for name in programs.paths:
         status, text, messages = programs.run(name, "--help")
         yield f"--help in {name}", None if status == 0 and text.startswith("A small search engine") else f"{status} {messages}"
-
-
-def packed(kind, values):
-    """A list of version 3 of fewer than 15 values, of which the first is below 128, as docs/FORMAT.md has it."""
-    codes = [value - before - 1 for before, value in zip(values, values[1:])] if kind == STRICTLY_SORTED else values[1:]
-    width = max(codes, default=0).bit_length()
-    group = sum(code << width * k for k, code in enumerate(codes)).to_bytes((width * len(codes) + 7) // 8, "little")
-    return bytes([2 * 64 + 16 * kind + len(values), *values[:1]]) + (bytes([width]) + group if codes else b"")
-
-
-def assembled(items):
-    """An index of these items, which are fewer than 14."""
-    bounds = [8 + sum(map(len, items[:k])) for k in range(len(items) + 1)]
-    return b"search1\0" + b"".join(items) + packed(STRICTLY_SORTED, bounds) + struct.pack("<I", bounds[-1])
-
-
-# The index of SCORED, by hand: two names, two words, for each word in which documents it is and how often, and the lengths.
-ITEMS = [b"F/1:1  a b", b"F/2:1  a, a; A!", b"a\0", b"b\0"]
-ITEMS += [packed(STRICTLY_SORTED, [0, 1]), packed(PLAIN, [1, 3]), packed(STRICTLY_SORTED, [0]), packed(PLAIN, [1]), packed(PLAIN, [2, 3])]
-
-
-def forged():
-    """Indexes that say what can't be, each with what is wrong."""
-    changes = [
-        ("a word has more or fewer counts than documents", {5: packed(PLAIN, [1])}),
-        ("a list of a: wrong kind", {5: packed(STRICTLY_SORTED, [1, 3])}),
-        ("a list of b: wrong kind", {6: packed(PLAIN, [0])}),
-        ("'b' is in no document, or in one that is not there", {6: packed(STRICTLY_SORTED, [2])}),
-        ("'b' is in no document, or in one that is not there", {6: packed(STRICTLY_SORTED, [])}),
-        ("a list of b: ", {7: b"?"}),
-        ("a list of lengths: wrong kind", {8: packed(STRICTLY_SORTED, [2, 3])}),
-        ("the number of items is wrong", {8: packed(PLAIN, [5])}),
-        ("the number of items is wrong", {8: packed(PLAIN, [0] * 11)}),
-    ]
-    words = [{2: b"b\0", 3: b"a\0"}, {3: b"a\0"}, {3: b"b-\0"}, {3: b"b\0c\0"}, {3: b"bc"}]
-    changes += [("word 1 has a wrong sign, or is not in order", changed) for changed in words]
-    for what, changed in changes:
-        yield what, assembled([changed.get(place, item) for place, item in enumerate(ITEMS)])
-    whole, start = assembled(ITEMS), 8 + sum(map(len, ITEMS))
-    yield "it is cut", whole[:-4] + struct.pack("<I", len(whole) - 3)
-    yield "a list of bounds: ", whole[:-5] + whole[-4:]
-    for bounds in [9, start], [8, start - 1], [8]:
-        yield "the bounds are of other items", whole[:start] + packed(STRICTLY_SORTED, bounds) + whole[-4:]
 
 
 def forgeries(programs):
@@ -361,9 +319,10 @@ def fault_of_damaged(programs, must_fail, query):
 
 
 def damages(programs):
-    """Searches in damaged indexes, by queries that read all lists of the index."""
+    """Searches in damaged indexes, by queries that read all lists of the index, or those of some words."""
     refused = 0
     every = " | ".join(f"{sign}*" for sign in "0123456789abcdefghijklmnopqrstuvwxyz")
+    queries = ["number | even | fizz | buzz | water | warm | clock", every, "number even fizz", "number -n1*"]
     for first, arguments in (0, ("corpus",)), (DAMAGES // 2, ("--paragraphs", "numbers")):
         index, _ = programs.index(*arguments)
         with open(f"{programs.folder}/{index}", "rb") as file:
@@ -373,7 +332,7 @@ def damages(programs):
             with open(f"{programs.folder}/damaged", "wb") as file:
                 file.write(text)
             try:
-                wrong = fault_of_damaged(programs, must_fail, every)
+                wrong = fault_of_damaged(programs, must_fail, queries[number // 4 % len(queries)])
             except subprocess.TimeoutExpired:
                 wrong = "it does not end"
             if wrong:
@@ -387,7 +346,7 @@ def checks():
         programs = Programs(folder)
         yield from programs.faults
         if all(why is None for _, why in programs.faults):
-            for part in against_grep, by_hand, on_terminal, refusals, forgeries, damages:
+            for part in against_grep, by_hand, ranked.checks, on_terminal, refusals, forgeries, damages:
                 yield from part(programs)
 
 

@@ -1,7 +1,9 @@
 // Plain arrays of 32-bit numbers, in a mapped file. Lists of like lengths are merged without a branch on which number is less; else the
 // shorter one searches the longer one in growing steps from the last place. The numbers of many lists together are sorted.
 #include "store.hpp"
+#include "ranked.hpp"
 
+#include <deque>
 #include <fcntl.h>
 #include <sys/mman.h>
 #include <sys/stat.h>
@@ -141,6 +143,34 @@ class ArraysSession : public Session {
     Room rooms_[2];
 };
 
+// Ranks documents by the blocks of arrays.
+class RankedSession : public Session {
+  public:
+    RankedSession(const Classes &classes, const std::unordered_map<size_t, term> &terms, ArraysSession answers)
+        : ranker_(classes.get()), terms_(terms), answers_(std::move(answers))
+    {
+    }
+
+    size_t answer(const Query &query) override
+    {
+        these_.clear();
+        for (size_t place : query.places)
+            these_.push_back(&terms_.at(place));
+        bool sets = query.operation == '&';
+        numbers documents = {nullptr, sets ? answers_.answer(query) : 0};
+        documents.items = const_cast<uint32_t *>(answers_.out);
+        out = ranker_.out;
+        return ranker_.rank_terms(these_, sets ? &documents : nullptr, false);
+    }
+    std::pair<size_t, size_t> blocks() const override { return {ranker_.unpacked, ranker_.blocks}; }
+
+  private:
+    Ranker ranker_;
+    const std::unordered_map<size_t, term> &terms_;
+    ArraysSession answers_;
+    std::vector<const term *> these_;
+};
+
 // The bytes of a file, mapped.
 const char *mapped(const std::string &path)
 {
@@ -154,14 +184,49 @@ const char *mapped(const std::string &path)
 
 class Arrays : public Engine {
   public:
-    explicit Arrays(const std::string &path) : words_(path), lists_(mapped(path + ".lists")) {}
+    explicit Arrays(const std::string &path)
+        : words_(path), lists_(mapped(path + ".lists")), counts_(mapped(path + ".counts")), classes_(read_classes(path + ".lengths"))
+    {
+    }
     size_t find(std::string_view word) const override { return words_.find(word); }
     size_t words() const override { return words_.count(); }
-    std::unique_ptr<Session> session(const std::string &) override { return std::make_unique<ArraysSession>(words_, lists_); }
+    std::vector<std::string> ranked_modes() const override { return {"best"}; }
+    std::unique_ptr<Session> session(const std::string &mode) override
+    {
+        if (mode == "best")
+            return std::make_unique<RankedSession>(classes_, terms_, ArraysSession(words_, lists_));
+        return std::make_unique<ArraysSession>(words_, lists_);
+    }
+
+    void prepare_ranked(size_t place) override
+    {
+        if (terms_.count(place))
+            return;
+        size_t start = words_.list_start(place), len = words_.list_len(place) / 4;
+        const uint32_t *counts = reinterpret_cast<const uint32_t *>(counts_ + start);
+        std::vector<uint32_t> &greatest = greatest_.emplace_back();
+        for (size_t i = 0; i + BLOCK <= len; i += BLOCK)
+            greatest.push_back(*std::max_element(counts + i, counts + i + BLOCK));
+        bitpacking_list documents = {reinterpret_cast<const uint32_t *>(lists_ + start), nullptr, len};
+        bitpacking_list its = {counts, greatest.data(), len};
+        terms_.emplace(place, term_of(classes_.get(), &documents, &its));
+    }
 
   private:
+    static std::vector<uint8_t> read_classes(const std::string &path)
+    {
+        std::ifstream file(path);
+        std::vector<uint8_t> classes;
+        for (uint32_t length; file >> length;)
+            classes.push_back(class_of(length));
+        return classes;
+    }
+
     store::Words words_;
-    const char *lists_;
+    const char *lists_, *counts_;
+    Classes classes_;
+    std::unordered_map<size_t, term> terms_;
+    std::deque<std::vector<uint32_t>> greatest_; // of the blocks of counts of each term
 };
 
 } // namespace
@@ -169,9 +234,15 @@ class Arrays : public Engine {
 void build(const std::string &folder, const std::string &path)
 {
     store::Writer writer(path);
-    for (const auto &[word, postings] : documents::index_of(folder))
+    std::vector<uint32_t> lengths;
+    for (const auto &[word, postings] : documents::index_of(folder, &lengths))
         writer.add(word, postings.documents.data(), 4 * postings.documents.size(), postings.counts);
     writer.end();
+    std::ofstream file(path + ".lengths");
+    for (uint32_t length : lengths)
+        file << length << '\n';
+    file.close();
+    store::check(!file.fail(), path + ".lengths");
 }
 
 std::unique_ptr<Engine> open_engine(const std::string &path)

@@ -48,6 +48,8 @@ class Reader {
     }
 
     uint64_t bytes() const { return bytes_; }
+    // How many words each document has.
+    const std::vector<uint32_t> &lengths() const { return lengths_; }
 
   private:
     void read_file(const std::string &path)
@@ -84,22 +86,25 @@ class Reader {
     {
         char word[LONGEST_WORD];
         size_t run = 0;
-        bool any = false;
+        uint32_t count = 0;
         for (; at <= end; at++) {
             uint8_t sign = at < end ? letter(text_[at]) : 0;
             if (sign && run < LONGEST_WORD)
                 word[run] = sign;
             if (!sign && 0 < run && run <= LONGEST_WORD) {
                 word_(documents_, {word, run});
-                any = true;
+                count++;
             }
             run = sign ? run + 1 : 0;
         }
-        documents_ += any;
+        documents_ += count > 0;
+        if (count > 0)
+            lengths_.push_back(count);
     }
 
     Word word_;
     std::string text_;
+    std::vector<uint32_t> lengths_;
     uint64_t bytes_ = 0;
     uint32_t documents_ = 0;
 };
@@ -124,16 +129,19 @@ struct Hash {
     size_t operator()(std::string_view text) const { return std::hash<std::string_view>()(text); }
 };
 
-// All words of a folder with their postings, in the order of their bytes.
-inline std::vector<std::pair<std::string, Postings>> index_of(const std::string &folder)
+// All words of a folder with their postings, in the order of their bytes. The lengths of its documents go to `lengths`, if that is given.
+inline std::vector<std::pair<std::string, Postings>> index_of(const std::string &folder, std::vector<uint32_t> *lengths = nullptr)
 {
     std::unordered_map<std::string, Postings, Hash, std::equal_to<>> words;
-    Reader([&](uint32_t document, std::string_view word) {
+    Reader reader([&](uint32_t document, std::string_view word) {
         auto found = words.find(word);
         if (found == words.end())
             found = words.emplace(word, Postings()).first;
         found->second.add(document);
-    }).read(folder);
+    });
+    reader.read(folder);
+    if (lengths)
+        *lengths = reader.lengths();
     std::vector<std::pair<std::string, Postings>> sorted;
     for (auto &entry : words)
         sorted.emplace_back(entry.first, std::move(entry.second));

@@ -23,7 +23,8 @@ template <class WordAt> size_t find_word(size_t words, WordAt word_at, std::stri
     return low < words && word_at(low) == word ? low : NO_WORD;
 }
 
-// A query: '&' for documents with all words, '|' for documents with any, and '-' for documents with the first word and no other.
+// A query: '&' for documents with all words, '|' for documents with any, and '-' for documents with the first word and no other. In a file
+// of ranked queries '&' and '|' ask for the best ten of these documents.
 struct Query {
     std::string set;
     char operation;
@@ -53,6 +54,8 @@ class Session {
     // The number of documents that answer. Their numbers are at `out`, in order, or that is null in a mode that only counts.
     virtual size_t answer(const Query &query) = 0;
     const uint32_t *out = nullptr;
+    // Of a session that ranks: how many blocks it unpacked at most, and how many the lists have.
+    virtual std::pair<size_t, size_t> blocks() const { return {0, 0}; }
 };
 
 class Engine {
@@ -65,6 +68,9 @@ class Engine {
     // "query" looks the words of a query up and answers it; "lists" has them looked up before. Others are an engine's own.
     virtual std::vector<std::string> modes() const { return {"query", "lists"}; }
     virtual std::unique_ptr<Session> session(const std::string &mode) = 0;
+    // The modes for ranked queries, of which "best" is the first, if there is any; and the same calls for these.
+    virtual std::vector<std::string> ranked_modes() const { return {}; }
+    virtual void prepare_ranked(size_t) {}
     // Opens all lists of documents, one after the other. Returns how many values they have, or 0 if nothing is to open.
     virtual size_t open_all() { return 0; }
     virtual size_t words() const { return 0; }

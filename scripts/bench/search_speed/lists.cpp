@@ -1,8 +1,6 @@
 // The packed lists of an index of examples/search/, by the functions of include/bitpacking.h. The file is mapped, and a list is opened
 // once.
-#include "engine.hpp"
-
-#include "bitpacking.h"
+#include "ranked.hpp"
 
 #include <algorithm>
 #include <cstdio>
@@ -11,6 +9,7 @@
 #include <fcntl.h>
 #include <sys/mman.h>
 #include <sys/stat.h>
+#include <unordered_map>
 
 namespace {
 
@@ -43,7 +42,7 @@ class Lists : public Engine {
         if (file < 0 || fstat(file, &status) != 0)
             fail("the index can't be opened");
         void *bytes = mmap(nullptr, status.st_size, PROT_READ, MAP_PRIVATE, file, 0);
-        if (bytes == MAP_FAILED || status.st_size < 12 || memcmp(bytes, "search1", 8) != 0)
+        if (bytes == MAP_FAILED || status.st_size < 12 || memcmp(bytes, MAGIC, sizeof MAGIC) != 0)
             fail("this is no index");
         bytes_ = static_cast<const uint8_t *>(bytes);
         const uint8_t *end = bytes_ + status.st_size - 4;
@@ -51,8 +50,10 @@ class Lists : public Engine {
         bitpacking_list bounds = opened(bytes_ + start, end - bytes_ - start);
         bounds_.resize(bitpacking_list_len(&bounds));
         bitpacking_list_unpack(&bounds, bounds_.data(), bounds_.size());
-        bitpacking_list lengths = item(bounds_.size() - 2);
-        documents_ = bitpacking_list_len(&lengths);
+        bitpacking_list list = item(bounds_.size() - 2);
+        numbers classes = unpack(list);
+        classes_ = std::make_unique<Classes>(std::vector<uint8_t>(classes.items, classes.items + classes.len));
+        documents_ = classes.len;
         words_ = (bounds_.size() - 2 - documents_) / 3;
         views_ = static_cast<bitpacking_list *>(calloc(words_, sizeof *views_));
     }
@@ -81,6 +82,18 @@ class Lists : public Engine {
     }
 
     const bitpacking_list &documents_of(size_t place) const { return views_[place]; }
+
+    void prepare_ranked(size_t place) override
+    {
+        prepare(place);
+        bitpacking_list counts = item(list_of(place) + 1);
+        if (!terms_.count(place))
+            terms_.emplace(place, term_of(classes_->get(), &views_[place], &counts));
+    }
+
+    const term &term_at(size_t place) const { return terms_.at(place); }
+    const lengths *all_lengths() const { return classes_->get(); }
+    std::vector<std::string> ranked_modes() const override { return {"best", "scan"}; }
 
     std::vector<std::string> modes() const override { return {"query", "lists", "opening"}; }
     std::unique_ptr<Session> session(const std::string &mode) override;
@@ -115,6 +128,8 @@ class Lists : public Engine {
     std::vector<uint32_t> bounds_; // where each item begins
     size_t documents_, words_;
     bitpacking_list *views_; // of the words, once they are opened; before that all zero
+    std::unique_ptr<Classes> classes_;
+    std::unordered_map<size_t, term> terms_;
 };
 
 class ListsSession : public Session {
@@ -153,8 +168,36 @@ class ListsSession : public Session {
     Room room_;
 };
 
+// Ranks documents by blocks, or by a scan of all that answer.
+class RankedSession : public Session {
+  public:
+    RankedSession(const Lists &lists, bool scans) : lists_(lists), answers_(lists, false), ranker_(lists.all_lengths()), scans_(scans) {}
+
+    size_t answer(const Query &query) override
+    {
+        terms_.clear();
+        for (size_t place : query.places)
+            terms_.push_back(&lists_.term_at(place));
+        bool sets = scans_ || query.operation == '&';
+        numbers documents = {nullptr, sets ? answers_.answer(query) : 0};
+        documents.items = const_cast<uint32_t *>(answers_.out);
+        out = ranker_.out;
+        return ranker_.rank_terms(terms_, sets ? &documents : nullptr, scans_);
+    }
+    std::pair<size_t, size_t> blocks() const override { return {ranker_.unpacked, ranker_.blocks}; }
+
+  private:
+    const Lists &lists_;
+    ListsSession answers_;
+    Ranker ranker_;
+    bool scans_;
+    std::vector<const term *> terms_;
+};
+
 std::unique_ptr<Session> Lists::session(const std::string &mode)
 {
+    if (mode == "best" || mode == "scan")
+        return std::make_unique<RankedSession>(*this, mode == "scan");
     return std::make_unique<ListsSession>(*this, mode == "opening");
 }
 

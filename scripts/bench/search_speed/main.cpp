@@ -2,11 +2,13 @@
 //
 //     PROGRAM index FOLDER INDEX
 //     PROGRAM queries INDEX QUERIES ANSWERS ROUNDS THREADS ONE_OF
+//     PROGRAM ranked INDEX QUERIES ANSWERS ROUNDS THREADS ONE_OF
 //     PROGRAM open INDEX ROUNDS
 //
 // It prints lines with tabs. `queries` reads lines SET OPERATION WORDS, with tabs, and takes one of ONE_OF of them. It writes for each how
 // many documents answer, and a number that their numbers make. A round answers all queries of a set. The best round has the least processor
-// time if there is one thread, and else the least time.
+// time if there is one thread, and else the least time. `ranked` does so for the best ten. On one thread it writes the least time of each
+// query to ANSWERS.MODE.times.
 #include "engine.hpp"
 
 #include <atomic>
@@ -73,24 +75,43 @@ size_t answer(const Engine &engine, Session &session, Query &query, bool looked_
     return session.answer(query);
 }
 
-// Answers each query once, and returns how many documents answer each. The answers go to a file if there is one.
-std::vector<size_t> first_answers(Engine &engine, const std::string &mode, std::vector<Query> &queries, const char *path)
+constexpr uint64_t NOT_FETCHED = 14695981039346656037u;
+
+// How many documents answer a query, and a number that their numbers make, unless they are only counted.
+struct Answer {
+    size_t count;
+    uint64_t hash;
+    bool operator==(const Answer &other) const
+    {
+        return count == other.count && (hash == other.hash || hash == NOT_FETCHED || other.hash == NOT_FETCHED);
+    }
+};
+
+// Answers each query once. The answers go to a file if there is one. How many blocks were unpacked goes to the output, if that is known.
+std::vector<Answer> first_answers(Engine &engine, const std::string &mode, std::vector<Query> &queries, const char *path)
 {
     std::unique_ptr<Session> session = engine.session(mode);
     FILE *file = path ? fopen(path, "w") : nullptr;
-    std::vector<size_t> counts;
+    std::vector<Answer> answers;
+    std::map<std::string, std::pair<size_t, size_t>> blocks;
     for (Query &query : queries) {
+        auto [unpacked, all] = session->blocks();
         size_t count = answer(engine, *session, query, false);
-        uint64_t hash = 14695981039346656037u;
+        blocks[query.set].first += session->blocks().first - unpacked;
+        blocks[query.set].second += session->blocks().second - all;
+        uint64_t hash = NOT_FETCHED;
         for (size_t i = 0; i < count && session->out; i++)
             hash = (hash ^ session->out[i]) * 1099511628211u;
         if (file)
             fprintf(file, "%zu %llu\n", count, (unsigned long long)hash);
-        counts.push_back(count);
+        answers.push_back({count, hash});
     }
     if (file)
         fclose(file);
-    return counts;
+    for (const auto &[set, its] : blocks)
+        if (path && its.second > 0)
+            printf("blocks\t%s\t%zu\t%zu\n", set.c_str(), its.first, its.second);
+    return answers;
 }
 
 // A round: threads take queries in turn.
@@ -129,7 +150,23 @@ void time_set(Engine &engine, const std::string &mode, const std::string &set, s
     fflush(stdout);
 }
 
-int run_queries(Engine &engine, char **arguments)
+// Writes the least time of each query.
+void write_times(Engine &engine, const std::string &mode, std::vector<Query> &queries, int rounds, const std::string &path)
+{
+    std::unique_ptr<Session> session = engine.session(mode);
+    std::ofstream file(path);
+    for (Query &query : queries) {
+        double least = 1e9;
+        for (int i = 0; i < rounds; i++) {
+            double start = seconds(CLOCK_MONOTONIC);
+            answer(engine, *session, query, false);
+            least = std::min(least, seconds(CLOCK_MONOTONIC) - start);
+        }
+        file << query.set << '\t' << least << '\n';
+    }
+}
+
+int run_queries(Engine &engine, char **arguments, bool ranked)
 {
     const char *answers = arguments[4];
     int rounds = atoi(arguments[5]);
@@ -139,15 +176,17 @@ int run_queries(Engine &engine, char **arguments)
     std::map<std::string, std::vector<Query>> sets;
     for (const Query &query : queries) {
         for (size_t place : query.places)
-            engine.prepare(place);
+            ranked ? engine.prepare_ranked(place) : engine.prepare(place);
         if (sets[query.set].empty())
             order.push_back(query.set);
         sets[query.set].push_back(query);
     }
-    std::vector<size_t> counts = first_answers(engine, "query", queries, answers);
+    std::vector<Answer> first = first_answers(engine, ranked ? "best" : "query", queries, answers);
     print_memory();
-    for (const std::string &mode : engine.modes()) {
-        if (first_answers(engine, mode, queries, nullptr) != counts) {
+    for (const std::string &mode : ranked ? engine.ranked_modes() : engine.modes()) {
+        if (ranked && threads == 1)
+            write_times(engine, mode, queries, rounds, std::string(answers) + '.' + mode + ".times");
+        if (first_answers(engine, mode, queries, nullptr) != first) {
             fprintf(stderr, "the mode %s has other answers\n", mode.c_str());
             return 1;
         }
@@ -177,12 +216,12 @@ int main(int len, char **arguments)
     std::string command = len > 3 ? arguments[1] : "";
     if (command == "index") {
         build(arguments[2], arguments[3]);
-    } else if (command == "queries" && len == 8) {
-        return run_queries(*open_engine(arguments[2]), arguments);
+    } else if ((command == "queries" || command == "ranked") && len == 8) {
+        return run_queries(*open_engine(arguments[2]), arguments, command == "ranked");
     } else if (command == "open") {
         run_open(*open_engine(arguments[2]), atoi(arguments[3]));
     } else {
-        fprintf(stderr, "index, queries or open, with their arguments\n");
+        fprintf(stderr, "index, queries, ranked or open, with their arguments\n");
         return 2;
     }
     print_memory();

@@ -1,4 +1,4 @@
-// The library of Xapian: boolean queries, without weights. Its database has no list of words for each document, no positions and no names.
+// The library of Xapian: boolean queries, without weights, and the best ten by BM25. Its database has no list of words for each document, no positions and no names.
 #include "documents.hpp"
 #include "engine.hpp"
 
@@ -8,10 +8,14 @@ namespace {
 
 class XapianSession : public Session {
   public:
-    // With `count` the documents are counted, and not fetched.
-    XapianSession(const std::string &path, bool count) : database_(path), enquire_(database_), all_(database_.get_doccount()), count_(count)
+    // In the mode "counts" the documents are counted, and not fetched.
+    XapianSession(const std::string &path, const std::string &mode)
+        : database_(path), enquire_(database_), all_(database_.get_doccount()), count_(mode == "counts"), best_(mode == "best")
     {
-        enquire_.set_weighting_scheme(Xapian::BoolWeight());
+        if (best_)
+            enquire_.set_weighting_scheme(Xapian::BM25Weight(1.2, 0, 1, 0.75, 0)); /* k1, k2, k3, b, and the least length */
+        else
+            enquire_.set_weighting_scheme(Xapian::BoolWeight());
         enquire_.set_docid_order(Xapian::Enquire::ASCENDING);
     }
 
@@ -21,7 +25,7 @@ class XapianSession : public Session {
                                       : query.operation == '|' ? Xapian::Query::OP_OR
                                                                : Xapian::Query::OP_AND_NOT;
         enquire_.set_query(Xapian::Query(operation, query.words.begin(), query.words.end()));
-        Xapian::MSet found = enquire_.get_mset(0, count_ ? 0 : all_, all_);
+        Xapian::MSet found = best_ ? enquire_.get_mset(0, 10) : enquire_.get_mset(0, count_ ? 0 : all_, all_);
         out = nullptr;
         if (count_)
             return found.get_matches_estimated(); /* exact, since all documents are looked at */
@@ -37,7 +41,7 @@ class XapianSession : public Session {
     Xapian::Database database_;
     Xapian::Enquire enquire_;
     Xapian::doccount all_;
-    bool count_;
+    bool count_, best_;
     Room room_;
 };
 
@@ -46,7 +50,8 @@ class Words : public Engine {
     explicit Words(const std::string &path) : path_(path) {}
     size_t find(std::string_view) const override { return 0; }
     std::vector<std::string> modes() const override { return {"query", "counts"}; }
-    std::unique_ptr<Session> session(const std::string &mode) override { return std::make_unique<XapianSession>(path_, mode == "counts"); }
+    std::unique_ptr<Session> session(const std::string &mode) override { return std::make_unique<XapianSession>(path_, mode); }
+    std::vector<std::string> ranked_modes() const override { return {"best"}; }
 
   private:
     std::string path_;

@@ -5,14 +5,11 @@ use std::fs;
 use std::io::Write;
 use std::path::Path;
 
-use bitpacking::list::{difference, encode, intersect, union, Kind, PackedList};
+use bitpacking::list::{difference, encode, intersect, union, Kind, ListBuf, PackedList};
 
-use crate::{about, Result, MAGIC};
+use crate::best::{Lengths, Ranking, Term, BLOCK, MOST_TERMS};
+use crate::{about, Options, Result, MAGIC};
 
-/// The values of a block of the lists.
-const BLOCK: usize = 128;
-/// The most lists that are united in one call.
-const GROUP: usize = 16;
 /// The most signs of a query.
 const LONGEST_QUERY: usize = 1000;
 
@@ -23,18 +20,20 @@ fn damaged<T>(what: &str) -> Result<T> {
 fn open<'a>(bytes: &'a [u8], kind: Kind, name: &str) -> Result<PackedList<'a>> {
     match PackedList::open(bytes) {
         Err(error) => damaged(&format!("a list of {name}: {error}")),
-        Ok(list) if list.kind() != kind => damaged(&format!("a list of {name}: wrong kind")),
+        Ok(list) if list.kind() != kind || list.block_len() != BLOCK => {
+            damaged(&format!("a list of {name}: wrong kind or blocks"))
+        }
         Ok(list) => Ok(list),
     }
 }
 
 /// An index file and where its items begin: the names of documents, the words, two lists for each word, and the list of
-/// lengths of documents.
+/// the classes of the lengths of documents.
 struct Index<'a> {
     bytes: &'a [u8],
     bounds: Vec<u32>,
-    lengths: Vec<u32>,
-    total: f64,
+    lengths: Lengths,
+    documents: usize,
     words: usize,
 }
 
@@ -42,7 +41,7 @@ impl<'a> Index<'a> {
     /// Tests all of an index but for the lists of words.
     fn open(bytes: &'a [u8]) -> Result<Self> {
         let Some((items, &start)) = bytes.split_last_chunk().filter(|(items, _)| items.starts_with(MAGIC)) else {
-            return Err("this is no index: it does not begin with 'search1'".into());
+            return Err("this is no index: it does not begin with 'search2'".into());
         };
         let start = u32::from_le_bytes(start) as usize;
         let Some(list) = items.get(start..) else { return damaged("it is cut") };
@@ -51,15 +50,15 @@ impl<'a> Index<'a> {
         if bounds[0] as usize != MAGIC.len() || end as usize != start {
             return damaged("the bounds are of other items");
         }
-        let lengths = open(&bytes[last as usize..start], Kind::Plain, "lengths")?.to_vec();
-        let lists = (bounds.len() - 2).wrapping_sub(lengths.len());
+        let classes = open(&bytes[last as usize..start], Kind::Plain, "classes")?.to_vec();
+        let (documents, lists) = (classes.len(), (bounds.len() - 2).wrapping_sub(classes.len()));
         if lists > bounds.len() || lists % 3 != 0 {
             return damaged("the number of items is wrong");
         }
-        let total = lengths.iter().map(|&it| f64::from(it)).sum();
-        let index = Index { bytes, bounds, lengths, total, words: lists / 3 };
+        let Ok(classes) = classes.into_iter().map(u8::try_from).collect() else { return damaged("a length has no class") };
+        let index = Index { bytes, bounds, lengths: Lengths::new(classes), documents, words: lists / 3 };
         for word in 0..index.words {
-            let right = match index.item(index.lengths.len() + word) {
+            let right = match index.item(index.documents + word) {
                 [letters @ .., 0] => letters.iter().all(|it| it.is_ascii_lowercase() || it.is_ascii_digit()),
                 _ => false,
             };
@@ -76,7 +75,7 @@ impl<'a> Index<'a> {
 
     /// A word, without the zero after it.
     fn word(&self, word: usize) -> &'a str {
-        let item = self.item(self.lengths.len() + word);
+        let item = self.item(self.documents + word);
         std::str::from_utf8(&item[..item.len() - 1]).unwrap_or_default()
     }
 
@@ -91,8 +90,8 @@ impl<'a> Index<'a> {
     }
 }
 
-/// The bytes of a list of documents, of a word or of an answer.
-type List<'a> = Cow<'a, [u8]>;
+/// A list of documents, of a word or of an answer.
+type List<'a> = ListBuf<Cow<'a, [u8]>>;
 
 /// The functions of the library that make one list of many.
 enum Combine {
@@ -106,9 +105,11 @@ struct Search<'a> {
     index: &'a Index<'a>,
     query: &'a [u8],
     at: usize,
-    /// How well each document answers, if that is wanted.
-    scores: Option<Vec<f64>>,
-    explain: bool,
+    /// The words that count for the order of documents, if that is wanted.
+    terms: Vec<Term<'a>>,
+    /// Whether any of words are wanted: their lists are ranked without making one of them.
+    alone: bool,
+    options: &'a Options,
 }
 
 impl<'a> Search<'a> {
@@ -142,14 +143,14 @@ impl<'a> Search<'a> {
             if with.is_empty() {
                 return self.wrong("a word is missing, or one without a minus");
             }
-            without.insert(0, self.combine(Combine::All, &with)?);
-            any.push(self.combine(Combine::Without, &without)?);
+            without.insert(0, self.combine(Combine::All, with)?);
+            any.push(self.combine(Combine::Without, without)?);
         }
         if self.next() != end {
             return self.wrong(if end.is_some() { "a bracket is not closed" } else { "no bracket is open" });
         }
         self.skip(usize::from(end.is_some()));
-        self.combine(Combine::Any, &any)
+        self.combine(Combine::Any, any)
     }
 
     /// Reads a bracket, a word, or the first letters of words.
@@ -168,91 +169,100 @@ impl<'a> Search<'a> {
         }
         let first = self.index.first(|it| it < &word[..]);
         let end = self.index.first(|it| it <= &word[..] || prefix && it.starts_with(&word));
-        let mut lists = (first..end).map(|word| self.word(word, negative)).collect::<Result<Vec<_>>>()?;
-        while lists.len() > GROUP {
-            lists = lists.chunks(GROUP).map(|group| self.combine(Combine::Any, group)).collect::<Result<_>>()?;
-        }
-        self.combine(Combine::Any, &lists)
+        let lists = (first..end).map(|word| self.word(word, negative)).collect::<Result<Vec<_>>>()?;
+        self.combine(Combine::Any, lists)
     }
 
     /// The documents that have a word. Unless it is negative it counts for their order.
     fn word(&mut self, word: usize, negative: bool) -> Result<List<'a>> {
         let (index, name) = (self.index, self.index.word(word));
-        let item = index.lengths.len() + index.words + 2 * word;
+        let item = index.documents + index.words + 2 * word;
         let documents = open(index.item(item), Kind::StrictlySorted, name)?;
-        if documents.iter().next_back().map_or(true, |last| last as usize >= index.lengths.len()) {
+        if documents.last().map_or(true, |last| last as usize >= index.documents) {
             return damaged(&format!("'{name}' is in no document, or in one that is not there"));
         }
-        if self.explain {
+        if self.options.explain {
             eprintln!("{name}: {} documents in {} blocks", documents.len(), documents.len().div_ceil(BLOCK));
         }
-        if let (false, Some(scores)) = (negative, &mut self.scores) {
-            add_scores(index, &documents, &open(index.item(item + 1), Kind::Plain, name)?, scores)?;
+        if !negative && self.options.best > 0 {
+            let counts = open(index.item(item + 1), Kind::Plain, name)?;
+            if documents.len() != counts.len() {
+                return damaged("a word has more or fewer counts than documents");
+            }
+            self.terms.push(Term::new(&index.lengths, documents, counts));
         }
-        Ok(index.item(item).into())
+        Ok(ListBuf::open(index.item(item).into())?)
     }
 
     /// What a function of the library makes of lists. One list stays as it is.
-    fn combine(&mut self, combine: Combine, lists: &[List<'a>]) -> Result<List<'a>> {
-        if let [list] = lists {
-            return Ok(list.clone());
+    fn combine(&mut self, combine: Combine, mut lists: Vec<List<'a>>) -> Result<List<'a>> {
+        if lists.len() == 1 || self.alone && !lists.is_empty() {
+            return Ok(lists.swap_remove(0));
         }
-        let opened = lists.iter().map(|list| PackedList::open(list)).collect::<std::result::Result<Vec<_>, _>>()?;
+        let opened: Vec<_> = lists.iter().map(ListBuf::as_list).collect();
         let lens = || opened.iter().map(PackedList::len);
         let (name, values, sought) = match combine {
             Combine::All => ("intersect", intersect(&opened)?, lens().min()),
             Combine::Any => ("unite", union(&opened)?, None),
             Combine::Without => ("subtract", difference(&opened)?, lens().next()),
         };
-        if self.explain {
+        if self.options.explain && !self.alone {
             // One block for each value that is sought, and one for the value after it.
             let blocks = lens().max().unwrap_or(0).div_ceil(BLOCK);
             let most = sought.map_or(blocks, |values| blocks.min(2 * values + 1));
             eprintln!("{name} of {} lists: at most {most} blocks of each unpacked", opened.len());
         }
-        Ok(encode(Kind::StrictlySorted, &values)?.into())
+        Ok(ListBuf::open(encode(Kind::StrictlySorted, &values)?.into())?)
+    }
+
+    /// Ranks the documents that answer. Any of words are ranked by their lists; for other queries the documents are found first.
+    fn best(mut self) -> Result<Vec<(f64, u32)>> {
+        let words = self.query.split(|sign| !sign.is_ascii_alphanumeric()).filter(|word| !word.is_empty()).count();
+        let bars = self.query.iter().filter(|&&sign| sign == b'|').count();
+        let plain = !self.query.iter().any(|sign| b"-(*".contains(sign));
+        self.alone = !self.options.scan && plain && words == bars + 1 && words <= MOST_TERMS;
+        let (index, options, documents) = (self.index, self.options, self.query(false, None)?);
+        let scans = options.scan || self.terms.len() > MOST_TERMS;
+        let mut ranking = Ranking::new(&index.lengths, self.terms, options.best);
+        match (scans, self.alone) {
+            (true, _) => ranking.scan(&documents.as_list().to_vec()),
+            (false, true) => ranking.rank_any()?,
+            (false, false) => ranking.rank_these(&documents.as_list().to_vec())?,
+        }
+        ranking.restart();
+        if options.explain {
+            eprintln!("{} blocks unpacked to rank", ranking.unpacked);
+        }
+        Ok(ranking.best)
     }
 }
 
-/// Adds what a word is worth to the scores of its documents, by BM25 with the usual constants.
-fn add_scores(index: &Index, documents: &PackedList, counts: &PackedList, scores: &mut [f64]) -> Result<()> {
-    if documents.len() != counts.len() {
-        return damaged("a word has more or fewer counts than documents");
-    }
-    let (all, have) = (scores.len() as f64, counts.len() as f64);
-    let rare = (1.0 + (all - have + 0.5) / (have + 0.5)).ln();
-    for (document, count) in documents.iter().zip(counts.iter()) {
-        let (document, count) = (document as usize, f64::from(count));
-        let length = f64::from(index.lengths[document]) / (index.total / all).max(1.0);
-        scores[document] += rare * count * 2.2 / (count + 1.2 * (0.25 + 0.75 * length));
-    }
-    Ok(())
-}
-
-fn answer(bytes: &[u8], query: &[u8], explain: bool, best: usize) -> Result<(Vec<u8>, bool)> {
+/// The number of the documents that answer, or the best of them, as text.
+fn answer(bytes: &[u8], query: &[u8], options: &Options) -> Result<(Vec<u8>, bool)> {
     if query.len() > LONGEST_QUERY {
         return Err("the query is too long".into());
     }
     let index = &Index::open(bytes)?;
-    let scores = (best > 0).then(|| vec![0.0; index.lengths.len()]);
-    let mut search = Search { index, query, at: 0, scores, explain };
-    let mut documents = PackedList::open(&search.query(false, None)?)?.to_vec();
-    let scores = search.scores.unwrap_or_default();
-    let mut text = format!("{} of {} documents\n", documents.len(), index.lengths.len()).into_bytes();
-    if best > 0 {
-        documents.sort_by(|&a, &b| scores[b as usize].total_cmp(&scores[a as usize]));
+    let mut search = Search { index, query, at: 0, terms: Vec::new(), alone: false, options };
+    if options.best == 0 {
+        let found = search.query(false, None)?.as_list().len();
+        return Ok((format!("{found} of {} documents\n", index.documents).into(), found > 0));
     }
-    for document in documents.iter().map(|&it| it as usize).take(best) {
-        write!(text, "{:7.3}  ", scores[document])?;
+    let (best, mut text) = (search.best()?, Vec::new());
+    for &(score, document) in &best {
+        write!(text, "{score:7.3}  ")?;
         // A terminal could take these bytes for commands.
-        text.extend(index.item(document).iter().map(|byte| if byte.is_ascii_control() { b'?' } else { *byte }));
+        text.extend(index.item(document as usize).iter().map(|byte| if byte.is_ascii_control() { b'?' } else { *byte }));
         text.push(b'\n');
+        if options.explain {
+            eprintln!("document {document}: {score}");
+        }
     }
-    Ok((text, !documents.is_empty()))
+    Ok((text, !best.is_empty()))
 }
 
 /// Answers a query from an index file. Returns what to print, and whether there is a document.
-pub fn find(file: &Path, query: &[u8], explain: bool, best: usize) -> Result<(Vec<u8>, bool)> {
+pub fn find(file: &Path, query: &[u8], options: &Options) -> Result<(Vec<u8>, bool)> {
     let read = fs::read(file).map_err(Into::into);
-    read.and_then(|bytes| answer(&bytes, query, explain, best)).map_err(|error| about(file, error).into())
+    read.and_then(|bytes| answer(&bytes, query, options)).map_err(|error| about(file, error).into())
 }

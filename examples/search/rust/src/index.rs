@@ -8,6 +8,7 @@ use std::path::{Path, PathBuf};
 
 use bitpacking::list::{encode_into, Kind};
 
+use crate::best::class_of;
 use crate::{about, Result, MAGIC};
 
 /// The longest run of letters and digits that is a word.
@@ -36,18 +37,18 @@ impl Items {
     }
 }
 
-/// What was read: names of documents, how many words each of them has, and for each word in which it is and how often.
+/// What was read: names of documents, the classes of their lengths, and for each word in which it is and how often.
 #[derive(Default)]
 struct Builder {
     items: Items,
-    lengths: Vec<u32>,
+    classes: Vec<u32>,
     words: HashMap<Vec<u8>, (Vec<u32>, Vec<u32>)>,
 }
 
 impl Builder {
     /// Adds a document, which begins in a line of a file, if it has a word.
     fn add_document(&mut self, path: &Path, line: usize, text: &[u8]) -> Result<()> {
-        let (document, mut length) = (self.lengths.len() as u32, 0);
+        let (document, mut length) = (self.classes.len() as u32, 0);
         for word in text.split(|byte| !byte.is_ascii_alphanumeric()) {
             if word.is_empty() || word.len() > LONGEST_WORD {
                 continue;
@@ -63,7 +64,7 @@ impl Builder {
         if length == 0 {
             return Ok(());
         }
-        self.lengths.push(length);
+        self.classes.push(class_of(length));
         let first = text.split(|byte| b"\r\n".contains(byte)).next().unwrap_or_default();
         let ends = |at: &usize| text.get(*at).map_or(true, |byte| byte & 0xC0 != 0x80); // no character of UTF-8 is cut
         let kept = (0..=first.len().min(LONGEST_LINE)).rev().find(ends).unwrap_or(0);
@@ -105,7 +106,7 @@ impl Builder {
         Ok(())
     }
 
-    /// Adds the words in their order, the lists of each, the lengths of documents, and where all these items begin.
+    /// Adds the words in their order, the lists of each, the classes of lengths, and where all these items begin.
     fn add_words(&mut self) -> Result<()> {
         let mut words: Vec<_> = self.words.iter().collect();
         words.sort_unstable_by_key(|(word, _)| *word);
@@ -116,7 +117,7 @@ impl Builder {
             self.items.list(Kind::StrictlySorted, documents)?;
             self.items.list(Kind::Plain, counts)?;
         }
-        self.items.list(Kind::Plain, &self.lengths)?;
+        self.items.list(Kind::Plain, &self.classes)?;
         let start = self.items.bytes.len() as u32;
         encode_into(Kind::StrictlySorted, &self.items.bounds, &mut self.items.bytes)?;
         self.items.end(&start.to_le_bytes())
@@ -153,6 +154,6 @@ pub fn index(folder: &Path, file: &Path, paragraphs: bool) -> Result<(Vec<u8>, b
         let _ = fs::remove_file(&name);
         return Err(about(file, error).into());
     }
-    let (documents, words, size) = (builder.lengths.len(), builder.words.len(), builder.items.bytes.len());
+    let (documents, words, size) = (builder.classes.len(), builder.words.len(), builder.items.bytes.len());
     Ok((format!("{documents} documents and {words} words in {size} bytes\n").into(), true))
 }

@@ -1,7 +1,8 @@
 //! A small search engine over packed lists. `../README.md` describes its queries and its file.
 //!
-//! This file has the command line. `index.rs` has `index`, and `find.rs` has `find`.
+//! This file has the command line. `index.rs` has `index`, `find.rs` has `find`, and `best.rs` ranks documents.
 
+mod best;
 mod find;
 mod index;
 
@@ -17,9 +18,9 @@ A small search engine over packed lists.
 
     search index [--paragraphs] FOLDER FILE
         writes an index of the text files below FOLDER to FILE; a document is a file, or a paragraph
-    search find [--count] [--explain] [--best N] FILE QUERY
-        prints which lists it reads (--explain), how many documents answer QUERY, and if not --count the best:
-        10, or N up to 999
+    search find [--best N] [--scan] [--count] [--explain] FILE QUERY
+        prints the 10 best documents that answer QUERY, or the N best up to 999, without reading all its lists, or with
+        reading all (--scan); or how many answer (--count); and which lists and how many of their blocks it reads (--explain)
 
 A query has words next to each other (documents with all of them), a | b (with one of them), -c (without it),
 pre* (all words that begin so), and brackets: 'packed (list | block) -chain*'
@@ -28,7 +29,16 @@ The status is 0 if a document was found, 1 if none was, and 2 if something is wr
 ";
 
 /// An index file begins with this. It has a zero, which no text has.
-const MAGIC: &[u8; 8] = b"search1\0";
+const MAGIC: &[u8; 8] = b"search2\0";
+
+/// What the command line asks for.
+struct Options {
+    paragraphs: bool,
+    explain: bool,
+    scan: bool,
+    /// How many documents are wanted, or 0 for their number.
+    best: usize,
+}
 
 /// An error is a message for the user.
 type Result<T> = std::result::Result<T, Box<dyn Error>>;
@@ -46,21 +56,22 @@ fn run() -> Result<(Vec<u8>, bool)> {
     }
     let wrong = "arguments: search --help says what is wanted";
     let [command, options @ .., first, last] = &arguments[..] else { return Err(wrong.into()) };
-    let (mut options, mut paragraphs, mut explain, mut best) = (options.iter(), false, false, 10);
-    while let Some(option) = options.next() {
+    let (mut given, mut options) = (options.iter(), Options { paragraphs: false, explain: false, scan: false, best: 10 });
+    while let Some(option) = given.next() {
         match option.to_str() {
-            Some("--paragraphs") => paragraphs = true,
-            Some("--count") => best = 0,
-            Some("--explain") => explain = true,
+            Some("--paragraphs") => options.paragraphs = true,
+            Some("--count") => options.best = 0,
+            Some("--scan") => options.scan = true,
+            Some("--explain") => options.explain = true,
             Some("--best") => {
-                best = options.next().and_then(|it| it.to_str()?.parse().ok()).filter(|&it| it < 1000).ok_or(wrong)?
+                options.best = given.next().and_then(|it| it.to_str()?.parse().ok()).filter(|&it| it < 1000).ok_or(wrong)?
             }
             _ => return Err(wrong.into()),
         }
     }
     match command.to_str() {
-        Some("index") => index::index(Path::new(first), Path::new(last), paragraphs),
-        Some("find") => find::find(Path::new(first), last.as_encoded_bytes(), explain, best),
+        Some("index") => index::index(Path::new(first), Path::new(last), options.paragraphs),
+        Some("find") => find::find(Path::new(first), last.as_encoded_bytes(), &options),
         _ => Err(wrong.into()),
     }
 }

@@ -1,0 +1,186 @@
+"""What search.py asks of the ranking of examples/search/: thousands of random queries over paragraphs with many ties have to get the best
+documents that this model finds, which reads no index, by blocks and by a scan, with the same scores to the last bit. Then wrong changes of
+the programs are tried, each of which has to give another answer.
+"""
+import collections
+import concurrent.futures
+import heapq
+import math
+import os
+import random
+import re
+import shutil
+
+from common import ROOT, run
+import archives
+import c
+
+QUERIES = 2400
+# One of so many queries is asked of each program in both ways.
+ONE_OF = 6
+DOCUMENTS = 4000
+# Words, and in one of how many paragraphs each is at random, with counts up to a number. One word is in fewer than a block of paragraphs.
+WORDS = {"the": (2, 9), "of": (3, 3), "sea": (9, 4), "ship": (20, 60), "moon": (20, 2), "oak": (70, 5), "elm": (300, 3)}
+# Words of equally many paragraphs, each once in it: the later one is in earlier paragraphs, of which each has it alone. Their scores are equal.
+TIED = {"ant": range(2001, 3000, 3), "bee": range(1, 1000, 3)}
+ALONE = 40
+# Wrong changes: what is wrong, and what is other in best.c, and in best.rs.
+WRONG = [
+    ("a block with the bound of the last score and lower documents is passed", ("least), low))", "least), UINT32_MAX))"), ("bound, low)", "bound, u32::MAX)")),
+    (
+        "a bound is of the last value",
+        ("block, &other, &most);", "block, &other, &most), bitpacking_list_get(&t->counts, BLOCK * block + BLOCK - 1, &most);"),
+        ("its.of_rest, |bounds| bounds.1", "its.of_rest, |_| its.counts.get(BLOCK * block + BLOCK - 1).unwrap_or(0)"),
+    ),
+    ("a word without a block is left out", ("find(r, t, document) ?", "t->blocks && find(r, t, document) ?"), ("if its.find", "if its.counts.block_count() > 0 && its.find")),
+    ("of equal scores the first that comes is better", ("before.score == score && before.document < document", "before.score == score"), ("its == score && before < document);", "its == score);")),
+    ("the last score counts before all places are taken", ("r->len < r->room)\n        return 1", "r->len == 0)\n        return 1"), ("self.best.len() < self.room ||", "self.best.is_empty() ||")),
+    ("a score is added up in another order", ("score += r->parts[i]", "score += r->parts[r->order[i]]"), ("self.parts.iter().fold(0.0, |sum, part| sum + part)", "self.order.iter().fold(0.0, |sum, &term| sum + self.parts[term])")),
+    ("a document that was seen comes again", ("i != own && find", "i != own && 0 && find"), ("|| self.terms[self.order[i]].find(document)?", "|| false")),
+    ("the bound of a rest is that of nothing", ("most = t->of_rest, other", "most = 0, other"), ("map_or(its.of_rest, |bounds|", "map_or(0, |bounds|")),
+]  # fmt: skip
+
+
+def corpus(chance):
+    """The words of each paragraph."""
+    documents = []
+    for number in range(DOCUMENTS):
+        words = [word for word, (one_of, most) in WORDS.items() if chance.random() * one_of < 1 for _ in range(chance.randint(1, most))]
+        tied = [word for word, numbers in TIED.items() if number in numbers]
+        if tied and number % 1000 < 3 * ALONE:
+            words = []
+        words += tied + ["x"] * (chance.choice([0, 0, 1, 5, 20, 200]) if not tied or words else 0)
+        documents.append(words or ["x"])
+    return documents
+
+
+def length_of(length):
+    """The least length of the same class: with the four highest binary digits."""
+    shift = max(0, length.bit_length() - 4)
+    return length >> shift << shift
+
+
+class Model:
+    """What each word adds to the scores of its documents, by BM25."""
+
+    def __init__(self, documents):
+        self.counts = [collections.Counter(words) for words in documents]
+        lengths = [float(length_of(len(words))) for words in documents]
+        mean = sum(lengths) / len(lengths)
+        self.parts = {word: {} for words in documents for word in words}
+        for word, parts in self.parts.items():
+            have = float(sum(word in counts for counts in self.counts))
+            weight = 2.2 * math.log(1 + (len(documents) - have + 0.5) / (have + 0.5))
+            for k, counts in enumerate(self.counts):
+                if word in counts:
+                    parts[k] = weight * (1 / (1 + 1.2 * (0.25 + 0.75 * lengths[k] / mean) / counts[word]))
+
+    def best(self, words, answers, room):
+        """The best documents that answer, with their scores. The words are those of the query that count, in its order."""
+        scores = {}
+        for word in words:
+            for k, part in self.parts[word].items():
+                scores[k] = scores.get(k, 0.0) + part
+        found = [(-score, k) for k, score in scores.items() if answers(self.counts[k])]
+        return [(document, -score) for score, document in heapq.nsmallest(room, found)]
+
+
+def query(chance, words):
+    """A random query: its text, the words that count, and whether the counts of a document answer it."""
+    few = [chance.choice(words) for _ in range(chance.randint(1, 5))]
+    one, other = chance.sample(words, 2)
+    forms = [
+        (" | ".join(few), few, lambda counts: any(it in counts for it in few)),
+        (" | ".join(few), few, lambda counts: any(it in counts for it in few)),
+        (" ".join(few), few, lambda counts: all(it in counts for it in few)),
+        (f"{few[0]} -{one}", few[:1], lambda counts: few[0] in counts and one not in counts),
+        (f"({one} | {other}) {few[0]}", [one, other, few[0]], lambda counts: (one in counts or other in counts) and few[0] in counts),
+        (f"o* | {one}", [*(it for it in words if it[0] == "o"), one], lambda counts: one in counts or any(it[0] == "o" for it in counts)),
+        (f"{one} none", [], lambda counts: False),
+        (f"{one} | none", [one], lambda counts: one in counts),
+    ]
+    return chance.choice(forms)
+
+
+def said(answer):
+    """The documents and their scores that a program explained, or all that it said if it did not end well."""
+    status, text, messages = answer
+    found = [(int(document), float(score)) for document, score in re.findall(r"^document (\d+): (\S+)$", messages, re.M)]
+    shown = re.findall(r"^ *([\d.]+)  ", text, re.M)
+    right = status == (0 if found else 1) and shown == [f"{score:.3f}" for _, score in found]
+    return found if right else answer
+
+
+def queries(model):
+    """Random queries, each as its text, how many documents are wanted, and the best of them."""
+    chance = random.Random(2)
+    words = sorted({*WORDS, *TIED, "x"})
+    made = [(query(chance, words), chance.choice([1, 2, 10, 10, 10, 25, 999])) for _ in range(QUERIES)]
+    tied = [(f"{one} | {other}", [one, other]) for one, other in (["ant", "bee"], ["bee", "ant"]) for _ in range(3)]
+    made += [((text, both, lambda counts: "ant" in counts or "bee" in counts), room) for (text, both), room in zip(tied, [1, 10, 25] * 2)]
+    return [(text, room, model.best(counted, answers, room)) for (text, counted, answers), room in made]
+
+
+def fault(programs, name, options, asked):
+    """What is wrong with the answer of a program to a query, or None."""
+    text, room, wanted = asked
+    found = said(programs.run(name, "find", *options, "--explain", "--best", str(room), "index.c", text))
+    return None if found == wanted else f"{room} of {text} by {name} {options}: {found}, and not {wanted}"
+
+
+def asked_of(programs, made):
+    """Each query with the programs and the options by which it is asked."""
+    for number, one in enumerate(made):
+        for name in programs.paths:
+            if name != "sanitized" or number % ONE_OF == 0:
+                yield name, [], one
+            if name == "c" or number % ONE_OF == 0:
+                yield name, ["--scan"], one
+
+
+def wrong_programs(programs):
+    """The programs with each of the wrong changes. Each as what is wrong, its name, and why it was not built, or None."""
+    folder = f"{programs.folder}/wrong"
+    shutil.copytree(f"{ROOT}/examples/search", folder, ignore=shutil.ignore_patterns("out", "target", "corpus"))
+    right = {}
+    for path in f"{folder}/best.c", f"{folder}/rust/src/best.rs":
+        with open(path, encoding="utf-8") as file:
+            right[path] = file.read()
+    with open(f"{folder}/rust/Cargo.toml", encoding="utf-8") as file:
+        manifest = file.read().replace('path = "../../../rust"', f'path = "{ROOT}/rust"')
+    with open(f"{folder}/rust/Cargo.toml", "w", encoding="utf-8") as file:
+        file.write(manifest)
+    build = {
+        "c": [*c.C99, "-O1", *(f"{folder}/{name}.c" for name in ("search", "index", "best")), f"{archives.OUT}/{archives.ALL}", "-lm", "-o", f"{folder}/search"],
+        "rust": ["cargo", "build", "--release", "--offline", "--manifest-path", f"{folder}/rust/Cargo.toml"],
+    }  # fmt: skip
+    for what, *changes in WRONG:
+        for (language, command), (path, text), (old, new) in zip(build.items(), right.items(), changes):
+            name = f"wrong {language}"
+            programs.paths[name] = f"{folder}/search" if language == "c" else f"{folder}/target/release/search"
+            with open(path, "w", encoding="utf-8") as file:
+                file.write(text.replace(old, new))
+            built = run(*command, env=dict(os.environ, CARGO_TARGET_DIR=f"{folder}/target", RUSTFLAGS="-A warnings"))
+            why = None if built.returncode == 0 and text.count(old) >= 1 else f"it is not built: {built.stdout[-2000:]}"
+            yield what, name, why
+            with open(path, "w", encoding="utf-8") as file:
+                file.write(text)
+            del programs.paths[name]
+
+
+def checks(programs):
+    documents = corpus(random.Random(1))
+    model = Model(documents)
+    os.makedirs(f"{programs.folder}/ranked")
+    with open(f"{programs.folder}/ranked/paragraphs", "w", encoding="ascii") as file:
+        file.write("\n\n".join(" ".join(words) for words in documents) + "\n")
+    _, wrong = programs.index("--paragraphs", "ranked")
+    yield "an index of paragraphs with ties", wrong
+    made = queries(model)
+    with concurrent.futures.ThreadPoolExecutor(2) as pool:
+        faults = [why for why in pool.map(lambda it: fault(programs, *it), asked_of(programs, made)) if why]
+    yield f"the best documents of {len(made)} queries", f"{len(faults)} are wrong: {faults[0][:2000]}" if faults else None
+    for what, name, why in wrong_programs(programs):
+        if not why and not any(fault(programs, name, [], one) for one in made[::-1]):
+            why = "no answer is another"
+        yield f"{what}, in {name}", why
