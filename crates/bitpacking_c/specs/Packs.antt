@@ -99,13 +99,3 @@ position_after before answer = before
 abbrev pub AnswersSize : ℤ → ℕ → ℕ → (Result ℕ ListError → Type 0) → Type 0
 AnswersSize number before after Means =
     (answer : Result ℕ ListError) × (number ≡ number_of_size answer) × (after ≡ position_after before answer) × Means answer
-
--- the number of an answer of joining: -7 for a value that passes 32 bits
-abbrev pub number_of_join : Result ℕ ListError → ℤ
-number_of_join (Err BadNumber) = negsuc 6
-number_of_join answer = number_of_size answer
-
--- the number and the position stand for an answer of joining with this meaning
-abbrev pub AnswersJoin : ℤ → ℕ → ℕ → (Result ℕ ListError → Type 0) → Type 0
-AnswersJoin number before after Means =
-    (answer : Result ℕ ListError) × (number ≡ number_of_join answer) × (after ≡ position_after before answer) × Means answer

@@ -5,7 +5,7 @@ ghost use Rattle.bitpack_lists.specs.declared.list_kind.ListKind.{ListKind};
 ghost use Rattle.bitpack_lists.specs.declared.version.Version.{Version};
 ghost use Rattle.bitpack_lists.specs.Opened.{blocks_of, kind_of, values, version_of};
 ghost use Rattle.bitpack_lists.specs.Parts.{FindsFault};
-ghost use Rattle.bitpacking_c.specs.Packs.{AnswersJoin, AnswersSize, AppendsList, JoinsViews, append_fault, number_of_join, position_after};
+ghost use Rattle.bitpacking_c.specs.Packs.{AnswersSize, AppendsList, JoinsViews, append_fault};
 ghost use Rattle.bitpacking_c.specs.Views.{IsListOf};
 
 use crate::list_packing::answer;
@@ -54,7 +54,7 @@ pub extern "C" fn bitpacking_list_join(
     bytes: &mut [u8],
     position: &mut usize,
 ) -> isize
-    ensures { AnswersJoin result position.old position.new
+    ensures { AnswersSize result position.old position.new
         (JoinsViews view.now base other.now (length room.old) bytes.old bytes.new) }
 {
     let found = match view.lanes {
@@ -63,20 +63,7 @@ pub extern "C" fn bitpacking_list_join(
         4 => join(BitPacker4x::new(), view, base, other, room, bytes),
         _ => join(BitPacker8x::new(), view, base, other, room, bytes),
     };
-    answer_join(found, position)
-}
-
-/// The number that C is told. A value that passes 32 bits has one of its own.
-#[inline(always)]
-fn answer_join(found: Result<usize, ListError>, position: &mut usize) -> isize
-    requires { IfOk found (λ size. size < 2 ^ 63) }
-    ensures number { result ≡ number_of_join found }
-    ensures position { position.new ≡ position_after position.old found }
-{
-    match found {
-        Err(ListError::BadNumber) => -7,
-        other => answer(other, position),
-    }
+    answer(found, position)
 }
 
 /// The list of a view, for its packer. Fails if its whole blocks cannot be copied, since they are of an older version.
