@@ -1,0 +1,157 @@
+"""A PostgreSQL server of its own for tests: its programs are copied into a temporary folder, so that an extension is installed there without
+root, and it runs as a user that is not root, listens on a socket in the folder, and opens no port. It is Debian's server of version 15, or the
+one that PG_CONFIG names."""
+
+import glob
+import os
+import pwd
+import shutil
+import signal
+import subprocess
+import time
+
+from common import ROOT, run
+
+PG_CONFIG = os.environ.get("PG_CONFIG") or "/usr/lib/postgresql/15/bin/pg_config"
+# What `lacking` looks for, and the packages of Debian that have it.
+PACKAGES = {
+    "bindir:postgres": "postgresql-15",
+    "bindir:pgbench": "postgresql-15",
+    "bindir:psql": "postgresql-client-15",
+    "pkglibdir:postgres_fdw.so": "postgresql-15",
+    "pgxs:": "postgresql-server-dev-15",
+    "includedir-server:postgres.h": "postgresql-server-dev-15",
+}
+SETTINGS = {"listen_addresses": "", "jit": "off", "max_connections": "120", "shared_buffers": "64MB", "fsync": "off", "autovacuum": "off"}
+PATIENCE = 60
+
+
+def config(name):
+    """A folder or file of the server, by the name that pg_config has for it."""
+    return run(PG_CONFIG, f"--{name}").stdout.strip()
+
+
+def lacking():
+    """What is missing for a server with extensions, with the packages of Debian that have it."""
+    if not os.path.exists(PG_CONFIG):
+        return ["PostgreSQL 15 (Debian: apt install postgresql-15 postgresql-server-dev-15)"]
+    found = []
+    for wanted, package in PACKAGES.items():
+        name, file = wanted.split(":")
+        path = f"{config(name)}/{file}".rstrip("/")
+        if not os.path.exists(path):
+            found.append(f"{path} (Debian: apt install {package})")
+    return found
+
+
+def account():
+    """The user that servers run as, in the words of subprocess: none if this is not root already."""
+    if os.geteuid() != 0:
+        return {}
+    known = {it.pw_name: it for it in pwd.getpwall()}
+    user = known.get("postgres") or known["nobody"]
+    return {"user": user.pw_uid, "group": user.pw_gid, "extra_groups": []}
+
+
+def handed_over(path):
+    """Gives a folder and all in it to the user that servers run as."""
+    to = account()
+    for folder, _, files in os.walk(path) if to else ():
+        for it in [folder, *(f"{folder}/{file}" for file in files)]:
+            os.chown(it, to["user"], to["group"], follow_symlinks=False)
+
+
+class Programs:
+    """The programs of the server in a folder, in which extensions are installed."""
+
+    def __init__(self, folder):
+        self.folder = folder
+        for name in ["bindir", "pkglibdir", "sharedir"]:
+            ignored = shutil.ignore_patterns("bitcode", "pgxs", "locale", "man", "doc")
+            shutil.copytree(config(name), f"{folder}{config(name)}", symlinks=True, ignore=ignored, dirs_exist_ok=True)
+        handed_over(folder)
+
+    def path(self, program):
+        return f"{self.folder}{config('bindir')}/{program}"
+
+    def make(self, sources, *words, prefix, **more):
+        """Runs make in the folder of an extension, for these programs."""
+        given = [f"PG_CONFIG={PG_CONFIG}", f"DESTDIR={self.folder}", f"BITPACKING={prefix}", "with_llvm=no", "COPT=-Werror"]
+        return run("make", "-s", *given, *words, folder=sources, **more)
+
+
+class Server:
+    """One server, with a folder for its data and its socket."""
+
+    def __init__(self, programs, folder, number=1, like=None, checksums=True):
+        self.programs, self.data, self.port, self.socket = programs, f"{folder}/data{number}", 5430 + number, folder
+        self.log, self.process = f"{folder}/log{number}", None
+        self.known = dict(os.environ, PGHOST=folder, PGPORT=str(self.port), PGUSER="postgres", PGDATABASE="postgres", LC_ALL="C")
+        if like:
+            shutil.copytree(like.data, self.data)
+            handed_over(self.data)
+            return
+        words = ["-D", self.data, "-U", "postgres", "-A", "trust", "-E", "UTF8", "--locale=C", "-N", *["--data-checksums"] * checksums]
+        done = run(programs.path("initdb"), *words, folder=folder, env=self.known, **account())
+        if done.returncode != 0:
+            raise RuntimeError(f"initdb failed: {done.stdout[-2000:]}")
+
+    def start(self, **settings):
+        """Starts the server, and waits until it answers."""
+        given = SETTINGS | {"unix_socket_directories": self.socket, "port": self.port} | settings
+        words = [word for name, value in given.items() for word in ("-c", f"{name}={value}")]
+        with open(self.log, "ab") as log:
+            command = [self.programs.path("postgres"), "-D", self.data, *words]
+            self.process = subprocess.Popen(
+                command, cwd=self.socket, stdin=subprocess.DEVNULL, stdout=log, stderr=log, start_new_session=True, **account()
+            )
+        for _ in range(10 * PATIENCE):
+            if run(self.programs.path("pg_isready"), "-q", env=self.known).returncode == 0:
+                return self
+            if self.process.poll() is not None:
+                break
+            time.sleep(0.1)
+        with open(self.log, encoding="utf-8", errors="replace") as log:
+            raise RuntimeError(f"the server did not start: {log.read()[-2000:]}")
+
+    def stop(self):
+        """Ends the server, and the queries that run."""
+        if self.process and self.process.poll() is None:
+            self.process.send_signal(signal.SIGINT)
+            self.process.wait(PATIENCE)
+
+    def kill(self):
+        """Kills the server and each process that it started, at once."""
+        children = []
+        for path in glob.glob(f"/proc/{self.process.pid}/task/*/children"):
+            with open(path, encoding="ascii") as file:
+                children += map(int, file.read().split())
+        for process in [self.process.pid, *children]:
+            try:
+                os.kill(process, signal.SIGKILL)
+            except ProcessLookupError:
+                pass
+        self.process.wait(PATIENCE)
+        for _ in range(10 * PATIENCE):
+            if not any(os.path.exists(f"/proc/{child}") for child in children):
+                return
+            time.sleep(0.1)
+
+    def psql(self, sql, database="postgres", *words):
+        """What psql prints for some SQL, with its errors, and its status."""
+        command = [f"{config('bindir')}/psql", "-X", "-q", "-A", "-t", "-v", "ON_ERROR_STOP=1", "-d", database, *words]
+        done = run(*command, input=sql, env=self.known)
+        return done.stdout.rstrip("\n"), done.returncode
+
+    def rows(self, sql, database="postgres"):
+        """What psql prints. An error of the server ends the script."""
+        said, status = self.psql(sql, database)
+        if status != 0:
+            raise RuntimeError(f"psql ended with status {status}: {said[-2000:]}")
+        return said
+
+
+def copied_sources(to):
+    """Copies the sources of the extension, for a user that is not root."""
+    shutil.copytree(f"{ROOT}/postgres", to, ignore=shutil.ignore_patterns("*.o", "*.so", "*.bc", "results", "regression.*"))
+    handed_over(to)
