@@ -59,7 +59,7 @@ def dumped(extension, server):
     said, status = server.psql(dump, "restored")
     after = server.psql(digest + "kept", "restored")[0]
     yield "dumped and restored", None if status == 0 and before == after else f"{said[-500:]} {after}"
-    place = f"{extension.programs.folder}{pg_server.config('sharedir')}/extension/packed_list--0.1--next.sql"
+    place = f"{extension.programs.folder}{pg_server.config('sharedir')}/extension/packed_list--1.0--next.sql"
     with open(place, "w", encoding="ascii") as file:
         file.write("CREATE FUNCTION packed_list_next() RETURNS int4 LANGUAGE sql AS 'SELECT 2';\n")
     os.chmod(place, 0o644)

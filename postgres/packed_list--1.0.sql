@@ -1,4 +1,4 @@
--- The extension packed_list, version 0.1. A later version gets a file packed_list--0.1--LATER.sql with what it changes.
+-- The extension packed_list, version 1.0. A later version gets a file packed_list--1.0--LATER.sql with what it changes.
 \echo Use "CREATE EXTENSION packed_list" to load this file. \quit
 
 CREATE TYPE packed_list;
