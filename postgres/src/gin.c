@@ -5,7 +5,7 @@
 #include "access/stratnum.h"
 #include "miscadmin.h"
 
-/* The operators of the class, by their numbers in packed_list--0.1.sql. */
+/* The operators of the class, by their numbers in packed_list--1.0.sql. */
 enum { OVERLAPS = 1, CONTAINS = 2, CONTAINED = 3, EQUAL = 4, HAS = 5 };
 
 /* The values of a list as keys. */

@@ -1,6 +1,6 @@
 //! The values of two opened lists, with a base added to each of the second, written as one list.
 
-ghost use Rattle.std.specs.Prelude.{◌≡◌, ◌+◌, ◌*◌, ◌^◌, ◌<◌, ◌≤◌, ◌++◌, ℕ, List, true, false, length, take, slice_index, OnOk, OnErr, IfOk, IfErr, MatchOption, None, vec_len, vec_capacity};
+ghost use Rattle.std.specs.Prelude.{◌≡◌, ◌+◌, ◌^◌, ◌<◌, ◌≤◌, ◌++◌, ℕ, List, true, false, length, take, slice_index, OnOk, OnErr, IfOk, IfErr, MatchOption, None, vec_len, vec_capacity};
 ghost use Rattle.bitpacking.specs.Bits.{AreBytes};
 ghost use Rattle.bitpacking.specs.Codes.{AreWords};
 ghost use Rattle.bitpack_lists.specs.declared.list_error.ListError.{ListError};
@@ -18,8 +18,9 @@ use bitpacking::BitPacker;
 impl<'a, P: BitPacker> PackedList<'a, P> {
     /// Appends the newest encoded list of the values of the list and, after them, of the values of another list with `base` added to each.
     ///
-    /// The bodies of the list's whole blocks are copied, as [`encode_more`] does. The values of the other list, which may be of another
-    /// packer, kind and version, are unpacked into `room` and packed again. The vector grows at most once.
+    /// The bodies of the list's whole blocks are copied, as [`encode_more`] does. The other list may be of another packer, kind and version:
+    /// its values are unpacked to the start of `room`, which has to be long enough for all of them, and packed again. The vector grows at
+    /// most once.
     ///
     /// Fails with `BadNumber` if a value with the base is above `u32::MAX`, and otherwise as [`encode_more`] does: all values together have
     /// to be in the order of the list's kind.
@@ -97,7 +98,8 @@ impl<'a, P: BitPacker> PackedList<'a, P> {
     // Writes all values with a base added to each, and returns whether these are words.
     fn copy_moved(&self, base: u32, room: &mut [u32]) -> bool
         requires room { length (values self.now) ≤ length room.old }
-        ensures words { result ≡ true → take (length (values self.now)) room.new ≡ moved base (values self.now) }
+        ensures moved { result ≡ true → take (length (values self.now)) room.new ≡ moved base (values self.now) }
+        ensures words { result ≡ true → AreWords (moved base (values self.now)) }
         ensures large { result ≡ false → AreWords (moved base (values self.now)) → ⊥ }
     {
         let count = self.copy_to(room);

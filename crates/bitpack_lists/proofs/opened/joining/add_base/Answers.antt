@@ -1,5 +1,5 @@
 -- Each value is at most what the base leaves, so that the sum is a word.
-use Rattle.std.proofs.Common.{rules, ◌≡◌, ◌+◌, ◌-◌, ◌^◌, ◌≤◌, ◌++◌, ℕ, List, length, take, drop, get_or, ◌∙◌, ap, append-nil, arith}
+use Rattle.std.proofs.Common.{ℕ, List, ◌++◌, drop, ◌∙◌, ap, append-nil, arith}
 use Rattle.std.proofs.lemmas.List.{drop_all, take_all}
 use Rattle.bitpack_lists.specs.Joined.{moved}
 use Rattle.bitpack_lists.proofs.lemmas.opened.JoinSteps.{next, no-word, not-yet}

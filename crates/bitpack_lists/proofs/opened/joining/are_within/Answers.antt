@@ -1,5 +1,5 @@
 -- The loop ends after the last value.
-use Rattle.std.proofs.Common.{rules, arith}
+use Rattle.std.proofs.Common.{rules}
 use Rattle.bitpack_lists.proofs.lemmas.opened.JoinSteps.{still-above}
 use Rattle.bitpack_lists.proofs.opened.joining.are_within.Goals as goal
 
