@@ -28,4 +28,5 @@ pub mod sorted_block;
 pub mod stored_blocks;
 #[cfg(test)]
 mod tests;
+pub mod top;
 pub mod untrusted;

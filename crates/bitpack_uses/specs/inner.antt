@@ -1,0 +1,3 @@
+-- What inner functions promise each other.
+pub mod Keeping
+pub mod Walks

@@ -1,0 +1,24 @@
+-- How a document goes among the best so far.
+use Rattle.std.specs.Prelude.{◌≡◌, ℕ, ◌-◌, ◌<◌, ◌≤◌, Bool, false, List, length, take, slice_index_or, All}
+use Rattle.std.specs.List.{insert}
+use Rattle.bitpack_uses.specs.declared.top.found.Scored.{Scored}
+
+-- the index after those whose scores are this or greater, if these come first
+pub record IsPlaceFor (score : ℕ) (found : List Scored) (at : ℕ) : Type 0 where
+  pub within : at ≤ length found
+  pub before : (i : ℕ) (d : Scored) → i < at → score ≤ (slice_index_or found i d).score
+  pub here : (d : Scored) → at < length found → (slice_index_or found at d).score < score
+
+-- a document was put in its place, and the first k were kept
+pub record IsKept (k : ℕ) (document : Scored) (old new : List Scored) : Type 0 where
+  pub at : ℕ
+  pub place : IsPlaceFor document.score old at
+  pub new_is : new ≡ take k (insert old at document)
+
+-- k were found, and the last of them has at least this score
+pub record IsFull (k bound : ℕ) (found : List Scored) : Type 0 where
+  pub full : k ≤ length found
+  pub last : (d : Scored) → 0 < k → bound ≤ (slice_index_or found (length found - 1) d).score
+
+abbrev pub CannotEnter : ℕ → ℕ → List Scored → Bool → Type 0
+CannotEnter k bound found may = may ≡ false → IsFull k bound found
