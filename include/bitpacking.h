@@ -29,8 +29,8 @@
  *     strictly_sorted    one less than that, modulo 2^32                       initial, or BITPACKING_NO_INITIAL for none
  *
  * A call that works returns a number of bytes, or a width, from 0 on. A call that fails returns one of the negative numbers
- * below, and writes nothing: the buffers are unchanged. Only list_pack, list_size, list_append, list_join and
- * list_builder_extend write at one error, the position of a value that is out of order. Comments name an error without BITPACKING_.
+ * below, and writes nothing: the buffers are unchanged. Only list_pack, list_size, list_append, list_join and list_builder_extend
+ * write at one error, the position of a value that is out of order. Comments name an error without BITPACKING_.
  *
  *     uint32_t values[128], back[128];
  *     uint8_t bytes[BITPACKING_4X_BLOCK_SIZE(BITPACKING_MAX_WIDTH)], width;
@@ -543,9 +543,9 @@ ptrdiff_t bitpacking_1x_list_size(uint8_t version, uint8_t kind, const uint32_t 
 ptrdiff_t bitpacking_4x_list_size(uint8_t version, uint8_t kind, const uint32_t *values, size_t values_len, size_t *position);
 ptrdiff_t bitpacking_8x_list_size(uint8_t version, uint8_t kind, const uint32_t *values, size_t values_len, size_t *position);
 
-/* The inline forms of list_pack and list_size, whose position may be NULL; list_append and list_join below have them too. A call of one of these
- * names is a call of its inline form, unless BITPACKING_NO_INLINE is defined before this header is included. The functions of the archive require a
- * position: pointers to functions and other languages call these, and so does (bitpacking_4x_list_pack)(..). */
+/* The inline forms of list_pack and list_size, whose position may be NULL; list_append and list_join below have them too. A call of one of
+ * these names is a call of its inline form, unless BITPACKING_NO_INLINE is defined before this header is included. The functions of the
+ * archive require a position: pointers to functions and other languages call these, and so does (bitpacking_4x_list_pack)(..). */
 static inline ptrdiff_t bitpacking_1x_list_pack_inline(uint8_t version, uint8_t kind, const uint32_t *values, size_t values_len,
                                                        uint8_t *bytes, size_t bytes_len, size_t *position)
 {
@@ -655,17 +655,17 @@ ptrdiff_t bitpacking_list_builder_finish(const bitpacking_list_builder *builder,
  *
  * The first of: LIST_WRONG_LANES, if the view was not opened; LIST_BAD_VERSION, if the list is of version 2 or 3 and has a whole block: unpack
  * it, and pack all values; LIST_TOO_LONG, if all values are more than 268,435,456; LIST_NOT_SORTED, and then *position is the position of the
- * first value out of order, counted from the first value of the list, unless position is NULL; SHORT: bytes_len is below the number of bytes of the list, which
- * BITPACKING_LIST_ROOM(all values) never is. Nothing is written then, and bytes after the list are unchanged. */
+ * first value out of order, counted from the first value of the list, unless position is NULL; SHORT: bytes_len is below the number of
+ * bytes of the list, which BITPACKING_LIST_ROOM(all values) never is. Nothing is written then, and bytes after the list are unchanged. */
 ptrdiff_t bitpacking_list_append(const bitpacking_list *view, const uint32_t *values, size_t values_len,
                                  uint8_t *bytes, size_t bytes_len, size_t *position);
 
-/* Writes the list of a view, and after it the values of another list with base added to each, as one list, as bitpacking_list_append does:
- * two segments become one, whose second part begins at doc id base. The lists may be of any packers, kinds and versions; the result has packer and
- * kind of the first. room is work space for the values of the other list: room_len is at least its length.
+/* Writes the values of a view and, after them, the values of another list with base added to each as one list, as bitpacking_list_append does:
+ * two segments become one, whose second part begins at doc id base. The lists may be of any packers, kinds and versions; the result has the
+ * packer and the kind of the first. room is work space for the values of the other list: room_len is at least its length.
  *
- * The errors of bitpacking_list_append, and after LIST_BAD_VERSION: SHORT, if room is too short; BAD_BASE, if a value with the base is above
- * 2^32 - 1. Then bytes are unchanged. */
+ * It has the errors of bitpacking_list_append, and after LIST_BAD_VERSION: SHORT, if room is too short; BAD_BASE, if a value with the base is
+ * above 2^32 - 1. Then bytes are unchanged. */
 ptrdiff_t bitpacking_list_join(const bitpacking_list *view, uint32_t base, const bitpacking_list *other, uint32_t *room, size_t room_len,
                                uint8_t *bytes, size_t bytes_len, size_t *position);
 

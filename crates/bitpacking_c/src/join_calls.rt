@@ -1,4 +1,4 @@
-//! A packed list and more values after it, or another list, written as one list.
+//! A packed list and more values after it, or the values of another list, written as one list.
 
 ghost use Rattle.std.specs.Prelude.{◌≡◌, ◌^◌, ◌<◌, ℕ, List, length, IfOk};
 ghost use Rattle.bitpack_lists.specs.declared.list_kind.ListKind.{ListKind};
@@ -105,7 +105,7 @@ fn append<P: BitPacker>(
     list.encode_more_to(values, bytes)
 }
 
-/// Writes the list and another after it, for the packer of the first. A view that was not opened has no values.
+/// Writes the list and the values of another after it, for the packer of the first. A view that was not opened has no values.
 #[inline(always)]
 fn join<P: BitPacker>(
     packer: P,

@@ -1,4 +1,4 @@
-//! A list and more values after it, or another list, written as one list.
+//! A list and more values after it, or the values of another list, written as one list.
 
 use super::{error, Encoder, Error, PackedList, Version};
 use crate::calls::best;
@@ -65,8 +65,9 @@ impl PackedList<'_> {
         }
     }
 
-    /// The bytes of one list of the values of this list and, after them, of another with `base` added to each, of the packer and the kind of this
-    /// list: two segments become one, whose second part begins at doc id `base`. The lists may be of any packers, kinds and versions.
+    /// Returns the bytes of a list of this list's values and, after them, the values of another list with `base` added to each, of this list's
+    /// packer and kind: two segments become one, whose second part begins at doc id `base`. The lists may be of any packers, kinds and
+    /// versions.
     ///
     /// The whole blocks of this list are copied, as by [`append`](PackedList::append).
     ///
@@ -99,11 +100,11 @@ impl PackedList<'_> {
         Ok(bytes)
     }
 
-    /// Has a call write a list after what the vector has: this list and as many values after it. If the room that is nearly always enough is short,
-    /// the call gets the room that always is. The vector is unchanged if it fails.
+    /// Has a call write a list after what the vector has: this list and as many values after it. If the room that is nearly always enough is
+    /// short, the call gets the room that always is. The vector is unchanged if it fails.
     fn written(&self, more: usize, bytes: &mut Vec<u8>, mut write: impl FnMut(&mut [u8]) -> Answer) -> Answer {
         let start = bytes.len();
-        // What is said of a block of this list may take 8 bytes more.
+        // A skip entry of this list may have 8 bytes more.
         let likely = self.as_bytes().len() + 8 * (self.block_count() + 2) + room(more + self.block_len());
         let mut written = Err((SHORT, 0));
         for len in [likely, room(self.len() + more)] {

@@ -16,7 +16,7 @@ use crate::list_error::ListError;
 use bitpacking::BitPacker;
 
 impl<'a, P: BitPacker> PackedList<'a, P> {
-    /// Appends the newest encoded list of the values of the list and, after them, of the values of another list with `base` added to each.
+    /// Appends the newest encoded list of the values of the list and, after them, the values of another list with `base` added to each.
     ///
     /// The bodies of the list's whole blocks are copied, as [`encode_more`] does. The other list may be of another packer, kind and version:
     /// its values are unpacked to the start of `room`, which has to be long enough for all of them, and packed again. The vector grows at
@@ -65,8 +65,8 @@ impl<'a, P: BitPacker> PackedList<'a, P> {
         self.encode_more(&room[..other.len()], out)
     }
 
-    /// Writes the newest encoded list of the values of the list and of another list at the start of the slice, as [`encode_joined`] appends
-    /// it, and returns its length in bytes. Allocates nothing.
+    /// Writes the newest encoded list of the values of both lists at the start of the slice, as [`encode_joined`] appends it, and returns its
+    /// length in bytes. Allocates nothing.
     ///
     /// If the slice is too short, it fails with `Short` and writes nothing. The bytes after the list are unchanged.
     ///
