@@ -26,7 +26,7 @@ LIMITS = {
     "bitpacking": (15, 120),
     "bitpack_lists": (19, 120),
     "bitpack_sorted": (15, 120),
-    "bitpacking_c": (16, 120),
+    "bitpacking_c": (17, 120),
     "bitpack": (15, 120),
     "bitpack_uses": (17, 120),
 }

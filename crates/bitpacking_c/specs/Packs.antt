@@ -65,8 +65,8 @@ AppendsList lanes bytes kind values more before after answer =
 abbrev pub join_fault : ℕ → List ℕ → ℕ → ℕ → ℕ → Option ListError
 join_fault lanes bytes count others room = option_or (append_fault lanes bytes count) (if nat_lt room others then Some Short else None)
 
--- the newest encoded list of the values of two lists, the second above a base, is written, or they are refused: first a value that passes 32
--- bits, as BadNumber
+-- the newest text of the values of two lists, the second above a base, is written, or they are refused: first a value that passes 32 bits, as
+-- BadNumber
 abbrev pub JoinsList : ℕ → List ℕ → ListKind → List ℕ → ℕ → List ℕ → ℕ → List ℕ → List ℕ → Result ℕ ListError → Type 0
 JoinsList lanes bytes kind values base others room before after answer =
     MatchOption (join_fault lanes bytes (length values) (length others) room)
@@ -99,3 +99,13 @@ position_after before answer = before
 abbrev pub AnswersSize : ℤ → ℕ → ℕ → (Result ℕ ListError → Type 0) → Type 0
 AnswersSize number before after Means =
     (answer : Result ℕ ListError) × (number ≡ number_of_size answer) × (after ≡ position_after before answer) × Means answer
+
+-- the number of an answer of joining: -7 for a value that passes 32 bits
+abbrev pub number_of_join : Result ℕ ListError → ℤ
+number_of_join (Err BadNumber) = negsuc 6
+number_of_join answer = number_of_size answer
+
+-- the number and the position stand for an answer of joining with this meaning
+abbrev pub AnswersJoin : ℤ → ℕ → ℕ → (Result ℕ ListError → Type 0) → Type 0
+AnswersJoin number before after Means =
+    (answer : Result ℕ ListError) × (number ≡ number_of_join answer) × (after ≡ position_after before answer) × Means answer

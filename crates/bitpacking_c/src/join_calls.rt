@@ -5,7 +5,7 @@ ghost use Rattle.bitpack_lists.specs.declared.list_kind.ListKind.{ListKind};
 ghost use Rattle.bitpack_lists.specs.declared.version.Version.{Version};
 ghost use Rattle.bitpack_lists.specs.Opened.{blocks_of, kind_of, values, version_of};
 ghost use Rattle.bitpack_lists.specs.Parts.{FindsFault};
-ghost use Rattle.bitpacking_c.specs.Packs.{AnswersSize, AppendsList, JoinsViews, append_fault};
+ghost use Rattle.bitpacking_c.specs.Packs.{AnswersJoin, AnswersSize, AppendsList, JoinsList, JoinsViews, append_fault, number_of_join, position_after};
 ghost use Rattle.bitpacking_c.specs.Views.{IsListOf};
 
 use crate::list_packing::answer;
@@ -54,16 +54,45 @@ pub extern "C" fn bitpacking_list_join(
     bytes: &mut [u8],
     position: &mut usize,
 ) -> isize
-    ensures { AnswersSize result position.old position.new
-        (JoinsViews view.now base other.now (length room.old) bytes.old bytes.new) }
+    ensures { (kind : ListKind) (all : List ℕ) → IsListOf view.now.lanes view.now.bytes.now kind all
+        → (others_kind : ListKind) (others : List ℕ) → IsListOf other.now.lanes other.now.bytes.now others_kind others
+        → AnswersJoin result position.old position.new
+        (JoinsList view.now.lanes view.now.bytes.now kind all base others (length room.old) bytes.old bytes.new) }
 {
-    let found = match view.lanes {
+    answer_join(joined(view, base, other, room, bytes), position)
+}
+
+/// The number that C is told. A value that passes 32 bits has one of its own.
+#[inline(always)]
+fn answer_join(found: Result<usize, ListError>, position: &mut usize) -> isize
+    requires { IfOk found (λ size. size < 2 ^ 63) }
+    ensures number { result ≡ number_of_join found }
+    ensures position { position.new ≡ position_after position.old found }
+{
+    match found {
+        Err(ListError::BadNumber) => -7,
+        other => answer(other, position),
+    }
+}
+
+/// Writes the list of a view and the values of another after it.
+#[inline(always)]
+fn joined(
+    view: &ListView<'_>,
+    base: u32,
+    other: &ListView<'_>,
+    room: &mut [u32],
+    bytes: &mut [u8],
+) -> Result<usize, ListError>
+    ensures joins { JoinsViews view.now base other.now (length room.old) bytes.old bytes.new result }
+    ensures small { IfOk result (λ count. count < 2 ^ 63) }
+{
+    match view.lanes {
         0 => Err(ListError::WrongLanes(0)),
         1 => join(BitPacker1x::new(), view, base, other, room, bytes),
         4 => join(BitPacker4x::new(), view, base, other, room, bytes),
         _ => join(BitPacker8x::new(), view, base, other, room, bytes),
-    };
-    answer(found, position)
+    }
 }
 
 /// The list of a view, for its packer. Fails if its whole blocks cannot be copied, since they are of an older version.

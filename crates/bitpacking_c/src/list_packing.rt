@@ -159,7 +159,6 @@ pub(crate) fn answer(found: Result<usize, ListError>, position: &mut usize) -> i
     match found {
         Ok(size) => size as isize,
         Err(ListError::Short) => -3,
-        Err(ListError::BadNumber) => -7,
         Err(ListError::NotSorted(at)) => {
             *position = at;
             -30
