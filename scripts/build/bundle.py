@@ -21,7 +21,7 @@ import archives
 
 PAGES = ["LICENSE", "README.md", "CHANGELOG.md", "CONTRIBUTING.md", "docs/*.md", "docs/*/*.svg", "crates/*/README.md", "rust/README.md"]
 FILES = [*PAGES, "include/*.h", "c/symbols.c", "vectors/*.tsv", "examples/*.c"]
-FILES += [f"examples/{it}/**/*.*" for it in ("search", "numbers")]
+FILES += [*(f"examples/{it}/**/*.*" for it in ("search", "numbers")), "examples/dask/*.*"]
 FILES += ["rust/Cargo.toml", "rust/Cargo.lock", "rust/build.rs", "rust/src/**/*.rs", "rust/examples/*.rs"]
 FILES += ["python/*.md", "python/pyproject.toml", "python/setup.py", "python/src/core/*.[ch]", "python/src/fimulowen/*.py*"]
 FILES += ["python/src/fimulowen/py.typed", "python/tests/*.py"]

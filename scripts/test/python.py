@@ -51,11 +51,11 @@ WRONG = [
 PATIENCE = 600
 
 
-def lacking(python):
-    """What a Python lacks for the tests."""
+def lacking(python, modules):
+    """What a Python lacks for tests that need these modules."""
     asked = (
         "import importlib.util as u, os, sys, sysconfig\n"
-        f"print(*[it for it in {MODULES} if not u.find_spec(it)])\n"
+        f"print(*[it for it in {modules} if not u.find_spec(it)])\n"
         "print(*['Python 3.11'] * (sys.version_info < (3, 11)))\n"
         "print(*['Python.h'] * (not os.path.isfile(sysconfig.get_path('include') + '/Python.h')))"
     )
@@ -63,12 +63,12 @@ def lacking(python):
     return [it for line in done.stdout.splitlines() for it in ([line] if " " in line and "3.11" in line else line.split())]
 
 
-def chosen():
+def chosen(modules=tuple(MODULES)):
     """A Python that lacks nothing, or None; and what the last one that was asked lacks."""
     lack = ["Python"]
     for python in dict.fromkeys([sys.executable, "/usr/bin/python3"]):
         if os.path.exists(python):
-            lack = lacking(python)
+            lack = lacking(python, list(modules))
             if not lack:
                 return python, []
     return None, lack

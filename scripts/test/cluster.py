@@ -1,0 +1,137 @@
+#!/usr/bin/env python3
+"""Runs the index of examples/dask/ as its page says: builds and installs the Python package, starts a scheduler and three workers from the
+command line, builds an index and asks it, and compares what the page shows. Then it runs the example's tests, which stop and kill workers and
+damage shards. Last, each of some wrong changes of the example has to fail a test. A script `dask.py` would hide the module of this name.
+
+It takes the first Python, of the one that runs it and /usr/bin/python3, that has what python.py needs, and `distributed`. Without one it is
+left out, and names what is missing: on Debian, `apt-get install` of the packages of PACKAGES brings it. The archives are those that
+scripts/build/archives.py wrote, which is called if they are not there. It ends only processes that it started. The last line is 'N passed,
+M failed'.
+"""
+import os
+import re
+import shutil
+import signal
+import socket
+import subprocess
+import sys
+import tempfile
+
+sys.path.insert(1, f"{sys.path[0]}/..")
+from common import ROOT, ended, leave_out, report, source
+import archives
+import python
+
+PART = "the index on many machines"
+MODULES = ["distributed", *(it for it in python.MODULES if it not in ("hypothesis", "build"))]
+PACKAGES = "python3-distributed python3-numpy python3-pytest python3-setuptools python3-wheel python3-venv python3-dev"
+EXAMPLE, TESTS = "examples/dask", "../examples/dask/test_index.py"
+PORT, MARK = "8786", "-- the next command --"
+MOST_LINES = 400
+# Wrong changes: a file of the example, lines in it and other lines, and the test that has to fail.
+WRONG = [
+    ("index.py", 'part += np.uint64(shard["first"])', "pass", "test_answers"),
+    ("index.py", "initial=first", "initial=0", "test_answers"),
+    ("index.py", "for path, it in paths.items()", "for path, it in list(paths.items())[1:]", "test_answers"),
+    (
+        "index.py",
+        "client.gather(list(files.values()))",
+        'client.gather(list(files.values()), errors="skip")',
+        "test_death_without_another_try",
+    ),
+    ("shards.py", '"not": fimulowen.subtract', '"not": fimulowen.unite', "test_answers"),
+    ("shards.py", 'if zlib.crc32(text) != self.rows["crc"][at]:', "if False:", "test_each_bit"),
+    ("shards.py", "if zlib.crc32(memoryview(self.map)[: self.lists]) != crc:", "if False:", "test_damaged_files"),
+    ("shards.py", "if shard.map.size() != len(shard.map):", "if False:", "test_cut_after_it_was_mapped"),
+]
+PATIENCE = 180
+
+
+def sessions(page):
+    """The commands that a page shows, each with what it prints."""
+    found = []
+    for block in re.findall(r"(?:^    .*\n)+", page, re.M):
+        lines = [line[4:] for line in block.splitlines()]
+        if lines[0].startswith("$ "):
+            found += re.findall(r"^\$ (.*)\n((?:(?!\$ ).*\n)*)", "".join(f"{line}\n" for line in lines), re.M)
+    return found
+
+
+def free_port():
+    with socket.socket() as probe:
+        probe.bind(("127.0.0.1", 0))
+        return str(probe.getsockname()[1])
+
+
+def printed(folder, commands):
+    """What each command of one shell prints. Whatever it leaves running is ended with its group."""
+    text = "".join(f"{it}\necho '{MARK}'\n" for it in commands)
+    how = {"stdin": subprocess.PIPE, "stdout": subprocess.PIPE, "stderr": subprocess.STDOUT, "text": True, "errors": "replace"}
+    env = {name: it for name, it in os.environ.items() if name not in ("PYTHONPATH", "BITPACKING")} | {
+        "LC_ALL": "C.UTF-8",
+        "PIP_DISABLE_PIP_VERSION_CHECK": "1",
+    }
+    with subprocess.Popen(["bash"], cwd=folder, env=env, start_new_session=True, **how) as shell:
+        try:
+            return shell.communicate(text + "wait\n", timeout=PATIENCE)[0].split(f"{MARK}\n")
+        except subprocess.TimeoutExpired:
+            os.killpg(shell.pid, signal.SIGKILL)
+            return (shell.communicate()[0] or "").split(f"{MARK}\n")
+
+
+def of_page(folder, interpreter):
+    """Runs what the page shows. Each command, and the Python session, as a name and what is wrong, or None."""
+    page = source(f"{EXAMPLE}/README.md").replace(PORT, free_port()).replace("/usr/bin/python3", interpreter)
+    with open(f"{folder}/page.md", "w", encoding="utf-8") as file:
+        file.write(page)
+    shown = sessions(page)
+    # The last command ends the cluster.
+    shown.insert(-1, ("python3 -m doctest page.md", ""))
+    found = printed(folder, [command for command, _ in shown])
+    for number, (command, wanted) in enumerate(shown):
+        said = found[number] if number < len(found) - 1 else "nothing: an earlier one did not end"
+        yield f"{EXAMPLE}/README.md: {command}", None if said == wanted or number == len(shown) - 1 else f"it prints {said[-3000:]}"
+    yield "the commands of the page", None if len(shown) > 9 and page.count(">>> ") > 3 else f"there are {len(shown)}"
+
+
+def wrong_changes(package):
+    """Each wrong change as a name, and None if its test fails with it."""
+    for number, (name, before, after, test) in enumerate(WRONG):
+        folder = f"{package.folder}/wrong{number}"
+        shutil.copytree(f"{package.folder}/{EXAMPLE}", folder, ignore=shutil.ignore_patterns("__pycache__"))
+        text = source(f"{EXAMPLE}/{name}")
+        with open(f"{folder}/{name}", "w", encoding="utf-8") as file:
+            file.write(text.replace(before, after))
+        why = None if text.count(before) == 1 else f"its lines are there {text.count(before)} times"
+        found = [] if why else list(package.tested("with a wrong change", "-x", f"{folder}/test_index.py::{test}"))
+        # A cluster that does not start refuses nothing.
+        refused = any(wrong and not wrong.startswith("failed on setup") for _, wrong in found)
+        yield f"a wrong change of {name}: {after}", why or (None if refused else f"{test} does not fail: {found}")
+
+
+def checks(interpreter):
+    with tempfile.TemporaryDirectory(prefix="cluster-") as folder:
+        package = python.Package(folder, interpreter)
+        shutil.copytree(f"{ROOT}/examples", f"{folder}/examples", ignore=shutil.ignore_patterns("target", "__pycache__"))
+        os.symlink(f"{ROOT}/scripts", f"{folder}/scripts")
+        paged = list(of_page(folder, interpreter))
+        yield from paged
+        lines = {it: source(f"{EXAMPLE}/{it}").count("\n") for it in os.listdir(f"{folder}/{EXAMPLE}") if it.endswith(".py")}
+        yield "the lines of the example", None if max(lines.values()) < MOST_LINES else f"there are {lines}"
+        if not os.path.exists(f"{package.room}/bin/python"):
+            return
+        yield from package.tested("of the index", TESTS)
+        yield from wrong_changes(package)
+
+
+def main():
+    interpreter, lack = python.chosen(tuple(MODULES))
+    if not interpreter:
+        leave_out(PART, f"since there is no {' and no '.join(lack)}: apt-get install {PACKAGES}")
+        return ended(0, 0)
+    status = archives.status_without(PART, "cc", "bash")
+    return report(checks(interpreter)) if status is None else status
+
+
+if __name__ == "__main__":
+    sys.exit(main())
