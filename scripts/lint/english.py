@@ -64,7 +64,7 @@ GLOSSARY = {
     "gives again": r"\bgives? again\b",
 }
 # Whether the words of the glossary count in comments and in texts of errors too.
-GLOSSARY_IN_COMMENTS = False
+GLOSSARY_IN_COMMENTS = True
 THE_SAME = re.compile(r"the same\b", re.I)
 # What is found in a text of a file, and texts in which nothing is found.
 TRIED = [

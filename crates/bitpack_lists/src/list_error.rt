@@ -82,7 +82,7 @@ impl fmt::Display for ListError {
             ListError::BadVersion(version) => write!(f, "unsupported version {version}"),
             ListError::BadKind(kind) => write!(f, "invalid kind {kind}"),
             ListError::WrongLanes(lanes) => {
-                write!(f, "the text has {lanes} lanes, unlike the packer")
+                write!(f, "the list has {lanes} lanes, unlike the packer")
             }
             ListError::TooLong(count) => write!(f, "{count} values are more than 268435456"),
             ListError::BadWidth(block, width) => {

@@ -65,7 +65,7 @@ AppendsList lanes bytes kind values more before after answer =
 abbrev pub join_fault : ℕ → List ℕ → ℕ → ℕ → ℕ → Option ListError
 join_fault lanes bytes count others room = option_or (append_fault lanes bytes count) (if nat_lt room others then Some Short else None)
 
--- the newest text of the values of two lists, the second above a base, is written, or they are refused: first a value that passes 32 bits, as
+-- the values of two lists, the second above a base, are written as the newest list, or they are refused: first a value that passes 32 bits, as
 -- BadNumber
 abbrev pub JoinsList : ℕ → List ℕ → ListKind → List ℕ → ℕ → List ℕ → ℕ → List ℕ → List ℕ → Result ℕ ListError → Type 0
 JoinsList lanes bytes kind values base others room before after answer =

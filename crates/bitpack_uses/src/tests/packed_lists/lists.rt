@@ -349,7 +349,7 @@ fn each_refusal_says_what_is_wrong(rt: HostRuntime) {
         (
             ListError::WrongLanes(4),
             4,
-            "the text has 4 lanes, unlike the packer",
+            "the list has 4 lanes, unlike the packer",
         ),
         (
             ListError::TooLong(268_435_457),
