@@ -5,7 +5,7 @@ use Rattle.std.specs.Prelude.{◌≡◌, ℕ, ◌+◌, ◌-◌, ◌*◌, ◌/◌
 abbrev pub part_at : List ℕ → ℕ → ℕ → ℕ
 part_at table count class = slice_index table (256 * min count (length table / 256 - 1) + min class 255)
 
--- a table of whole rows: no part is above the first of its row, or above that of the next count
+-- a table of whole rows: no part is above the first of its row, and in each class the parts do not fall
 pub record IsTable (table : List ℕ) : Type 0 where
   pub some : 256 ≤ length table
   pub whole : length table % 256 ≡ 0

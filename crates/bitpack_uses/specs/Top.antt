@@ -23,7 +23,7 @@ module _ {P : Type 0} {members : Ghosts P} where
       then part_at term.parts.table.now (slice_index (values term.counts) (position_of (values term.ids) id)) (slice_index classes id)
       else 0
 
-  -- a document that has so many of the words, with its score
+  -- a document that has at least a number of the words, with its score
   pub record IsHit (terms : List (Term P members)) (classes : List ℕ) (at_least : ℕ) (document : Scored) : Type 0 where
     pub small : document.id < 2 ^ 32
     pub words : at_least ≤ count_by (has_word document.id) terms

@@ -14,6 +14,7 @@ mod postings;
 mod query;
 mod shared_values;
 mod sorted;
+mod top;
 
 use crate::index::{Builder, Index};
 use crate::stored_blocks::{StoredError, read_block, read_chain};

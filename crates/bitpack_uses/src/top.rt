@@ -10,19 +10,19 @@ ghost use Rattle.std.specs.Prelude.{◌≡◌, ◌+◌, ◌^◌, ◌<◌, ◌≤
 ghost use Rattle.std.specs.List.{sum_by};
 ghost use Rattle.bitpack_lists.specs.Opened.{values};
 ghost use Rattle.bitpack_uses.specs.Top.{AreBest, IsHit, part_in};
-ghost use Rattle.bitpack_uses.specs.inner.Walks.{Ends, IsHitBelow, IsOpen, Rests, terms_of};
+ghost use Rattle.bitpack_uses.specs.inner.Walks.{Ends, HaveGone, IsHitBelow, IsOpen, Rests, terms_of};
 
 use bitpack::list2::{PackedList, Reads};
 use bitpacking::BitPacker;
 pub use found::Scored;
-use found::{keep, may_enter};
+use found::{is_full, keep};
 pub use parts::{CLASSES, Parts};
 use range::{find_range, next_document, open, score};
 use std::alloc::{AllocError, Global};
 pub use term::{Term, TermError};
 use walk::{END, Walk};
 
-/// The best `k` of the documents that have at least so many of the words, the best of them first: those that a scan of all would find.
+/// The best `k` of the documents that have at least `at_least` of the words, the best of them first: a scan of all would find the same.
 ///
 /// A document with a greater score comes first, and of two with the same score the one with the lower id. The score adds up the part of each
 /// word that the document has. The lengths of documents are a list of their classes by id.
@@ -72,7 +72,7 @@ fn pass_all<P: BitPacker>(
             bound,
             at_least,
         };
-        pass_range(walks, classes, range, k, found, reads)?;
+        take_range(walks, classes, range, k, found, reads)?;
         low = end;
     }
     Ok(())
@@ -102,8 +102,8 @@ fn begin<'a, P: BitPacker>(
     Ok(walks)
 }
 
-/// Puts the documents of a range among the best, if one of them may be. If not, nothing is unpacked.
-fn pass_range<P: BitPacker>(
+/// Puts the documents of a range among the best. If none of them can be there, nothing is unpacked.
+fn take_range<P: BitPacker>(
     walks: &mut [Walk<'_, P>],
     classes: &PackedList<'_, P>,
     range: IdRange,
@@ -125,33 +125,9 @@ fn pass_range<P: BitPacker>(
     ensures best { OnOk result (AreBest
         (IsHitBelow (terms_of walks.old) (values classes.now) range.at_least range.end) k found.new.items) }
 {
-    if may_enter(found, k, range.bound) {
-        return take_range(walks, classes, range, k, found, reads);
+    if is_full(found, k, range.bound) {
+        return Ok(());
     }
-    Ok(())
-}
-
-/// Puts the documents of a range among the best.
-fn take_range<P: BitPacker>(
-    walks: &mut [Walk<'_, P>],
-    classes: &PackedList<'_, P>,
-    range: IdRange,
-    k: usize,
-    found: &mut Vec<Scored>,
-    reads: &mut Reads,
-) -> Result<(), AllocError>
-    requires few { length walks.old ≤ 2 ^ 31 }
-    requires some { 1 ≤ range.at_least }
-    requires range { (range.low < range.end) × (range.end ≤ 2 ^ 32) }
-    requires rests { All (Rests range.low) walks.old }
-    requires ends { All (Ends range.end) walks.old }
-    requires best { AreBest (IsHitBelow (terms_of walks.old) (values classes.now) range.at_least range.low)
-        k found.old.items }
-    ensures terms { OnOk result (terms_of walks.new ≡ terms_of walks.old) }
-    ensures rests { OnOk result (All (Rests range.end) walks.new) }
-    ensures best { OnOk result (AreBest
-        (IsHitBelow (terms_of walks.old) (values classes.now) range.at_least range.end) k found.new.items) }
-{
     open(walks, range.low, reads);
     let mut id = next_document(walks, range.end);
     while id < range.end {
@@ -161,7 +137,7 @@ fn take_range<P: BitPacker>(
     Ok(())
 }
 
-/// Puts a document among the best, if it has so many of the words.
+/// Puts a document among the best, if it has at least `at_least` of the words.
 fn take_document<P: BitPacker>(
     walks: &mut [Walk<'_, P>],
     classes: &PackedList<'_, P>,
@@ -174,9 +150,7 @@ fn take_document<P: BitPacker>(
     requires open { All (IsOpen id) walks.old }
     requires ends { All (Ends (id + 1)) walks.old }
     requires best { AreBest (IsHitBelow (terms_of walks.old) (values classes.now) at_least id) k found.old.items }
-    ensures terms { terms_of walks.new ≡ terms_of walks.old }
-    ensures open { All (IsOpen (id + 1)) walks.new }
-    ensures ends { (end : ℕ) → All (Ends end) walks.old → All (Ends end) walks.new }
+    ensures gone { HaveGone (id + 1) walks.old walks.new }
     ensures best { OnOk result (AreBest
         (IsHitBelow (terms_of walks.old) (values classes.now) at_least (id + 1)) k found.new.items) }
 {

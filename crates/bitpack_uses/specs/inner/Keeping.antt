@@ -1,5 +1,5 @@
 -- How a document goes among the best so far.
-use Rattle.std.specs.Prelude.{◌≡◌, ℕ, ◌-◌, ◌<◌, ◌≤◌, Bool, false, List, length, take, slice_index_or, All}
+use Rattle.std.specs.Prelude.{◌≡◌, ℕ, ◌-◌, ◌<◌, ◌≤◌, Bool, true, List, length, take, slice_index_or, All}
 use Rattle.std.specs.List.{insert}
 use Rattle.bitpack_uses.specs.declared.top.found.Scored.{Scored}
 
@@ -20,5 +20,6 @@ pub record IsFull (k bound : ℕ) (found : List Scored) : Type 0 where
   pub full : k ≤ length found
   pub last : (d : Scored) → 0 < k → bound ≤ (slice_index_or found (length found - 1) d).score
 
-abbrev pub CannotEnter : ℕ → ℕ → List Scored → Bool → Type 0
-CannotEnter k bound found may = may ≡ false → IsFull k bound found
+-- a test that finds this tells so
+abbrev pub TellsFull : ℕ → ℕ → List Scored → Bool → Type 0
+TellsFull k bound found told = told ≡ true → IsFull k bound found

@@ -1,5 +1,5 @@
 -- Walks through the blocks of words: where each stands, and what it has unpacked.
-use Rattle.std.specs.Prelude.{◌≡◌, ℕ, ◌+◌, ◌*◌, ◌^◌, ◌<◌, ◌≤◌, List, length, slice_index, map, take}
+use Rattle.std.specs.Prelude.{◌≡◌, ℕ, ◌+◌, ◌*◌, ◌^◌, ◌<◌, ◌≤◌, List, length, slice_index, map, take, All}
 use Rattle.bitpacking.specs.declared.bit_packer.BitPacker.{Ghosts}
 use Rattle.bitpack_lists.specs.Blocks.{IsBlockOf}
 use Rattle.bitpack_lists.specs.Opened.{values}
@@ -25,7 +25,7 @@ module _ {P : Type 0} {members : Ghosts P} where
   abbrev pub terms_of : List (Walk P members) → List (Term P members)
   terms_of walks = map term_of walks
 
-  -- the position where it stands
+  -- the position that it is at
   abbrev pub place_of : Walk P members → ℕ
   place_of walk = 32 * members.lanes * walk.block + walk.index
 
@@ -47,7 +47,7 @@ module _ {P : Type 0} {members : Ghosts P} where
     pub sound : IsSound walk
     pub before : (k : ℕ) → k < place_of walk → slice_index (ids_of walk) k < low
 
-  -- its block is at hand, and the id where it stands is not below a number
+  -- its block is at hand, and the id that it is at is not below a number
   pub record IsOpen (low : ℕ) (walk : Walk P members) : Type 0 where
     pub rests : Rests low walk
     pub held : IsHeld walk
@@ -66,6 +66,12 @@ module _ {P : Type 0} {members : Ghosts P} where
   pub record IsSameBlock (old new : Walk P members) : Type 0 where
     pub term : term_of new ≡ term_of old
     pub block : new.block ≡ old.block
+
+  -- walks went on in their blocks, to ids that are not below a number
+  pub record HaveGone (low : ℕ) (old new : List (Walk P members)) : Type 0 where
+    pub words : terms_of new ≡ terms_of old
+    pub opened : All (IsOpen low) new
+    pub ends : (end : ℕ) → All (Ends end) old → All (Ends end) new
 
   -- a hit whose id is below a number
   pub record IsHitBelow (terms : List (Term P members)) (classes : List ℕ) (at_least low : ℕ) (document : Scored) : Type 0 where

@@ -1,7 +1,7 @@
 //! The best documents so far, the best of them first.
 
 ghost use Rattle.std.specs.Prelude.{◌≡◌, ◌≤◌, ◌<◌, IfOk, OnOk, length, vec_len};
-ghost use Rattle.bitpack_uses.specs.inner.Keeping.{CannotEnter, IsKept, IsPlaceFor};
+ghost use Rattle.bitpack_uses.specs.inner.Keeping.{IsKept, IsPlaceFor, TellsFull};
 
 use std::alloc::AllocError;
 
@@ -38,9 +38,9 @@ fn place_for(found: &[Scored], score: u64) -> usize
     found.len()
 }
 
-/// Whether a document that comes after those found may be one of the best `k`, if its score is at most a bound.
-pub(super) fn may_enter(found: &[Scored], k: usize, bound: u64) -> bool
-    ensures { CannotEnter k bound found.now result }
+/// Whether `k` documents are found, and no later one with at most this score can be among the best.
+pub(super) fn is_full(found: &[Scored], k: usize, bound: u64) -> bool
+    ensures { TellsFull k bound found.now result }
 {
-    found.len() < k || (k > 0 && found[found.len() - 1].score < bound)
+    found.len() >= k && (k == 0 || found[found.len() - 1].score >= bound)
 }

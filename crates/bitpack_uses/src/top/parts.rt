@@ -9,8 +9,8 @@ pub const CLASSES: usize = 256;
 /// A part of a score for each count of a word and each class of lengths.
 ///
 /// A table has a row for each count from 0 on, and in each row a part for each class. The last row is also for greater counts, and the last
-/// class for greater classes. The first class is that of the shortest documents: no part is above the first of its row. And no part is above
-/// that of the next count in the same class.
+/// class for greater classes. The first class is for the shortest documents: no part is above the first of its row. And in each
+/// class the parts do not fall from one count to the next.
 #[derive(Clone, Copy)]
 pub struct Parts<'a> {
     table: &'a [u32],
@@ -53,7 +53,7 @@ impl<'a> Parts<'a> {
     }
 }
 
-/// Whether a table has whole rows, no part above the first of its row, and none above that of the next count.
+/// Whether a table has whole rows, no part above the first of its row, and in each class parts that do not fall.
 fn is_table(table: &[u32]) -> bool
     ensures { IsTrue result ↔ IsTable table.now }
 {

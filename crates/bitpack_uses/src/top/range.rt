@@ -3,7 +3,7 @@
 ghost use Rattle.std.specs.Prelude.{◌≡◌, ◌+◌, ◌^◌, ◌<◌, ◌≤◌, ℕ, List, All, length, slice_index};
 ghost use Rattle.std.specs.List.{count_by, sum_by};
 ghost use Rattle.bitpack_uses.specs.Top.{has_word, part_in};
-ghost use Rattle.bitpack_uses.specs.inner.Walks.{Ends, IsOpen, IsSound, Rests, terms_of};
+ghost use Rattle.bitpack_uses.specs.inner.Walks.{Ends, HaveGone, IsOpen, IsSound, Rests, terms_of};
 
 use super::walk::{END, Walk};
 use bitpack::list2::Reads;
@@ -16,8 +16,7 @@ pub(super) fn find_range<P: BitPacker>(
     low: u32,
     reads: &mut Reads,
 ) -> (u64, u64)
-    requires few { length walks.old ≤ 2 ^ 31 }
-    requires rests { All (Rests low) walks.old }
+    requires { (length walks.old ≤ 2 ^ 31) × All (Rests low) walks.old }
     ensures terms { terms_of walks.new ≡ terms_of walks.old }
     ensures rests { All (Rests low) walks.new }
     ensures ends { All (Ends result.0) walks.new }
@@ -38,9 +37,7 @@ pub(super) fn find_range<P: BitPacker>(
 /// Unpacks the block of each word, and goes on to the first id that is not below a number.
 pub(super) fn open<P: BitPacker>(walks: &mut [Walk<'_, P>], low: u32, reads: &mut Reads)
     requires { All (Rests low) walks.old }
-    ensures terms { terms_of walks.new ≡ terms_of walks.old }
-    ensures open { All (IsOpen low) walks.new }
-    ensures ends { (end : ℕ) → All (Ends end) walks.old → All (Ends end) walks.new }
+    ensures { HaveGone low walks.old walks.new }
 {
     for index in 0..walks.len() {
         walks[index].open(low, reads);
@@ -63,12 +60,9 @@ pub(super) fn next_document<P: BitPacker>(walks: &[Walk<'_, P>], end: u64) -> u6
 
 /// The score of a document, and how many of the words it has. Goes on past the document.
 pub(super) fn score<P: BitPacker>(walks: &mut [Walk<'_, P>], id: u32, class: u32) -> (u64, usize)
-    requires few { length walks.old ≤ 2 ^ 31 }
-    requires open { All (IsOpen id) walks.old }
+    requires open { (length walks.old ≤ 2 ^ 31) × All (IsOpen id) walks.old }
     requires ends { All (Ends (id + 1)) walks.old }
-    ensures terms { terms_of walks.new ≡ terms_of walks.old }
-    ensures open { All (IsOpen (id + 1)) walks.new }
-    ensures ends { (end : ℕ) → All (Ends end) walks.old → All (Ends end) walks.new }
+    ensures gone { HaveGone (id + 1) walks.old walks.new }
     ensures score { (classes : List ℕ) → slice_index classes id ≡ class
         → result.0 ≡ sum_by (part_in classes id) (terms_of walks.old) }
     ensures words { result.1 ≡ count_by (has_word id) (terms_of walks.old) }

@@ -11,7 +11,7 @@ use bitpack::laws::{in_order, opened_text};
 use bitpack::list2::PackedList;
 use bitpacking::BitPacker;
 
-/// Why two lists are not those of a word.
+/// Why two lists are not the lists of a word.
 #[derive(Clone, Copy, PartialEq, Eq, Debug)]
 pub enum TermError {
     /// The list of ids is not strictly sorted.
@@ -40,7 +40,8 @@ impl<'a, P: BitPacker> Term<'a, P> {
         counts: PackedList<'a, P>,
         parts: Parts<'a>,
     ) -> Result<Term<'a, P>, TermError>
-        ensures term { IfOk result (λ term. (term.ids ≡ ids.entry) × (term.counts ≡ counts.entry) × (term.parts ≡ parts.entry)) }
+        ensures term { IfOk result (λ term.
+            (term.ids ≡ ids.entry) × (term.counts ≡ counts.entry) × (term.parts ≡ parts.entry)) }
         ensures strict { IfErr result (λ e. e ≡ TermError.NotStrict → kind_of ids.entry ≢ ListKind.StrictlySorted) }
         ensures length { IfErr result (λ e. e ≡ TermError.OtherLength
             → length (values counts.entry) ≢ length (values ids.entry)) }

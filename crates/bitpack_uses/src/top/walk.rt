@@ -128,7 +128,7 @@ impl<'a, P: BitPacker> Walk<'a, P> {
             .read_block(self.block, &mut self.counts, reads);
     }
 
-    /// The id where it stands, or a number if its block has no more.
+    /// The id that it is at, or a number if its block has no more.
     pub(super) fn id_or(&self, end: u64) -> u64
         requires { IsSound self.now }
         ensures id { self.now.index < self.now.len → result ≡ slice_index self.now.ids self.now.index }

@@ -15,17 +15,17 @@ loop-low-init g c = (
       (λ d below. absurd (omega (arith, below.below))),
 )
 
-pub pass_range-requires-clause-bound : goal.pass_range-requires-clause-bound
-pass_range-requires-clause-bound g c = λ all id from under. rw c.find_range-end.ensures.terms (c.find_range-end.ensures.bound all id from under)
+pub take_range-requires-clause-bound : goal.take_range-requires-clause-bound
+take_range-requires-clause-bound g c = λ all id from under. rw c.find_range-end.ensures.terms (c.find_range-end.ensures.bound all id from under)
 
-pub pass_range-requires-clause-best : goal.pass_range-requires-clause-best
-pass_range-requires-clause-best g c =
+pub take_range-requires-clause-best : goal.take_range-requires-clause-best
+take_range-requires-clause-best g c =
     let (small, words, rests, best) = c.loop-low.invariant in
     rw (c.find_range-end.ensures.terms ∙ words) best
 
 pub loop-low-preserved : goal.loop-low-preserved
 loop-low-preserved g c =
     let (small, words, rests, best) = c.loop-low.invariant in
-    let passed = c.in_ok-pass_range.ensures in
+    let passed = c.in_ok-take_range.ensures in
     let found = c.find_range-end.ensures in
     (found.forward.1, passed.terms ∙ found.terms ∙ words, passed.rests, rw (found.terms ∙ words) at passed.best)
