@@ -32,7 +32,7 @@ LIMITS = {
 }
 BELIEVED = ["bitpacking_register", "bitpacking", "bitpack_lists", "bitpack_sorted", "bitpack", "bitpacking_c", "bitpack_uses"]
 # The most lines of definitions to believe. If there are fewer, it is lowered.
-MOST = 1598
+MOST = 1593
 PAGE = "docs/PROOFS.md"
 
 
