@@ -8,6 +8,8 @@ left out, and names what is missing: on Debian, `apt-get install` of the package
 scripts/build/archives.py wrote, which is called if they are not there. It ends only processes that it started. The last line is 'N passed,
 M failed'.
 """
+import concurrent.futures
+import copy
 import os
 import re
 import shutil
@@ -94,19 +96,20 @@ def of_page(folder, interpreter):
     yield "the commands of the page", None if len(shown) > 9 and page.count(">>> ") > 3 else f"there are {len(shown)}"
 
 
-def wrong_changes(package):
-    """Each wrong change as a name, and None if its test fails with it."""
-    for number, (name, before, after, test) in enumerate(WRONG):
-        folder = f"{package.folder}/wrong{number}"
-        shutil.copytree(f"{package.folder}/{EXAMPLE}", folder, ignore=shutil.ignore_patterns("__pycache__"))
-        text = source(f"{EXAMPLE}/{name}")
-        with open(f"{folder}/{name}", "w", encoding="utf-8") as file:
-            file.write(text.replace(before, after))
-        why = None if text.count(before) == 1 else f"its lines are there {text.count(before)} times"
-        found = [] if why else list(package.tested("with a wrong change", "-x", f"{folder}/test_index.py::{test}"))
-        # A cluster that does not start refuses nothing.
-        refused = any(wrong and not wrong.startswith("failed on setup") for _, wrong in found)
-        yield f"a wrong change of {name}: {after}", why or (None if refused else f"{test} does not fail: {found}")
+def wrong_change(package, number):
+    """A wrong change as a name, and None if its test fails with it. The results of its test have a folder of their own."""
+    name, before, after, test = WRONG[number]
+    mine = copy.copy(package)
+    mine.folder = f"{package.folder}/wrong{number}"
+    shutil.copytree(f"{package.folder}/{EXAMPLE}", mine.folder, ignore=shutil.ignore_patterns("__pycache__"))
+    text = source(f"{EXAMPLE}/{name}")
+    with open(f"{mine.folder}/{name}", "w", encoding="utf-8") as file:
+        file.write(text.replace(before, after))
+    why = None if text.count(before) == 1 else f"its lines are there {text.count(before)} times"
+    found = [] if why else list(mine.tested("with a wrong change", "-x", f"{mine.folder}/test_index.py::{test}"))
+    # A cluster that does not start refuses nothing.
+    refused = any(wrong and not wrong.startswith("failed on setup") for _, wrong in found)
+    return f"a wrong change of {name}: {after}", why or (None if refused else f"{test} does not fail: {found}")
 
 
 def checks(interpreter):
@@ -121,7 +124,8 @@ def checks(interpreter):
         if not os.path.exists(f"{package.room}/bin/python"):
             return
         yield from package.tested("of the index", TESTS)
-        yield from wrong_changes(package)
+        with concurrent.futures.ThreadPoolExecutor(2) as pool:
+            yield from pool.map(lambda number: wrong_change(package, number), range(len(WRONG)))
 
 
 def main():
