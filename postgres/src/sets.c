@@ -56,13 +56,18 @@ Datum packed_list_minus(PG_FUNCTION_ARGS)
     PG_RETURN_POINTER(combined(&it, bitpacking_list_subtract, it.len[0]));
 }
 
-/* How many values both lists have. */
+/* How many values both lists have. Lists of at most 4 bits a value are sets of bits, which are counted as such. Others are faster found. */
 static size_t common(const two_lists *it)
 {
-    ptrdiff_t count = bitpacking_list_count_common(it->views, 2);
+    int shorter = it->len[1] < it->len[0];
+    size_t room = it->len[shorter];
+    bool dense = it->views[shorter].bytes_len <= room / 2;
+    uint32 *values = new_values(dense ? 0 : room);
+    ptrdiff_t count = dense ? bitpacking_list_count_common(it->views, 2) : bitpacking_list_intersect(it->views, 2, values, room);
 
     if (count < 0)
         refuse(count);
+    pfree(values);
     return (size_t)count;
 }
 

@@ -6,7 +6,7 @@
 It starts a server of its own, as scripts/test/postgres.py does, and fills a table of each with the same posting lists: two words of about
 100,000 documents among 1,000,000, and 400 words of 100 to 20,000. First all ways have to give the same answers. Then they take turns, and
 the least time of the rounds counts, as EXPLAIN ANALYZE says it. Last 100 clients of pgbench ask for AND of two random words, for some
-seconds each. It prints a table for docs/POSTGRES.md, with the processor and the load. The bitmaps are left out without libroaring-dev.
+seconds each, and the same of two servers with half of each list. It prints a table for docs/POSTGRES.md, with the processor and the load. The bitmaps are left out without libroaring-dev.
 """
 import argparse
 import json
@@ -18,6 +18,7 @@ import tempfile
 sys.path.insert(1, f"{sys.path[0]}/..")
 from common import ROOT, run
 import measured
+import pg_faults
 import pg_server
 import postgres
 
@@ -42,6 +43,15 @@ CREATE TABLE bitmaps AS SELECT word, roaring_pack(ids) AS ids FROM arrays;
 ALTER TABLE bitmaps ALTER ids SET STORAGE EXTERNAL;
 CREATE TABLE copied AS TABLE bitmaps; TRUNCATE bitmaps; INSERT INTO bitmaps TABLE copied; DROP TABLE copied;
 ALTER TABLE bitmaps ADD PRIMARY KEY (word); VACUUM ANALYZE bitmaps;"""
+# The lists in two ranges of documents, the second range on another server.
+SPLIT = """CREATE TABLE split (word int, first int8, ids packed_list) PARTITION BY RANGE (first);
+CREATE TABLE split_1 PARTITION OF split FOR VALUES FROM (0) TO (500000);
+CREATE FOREIGN TABLE split_2 PARTITION OF split FOR VALUES FROM (500000) TO (1500000) SERVER second;
+INSERT INTO split SELECT word, doc / 500000 * 500000, pack_agg(doc % 500000) FROM postings GROUP BY 1, 2;
+CREATE INDEX ON split_1 (word); ANALYZE split_1; ANALYZE split_2;"""
+BY_BOTH = """SELECT sum(n) FROM (SELECT first, sum(count_common(a.ids, b.ids)) AS n FROM split a JOIN split b USING (first)
+WHERE a.word = {A} AND b.word = {B} GROUP BY first) q"""
+WISE = {"enable_partitionwise_join": "on", "enable_partitionwise_aggregate": "on"}
 WAYS = {"rows": "postings", "int4[] and intarray": "arrays", "CRoaring in bytea": "bitmaps", "packed_list": "packed"}
 # How each table answers: {A} and {B} are words, {D} a document. A join is how rows answer an AND.
 JOIN = "FROM postings a JOIN postings b USING (doc) WHERE a.word = {A} AND b.word = {B}"
@@ -142,18 +152,37 @@ def timed(server, tables, rounds):
 
 def clients(server, tables, seconds, folder):
     """How many AND of two random words 100 clients get in a second."""
-    found = {}
-    for it in tables:
-        path = f"{folder}/{it}.sql"
-        with open(path, "w", encoding="ascii") as file:
-            query = filled(QUERIES[AND][it], it, {"A": ":a", "B": ":b"})
-            file.write(f"\\set a random(0, {WORDS - 1})\n\\set b random(0, {WORDS - 1})\n{query};\n")
-        words = ["-n", "-M", "prepared", "-c", str(CLIENTS), "-j", "2", "-T", str(seconds), "-f", path]
-        said = run(server.programs.path("pgbench"), *words, env=server.known).stdout
-        rate = re.search(r"tps = ([\d.]+)", said)
-        late = re.search(r"latency average = ([\d.]+)", said)
-        found[it] = f"{float(rate[1]):.0f} ({float(late[1]):.0f} ms)" if rate else f"failed: {said[-300:]}"
-    yield f"AND of two random words by {CLIENTS} clients, in a second", found
+    asked = {it: filled(QUERIES[AND][it], it, {"A": ":a", "B": ":b"}) for it in tables}
+    yield f"AND of two random words by {CLIENTS} clients, in a second", {
+        it: rate(server, sql, seconds, folder) for it, sql in asked.items()
+    }
+
+
+def rate(server, query, seconds, folder):
+    """How often in a second pgbench gets a query of two random words, and the time of one."""
+    path = f"{folder}/query.sql"
+    with open(path, "w", encoding="ascii") as file:
+        file.write(f"\\set a random(0, {WORDS - 1})\n\\set b random(0, {WORDS - 1})\n{' '.join(query.split())};\n")
+    words = ["-n", "-M", "prepared", "-c", str(CLIENTS), "-j", "2", "-T", str(seconds), "-f", path]
+    said = run(server.programs.path("pgbench"), *words, env=server.known).stdout
+    found = re.search(r"latency average = ([\d.]+)(?:.*\n)+?tps = ([\d.]+)", said)
+    return f"{float(found[2]):.0f} ({float(found[1]):.0f} ms)" if found else f"failed: {said[-300:]}"
+
+
+def two_servers(extension, server, rounds, seconds):
+    """The same lists over two servers: AND of the two long lists, by the clock, and by clients."""
+    second = extension.server(2).start(shared_buffers="1GB", max_parallel_workers_per_gather=0)
+    try:
+        second.rows("CREATE EXTENSION packed_list; CREATE TABLE split_2 (word int, first int8, ids packed_list, PRIMARY KEY (word, first))")
+        server.rows(pg_faults.FOREIGN.format(second.socket, second.port) + SPLIT)
+        second.rows("VACUUM ANALYZE split_2")
+        query = BY_BOTH.format(A=0, B=1)
+        if server.rows(query) != server.rows(filled(QUERIES[AND]["packed"], "packed", {"A": 0, "B": 1})):
+            sys.exit("two servers: the answers differ")
+        least = min(milliseconds(server, query) for _ in range(rounds))
+        yield f"two servers: {AND} {least:.2f} ms; {CLIENTS} clients, in a second {rate(server, BY_BOTH.format(A=':a', B=':b'), seconds, extension.folder)}"
+    finally:
+        second.stop()
 
 
 def main():
@@ -166,12 +195,13 @@ def main():
         failed = extension.built()
         if failed:
             sys.exit(failed)
-        server = extension.server().start(shared_buffers="1GB", max_parallel_workers_per_gather=0)
+        server = extension.server().start(shared_buffers="1GB", max_parallel_workers_per_gather=0, **WISE)
         try:
             server.rows(ROWS)
             tables = [it for it in WAYS.values() if it != "bitmaps" or roaring(server, folder)]
             start = os.getloadavg()[0]
             lines = [*sizes(server, tables), *timed(server, tables, asked.rounds), *clients(server, tables, asked.seconds, folder)]
+            both = list(two_servers(extension, server, asked.rounds, asked.seconds))
         finally:
             server.stop()
     print(f"{measured.machine_name()}, load {start:.1f} before and {os.getloadavg()[0]:.1f} after")
@@ -179,6 +209,7 @@ def main():
     print("|---|" + "---|" * len(tables))
     for name, values in lines:
         print(f"| {name} | " + " | ".join(values[it] for it in tables) + " |")
+    print(*both, sep="\n")
 
 
 if __name__ == "__main__":
