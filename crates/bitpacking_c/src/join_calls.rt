@@ -62,7 +62,7 @@ pub extern "C" fn bitpacking_list_join(
     answer_join(joined(view, base, other, room, bytes), position)
 }
 
-/// The number that C is told. A value that passes 32 bits has one of its own.
+/// The number for C. A value that passes 32 bits has one of its own.
 #[inline(always)]
 fn answer_join(found: Result<usize, ListError>, position: &mut usize) -> isize
     requires { IfOk found (λ size. size < 2 ^ 63) }

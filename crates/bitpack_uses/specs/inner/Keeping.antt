@@ -9,7 +9,7 @@ pub record IsPlaceFor (score : ℕ) (found : List Scored) (at : ℕ) : Type 0 wh
   pub before : (i : ℕ) (d : Scored) → i < at → score ≤ (slice_index_or found i d).score
   pub here : (d : Scored) → at < length found → (slice_index_or found at d).score < score
 
--- a document was put in its place, and the first k were kept
+-- a document was put in order among the others, and the first k were retained
 pub record IsKept (k : ℕ) (document : Scored) (old new : List Scored) : Type 0 where
   pub at : ℕ
   pub place : IsPlaceFor document.score old at

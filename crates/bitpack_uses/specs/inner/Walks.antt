@@ -29,25 +29,25 @@ module _ {P : Type 0} {members : Ghosts P} where
   abbrev pub place_of : Walk P members → ℕ
   place_of walk = 32 * members.lanes * walk.block + walk.index
 
-  -- the ids and the counts of its block are at hand
+  -- the ids and the counts of its block are unpacked
   pub record IsHeld (walk : Walk P members) : Type 0 where
     pub ids : IsBlockOf members.lanes (ids_of walk) walk.block walk.len walk.ids
     pub counts : IsBlockOf members.lanes (counts_of walk) walk.block walk.len walk.counts
     pub ordered : InOrder (take walk.len walk.ids)
     pub room : walk.len ≤ length walk.ids
 
-  -- it is at a block of its word; if it has unpacked this, it is at hand
+  -- it is at a block of its word; if it has unpacked this, it is the current block
   pub record IsSound (walk : Walk P members) : Type 0 where
     pub inside : (walk.index ≤ walk.len) × (walk.len ≤ 256)
     pub block : walk.block ≤ whole_blocks members.lanes (length (ids_of walk))
     pub held : 0 < walk.len → IsHeld walk
 
-  -- all ids before its place are below a number
+  -- all ids before its position are below a number
   pub record Rests (low : ℕ) (walk : Walk P members) : Type 0 where
     pub sound : IsSound walk
     pub before : (k : ℕ) → k < place_of walk → slice_index (ids_of walk) k < low
 
-  -- its block is at hand, and the id that it is at is not below a number
+  -- its block is unpacked, and the id where it stands is not below a number
   pub record IsOpen (low : ℕ) (walk : Walk P members) : Type 0 where
     pub rests : Rests low walk
     pub held : IsHeld walk
@@ -57,7 +57,7 @@ module _ {P : Type 0} {members : Ghosts P} where
   abbrev pub Ends : ℕ → Walk P members → Type 0
   Ends end walk = (k : ℕ) → 32 * members.lanes * (walk.block + 1) ≤ k → k < length (ids_of walk) → end ≤ slice_index (ids_of walk) k
 
-  -- no part is above this, of an id from its place to the end of its block
+  -- no part is above this, of an id from its position to the end of its block
   abbrev pub IsMost : ℕ → Walk P members → Type 0
   IsMost most walk = (k class : ℕ) → place_of walk ≤ k → k < 32 * members.lanes * (walk.block + 1) → k < length (ids_of walk)
       → part_at (term_of walk).parts.table.now (slice_index (counts_of walk) k) class ≤ most

@@ -14,7 +14,7 @@ pub struct Scored {
     pub score: u64,
 }
 
-/// Puts a document after those with the same score or a greater one, and keeps the first `k`.
+/// Puts a document after those with the same score or a greater one, and retains the first `k`.
 pub(super) fn keep(found: &mut Vec<Scored>, k: usize, document: Scored) -> Result<(), AllocError>
     ensures kept { OnOk result (IsKept k document found.old.items found.new.items) }
 {

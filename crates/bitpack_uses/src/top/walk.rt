@@ -11,12 +11,12 @@ use bitpacking::{BitPacker, MAX_BLOCK_LEN};
 /// The number after all ids.
 pub(super) const END: u64 = 1 << 32;
 
-/// A word, its block at hand or the next to be unpacked, and the index in it.
+/// A word, its current block or the next to be unpacked, and the index in it.
 #[derive(Drop)]
 pub(super) struct Walk<'a, P: BitPacker> {
     pub(super) term: &'a Term<'a, P>,
     pub(super) block: usize,
-    // How many values are at hand: none before the block is unpacked.
+    // How many values of the block are unpacked: none before that.
     pub(super) len: usize,
     pub(super) index: usize,
     pub(super) ids: [u32; MAX_BLOCK_LEN],
@@ -101,7 +101,7 @@ impl<'a, P: BitPacker> Walk<'a, P> {
         self.term.parts.most_of_all()
     }
 
-    /// Unpacks the block, if it is not at hand, and goes on to the first id that is not below a number.
+    /// Unpacks the block, if it is not unpacked yet, and goes on to the first id that is not below a number.
     pub(super) fn open(&mut self, low: u32, reads: &mut Reads)
         requires { Rests low self.old }
         ensures same { IsSameBlock self.old self.new }
@@ -111,7 +111,7 @@ impl<'a, P: BitPacker> Walk<'a, P> {
         self.index = first_from(&self.ids[..self.len], self.index, low);
     }
 
-    /// Unpacks the ids and the counts of the block, if they are not at hand.
+    /// Unpacks the ids and the counts of the block, if they are not unpacked yet.
     fn unpack(&mut self, reads: &mut Reads)
         requires { IsSound self.old }
         ensures same { IsSameBlock self.old self.new }
