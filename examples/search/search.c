@@ -260,6 +260,8 @@ static int find(const char *file, const char *query, int explain, int scans, siz
         return bitpacking_list_len(&documents) == 0;
     }
     find_best(&s, scans);
+    if (explain)
+        fprintf(stderr, "%zu blocks unpacked to rank\n", s.ranking.unpacked);
     for (size_t i = 0; i < s.ranking.len; i++) {
         struct found found = s.ranking.best[i];
         printf("%7.3f  ", found.score);
@@ -269,8 +271,6 @@ static int find(const char *file, const char *query, int explain, int scans, siz
         if (explain)
             fprintf(stderr, "document %" PRIu32 ": %.17g\n", found.document, found.score);
     }
-    if (explain)
-        fprintf(stderr, "%zu blocks unpacked to rank\n", s.ranking.unpacked);
     return s.ranking.len == 0;
 }
 

@@ -21,24 +21,53 @@ ONE_OF = 6
 DOCUMENTS = 4000
 # Words, and in one of how many paragraphs each is at random, with counts up to a number. One word is in fewer than a block of paragraphs.
 WORDS = {"the": (2, 9), "of": (3, 3), "sea": (9, 4), "ship": (20, 60), "moon": (20, 2), "oak": (70, 5), "elm": (300, 3)}
-# Words of equally many paragraphs, each once in it: the later one is in earlier paragraphs, of which each has it alone. Their scores are equal.
+# Words of equally many paragraphs, with a count of one: the later word is in the earlier paragraphs. Some of these have nothing else, so that
+# their scores are equal.
 TIED = {"ant": range(2001, 3000, 3), "bee": range(1, 1000, 3)}
 ALONE = 40
 # Wrong changes: what is wrong, and what is other in best.c, and in best.rs.
 WRONG = [
-    ("a block with the bound of the last score and lower documents is passed", ("least), low))", "least), UINT32_MAX))"), ("bound, low)", "bound, u32::MAX)")),
+    (
+        "a block with the bound of the last score and lower documents is passed",
+        ("least), low))", "least), UINT32_MAX))"),
+        ("bound, low)", "bound, u32::MAX)"),
+    ),
     (
         "a bound is of the last value",
         ("block, &other, &most);", "block, &other, &most), bitpacking_list_get(&t->counts, BLOCK * block + BLOCK - 1, &most);"),
         ("its.of_rest, |bounds| bounds.1", "its.of_rest, |_| its.counts.get(BLOCK * block + BLOCK - 1).unwrap_or(0)"),
     ),
-    ("a word without a block is left out", ("find(r, t, document) ?", "t->blocks && find(r, t, document) ?"), ("if its.find", "if its.counts.block_count() > 0 && its.find")),
-    ("of equal scores the first that comes is better", ("before.score == score && before.document < document", "before.score == score"), ("its == score && before < document);", "its == score);")),
-    ("the last score counts before all places are taken", ("r->len < r->room)\n        return 1", "r->len == 0)\n        return 1"), ("self.best.len() < self.room ||", "self.best.is_empty() ||")),
-    ("a score is added up in another order", ("score += r->parts[i]", "score += r->parts[r->order[i]]"), ("self.parts.iter().fold(0.0, |sum, part| sum + part)", "self.order.iter().fold(0.0, |sum, &term| sum + self.parts[term])")),
-    ("a document that was seen comes again", ("i != own && find", "i != own && 0 && find"), ("|| self.terms[self.order[i]].find(document)?", "|| false")),
-    ("the bound of a rest is that of nothing", ("most = t->of_rest, other", "most = 0, other"), ("map_or(its.of_rest, |bounds|", "map_or(0, |bounds|")),
-]  # fmt: skip
+    (
+        "a word without a block is left out",
+        ("find(r, t, document) ?", "t->blocks && find(r, t, document) ?"),
+        ("if its.find", "if its.counts.block_count() > 0 && its.find"),
+    ),
+    (
+        "of equal scores the first that comes is better",
+        ("before.score == score && before.document < document", "before.score == score"),
+        ("its == score && before < document);", "its == score);"),
+    ),
+    (
+        "the last score counts before all places are taken",
+        ("r->len < r->room)\n        return 1", "r->len == 0)\n        return 1"),
+        ("self.best.len() < self.room ||", "self.best.is_empty() ||"),
+    ),
+    (
+        "a score is added up in another order",
+        ("score += r->parts[i]", "score += r->parts[r->order[i]]"),
+        ("self.parts.iter().fold(0.0, |sum, part| sum + part)", "self.order.iter().fold(0.0, |sum, &term| sum + self.parts[term])"),
+    ),
+    (
+        "a document that was seen comes again",
+        ("i != own && find", "i != own && 0 && find"),
+        ("|| self.terms[self.order[i]].find(document)?", "|| false"),
+    ),
+    (
+        "the bound of a rest is that of nothing",
+        ("most = t->of_rest, other", "most = 0, other"),
+        ("map_or(its.of_rest, |bounds|", "map_or(0, |bounds|"),
+    ),
+]
 
 
 def corpus(chance):
@@ -151,9 +180,17 @@ def wrong_programs(programs):
     with open(f"{folder}/rust/Cargo.toml", "w", encoding="utf-8") as file:
         file.write(manifest)
     build = {
-        "c": [*c.C99, "-O1", *(f"{folder}/{name}.c" for name in ("search", "index", "best")), f"{archives.OUT}/{archives.ALL}", "-lm", "-o", f"{folder}/search"],
+        "c": [
+            *c.C99,
+            "-O1",
+            *(f"{folder}/{name}.c" for name in ("search", "index", "best")),
+            f"{archives.OUT}/{archives.ALL}",
+            "-lm",
+            "-o",
+            f"{folder}/search",
+        ],
         "rust": ["cargo", "build", "--release", "--offline", "--manifest-path", f"{folder}/rust/Cargo.toml"],
-    }  # fmt: skip
+    }
     for what, *changes in WRONG:
         for (language, command), (path, text), (old, new) in zip(build.items(), right.items(), changes):
             name = f"wrong {language}"
@@ -168,7 +205,23 @@ def wrong_programs(programs):
             del programs.paths[name]
 
 
+def skipped(programs):
+    """How many blocks a ranking unpacks, by hand. 512 paragraphs have a word, in 4 blocks: ten of 60 words 60 times, others of 2 words once.
+    The mean is (10 * 60 + 502 * 2) / 512 = 3.13 words. A part is 1 / (1 + 1.2 * (0.25 + 0.75 * 60 / 3.13) / 60) = 0.77 of the weight for the
+    ten, and at most 1 / (1 + 1.2 * (0.25 + 0.75 * 2 / 3.13)) = 0.53 in the blocks after the first, which stay packed in both lists."""
+    os.makedirs(f"{programs.folder}/skipped")
+    with open(f"{programs.folder}/skipped/paragraphs", "w", encoding="ascii") as file:
+        file.write("\n\n".join([" ".join(["w"] * 60)] * 10 + ["w x"] * 502))
+    _, wrong = programs.index("--paragraphs", "skipped")
+    yield "an index of paragraphs to skip", wrong
+    for name in programs.paths:
+        status, _, messages = programs.run(name, "find", "--explain", "index.c", "w")
+        right = ["w: 512 documents in 4 blocks", "2 blocks unpacked to rank"]
+        yield f"the blocks that {name} unpacks", None if (status, messages.split("\n")[:2]) == (0, right) else f"said {messages}"
+
+
 def checks(programs):
+    yield from skipped(programs)
     documents = corpus(random.Random(1))
     model = Model(documents)
     os.makedirs(f"{programs.folder}/ranked")
