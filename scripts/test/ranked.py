@@ -21,8 +21,8 @@ ONE_OF = 6
 DOCUMENTS = 4000
 # Words, and in one of how many paragraphs each is at random, with counts up to a number. One word is in fewer than a block of paragraphs.
 WORDS = {"the": (2, 9), "of": (3, 3), "sea": (9, 4), "ship": (20, 60), "moon": (20, 2), "oak": (70, 5), "elm": (300, 3)}
-# Words of equally many paragraphs, with a count of one: the later word is in the earlier paragraphs. Some of these have nothing else, so that
-# their scores are equal.
+# Words of equally many paragraphs, with a count of one: the later word is in the earlier paragraphs. Some of these have nothing else, so
+# that their scores are equal.
 TIED = {"ant": range(2001, 3000, 3), "bee": range(1, 1000, 3)}
 ALONE = 40
 # Wrong changes: what is wrong, and what is other in best.c, and in best.rs.
@@ -198,7 +198,7 @@ def wrong_programs(programs):
             with open(path, "w", encoding="utf-8") as file:
                 file.write(text.replace(old, new))
             built = run(*command, env=dict(os.environ, CARGO_TARGET_DIR=f"{folder}/target", RUSTFLAGS="-A warnings"))
-            why = None if built.returncode == 0 and text.count(old) >= 1 else f"it is not built: {built.stdout[-2000:]}"
+            why = None if built.returncode == 0 and text.count(old) == 1 else f"it is not built: {built.stdout[-2000:]}"
             yield what, name, why
             with open(path, "w", encoding="utf-8") as file:
                 file.write(text)
@@ -206,9 +206,9 @@ def wrong_programs(programs):
 
 
 def skipped(programs):
-    """How many blocks a ranking unpacks, by hand. 512 paragraphs have a word, in 4 blocks: ten of 60 words 60 times, others of 2 words once.
-    The mean is (10 * 60 + 502 * 2) / 512 = 3.13 words. A part is 1 / (1 + 1.2 * (0.25 + 0.75 * 60 / 3.13) / 60) = 0.77 of the weight for the
-    ten, and at most 1 / (1 + 1.2 * (0.25 + 0.75 * 2 / 3.13)) = 0.53 in the blocks after the first, which stay packed in both lists."""
+    """How many blocks a ranking unpacks, by hand. 512 paragraphs have a word, in 4 blocks: ten of 60 words 60 times, the others, of 2 words,
+    once. The mean is (10 * 60 + 502 * 2) / 512 = 3.13 words. A part is 1 / (1 + 1.2 * (0.25 + 0.75 * 60 / 3.13) / 60) = 0.77 of the weight
+    for the ten, and at most 1 / (1 + 1.2 * (0.25 + 0.75 * 2 / 3.13)) = 0.53 in the blocks after the first, which stay packed."""
     os.makedirs(f"{programs.folder}/skipped")
     with open(f"{programs.folder}/skipped/paragraphs", "w", encoding="ascii") as file:
         file.write("\n\n".join([" ".join(["w"] * 60)] * 10 + ["w x"] * 502))
