@@ -47,7 +47,7 @@ module _ {P : Type 0} {members : Ghosts P} where
     pub sound : IsSound walk
     pub before : (k : ℕ) → k < place_of walk → slice_index (ids_of walk) k < low
 
-  -- its block is unpacked, and the id where it stands is not below a number
+  -- its block is unpacked, and its current id is not below a number
   pub record IsOpen (low : ℕ) (walk : Walk P members) : Type 0 where
     pub rests : Rests low walk
     pub held : IsHeld walk
