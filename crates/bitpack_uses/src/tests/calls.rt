@@ -292,7 +292,7 @@ pub(super) fn encode_more<P: BitPacker>(
     Some(list.encode_more(more, out))
 }
 
-/// Writes it into a slice.
+/// Writes that list into a slice.
 pub(super) fn encode_more_to<P: BitPacker>(
     list: &PackedList<'_, P>,
     more: &[u32],
@@ -302,4 +302,31 @@ pub(super) fn encode_more_to<P: BitPacker>(
         return None;
     }
     Some(list.encode_more_to(more, bytes))
+}
+/// Appends the newest encoded list of two lists, with a base for the second.
+pub(super) fn encode_joined<P: BitPacker, Q: BitPacker>(
+    list: &PackedList<'_, P>,
+    base: u32,
+    other: &PackedList<'_, Q>,
+    out: &mut Vec<u8>,
+) -> Option<Result<(), ListError>> {
+    let mut room = [0x77; 700];
+    if !list.keeps_blocks() || other.len() > room.len() {
+        return None;
+    }
+    Some(list.encode_joined(base, other, &mut room, out))
+}
+
+/// Writes that list into a slice.
+pub(super) fn encode_joined_to<P: BitPacker, Q: BitPacker>(
+    list: &PackedList<'_, P>,
+    base: u32,
+    other: &PackedList<'_, Q>,
+    bytes: &mut [u8],
+) -> Option<Result<usize, ListError>> {
+    let mut room = [0x77; 700];
+    if !list.keeps_blocks() || other.len() > room.len() {
+        return None;
+    }
+    Some(list.encode_joined_to(base, other, &mut room, bytes))
 }

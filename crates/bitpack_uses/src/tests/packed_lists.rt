@@ -6,6 +6,7 @@ mod changed_lists;
 mod encode_to;
 mod few_and_long;
 mod intersect;
+mod joined_lists;
 mod large;
 mod list2;
 mod list2_memory;
