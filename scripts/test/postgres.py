@@ -69,7 +69,7 @@ class Extension:
     """The extension built in a folder, for servers that are started there."""
 
     def __init__(self, folder):
-        self.folder, self.prefix, self.sources = folder, f"{folder}/prefix", f"{folder}/postgres"
+        self.folder, self.prefix, self.sources, self.servers = folder, f"{folder}/prefix", f"{folder}/postgres", []
         os.chmod(folder, 0o755)
         install.install(self.prefix, f"{archives.OUT}/{archives.ALL}")
         self.programs = Programs(f"{folder}/programs")
@@ -90,7 +90,8 @@ class Extension:
         return None
 
     def server(self, *given, **more):
-        return Server(self.programs, f"{self.folder}/servers", *given, **more)
+        self.servers.append(Server(self.programs, f"{self.folder}/servers", *given, **more))
+        return self.servers[-1]
 
 
 def library(extension):
@@ -221,7 +222,8 @@ def checks():
             yield from pg_faults.checks(extension, first)
             yield from wrong_changes(extension, first)
         finally:
-            first.stop()
+            for server in extension.servers:
+                server.stop()
 
 
 def main():
