@@ -1,6 +1,6 @@
 #!/usr/bin/env python3
 """Writes what those need who have no rt, into FOLDER: a file for each processor, such as bitpacking-1.0.0-linux-x86_64.tar.gz. It has the header,
-the archives for the processor, the crate in rust/ with its archives in place, the Python package, the examples, the vectors, the licence, all pages, and
+the archives for the processor, the crate in rust/ with its archives in place, the Python package, the PostgreSQL extension, the examples, the vectors, the licence, all pages, and
 scripts/build/install.py.
 
     bundle.py FOLDER
@@ -25,6 +25,7 @@ FILES += [*(f"examples/{it}/**/*.*" for it in ("search", "numbers")), "examples/
 FILES += ["rust/Cargo.toml", "rust/Cargo.lock", "rust/build.rs", "rust/src/**/*.rs", "rust/examples/*.rs"]
 FILES += ["python/*.md", "python/pyproject.toml", "python/setup.py", "python/src/core/*.[ch]", "python/src/fimulowen/*.py*"]
 FILES += ["python/src/fimulowen/py.typed", "python/tests/*.py"]
+FILES += ["postgres/Makefile", "postgres/packed_list*", "postgres/src/*.[ch]", "postgres/sql/*.sql", "postgres/expected/*.out"]
 FILES += ["scripts/common.py", *(f"scripts/build/{it}.py" for it in ("install", "archives", "choosing", "proving"))]
 # The archives of each processor, by the name that `uname -m` gives it.
 ARCHIVES = {"x86_64": ["rust/out/*.a", "rust/out/x86-64*/*.a"], "aarch64": ["rust/out/aarch64*/*.a"]}
