@@ -1,7 +1,7 @@
 #!/usr/bin/env python3
-"""Writes what those need who have no rt, into FOLDER: a file for each processor, such as bitpacking-1.0.0-linux-x86_64.tar.gz. It has the header,
-the archives for the processor, the crate in rust/ with its archives in place, the Python package, the PostgreSQL extension, the examples, the vectors, the licence, all pages, and
-scripts/build/install.py.
+"""Writes what those need who have no rt, into FOLDER: a file for each processor, such as bitpacking-1.0.0-linux-x86_64.tar.gz. It has
+the header, the archives for the processor, the crate in rust/ with its archives in place, the Python package, the PostgreSQL extension, the
+examples, the vectors, the licence, all pages, and scripts/build/install.py.
 
     bundle.py FOLDER
 
