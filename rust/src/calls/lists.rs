@@ -196,16 +196,8 @@ pub(crate) struct Lists {
 }
 
 /// A function that writes two lists as one.
-pub(crate) type Join = unsafe extern "C" fn(
-    *const ListView<'_>,
-    u32,
-    *const ListView<'_>,
-    *mut u32,
-    usize,
-    *mut u8,
-    usize,
-    *mut usize,
-) -> isize;
+pub(crate) type Join =
+    unsafe extern "C" fn(*const ListView<'_>, u32, *const ListView<'_>, *mut u32, usize, *mut u8, usize, *mut usize) -> isize;
 
 /// A function that makes one list of values from many lists.
 pub(crate) type Combine = unsafe extern "C" fn(*const ListView<'_>, usize, *mut u32, usize) -> isize;

@@ -54,7 +54,8 @@ fn joined_lists() {
                 let base = values[cut..].iter().fold(base, |base, value| base.min(*value));
                 let others: Vec<u32> = values[cut..].iter().map(|value| value - base).collect();
                 let others_kind = if kind == Kind::StrictlySorted { Kind::Sorted } else { kind };
-                let (first, second) = (encoded(form, kind, &values[..cut]).unwrap(), encoded(other_form, others_kind, &others).unwrap());
+                let (first, second) =
+                    (encoded(form, kind, &values[..cut]).unwrap(), encoded(other_form, others_kind, &others).unwrap());
                 let joined = PackedList::open(&first).unwrap().join(base, &PackedList::open(&second).unwrap());
                 assert_eq!(joined, encoded((form.0, Version::Four), kind, &values));
             }
@@ -66,7 +67,8 @@ fn joined_lists() {
 fn joined_lists_that_are_refused() {
     for form in FORMS {
         let first: Vec<u32> = (5..605).collect();
-        let (first, second) = (encoded(form, Kind::StrictlySorted, &first).unwrap(), encoded(form, Kind::Plain, &[9, u32::MAX - 700, 8]).unwrap());
+        let (first, second) =
+            (encoded(form, Kind::StrictlySorted, &first).unwrap(), encoded(form, Kind::Plain, &[9, u32::MAX - 700, 8]).unwrap());
         let (first, second) = (PackedList::open(&first).unwrap(), PackedList::open(&second).unwrap());
         assert_eq!(first.join(701, &second), Err(Error::BadNumber));
         assert_eq!(first.join(700, &second), Err(Error::NotSorted { position: Some(602) }));
