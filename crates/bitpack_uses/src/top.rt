@@ -25,7 +25,7 @@ use walk::{END, Walk};
 /// The best `k` of the documents that have at least `at_least` of the words, the best of them first: a scan of all would find the same.
 ///
 /// A document with a greater score comes first, and of two with the same score the one with the lower id. The score adds up the part of each
-/// word that the document has. The lengths of documents are a list of their classes by id.
+/// word that the document has. The lengths of documents are a list of their classes by id. A document after its end has class 0.
 ///
 /// With at least one word it is a query by OR, and with all of them by AND. Ids are passed in ranges, in which no word changes its block. If
 /// the bounds of these blocks tell that the range has none of the best, they are not unpacked.

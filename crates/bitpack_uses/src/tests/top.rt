@@ -1,7 +1,7 @@
 //! The best documents of a query: worked by hand, and against a scan of all documents.
 
 use super::calls::{encode4, open_any};
-use super::checks::{Numbers, holds, same_number, same_values, succeeds};
+use super::checks::{Numbers, holds, push, same_number, succeeds};
 use crate::top::{CLASSES, Parts, Scored, Term, TermError, best};
 use bitpack::ListKind;
 use bitpack::list2::{PackedList, Reads};
@@ -110,6 +110,33 @@ fn worked_by_hand(rt: HostRuntime) {
     }
     let both = best_of(&rt, rt.alloc(), &terms, &classes, 2, 10);
     same_documents(&rt, &both, &[(4, 600)]);
+}
+
+/// A word is four times in documents 0 to 31, and once in 32 to 63. The best 40 are the first 32, with 1,200, and the next eight, with 300,
+/// though no document of the second block can pass one of the first.
+#[test]
+fn fewer_than_k_in_a_block(rt: HostRuntime) {
+    let table = table();
+    let mut ids = Vec::new(rt.alloc());
+    let mut counts = Vec::new(rt.alloc());
+    for id in 0..64u32 {
+        push(&rt, &mut ids, id);
+        push(&rt, &mut counts, if id < 32 { 4 } else { 1 });
+    }
+    let word = Word::new(&rt, rt.alloc(), &ids, &counts);
+    let none = Word::new(&rt, rt.alloc(), &[], &[]);
+    let terms = [word.term(&rt, &table), none.term(&rt, &table)];
+    let classes = text(&rt, rt.alloc(), ListKind::Plain, &[]);
+    let found = best_of(&rt, rt.alloc(), &terms, &classes, 1, 40);
+    same_number(&rt, found.len(), 40, "documents");
+    for (document, id) in found.iter().zip(0u32..) {
+        let score = if id < 32 { 1200 } else { 300 };
+        holds(
+            &rt,
+            document.id == id && document.score == score,
+            "a document",
+        );
+    }
 }
 
 #[test]
