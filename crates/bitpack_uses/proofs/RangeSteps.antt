@@ -1,19 +1,19 @@
 -- Steps of the loops over walks: their words stay, and one more of them is added.
-use Rattle.std.proofs.Common.{◌≡◌, ℕ, ◌+◌, ◌-◌, ◌*◌, ◌^◌, ◌<◌, ◌≤◌, ◌⊎◌, Bool, false, true, cond, List, length, get_or, map, set, take, refl, sym, ap, ◌∙◌, inl, inr, arith}
+use Rattle.std.proofs.Common.{◌≡◌, ℕ, ◌+◌, ◌^◌, ◌<◌, ◌≤◌, ◌⊎◌, Bool, false, true, cond, List, length, get_or, set, take, sym, ap, ◌∙◌, inl, inr, arith}
 use Rattle.std.specs.Prelude.{All}
 use Rattle.std.specs.List.{AllWithin, count_by, sum_by}
 use Rattle.std.proofs.Math.Seq.{map-set_same}
 use Rattle.std.proofs.lemmas.Bool.{cases_lt}
 use Rattle.std.proofs.lemmas.List.{get_or-map, get_or-set_other, length-map, length-set}
-use Rattle.std.proofs.lemmas.List.Elements.{All-from_get_or, All-map, All-set, All-weaker, AllWithin-more_set}
+use Rattle.std.proofs.lemmas.List.Elements.{All-map, All-set}
 use Rattle.std.proofs.lemmas.List.Sums.{count_by_more_no, count_by_more_yes, sum_by-le, sum_by_more}
 use Rattle.bitpacking.specs.declared.bit_packer.BitPacker.{Ghosts}
-use Rattle.bitpack_uses.specs.Top.{AreBest, IsHit, has_word, part_in}
+use Rattle.bitpack_uses.specs.Top.{AreBest, has_word, part_in}
 use Rattle.bitpack_uses.specs.declared.top.found.Scored.{Scored}
 use Rattle.bitpack_uses.specs.declared.top.term.Term.{Term}
 use Rattle.bitpack_uses.specs.declared.top.walk.Walk.{Walk}
 use Rattle.bitpack_uses.specs.inner.Keeping.{IsFull, IsKept}
-use Rattle.bitpack_uses.specs.inner.Walks.{Ends, IsHitBelow, IsOpen, IsSameBlock, Rests, term_of, terms_of}
+use Rattle.bitpack_uses.specs.inner.Walks.{Ends, IsHitBelow, IsOpen, IsSameBlock, term_of, terms_of}
 use Rattle.bitpack_uses.proofs.BestSteps.{best_kept, best_same, best_skipped, same_scored}
 use Rattle.bitpack_uses.proofs.WalkSteps.{lacks_between, same_ends}
 

@@ -1,5 +1,5 @@
 -- How a document goes among the best so far.
-use Rattle.std.specs.Prelude.{◌≡◌, ℕ, ◌-◌, ◌<◌, ◌≤◌, Bool, true, List, length, take, slice_index_or, All}
+use Rattle.std.specs.Prelude.{◌≡◌, ℕ, ◌-◌, ◌<◌, ◌≤◌, Bool, true, List, length, take, slice_index_or}
 use Rattle.std.specs.List.{insert}
 use Rattle.bitpack_uses.specs.declared.top.found.Scored.{Scored}
 

@@ -1,6 +1,5 @@
 -- Range after range.
-use Rattle.std.proofs.Common.{◌≡◌, ◌<◌, ◌≤◌, ◌+◌, ◌^◌, length, refl, sym, ap, ◌∙◌, arith, rules}
-use Rattle.std.proofs.lemmas.List.{length-map}
+use Rattle.std.proofs.Common.{refl, ◌∙◌, arith}
 use Rattle.bitpack_lists.specs.Opened.{values}
 use Rattle.bitpack_uses.specs.inner.Walks.{IsHitBelow, terms_of}
 use Rattle.bitpack_uses.proofs.BestSteps.{best_none}

@@ -1,10 +1,10 @@
 -- The document is one of those wanted, or has too few of the words.
-use Rattle.std.proofs.Common.{◌≡◌, ◌<◌, ◌≤◌, ◌+◌, ap, ◌∙◌, sym, arith, rules}
+use Rattle.std.proofs.Common.{◌≡◌, ◌+◌, ap, sym, arith}
 use Rattle.std.specs.List.{count_by}
 use Rattle.std.proofs.lemmas.Result.{on_ok_weaker}
 use Rattle.bitpack_lists.specs.Opened.{values}
 use Rattle.bitpack_uses.specs.Top.{has_word}
-use Rattle.bitpack_uses.specs.inner.Walks.{IsHitBelow, terms_of}
+use Rattle.bitpack_uses.specs.inner.Walks.{terms_of}
 use Rattle.bitpack_uses.proofs.RangeSteps.{best_up, best_with}
 use Rattle.bitpack_uses.proofs.top.take_document.Goals as goal
 

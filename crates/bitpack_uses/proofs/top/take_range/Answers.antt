@@ -1,7 +1,7 @@
 -- The next document is the next that has a word.
-use Rattle.std.proofs.Common.{◌≡◌, ◌<◌, ◌≤◌, ◌+◌, length, sym, ◌∙◌, refl, arith, rules}
+use Rattle.std.proofs.Common.{◌≡◌, ◌+◌, ◌∙◌, arith}
 use Rattle.bitpack_lists.specs.Opened.{values}
-use Rattle.bitpack_uses.specs.inner.Walks.{Ends, IsHitBelow, IsOpen, Rests, terms_of}
+use Rattle.bitpack_uses.specs.inner.Walks.{terms_of}
 use Rattle.bitpack_uses.proofs.RangeSteps.{best_past, best_up, none_between}
 use Rattle.bitpack_uses.proofs.top.take_range.Goals as goal
 

@@ -1,8 +1,8 @@
 -- One more word is within the bound.
-use Rattle.std.proofs.Common.{◌≡◌, ◌+◌, ◌*◌, ◌^◌, ◌≤◌, ◌<◌, length, get_or, ap, arith, rules}
+use Rattle.std.proofs.Common.{◌<◌, length, ap, arith}
 use Rattle.std.proofs.lemmas.List.Elements.{All-set, AllWithin-more_set}
 use Rattle.bitpack_uses.specs.Top.{part_in}
-use Rattle.bitpack_uses.specs.inner.Walks.{Ends, Rests, term_of, terms_of}
+use Rattle.bitpack_uses.specs.inner.Walks.{Ends, Rests, terms_of}
 use Rattle.bitpack_uses.proofs.RangeSteps.{sum_more, words_stay}
 use Rattle.bitpack_uses.proofs.WalkSteps.{part_bounded}
 use Rattle.bitpack_uses.proofs.top.range.find_range.Goals as goal

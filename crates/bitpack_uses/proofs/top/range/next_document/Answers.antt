@@ -1,5 +1,5 @@
 -- One more walk is at an id that is not lower.
-use Rattle.std.proofs.Common.{◌≡◌, ℕ, ◌<◌, ◌≤◌, length, get_or, subst, sym, ◌∙◌, inl, inr, arith}
+use Rattle.std.proofs.Common.{◌<◌, ◌≤◌, length, get_or, subst, sym, ◌∙◌, inl, inr, arith}
 use Rattle.std.proofs.lemmas.Bool.{cases_lt}
 use Rattle.std.proofs.lemmas.List.{get_or_default}
 use Rattle.std.proofs.lemmas.List.Elements.{AllWithin-more}

@@ -1,5 +1,5 @@
 -- One more walk is open.
-use Rattle.std.proofs.Common.{◌<◌, length, refl, ◌∙◌, arith}
+use Rattle.std.proofs.Common.{◌<◌, length, refl, arith}
 use Rattle.std.proofs.lemmas.List.Elements.{All-set, AllWithin-more_set}
 use Rattle.bitpack_uses.specs.inner.Walks.{IsOpen, Rests, terms_of}
 use Rattle.bitpack_uses.proofs.RangeSteps.{ends_stay, words_stay}

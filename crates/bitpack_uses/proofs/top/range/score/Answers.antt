@@ -1,5 +1,5 @@
 -- One more word is added.
-use Rattle.std.proofs.Common.{◌≡◌, ◌+◌, ◌*◌, ◌^◌, ◌≤◌, ◌<◌, cond, length, get_or, refl, arith}
+use Rattle.std.proofs.Common.{◌+◌, ◌<◌, cond, length, refl, arith}
 use Rattle.std.proofs.lemmas.List.Elements.{AllWithin-more_set}
 use Rattle.bitpack_uses.specs.Top.{has_word, part_in}
 use Rattle.bitpack_uses.specs.inner.Walks.{IsOpen, terms_of}

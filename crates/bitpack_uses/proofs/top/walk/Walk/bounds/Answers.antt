@@ -1,5 +1,5 @@
 -- Later ids are above the last of the block, and its counts are within its bounds.
-use Rattle.std.proofs.Common.{◌≡◌, ℕ, ◌+◌, ◌-◌, ◌*◌, ◌<◌, ◌≤◌, length, get_or, ap, arith}
+use Rattle.std.proofs.Common.{◌≡◌, ℕ, ◌+◌, ◌-◌, ◌*◌, ◌≤◌, length, get_or, ap, arith}
 use Rattle.bitpack_lists.specs.Parts.{whole_blocks}
 use Rattle.bitpack_uses.specs.inner.Walks.{counts_of, ids_of, term_of}
 use Rattle.bitpack_uses.proofs.PositionLemmas.{rises}
