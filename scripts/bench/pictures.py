@@ -1,42 +1,41 @@
 #!/usr/bin/env python3
-"""Draws the pictures of docs/SPEED.md from measured numbers: docs/speed/size.svg and docs/speed/queries.svg from docs/speed/search.tsv, and
+"""Draws the pictures of docs/SPEED.md: docs/speed/size.svg and docs/speed/queries.svg from the first table of the page, and
 docs/speed/blocks.svg from docs/speed/blocks.tsv. `pictures.py --check` compares them with what it would draw, and writes nothing. The last line
 is 'N passed, M failed', one for each picture.
 """
 import os
+import re
 import sys
 
 sys.path.insert(1, f"{sys.path[0]}/..")
 from common import ROOT, report, source, words
 
-FOLDER = "docs/speed"
-# The ways of search_speed.py, with the names and colours of their bars.
+PAGE, FOLDER = "docs/SPEED.md", "docs/speed"
+# The columns of the page's table that are drawn, with the names and colours of their bars.
 WAYS = {
-    "lists": ("packed lists", "#2563eb"),
-    "arrays": ("plain arrays", "#8b93a1"),
-    "roaring": ("Roaring", "#d97706"),
-    "roaring_here": ("Roaring, for this processor", "#f6ad55"),
-    "xapian": ("Xapian", "#2f855a"),
+    "newest version": ("packed lists", "#2563eb"),
+    "plain arrays": ("plain arrays", "#8b93a1"),
+    "Roaring": ("Roaring", "#d97706"),
+    "Roaring, here": ("Roaring, for this processor", "#f6ad55"),
 }
-SETS = {
-    "and2": "AND of 2 words",
-    "and3": "AND of 3 words",
-    "and4": "AND of 4 words",
-    "or": "OR of 2 to 4 words",
-    "not": "a word, NOT another",
-    "rare": "AND of 2 rare words",
-    "dense-and": "AND of 2 frequent words",
-    "dense-or": "OR of 2 frequent words",
-}
+# The rows that are queries begin with one of these.
+QUERIES = ["AND of", "OR of 2", "a word, NOT"]
 CALLS = {"pack": ("pack at the least width", "#2563eb"), "unpack": ("unpack", "#2f855a")}
 # Of a picture, in pixels: its width, where bars begin and how long they are at most, and the height of a bar.
-WIDTH, LEFT, LONGEST, BAR = 760, 190, 450, 15
+WIDTH, LEFT, LONGEST, BAR = 820, 260, 450, 15
 
 
 def numbers(table):
-    """The measured numbers of a table by measure, way, part and threads; of blocks by call, packer, kind and level."""
+    """The measured numbers of blocks by call, packer, kind and level."""
     rows = [line.split("\t") for line in source(f"{FOLDER}/{table}.tsv").split("\n") if line and not line.startswith("#")]
     return {tuple(row[:4]): float(row[4]) for row in rows[1:]}
+
+
+def rows_of_page():
+    """The rows of the first table of the page, by their first cell: the number of each column that has one."""
+    lines = re.search(r"^\| \|.*(?:\n\|.*)+", source(PAGE), re.M)[0].split("\n")
+    names, *rows = [[cell.strip() for cell in line.strip("|").split("|")] for line in lines if not line.startswith("|---")]
+    return {row[0]: {name: float(cell.replace(",", "")) for name, cell in zip(names[1:], row[1:]) if cell} for row in rows}
 
 
 def text(x, y, words, anchor="start", weight="normal", colour="#1f2933"):
@@ -63,37 +62,40 @@ def picture(title, height, parts):
 
 
 def size(found):
-    """Bits a posting: of the numbers of documents, and after them of the counts."""
-    postings, parts, y = found["postings", "texts", "", ""], [], 48
-    scale = LONGEST / 64
+    """Bits a posting: of doc ids, and after them of the counts."""
+    parts, y, scale = [], 48, LONGEST / 64
+    documents, counts = found["bits a posting"], found["bits of a count"]
     for way, (name, colour) in WAYS.items():
-        if way == "roaring_here":
+        if way not in documents:
             continue
-        documents, counts = [8 * found[f"bytes of {what}", way, "", ""] / postings for what in ("documents", "counts")]
-        counts = 0 if way == "roaring" else counts
-        label = f"{documents:.1f}" + (f" + {counts:.1f}" if counts else ", with counts and words" if way == "xapian" else "")
-        parts += [text(LEFT - 10, y + 11, name, "end"), bar(LEFT, y, scale * documents, colour)]
-        parts += [bar(LEFT + scale * documents, y, scale * counts, colour, 0.35)] if counts else []
-        parts.append(text(round(LEFT + scale * (documents + counts) + 8), y + 11, label))
+        more = counts.get(way, 0)
+        label = f"{documents[way]:.1f}" + (f" + {more:.1f}" if more else "")
+        parts += [text(LEFT - 10, y + 11, name, "end"), bar(LEFT, y, scale * documents[way], colour)]
+        parts += [bar(LEFT + scale * documents[way], y, scale * more, colour, 0.35)] if more else []
+        parts.append(text(round(LEFT + scale * (documents[way] + more) + 8), y + 11, label))
         y += BAR + 8
-    parts.append(
-        text(20, y + 14, "Full colour: the numbers of documents. Light: how often each has the word. Less is better.", colour="#52606d")
-    )
+    parts.append(text(20, y + 14, "Full colour: doc ids. Light: how often each document has the word. Less is better.", colour="#52606d"))
     return picture("Bits a posting", y + 28, parts)
+
+
+def legend(names):
+    """The colours with their names, in a row."""
+    parts, x = [], 20
+    for name, colour in names:
+        parts += [bar(x, 44, 13, colour), text(x + 18, 55, name)]
+        x += 44 + 7 * len(name)
+    return parts
 
 
 def queries(found):
     """Queries a second on one core. The longest bar of each set is the most."""
-    parts, x, y = [], 20, 44
-    for name, colour in WAYS.values():
-        parts += [bar(x, y, 13, colour), text(x + 18, y + 11, name)]
-        x += 44 + 7 * len(name)
-    y += 30
-    for key, name in SETS.items():
-        rates = {way: 1 / found["query: processor seconds", way, key, "1"] for way in WAYS}
+    parts, y = legend(WAYS.values()), 74
+    for name, rates in found.items():
+        if not any(name.startswith(first) for first in QUERIES):
+            continue
         parts.append(text(LEFT - 10, y + len(WAYS) * BAR // 2 + 4, name, "end"))
         for way, (_, colour) in WAYS.items():
-            length = LONGEST * rates[way] / max(rates.values())
+            length = LONGEST * rates[way] / max(rates[way] for way in WAYS)
             parts += [bar(LEFT, y, length, colour), text(round(LEFT + max(length, 1) + 8), y + 11, f"{rates[way]:,.0f}")]
             y += BAR
         y += 12
@@ -103,11 +105,7 @@ def queries(found):
 
 def blocks(found):
     """Integers a second of each packer and kind, at the highest level that was measured."""
-    level, parts, x, y = max(key[3] for key in found), [], 20, 44
-    for name, colour in CALLS.values():
-        parts += [bar(x, y, 13, colour), text(x + 18, y + 11, name)]
-        x += 44 + 7 * len(name)
-    y += 30
+    level, parts, y = max(key[3] for key in found), legend(CALLS.values()), 74
     longest = max(speed for (call, _, _, of), speed in found.items() if of == level and call in CALLS)
     for packer, kind in dict.fromkeys(key[1:3] for key in found):
         parts.append(text(LEFT - 10, y + len(CALLS) * BAR // 2 + 4, f"{packer}, {kind}", "end"))
@@ -129,7 +127,7 @@ def blocks(found):
 
 
 def main():
-    check, found = "--check" in words("--check"), numbers("search")
+    check, found = "--check" in words("--check"), rows_of_page()
     drawn = {"size": size(found), "queries": queries(found), "blocks": blocks(numbers("blocks"))}
     for name, picture_text in drawn.items():
         if not check:
