@@ -51,7 +51,7 @@ struct term {
 
 struct found { double score; uint32_t document; };
 
-/* The words of a query in its order, and the best documents yet, of which there is room for some. */
+/* The words of a query in its order, and the best documents so far, in room for a given number. */
 struct ranking {
     const struct lengths *lengths;
     struct { struct term *items; size_t len; } terms;

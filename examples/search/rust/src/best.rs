@@ -166,7 +166,7 @@ impl<'a> Term<'a> {
     }
 }
 
-/// The words of a query in its order, and the best documents yet, of which there is room for some.
+/// The words of a query in its order, and the best documents so far, in room for a given number.
 pub struct Ranking<'a> {
     lengths: &'a Lengths,
     terms: Vec<Term<'a>>,
