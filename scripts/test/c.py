@@ -4,8 +4,8 @@ whose output is worked by hand, scripts/test/calls.c, list_calls.c, cursor.c, co
 queries.c, sets.c and damaged.c over the tables of vectors/. They are compiled as C99 with every warning an error and run with little stack,
 and once more with the address sanitizer if the compiler has it. The two programs of calls are also compiled as C++11 and C++17, without a cast
 of C in the header; scripts/test/calls.c also runs over the archive for all levels on a processor of each level that qemu gives. It,
-list_calls.c and blocks.c have to name every macro of the header. Over that archive scripts/test/damaged.c opens a million damaged lists once
-more.
+list_calls.c, blocks.c and builder.c have to name every macro of the header. Over that archive scripts/test/damaged.c opens a million damaged
+lists once more.
 
 Then each program has to fail with another output than it has, or, if it prints nothing, with a function that returns one more. The archives
 are those that scripts/build/archives.py wrote, which is called if they are not there. The last line is 'N passed, M failed'; a part that is
@@ -212,7 +212,7 @@ def on_other_processors():
 
 def macros_not_named():
     """What is wrong with the use of the header's macros, or None. Its guard is its own."""
-    text, used = source("include/bitpacking.h"), set(re.findall(r"\w+", "".join(map(source, [CALLS, LIST_CALLS, BLOCKS]))))
+    text, used = source("include/bitpacking.h"), set(re.findall(r"\w+", "".join(map(source, [CALLS, LIST_CALLS, BLOCKS, BUILDER]))))
     own = set(re.findall(r"^#ifndef (\w+)", text, re.M))
     macros = set(re.findall(r"^#define (\w+)", text, re.M)) - own
     if not macros:
@@ -232,7 +232,7 @@ def casts_in_the_header():
 
 def checks():
     """Each check as a name and what is wrong, or None."""
-    yield f"the macros in {CALLS}, {LIST_CALLS} and {BLOCKS}", macros_not_named()
+    yield f"the macros in {CALLS}, {LIST_CALLS}, {BLOCKS} and {BUILDER}", macros_not_named()
     sanitizers, in_cpp = has_sanitizers(), shutil.which("c++")
     if not sanitizers:
         leave_out("the C programs under the address sanitizer", "which cc does not have here")

@@ -1,5 +1,5 @@
 /* Calls that scripts/test/c.py runs as C99 and as C++, also under the address sanitizer: bytes worked by hand, each error with nothing
-   written, null pointers. It names every macro of the header. Every width and kind is tested in rust/src/tests.rs. */
+   written, null pointers. Every width and kind is tested in rust/src/tests.rs. */
 #include "bitpacking.h"
 
 #include <stdio.h>
