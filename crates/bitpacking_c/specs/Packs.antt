@@ -71,8 +71,8 @@ abbrev pub JoinsList : ℕ → List ℕ → ListKind → List ℕ → ℕ → Li
 JoinsList lanes bytes kind values base others room before after answer =
     MatchOption (join_fault lanes bytes (length values) (length others) room)
     ((AreWords (moved base others)
-        → WritesOne (IsNewest lanes kind (joined values base others)) kind (joined values base others) answer before after)
-        × ((AreWords (moved base others) → ⊥) → (answer ≡ Err BadNumber) × (after ≡ before)))
+    → WritesOne (IsNewest lanes kind (joined values base others)) kind (joined values base others) answer before after)
+    × ((AreWords (moved base others) → ⊥) → (answer ≡ Err BadNumber) × (after ≡ before)))
     (λ fault. (answer ≡ Err fault) × (after ≡ before))
 
 -- the lists of two views are joined so

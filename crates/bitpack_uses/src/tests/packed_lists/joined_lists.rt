@@ -100,9 +100,7 @@ fn lists_joined(rt: HostRuntime) {
         32,
         &BitPacker4x::new(),
         &[0x26, 0x80, 1, 0x11, 0, 127],
-        &[
-            0x16, 0xA0, 1, 0x11, 0, 0, 0, 0, 0, 31, 63, 95, 127, 159,
-        ],
+        &[0x16, 0xA0, 1, 0x11, 0, 0, 0, 0, 0, 31, 63, 95, 127, 159],
     );
 }
 
@@ -141,7 +139,14 @@ fn refused_lists(rt: HostRuntime) {
     refuses(&rt, alloc, &run, u32::MAX, &run, ListError::BadNumber);
     // A plain list has no order, and its values are words too.
     let sevens = [0x14, 0x20, 0x11, 0, 7];
-    refuses(&rt, alloc, &sevens, u32::MAX - 6, &sevens, ListError::BadNumber);
+    refuses(
+        &rt,
+        alloc,
+        &sevens,
+        u32::MAX - 6,
+        &sevens,
+        ListError::BadNumber,
+    );
     // Sevens twice are not strictly sorted.
     refuses(&rt, alloc, &run, 100, &sevens, ListError::NotSorted(33));
 }

@@ -12,5 +12,5 @@ returns-clause-joins g c = λ kind all is others_kind others others_is.
     let room : length (values c.list-others.result) ≤ length c.args.room.now = omega (arith, c.len.ensures, c.if-len-room.false) in
     let fits : length others ≤ length c.args.room.now = rw theirs at room in
     let none = no_join_fault view.lanes view.bytes.now (length all) (length others) (length c.args.room.now)
-        (c.in_ok-list.ensures.fault kind all is) fits in
+    (c.in_ok-list.ensures.fault kind all is) fits in
     rw (none, sym same.0, sym same.1, sym theirs, c.requires.lanes) (c.encode_joined_to.ensures.writes, c.encode_joined_to.ensures.large)
