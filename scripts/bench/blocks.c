@@ -1,6 +1,6 @@
 /* Times blocks and lists: for scripts/bench/block_speed.py, which compiles it over the archive of one level. Prints for each packer, kind and call
    how many integers a second it works on: over 2,048 integers in the first cache, the harmonic mean over the widths 1 to 32, and of each width the
-   best of as many rounds as its argument says. A list of four lanes is packed, opened and unpacked whole, in place of its blocks. After `#` it says
+   best of as many rounds as its argument says. A list of four lanes is packed, opened and unpacked whole, in place of its blocks; in order at the widths 1 to 20. After `#` it says
    what a list that grows costs. */
 #define _POSIX_C_SOURCE 199309L
 #include "bitpacking.h"
@@ -110,7 +110,7 @@ static void time_list(uint8_t kind, int rounds)
 }
 
 /* A strictly sorted list of a million values with gaps to 16, and 1,000 more, or as many more by a list of their own: in microseconds, by append
-   and by join, and if all values are unpacked and packed again. */
+   and by join, and if the first list is unpacked and all values are packed. The values after it are an array then, which join has to unpack. */
 static void time_growth(int rounds)
 {
     enum { MANY = 1000000, FEW = 1000 };

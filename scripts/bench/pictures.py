@@ -119,7 +119,7 @@ def blocks(found):
         text(
             20,
             y + 8,
-            f"Billions of integers a second on one core, {level}, mean over the widths 1 to 32. More is better.",
+            f"Billions of integers a second on one core, {level}, mean over the widths 1 to 32, of lists in order 1 to 20. More is better.",
             colour="#52606d",
         )
     )

@@ -94,7 +94,7 @@ fn same_documents(rt: &impl Abort, found: &[Scored], expected: &[(u32, u64)]) {
     }
 }
 
-/// The first word is twice in document 1, once in 4 and 7; the second once in 4, three times in 9. Document 9 has class 100, the others 0.
+/// The first word stands twice in doc id 1, once in 4 and in 7; the second once in 4, three times in 9. Doc id 9 has class 100, the others 0.
 #[test]
 fn worked_by_hand(rt: HostRuntime) {
     let table = table();
