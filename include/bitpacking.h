@@ -664,6 +664,9 @@ ptrdiff_t bitpacking_list_append(const bitpacking_list *view, const uint32_t *va
  * two segments become one, whose second part begins at doc id base. The lists may be of any packers, kinds and versions; the result has the
  * packer and the kind of the first. room is work space for the values of the other list: room_len is at least its length.
  *
+ * The whole blocks of the first list are copied. Those of the other but the first are copied too, if it has the same packer and kind and version 4,
+ * and the first list has no values after its whole blocks; a plain list needs base 0. Otherwise they are unpacked to room, and packed anew.
+ *
  * It has the errors of bitpacking_list_append, and after LIST_BAD_VERSION: SHORT, if room is too short; BAD_BASE, if a value with the base is
  * above 2^32 - 1. Then bytes are unchanged. */
 ptrdiff_t bitpacking_list_join(const bitpacking_list *view, uint32_t base, const bitpacking_list *other, uint32_t *room, size_t room_len,

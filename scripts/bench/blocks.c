@@ -109,39 +109,45 @@ static void time_list(uint8_t kind, int rounds)
     printf("list\t%d\t%.9g\t%.9g\t%.9g\n", kind, widths * MOST / sums[0], widths * MOST / sums[1], widths * MOST / sums[2]);
 }
 
-/* A strictly sorted list of a million values with gaps to 16, and 1,000 more, or as many more by a list of their own: in microseconds, by append
-   and by join, and if the first list is unpacked and all values are packed. The values after it are an array then, which join has to unpack. */
+/* A strictly sorted list of a million values with gaps to 16, and 1,000 more, or as many more by a list of their own: in microseconds, by append,
+   by join, by join if the first list has whole blocks alone, and if the first list is unpacked and all values are packed. The values after it are
+   an array then. */
 static void time_growth(int rounds)
 {
-    enum { MANY = 1000000, FEW = 1000 };
+    enum { MANY = 1000000, FEW = 1000, WHOLE = MANY - MANY % 128 };
     uint32_t *all = malloc(8 * MANY), *room = malloc(8 * MANY);
-    uint8_t *first = malloc(BITPACKING_LIST_ROOM(MANY)), *grown = malloc(BITPACKING_LIST_ROOM(2 * MANY));
-    bitpacking_list list = BITPACKING_LIST_EMPTY;
-    double least = 0, found[4];
+    uint8_t *first = malloc(BITPACKING_LIST_ROOM(MANY)), *even = malloc(BITPACKING_LIST_ROOM(WHOLE)), *grown = malloc(BITPACKING_LIST_ROOM(2 * MANY));
+    bitpacking_list list = BITPACKING_LIST_EMPTY, whole = BITPACKING_LIST_EMPTY;
+    double least = 0, found[5];
     size_t i, more;
     ptrdiff_t size;
 
-    if (all == NULL || room == NULL || first == NULL || grown == NULL)
+    if (all == NULL || room == NULL || first == NULL || even == NULL || grown == NULL)
         exit(EXIT_FAILURE);
     for (i = 0; i < 2 * MANY; i++)
         all[i] = (i > 0 ? all[i - 1] : 0) + 1 + number() % 16;
     size = bitpacking_4x_list_pack(BITPACKING_LIST_NEWEST, BITPACKING_STRICTLY_SORTED, all, MANY, first, BITPACKING_LIST_ROOM(MANY), NULL);
     if (bitpacking_list_open(first, (size_t)size, &list) != 0)
         exit(EXIT_FAILURE);
-    for (i = 0; i < 4; i++) {
+    size = bitpacking_4x_list_pack(BITPACKING_LIST_NEWEST, BITPACKING_STRICTLY_SORTED, all, WHOLE, even, BITPACKING_LIST_ROOM(WHOLE), NULL);
+    if (bitpacking_list_open(even, (size_t)size, &whole) != 0)
+        exit(EXIT_FAILURE);
+    for (i = 0; i < 5; i++) {
         more = i < 2 ? FEW : MANY;
         LEAST(rounds, MOST, at > 0 ? 0 : i == 0 ? bitpacking_list_append(&list, all + MANY, more, grown, BITPACKING_LIST_ROOM(2 * MANY), NULL)
             : i == 2 ? bitpacking_list_join(&list, all[MANY - 1] + 1, &list, room, MANY, grown, BITPACKING_LIST_ROOM(2 * MANY), NULL)
+            : i == 3 ? bitpacking_list_join(&whole, all[MANY - 1] + 1, &list, room, MANY, grown, BITPACKING_LIST_ROOM(2 * MANY), NULL)
             : (bitpacking_list_unpack(&list, room, MANY), memcpy(room + MANY, all + MANY, 4 * more),
                bitpacking_4x_list_pack(BITPACKING_LIST_NEWEST, BITPACKING_STRICTLY_SORTED, room, MANY + more, grown,
                                        BITPACKING_LIST_ROOM(2 * MANY), NULL)));
         found[i] = 1e6 * least;
     }
-    printf("# 1,000 values: append %.0f, unpacked and packed %.0f; a million: join %.0f, unpacked and packed %.0f microseconds\n", found[0], found[1],
-           found[2], found[3]);
+    printf("# 1,000 values: append %.0f, unpacked and packed %.0f; a million: join %.0f, after whole blocks %.0f, unpacked and packed %.0f microseconds\n",
+           found[0], found[1], found[2], found[3], found[4]);
     free(all);
     free(room);
     free(first);
+    free(even);
     free(grown);
 }
 

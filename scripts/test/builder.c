@@ -197,7 +197,8 @@ static void appended(uint8_t lanes, uint8_t version, uint8_t kind, const uint32_
         EXPECT(bytes[i], 0xA5);
 }
 
-/* Joins a list of the values before a position with one of those from it on, less a base, which is of another packer, version or kind. */
+/* Joins a list of the values before a position with one of those from it on, less a base, which is of the same or another packer, version and
+   kind. */
 static void joined(uint8_t lanes, uint8_t kind, const uint32_t *all, size_t from, size_t len)
 {
     static uint8_t first[BITPACKING_LIST_ROOM(MOST)], second[BITPACKING_LIST_ROOM(MOST)], bytes[BITPACKING_LIST_ROOM(MOST)];
@@ -215,7 +216,7 @@ static void joined(uint8_t lanes, uint8_t kind, const uint32_t *all, size_t from
     for (i = from; i < len; i++)
         others[i - from] = all[i] - base;
     EXPECT(bitpacking_list_open(first, (size_t)pack(lanes, 4, kind, all, from, first, sizeof first), &list), 0);
-    size = pack(other_lanes, version, BITPACKING_PLAIN, others, many, second, sizeof second);
+    size = pack(other_lanes, version, next_number(2) > 0 ? kind : BITPACKING_PLAIN, others, many, second, sizeof second);
     EXPECT(bitpacking_list_open(second, (size_t)size, &other), 0);
     memset(bytes, 0xA5, sizeof bytes);
     if (many > 0)

@@ -5,6 +5,7 @@ pub mod BitWords
 pub mod BlockCodes
 pub mod BlocksOfBits
 pub mod CodeSteps
+pub mod Copies
 pub mod CountedReads
 pub mod Holding
 pub mod Opening

@@ -59,7 +59,8 @@ impl PackedList<'_> {
     /// # Ok::<(), bitpacking::list::Error>(())
     /// ```
     pub fn append_into(&self, values: &[u32], bytes: &mut Vec<u8>) -> Result<usize, Error> {
-        match self.written(values.len(), bytes, |room| best().lists.append(&self.view, values, room)) {
+        let likely = room(values.len() + self.block_len());
+        match self.written(values.len(), likely, bytes, |room| best().lists.append(&self.view, values, room)) {
             Err((BAD_VERSION, _)) => self.pack_anew(values, bytes),
             written => written.map_err(|(number, position)| error::named(number, Some(position))),
         }
@@ -69,7 +70,9 @@ impl PackedList<'_> {
     /// packer and kind: two segments become one, whose second part begins at doc id `base`. The lists may be of any packers, kinds and
     /// versions.
     ///
-    /// The whole blocks of this list are copied, as by [`append`](PackedList::append).
+    /// The whole blocks of this list are copied, as by [`append`](PackedList::append). Those of the other list but the first are copied too, if
+    /// it has the packer and the kind of this list and version 4, and this list has no values after its whole blocks; a plain list needs base 0.
+    /// Otherwise its values are packed anew.
     ///
     /// # Errors
     ///
@@ -86,7 +89,8 @@ impl PackedList<'_> {
     pub fn join(&self, base: u32, other: &PackedList<'_>) -> Result<Vec<u8>, Error> {
         let (mut bytes, mut values) = (Vec::new(), vec![0; other.len()]);
         let lists = (&self.view, base, &other.view);
-        match self.written(other.len(), &mut bytes, |room| best().lists.join(lists, &mut values, room)) {
+        let likely = other.as_bytes().len() + 8 * other.len() / self.block_len() + room(2 * self.block_len());
+        match self.written(other.len(), likely, &mut bytes, |room| best().lists.join(lists, &mut values, room)) {
             Ok(_) => return Ok(bytes),
             Err((BAD_BASE, _)) => return Err(Error::BadNumber),
             Err((BAD_VERSION, _)) => {}
@@ -100,12 +104,12 @@ impl PackedList<'_> {
         Ok(bytes)
     }
 
-    /// Has a call write a list after what the vector has: this list and as many values after it. If the room that is nearly always enough is
-    /// short, the call gets the room that always is. The vector is unchanged if it fails.
-    fn written(&self, more: usize, bytes: &mut Vec<u8>, mut write: impl FnMut(&mut [u8]) -> Answer) -> Answer {
+    /// Has a call write a list after what the vector has: this list, and `more` values after it, which probably need `likely` bytes. If that is
+    /// short, the call gets the room that always is enough. The vector is unchanged if it fails.
+    fn written(&self, more: usize, likely: usize, bytes: &mut Vec<u8>, mut write: impl FnMut(&mut [u8]) -> Answer) -> Answer {
         let start = bytes.len();
         // A skip entry of this list may have 8 bytes more.
-        let likely = self.as_bytes().len() + 8 * (self.block_count() + 2) + room(more + self.block_len());
+        let likely = self.as_bytes().len() + 8 * (self.block_count() + 2) + likely;
         let mut written = Err((SHORT, 0));
         for len in [likely, room(self.len() + more)] {
             if matches!(written, Err((SHORT, _))) {

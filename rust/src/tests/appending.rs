@@ -63,6 +63,34 @@ fn joined_lists() {
     });
 }
 
+/// Both lists are of one packer and kind, and the first has whole blocks alone, or a value more.
+#[test]
+fn joined_whole_blocks() {
+    at_each_level(|| {
+        let mut numbers = Numbers(17);
+        for (form, kind) in FORMS[6..].iter().flat_map(|form| KINDS.map(|kind| (*form, kind))) {
+            let block = 32 * usize::from(form.0);
+            for (blocks, more) in [(0, 2), (0, 5), (1, 2), (3, 1), (3, 2), (3, 9), (300, 70)] {
+                for (beside, tail, gap) in [(0, 0, 1), (0, 7, 3), (0, 0, 300), (0, 31, 4_000_000 / 300), (1, 0, 3)] {
+                    let cut = block * blocks + beside;
+                    let values = values(&mut numbers, kind, cut + block * more + tail, gap, false);
+                    let least = values[cut..].iter().min().copied().unwrap();
+                    let base = if numbers.below(3) == 0 { 0 } else { numbers.below(least + 1) };
+                    let others: Vec<u32> = values[cut..].iter().map(|value| value - base).collect();
+                    let (first, second) = (encoded(form, kind, &values[..cut]).unwrap(), encoded(form, kind, &others).unwrap());
+                    let joined = PackedList::open(&first).unwrap().join(base, &PackedList::open(&second).unwrap());
+                    assert_eq!(joined, encoded(form, kind, &values));
+                    let greatest = others.iter().max().copied().unwrap().max(1);
+                    let joined =
+                        PackedList::open(&first).unwrap().join(u32::MAX - greatest + 1, &PackedList::open(&second).unwrap());
+                    assert_eq!(joined.is_err(), others.contains(&greatest));
+                    assert!(!others.contains(&greatest) || joined == Err(Error::BadNumber));
+                }
+            }
+        }
+    });
+}
+
 #[test]
 fn joined_lists_that_are_refused() {
     for form in FORMS {

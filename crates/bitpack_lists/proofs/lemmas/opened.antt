@@ -12,9 +12,12 @@ pub mod FirstBytes
 pub mod GatherSteps
 pub mod HalvingSteps
 pub mod JoinSteps
+pub mod JoinBlocks
+pub mod JoinedRuns
 pub mod KindFaults
 pub mod MoreValues
 pub mod MoveSteps
+pub mod OpenedBlocks
 pub mod OpenedLists
 pub mod OpenedValues
 pub mod OutlineSteps

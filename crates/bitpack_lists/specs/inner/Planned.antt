@@ -18,7 +18,7 @@ use Rattle.bitpack_lists.specs.Version3.{List3}
 use Rattle.bitpack_lists.specs.Version4.{List4}
 use Rattle.bitpack_lists.specs.inner.Sizes.{AreReady, IsPlanned, tail_room}
 use Rattle.bitpack_lists.specs.inner.Sizes4.{AreKept, IsMeasured, IsPlanned4}
-use Rattle.bitpack_lists.specs.inner.Sources.{IsOnly, IsSource, IsSourceIn, all_of}
+use Rattle.bitpack_lists.specs.inner.Sources.{IsOnly, IsSource, IsSourceIn, all_of, packed_end}
 use Rattle.bitpack_lists.specs.declared.v4.source.Source.{Source}
 
 -- values without a fault that were measured, and the cached least widths of the first blocks after those that stay
@@ -26,7 +26,7 @@ pub record AreReady4 (lanes : ℕ) (source : Source) (widths : List ℕ) (sum mo
   pub source_is : IsSource lanes source
   pub right : values_fault source.kind (all_of lanes source) ≡ None
   pub measured : IsMeasured lanes source.kind (all_of lanes source) sum most
-  pub kept : AreKept lanes source.kind (all_of lanes source) source.blocks widths
+  pub kept : AreKept lanes source.kind (all_of lanes source) source.blocks (packed_end lanes source) widths
 
 -- room for the header and for the tail of `count` values
 pub record HasPlanRoom (lanes count : ℕ) (front last : List ℕ) : Type 0 where
@@ -51,10 +51,10 @@ pub record PlansOlder (version : OlderVersion) (lanes : ℕ) (kind : ListKind) (
   pub header : plan.header ≤ length front
   pub tail : plan.tail ≤ length last
 
--- the plan of a version 4 list; its blocks are packed from one on
-pub record Plans4 (lanes : ℕ) (kind : ListKind) (values : List ℕ) (from : ℕ) (plan : newest.Plan) (widths front last : List ℕ) : Type 0 where
-  pub planned : IsPlanned4 lanes kind values (take plan.header front) (take plan.tail last) plan.measured.total plan.measured.greatest plan.size
-  pub kept : AreKept lanes kind values from widths
+-- the plan of a version 4 list
+pub record Plans4 (lanes : ℕ) (source : Source) (plan : newest.Plan) (widths front last : List ℕ) : Type 0 where
+  pub planned : IsPlanned4 lanes source.kind (all_of lanes source) (take plan.header front) (take plan.tail last) plan.measured.total plan.measured.greatest plan.size
+  pub kept : AreKept lanes source.kind (all_of lanes source) source.blocks (packed_end lanes source) widths
   pub few : plan.size ≤ 2 ^ 40
   pub header : plan.header ≤ length front
   pub tail : plan.tail ≤ length last
@@ -82,7 +82,7 @@ IsPlannedIn (forms.Older version) lanes source widths front tail size =
     IsOnly source × AreReady lanes source.kind (all_of lanes source) widths
     × IsPlanned version lanes source.kind (all_of lanes source) front tail size
 IsPlannedIn (forms.Newest measured) lanes source widths front tail size =
-    (32 * lanes ≤ length (all_of lanes source)) × AreKept lanes source.kind (all_of lanes source) source.blocks widths
+    (32 * lanes ≤ length (all_of lanes source)) × AreKept lanes source.kind (all_of lanes source) source.blocks (packed_end lanes source) widths
     × IsPlanned4 lanes source.kind (all_of lanes source) front tail measured.total measured.greatest size
 
 -- the plan of the list that is written in a version

@@ -51,14 +51,14 @@ IsSizeOf lanes kind values block size =
 abbrev pub AreSizes : ℕ → ListKind → List ℕ → (ℕ → ℕ) → Type 0
 AreSizes lanes kind values size = (block : ℕ) → block < whole_blocks lanes (length values) → IsSizeOf lanes kind values block (size block)
 
--- the cached least widths of the codes of blocks from one on
+-- the cached least widths of the codes of blocks, from one on up to another
 abbrev pub IsWidthOf : ℕ → ListKind → List ℕ → ℕ → ℕ → Type 0
 IsWidthOf lanes kind values block width =
     Least (codes4 (kind_of lanes kind values block) (mark_of lanes kind values block) (block_of lanes values block)) width
 
-abbrev pub AreKept : ℕ → ListKind → List ℕ → ℕ → List ℕ → Type 0
-AreKept lanes kind values from widths =
-    (k : ℕ) → from + k < whole_blocks lanes (length values) → k < length widths → IsWidthOf lanes kind values (from + k) (slice_index widths k)
+abbrev pub AreKept : ℕ → ListKind → List ℕ → ℕ → ℕ → List ℕ → Type 0
+AreKept lanes kind values from upto widths =
+    (k : ℕ) → from + k < upto → k < length widths → IsWidthOf lanes kind values (from + k) (slice_index widths k)
 
 -- the sum of the sizes of the first blocks, and the greatest mark of these
 pub record HasBegun (lanes : ℕ) (kind : ListKind) (values : List ℕ) (upto sum most : ℕ) : Type 0 where

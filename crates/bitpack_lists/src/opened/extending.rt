@@ -13,7 +13,7 @@ ghost use Rattle.bitpack_lists.specs.inner.Sources.{IsCut};
 use super::PackedList;
 use crate::list_error::ListError;
 use crate::v4::newest::{append_source, write_source};
-use crate::v4::source::Source;
+use crate::v4::source::{Run, Source};
 use crate::version::Version;
 use bitpacking::{BitPacker, MAX_BLOCK_LEN};
 
@@ -58,6 +58,7 @@ impl<'a, P: BitPacker> PackedList<'a, P> {
             blocks: self.count / P::BLOCK_LEN,
             rest: self.rest,
             first: &first[..filled],
+            run: Run::none(),
             later: &more[taken..],
         };
         append_source(Version::Four, &self.packer, &source, out)
@@ -83,6 +84,7 @@ impl<'a, P: BitPacker> PackedList<'a, P> {
             blocks: self.count / P::BLOCK_LEN,
             rest: self.rest,
             first: &first[..filled],
+            run: Run::none(),
             later: &more[taken..],
         };
         write_source(Version::Four, &self.packer, &source, bytes)

@@ -7,11 +7,13 @@ ghost use Rattle.bitpack_lists.specs.BitSets;
 ghost use Rattle.bitpack_lists.specs.Numbers.{greatest};
 ghost use Rattle.bitpack_lists.specs.Parts.{whole_blocks};
 ghost use Rattle.bitpack_lists.specs.Version4.{codes4, if_strict};
-ghost use Rattle.bitpack_lists.specs.inner.Sizes4.{AreKept, IsMeasured, IsSize4, kind_of, least, mark_in};
-ghost use Rattle.bitpack_lists.specs.inner.Sources.{IsListSource, all_of};
+ghost use Rattle.bitpack_lists.specs.inner.Sizes4.{AreKept, HasBegun, IsMeasured, IsSize4, kind_of, least, mark_in};
+ghost use Rattle.bitpack_lists.specs.inner.Sources.{IsListSource, all_of, packed_end};
 
 use super::bit_set::bits_size;
-use super::source::Source;
+use super::reading::{begin_at, end_at, mark_at};
+use super::source::{Run, Source};
+use super::testing::greatest_mark;
 use crate::list_kind::next_kind;
 use crate::v3::group::most_significant_bit;
 use bitpacking::{BitPacker, Kind};
@@ -32,17 +34,17 @@ pub(crate) fn measure_blocks<P: BitPacker>(
 ) -> (Measured, Kind)
     requires source { IsListSource P.lanes source.now }
     ensures measured { IsMeasured P.lanes source.now.kind (all_of P.lanes source.now) result.0.total result.0.greatest }
-    ensures kept { AreKept P.lanes source.now.kind (all_of P.lanes source.now) source.now.blocks widths.new }
+    ensures kept { AreKept P.lanes source.now.kind (all_of P.lanes source.now) source.now.blocks
+        (packed_end P.lanes source.now) widths.new }
     ensures kind { result.1 ≡ kind_of P.lanes source.now.kind (all_of P.lanes source.now)
         (whole_blocks P.lanes (length (all_of P.lanes source.now))) }
 {
     let len = P::BLOCK_LEN;
-    let blocks = source.len::<P>() / len;
     let begun = source.begun::<P>();
     let mut kind = source.kind_to_pack::<P>();
     let mut total = begun.total;
     let mut greatest = begun.greatest;
-    for index in source.blocks..blocks {
+    for index in source.blocks..source.packed_end::<P>() {
         let block = source.block::<P>(index);
         let (mark, width) = measure_block(packer, kind, block);
         let kept = index - source.blocks;
@@ -53,7 +55,31 @@ pub(crate) fn measure_blocks<P: BitPacker>(
         greatest = greatest.max(mark);
         kind = next_kind(kind, mark);
     }
-    (Measured { total, greatest }, kind)
+    measure_run::<P>(source, Measured { total, greatest }, kind)
+}
+
+/// The measures of all whole blocks, by the measures of the blocks before the run, and the kind of what follows all of them.
+fn measure_run<P: BitPacker>(source: &Source, measured: Measured, kind: Kind) -> (Measured, Kind)
+    requires source { IsListSource P.lanes source.now }
+    requires begun { HasBegun P.lanes source.now.kind (all_of P.lanes source.now) (packed_end P.lanes source.now)
+        measured.total measured.greatest }
+    requires kind { kind ≡ kind_of P.lanes source.now.kind (all_of P.lanes source.now) (packed_end P.lanes source.now) }
+    ensures measured { IsMeasured P.lanes source.now.kind (all_of P.lanes source.now) result.0.total result.0.greatest }
+    ensures kind { result.1 ≡ kind_of P.lanes source.now.kind (all_of P.lanes source.now)
+        (whole_blocks P.lanes (length (all_of P.lanes source.now))) }
+{
+    let Run { base, blocks, rest } = source.run;
+    if blocks > 0 {
+        let size = begin_at(rest, blocks) - end_at(rest, 0);
+        let greatest = greatest_mark(rest, blocks) + base;
+        let last = mark_at(blocks, rest, blocks - 1) + base;
+        let all = Measured {
+            total: measured.total + size as usize,
+            greatest: measured.greatest.max(greatest),
+        };
+        return (all, next_kind(kind, last));
+    }
+    (measured, kind)
 }
 
 /// The size of the body of the block with this index: by the cached width, or else measured again.

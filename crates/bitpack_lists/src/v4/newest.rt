@@ -83,7 +83,7 @@ pub(crate) fn append_source<P: BitPacker>(
         return append_planned(version, packer, source, &mut [0; 0], tail, out);
     }
     let tail = &mut [0; LONGEST_TAIL];
-    let blocks = source.len::<P>() / P::BLOCK_LEN - source.blocks;
+    let blocks = source.packed_end::<P>() - source.blocks;
     if blocks <= FEW_WIDTHS {
         let widths = &mut [0; FEW_WIDTHS];
         return append_planned(version, packer, source, widths, tail, out);
@@ -160,7 +160,7 @@ pub(crate) fn write_source<P: BitPacker>(
         return write_planned(version, packer, source, &mut [0; 0], tail, bytes);
     }
     let tail = &mut [0; LONGEST_TAIL];
-    let blocks = source.len::<P>() / P::BLOCK_LEN - source.blocks;
+    let blocks = source.packed_end::<P>() - source.blocks;
     if blocks <= FEW_WIDTHS {
         let widths = &mut [0; FEW_WIDTHS];
         return write_planned(version, packer, source, widths, tail, bytes);

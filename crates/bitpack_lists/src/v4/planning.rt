@@ -6,7 +6,7 @@ ghost use Rattle.bitpack_lists.specs.Parts.{FindsFault};
 ghost use Rattle.bitpack_lists.specs.Version2.{values_fault};
 ghost use Rattle.bitpack_lists.specs.inner.Planned.{AreReady4, HasPlanRoom, Plans4, PlansOne};
 ghost use Rattle.bitpack_lists.specs.inner.Sizes4.{AreKept, BeginsRest4, IsPlanned4, blocks_size};
-ghost use Rattle.bitpack_lists.specs.inner.Sources.{IsListSource, IsSource, all_of};
+ghost use Rattle.bitpack_lists.specs.inner.Sources.{IsListSource, IsSource, all_of, packed_end};
 
 use super::filling::fill_blocks;
 use super::header_writing::write_header;
@@ -42,8 +42,8 @@ pub(crate) fn plan_text<P: BitPacker>(
     requires source { IsSource P.lanes source.now }
     requires many { 32 * P.lanes ≤ length (all_of P.lanes source.now) }
     requires room { HasPlanRoom P.lanes (length (all_of P.lanes source.now)) header.old tail.old }
-    ensures { PlansOne (λ plan. Plans4 P.lanes source.now.kind (all_of P.lanes source.now) source.now.blocks plan
-        widths.new header.new tail.new) source.now.kind (all_of P.lanes source.now) result }
+    ensures { PlansOne (λ plan. Plans4 P.lanes source.now plan widths.new header.new tail.new)
+        source.now.kind (all_of P.lanes source.now) result }
 {
     let len = P::BLOCK_LEN;
     let count = source.len::<P>();
@@ -65,7 +65,8 @@ pub(crate) fn plan_text<P: BitPacker>(
 /// Tests the order of the values. The least widths of the first blocks after the copied ones are cached.
 fn test_order<P: BitPacker>(packer: &P, source: &Source, widths: &[u8]) -> Result<(), ListError>
     requires source { IsListSource P.lanes source.now }
-    requires kept { AreKept P.lanes source.now.kind (all_of P.lanes source.now) source.now.blocks widths.now }
+    requires kept { AreKept P.lanes source.now.kind (all_of P.lanes source.now) source.now.blocks
+        (packed_end P.lanes source.now) widths.now }
     ensures { FindsFault result (values_fault source.now.kind (all_of P.lanes source.now)) }
 {
     match source.kind {
@@ -79,7 +80,7 @@ fn test_order<P: BitPacker>(packer: &P, source: &Source, widths: &[u8]) -> Resul
     }
 }
 
-/// Tests the order of the values after the blocks that stay.
+/// Tests the order of the values after the blocks that stay. If there is a run, the values from it on are in order.
 fn test_later<P: BitPacker>(_packer: &P, kind: ListKind, source: &Source) -> Result<(), ListError>
     requires source { IsListSource P.lanes source.now }
     requires kind { (kind ≡ source.now.kind) × (kind ≢ ListKind.Plain) }
@@ -90,6 +91,9 @@ fn test_later<P: BitPacker>(_packer: &P, kind: ListKind, source: &Source) -> Res
     let before = source.last_before();
     if let Some(out) = order::first_out(kind, position, before, first) {
         return Err(ListError::NotSorted(out));
+    }
+    if source.run.blocks > 0 {
+        return Ok(());
     }
     let last = last_or(before, first);
     if let Some(out) = order::first_out(kind, position + first.len(), last, later) {

@@ -1,6 +1,7 @@
-//! The values of a list that is to be written: the whole blocks of a version 4 list, which are copied, and values after them.
+//! The values of a list that is to be written: the whole blocks of a version 4 list, which are copied, and what follows them: values, and a
+//! run of blocks of another list, which are copied too.
 
-ghost use Rattle.std.specs.Prelude.{◌≡◌, ℕ, suc, ◌+◌, ◌*◌, ◌<◌, ◌≤◌, drop, length, take};
+ghost use Rattle.std.specs.Prelude.{◌≡◌, ℕ, suc, ◌+◌, ◌-◌, ◌*◌, ◌<◌, ◌≤◌, drop, length, take};
 ghost use Rattle.bitpack_lists.specs.Version4;
 ghost use Rattle.bitpack_lists.specs.inner.Reading4.{HasMarks};
 
@@ -10,22 +11,54 @@ use super::testing::greatest_mark;
 use crate::list_kind::{ListKind, next_kind};
 use bitpacking::{BitPacker, Kind};
 
-/// Whole blocks of a version 4 list, whose bytes after the header are `rest`, and the values after these blocks, in two slices. The first
-/// has no value, or the values of one block, or fewer if the second has none.
+/// Whole blocks of a version 4 list, whose bytes after the header are `rest`, and the values after these blocks, in two slices with a run of
+/// blocks between them. The first slice has no value, or the values of one block, or fewer if the second has none. If there is a run, the first
+/// has a block, and the second has fewer values than that.
 #[derive(Clone, Copy)]
 pub(crate) struct Source<'a> {
     pub(crate) kind: ListKind,
     pub(crate) blocks: usize,
     pub(crate) rest: &'a [u8],
     pub(crate) first: &'a [u32],
+    pub(crate) run: Run<'a>,
     pub(crate) later: &'a [u32],
+}
+
+/// Whole blocks of another version 4 list of the same kind, whose bytes after the header are `rest`, with a base added to each value. The first
+/// block is not of the run, since it is packed anew. There is no run if there are no blocks.
+#[derive(Clone, Copy)]
+pub(crate) struct Run<'a> {
+    pub(crate) base: u32,
+    pub(crate) blocks: usize,
+    pub(crate) rest: &'a [u8],
+}
+
+impl<'a> Run<'a> {
+    /// No run.
+    pub(crate) fn none() -> Run<'a>
+        ensures { result.blocks ≡ 0 }
+    {
+        Run {
+            base: 0,
+            blocks: 0,
+            rest: &[],
+        }
+    }
+
+    /// How many blocks are copied: all but the first.
+    #[inline(always)]
+    pub(crate) fn len(&self) -> usize
+        ensures { result ≡ self.now.blocks - 1 }
+    {
+        self.blocks.saturating_sub(1)
+    }
 }
 
 impl<'a> Source<'a> {
     ghost use Rattle.bitpack_lists.specs.Parts.{whole_blocks};
     ghost use Rattle.bitpack_lists.specs.Version2.{block_of};
     ghost use Rattle.bitpack_lists.specs.inner.Sizes4.{HasBegun, kind_of};
-    ghost use Rattle.bitpack_lists.specs.inner.Sources.{IsOnly, IsSource, all_of};
+    ghost use Rattle.bitpack_lists.specs.inner.Sources.{IsOnly, IsSource, all_of, packed_end};
 
     /// Values without blocks that stay.
     pub(crate) fn of_values(kind: ListKind, values: &'a [u32]) -> Source<'a>
@@ -39,6 +72,7 @@ impl<'a> Source<'a> {
             blocks: 0,
             rest: &[],
             first: &[],
+            run: Run::none(),
             later: values,
         }
     }
@@ -48,15 +82,24 @@ impl<'a> Source<'a> {
         requires { IsSource P.lanes self.now }
         ensures { result ≡ length (all_of P.lanes self.now) }
     {
-        P::BLOCK_LEN * self.blocks + self.first.len() + self.later.len()
+        P::BLOCK_LEN * (self.blocks + self.run.len()) + self.first.len() + self.later.len()
     }
 
-    /// A whole block of the values, after those that stay.
+    /// How many blocks there are up to the last one that is packed, which the run follows.
+    pub(crate) fn packed_end<P: BitPacker>(&self) -> usize
+        requires { IsSource P.lanes self.now }
+        ensures is { result ≡ packed_end P.lanes self.now }
+        ensures within { result ≤ whole_blocks P.lanes (length (all_of P.lanes self.now)) }
+    {
+        self.blocks + (self.first.len() + self.later.len()) / P::BLOCK_LEN
+    }
+
+    /// A whole block of the values, after those that stay and before the run.
     #[inline(always)]
     pub(crate) fn block<P: BitPacker>(&self, index: usize) -> &'a [u32]
         requires source { IsSource P.lanes self.now }
         requires after { self.now.blocks ≤ index }
-        requires within { index < whole_blocks P.lanes (length (all_of P.lanes self.now)) }
+        requires within { index < packed_end P.lanes self.now }
         ensures { result.now ≡ block_of P.lanes (all_of P.lanes self.now) index }
     {
         let len = P::BLOCK_LEN;

@@ -1,9 +1,8 @@
 -- Values of a block or more in the order of their kind have an encoded list of version 4.
 -- Serves laws.
-use Rattle.std.proofs.Common.{◌≡◌, ℕ, zero, suc, ◌-◌, ◌*◌, ◌^◌, ◌<◌, ◌≤◌, true, cond, eqb, leb, List, [], ◌++◌, length, drop, get_or, None, refl, sym, subst, ◌∙◌, ap, arith, inl, inr}
+use Rattle.std.proofs.Common.{◌≡◌, ℕ, zero, suc, ◌*◌, ◌^◌, ◌<◌, ◌≤◌, true, cond, eqb, leb, List, [], ◌++◌, length, drop, None, refl, sym, subst, ◌∙◌, ap, arith, inl, inr}
 use Rattle.std.proofs.lemmas.Bool.{cases_Bool, cases_eq, cases_lt, eq-eqb, ne_eqb}
-use Rattle.std.proofs.lemmas.List.{get_or_past}
-use Rattle.std.proofs.lemmas.List.Elements.{All-drop, All-get_or}
+use Rattle.std.proofs.lemmas.List.Elements.{All-drop}
 use Rattle.std.proofs.lemmas.Nat.{mul-le}
 use Rattle.bitpacking.specs.declared.kind.Kind.{Kind}
 use Rattle.bitpacking.specs.Bits.{AreBytes}
@@ -11,14 +10,13 @@ use Rattle.bitpacking.specs.Codes.{AreWords, codes}
 use Rattle.bitpacking.specs.Layout.{size}
 use Rattle.bitpacking.proofs.ForCallers.{codes_are_words}
 use Rattle.bitpack_lists.specs.declared.list_kind.ListKind.{ListKind}
-use Rattle.bitpack_lists.specs.declared.list_kind.ListKind.TheVariants as lists
 use Rattle.bitpack_lists.specs.Groups.{AreGroups, groups_of}
 use Rattle.bitpack_lists.specs.Laws4.{HasText4}
 use Rattle.bitpack_lists.specs.Numbers.{byte_count, greatest}
-use Rattle.bitpack_lists.specs.Parts.{first_kind, whole_blocks}
+use Rattle.bitpack_lists.specs.Parts.{whole_blocks}
 use Rattle.bitpack_lists.specs.Version2.{block_of, first_out}
 use Rattle.bitpack_lists.specs.Version4.{IsBody4, IsRest4, header4, if_strict, is_mark, mark_at, tail_start4}
-use Rattle.bitpack_lists.specs.inner.Sizes4.{kind_of, least, mark_in, mark_of, total}
+use Rattle.bitpack_lists.specs.inner.Sizes4.{kind_of, mark_of, total}
 use Rattle.bitpack_lists.proofs.lemmas.blocks.BlockLemmas.{AreWords-block_of, block_end, length-block_of}
 use Rattle.bitpack_lists.proofs.lemmas.blocks.PartLemmas.{AreBytes-append}
 use Rattle.bitpack_lists.proofs.lemmas.blocks.RestValues.{start-kind_after}
@@ -27,27 +25,11 @@ use Rattle.bitpack_lists.proofs.lemmas.v3.TailSteps.{groups_exist}
 use Rattle.bitpack_lists.proofs.lemmas.v4.Bodies.{one_body_of}
 use Rattle.bitpack_lists.proofs.lemmas.v4.HeaderLaws4.{AreBytes-header4}
 use Rattle.bitpack_lists.proofs.lemmas.v4.MarkOrder.{goes_on}
+use Rattle.bitpack_lists.proofs.lemmas.v4.MarkWords.{mark-word}
 use Rattle.bitpack_lists.proofs.lemmas.v4.Marks.{greatest-le, greatest-lt, mark-is}
 use Rattle.bitpack_lists.proofs.lemmas.v4.OneText4.{mark_in-after}
 use Rattle.bitpack_lists.proofs.lemmas.v4.RestParts4.{AreBytes-rest, AreParts, after_bodies, are_short, begin_at_is, bodies_exist, body_at_is, end_at_is, mark_at_is, rest, size_at_is, tail_room}
 use Rattle.bitpack_lists.proofs.lemmas.v4.ShortLaws.{below_count, shorts_exist}
-
--- ---- the marks
-
-least-word : (word : ℕ → ℕ) (count : ℕ) → least word count < 2 ^ 32
-least-word word zero = omega arith
-least-word word (suc count) = omega (arith, least-word word count)
-
-item-word : (values : List ℕ) (p : ℕ) → AreWords values → get_or values p 0 < 2 ^ 32
-item-word values p words = elim (cases_lt p (length values)) [
-  | inl within ↦ All-get_or (λ v. v < 2 ^ 32) values p 0 within words
-  | inr past ↦ rw (get_or_past values p 0 past) (omega arith)
-]
-
-mark-word : (kind : ListKind) (block : List ℕ) → AreWords block → mark_in (first_kind kind) block < 2 ^ 32
-mark-word lists.Plain block words = least-word (λ k. get_or block k 0) (length block)
-mark-word lists.Sorted block words = item-word block (length block - 1) words
-mark-word lists.StrictlySorted block words = item-word block (length block - 1) words
 
 -- ---- one item for each block
 

@@ -8,8 +8,8 @@ use Rattle.bitpack_lists.specs.declared.v4.source.Source.{Source}
 use Rattle.bitpack_lists.specs.Version2.{is_out, least_below}
 use Rattle.bitpack_lists.specs.Version4.{mark_at}
 use Rattle.bitpack_lists.specs.inner.Opening.{IsOrdered}
-use Rattle.bitpack_lists.specs.inner.Sources.{IsSource, all_of}
-use Rattle.bitpack_lists.proofs.lemmas.v4.Sources.{drop-all, few-blocks, length-all, mark-stays}
+use Rattle.bitpack_lists.specs.inner.Sources.{IsSource, after_blocks, all_of, run_values}
+use Rattle.bitpack_lists.proofs.lemmas.v4.Sources.{after-alone, after-long, drop-all, few-blocks, length-all, mark-stays}
 use Rattle.bitpack_lists.proofs.lemmas.v4.TextWrites.{last_of, mark_last}
 
 module _ (lanes : ℕ) (source : Source) (some : 1 ≤ lanes) (is : IsSource lanes source) where
@@ -25,19 +25,26 @@ module _ (lanes : ℕ) (source : Source) (some : 1 ≤ lanes) (is : IsSource lan
   abbrev later : List ℕ
   later = source.later.now
 
-  after_at : (k : ℕ) → value (place + k) ≡ get_or (first ++ later) k 0
+  after_at : (k : ℕ) → value (place + k) ≡ get_or (after_blocks lanes source) k 0
   after_at k = sym (get_or-drop place (all_of lanes source) k 0) ∙ ap (λ xs. get_or xs k 0) (drop-all lanes source)
 
   pub first-at : (k : ℕ) → k < length first → value (place + k) ≡ get_or first k 0
-  first-at k lt = after_at k ∙ get_or_append_left first later 0 k lt
+  first-at k lt = after_at k ∙ get_or_append_left first (run_values lanes source ++ later) 0 k lt
 
-  pub later-at : (k : ℕ) → value (place + length first + k) ≡ get_or later k 0
-  later-at k =
-      let here : place + length first + k ≡ place + (length first + k) = omega arith in
-      ap value here ∙ after_at (length first + k) ∙ get_or-append-add first later k 0
+  pub first-within : place + length first ≤ length (all_of lanes source)
+  first-within = omega (arith, length-all lanes source, after-long lanes source)
 
-  pub whole-count : place + length first + length later ≡ length (all_of lanes source)
-  whole-count = omega (arith, length-all lanes source, length-append first later)
+  -- Without a run the second slice follows the first.
+  module _ (none : source.run.blocks ≡ 0) where
+    pub later-at : (k : ℕ) → value (place + length first + k) ≡ get_or later k 0
+    later-at k =
+        let here : place + length first + k ≡ place + (length first + k) = omega arith in
+        ap value here ∙ after_at (length first + k) ∙ ap (λ xs. get_or xs (length first + k) 0) (after-alone lanes source none)
+        ∙ get_or-append-add first later k 0
+
+    pub whole-count : place + length first + length later ≡ length (all_of lanes source)
+    whole-count =
+        omega (arith, length-all lanes source, ap length (after-alone lanes source none), length-append first later)
 
   -- The mark of the last block that stays is the value before the others.
   last-before : (m before : ℕ) → source.kind ≢ lists.Plain → suc m ≡ source.blocks → before ≡ mark_at source.blocks source.rest.now m → value (place - 1) ≡ before

@@ -1,5 +1,5 @@
 -- A version 4 list by its plan: the header, the whole blocks and the tail make it, and say how long it is.
--- Serves v4, writing.
+-- Serves opened, v4, writing.
 use Rattle.std.proofs.Common.{◌≡◌, ℕ, zero, suc, ◌+◌, ◌-◌, ◌*◌, ◌/◌, ◌^◌, ◌<◌, ◌≤◌, List, [], ◌∷◌, ◌++◌, length, take, drop, get_or, None, refl, sym, ◌∙◌, ap, arith, add-one, inl, inr, mul-suc}
 use Rattle.std.proofs.Math.Nat.{div-add-mod}
 use Rattle.std.proofs.lemmas.Bool.{cases_lt}

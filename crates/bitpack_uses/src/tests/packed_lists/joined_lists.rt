@@ -105,6 +105,73 @@ fn lists_joined(rt: HostRuntime) {
 }
 
 #[test]
+fn whole_blocks_of_both(rt: HostRuntime) {
+    let one = BitPacker1x::new();
+    // The run 0 to 31, and the run 0 to 63: the second block of it stays, and has no body.
+    let run = [0x16, 0x20, 0x11, 0, 31];
+    let two_runs = [0x16, 0x40, 0x11, 0, 0, 31, 63];
+    // 0 to 31 and 33 to 64: the first code of the second block is 1, in 1 bit. Then 65 after it, and no value.
+    let gap = [0x16, 0x40, 0x11, 0, 1, 31, 64, 1, 0, 0, 0];
+    let gap_and_tail = [0x16, 0x41, 0x11, 0, 1, 31, 64, 1, 0, 0, 0, 0];
+    // With the base 300 after the run 0 to 31 the first code is 268, in 9 bits, and the marks 331 and 364 have two bytes.
+    let start = [0x21, 0, 9, 10, 31, 0, 0x4B, 1, 0x6C, 1, 0x0C, 1];
+    let mut moved = Vec::from_slice(rt.alloc(), &[0x16, 0x60]).expect(&rt, "memory");
+    push_bytes(&rt, &mut moved, &start);
+    push_bytes(&rt, &mut moved, &[0; 34]);
+    push_bytes(&rt, &mut moved, &[1, 0, 0, 0]);
+    becomes(&rt, rt.alloc(), &run, 300, &one, &gap, &moved);
+    let mut longer = Vec::from_slice(rt.alloc(), &[0x16, 0x61]).expect(&rt, "memory");
+    push_bytes(&rt, &mut longer, &start);
+    push_bytes(&rt, &mut longer, &[0; 34]);
+    push_bytes(&rt, &mut longer, &[1, 0, 0, 0, 0]);
+    becomes(&rt, rt.alloc(), &run, 300, &one, &gap_and_tail, &longer);
+    let cases: [(&[u8], u32, &[u8], &[u8]); 5] = [
+        (
+            &run,
+            32,
+            &two_runs,
+            &[0x16, 0x60, 0x11, 0, 0, 0, 31, 63, 95],
+        ),
+        // After a list without a value: with the base 5 the first block has its bit set, 5 to 36, and with 0 nothing changes.
+        (
+            &[0x60],
+            5,
+            &two_runs,
+            &[
+                0x16, 0x40, 0x11, 2, 2, 36, 68, 0xE0, 0xFF, 0xFF, 0xFF, 0x1F, 0, 0, 0,
+            ],
+        ),
+        (&[0x60], 0, &gap, &gap),
+        // Plain: sevens, and a block of sevens and one of nines. The nines are copied; with the base 1 all are packed anew.
+        (
+            &[0x14, 0x20, 0x11, 0, 7],
+            0,
+            &[0x14, 0x40, 0x11, 0, 0, 7, 9],
+            &[0x14, 0x60, 0x11, 0, 0, 0, 7, 7, 9],
+        ),
+        (
+            &[0x14, 0x20, 0x11, 0, 7],
+            1,
+            &[0x14, 0x40, 0x11, 0, 0, 7, 9],
+            &[0x14, 0x60, 0x11, 0, 0, 0, 7, 8, 10],
+        ),
+    ];
+    for (first, base, second, both) in cases {
+        becomes(&rt, rt.alloc(), first, base, &one, second, both);
+    }
+    // The last value would be 2^32, and the first block begins with the last value of the run.
+    refuses(
+        &rt,
+        rt.alloc(),
+        &run,
+        u32::MAX - 63,
+        &gap,
+        ListError::BadNumber,
+    );
+    refuses(&rt, rt.alloc(), &run, 31, &gap, ListError::NotSorted(32));
+}
+
+#[test]
 fn sums_up_to_the_greatest(rt: HostRuntime) {
     let alloc = rt.alloc();
     let run = [0x16, 0x20, 0x11, 0, 31];

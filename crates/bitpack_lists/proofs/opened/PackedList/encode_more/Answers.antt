@@ -15,7 +15,7 @@ append_source-requires g c =
     let taken : ℕ = c.fill_first-filled.result.1 in
     record {
       source = record {
-        source_is = source-more list g.met.P.BitPacker.some_lanes c.requires.keeps _ refl (ap (λ len. list.count / len) whole) refl more
+        source_is = source-more list g.met.P.BitPacker.some_lanes c.requires.keeps _ refl (ap (λ len. list.count / len) whole) refl c.none.ensures more
             (after-taken first more _ taken c.fill_first-filled.ensures.values)
             (cut-taken (32 * g.P.BitPacker.lanes) first more taken c.fill_first-filled.ensures.cut) (AreWords-from_slice more c.type_inv.more);
         older = λ not. absurd (not refl);
@@ -28,7 +28,7 @@ returns-clause-ok g c =
     let more : List ℕ = c.args.more.now in
     let whole : c.BLOCK_LEN.result ≡ 32 * g.P.BitPacker.lanes = c.BLOCK_LEN.ensures ∙ g.met.P.BitPacker.block_len in
     let appends = subst (λ xs. AppendsOne (IsNewest g.P.BitPacker.lanes list.kind xs) list.kind xs c.append_source.result c.args.out.now c.append_source.new.out)
-    (all-more list g.met.P.BitPacker.some_lanes c.requires.keeps _ refl (ap (λ len. list.count / len) whole) refl more
+    (all-more list g.met.P.BitPacker.some_lanes c.requires.keeps _ refl (ap (λ len. list.count / len) whole) refl c.none.ensures more
     (after-taken (take c.fill_first-filled.result.0 c.fill_first-filled.new.first) more _ c.fill_first-filled.result.1 c.fill_first-filled.ensures.values))
     c.append_source.ensures in
     appends.ok
@@ -39,7 +39,7 @@ returns-clause-long g c =
     let more : List ℕ = c.args.more.now in
     let whole : c.BLOCK_LEN.result ≡ 32 * g.P.BitPacker.lanes = c.BLOCK_LEN.ensures ∙ g.met.P.BitPacker.block_len in
     let appends = subst (λ xs. AppendsOne (IsNewest g.P.BitPacker.lanes list.kind xs) list.kind xs c.append_source.result c.args.out.now c.append_source.new.out)
-    (all-more list g.met.P.BitPacker.some_lanes c.requires.keeps _ refl (ap (λ len. list.count / len) whole) refl more
+    (all-more list g.met.P.BitPacker.some_lanes c.requires.keeps _ refl (ap (λ len. list.count / len) whole) refl c.none.ensures more
     (after-taken (take c.fill_first-filled.result.0 c.fill_first-filled.new.first) more _ c.fill_first-filled.result.1 c.fill_first-filled.ensures.values))
     c.append_source.ensures in
     appends.long
@@ -50,7 +50,7 @@ returns-clause-order g c =
     let more : List ℕ = c.args.more.now in
     let whole : c.BLOCK_LEN.result ≡ 32 * g.P.BitPacker.lanes = c.BLOCK_LEN.ensures ∙ g.met.P.BitPacker.block_len in
     let appends = subst (λ xs. AppendsOne (IsNewest g.P.BitPacker.lanes list.kind xs) list.kind xs c.append_source.result c.args.out.now c.append_source.new.out)
-    (all-more list g.met.P.BitPacker.some_lanes c.requires.keeps _ refl (ap (λ len. list.count / len) whole) refl more
+    (all-more list g.met.P.BitPacker.some_lanes c.requires.keeps _ refl (ap (λ len. list.count / len) whole) refl c.none.ensures more
     (after-taken (take c.fill_first-filled.result.0 c.fill_first-filled.new.first) more _ c.fill_first-filled.result.1 c.fill_first-filled.ensures.values))
     c.append_source.ensures in
     appends.order
@@ -61,7 +61,7 @@ returns-clause-room g c =
     let more : List ℕ = c.args.more.now in
     let whole : c.BLOCK_LEN.result ≡ 32 * g.P.BitPacker.lanes = c.BLOCK_LEN.ensures ∙ g.met.P.BitPacker.block_len in
     let appends = subst (λ xs. AppendsOne (IsNewest g.P.BitPacker.lanes list.kind xs) list.kind xs c.append_source.result c.args.out.now c.append_source.new.out)
-    (all-more list g.met.P.BitPacker.some_lanes c.requires.keeps _ refl (ap (λ len. list.count / len) whole) refl more
+    (all-more list g.met.P.BitPacker.some_lanes c.requires.keeps _ refl (ap (λ len. list.count / len) whole) refl c.none.ensures more
     (after-taken (take c.fill_first-filled.result.0 c.fill_first-filled.new.first) more _ c.fill_first-filled.result.1 c.fill_first-filled.ensures.values))
     c.append_source.ensures in
     appends.room

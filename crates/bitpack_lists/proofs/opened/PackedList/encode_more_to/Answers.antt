@@ -15,7 +15,7 @@ write_source-requires g c =
     let taken : ℕ = c.fill_first-filled.result.1 in
     record {
       source = record {
-        source_is = source-more list g.met.P.BitPacker.some_lanes c.requires.keeps _ refl (ap (λ len. list.count / len) whole) refl more
+        source_is = source-more list g.met.P.BitPacker.some_lanes c.requires.keeps _ refl (ap (λ len. list.count / len) whole) refl c.none.ensures more
             (after-taken first more _ taken c.fill_first-filled.ensures.values)
             (cut-taken (32 * g.P.BitPacker.lanes) first more taken c.fill_first-filled.ensures.cut) (AreWords-from_slice more c.type_inv.more);
         older = λ not. absurd (not refl);
@@ -28,6 +28,6 @@ returns g c =
     let more : List ℕ = c.args.more.now in
     let whole : c.BLOCK_LEN.result ≡ 32 * g.P.BitPacker.lanes = c.BLOCK_LEN.ensures ∙ g.met.P.BitPacker.block_len in
     subst (λ xs. WritesOne (IsNewest g.P.BitPacker.lanes list.kind xs) list.kind xs c.write_source.result c.args.bytes.now c.write_source.new.bytes)
-    (all-more list g.met.P.BitPacker.some_lanes c.requires.keeps _ refl (ap (λ len. list.count / len) whole) refl more
+    (all-more list g.met.P.BitPacker.some_lanes c.requires.keeps _ refl (ap (λ len. list.count / len) whole) refl c.none.ensures more
     (after-taken (take c.fill_first-filled.result.0 c.fill_first-filled.new.first) more _ c.fill_first-filled.result.1 c.fill_first-filled.ensures.values))
     c.write_source.ensures

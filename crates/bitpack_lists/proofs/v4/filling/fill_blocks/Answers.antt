@@ -10,6 +10,21 @@ use Rattle.bitpack_lists.proofs.lemmas.v4.BlockWrites.{sizes_exist}
 use Rattle.bitpack_lists.proofs.lemmas.v4.RestWrites.{byte_count_few, parts_begin}
 use Rattle.bitpack_lists.proofs.v4.filling.fill_blocks.Goals as goal
 
+pub fill_parts-requires-clause-room : goal.fill_parts-requires-clause-room
+fill_parts-requires-clause-room g c =
+    let lanes : ℕ = g.P.BitPacker.lanes in
+    let blocks : ℕ = whole_blocks lanes (length (all_of lanes c.args.source.now)) in
+    let e_is : c.byte_count-end_len.result ≡ byte_count c.args.measured.total = c.byte_count-end_len.ensures.count in
+    let z_is : c.byte_count-mark_len.result ≡ byte_count c.args.measured.greatest = c.byte_count-mark_len.ensures.count in
+    let whole : c.BLOCK_LEN.result ≡ 32 * lanes = c.BLOCK_LEN.ensures ∙ g.met.P.BitPacker.block_len in
+    let after_ends = rw (e_is, c.len.ensures, whole) at c.split_at_mut-ends.ensures.back_len in
+    let after_marks = rw (z_is, c.len.ensures, whole) at c.split_at_mut-marks.ensures.back_len in
+    record {
+      ends = c.split_at_mut-ends.ensures.front_len ∙ rw (e_is, c.len.ensures, whole) refl;
+      marks = c.split_at_mut-marks.ensures.front_len ∙ rw (z_is, c.len.ensures, whole) refl;
+      bodies = omega (arith, after_marks, after_ends, c.split_at_mut-front.ensures.back_len, c.requires.room);
+    }
+
 pub returns : goal.returns
 returns g c =
     let lanes : ℕ = g.P.BitPacker.lanes in
@@ -33,13 +48,13 @@ returns g c =
     let front : set one 0 byte ≡ (e + 16 * z) ∷ [] =
     sym (take_all 1 (set one 0 byte) (omega (arith, length-set one 0 byte, single))) ∙ take-suc-set one 0 byte (omega (arith, single)) ∙ rw (e_is, z_is) refl in
     let ends_long : length ends ≡ e * blocks =
-    c.fill_parts.auto.ends ∙ c.copy_blocks.auto.ends ∙ c.split_at_mut-ends.ensures.front_len ∙ rw (e_is, c.len.ensures, whole) refl in
+    c.fill_parts.auto.ends ∙ c.split_at_mut-ends.ensures.front_len ∙ rw (e_is, c.len.ensures, whole) refl in
     let marks_long : length marks ≡ z * blocks =
-    c.fill_parts.auto.marks ∙ c.copy_blocks.auto.marks ∙ c.split_at_mut-marks.ensures.front_len ∙ rw (z_is, c.len.ensures, whole) refl in
+    c.fill_parts.auto.marks ∙ c.split_at_mut-marks.ensures.front_len ∙ rw (z_is, c.len.ensures, whole) refl in
     let bodies_long : length bodies ≡ size lanes sum =
     let after_ends = rw (e_is, c.len.ensures, whole) at c.split_at_mut-ends.ensures.back_len in
     let after_marks = rw (z_is, c.len.ensures, whole) at c.split_at_mut-marks.ensures.back_len in
-    omega (arith, c.fill_parts.auto.bodies, c.copy_blocks.auto.bodies, after_marks, after_ends, c.split_at_mut-front.ensures.back_len, c.requires.room) in
+    omega (arith, c.fill_parts.auto.bodies, after_marks, after_ends, c.split_at_mut-front.ensures.back_len, c.requires.room) in
     λ tail.
     let all : (set one 0 byte ++ (ends ++ (marks ++ bodies))) ++ tail ≡ (e + 16 * z) ∷ (ends ++ (marks ++ (bodies ++ tail))) =
     ap (λ zs. (zs ++ (ends ++ (marks ++ bodies))) ++ tail) front

@@ -8,7 +8,7 @@ use Rattle.bitpack_lists.specs.Numbers.{byte_count}
 use Rattle.bitpack_lists.specs.Parts.{whole_blocks}
 use Rattle.bitpack_lists.specs.Version2.{block_of}
 use Rattle.bitpack_lists.specs.inner.Sizes4.{IsSizeOf, IsWidthOf, kind_of, mark_of, total}
-use Rattle.bitpack_lists.specs.inner.Sources.{all_of}
+use Rattle.bitpack_lists.specs.inner.Sources.{all_of, packed_end}
 use Rattle.bitpack_lists.proofs.lemmas.blocks.GroupSteps.{length-written}
 use Rattle.bitpack_lists.proofs.lemmas.blocks.ValueFaults.{in_order}
 use Rattle.bitpack_lists.proofs.lemmas.blocks.WriteSteps.{lent_after}
@@ -16,7 +16,7 @@ use Rattle.bitpack_lists.proofs.lemmas.v4.BlockSizes.{kept_here, mark_here, next
 use Rattle.bitpack_lists.proofs.lemmas.v4.BlockWrites.{bodies_step, goes_on, size-add, sum_within}
 use Rattle.bitpack_lists.proofs.lemmas.v4.Marks.{greatest-le}
 use Rattle.bitpack_lists.proofs.lemmas.v4.ShortWrites.{below_count, length-lent, shorts_step}
-use Rattle.bitpack_lists.proofs.lemmas.v4.Sources.{begun-within, block-long, few-blocks}
+use Rattle.bitpack_lists.proofs.lemmas.v4.Sources.{begun-within, block-long}
 use Rattle.bitpack_lists.proofs.v4.filling.fill_parts.Goals as goal
 
 pub overflow_cast-end : goal.overflow_cast-end
@@ -36,15 +36,15 @@ loop-index-init g c =
       kind = c.kind_to_pack-kind.ensures;
       end = c.begun-begun.ensures.sum_is;
       at = rw each (omega arith);
-      within = rw each (omega (arith, c.requires.bodies, mul-le (4 * lanes) c.begun-begun.result.total (4 * lanes) c.args.measured.total (omega arith) few));
-      written = c.requires.copied;
+      within = rw each (omega (arith, c.copy_blocks.auto.bodies, c.requires.room.bodies, mul-le (4 * lanes) c.begun-begun.result.total (4 * lanes) c.args.measured.total (omega arith) few));
+      written = c.copy_blocks.ensures;
     }
 
 pub size_of_block-size-requires-clause-block : goal.size_of_block-size-requires-clause-block
 size_of_block-size-requires-clause-block g c =
     let lanes : ℕ = g.P.BitPacker.lanes in
     let whole : c.BLOCK_LEN-len.result ≡ 32 * lanes = c.BLOCK_LEN-len.ensures ∙ g.met.P.BitPacker.block_len in
-    ap length c.block-block.ensures ∙ block-long lanes c.args.source.now c.loop-index.index (rw (c.len.ensures, whole) at c.loop-index-test.true)
+    ap length c.block-block.ensures ∙ block-long lanes c.args.source.now c.loop-index.index (omega (arith, c.loop-index-test.true, c.packed_end-index-end.ensures.within))
     ∙ sym g.met.P.BitPacker.block_len
 
 pub size_of_block-size-requires-clause-kept : goal.size_of_block-size-requires-clause-kept
@@ -56,11 +56,11 @@ size_of_block-size-requires-clause-kept g c =
     let values : List ℕ = all_of lanes c.args.source.now in
     let before = c.loop-index.invariant in
     let whole : c.BLOCK_LEN-len.result ≡ 32 * lanes = c.BLOCK_LEN-len.ensures ∙ g.met.P.BitPacker.block_len in
-    let lt : i < whole_blocks lanes (length values) = rw (c.len.ensures, whole) at c.loop-index-test.true in
+    let lt : i < whole_blocks lanes (length values) = omega (arith, c.loop-index-test.true, c.packed_end-index-end.ensures.within) in
     let here : from + (i - from) ≡ i = omega (arith, c.loop-index.auto.index) in
     λ kept.
     let width : IsWidthOf lanes kind values i (get_or c.args.widths.now (i - from) 0) =
-    rw here at (c.requires.ready.kept (i - from) (omega (arith, here, lt)) kept) in
+    rw here at (c.requires.ready.kept (i - from) (omega (arith, here, c.loop-index-test.true, c.packed_end-index-end.ensures.is)) kept) in
     rw c.mark_of_block-mark.ensures (kept_here lanes kind values i c.loop-index.kind c.block-block.result.now before.kind c.block-block.ensures
     (get_or c.args.widths.now (i - from) 0) width)
 
@@ -68,7 +68,7 @@ pub write_body-at-requires-clause-block : goal.write_body-at-requires-clause-blo
 write_body-at-requires-clause-block g c =
     let lanes : ℕ = g.P.BitPacker.lanes in
     let whole : c.BLOCK_LEN-len.result ≡ 32 * lanes = c.BLOCK_LEN-len.ensures ∙ g.met.P.BitPacker.block_len in
-    ap length c.block-block.ensures ∙ block-long lanes c.args.source.now c.loop-index.index (rw (c.len.ensures, whole) at c.loop-index-test.true)
+    ap length c.block-block.ensures ∙ block-long lanes c.args.source.now c.loop-index.index (omega (arith, c.loop-index-test.true, c.packed_end-index-end.ensures.within))
     ∙ sym g.met.P.BitPacker.block_len
 
 pub overflow_add-end : goal.overflow_add-end
@@ -80,7 +80,7 @@ overflow_add-end g c =
     let whole : c.BLOCK_LEN-len.result ≡ 32 * lanes = c.BLOCK_LEN-len.ensures ∙ g.met.P.BitPacker.block_len in
     let block : c.block-block.result.now ≡ block_of lanes values i = c.block-block.ensures in
     let within = sum_within lanes i c.size_of_block-size.result c.args.measured.total c.args.measured.greatest c.loop-index.end c.args.source.now.kind values
-    c.requires.ready.source_is.words c.requires.ready.measured (rw (c.len.ensures, whole) at c.loop-index-test.true) before.end
+    c.requires.ready.source_is.words c.requires.ready.measured (omega (arith, c.loop-index-test.true, c.packed_end-index-end.ensures.within)) before.end
     (size_here lanes c.args.source.now.kind values i c.loop-index.kind c.block-block.result.now before.kind block c.size_of_block-size.result
     (rw c.mark_of_block-mark.ensures at c.size_of_block-size.ensures)) in
     record { fits = omega (arith, within, c.requires.ready.measured.few) }
@@ -94,7 +94,7 @@ write_body-at-requires-clause-goes_on g c =
     let whole : c.BLOCK_LEN-len.result ≡ 32 * lanes = c.BLOCK_LEN-len.ensures ∙ g.met.P.BitPacker.block_len in
     let block : c.block-block.result.now ≡ block_of lanes values i = c.block-block.ensures in
     let mark = c.mark_of_block-mark.ensures ∙ mark_here lanes c.args.source.now.kind values i c.loop-index.kind c.block-block.result.now before.kind block in
-    rw (mark, before.kind, block) (goes_on lanes i c.args.source.now.kind values g.met.P.BitPacker.some_lanes (rw (c.len.ensures, whole) at c.loop-index-test.true)
+    rw (mark, before.kind, block) (goes_on lanes i c.args.source.now.kind values g.met.P.BitPacker.some_lanes (omega (arith, c.loop-index-test.true, c.packed_end-index-end.ensures.within))
     c.requires.ready.source_is.words (in_order c.args.source.now.kind values c.requires.ready.right))
 
 pub write_body-at-requires-clause-room : goal.write_body-at-requires-clause-room
@@ -108,10 +108,10 @@ write_body-at-requires-clause-room g c =
     let whole : c.BLOCK_LEN-len.result ≡ 32 * lanes = c.BLOCK_LEN-len.ensures ∙ g.met.P.BitPacker.block_len in
     let block : c.block-block.result.now ≡ block_of lanes values i = c.block-block.ensures in
     let within = sum_within lanes i s c.args.measured.total c.args.measured.greatest c.loop-index.end c.args.source.now.kind values
-    c.requires.ready.source_is.words c.requires.ready.measured (rw (c.len.ensures, whole) at c.loop-index-test.true) before.end
+    c.requires.ready.source_is.words c.requires.ready.measured (omega (arith, c.loop-index-test.true, c.packed_end-index-end.ensures.within)) before.end
     (size_here lanes c.args.source.now.kind values i c.loop-index.kind c.block-block.result.now before.kind block s
     (rw c.mark_of_block-mark.ensures at c.size_of_block-size.ensures)) in
-    let long : length bodies ≡ size lanes c.args.measured.total = c.loop-index.auto.bodies ∙ c.requires.bodies in
+    let long : length bodies ≡ size lanes c.args.measured.total = c.loop-index.auto.bodies ∙ c.copy_blocks.auto.bodies ∙ c.requires.room.bodies in
     let fits : size lanes (c.loop-index.end + s) ≤ size lanes c.args.measured.total =
     mul-le (4 * lanes) (c.loop-index.end + s) (4 * lanes) c.args.measured.total (omega arith) within in
     rw (lent_after c.loop-index.at bodies) (omega (arith, fits, long, before.at, size-add lanes c.loop-index.end s))
@@ -133,7 +133,7 @@ loop-index-preserved g c =
     let most : ℕ = c.args.measured.greatest in
     let blocks : ℕ = whole_blocks lanes (length values) in
     let whole : c.BLOCK_LEN-len.result ≡ 32 * lanes = c.BLOCK_LEN-len.ensures ∙ g.met.P.BitPacker.block_len in
-    let lt : i < blocks = rw (c.len.ensures, whole) at c.loop-index-test.true in
+    let lt : i < blocks = omega (arith, c.loop-index-test.true, c.packed_end-index-end.ensures.within) in
     let block : c.block-block.result.now ≡ block_of lanes values i = c.block-block.ensures in
     let mark = c.mark_of_block-mark.ensures ∙ mark_here lanes kind values i c.loop-index.kind c.block-block.result.now before.kind block in
     let is : IsSizeOf lanes kind values i s =
@@ -148,9 +148,9 @@ loop-index-preserved g c =
     let e_is : c.byte_count-end_len.result ≡ e = c.byte_count-end_len.ensures.count in
     let z_is : c.byte_count-mark_len.result ≡ z = c.byte_count-mark_len.ensures.count in
     let ends_room : e * i + e ≤ length ends =
-    omega (arith, c.loop-index.auto.ends, c.requires.ends, mul-le e (i + 1) e blocks (omega arith) (omega (arith, lt))) in
+    omega (arith, c.loop-index.auto.ends, c.copy_blocks.auto.ends, c.requires.room.ends, mul-le e (i + 1) e blocks (omega arith) (omega (arith, lt))) in
     let marks_room : z * i + z ≤ length marks =
-    omega (arith, c.loop-index.auto.marks, c.requires.marks, mul-le z (i + 1) z blocks (omega arith) (omega (arith, lt))) in
+    omega (arith, c.loop-index.auto.marks, c.copy_blocks.auto.marks, c.requires.room.marks, mul-le z (i + 1) z blocks (omega arith) (omega (arith, lt))) in
     let ends_long : length c.write_short.new.bytes ≡ e =
     c.write_short.auto.bytes ∙ rw e_is (length-lent (e * i) e ends ends_room) in
     let marks_long : length c.write_short-in-loop-index.new.bytes ≡ z =
@@ -159,7 +159,7 @@ loop-index-preserved g c =
     omega (arith, mark, measured.most_is, greatest-le (mark_of lanes kind values) blocks i lt) in
     let body = rw (mark, before.kind, block) at c.write_body-at.ensures.body in
     let fits : size lanes end ≤ size lanes sum = mul-le (4 * lanes) end (4 * lanes) sum (omega arith) within in
-    let total_long : length bodies ≡ size lanes sum = c.loop-index.auto.bodies ∙ c.requires.bodies in
+    let total_long : length bodies ≡ size lanes sum = c.loop-index.auto.bodies ∙ c.copy_blocks.auto.bodies ∙ c.requires.room.bodies in
     let at_is : at + c.write_body-at.result ≡ size lanes end =
     omega (arith, before.at, c.write_body-at.ensures.len, size-add lanes c.loop-index.end s) in
     let same : length (put_mid at (length bodies - at) bodies part) ≡ length bodies =
@@ -183,12 +183,16 @@ loop-index-preserved g c =
           };
     }
 
-pub returns : goal.returns
-returns g c =
-    let lanes : ℕ = g.P.BitPacker.lanes in
-    let blocks : ℕ = whole_blocks lanes (length (all_of lanes c.args.source.now)) in
-    let whole : c.BLOCK_LEN-len.result ≡ 32 * lanes = c.BLOCK_LEN-len.ensures ∙ g.met.P.BitPacker.block_len in
-    let low : blocks ≤ c.loop-index.index = rw (c.len.ensures, whole) at c.loop-index-test.false in
-    let high = rw (c.len.ensures, whole) at c.loop-index.auto.index-end in
-    let last : c.loop-index.index ≡ blocks = omega (arith, low, high, few-blocks lanes c.args.source.now g.met.P.BitPacker.some_lanes c.requires.ready.source_is) in
+pub copy_run-requires-clause-room : goal.copy_run-requires-clause-room
+copy_run-requires-clause-room g c = record {
+  ends = c.loop-index.auto.ends ∙ c.copy_blocks.auto.ends ∙ c.requires.room.ends;
+  marks = c.loop-index.auto.marks ∙ c.copy_blocks.auto.marks ∙ c.requires.room.marks;
+  bodies = c.loop-index.auto.bodies ∙ c.copy_blocks.auto.bodies ∙ c.requires.room.bodies;
+}
+
+pub copy_run-requires-clause-written : goal.copy_run-requires-clause-written
+copy_run-requires-clause-written g c =
+    let source = c.args.source.now in
+    let last : c.loop-index.index ≡ packed_end g.P.BitPacker.lanes source =
+    omega (arith, c.loop-index-test.false, c.loop-index.auto.index-end, c.packed_end-index-end.ensures.is) in
     rw last at c.loop-index.invariant.written

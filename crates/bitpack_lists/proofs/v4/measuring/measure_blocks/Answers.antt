@@ -2,28 +2,25 @@
 use Rattle.std.proofs.Common.{◌≡◌, ◌+◌, ◌-◌, ◌*◌, ◌/◌, ◌<◌, ◌≤◌, ℕ, List, length, get_or, refl, sym, ◌∙◌, ap, arith, inl, inr, add-one}
 use Rattle.std.proofs.lemmas.Bool.{cases_lt}
 use Rattle.std.specs.Prelude.{max}
-use Rattle.std.proofs.Math.Nat.{mul-div-le}
-use Rattle.std.proofs.lemmas.Nat.{mul-le}
 use Rattle.std.proofs.lemmas.List.{get_or-set_other, get_or-set_same}
 use Rattle.bitpack_lists.specs.Numbers.{greatest}
 use Rattle.bitpack_lists.specs.Parts.{whole_blocks}
 use Rattle.bitpack_lists.specs.Version2.{block_of}
 use Rattle.bitpack_lists.specs.declared.list_kind.ListKind.{ListKind}
 use Rattle.bitpack_lists.specs.inner.Sizes4.{IsSizeOf, IsWidthOf, mark_of}
-use Rattle.bitpack_lists.specs.inner.Sources.{all_of}
+use Rattle.bitpack_lists.specs.inner.Sources.{all_of, packed_end}
 use Rattle.bitpack_lists.proofs.lemmas.v4.BlockSizes.{mark_here, next_here, size_by_width, total-more, width_here}
-use Rattle.bitpack_lists.proofs.lemmas.v4.Sources.{block-long, few-blocks}
+use Rattle.bitpack_lists.proofs.lemmas.v4.Sources.{block-long}
 use Rattle.bitpack_lists.proofs.v4.measuring.measure_blocks.Goals.{then-kept-widths, else-kept-widths}
 use Rattle.bitpack_lists.proofs.v4.measuring.measure_blocks.Goals as goal
 
 pub measure_block-mark-requires : goal.measure_block-mark-requires
 measure_block-mark-requires g c =
     let lanes : ℕ = g.P.BitPacker.lanes in
-    let whole : c.BLOCK_LEN-len.result ≡ 32 * lanes = c.BLOCK_LEN-len.ensures ∙ g.met.P.BitPacker.block_len in
-    record {
-      block = ap length c.block-block.ensures ∙ block-long lanes c.args.source.now c.loop-index.index (rw (c.len.ensures, whole) at c.loop-index-test.true)
-          ∙ sym g.met.P.BitPacker.block_len;
-    }
+    let i : ℕ = c.loop-index.index in
+    let within : i < whole_blocks lanes (length (all_of lanes c.args.source.now)) =
+    omega (arith, c.loop-index-test.true, c.packed_end-index-end.ensures.is, c.packed_end-index-end.ensures.within) in
+    record { block = ap length c.block-block.ensures ∙ block-long lanes c.args.source.now i within ∙ sym g.met.P.BitPacker.block_len }
 
 pub loop-index-preserved : goal.loop-index-preserved
 loop-index-preserved g c =
@@ -36,7 +33,8 @@ loop-index-preserved g c =
     let values : List ℕ = all_of lanes c.args.source.now in
     let before = c.loop-index.invariant in
     let whole : len ≡ 32 * lanes = c.BLOCK_LEN-len.ensures ∙ g.met.P.BitPacker.block_len in
-    let lt : i < whole_blocks lanes (length values) = rw (c.len.ensures, whole) at c.loop-index-test.true in
+    let lt : i < whole_blocks lanes (length values) =
+    omega (arith, c.loop-index-test.true, c.packed_end-index-end.ensures.is, c.packed_end-index-end.ensures.within) in
     let block : c.block-block.result.now ≡ block_of lanes values i = c.block-block.ensures in
     let mark = c.measure_block-mark.ensures.mark ∙ mark_here lanes kind values i c.loop-index.kind c.block-block.result.now before.kind block in
     let one : len / 32 ≡ lanes = omega (arith, whole) in
@@ -81,38 +79,18 @@ loop-index-preserved g c =
       ];
     }
 
-pub returns-clause-measured : goal.returns-clause-measured
-returns-clause-measured g c =
-    let lanes : ℕ = g.P.BitPacker.lanes in
-    let count : ℕ = length (all_of lanes c.args.source.now) in
-    let blocks : ℕ = whole_blocks lanes count in
-    let whole : c.BLOCK_LEN-len.result ≡ 32 * lanes = c.BLOCK_LEN-len.ensures ∙ g.met.P.BitPacker.block_len in
-    let low : blocks ≤ c.loop-index.index = rw (c.len.ensures, whole) at c.loop-index-test.false in
-    let high = rw (c.len.ensures, whole) at c.loop-index.auto.index-end in
-    let end : c.loop-index.index ≡ blocks = omega (arith, low, high, few-blocks lanes c.args.source.now g.met.P.BitPacker.some_lanes c.requires.source.source_is) in
-    let few : 32 * 1 * blocks ≤ 32 * lanes * blocks =
-    mul-le (32 * 1) blocks (32 * lanes) blocks (omega (arith, g.met.P.BitPacker.some_lanes)) (omega arith) in
-    let begun = rw end at c.loop-index.invariant.begun in
-    record {
-      sum_is = begun.sum_is;
-      few = omega (arith, begun.bound, few, mul-div-le count (32 * lanes), c.requires.source.few);
-      small = begun.small;
-      most_is = begun.most_is;
-    }
+pub measure_run-requires-clause-begun : goal.measure_run-requires-clause-begun
+measure_run-requires-clause-begun g c =
+    let end : c.loop-index.index ≡ packed_end g.P.BitPacker.lanes c.args.source.now =
+    omega (arith, c.loop-index-test.false, c.loop-index.auto.index-end, c.packed_end-index-end.ensures.is) in
+    rw end at c.loop-index.invariant.begun
+
+pub measure_run-requires-clause-kind : goal.measure_run-requires-clause-kind
+measure_run-requires-clause-kind g c =
+    let end : c.loop-index.index ≡ packed_end g.P.BitPacker.lanes c.args.source.now =
+    omega (arith, c.loop-index-test.false, c.loop-index.auto.index-end, c.packed_end-index-end.ensures.is) in
+    rw end at c.loop-index.invariant.kind
 
 pub returns-clause-kept : goal.returns-clause-kept
 returns-clause-kept g c =
-    let lanes : ℕ = g.P.BitPacker.lanes in
-    let whole : c.BLOCK_LEN-len.result ≡ 32 * lanes = c.BLOCK_LEN-len.ensures ∙ g.met.P.BitPacker.block_len in
-    let low : whole_blocks lanes (length (all_of lanes c.args.source.now)) ≤ c.loop-index.index = rw (c.len.ensures, whole) at c.loop-index-test.false in
-    λ k lt within. c.loop-index.invariant.kept k (omega (arith, low, lt)) within
-
-pub returns-clause-kind : goal.returns-clause-kind
-returns-clause-kind g c =
-    let lanes : ℕ = g.P.BitPacker.lanes in
-    let blocks : ℕ = whole_blocks lanes (length (all_of lanes c.args.source.now)) in
-    let whole : c.BLOCK_LEN-len.result ≡ 32 * lanes = c.BLOCK_LEN-len.ensures ∙ g.met.P.BitPacker.block_len in
-    let low : blocks ≤ c.loop-index.index = rw (c.len.ensures, whole) at c.loop-index-test.false in
-    let high = rw (c.len.ensures, whole) at c.loop-index.auto.index-end in
-    let end : c.loop-index.index ≡ blocks = omega (arith, low, high, few-blocks lanes c.args.source.now g.met.P.BitPacker.some_lanes c.requires.source.source_is) in
-    rw end at c.loop-index.invariant.kind
+    λ k lt within. c.loop-index.invariant.kept k (omega (arith, c.loop-index-test.false, c.packed_end-index-end.ensures.is, lt)) within

@@ -4,7 +4,7 @@ use Rattle.std.specs.Prelude.{nat_lt}
 use Rattle.std.proofs.lemmas.Bool.{ltb-false, ltb-true}
 use Rattle.bitpack_lists.specs.declared.list_kind.ListKind.{ListKind}
 use Rattle.bitpack_lists.specs.inner.Sources.{all_of}
-use Rattle.bitpack_lists.proofs.lemmas.v4.Sources.{only_in}
+use Rattle.bitpack_lists.proofs.lemmas.v4.SourceBlocks.{only_in}
 use Rattle.bitpack_lists.proofs.lemmas.writing.WrittenPlans.{newest_many, newest_written, older_written, written_newest, written_older}
 use Rattle.bitpack_lists.proofs.v4.newest.plan_text.Goals as goal
 
