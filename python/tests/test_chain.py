@@ -28,6 +28,10 @@ def test_by_hand():
     assert chain.pack(range(1, 129), kind="strict", initial=0) == (b"\x00", b"")
     assert chain.pack(range(1, 129), kind="sorted") == (b"\x01", b"\xff" * 16)
     assert chain.unpack(b"\0\0", b"", kind="strict").tolist() == list(range(256))
+    # The number before the first may be of numpy, as the last value of an array is.
+    assert chain.pack(range(1, 129), kind="strict", initial=np.uint32(0)) == (b"\x00", b"")
+    assert chain.unpack(np.array([0], "u1"), b"", kind="strict", initial=np.int64(-0))[:2].tolist() == [1, 2]
+    assert chain.unpack(bytearray(b"\x01"), memoryview(b"\xff" * 16), kind="sorted")[-1] == 128
     assert chain.pack([]) == (b"", b"") and chain.unpack(b"", b"").tolist() == []
 
 
@@ -60,6 +64,14 @@ def test_arguments():
         chain.pack([], initial=3)
     with pytest.raises(OverflowError):
         chain.pack([-1] * 128)
+    with pytest.raises(TypeError):
+        chain.pack([], kind="sorted", initial=0.5)
+    # Each of 8 bytes would be a width.
+    for wrong in (2, [1, 1], np.array([1, 1], "i8"), "text"):
+        with pytest.raises(TypeError):
+            chain.unpack(wrong, bytes(64))
+    with pytest.raises(TypeError):
+        chain.unpack(b"\1", 16)
     for kind in (-1, 3):
         with pytest.raises(ValueError):
             fimulowen._core.chain_pack(np.empty(0, "u4"), kind, 4, 0)

@@ -92,13 +92,91 @@ def test_masked_array():
     assert list(pack_column([])) == [] == list(pack_column(np.ma.MaskedArray([], [])))
 
 
+def test_none_is_missing():
+    for values in ([5, None, -7], (5, None, -7), np.array([5, None, -7], object)):
+        column = pack_column(values)
+        assert list(column) == [5, None, -7] and column == pack_column([5, 0, -7], [False, True, False])
+    assert list(pack_column([5, None, -7], [True, False, False])) == [None, None, -7]
+    assert list(pack_column([None, None])) == [None, None] and list(pack_column([2**64 - 1, None])) == [2**64 - 1, None]
+    for wrong in ([1.5, None], [True, None], ["1", None]):
+        with pytest.raises(TypeError):
+            pack_column(wrong)
+
+
+def test_large_integers():
+    """Lists of which numpy makes floats or objects, and an array of the other byte order."""
+    for values in ([5, 2**63 + 1], [2**64 - 1, 0], np.array([5, 2**63 + 1], ">u8"), np.array([5, 2**63 + 1], object)):
+        column = pack_column(values)
+        assert column.dtype == np.uint64 and list(column) == [int(it) for it in values] == np.asarray(column).tolist()
+    assert pack_column(np.array([-5, 2**62], object)).dtype == np.int64
+    for wrong in ([-1, 2**63], [1, 2**64], [1, -(2**63) - 1]):
+        with pytest.raises(OverflowError):
+            pack_column(wrong)
+
+
+def test_numbers_of_numpy():
+    column = pack_column([3, 4, 5, 2**40], [False, True, False, False])
+    for kind in (np.uint64, np.int8, np.uint8, np.int64):
+        assert [column[kind(it)] for it in range(4)] == [3, None, 5, 2**40]
+        assert column.between(kind(3), kind(4)).tolist() == [0] and column.to_numpy(kind(9)).tolist() == [3, 9, 5, 2**40]
+    assert column[np.int8(-1)] == 2**40 and column.take(np.array([3, 0], "u1")).tolist() == [2**40, 3]
+    for wrong in (1.0, "1", None, slice(1)):
+        with pytest.raises(TypeError):
+            column[wrong]
+
+
+def test_fill():
+    signed, unsigned = pack_column([3, None]), pack_column(np.array([3, 4], "u8"), [False, True])
+    for column, wrong in [(signed, 2**63), (signed, -(2**63) - 1), (unsigned, -1), (unsigned, 2**64)]:
+        with pytest.raises(OverflowError):
+            column.to_numpy(wrong)
+        with pytest.raises(OverflowError):
+            column.take([0], wrong)
+    for wrong in (0.5, None, np.nan):
+        with pytest.raises(TypeError):
+            signed.to_numpy(wrong)
+        with pytest.raises(TypeError):
+            signed.take([1], wrong)
+    assert signed.to_numpy(-(2**63)).tolist() == [3, -(2**63)] and unsigned.take([1], 2**64 - 1).tolist() == [2**64 - 1]
+
+
+def test_asarray():
+    assert np.asarray(pack_column([-5, 2**62])).tolist() == [-5, 2**62] and np.array(pack_column([1, 2]), "f4").dtype == np.float32
+    with pytest.raises(ValueError, match="missing"):
+        np.asarray(pack_column([1, None]))
+    for column in (pack_column([1, 2]), pack_column([1, None])):
+        assert (column == np.array([1, 2])) is False is (np.array([1, 2]) == column)
+        with pytest.raises(TypeError):
+            np.array([1, 2]) + column
+
+
+def test_times():
+    """Microseconds since 1970, worked by hand: 2 January 1970 and the second after it, and one that is missing."""
+    times = np.array(["1970-01-02T00:00:00", "NaT", "1970-01-02T00:00:01"], "M8[us]")
+    column = pack_column(times.view("i8"), np.isnat(times))
+    assert list(column) == [86_400_000_000, None, 86_401_000_000]
+    again = column.to_numpy(np.iinfo("i8").min).view("M8[us]")
+    assert np.array_equal(again, times, equal_nan=True)
+    with pytest.raises(TypeError):
+        pack_column(times)
+
+
+def test_subclass():
+    class Mine(Column):
+        pass
+
+    mine = Mine(pack_column([1, None]).tobytes())
+    assert type(copy.copy(mine)) is type(copy.deepcopy(mine)) is Mine and copy.copy(mine) == mine == pack_column([1, None])
+
+
 def test_refused():
     for bad, error in [
         ([1.5], TypeError),
         (["1"], TypeError),
         ([[1]], ValueError),
-        ([1 << 64], (TypeError, OverflowError)),
-        (None, ValueError),
+        ([1 << 64], OverflowError),
+        (None, TypeError),
+        (5, TypeError),
     ]:
         with pytest.raises(error):
             pack_column(bad)
@@ -118,6 +196,10 @@ def test_refused():
     assert column.take([]).tolist() == [] and column != [1, 2]
     with pytest.raises(TypeError):
         hash(column)
+    for empty in (b"", np.empty(0, "u1")):
+        with pytest.raises(PackedListError) as raised:
+            Column(empty)
+        assert raised.value.fault == "COLUMN_SHORT"
 
 
 def test_damaged():
@@ -145,6 +227,11 @@ def test_forged():
     lists = [fimulowen.pack(it).tobytes() for it in ([1], [0, 7, 9], [5, 5, 5])]
     assert list(Column(forged(9, 3, [b"", lists[1], b""]))) == [0, 7, 9]
     assert list(Column(forged(9, 3, [lists[0], lists[1], lists[2]]))) == [5 << 32, None, (5 << 32) + 9]
+    # Kinds and lanes are free, so that one column may have several encodings.
+    other, wrong = [fimulowen.pack(it, "plain", lanes=8, version=2).tobytes() for it in ([0, 7, 9], [0, 8, 9])]
+    assert Column(forged(9, 3, [b"", other, b""])) == pack_column([0, 7, 9]) != Column(forged(9, 3, [b"", wrong, b""]))
+    assert Column(forged(9, 3, [lists[0], wrong, b""])) == pack_column([0, None, 9]) != pack_column([0, 0, 9])
+    assert pack_column([1]) != pack_column(np.array([1], "u8")) and pack_column([1]) != pack_column([1, 1])
     plain = fimulowen.pack([1], "plain").tobytes()
     for bad in [
         forged(9, 2, [b"", lists[1], b""]),

@@ -135,6 +135,8 @@ def test_out(dtype):
     ]:
         with pytest.raises((TypeError, ValueError, BufferError)):
             packed.to_numpy(bad)
+    with pytest.raises(TypeError, match="uint32, int64 or uint64"):
+        packed.to_numpy(np.zeros(9001, "i4"))
     out.flags.writeable = False
     with pytest.raises((ValueError, BufferError)):
         packed.to_numpy(out)
@@ -156,14 +158,29 @@ def test_types_in():
         (["1"], TypeError),
         ([True], TypeError),
         ([[1]], ValueError),
-        (None, ValueError),
-        (5, ValueError),
+        (np.zeros((2, 2), "u4"), ValueError),
+        (None, TypeError),
+        (5, TypeError),
+        ({5}, TypeError),
+        ((it for it in values), TypeError),
+        ([1, None], TypeError),
+        ([1, True, 1 << 64], TypeError),
+        (np.array([1.5]), TypeError),
+        (np.array([1], "M8[s]"), TypeError),
     ]:
         with pytest.raises(error):
             fimulowen.pack(bad)
-    for bad in [[-1], [1 << 32], np.array([-1], "i1"), [1 << 63]]:
+    # numpy makes an array of floats of the one before the last, and objects of the last.
+    for bad in [[-1], [1 << 32], np.array([-1], "i1"), [1 << 63], [1, 1 << 63], [-1, 1 << 63], [1, 1 << 64], [1, -(1 << 64)]]:
         with pytest.raises(OverflowError):
             fimulowen.pack(bad)
+    assert list(fimulowen.pack(np.array([5, np.int8(7)], object))) == [5, 7]
+
+
+def test_missing_values_are_no_list():
+    with pytest.raises(ValueError, match="missing"):
+        fimulowen.pack(np.ma.MaskedArray([1, 2, 3], [False, True, False]))
+    assert list(fimulowen.pack(np.ma.MaskedArray([1, 2, 3]))) == [1, 2, 3]
 
 
 def test_arguments():
@@ -193,10 +210,17 @@ def test_arguments():
         with pytest.raises(TypeError):
             packed.between(0, wrong)
     for bad in (2, -3, 2**63, 2**64 - 1):
-        with pytest.raises((IndexError, OverflowError)):
+        with pytest.raises(IndexError):
             packed.take(np.array([bad], "u8" if bad > 5 else "i8"))
-    with pytest.raises(TypeError):
-        packed.take([0.5])
+    # The last position is no -1, though its bytes are those of one.
+    for bad in ([0, 2**63], [2**70], [-(2**70)], [-1, 2**63], np.array([2**64 - 1], ">u8")):
+        with pytest.raises(IndexError):
+            packed.take(bad)
+    for bad in ([0.5], [True, False], 1, None):
+        with pytest.raises(TypeError):
+            packed.take(bad)
+    assert packed.take(np.array([1, 0], "u1")).tolist() == [2, 1] and packed.take([]).tolist() == [] == packed.take(()).tolist()
+    assert packed.count_between(low=2, high=9) == 1 and packed.between(low=2, high=9).tolist() == [1]
     with pytest.raises(AttributeError):
         packed.more = 1
     with pytest.raises(TypeError):
@@ -270,6 +294,8 @@ def test_subclass():
     mine.note = "kept"
     assert type(pickle.loads(pickle.dumps(fimulowen.pack([1])))) is PackedList
     assert list(mine & fimulowen.pack([5])) == [5] and type(copy.copy(mine)) is Mine
+    for again in (copy.copy(mine), copy.deepcopy(mine)):
+        assert again == mine and again.note == "kept"
 
 
 def test_buffers(tmp_path):

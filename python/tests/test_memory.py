@@ -30,7 +30,7 @@ def one_round(values, text, bounds):
     packed.seek(500), packed.seek(1 << 40), packed.take([3, -1]), packed.between(5, 5000), packed.bounds(), plain.between(5, 5000)
     packed & other, packed | other, packed - other, fimulowen.intersect(packed, other, other), fimulowen.unite_count(packed, other)
     fimulowen.open_many(*fimulowen.pack_many(values, bounds)), PackedList(bytearray(text)), PackedList(packed.data) == packed, repr(packed)
-    pickle.loads(pickle.dumps(packed, 5)), packed.data.tobytes(), packed.nbytes, packed.kind, fimulowen.show(packed), packed._repr_svg_()
+    pickle.loads(pickle.dumps(packed, 5)), packed.data.tobytes(), packed.nbytes, packed.kind, packed._repr_svg_()
     chain.unpack(*chain.pack(values[:1024], kind="strict"), kind="strict")
     column = fimulowen.pack_column(values.astype("i8") - 700, values % 7 == 0)
     column.to_numpy(), column[3], column.between(-50, 900), column.take([5, 7]), fimulowen.Column(column.data)

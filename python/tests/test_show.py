@@ -1,5 +1,7 @@
 """How a list looks: the bits of its blocks are those that its bytes have."""
 
+import contextlib
+import io
 import xml.etree.ElementTree as xml
 
 import fimulowen
@@ -10,6 +12,14 @@ from hypothesis import given
 from hypothesis import strategies as st
 
 from test_lists import LANES, VERSIONS, arrays
+
+
+def shown(packed):
+    """The lines that are printed."""
+    out = io.StringIO()
+    with contextlib.redirect_stdout(out):
+        assert fimulowen.show(packed) is None
+    return out.getvalue().splitlines()
 
 
 @given(arrays(most=5000), st.sampled_from(LANES), st.sampled_from(VERSIONS))
@@ -25,7 +35,7 @@ def test_bits(array, lanes, version):
         is_set = version == 4 and kind == "strict" and -(-span // block) <= width
         wanted.append(-(-span // block) if is_set else width)
     assert bits.tolist() == wanted
-    assert fimulowen.show(packed).startswith(f"{kind}, {len(values)} values in {packed.nbytes} bytes")
+    assert shown(packed)[0].startswith(f"{kind}, {len(values)} values in {packed.nbytes} bytes")
     picture = xml.fromstring(packed._repr_svg_())
     assert len(picture.findall(".//{*}rect")) <= len(wanted)
 
@@ -33,7 +43,7 @@ def test_bits(array, lanes, version):
 @pytest.mark.parametrize("count", [0, 5, 128, 128 * 41, 1_000_000])
 def test_long(count):
     packed = fimulowen.pack(np.arange(count) * 5)
-    lines = fimulowen.show(packed).split("\n")
+    lines = shown(packed)
     assert len(lines) <= 44 and all(len(line) < 100 for line in lines)
     assert len(packed._repr_svg_()) < 40_000
 
@@ -44,10 +54,12 @@ def test_by_hand():
         bytes.fromhex("268102210204" + "7d010102" + "a8aaaaaa" + "aa" * 28 + "ff" * 15 + "0f0f" + "00" * 15 + "0306")
     )
     assert packed.to_numpy()[[0, 1, 127, 128, 251, 252, 255, 256]].tolist() == [0, 3, 381, 382, 505, 510, 513, 520]
-    assert fimulowen.show(packed).split("\n") == [
+    assert shown(packed) == [
         "strict, 257 values in 76 bytes, 4 lanes, version 4: 2.4 bits a value",
         "position     bits",
         "       0        2 ##",
         "     128        2 ##",
         "     256     tail of 1 values",
     ]
+    with pytest.raises(TypeError):
+        fimulowen.show([0, 3])

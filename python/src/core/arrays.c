@@ -42,8 +42,8 @@ int get_items(PyObject *from, Py_buffer *to, size_t item, int flags)
     if ((item == 0 || item == size) && (size == 4 || size == 8) && (uintptr_t)to->buf % size == 0 && format[0] && !format[1] &&
         strchr(size == 4 ? "IL" : "lLqQnN", *format))
         return 0;
-    PyErr_Format(PyExc_TypeError, "aligned integers of %s bytes expected, not the format '%s' of %zd bytes",
-                 item == 4 ? "4" : item == 8 ? "8" : "4 or 8", to->format ? to->format : "B", to->itemsize);
+    PyErr_Format(PyExc_TypeError, "aligned values of %s expected, not the format '%s' of %zd bytes",
+                 item == 4 ? "uint32" : item == 8 ? "int64" : "uint32, int64 or uint64", to->format ? to->format : "B", to->itemsize);
     PyBuffer_Release(to);
     return -1;
 }

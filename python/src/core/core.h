@@ -21,6 +21,9 @@ enum { MANY = 4096 };
             PyEval_RestoreThread(saved);                                                                                               \
     } while (0)
 
+/* What help() and inspect.signature() say of a call. */
+#define SIGNED(signature, text) signature "\n--\n\n" text
+
 /* A list in its packed bytes, which the buffer holds unmoved for as long as the object lives. */
 typedef struct {
     PyObject_HEAD

@@ -169,13 +169,18 @@ static PyObject *List_nbytes(PyObject *self, void *unused)
 }
 
 static PyMethodDef List_methods[] = {
-    {"seek", List_seek, METH_O, "The position and the value of the first value that is at least the target, or None."},
-    {"read", List_read, METH_VARARGS, "read(out, start, base): fills out with values, each with base added; returns how many."},
-    {"take", List_take, METH_O, "The values at an array of positions (numpy.intp)."},
-    {"between", List_between, METH_VARARGS, "The positions of the values from low to high, as an array."},
-    {"count_between", List_count_between, METH_VARARGS, "How many values are from low to high."},
-    {"bounds", List_bounds, METH_NOARGS, "The least and the greatest value of each whole block, in turn."},
-    {"tobytes", List_tobytes, METH_NOARGS, "A copy of the packed bytes."},
+    {"seek", List_seek, METH_O,
+     SIGNED("seek($self, target, /)", "The position and the value of the first value that is at least the target, or None.\n"
+                                      "PackedListError if the list is plain.")},
+    {"_read", List_read, METH_VARARGS,
+     SIGNED("_read($self, out, start, base, /)", "Fills out with values, each with base added; returns how many.")},
+    {"take", List_take, METH_O, SIGNED("take($self, positions, /)", "The values at an array of positions, of int64.")},
+    {"between", List_between, METH_VARARGS,
+     SIGNED("between($self, low, high, /)", "The positions of the values from low to high, as an array.")},
+    {"count_between", List_count_between, METH_VARARGS,
+     SIGNED("count_between($self, low, high, /)", "How many values are from low to high.")},
+    {"bounds", List_bounds, METH_NOARGS, SIGNED("bounds($self, /)", "The least and the greatest value of each whole block, in turn.")},
+    {"tobytes", List_tobytes, METH_NOARGS, SIGNED("tobytes($self, /)", "A copy of the packed bytes.")},
     {NULL, NULL, 0, NULL},
 };
 
@@ -189,6 +194,7 @@ static PyGetSetDef List_getset[] = {
 };
 
 static PyType_Slot List_slots[] = {
+    {Py_tp_doc, SIGNED("List(data)", "The packed bytes of a list, with the calls of the C library.")},
     {Py_tp_new, List_new},
     {Py_tp_dealloc, List_dealloc},
     {Py_tp_methods, List_methods},

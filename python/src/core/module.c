@@ -20,14 +20,14 @@ static PyObject *core_use_type(PyObject *m, PyObject *type)
 }
 
 static PyMethodDef functions[] = {
-    {"pack", core_pack, METH_VARARGS, NULL},
-    {"pack_many", core_pack_many, METH_VARARGS, NULL},
-    {"open_many", core_open_many, METH_VARARGS, NULL},
-    {"combine", core_combine, METH_VARARGS, NULL},
-    {"count", core_count, METH_VARARGS, NULL},
-    {"chain_pack", core_chain_pack, METH_VARARGS, NULL},
-    {"chain_unpack", core_chain_unpack, METH_VARARGS, NULL},
-    {"use_type", core_use_type, METH_O, NULL},
+    {"pack", core_pack, METH_VARARGS, SIGNED("pack(values, kind, lanes, version, /)", "A list.")},
+    {"pack_many", core_pack_many, METH_VARARGS, SIGNED("pack_many(values, bounds, kind, lanes, version, /)", "Bytes, and bounds in them.")},
+    {"open_many", core_open_many, METH_VARARGS, SIGNED("open_many(data, bounds, /)", "Lists.")},
+    {"combine", core_combine, METH_VARARGS, SIGNED("combine(call, lists, packed, /)", "An array, or a list if it is to be packed.")},
+    {"count", core_count, METH_VARARGS, SIGNED("count(call, lists, /)", "How many values all lists have, or any.")},
+    {"chain_pack", core_chain_pack, METH_VARARGS, SIGNED("chain_pack(values, kind, lanes, initial, /)", "Widths and bytes.")},
+    {"chain_unpack", core_chain_unpack, METH_VARARGS, SIGNED("chain_unpack(widths, data, kind, lanes, initial, /)", "An array.")},
+    {"use_type", core_use_type, METH_O, SIGNED("use_type(type, /)", "Chooses the class of the lists that calls return.")},
     {NULL, NULL, 0, NULL},
 };
 

@@ -117,7 +117,7 @@ static void copy_values(const bitpacking_list *view, size_t from, char *out, siz
     }
 }
 
-/* read(out, start, base): writes the values from a position on, as many as there are and as fit, to a buffer of 4 or 8 bytes each, those of
+/* _read(out, start, base): writes the values from a position on, as many as there are and as fit, to a buffer of 4 or 8 bytes each, those of
  * 8 with base added modulo 2^64. Returns how many. */
 PyObject *List_read(PyObject *self, PyObject *args)
 {

@@ -1,6 +1,10 @@
 """A list from values that come one by one, or in parts."""
 
+from __future__ import annotations
+
+import operator
 from array import array
+from typing import SupportsIndex
 
 import numpy as np
 import numpy.typing as npt
@@ -24,8 +28,11 @@ class Builder:
     def __len__(self) -> int:
         return len(self._values)
 
-    def add(self, value: int) -> None:
+    def add(self, value: SupportsIndex) -> None:
         """Adds one value. OverflowError if it is below 0 or above 4294967295. PackedListError if it is out of order."""
+        value = operator.index(value)
+        if not 0 <= value <= 0xFFFFFFFF:
+            raise OverflowError("a value is below 0 or above 4294967295")
         if self._kind and self._values and value < self._values[-1] + (self._kind - 1):
             raise _out_of_order(len(self))
         self._values.append(value)

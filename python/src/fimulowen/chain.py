@@ -2,7 +2,10 @@
 
 A block has 32 values for each of its 1, 4 or 8 lanes. One block is a chain of one."""
 
-from typing import Optional, Tuple
+from __future__ import annotations
+
+import operator
+from typing import Any, Optional, SupportsIndex, Tuple
 
 import numpy as np
 import numpy.typing as npt
@@ -14,7 +17,7 @@ BLOCK_LEN = {1: 32, 4: 128, 8: 256}
 """How many values a block has, by its lanes."""
 
 
-def pack(values: npt.ArrayLike, *, kind: str = "plain", initial: Optional[int] = None, lanes: int = 4) -> Tuple[bytes, bytes]:
+def pack(values: npt.ArrayLike, *, kind: str = "plain", initial: Optional[SupportsIndex] = None, lanes: int = 4) -> Tuple[bytes, bytes]:
     """Packs whole blocks. Returns the width of each, a byte for each, and the bytes of all.
 
     `initial` is the number before the first value of a sorted or strict chain. It is 0 for sorted, and for strict None says that the first
@@ -22,10 +25,16 @@ def pack(values: npt.ArrayLike, *, kind: str = "plain", initial: Optional[int] =
     return _core.chain_pack(private_u32(values), _kind(kind), lanes, _initial(kind, initial))
 
 
-def unpack(widths: bytes, data: bytes, *, kind: str = "plain", initial: Optional[int] = None, lanes: int = 4) -> "npt.NDArray[np.uint32]":
-    """Unpacks the blocks of these widths, by the kind, initial number and lanes that they were packed with. Any bytes are values, and bytes
-    after the blocks are not read. PackedListError if a width is above 32 or bytes are missing."""
-    return _core.chain_unpack(bytes(widths), bytes(data), _kind(kind), lanes, _initial(kind, initial))
+def unpack(
+    widths: Any, data: Any, *, kind: str = "plain", initial: Optional[SupportsIndex] = None, lanes: int = 4
+) -> npt.NDArray[np.uint32]:
+    """Unpacks the blocks of these widths, by the kind, initial number and lanes that they were packed with. `widths` and `data` are objects
+    with a buffer. Any bytes are values, and bytes after the blocks are not read. PackedListError if a width is above 32 or bytes are missing.
+    """
+    view = memoryview(widths)
+    if view.itemsize != 1:
+        raise TypeError(f"a byte for each width expected, not {view.itemsize}")
+    return _core.chain_unpack(bytes(view), bytes(memoryview(data)), _kind(kind), lanes, _initial(kind, initial))
 
 
 def _kind(kind: str) -> int:
@@ -34,11 +43,12 @@ def _kind(kind: str) -> int:
     return KINDS[kind]
 
 
-def _initial(kind: str, initial: Optional[int]) -> int:
+def _initial(kind: str, initial: Optional[SupportsIndex]) -> int:
     if initial is None:
         return 0xFFFFFFFF if kind == "strict" else 0
     if kind == "plain":
         raise ValueError("a plain chain has no initial value")
+    initial = operator.index(initial)
     if not 0 <= initial <= 0xFFFFFFFF:
         raise OverflowError("initial is below 0 or above 4294967295")
     return initial

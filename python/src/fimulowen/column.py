@@ -1,16 +1,18 @@
 """A column of 64-bit integers with missing values, over packed lists. COLUMN.md has its bytes."""
 
+from __future__ import annotations
+
 import operator
 import struct
 import zlib
-from typing import Any, Iterator, List, Optional, Tuple, Union
+from typing import Any, Iterator, List, Optional, SupportsIndex, Tuple
 
 import numpy as np
 import numpy.typing as npt
 
 from .errors import PackedListError
 from .lists import PackedList, pack
-from .values import private_index
+from .values import integers, private_index
 
 CHUNK = 1 << 16
 _HEADER, _ROW = struct.Struct("<4sBBHQII"), np.dtype([("least", "<u8"), ("greatest", "<u8"), ("sizes", "<u4", 3), ("crc", "<u4")])
@@ -35,9 +37,23 @@ class _Chunk:
 
     def read(self, out: np.ndarray) -> None:
         if len(self.lists) == 1:
-            self.lists[0].read(out, 0, self.least)
+            self.lists[0]._read(out, 0, self.least)
         else:
             out.view("u8")[:] = self.codes() + np.uint64(self.least % 2**64)
+
+    def filled(self, out: np.ndarray, fill: int = 0) -> np.ndarray:
+        """All values, with `fill` for those that are missing."""
+        self.read(out)
+        if self.missing is not None:
+            out[self.missing.to_numpy()] = fill
+        return out
+
+    def same(self, other: _Chunk) -> bool:
+        """Whether another chunk of as many values has the same ones, with the same ones missing."""
+        if self.missing != other.missing:
+            return False
+        one, two = (it.filled(np.empty(len(it.lists[0]), "u8")) for it in (self, other))
+        return bool((one == two).all())
 
     def take(self, positions: np.ndarray, dtype: np.dtype) -> np.ndarray:
         codes = self.lists[0].take(positions).astype("u8")
@@ -56,7 +72,7 @@ class _Chunk:
 
 
 class Column:
-    """Integers of 64 bits, with a sign or without, any of which may be missing. Made by pack_column.
+    """Integers of 64 bits, with a sign or without, any of which may be missing. Made by pack_column. `dtype` is int64 or uint64.
 
     `Column(data)` opens the bytes of one: it compares each checksum and tests each list, and raises PackedListError. It holds memory that is read
     only, which must not change, and copies memory that can be written."""
@@ -93,14 +109,18 @@ class Column:
     def __reduce_ex__(self, protocol: Any) -> Tuple[Any, ...]:
         from pickle import PickleBuffer
 
-        return Column, (PickleBuffer(self._data) if protocol >= 5 else self.tobytes(),)
+        return type(self), (PickleBuffer(self._data) if protocol >= 5 else self.tobytes(),)
 
     def __eq__(self, other: Any) -> bool:
         """Whether both have the same values of the same type, with the same ones missing."""
         if not isinstance(other, Column):
             return NotImplemented
-        return self._data == other._data
+        if (self.dtype, self._len) != (other.dtype, other._len):
+            return False
+        # Another writer may choose other lists for the same values.
+        return self._data == other._data or all(map(_Chunk.same, self._chunks, other._chunks))
 
+    __array_ufunc__ = None  # array == column must not depend on whether values are missing
     __hash__ = None  # type: ignore[assignment]
 
     def __repr__(self) -> str:
@@ -112,8 +132,9 @@ class Column:
         """How many values are missing."""
         return sum(len(it.missing) for it in self._chunks if it.missing is not None)
 
-    def __getitem__(self, at: int) -> Optional[int]:
+    def __getitem__(self, at: SupportsIndex) -> Optional[int]:
         """The value at a position, or None if it is missing. A position below 0 counts from the end."""
+        at = operator.index(at)
         position = at + self._len if at < 0 else at
         if not 0 <= position < self._len:
             raise IndexError("position out of range")
@@ -122,27 +143,35 @@ class Column:
             return None
         return chunk.least + sum(it[within] << 32 * half for half, it in enumerate(chunk.lists))
 
+    def __array__(self, dtype: npt.DTypeLike = None, copy: Optional[bool] = None) -> np.ndarray:
+        if self.missing_count:
+            raise ValueError("values are missing: use to_numpy(fill) or to_masked()")
+        if copy is False:
+            raise ValueError("the values of a column are always copied")
+        return np.asarray(self.to_numpy(), dtype)
+
     def __iter__(self) -> Iterator[Optional[int]]:
-        for number, chunk in enumerate(self._chunks):
-            out = np.empty(len(chunk.lists[0]), self.dtype)
-            chunk.read(out)
-            values: List[Optional[int]] = out.tolist()
+        for chunk in self._chunks:
+            values: List[Optional[int]] = chunk.filled(np.empty(len(chunk.lists[0]), self.dtype)).tolist()
             if chunk.missing is not None:
                 for position in chunk.missing:
                     values[position] = None
             yield from values
 
-    def to_numpy(self, fill: int = 0) -> np.ndarray:
+    def to_numpy(self, fill: SupportsIndex = 0) -> np.ndarray:
         """All values, as an array of int64 or uint64, with `fill` for those that are missing."""
-        out = np.empty(self._len, self.dtype)
+        out, fill = np.empty(self._len, self.dtype), self._fits(fill)
         for number, chunk in enumerate(self._chunks):
-            part = out[number * CHUNK : (number + 1) * CHUNK]
-            chunk.read(part)
-            if chunk.missing is not None:
-                part[chunk.missing.to_numpy()] = fill
+            chunk.filled(out[number * CHUNK : (number + 1) * CHUNK], fill)
         return out
 
-    def mask(self) -> "npt.NDArray[np.bool_]":
+    def _fits(self, fill: SupportsIndex) -> int:
+        fill, limits = operator.index(fill), np.iinfo(self.dtype)
+        if not limits.min <= fill <= limits.max:
+            raise OverflowError(f"fill does not fit {self.dtype}")
+        return fill
+
+    def mask(self) -> npt.NDArray[np.bool_]:
         """An array that is true where a value is missing."""
         out = np.zeros(self._len, bool)
         for number, chunk in enumerate(self._chunks):
@@ -150,16 +179,14 @@ class Column:
                 out[number * CHUNK + chunk.missing.to_numpy().astype("i8")] = True
         return out
 
-    def to_masked(self) -> "np.ma.MaskedArray":
+    def to_masked(self) -> np.ma.MaskedArray:
         """All values, as a masked array of numpy."""
         return np.ma.MaskedArray(self.to_numpy(), self.mask())
 
-    def take(self, positions: npt.ArrayLike, fill: int = 0) -> np.ndarray:
+    def take(self, positions: npt.ArrayLike, fill: SupportsIndex = 0) -> np.ndarray:
         """The values at positions in any order, as an array, with `fill` for those that are missing. A position below 0 counts from the end.
         IndexError if one is not in the column."""
-        at = private_index(positions)
-        if np.asarray(positions).dtype.kind != "u":
-            at[at < 0] += self._len
+        at, fill = private_index(positions, self._len), self._fits(fill)
         if len(at) and not (at.min() >= 0 and at.max() < self._len):
             raise IndexError("position out of range")
         out, numbers = np.empty(len(at), self.dtype), at // CHUNK
@@ -172,7 +199,7 @@ class Column:
             out[part] = values
         return out
 
-    def between(self, low: int, high: int) -> "npt.NDArray[np.int64]":
+    def between(self, low: SupportsIndex, high: SupportsIndex) -> npt.NDArray[np.int64]:
         """The positions of the values from low to high, both included, in increasing order, without those that are missing. Chunks and blocks
         whose bounds tell are not unpacked."""
         low, high, found = operator.index(low), operator.index(high), [np.empty(0, "i8")]
@@ -186,14 +213,15 @@ class Column:
 
 
 def pack_column(values: npt.ArrayLike, missing: Optional[npt.ArrayLike] = None) -> Column:
-    """Packs integers from -2**63 to 2**63 - 1, or an array of uint64. `missing` is true where a value is missing; what is there does not
-    count. Without it, the mask of a masked array says that."""
+    """Packs integers from -2**63 to 2**63 - 1, or from 0 to 2**64 - 1. `missing` is true where a value is missing; what is there does not
+    count. Without it, the mask of a masked array says that. None among the values is missing too."""
     if missing is None and isinstance(values, np.ma.MaskedArray):
         missing = np.ma.getmaskarray(values)
-    array = _array(values)
-    mask = np.zeros(len(array), bool) if missing is None else np.array(missing, bool)
+    array, absent = _array(values)
+    mask = absent if missing is None else np.array(missing, bool)
     if mask.shape != array.shape:
         raise ValueError("missing is not as long as the values")
+    mask = mask | absent
     rows, parts = [], []
     for start in range(0, len(array), CHUNK):
         row, lists = _packed_chunk(array[start : start + CHUNK], mask[start : start + CHUNK])
@@ -204,13 +232,16 @@ def pack_column(values: npt.ArrayLike, missing: Optional[npt.ArrayLike] = None) 
     return Column(b"".join([header, struct.pack("<I", zlib.crc32(header)), table, *parts]))
 
 
-def _array(values: npt.ArrayLike) -> np.ndarray:
-    array = np.ma.getdata(values) if isinstance(values, np.ma.MaskedArray) else np.asarray(values)
-    if array.ndim != 1:
-        raise ValueError(f"one dimension expected, not {array.ndim}")
-    if array.dtype.kind not in "iu" and array.size:
-        raise TypeError(f"integers of 64 bits expected, not {array.dtype}")
-    return np.array(array, "u8" if array.dtype == np.uint64 else "i8")
+def _array(values: npt.ArrayLike) -> Tuple[np.ndarray, np.ndarray]:
+    """The values as an array of int64 or uint64, and where they are None."""
+    data = np.ma.getdata(values) if isinstance(values, np.ma.MaskedArray) else values
+    objects, absent = np.asarray(data), None
+    if objects.dtype == object and objects.ndim == 1:
+        absent = np.array([it is None for it in objects], bool)
+        data = np.where(absent, 0, objects)
+    array = integers(objects if objects.dtype.kind in "iu" else data)
+    wide = array.dtype.kind == "u" and array.dtype.itemsize == 8
+    return np.array(array, "u8" if wide else "i8"), np.zeros(len(array), bool) if absent is None else absent
 
 
 def _packed_chunk(values: np.ndarray, mask: np.ndarray) -> Tuple[tuple, bytes]:

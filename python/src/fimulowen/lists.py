@@ -1,7 +1,9 @@
 """Packed lists and their calls."""
 
+from __future__ import annotations
+
 import pickle
-from typing import Any, Iterator, List, Optional, Tuple
+from typing import Any, Iterator, List, Optional, SupportsIndex, Tuple
 
 import numpy as np
 import numpy.typing as npt
@@ -23,13 +25,16 @@ class PackedList(_core.List):
     __array_ufunc__ = None  # array & list must not be a bitwise AND of numbers
     __hash__ = None  # type: ignore[assignment]
 
-    def __and__(self, other: "PackedList") -> "PackedList":
+    def __and__(self, other: PackedList) -> PackedList:
+        """The values of both, as a strict list."""
         return _packed(_INTERSECT, self, other)
 
-    def __or__(self, other: "PackedList") -> "PackedList":
+    def __or__(self, other: PackedList) -> PackedList:
+        """The values of either, as a strict list."""
         return _packed(_UNITE, self, other)
 
-    def __sub__(self, other: "PackedList") -> "PackedList":
+    def __sub__(self, other: PackedList) -> PackedList:
+        """The values that only the first has, as a strict list."""
         return _packed(_SUBTRACT, self, other)
 
     def __array__(self, dtype: npt.DTypeLike = None, copy: Optional[bool] = None) -> np.ndarray:
@@ -61,7 +66,8 @@ class PackedList(_core.List):
         return svg(self)
 
     def __reduce_ex__(self, protocol: Any) -> Tuple[Any, ...]:
-        return type(self), (pickle.PickleBuffer(self.data) if protocol >= 5 else self.tobytes(),)
+        # The attributes of an instance of a subclass are its state.
+        return type(self), (pickle.PickleBuffer(self.data) if protocol >= 5 else self.tobytes(),), getattr(self, "__dict__", None)
 
     def to_numpy(self, out: Optional[np.ndarray] = None, dtype: npt.DTypeLike = None) -> np.ndarray:
         """All values, as an array of uint32, or of another type. They go to the front of `out` if there is one: an array in C order of
@@ -77,24 +83,27 @@ class PackedList(_core.List):
             raise TypeError("out is an array of numpy")
         elif dtype is not None and out.dtype != wanted:
             raise TypeError(f"out is of {out.dtype}, not {wanted}")
-        if out.ndim != 1 or len(out) < len(self):
+        if out.ndim != 1:
+            raise ValueError(f"out has {out.ndim} dimensions, and not one")
+        if len(out) < len(self):
             raise ValueError(f"out has no room for {len(self)} values")
-        return out[: self.read(out, 0, 0)]
+        return out[: self._read(out, 0, 0)]
 
-    def take(self, positions: npt.ArrayLike) -> "npt.NDArray[np.uint32]":
+    def take(self, positions: npt.ArrayLike) -> npt.NDArray[np.uint32]:
         """The values at positions in any order, as an array; those below 0 count from the end. Increasing positions are fastest.
         IndexError if one is not in the list."""
-        at = private_index(positions)
-        if np.asarray(positions).dtype.kind != "u":
-            at[at < 0] += len(self)
-        return super().take(at)
+        return super().take(private_index(positions, len(self)))
 
-    def between(self, low: int, high: int) -> "npt.NDArray[np.int64]":
+    def between(self, low: SupportsIndex, high: SupportsIndex) -> npt.NDArray[np.int64]:
         """The positions of the values from low to high, both included, in increasing order. The list may be of any kind. Blocks whose
         bounds tell are not unpacked."""
         return super().between(low, high)
 
-    def bounds(self) -> "npt.NDArray[np.uint32]":
+    def count_between(self, low: SupportsIndex, high: SupportsIndex) -> int:
+        """How many values are from low to high, both included. Blocks whose bounds tell are not unpacked."""
+        return super().count_between(low, high)
+
+    def bounds(self) -> npt.NDArray[np.uint32]:
         """The least and the greatest value that each whole block can have, as an array of two columns. It unpacks nothing. The values
         after the last whole block have no bounds."""
         return super().bounds().reshape(-1, 2)
@@ -128,7 +137,7 @@ def pack(values: npt.ArrayLike, kind: Optional[str] = None, lanes: int = 4, *, v
 
 def pack_many(
     values: npt.ArrayLike, bounds: npt.ArrayLike, kind: str = "strict", lanes: int = 4, *, version: int = 4
-) -> Tuple[bytes, "npt.NDArray[np.int64]"]:
+) -> Tuple[bytes, npt.NDArray[np.int64]]:
     """Packs values[bounds[i]:bounds[i + 1]] for each i. Returns the bytes of all lists, and the bounds of the lists in them.
 
     IndexError if the bounds fall or lie outside of the values. PackedListError, with the number of the list."""
@@ -141,17 +150,17 @@ def open_many(data: Any, bounds: npt.ArrayLike) -> List[PackedList]:
     return _core.open_many(data if view.readonly else bytes(view), private_index(bounds))
 
 
-def intersect(*lists: PackedList) -> "npt.NDArray[np.uint32]":
+def intersect(*lists: PackedList) -> npt.NDArray[np.uint32]:
     """The values that all lists have, as an array. PackedListError if one is plain."""
     return _core.combine(_INTERSECT, lists, False)
 
 
-def unite(*lists: PackedList) -> "npt.NDArray[np.uint32]":
+def unite(*lists: PackedList) -> npt.NDArray[np.uint32]:
     """The values that any list has, as an array, each once. PackedListError if one is plain."""
     return _core.combine(_UNITE, lists, False)
 
 
-def subtract(first: PackedList, *others: PackedList) -> "npt.NDArray[np.uint32]":
+def subtract(first: PackedList, *others: PackedList) -> npt.NDArray[np.uint32]:
     """The values that only the first list has, as an array. PackedListError if one is plain."""
     return _core.combine(_SUBTRACT, (first, *others), False)
 

@@ -1,11 +1,17 @@
 """What a list looks like: how many bits a value has in each of its blocks, as text or as a picture."""
 
+from __future__ import annotations
+
+from typing import List
+
 import numpy as np
+
+from .lists import PackedList
 
 _ROWS, _BARS, _MOST = 40, 240, 32
 
 
-def bits_of_blocks(packed) -> np.ndarray:
+def bits_of_blocks(packed: PackedList) -> np.ndarray:
     """The bits a value has in each whole block: the width of a packed block, or the size of a set of bits."""
     blocks, data = len(packed) // (32 * packed.lanes), packed.data
     if blocks == 0:
@@ -19,18 +25,24 @@ def bits_of_blocks(packed) -> np.ndarray:
     return np.diff((parts << (8 * np.arange(size))).sum(axis=1), prepend=0).astype("u1")
 
 
-def show(packed) -> str:
-    """The list as text: a line for each block, or for each run of blocks if there are more than forty, with the position of its first value, the
-    least and most bits that a value has, and a bar for the mean.
+def show(packed: PackedList) -> None:
+    """Prints a line for each block of a list, or for each run of blocks if there are more than forty: the position of its first value, the least and
+    most bits that a value has, and a bar for the mean.
 
     >>> import fimulowen
-    >>> print(fimulowen.show(fimulowen.pack(range(0, 900, 3))))
+    >>> fimulowen.show(fimulowen.pack(range(0, 900, 3)))
     strict, 300 values in 87 bytes, 4 lanes, version 4: 2.3 bits a value
     position     bits
            0        2 ##
          128        2 ##
          256     tail of 44 values
     """
+    if not isinstance(packed, PackedList):
+        raise TypeError(f"a PackedList expected, not {type(packed).__name__}")
+    print("\n".join(_lines(packed)))
+
+
+def _lines(packed: PackedList) -> List[str]:
     bits, block = bits_of_blocks(packed), 32 * packed.lanes
     lines = [_title(packed), "position     bits"]
     each = max(1, -(-len(bits) // _ROWS))
@@ -42,15 +54,15 @@ def show(packed) -> str:
     tail = len(packed) % block
     if tail:
         lines.append(f"{len(packed) - tail:8}     tail of {tail} values")
-    return "\n".join(lines)
+    return lines
 
 
-def _title(packed) -> str:
+def _title(packed: PackedList) -> str:
     mean = 8 * packed.nbytes / max(1, len(packed))
     return f"{packed.kind}, {len(packed)} values in {packed.nbytes} bytes, {packed.lanes} lanes, version {packed.version}: {mean:.1f} bits a value"
 
 
-def svg(packed) -> str:
+def svg(packed: PackedList) -> str:
     """The list as a picture: a bar for each block, or for each run of blocks if there are many, as high as the most bits that a value has."""
     bits = bits_of_blocks(packed)
     each = max(1, -(-len(bits) // _BARS))
