@@ -27,10 +27,10 @@ use bitpacking::{BitPacker, MAX_BLOCK_LEN};
 impl<'a, P: BitPacker> PackedList<'a, P> {
     /// Appends the newest encoded list of the values of the list and, after them, the values of another list with `base` added to each.
     ///
-    /// The bodies of the list's whole blocks are copied, as [`encode_more`] does. Those of the other list, but the first, are copied too if the
-    /// list has no values after its whole blocks, and the other is of the same kind and packer and of version 4; a plain list needs a base of
-    /// 0 besides. Else the other list, which may be of any packer, kind and version, is unpacked to the start of `room`, which has to be long
-    /// enough for all its values, and packed again. The vector grows at most once.
+    /// The bodies of the list's whole blocks are copied, as [`encode_more`] does. The bodies of the other list's whole blocks, but the first, are
+    /// copied too if the list ends with a whole block, and the other list has its kind and its packer and is of version 4; if they are plain, the
+    /// base has to be 0. Otherwise the values of the other list, which may be of any packer, kind and version, are unpacked to the start of
+    /// `room`, which has to be long enough for all of them, and packed again. The vector grows at most once.
     ///
     /// Fails with `BadNumber` if a value with the base is above `u32::MAX`, and otherwise as [`encode_more`] does: all values together have
     /// to be in the order of the list's kind.
