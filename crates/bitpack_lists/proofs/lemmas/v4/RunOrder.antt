@@ -1,12 +1,12 @@
 -- The order of the values from the run on, and that there is no run without a first slice.
 -- Serves v4.
-use Rattle.std.proofs.Common.{◌≡◌, ℕ, ◌+◌, ◌-◌, ◌*◌, ◌<◌, ◌≤◌, length, get_or, None, arith, inl, inr}
-use Rattle.std.proofs.lemmas.Bool.{cases_lt}
+use Rattle.std.proofs.Common.{◌≡◌, ℕ, ◌+◌, ◌-◌, ◌*◌, ◌<◌, ◌≤◌, length, get_or, None, arith}
 use Rattle.bitpack_lists.specs.declared.v4.source.Source.{Source}
 use Rattle.bitpack_lists.specs.Parts.{whole_blocks}
 use Rattle.bitpack_lists.specs.Version2.{is_out, least_below}
 use Rattle.bitpack_lists.specs.inner.Sources.{IsSource, all_of, packed_end}
 use Rattle.bitpack_lists.proofs.lemmas.blocks.SearchLemmas.{ordered_each}
+use Rattle.bitpack_lists.proofs.lemmas.v4.SourceBlocks.{alone}
 use Rattle.bitpack_lists.proofs.lemmas.v4.SourceOrder.{first-within}
 use Rattle.bitpack_lists.proofs.lemmas.v4.Sources.{whole-is}
 
@@ -24,10 +24,7 @@ ordered-run lanes source some is positive right =
 
 module _ (lanes : ℕ) (source : Source) (some : 1 ≤ lanes) (is : IsSource lanes source) (empty : length source.first.now ≡ 0) where
   pub empty-alone : source.run.blocks ≡ 0
-  empty-alone = elim (cases_lt 0 source.run.blocks) [
-    | inl positive ↦ absurd (omega (arith, (is.run positive).first, empty, some))
-    | inr none ↦ omega (arith, none)
-  ]
+  empty-alone = alone lanes source some is (λ full _. omega (arith, empty, full, some))
 
   -- Each whole block is packed.
   pub empty-whole : whole_blocks lanes (length (all_of lanes source)) ≡ packed_end lanes source

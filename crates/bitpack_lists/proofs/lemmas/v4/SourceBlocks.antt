@@ -28,7 +28,7 @@ module _ (lanes : ℕ) (source : Source) (some : 1 ≤ lanes) (is : IsSource lan
   later = source.later.now
 
   -- There is no run if the first slice is not a block, or the second has one.
-  alone : (length first ≡ len → length later < len → ⊥) → source.run.blocks ≡ 0
+  pub alone : (length first ≡ len → length later < len → ⊥) → source.run.blocks ≡ 0
   alone not = elim (cases_lt 0 source.run.blocks) [
     | inl more ↦ absurd (not (is.run more).first (is.run more).later)
     | inr none ↦ omega (arith, none)
