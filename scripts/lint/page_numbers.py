@@ -22,7 +22,7 @@ from vectors import KINDS, model, names_of
 README, FORMAT, SCALE, SPEED = "README.md", "docs/FORMAT.md", "docs/SCALE.md", "docs/SPEED.md"
 FOUR, STRICT = [7, 9, 10, 300], 2
 # The lanes of the measured lists, and their lengths, each with the distance of the bits that are flipped.
-LANES, STEPS = 4, {20: 1, 1_000: 1, 1_024: 1, 20_000: 101}
+LANES, STEPS = 4, {20: 1, 1_000: 13, 1_024: 13, 20_000: 101}
 # By row of docs/SPEED.md, the first cell of the same row of README.md, which has the newest version, plain arrays and Roaring.
 MEASURED = {"bits a posting": "bits a posting", "AND of 2 words": "AND of 2 words, queries a second", "OR of 2 to 4": "OR of 2 to 4 words"}
 

@@ -3,6 +3,7 @@
 import fnmatch
 import functools
 import glob
+import multiprocessing
 import os
 import re
 
@@ -13,15 +14,24 @@ import changes
 CHANGED = {}
 
 
+@functools.cache
+def there(pattern):
+    """The files of the repository of this pattern."""
+    return {os.path.relpath(path, ROOT) for path in glob.glob(f"{ROOT}/{pattern}", recursive=True)}
+
+
 def paths(pattern):
     """The files of the repository of this pattern, and those that a wrong change made."""
-    found = {os.path.relpath(path, ROOT) for path in glob.glob(f"{ROOT}/{pattern}", recursive=True)}
-    return sorted(found.union(fnmatch.filter(CHANGED, pattern.replace("**/", "*"))))
+    return sorted(there(pattern).union(fnmatch.filter(CHANGED, pattern.replace("**/", "*"))))
+
+
+# The text of a file of the repository, which is read once.
+kept = functools.cache(source)
 
 
 def text_of(path):
     """The text of a file, or what a wrong change made of it."""
-    return CHANGED[path] if path in CHANGED else source(path)
+    return CHANGED[path] if path in CHANGED else kept(path)
 
 
 def blank(text):
@@ -84,11 +94,11 @@ def not_refused(edit, parts):
 
 
 def checks(parts, folder):
-    """The parts of a script, and then its wrong changes, as its checks: the name of each and why it fails, or None."""
-    for part in parts:
-        yield part.__name__, "\n    ".join(part()) or None
-    for edit in changes.edits_in(folder):
-        yield edit.name, not_refused(edit, parts)
+    """The parts of a script, and then its wrong changes, side by side, as its checks: the name of each and why it fails, or None."""
+    yield from ((part.__name__, "\n    ".join(part()) or None) for part in parts)
+    edits = changes.edits_in(folder)
+    with multiprocessing.get_context("fork").Pool() as pool:
+        yield from zip((edit.name for edit in edits), pool.starmap(not_refused, ((edit, parts) for edit in edits), chunksize=1))
 
 
 def results(parts, folder):
