@@ -11,12 +11,19 @@ use crate::{Wrong, in_rust};
 /// The folders that have nothing but what is made.
 const OWN: [&str; 2] = ["src", "examples"];
 /// What is there beside the translation.
-const MADE: [(&str, &str); 5] = [
+const MADE: [(&str, &str); 12] = [
     ("Cargo.toml", include_str!("../made/Cargo.toml")),
     ("src/lib.rs", include_str!("../made/lib.rs")),
     ("src/c_slices.rs", include_str!("../made/c_slices.rs")),
     ("src/growing.rs", include_str!("../made/growing.rs")),
     ("src/simd.rs", include_str!("../made/simd.rs")),
+    ("examples/vectors/main.rs", include_str!("../made/vectors/main.rs")),
+    ("examples/vectors/blocks.rs", include_str!("../made/vectors/blocks.rs")),
+    ("examples/vectors/digests.rs", include_str!("../made/vectors/digests.rs")),
+    ("examples/vectors/lists.rs", include_str!("../made/vectors/lists.rs")),
+    ("examples/vectors/queries.rs", include_str!("../made/vectors/queries.rs")),
+    ("examples/vectors/report.rs", include_str!("../made/vectors/report.rs")),
+    ("examples/vectors/rows.rs", include_str!("../made/vectors/rows.rs")),
 ];
 
 /// The files of a folder, by their paths in it.
