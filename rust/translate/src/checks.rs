@@ -48,8 +48,11 @@ fn word(tokens: &[Token], at: usize) -> Result<(), Wrong> {
         return Err(token.wrong("no rule for 'prove!' outside of a constant"));
     }
     let called = phrase(tokens, at, "$ (").or(phrase(tokens, at, "$ : : <")).is_some();
-    if called && ALLOCATING.contains(&token.text) && last_code(&tokens[..at]).is_some_and(|it| it.is(".")) {
-        return Err(token.wrong(format!("no rule for the call '.{}()'", token.text)));
+    if called && ALLOCATING.contains(&token.text) && last_code(&tokens[..at]).is_some_and(|it| it.is(".") || it.is(":")) {
+        return Err(token.wrong(format!("no rule for the call '{}()'", token.text)));
+    }
+    if phrase(tokens, at, "Vec : :").is_some() && phrase(tokens, at, "Vec : : new ( alloc )").is_none() {
+        return Err(token.wrong("no rule for a vector of another form than 'Vec::new(alloc)'"));
     }
     Ok(())
 }
