@@ -40,15 +40,15 @@ fn word(tokens: &[Token], at: usize) -> Result<(), Wrong> {
     if UNKNOWN.contains(&token.text) {
         return Err(token.wrong(format!("no rule for '{}'", token.text)));
     }
-    let is_macro = ["$ ! (", "$ ! [", "$ ! {"].iter().any(|it| phrase(tokens, at, it).is_some());
-    if is_macro && tokens[at + 1].is("!") && !MACROS.contains(&token.text) {
+    let is_macro = || ["$ ! (", "$ ! [", "$ ! {"].iter().any(|it| phrase(tokens, at, it).is_some());
+    if tokens.get(at + 1).is_some_and(|it| it.is("!")) && is_macro() && !MACROS.contains(&token.text) {
         return Err(token.wrong(format!("no rule for the macro '{}!'", token.text)));
     }
     if token.text == "prove" && !follows(tokens, at, "const _ : ( ) =") {
         return Err(token.wrong("no rule for 'prove!' outside of a constant"));
     }
-    let called = phrase(tokens, at, "$ (").or(phrase(tokens, at, "$ : : <")).is_some();
-    if called && ALLOCATING.contains(&token.text) && last_code(&tokens[..at]).is_some_and(|it| it.is(".") || it.is(":")) {
+    let called = || phrase(tokens, at, "$ (").or(phrase(tokens, at, "$ : : <")).is_some();
+    if ALLOCATING.contains(&token.text) && called() && last_code(&tokens[..at]).is_some_and(|it| it.is(".") || it.is(":")) {
         return Err(token.wrong(format!("no rule for the call '{}()'", token.text)));
     }
     if phrase(tokens, at, "Vec : :").is_some() && phrase(tokens, at, "Vec : : new ( alloc )").is_none() {

@@ -53,7 +53,10 @@ fn moved<'a>(tokens: &[Token<'a>], at: usize, module: Module) -> Change<'a> {
 
 /// Whether the token is the first name of a path of several.
 fn begins_path(tokens: &[Token], at: usize) -> bool {
-    let path = phrase(tokens, at, "$ : :").filter(|it| tokens[at].kind == Kind::Word && !tokens.get(*it).is_some_and(|it| it.is("<")));
+    if tokens[at].kind != Kind::Word || !tokens.get(at + 1).is_some_and(|it| it.is(":")) {
+        return false;
+    }
+    let path = phrase(tokens, at, "$ : :").filter(|it| !tokens.get(*it).is_some_and(|it| it.is("<")));
     path.is_some() && !last_code(&tokens[..at]).is_some_and(|it| it.is(":") && phrase(tokens, at.saturating_sub(2), ": :").is_some())
 }
 
