@@ -1,0 +1,49 @@
+//! Vectors that grow, or say that there is no memory.
+
+use alloc::vec::Vec;
+
+/// There is no memory.
+#[derive(Debug, Clone, Copy, PartialEq, Eq)]
+pub struct AllocError;
+
+impl core::fmt::Display for AllocError {
+    fn fmt(&self, f: &mut core::fmt::Formatter<'_>) -> core::fmt::Result {
+        f.write_str("no memory")
+    }
+}
+
+impl core::error::Error for AllocError {}
+
+/// What a vector does if there is memory.
+pub(crate) trait Growing<T> {
+    fn try_push(&mut self, value: T) -> Result<(), AllocError>;
+
+    fn try_extend_from_slice(&mut self, values: &[T]) -> Result<(), AllocError>;
+
+    fn try_resize(&mut self, len: usize, value: T) -> Result<(), AllocError>;
+}
+
+impl<T: Copy> Growing<T> for Vec<T> {
+    #[inline(always)]
+    fn try_push(&mut self, value: T) -> Result<(), AllocError> {
+        if self.len() == self.capacity() {
+            self.try_reserve(1).map_err(|_| AllocError)?;
+        }
+        self.push(value);
+        Ok(())
+    }
+
+    #[inline(always)]
+    fn try_extend_from_slice(&mut self, values: &[T]) -> Result<(), AllocError> {
+        self.try_reserve(values.len()).map_err(|_| AllocError)?;
+        self.extend_from_slice(values);
+        Ok(())
+    }
+
+    #[inline(always)]
+    fn try_resize(&mut self, len: usize, value: T) -> Result<(), AllocError> {
+        self.try_reserve(len.saturating_sub(self.len())).map_err(|_| AllocError)?;
+        self.resize(len, value);
+        Ok(())
+    }
+}

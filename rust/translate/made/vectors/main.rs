@@ -1,0 +1,59 @@
+//! Runs the tables of a folder over the crate: `vectors FOLDER`. It prints each check that fails, and last 'N passed, M failed'.
+
+mod blocks;
+mod digests;
+mod lists;
+mod queries;
+mod report;
+mod rows;
+
+use std::env;
+use std::process::ExitCode;
+
+use bitpacking_source::lists::Version;
+use report::Report;
+use rows::Row;
+
+/// Each table, and what checks a row of it.
+const TABLES: [(&str, fn(&Row, &mut Report)); 23] = [
+    ("blocks.tsv", blocks::packed),
+    ("single.tsv", blocks::packed),
+    ("loose.tsv", blocks::packed),
+    ("refused_blocks.tsv", blocks::refused),
+    ("lists.tsv", lists::version1),
+    ("lists2.tsv", |row, report| lists::written(row, Version::Two, report)),
+    ("lists3.tsv", |row, report| lists::written(row, Version::Three, report)),
+    ("lists4.tsv", |row, report| lists::newest(row, report)),
+    ("refused.tsv", lists::refused1),
+    ("refused2.tsv", |row, report| lists::refused(row, Version::Two, report)),
+    ("refused3.tsv", |row, report| lists::refused(row, Version::Three, report)),
+    ("refused4.tsv", |row, report| lists::refused(row, Version::Four, report)),
+    ("refused_values.tsv", lists::refused_values),
+    ("upgrade.tsv", lists::upgraded2),
+    ("upgrade3.tsv", lists::upgraded3),
+    ("upgrade4.tsv", lists::upgraded4),
+    ("seek.tsv", queries::sought),
+    ("seek3.tsv", queries::sought),
+    ("seek4.tsv", queries::sought),
+    ("intersect.tsv", queries::intersected),
+    ("union.tsv", queries::united),
+    ("difference.tsv", queries::subtracted),
+    ("digests.tsv", digests::long),
+];
+
+fn main() -> ExitCode {
+    let Some(folder) = env::args().nth(1) else {
+        eprintln!("vectors FOLDER");
+        return ExitCode::FAILURE;
+    };
+    let mut report = Report::new();
+    for (table, check) in TABLES {
+        let rows = rows::of(&folder, table);
+        report.check(table, "whether it has rows", !rows.is_empty(), true);
+        for row in &rows {
+            report.begin(&row.name);
+            check(row, &mut report);
+        }
+    }
+    report.ended()
+}
