@@ -1,7 +1,10 @@
 """Measured numbers, and the machine that they are of."""
 
 import os
+import sys
 import time
+
+import archives
 
 
 def machine_name():
@@ -27,6 +30,8 @@ class Numbers:
     def save(self):
         if not self.path:
             return
+        if archives.are_fast():
+            sys.exit(f"{self.path} is not written: the archives are not proved")
         with open(self.path, "w", encoding="ascii") as file:
             file.write(
                 f"# {time.strftime('%Y-%m-%d')}, {machine_name()}, load {os.getloadavg()[0]:.1f}\nmeasure\tway\tset\tthreads\tvalue\n"

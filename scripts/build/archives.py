@@ -13,19 +13,24 @@ Then it looks at each archive: it exports the functions of the header and no oth
 memset, and has neither data nor unwinding; the archive for all levels has one number of data, the level. Only x86-64-v3 has registers of 256
 bits; no two builds have the same instructions, and the archives of a level have the same. Wrong archives are refused: those of one another.
 
-If no source changed since the last run nothing is built; `archives.py --anew` builds all the same. It needs rt, cc, ld and nm, objcopy,
+If no source changed since the last run nothing is built; `archives.py --anew` builds all the same. `archives.py --fast` builds archives of
+x86-64 from the same sources without a proof (scripts/build/fast.py), and from then on they are brought up to date so, until `archives.py` is
+called without it: they have version 0, no release has them, and no table of a page is written over them. It needs rt, cc, ld and nm, objcopy,
 objdump and ar of binutils; with --in-check it is left out if it lacks one. The last line is 'N passed, M failed'.
 """
 import functools
+import glob
 import hashlib
 import os
 import re
+import shutil
 import sys
 import time
 
 sys.path.insert(1, f"{sys.path[0]}/..")
 from common import ROOT, ended, left_out_without, missing, run, words
 import choosing
+import fast
 import proving
 
 OUT = f"{ROOT}/rust/out"
@@ -35,6 +40,8 @@ ARM = "aarch64-unknown-linux-gnu"
 # The archives for C, by their folders in rust/out/, and what rattle is told for each.
 BUILDS = {level: ["--cpu", level] for level in LEVELS.values()} | {ARM: ["--target", ARM]}
 ALL = "libbitpacking.a"
+# This file is there if the archives are not proved.
+NOT_PROVED = f"{OUT}/NOT_PROVED"
 # The levels with registers of 256 bits, which objdump calls ymm.
 WIDE = {"x86-64-v3"}
 TIME = """Proving and building the archives. On four cores of an Intel Xeon at 2.50 GHz the crates below took 5 minutes 53 seconds, and bitpacking_c
@@ -49,6 +56,11 @@ def sources():
 def are_given():
     """Whether the archives are those of a bundle, which has none of the sources that they are built from."""
     return not os.path.exists(f"{ROOT}/crates.txt")
+
+
+def are_fast():
+    """Whether the archives are not proved."""
+    return os.path.exists(NOT_PROVED)
 
 
 def archive(build):
@@ -101,7 +113,7 @@ def joined():
     if why:
         return why
     with open(names, "w", encoding="ascii") as file:
-        file.writelines(f"{name}\n" for name in sorted(choosing.prototypes()))
+        file.writelines(f"{name}\n" for name in sorted([*choosing.prototypes(), *(f"{prefix}_{fast.MARK}" for prefix in LEVELS)]))
     for file in [f"{OUT}/{ALL}", whole]:
         if os.path.exists(file):
             os.remove(file)
@@ -209,9 +221,37 @@ def made(kept, whole):
     yield "the archive for all levels", wrong or "; ".join(faults(f"{OUT}/{ALL}", data=4)) or None
 
 
+def built_fast():
+    """Builds the archives of x86-64 without a proof. Returns how many could be built, and how many could not."""
+    print("the archives are not proved: scripts/build/archives.py builds those that are", flush=True)
+    try:
+        fast.archives(OUT, list(LEVELS.values()))
+        faults = [why for why in [*(prefixed(prefix, level) for prefix, level in LEVELS.items()), joined()] if why]
+    except fast.Failed as why:
+        faults = [str(why)]
+    print("".join(f"FAILED: an archive that is not proved: {why}\n" for why in faults), end="")
+    return len(LEVELS) * 2 + 1 - len(faults), len(faults)
+
+
+def choose(is_fast):
+    """Sets whether archives are to be proved. Those of the other kind are taken away."""
+    if is_fast == are_fast():
+        return
+    for build in BUILDS:
+        shutil.rmtree(f"{OUT}/{build}", ignore_errors=True)
+    for file in [*glob.glob(f"{OUT}/*.a"), f"{OUT}/sources", NOT_PROVED]:
+        if os.path.exists(file):
+            os.remove(file)
+    if is_fast:
+        os.makedirs(OUT, exist_ok=True)
+        choosing.written(NOT_PROVED, "")
+
+
 def build(anew=False, thorough=False):
     """Builds what is not there. What was built has its instructions looked at; if asked to be thorough, all have. Returns how many checks of
     the archives passed and how many failed."""
+    if are_fast():
+        return built_fast()
     stamp, numbers = f"{OUT}/sources", sources()
     os.makedirs(OUT, exist_ok=True)
     kept, whole = (False, False) if anew else fresh(stamp, numbers)
@@ -240,10 +280,11 @@ def status_without(part, *tools):
 
 
 def main():
-    given, lacking = words("--anew", "--in-check"), missing(*TOOLS)
+    given, lacking = words("--anew", "--fast", "--in-check"), missing(*(fast.TOOLS if "--fast" in sys.argv else TOOLS))
     if lacking and "--in-check" not in given:
         print(f"archives.py: there is no {' and no '.join(lacking)}, and nothing was built", file=sys.stderr)
         return 2
+    choose("--fast" in given)
     return 0 if left_out_without("the archives for C and Rust", *TOOLS) else ended(*build("--anew" in given, thorough=True))
 
 

@@ -26,7 +26,7 @@ FILES += ["rust/Cargo.toml", "rust/Cargo.lock", "rust/build.rs", "rust/src/**/*.
 FILES += ["python/*.md", "python/pyproject.toml", "python/setup.py", "python/src/core/*.[ch]", "python/src/fimulowen/*.py*"]
 FILES += ["python/src/fimulowen/py.typed", "python/tests/*.py"]
 FILES += ["postgres/Makefile", "postgres/packed_list*", "postgres/src/*.[ch]", "postgres/sql/*.sql", "postgres/expected/*.out"]
-FILES += ["scripts/common.py", *(f"scripts/build/{it}.py" for it in ("install", "archives", "choosing", "proving"))]
+FILES += ["scripts/common.py", *(f"scripts/build/{it}.py" for it in ("install", "archives", "choosing", "fast", "proving"))]
 # The archives of each processor, by the name that `uname -m` gives it.
 ARCHIVES = {"x86_64": ["rust/out/*.a", "rust/out/x86-64*/*.a"], "aarch64": ["rust/out/aarch64*/*.a"]}
 
@@ -69,6 +69,9 @@ def main():
     if not os.path.isdir(given[0]):
         print(f"bundle.py: {given[0]} is not a folder", file=sys.stderr)
         return 2
+    if archives.are_fast():
+        print("bundle.py: the archives are not proved: scripts/build/archives.py builds those that are", file=sys.stderr)
+        return 1
     if archives.build()[1] > 0:
         print("bundle.py: an archive is not right", file=sys.stderr)
         return 1

@@ -7,7 +7,7 @@
 
 LEVEL is that of the archive: x86-64, x86-64-v2 or x86-64-v3; without it the archive for all levels is installed; for aarch64 LEVEL is
 aarch64-unknown-linux-gnu, and CC has to name a compiler for it. The archives are those that scripts/build/archives.py wrote; a bundle has them.
-If the variable DESTDIR is set, all is written below that folder, as packages want it, and names PREFIX alone.
+Archives that are not proved are installed as version 0.0.0. If the variable DESTDIR is set, all is written below that folder, as packages want it, and names PREFIX alone.
 
 The shared library exports each function of the header, the four that are inline there too. Its name ends with the major version: programs need
 a new link after a change of that. The names of what was written are in share/bitpacking/installed. A file that another program wrote is not
@@ -23,6 +23,7 @@ sys.path.insert(1, f"{sys.path[0]}/..")
 from common import ROOT, missing, run, source
 import archives
 import choosing
+import fast
 
 CC = os.environ.get("CC", "cc")
 HEADER, STATIC, LINK = "include/bitpacking.h", "lib/libbitpacking.a", "lib/libbitpacking.so"
@@ -45,9 +46,14 @@ class Failed(Exception):
     """Why nothing was installed or removed."""
 
 
-def version():
-    """The version that the header has, with points: 1.2.3 for the number 1002003."""
-    found = re.search(r"^#define BITPACKING_VERSION (\d+)", source(HEADER), re.M)
+def header_of(archive):
+    """The header that goes with an archive: one that is not proved has no version."""
+    return source(HEADER) if archives.are_given() or not fast.is_marked(archive) else fast.header()
+
+
+def version(header=None):
+    """The version that a header has, with points: 1.2.3 for the number 1002003."""
+    found = re.search(r"^#define BITPACKING_VERSION (\d+)", header or source(HEADER), re.M)
     number = int(found[1]) if found else 0
     return f"{number // 1000000}.{number // 1000 % 1000}.{number % 1000}"
 
@@ -89,7 +95,7 @@ def install(prefix, archive):
     root = placed(prefix)
     if os.path.exists(f"{root}/{NAMES}"):
         remove(prefix)
-    library = shared_library()
+    library, header = shared_library(), header_of(archive)
     files = [HEADER, STATIC, library, LINK, ASKED, NAMES]
     others = [it for it in files if os.path.lexists(f"{root}/{it}")]
     if others:
@@ -99,7 +105,7 @@ def install(prefix, archive):
         for path in files:
             written += made_folders(root, path) + [path]
             if path == HEADER:
-                shutil.copyfile(f"{ROOT}/{HEADER}", f"{root}/{path}")
+                choosing.written(f"{root}/{path}", header)
             elif path == STATIC:
                 shutil.copyfile(archive, f"{root}/{path}")
             elif path == library:
@@ -107,13 +113,13 @@ def install(prefix, archive):
             elif path == LINK:
                 os.symlink(os.path.basename(library), f"{root}/{path}")
             else:
-                text = PC.format(prefix=prefix, version=version()) if path == ASKED else "\n".join(written)
+                text = PC.format(prefix=prefix, version=version(header)) if path == ASKED else "\n".join(written)
                 with open(f"{root}/{path}", "w", encoding="utf-8") as file:
                     file.write(text)
     except (OSError, Failed):
         taken_away(root, written)
         raise
-    return f"installed version {version()} under {root}: {' '.join(files)}"
+    return f"installed version {version(header)} under {root}: {' '.join(files)}"
 
 
 def placed(prefix):

@@ -1,7 +1,7 @@
 """Proves crates and compiles them with `rattle`, the compiler that `rt` calls.
 
 `rt lib` keeps each proof for later checks, and the crates above load all of them again. Here the crates above load what a library states and no
-proof, and nothing is kept but the libraries, in out/proved/. From nothing that takes 30 % less time. scripts/check proves all once more.
+proof, and nothing else is kept in out/proved/. From nothing that takes 30 % less time. scripts/check puts there what `rt ci` proved.
 """
 
 import collections
@@ -52,18 +52,26 @@ def kit():
     return os.path.dirname(run("rt", "doc").stdout.strip())
 
 
-def sum_of(crate):
-    """A number that changes with the toolchain and with each source of a crate and of those below it."""
-    found = hashlib.sha256(run("rt", "version").stdout.encode() + source("crates.txt").encode())
+@functools.cache
+def toolchain():
+    """The version of the toolchain."""
+    return run("rt", "version").stdout
+
+
+def sum_of(crate, top=ROOT):
+    """A number that changes with the toolchain, and with each source of a crate and of those below it, in a copy of the repository."""
+    found = hashlib.sha256(toolchain().encode())
     for name in [*libraries(crate), crate]:
-        for path in sorted(glob.glob(f"{ROOT}/crates/{name}/[sp]*/**", recursive=True)):
+        line = re.search(rf"^{name}\b.*$", source("crates.txt"), re.M)[0]
+        found.update(f"{line}\n".encode())
+        for path in sorted(glob.glob(f"{top}/crates/{name}/[sp]*/**", recursive=True)):
             if os.path.isfile(path):
                 with open(path, "rb") as file:
-                    found.update(f"{os.path.relpath(path, ROOT)}\n".encode() + file.read())
+                    found.update(f"{os.path.relpath(path, top)}\n".encode() + file.read())
     return found.hexdigest()
 
 
-def jobs():
+def free_jobs():
     """How many processors a check uses: as many as there are and memory is free for."""
     with open("/proc/meminfo", encoding="ascii") as file:
         free = 1024 * int(re.search(r"MemAvailable:\s+(\d+)", file.read())[1])
@@ -75,6 +83,7 @@ def words_of(crate):
     root = "main" if os.path.isfile(f"{ROOT}/crates/{crate}/src/main.rt") else "lib"
     needs = {need: f"{PROVED}/{need}.rlib" if need in crates() else f"{kit()}/rlibs/{need}.rlib" for need in [*crates()[crate], "std"]}
     words = ["--crate-name", crate, f"src/{root}.rt", "-L", f"dependency={kit()}/rlibs", "-L", f"dependency={PROVED}"]
+    words += ["--crate-type", "staticlib"] * bool(re.search(rf"^{crate} staticlib:", source("crates.txt"), re.M))
     words += [word for need, rlib in needs.items() for word in ["--extern", f"{need}={rlib}"]]
     return [*words, "--antt-project", f"{kit()}/rattle/logic/antt-project.json", "--links", f"{crate}="]
 
@@ -113,9 +122,9 @@ def rattle(crate, tell, verb, *words):
             raise Failed(f"{crate}: the verdict has what no crate of this repository may have: {' '.join(more)}", verdict)
 
 
-def proof(*words):
+def proof(*words, jobs=None):
     """What rattle is also told if it proves a crate, and does not take what was proved."""
-    return ["--logic-built", f"{kit()}/logic_built", "--jobs", str(jobs()), *words]
+    return ["--logic-built", f"{kit()}/logic_built", "--jobs", str(jobs or free_jobs()), *words]
 
 
 def library(crate, tell):
@@ -127,6 +136,21 @@ def library(crate, tell):
         shutil.rmtree(rlib, ignore_errors=True)
         # A check would show how many functions are proved, but the build after it would read the crate once more.
         rattle(crate, tell, "build", *proof("--statements", "-o", rlib))
+
+
+def taken(sums, *tops):
+    """Puts the libraries that `rt ci` has just proved into out/proved/ of these copies of the repository, if their sources are those of the
+    sums, taken before it ran. It leaves out those that another command of `rt` built, which have a stamp."""
+    for crate, before in sums.items():
+        made = f"{ROOT}/crates/{crate}/out/rlib"
+        if not os.path.isdir(f"{made}/{crate}.rlib") or os.path.exists(f"{made}/stamp"):
+            continue
+        for proved in (f"{top}/out/proved" for top in tops if sum_of(crate, top) == before == sum_of(crate)):
+            os.makedirs(proved, exist_ok=True)
+            shutil.rmtree(f"{proved}/{crate}.rlib", ignore_errors=True)
+            shutil.copytree(f"{made}/{crate}.rlib", f"{proved}/{crate}.rlib")
+            with open(f"{proved}/{crate}.sum", "w", encoding="ascii") as file:
+                file.write(before)
 
 
 def program(crate, tell):
@@ -146,6 +170,18 @@ def program(crate, tell):
             called(crate, tell, f"{kit()}/bin/rattle-link", "--target", "x86_64-unknown-linux-gnu", *by_llvm[:2], "-o", made, *needs)
 
 
+def kept(crate):
+    """Where `check` keeps what it proved of a crate."""
+    return f"{PROVED}/{crate}"
+
+
+def check(crate, tell):
+    """Proves a crate, and keeps each proof for later checks of it."""
+    for below in libraries(crate):
+        library(below, tell)
+    rattle(crate, tell, "check", *proof("--progress", "--incremental", kept(crate)))
+
+
 def linked(one, other):
     """Copies a file. What was proved gets a second name instead: a check writes such a file anew, and never into it."""
     if one.endswith(".oantt"):
@@ -161,33 +197,42 @@ def linked(one, other):
 def archives(crate, builds, tell):
     """Proves a static library, and compiles it for each build side by side. `builds` has by name what rattle is told of a level or target.
     Returns by name the path of the archive."""
-    kept, static = f"{PROVED}/{crate}", ["--crate-type", "staticlib"]
 
     def compiled(name):
         # A check writes into what it takes its proofs from, so each has its own.
-        room, made = f"{kept}.{name}", f"{kept}.{name}.a"
+        room, made = f"{PROVED}/{crate}.{name}", f"{PROVED}/{crate}.{name}.a"
         shutil.rmtree(room, ignore_errors=True)
-        shutil.copytree(kept, room, copy_function=linked)
+        shutil.copytree(kept(crate), room, copy_function=linked)
         how = [*proof("--incremental", room), "--toolchain", f"{kit()}/toolchain", "--backend", "llvm", *builds[name]]
-        rattle(crate, lambda *_: None, "build", *static, *how, "-o", made)
+        rattle(crate, lambda *_: None, "build", *how, "-o", made)
         shutil.rmtree(room)
         return made
 
     with alone():
-        for below in libraries(crate):
-            library(below, tell)
-        rattle(crate, tell, "check", *static, *proof("--progress", "--incremental", kept))
-        with concurrent.futures.ThreadPoolExecutor(jobs()) as pool:
+        check(crate, tell)
+        with concurrent.futures.ThreadPoolExecutor(free_jobs()) as pool:
             return dict(zip(builds, pool.map(compiled, builds)))
+
+
+def noted(crate):
+    """The sum of the sources that what out/proved/ has of a crate was made from, or nothing."""
+    note = f"{PROVED}/{crate}.sum"
+    if not os.path.exists(note):
+        return ""
+    with open(note, encoding="ascii") as file:
+        return file.read()
+
+
+def is_proved(crate):
+    """Whether out/proved/ has a library, of these sources."""
+    return os.path.isdir(f"{PROVED}/{crate}.rlib") and noted(crate) == sum_of(crate)
 
 
 @contextlib.contextmanager
 def made_once(crate, made):
     """Tells whether a file or folder was made from these sources. If it was not, it is noted once the block made it."""
-    note, now, before = f"{PROVED}/{crate}.sum", sum_of(crate), None
-    if os.path.exists(note):
-        with open(note, encoding="ascii") as file:
-            before = file.read()
+    note, now, before = f"{PROVED}/{crate}.sum", sum_of(crate), noted(crate)
+    if before:
         os.remove(note)
     yield before == now and os.path.exists(made)
     with open(note, "w", encoding="ascii") as file:

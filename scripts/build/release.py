@@ -135,6 +135,9 @@ def main():
     if not in_check and (lacking := lacking + python.chosen()[1]):
         print(f"release.py: there is no {' and no '.join(lacking)}, and nothing was built", file=sys.stderr)
         return 2
+    if archives.are_fast():
+        print("release.py: the archives are not proved: scripts/build/archives.py builds those that are", file=sys.stderr)
+        return 1
     status = archives.status_without("the release", "cc", "sha256sum")
     if status is not None:
         return status

@@ -5,14 +5,17 @@ it names, or the crate not compiling. scripts/mutate/changes.py has their form.
 A check takes up to 34 edits that change different functions, and names each function that it refuses. No function may be refused but
 those that an edit names. If a function waits for the proof of a callee that another edit changed, its edit is tried again in a
 later check, without that one. If a check ends without a verdict, such as for want of memory, its edits are tried again, fewer at once.
-Edits of a crate below take the longest, since that crate is then proved again, and so are first. What a caller does with less from the
-crate below is tried in the caller's crate: a new function calls the one below, and has its contract without a clause.
-The crates are checked in a copy of what git tracks, over what earlier checks left in out/, and the edits in copies of that, one for
-each processor, up to four.
+What a caller does with less from the crate below is tried in the caller's crate: a new function calls the one below, and has its contract
+without a clause. An edit of a crate below must not compile.
 
-`unproved.py WORD ..` tries the edits alone that are named, or that are in a folder of scripts/mutate/edits/, such as a crate.
-`unproved.py --list` tries none, and prints each claim of docs/PROOFS.md with its edits, and what these break; also with words.
-The last line is 'N passed, M failed'.
+If all edits of a crate are tried, the crate is proved first, and each check begins with what that kept; if some are, a check looks at the
+functions that they name, and at those that these call. Which are tried says scripts/mutate/record.py, whose record a run without a fault
+brings up to date. The libraries are those of out/proved/, and are proved if they are not there. The edits are made in copies of what git
+tracks, one for each processor, up to four.
+
+`unproved.py --all` tries all edits. `unproved.py WORD ..` tries the edits alone that are named, or that are in a folder of
+scripts/mutate/edits/, such as a crate. `unproved.py --list` tries none, and prints each claim of docs/PROOFS.md with its edits, and what
+these break; also with words. The last line is 'N passed, M failed'.
 """
 import collections
 import concurrent.futures
@@ -30,11 +33,14 @@ sys.path.insert(1, f"{sys.path[0]}/..")
 from common import ROOT, ended, run, source, words
 import changes
 import claims
-from proving import linked
+import proving
+import record
 
 COPIES = min(4, len(os.sched_getaffinity(0)))
 # How many edits a check takes at most: the more it takes, the more memory it needs, and the longer the others wait for it at the end.
 MOST = 34
+# Where a copy has what the check of a whole crate begins with, in the folder of the crate.
+KEPT = "out/kept"
 
 
 def apply(room, edit, kept):
@@ -64,8 +70,21 @@ def restore(kept):
                 file.write(text)
 
 
-def check(room, crate, *flags):
-    ran = run("rt", "check", *flags, folder=f"{room}/crates/{crate}")
+def command_of(crate, edits, whole):
+    """The command that checks a crate with these edits. If it must not compile, no proof is looked at, and `rt` also reads the sources of the
+    crates below. The proofs that `kept_in` has are taken if the check is to be of the whole crate."""
+    if changes_below(crate, edits):
+        return ["rt", "check", "--only", ""]
+    functions = sorted({function for edit in edits for function in edit.unproved}) or [""]
+    only = ["--incremental", KEPT] if whole and edits[0].unproved else [word for it in functions for word in ("--only", it)]
+    return [f"{proving.kit()}/bin/rattle", "check", *proving.words_of(crate), *proving.proof(*only, jobs=1)]
+
+
+def check(room, crate, edits, whole):
+    """Checks a crate in a copy. Returns the status, and what is said."""
+    if whole:
+        mend(proving.kept(crate), f"{room}/crates/{crate}/{KEPT}")
+    ran = run(*command_of(crate, edits, whole), folder=f"{room}/crates/{crate}")
     return ran.returncode, ran.stdout
 
 
@@ -164,13 +183,13 @@ def are_apart(edit, other):
     return not shared or can_follow(edit, other)
 
 
-def tried(room, crate, edits):
+def tried(room, crate, edits, whole):
     """Tries the edits in one check. Returns by name why each is not refused as it must be, or None; the names of those that may be later,
     since they wait for a callee that another one changed, or for a compiler that stopped at another one; and what is wrong with the
     check as a whole. If it ended without a verdict on any function, these are None, and all may be later."""
     kept = {}
     whys = {edit.name: apply(room, edit, kept) for edit in edits}
-    status, said = check(room, crate, "--jobs", "1")
+    status, said = check(room, crate, edits, whole)
     restore(kept)
     if status != 0 and edits[0].unproved and not re.search(rf"^fn {crate}::", said, re.M):
         why = f"the check ended with status {status} and no verdict: {said.strip()[-200:]}"
@@ -185,16 +204,13 @@ def tried(room, crate, edits):
     return whys, waiting, more
 
 
-def copied(room, built=True):
-    """Makes a copy of the tracked files, which git tracks there too, with what earlier checks left in out/ if that is `built`."""
+def copied(room):
+    """Makes a copy of the tracked files, which git tracks there too."""
     listed = subprocess.run(["git", "ls-files", "-z"], cwd=ROOT, check=True, stdout=subprocess.PIPE).stdout
     for name in listed.decode().split("\0"):
         if name and os.path.isfile(f"{ROOT}/{name}"):
             os.makedirs(os.path.dirname(f"{room}/{name}"), exist_ok=True)
             shutil.copy2(f"{ROOT}/{name}", f"{room}/{name}")
-    for crate in os.listdir(f"{ROOT}/crates") if built else []:
-        if os.path.isdir(f"{ROOT}/crates/{crate}/out"):
-            shutil.copytree(f"{ROOT}/crates/{crate}/out", f"{room}/crates/{crate}/out", symlinks=True, copy_function=linked)
     subprocess.run(["git", "init", "-q", room], check=True)
     subprocess.run(["git", "add", "--all"], cwd=room, check=True)
 
@@ -212,57 +228,44 @@ def mend(sound, folder):
         os.remove(f"{folder}/{path}")
     for path in (path for path, state in wanted.items() if found.get(path) != state):
         os.makedirs(os.path.dirname(f"{folder}/{path}"), exist_ok=True)
-        linked(f"{sound}/{path}", f"{folder}/{path}")
+        proving.linked(f"{sound}/{path}", f"{folder}/{path}")
 
 
 def changes_below(crate, edits):
-    """Whether the edits change a crate below theirs, which is then checked too."""
+    """Whether the edits change a crate below theirs."""
     return any(not path.startswith(f"crates/{crate}/") for edit in edits for path, _, _ in edit.changes)
-
-
-def weight(crate, edits):
-    """How long a check of these edits takes, in edits: one of a crate below takes as long as some ten."""
-    return len(edits) + 10 * changes_below(crate, edits)
 
 
 def checks_of(crate, edits, most):
     """The checks that take these edits of a crate, each up to so many. The edits that are apart from the fewest others come first, so that
-    there are few checks. An edit of a crate below goes where there is one, and all others where there are fewest."""
+    there are few checks. An edit goes where there are fewest, and one of a crate below with others of crates below."""
     checks = []
     others = {edit.name: sum(not are_apart(it, edit) for it in edits) for edit in edits}
-    for edit in sorted(edits, key=lambda it: (not changes_below(crate, [it]), -others[it.name], it.name)):
-        able = [check for check in checks if len(check) < most and all(are_apart(it, edit) for it in check)]
-        if not able:
-            checks.append([edit])
-        elif changes_below(crate, [edit]):
-            max(able, key=lambda check: changes_below(crate, check)).append(edit)
-        else:
+    for edit in sorted(edits, key=lambda it: (-others[it.name], it.name)):
+        like = [check for check in checks if len(check) < most and changes_below(crate, check) == changes_below(crate, [edit])]
+        able = [check for check in like if all(are_apart(it, edit) for it in check)]
+        if able:
             min(able, key=len).append(edit)
+        else:
+            checks.append([edit])
     return checks
 
 
 class Rooms:
-    """Copies of the repository in which edits are tried. After a check its crate has the out/ of `sound` again: else the next check proves
-    anew what these edits changed."""
+    """Copies of the repository in which edits are tried, all of some crates and some of the others."""
 
-    def __init__(self, top):
-        self.top, self.sound, self.free, self.faults = top, f"{top}/sound", queue.SimpleQueue(), []
+    def __init__(self, top, number, whole):
+        self.whole, self.free, self.faults = whole, queue.SimpleQueue(), {}
         # How many edits a check takes at most, by crate.
         self.most = collections.defaultdict(lambda: MOST)
-        copied(self.sound)
-
-    def open(self, number):
-        """Makes so many copies, once the crates of `sound` are checked."""
         for at in range(number):
-            shutil.copytree(self.sound, f"{self.top}/room{at}", symlinks=True, copy_function=linked)
-            self.free.put(f"{self.top}/room{at}")
+            copied(f"{top}/room{at}")
+            self.free.put(f"{top}/room{at}")
 
     def try_in_one(self, crate, edits):
         """Tries the edits in one check, and keeps what failed in `faults`. Returns the edits that wait."""
         room, start = self.free.get(), time.time()
-        whys, waiting, more = tried(room, crate, edits)
-        for below in os.listdir(f"{room}/crates") if changes_below(crate, edits) else [crate]:
-            mend(f"{self.sound}/crates/{below}/out", f"{room}/crates/{below}/out")
+        whys, waiting, more = tried(room, crate, edits, crate in self.whole)
         self.free.put(room)
         if more is None and len(edits) > 1:
             self.most[crate], more = max(1, len(edits) // 4), []
@@ -272,17 +275,16 @@ class Rooms:
         told = [f"{crate}/{it}: {f'FAILED: {why}' if why else 'refused, as it must be'}" for it, why in whys.items() if it not in waiting]
         told += [f"{crate}: FAILED: {fault}, and no edit of this check names it" for fault in more]
         print("\n".join([*told, f"{crate}: {len(edits) - len(waiting)} in one check of {time.time() - start:.0f} s"]), flush=True)
-        self.faults += [it for it in told if ": FAILED: " in it]
+        self.faults.setdefault(crate, []).extend(it for it in told if ": FAILED: " in it)
         return [it for it in edits if it.name in waiting]
 
     def try_all(self, asked):
         """Tries the edits of each crate, each check as soon as a copy is free."""
         tasks = [(crate, edits) for crate, found in asked.items() for edits in checks_of(crate, found, MOST)]
-        self.open(min(COPIES, len(tasks)))
         running, left = {}, {crate: [] for crate in asked}
         with concurrent.futures.ThreadPoolExecutor(COPIES) as pool:
             while tasks or running:
-                for crate, edits in sorted(tasks, key=lambda it: -weight(*it)):
+                for crate, edits in sorted(tasks, key=lambda it: -len(it[1])):
                     running[pool.submit(self.try_in_one, crate, edits)] = crate
                 done = concurrent.futures.wait(running, return_when=concurrent.futures.FIRST_COMPLETED).done
                 for future in done:
@@ -294,24 +296,50 @@ class Rooms:
                 left.update({crate: [] for crate in ready})
 
 
+def proved(crates):
+    """Proves these crates, each whole. Returns why each fails that does."""
+    faults = {}
+    for crate in crates:
+        try:
+            proving.check(crate, lambda *_: None)
+        except proving.Failed as why:
+            faults[crate] = [f"{crate}: FAILED: the crate itself is not proved: {why}\n{why.said}"]
+    return faults
+
+
+def try_edits(by_crate, whole):
+    """Tries edits, those of the crates that are `whole` over proofs of the whole crate. Returns by crate what failed."""
+    with proving.alone():
+        for crate in by_crate:
+            for below in proving.libraries(crate):
+                proving.library(below, lambda *_: None)
+        faults = proved(whole)
+    with tempfile.TemporaryDirectory(prefix="unproved-") as top:
+        rooms = Rooms(top, COPIES, whole)
+        rooms.try_all({crate: edits for crate, edits in by_crate.items() if crate not in faults})
+    return rooms.faults | faults
+
+
 def main():
-    asked = words("--list")
-    wanted = [it for it in asked if it != "--list"]
-    edits = [
-        it for it in claims.edits_of_crates() if not wanted or any(it.name == word or it.path.startswith(f"{word}/") for word in wanted)
-    ]
+    asked = words("--list", "--all")
+    wanted = [it for it in asked if it not in ("--list", "--all")]
+    every = claims.edits_of_crates()
+    edits = [it for it in every if not wanted or any(it.name == word or it.path.startswith(f"{word}/") for word in wanted)]
     if "--list" in asked:
         return claims.print_table(edits)
     by_crate = {crate: [it for it in edits if it.crate == crate] for crate in sorted({it.crate for it in edits})}
-    with tempfile.TemporaryDirectory(prefix="unproved-") as top:
-        rooms = Rooms(top)
-        for crate in list(by_crate):
-            if check(rooms.sound, crate)[0] != 0:
-                rooms.faults += [f"{crate}/{it.name}: FAILED: the crate itself is not proved" for it in by_crate.pop(crate)]
-        rooms.try_all(by_crate)
-    failed = len(rooms.faults)
-    print("".join(f"{it}\n" for it in rooms.faults), end="")
-    return ended(max(len(edits) - failed, 0), failed) or not edits
+    sums = {crate: record.sum_of(crate) for crate in by_crate}
+    if not wanted and "--all" not in asked:
+        by_crate = record.chosen(by_crate, sums, record.known(), record.commit())
+    whole = [crate for crate, its in by_crate.items() if len(its) == sum(it.crate == crate for it in every)]
+    for crate, its in by_crate.items():
+        print(f"{crate}: {len(its)} of {sum(it.crate == crate for it in every)} edits are tried", flush=True)
+    found = try_edits(by_crate, whole)
+    record.add({crate: sums[crate] for crate in whole if not found.get(crate) and sums[crate] == record.sum_of(crate)})
+    failed = [it for its in found.values() for it in its]
+    print("".join(f"{it}\n" for it in failed), end="")
+    tried_now = sum(map(len, by_crate.values()))
+    return ended(max(tried_now - len(failed), 0), len(failed)) or not tried_now
 
 
 if __name__ == "__main__":

@@ -157,11 +157,19 @@ def sanitized(package):
     yield from package.tested("under the address sanitizer", "tests", "--deselect=tests/test_memory.py::test_constant", **known)
 
 
-def compiled(package, sources, to):
-    """Compiles the extension from other sources. Returns what is wrong, or None."""
-    include = run(package.python, "-c", "import sysconfig; print(sysconfig.get_path('include'))").stdout.strip()
-    flags = ["-std=c11", "-O1", "-fPIC", "-shared", f"-I{include}", f"-I{package.prefix}/include", "-Wl,--exclude-libs,ALL"]
-    return package.call("cc", *flags, *sorted(glob.glob(f"{sources}/*.c")), f"{package.prefix}/{install.STATIC}", "-o", to)
+def compiled(python, prefix, sources, to):
+    """Compiles the extension for a Python from sources in C, over the library of a prefix. Returns what is wrong, or None."""
+    include = run(python, "-c", "import sysconfig; print(sysconfig.get_path('include'))").stdout.strip()
+    flags = ["-std=c11", "-O1", "-fPIC", "-shared", f"-I{include}", f"-I{prefix}/include", "-Wl,--exclude-libs,ALL"]
+    done = run("cc", *flags, *sorted(glob.glob(f"{sources}/*.c")), f"{prefix}/{install.STATIC}", "-o", to)
+    return None if done.returncode == 0 else done.stdout[-3000:]
+
+
+def made(python, prefix, folder):
+    """Makes the package in a folder, for tests, without setuptools. Returns what is wrong, or None."""
+    shutil.rmtree(folder, ignore_errors=True)
+    shutil.copytree(f"{ROOT}/python/src/fimulowen", f"{folder}/fimulowen", ignore=shutil.ignore_patterns("*.so", "__pycache__"))
+    return compiled(python, prefix, f"{ROOT}/python/src/core", f"{folder}/fimulowen/_core.abi3.so")
 
 
 def wrong_changes(package):
@@ -177,7 +185,7 @@ def wrong_changes(package):
             file.write(text.replace(before, after))
         why = None if text.count(before) == 1 else f"its lines are there {text.count(before)} times"
         if not why and name[-2:] in (".c", ".h"):
-            why = compiled(package, f"{folder}/core", f"{folder}/fimulowen/_core.abi3.so")
+            why = compiled(package.python, package.prefix, f"{folder}/core", f"{folder}/fimulowen/_core.abi3.so")
         found = [] if why else list(package.tested("with a wrong change", "-x", f"tests/{tests}", PYTHONPATH=folder))
         yield f"a wrong change of {name}: {after}", why or (None if any(wrong for _, wrong in found) else f"{tests} passes")
         shutil.rmtree(folder)
