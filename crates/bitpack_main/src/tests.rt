@@ -4,23 +4,15 @@
 //! The expected text is worked by hand from the line language: a line that is none of its commands, also an empty one, is
 //! answered `refused 1`, and one of more than 65,536 bytes `refused 6`.
 
-mod blocks;
 mod calls;
-mod chains;
-mod documented;
 mod fakes;
 mod faults;
 mod lines;
 mod list2_lines;
 mod list_lines;
-mod nine_calls;
-mod no_memory;
-mod oracle;
 mod registers;
 mod running;
-mod short_of_memory;
 mod texts;
-mod worked;
 
 use fakes::{Giver, Taker};
 use running::{run_over, run_over_bytes, writes};

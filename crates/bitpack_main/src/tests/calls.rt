@@ -3,8 +3,8 @@
 //! The number of calls is worked by hand: an input is read in pieces of at most 65,536 bytes, and answers are written when
 //! that many bytes are held, and before each read.
 
-use super::fakes::{Asker, Counter, Giver, Hearer, Taker};
-use super::running::{run_asking, run_counting, run_over};
+use super::fakes::{Asker, Giver, Hearer, Taker};
+use super::running::{run_asking, run_over};
 use super::texts::{Part, text_of};
 use std::alloc::Global;
 use std::cell::Cell;
@@ -105,40 +105,5 @@ fn no_number_of_reads_is_a_fault(rt: HostRuntime) -> Result<(), Fail> {
     let input = text_of(rt.alloc(), &[Part::Repeated("size 1x 1\n", 31_000)])?;
     let answers = text_of(rt.alloc(), &[Part::Repeated("4\n", 31_000)])?;
     calls_for_each_byte(&rt, rt.alloc(), input.as_str(), answers.as_str());
-    Ok(())
-}
-
-/// The line has this many bytes and values in its answer.
-fn counts_are(rt: &impl Abort, alloc: Global, line: &str, bytes: usize, values: usize) {
-    let mut writer = Counter {
-        bytes: 0,
-        commas: 0,
-        calls: 0,
-    };
-    let outcome = run_counting(alloc, line.as_bytes(), &mut writer);
-    assert!(rt; outcome == Ok(()));
-    assert!(rt; writer.bytes == bytes);
-    assert!(rt; writer.commas.saturating_add(1) == values);
-    // A write has at least 65,536 bytes less one value.
-    assert!(rt; writer.calls <= 1379);
-}
-
-/// The greatest answer that a line can have.
-///
-/// The list is sorted, in eight lanes: a block of width 22 whose codes are all 4194303, and 32,052 blocks of width 0, which
-/// repeat its last value. The values of the first block are 4194303 times 1 to 256: two have seven digits, 21 have eight,
-/// 215 have nine and 18 ten. All 8,205,312 values after them have ten digits.
-#[test]
-fn the_longest_answer(rt: HostRuntime) -> Result<(), Fail> {
-    let line = text_of(
-        rt.alloc(),
-        &[
-            Part::Text("dec 8x 01010800357d0016"),
-            Part::Repeated("ff", 704),
-            Part::Repeated("00", 32_052),
-        ],
-    )?;
-    assert!(rt; line.len() == 65_535);
-    counts_are(&rt, rt.alloc(), line.as_str(), 90_260_992, 8_205_568);
     Ok(())
 }

@@ -183,24 +183,3 @@ fn occurrences(bytes: &[u8], wanted: u8) -> usize {
     }
     count
 }
-
-/// Accepts all bytes and stores none of them: it counts bytes, commas and calls.
-#[derive(Drop)]
-pub struct Counter {
-    pub bytes: usize,
-    pub commas: usize,
-    pub calls: usize,
-}
-
-impl Write for Counter {
-    fn write(&mut self, buffer: &[u8]) -> io::Result<usize> {
-        self.calls = self.calls.saturating_add(1);
-        self.bytes = self.bytes.saturating_add(buffer.len());
-        self.commas = self.commas.saturating_add(occurrences(buffer, b','));
-        Ok(buffer.len())
-    }
-
-    fn flush(&mut self) -> io::Result<()> {
-        Ok(())
-    }
-}

@@ -1,6 +1,6 @@
 //! The runs of the tests: each of these functions has one call of `run` and no contract, so that no test carries the contract of `run`.
 
-use super::fakes::{Asker, Counter, Giver, Hearer, Taker};
+use super::fakes::{Asker, Giver, Hearer, Taker};
 use bitpack::{RunError, run};
 use std::alloc::Global;
 use std::process::Abort;
@@ -31,15 +31,6 @@ pub(super) fn run_asking(
     writer: &mut Hearer,
 ) -> Result<(), RunError> {
     run(alloc, reader, writer)
-}
-
-/// Runs over bytes, and counts what is written.
-pub(super) fn run_counting(
-    alloc: Global,
-    input: &[u8],
-    writer: &mut Counter,
-) -> Result<(), RunError> {
-    run(alloc, &mut Giver::new(input, usize::MAX), writer)
 }
 
 /// Runs over an input, with at most this number of bytes in a read and a write: the run ends well, and has written these answers.

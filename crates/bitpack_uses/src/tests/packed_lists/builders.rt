@@ -1,6 +1,5 @@
 //! Lists that are built value by value, and what a builder refuses. The bytes were worked by hand.
 
-use super::memory::{grow_stack, take_all};
 use crate::built_lists::{of_two_parts, one_by_one};
 use crate::tests::checks::{holds, nine, returns, same_bytes, same_number, same_values};
 use bitpack::list4::ListBuilder;
@@ -133,31 +132,4 @@ fn a_list_after_other_bytes(rt: HostRuntime) {
     returns(&rt, push(&mut builder, 10), Ok(()), &[]);
     returns(&rt, finish(&builder, &mut out), Ok(()), &[]);
     same_bytes(&rt, &out, &[9, 0x63, 5, 1, 3, 0x64, 5, 1, 3]);
-}
-
-#[test]
-fn no_memory(rt: HostRuntime) {
-    grow_stack(&rt);
-    let alloc = rt.alloc();
-    let mut full = Builder::new(alloc, BitPacker1x::new(), ListKind::Sorted);
-    let mut roomy = Builder::new(alloc, BitPacker1x::new(), ListKind::Sorted);
-    returns(&rt, roomy.make_room(3), Ok(()), &[]);
-    let mut out = Vec::new(alloc);
-    let taken = take_all(&rt, alloc);
-    let pushed = push(&mut full, 5);
-    let extended = extend(&mut full, &[5, 7]);
-    let more = full.make_room(1);
-    let fits = extend(&mut roomy, &[5, 7, 7]);
-    let out_of_order = push(&mut roomy, 6);
-    let finished = finish(&roomy, &mut out);
-    drop(taken);
-    returns(&rt, pushed, Err(ListError::Memory), &[]);
-    returns(&rt, extended, Err(ListError::Memory), &[]);
-    returns(&rt, more, Err(ListError::Memory), &[]);
-    same_number(&rt, full.len(), 0, "values");
-    returns(&rt, fits, Ok(()), &[]);
-    returns(&rt, out_of_order, Err(ListError::NotSorted(3)), &[]);
-    same_values(&rt, roomy.values(), &[5, 7, 7]);
-    returns(&rt, finished, Err(ListError::Memory), &[]);
-    same_bytes(&rt, &out, &[]);
 }

@@ -2,12 +2,10 @@
 //! a walk over the values, or by the rule that made the values.
 
 use super::list2::thirty_three;
-use super::memory::{grow_stack, take_all};
 use super::seek::{COUNTED, SEVENS, TWO_STEPS, rising};
 use crate::tests::calls::{encode2, intersect_texts};
 use crate::tests::checks::{
-    Numbers, appended_values, kept_values, one_value, push, push_steps, room_for, same_number,
-    same_values, steps, succeeds,
+    Numbers, appended_values, one_value, push, push_steps, steps, succeeds,
 };
 use bitpack::{ListError, ListKind};
 use bitpacking::{BitPacker, BitPacker1x, BitPacker4x, BitPacker8x};
@@ -265,80 +263,4 @@ fn a_million_values_and_a_hundred(rt: HostRuntime) {
     );
     lists_share(&rt, alloc, many, few, &shared);
     lists_share(&rt, alloc, few, many, &shared);
-}
-
-/// What `intersect` returns with memory for this number of values, and no more.
-fn intersect_within(
-    rt: &impl Abort,
-    alloc: Global,
-    text: &[u8],
-    other: &[u8],
-    out: &mut Vec<u32>,
-    spare: usize,
-) -> Option<Result<(), ListError>> {
-    let packer = BitPacker1x::new();
-    let kept: Vec<u32> = room_for(rt, alloc, spare);
-    let taken = take_all(rt, alloc);
-    drop(kept);
-    let outcome = intersect_texts((&packer, text), (&packer, other), out);
-    drop(taken);
-    outcome
-}
-
-/// With room for the one growth `intersect` succeeds: after one value it grows to this room.
-fn grows_once(
-    rt: &impl Abort,
-    alloc: Global,
-    text: &[u8],
-    other: &[u8],
-    shared: &[u32],
-    room: usize,
-) {
-    let mut out = one_value(rt, alloc, 9);
-    let outcome = intersect_within(rt, alloc, text, other, &mut out, room);
-    returned(rt, outcome, Some(Ok(())), text, other);
-    appended_values(rt, &out, 9, shared);
-    same_number(rt, out.capacity(), room, "room");
-}
-
-/// With no memory `intersect` returns this, and the vector holds its one item in the room that it had.
-fn is_kept(rt: &impl Abort, alloc: Global, text: &[u8], other: &[u8]) {
-    let mut out = one_value(rt, alloc, 9);
-    let room = out.capacity();
-    let outcome = intersect_within(rt, alloc, text, other, &mut out, 0);
-    returned(rt, outcome, Some(Err(ListError::Memory)), text, other);
-    kept_values(rt, &out, 9, room);
-}
-
-/// With enough room in the vector, nothing is allocated.
-fn asks_for_nothing(
-    rt: &impl Abort,
-    alloc: Global,
-    text: &[u8],
-    other: &[u8],
-    shared: &[u32],
-    room: usize,
-) {
-    let mut out: Vec<u32> = room_for(rt, alloc, room);
-    let outcome = intersect_within(rt, alloc, text, other, &mut out, 0);
-    returned(rt, outcome, Some(Ok(())), text, other);
-    same_values(rt, &out, shared);
-}
-
-#[test]
-fn intersect_grows_once(rt: HostRuntime) {
-    grow_stack(&rt);
-    let alloc = rt.alloc();
-    let packer = BitPacker1x::new();
-    let strict = ListKind::StrictlySorted;
-    let (values, others) = (rising(&rt, alloc, 1, 2_000), rising(&rt, alloc, 2, 1_500));
-    let text = packed(&rt, alloc, &packer, strict, &values);
-    let other = packed(&rt, alloc, &packer, strict, &others);
-    // 10 to 2,009 and 10 to 3,008 in steps of 2: 1,000 are in both. The call reserves room for the 1,500 of the shorter list.
-    let shared = rising(&rt, alloc, 2, 1_000);
-    grows_once(&rt, alloc, &text, &other, &shared, 1_501);
-    is_kept(&rt, alloc, &text, &other);
-    grows_once(&rt, alloc, &other, &text, &shared, 1_501);
-    is_kept(&rt, alloc, &other, &text);
-    asks_for_nothing(&rt, alloc, &text, &other, &shared, 1_500);
 }

@@ -12,7 +12,7 @@ use std::alloc::Global;
 use std::process::Abort;
 
 /// The call on these bytes returned this.
-pub(super) fn decodes(
+fn decodes(
     rt: &impl Abort,
     found: Result<ListKind, ListError>,
     expected: Result<ListKind, ListError>,
@@ -239,11 +239,7 @@ pub(super) fn push_block(
 }
 
 /// The values of three blocks, of the codes 1, 2 and 5, and of a tail of five values.
-pub(super) fn three_blocks<P: BitPacker>(
-    rt: &impl Abort,
-    alloc: Global,
-    kind: ListKind,
-) -> Vec<u32> {
+fn three_blocks<P: BitPacker>(rt: &impl Abort, alloc: Global, kind: ListKind) -> Vec<u32> {
     let mut values = Vec::new(alloc);
     let mut value = before_first(kind);
     for code in [1, 2, 5] {
@@ -275,11 +271,7 @@ fn push_repeated(rt: &impl Abort, text: &mut Vec<u8>, word: &[u8], count: usize)
 
 /// Their bytes. Each lane has one word of width 1, two of width 2 and three of width 3; the bits of the last are `101` again and
 /// again.
-pub(super) fn three_blocks_text<P: BitPacker>(
-    rt: &impl Abort,
-    alloc: Global,
-    header: [u8; 7],
-) -> Vec<u8> {
+fn three_blocks_text<P: BitPacker>(rt: &impl Abort, alloc: Global, header: [u8; 7]) -> Vec<u8> {
     let lanes = P::BLOCK_LEN / 32;
     let mut text = Vec::new(alloc);
     push_bytes(rt, &mut text, &header);

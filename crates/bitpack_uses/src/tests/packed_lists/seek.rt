@@ -2,9 +2,8 @@
 //! packed here are found by a walk over the values.
 
 use super::list2::thirty_three;
-use super::memory::{grow_stack, take_all};
 use crate::tests::calls::{encode2, open, seek};
-use crate::tests::checks::{holds, push, returns, steps, succeeds};
+use crate::tests::checks::{push, returns, steps, succeeds};
 use bitpack::ListKind;
 use bitpack::list2::PackedList;
 use bitpacking::{BitPacker, BitPacker1x, BitPacker4x, BitPacker8x};
@@ -185,18 +184,4 @@ fn a_million_values(rt: HostRuntime) {
     a_million(&rt, rt.alloc(), &BitPacker1x::new());
     a_million(&rt, rt.alloc(), &BitPacker4x::new());
     a_million(&rt, rt.alloc(), &BitPacker8x::new());
-}
-
-#[test]
-fn searches_take_no_memory(rt: HostRuntime) {
-    grow_stack(&rt);
-    let taken = take_all(&rt, rt.alloc());
-    let byte: Result<Vec<u8>, _> = Vec::with_capacity(rt.alloc(), 1);
-    let refused = byte.is_err();
-    finds(&rt, &TWO_STEPS, 33, Some((32, 34)));
-    finds(&rt, &TWO_STEPS, 97, None);
-    finds(&rt, &SEVENS, 7, Some((0, 7)));
-    finds(&rt, &thirty_three(0, 0, 31, 32), 32, Some((32, 32)));
-    drop(taken);
-    holds(&rt, refused, "no memory was left");
 }

@@ -281,10 +281,10 @@ fn of_sixteen(rt: &impl Abort, alloc: Global, lists: &[Leaves], numbers: &mut Nu
     of_eight::<Joined<AnyList<'_>, AnyList<'_>>>(rt, alloc, lists, numbers);
 }
 
-/// 5,000 trees that follow from a seed: 50 over each of 100 sets of leaves.
-fn five_thousand(rt: &impl Abort, alloc: Global, seed: u32) {
+/// 1,250 trees that follow from a seed: 50 over each of 25 sets of leaves.
+fn trees_from(rt: &impl Abort, alloc: Global, seed: u32) {
     let mut numbers = Numbers::new(seed);
-    for _ in 0..100 {
+    for _ in 0..25 {
         let mut lists = Vec::new(alloc);
         for _ in 0..LISTS {
             let leaves = random_leaves(rt, alloc, &mut numbers);
@@ -296,23 +296,84 @@ fn five_thousand(rt: &impl Abort, alloc: Global, seed: u32) {
     }
 }
 
-// Together these are 20,000 trees. One test with all of them would run longer than the minute that `rt try` allows.
+// Together these are 20,000 trees: each second to fourth part goes on from the last number of the part before it. One test with all of a
+// seed may run longer than the minute that `rt try` allows.
 #[test]
-fn trees_from_seed_6(rt: HostRuntime) {
-    five_thousand(&rt, rt.alloc(), 6);
+fn first_trees_from_seed_6(rt: HostRuntime) {
+    trees_from(&rt, rt.alloc(), 6);
 }
 
 #[test]
-fn trees_from_seed_7(rt: HostRuntime) {
-    five_thousand(&rt, rt.alloc(), 7);
+fn second_trees_from_seed_6(rt: HostRuntime) {
+    trees_from(&rt, rt.alloc(), 2_082_397_139);
 }
 
 #[test]
-fn trees_from_seed_8(rt: HostRuntime) {
-    five_thousand(&rt, rt.alloc(), 8);
+fn third_trees_from_seed_6(rt: HostRuntime) {
+    trees_from(&rt, rt.alloc(), 1_704_627_048);
 }
 
 #[test]
-fn trees_from_seed_9(rt: HostRuntime) {
-    five_thousand(&rt, rt.alloc(), 9);
+fn fourth_trees_from_seed_6(rt: HostRuntime) {
+    trees_from(&rt, rt.alloc(), 3_629_462_438);
+}
+
+#[test]
+fn first_trees_from_seed_7(rt: HostRuntime) {
+    trees_from(&rt, rt.alloc(), 7);
+}
+
+#[test]
+fn second_trees_from_seed_7(rt: HostRuntime) {
+    trees_from(&rt, rt.alloc(), 2_050_385_996);
+}
+
+#[test]
+fn third_trees_from_seed_7(rt: HostRuntime) {
+    trees_from(&rt, rt.alloc(), 2_571_731_371);
+}
+
+#[test]
+fn fourth_trees_from_seed_7(rt: HostRuntime) {
+    trees_from(&rt, rt.alloc(), 4_279_741_839);
+}
+
+#[test]
+fn first_trees_from_seed_8(rt: HostRuntime) {
+    trees_from(&rt, rt.alloc(), 8);
+}
+
+#[test]
+fn second_trees_from_seed_8(rt: HostRuntime) {
+    trees_from(&rt, rt.alloc(), 2_675_317_320);
+}
+
+#[test]
+fn third_trees_from_seed_8(rt: HostRuntime) {
+    trees_from(&rt, rt.alloc(), 2_963_597_560);
+}
+
+#[test]
+fn fourth_trees_from_seed_8(rt: HostRuntime) {
+    trees_from(&rt, rt.alloc(), 488_513_185);
+}
+
+#[test]
+fn first_trees_from_seed_9(rt: HostRuntime) {
+    trees_from(&rt, rt.alloc(), 9);
+}
+
+#[test]
+fn second_trees_from_seed_9(rt: HostRuntime) {
+    trees_from(&rt, rt.alloc(), 2_882_970_411);
+}
+
+#[test]
+fn third_trees_from_seed_9(rt: HostRuntime) {
+    trees_from(&rt, rt.alloc(), 1_476_392_378);
+}
+
+#[test]
+fn fourth_trees_from_seed_9(rt: HostRuntime) {
+    trees_from(&rt, rt.alloc(), 601_934_890);
 }

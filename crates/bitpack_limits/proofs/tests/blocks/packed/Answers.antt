@@ -1,7 +1,7 @@
 -- A block of the test has codes that fit its width.
 use Rattle.std.proofs.Common.{◌≤◌, rules}
 use Rattle.bitpacking.specs.Codes.{codes}
-use Rattle.bitpack_main.proofs.tests.blocks.packed.Goals as goal
+use Rattle.bitpack_limits.proofs.tests.blocks.packed.Goals as goal
 
 -- the width is at least the least
 pub compress_kind-requires : goal.compress_kind-requires

@@ -2,11 +2,10 @@
 
 use super::blocks::{counted_calls, every_width};
 use super::chains::chains;
-use super::short_of_memory::{grow_stack, take_all};
+use super::memory::{grow_stack, take_all};
 use super::worked::every_packer;
 use bitpacking::{BitPacker, BitPacker1x, BitPacker4x, BitPacker8x, Counted};
 use std::process::Abort;
-use std::test::Fail;
 
 /// Each call of `bitpacking` and of `chain`.
 fn blocks_and_chains<P: Counted>(rt: &impl Abort, packer: &P) {
@@ -25,13 +24,12 @@ fn every_packer_and_kernel(rt: &impl Abort) {
 }
 
 #[test]
-fn blocks_and_chains_need_no_memory(rt: HostRuntime) -> Result<(), Fail> {
+fn blocks_and_chains_need_no_memory(rt: HostRuntime) {
     grow_stack(&rt);
-    let taken = take_all(rt.alloc())?;
+    let taken = take_all(&rt, rt.alloc());
     let byte: Result<Vec<u8>, _> = Vec::with_capacity(rt.alloc(), 1);
     let refused = byte.is_err();
     every_packer_and_kernel(&rt);
     drop(taken);
     assert!(rt; refused);
-    Ok(())
 }

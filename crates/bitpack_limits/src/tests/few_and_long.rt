@@ -1,11 +1,11 @@
 //! A query with memory for the few ids of its first list alone: the long one stays packed.
 
 use super::memory::{grow_stack, take_all};
-use crate::query::{Operator, Query, evaluate};
 use crate::tests::calls::{encode2, open};
 use crate::tests::checks::{room_for, same_values, steps, succeeds};
 use bitpack::ListKind;
 use bitpack::list2::PackedList;
+use bitpack_uses::query::{Operator, Query, evaluate};
 use bitpacking::{BitPacker, BitPacker1x};
 use std::alloc::Global;
 use std::process::Abort;

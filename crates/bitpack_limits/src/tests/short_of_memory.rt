@@ -2,9 +2,8 @@
 //!
 //! The expected text is worked by hand from the line language and the format.
 
-use super::ANSWERS;
 use super::fakes::{Giver, Taker};
-use super::oracle::numbers;
+use super::memory::{grow_stack, take_all};
 use super::running::run_over;
 use super::texts::{Part, text_of};
 use bitpack::RunError;
@@ -12,38 +11,8 @@ use std::alloc::{AllocError, Global};
 use std::process::Abort;
 use std::test::Fail;
 
-/// Makes the stack as large as the calls of a test need, since it cannot grow once all memory is allocated. Each test that allocates all
-/// memory calls it first.
-#[inline(never)]
-pub(super) fn grow_stack(rt: &impl Abort) {
-    let places: [u32; 65_536] = numbers(32);
-    let mut sum: u32 = 0;
-    for place in places.iter().rev() {
-        sum = sum.wrapping_add(*place);
-    }
-    // The sum is used, so that the stack is too.
-    assert!(rt; sum != 1);
-}
-
-/// Allocates all the memory that there is, in blocks of falling size, until even a byte is refused.
-pub(super) fn take_all(alloc: Global) -> Result<Vec<Vec<u8>>, AllocError> {
-    let mut blocks = Vec::with_capacity(alloc, 100_000)?;
-    let mut size = 1usize << 46;
-    for _ in 0..200_000u32 {
-        if size == 0 {
-            break;
-        }
-        match Vec::with_capacity(alloc, size) {
-            Ok(block) => {
-                let Ok(()) = blocks.push(block) else {
-                    break;
-                };
-            }
-            Err(_) => size /= 2,
-        }
-    }
-    Ok(blocks)
-}
+/// The answers to three lines that are none of the language.
+const ANSWERS: &[u8] = b"refused 1\nrefused 1\nrefused 1\n";
 
 /// Blocks of twice the bytes each, from 8 on: what vectors take as they grow.
 fn growths(alloc: Global, count: u32) -> Result<Vec<Vec<u8>>, AllocError> {
@@ -56,6 +25,7 @@ fn growths(alloc: Global, count: u32) -> Result<Vec<Vec<u8>>, AllocError> {
 
 /// Runs with memory for a number of growths, and no more. The writer has room for a number of bytes before.
 fn run_short_of_memory(
+    rt: &impl Abort,
     alloc: Global,
     reader: &mut Giver,
     writer: &mut Taker,
@@ -64,7 +34,7 @@ fn run_short_of_memory(
 ) -> Result<Result<(), RunError>, AllocError> {
     writer.taken.try_reserve(room)?;
     let kept = growths(alloc, count)?;
-    let blocks = take_all(alloc)?;
+    let blocks = take_all(rt, alloc);
     drop(kept);
     let outcome = run_over(alloc, reader, writer);
     drop(blocks);
@@ -100,7 +70,7 @@ fn written_with(
     last: usize,
 ) -> Result<usize, AllocError> {
     let mut writer = Taker::new(alloc, step);
-    let outcome = run_short_of_memory(alloc, &mut reader, &mut writer, 600_000, count)?;
+    let outcome = run_short_of_memory(rt, alloc, &mut reader, &mut writer, 600_000, count)?;
     are_in_part(rt, outcome, writer.taken.as_slice(), answers, last);
     Ok(writer.taken.len())
 }
@@ -295,7 +265,7 @@ fn fault_is(
     let mut reader = Giver::new(lines.as_bytes(), 100_000);
     let mut writer = Taker::new(alloc, 3);
     writer.fails_at = call;
-    let outcome = run_short_of_memory(alloc, &mut reader, &mut writer, 100, 8)?;
+    let outcome = run_short_of_memory(rt, alloc, &mut reader, &mut writer, 100, 8)?;
     assert!(rt; outcome == Err(fault), "write {call}");
     assert!(rt; writer.taken.len() == written, "write {call}");
     assert!(rt; ANSWERS.starts_with(writer.taken.as_slice()));
