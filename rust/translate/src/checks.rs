@@ -5,17 +5,42 @@ use crate::tokens::{Kind, Token, after_space, close, code_from, last_code, phras
 
 /// Words that have no rule, wherever they are.
 const UNKNOWN: [&str; 14] = [
-    "async", "await", "decreases", "dyn", "final", "ghost", "invariant", "law", "macro", "macro_rules", "syntax", "union", "unsafe", "yield",
+    "async",
+    "await",
+    "decreases",
+    "dyn",
+    "final",
+    "ghost",
+    "invariant",
+    "law",
+    "macro",
+    "macro_rules",
+    "syntax",
+    "union",
+    "unsafe",
+    "yield",
 ];
 /// Methods of vectors and slices that take memory, and so have another result in Rattle. Those with a rule are not here.
 const ALLOCATING: [&str; 13] = [
-    "append", "clone", "collect", "extend_from_within", "insert", "into_boxed_slice", "reserve_exact", "resize_with", "shrink_to_fit",
-    "split_off", "splice", "to_owned", "to_vec",
+    "append",
+    "clone",
+    "collect",
+    "extend_from_within",
+    "insert",
+    "into_boxed_slice",
+    "reserve_exact",
+    "resize_with",
+    "shrink_to_fit",
+    "split_off",
+    "splice",
+    "to_owned",
+    "to_vec",
 ];
 const DERIVES: [&str; 6] = ["Clone", "Copy", "Debug", "Drop", "Eq", "PartialEq"];
 const MACROS: [&str; 2] = ["prove", "write"];
 /// Attributes that mean the same in Rust.
-const ATTRIBUTES: [&str; 6] = ["inline", "inline ( always )", "inline ( never )", "must_use", "repr ( C )", "unsafe ( no_mangle )"];
+const ATTRIBUTES: [&str; 6] =
+    ["inline", "inline ( always )", "inline ( never )", "must_use", "repr ( C )", "unsafe ( no_mangle )"];
 
 /// Refuses the first token that has no rule.
 pub fn checked(tokens: &[Token]) -> Result<(), Wrong> {
@@ -135,7 +160,9 @@ fn bodied(tokens: &[Token], at: usize) -> Result<(), Wrong> {
         match token.text {
             "{" | ";" => return Ok(()),
             "(" | "[" => next = close(tokens, next) + 1,
-            "}" | "#" | "fn" | "pub" | "struct" | "enum" | "trait" | "mod" | "use" | "static" | "type" | "let" => return Err(none()),
+            "}" | "#" | "fn" | "pub" | "struct" | "enum" | "trait" | "mod" | "use" | "static" | "type" | "let" => {
+                return Err(none());
+            }
             _ => next += 1,
         }
     }

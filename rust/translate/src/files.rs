@@ -10,20 +10,33 @@ use crate::{Wrong, in_rust};
 
 /// The folders that have nothing but what is made.
 const OWN: [&str; 2] = ["src", "examples"];
+/// Files of the folder `made`, with their texts.
+macro_rules! made {
+    ($($path:literal),* $(,)?) => {
+        &[$(($path, include_str!(concat!("../made/", $path)))),*]
+    };
+}
+
 /// What is there beside the translation.
-const MADE: [(&str, &str); 12] = [
-    ("Cargo.toml", include_str!("../made/Cargo.toml")),
-    ("src/lib.rs", include_str!("../made/lib.rs")),
-    ("src/c_slices.rs", include_str!("../made/c_slices.rs")),
-    ("src/growing.rs", include_str!("../made/growing.rs")),
-    ("src/simd.rs", include_str!("../made/simd.rs")),
-    ("examples/vectors/main.rs", include_str!("../made/vectors/main.rs")),
-    ("examples/vectors/blocks.rs", include_str!("../made/vectors/blocks.rs")),
-    ("examples/vectors/digests.rs", include_str!("../made/vectors/digests.rs")),
-    ("examples/vectors/lists.rs", include_str!("../made/vectors/lists.rs")),
-    ("examples/vectors/queries.rs", include_str!("../made/vectors/queries.rs")),
-    ("examples/vectors/report.rs", include_str!("../made/vectors/report.rs")),
-    ("examples/vectors/rows.rs", include_str!("../made/vectors/rows.rs")),
+const MADE: &[(&str, &str)] = made![
+    "Cargo.toml",
+    "examples/vectors/blocks.rs",
+    "examples/vectors/digests.rs",
+    "examples/vectors/lists.rs",
+    "examples/vectors/main.rs",
+    "examples/vectors/queries.rs",
+    "examples/vectors/report.rs",
+    "examples/vectors/rows.rs",
+    "src/c_slices.rs",
+    "src/growing.rs",
+    "src/lib.rs",
+    "src/simd.rs",
+    "src/simd/eight_avx2.rs",
+    "src/simd/eight_fours.rs",
+    "src/simd/four_arrays.rs",
+    "src/simd/four_neon.rs",
+    "src/simd/four_sse2.rs",
+    "src/simd/four_wasm.rs",
 ];
 
 /// The files of a folder, by their paths in it.
@@ -42,7 +55,8 @@ pub fn translate(crates: &Path, out: &Path, version: &str) -> Result<usize, Wron
         }
     }
     for (path, text) in MADE {
-        if made.insert(path.into(), text.replace("0.0.0", version)).is_some() {
+        let text = if *path == "Cargo.toml" { text.replace("0.0.0", version) } else { text.to_string() };
+        if made.insert(path.into(), text).is_some() {
             return Err(failed(&out.join(path), "two sources become this file"));
         }
     }

@@ -43,7 +43,9 @@ fn split(text: &str) -> (&str, &str) {
 
 /// A line without the words before its keyword.
 fn without_prefix(text: &str) -> &str {
-    let text = text.strip_prefix("pub").map_or(text, |it| it.strip_prefix('(').and_then(|it| it.split_once(')')).map_or(it, |it| it.1).trim_start());
+    let text = text
+        .strip_prefix("pub")
+        .map_or(text, |it| it.strip_prefix('(').and_then(|it| it.split_once(')')).map_or(it, |it| it.1).trim_start());
     let text = text.strip_prefix("unsafe ").unwrap_or(text);
     let text = text.strip_prefix("extern \"C\" ").unwrap_or(text);
     text.strip_prefix("const ").filter(|it| it.starts_with("fn ")).unwrap_or(text)

@@ -30,7 +30,8 @@ pub fn in_one_crate<'a>(tokens: &[Token<'a>], module: Module) -> Result<Vec<Toke
     for at in (0..tokens.len()).filter(|it| begins_path(tokens, *it)) {
         let (token, name) = (tokens[at], tokens[at].text);
         let in_use = last_code(&tokens[..at]).is_some_and(|it| it.is("use"));
-        let is_known = declared.contains(name) || matches!(name, "crate" | "self" | "super") || CRATES.iter().any(|it| it.of == name);
+        let is_known =
+            declared.contains(name) || matches!(name, "crate" | "self" | "super") || CRATES.iter().any(|it| it.of == name);
         if !is_known && (in_use || !used.contains(name) && !is_type(name)) {
             return Err(token.wrong(format!("no rule for the crate or module '{name}'")));
         }
@@ -57,7 +58,8 @@ fn begins_path(tokens: &[Token], at: usize) -> bool {
         return false;
     }
     let path = phrase(tokens, at, "$ : :").filter(|it| !tokens.get(*it).is_some_and(|it| it.is("<")));
-    path.is_some() && !last_code(&tokens[..at]).is_some_and(|it| it.is(":") && phrase(tokens, at.saturating_sub(2), ": :").is_some())
+    path.is_some()
+        && !last_code(&tokens[..at]).is_some_and(|it| it.is(":") && phrase(tokens, at.saturating_sub(2), ": :").is_some())
 }
 
 fn names_after<'a>(tokens: &[Token<'a>], keyword: &str) -> BTreeSet<&'a str> {
@@ -67,7 +69,8 @@ fn names_after<'a>(tokens: &[Token<'a>], keyword: &str) -> BTreeSet<&'a str> {
 
 /// Whether a name is a type's: `Kind`, `usize`, `u32`, `u32x8`.
 fn is_type(name: &str) -> bool {
-    let number = name.strip_prefix(['u', 'i']).is_some_and(|it| it == "size" || it.chars().all(|c| c == 'x' || c.is_ascii_digit()));
+    let number =
+        name.strip_prefix(['u', 'i']).is_some_and(|it| it == "size" || it.chars().all(|c| c == 'x' || c.is_ascii_digit()));
     number || name.starts_with(char::is_uppercase)
 }
 

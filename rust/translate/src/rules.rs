@@ -74,7 +74,8 @@ fn drops<'a>(tokens: &[Token<'a>], at: usize) -> Change<'a> {
     if let Some(end) = phrase(tokens, at, "derive ( Drop ,") {
         return Ok(Some((vec![Token::made("derive(", tokens[at].line)], after_space(tokens, end))));
     }
-    let bound = phrase(tokens, at, ": Drop {").filter(|_| tokens[..at].iter().rev().take_while(|it| !is_end(it)).any(|it| it.is("trait")));
+    let bound = phrase(tokens, at, ": Drop {")
+        .filter(|_| tokens[..at].iter().rev().take_while(|it| !is_end(it)).any(|it| it.is("trait")));
     Ok(bound.map(|end| (vec![Token::made(" ", tokens[at].line)], end - 1)))
 }
 

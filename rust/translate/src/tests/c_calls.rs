@@ -21,7 +21,9 @@ pub unsafe extern \"C\" fn one<'a>(a: *const View<'_>, a_len: usize, b: *mut u32
 
 #[test]
 fn other_functions_are_as_they_were() {
-    for source in ["pub extern \"C\" fn one(a: &View<'_>, b: [u8; 4]) -> u32 {\n    0\n}\n", "fn one(a: &[u8], b: &mut [u32]) {}\n"] {
+    for source in
+        ["pub extern \"C\" fn one(a: &View<'_>, b: [u8; 4]) -> u32 {\n    0\n}\n", "fn one(a: &[u8], b: &mut [u32]) {}\n"]
+    {
         assert_eq!(c(source), Ok(source.into()));
     }
     let source = "pub extern \"C\" fn one(a: &[u8]) {}\n";

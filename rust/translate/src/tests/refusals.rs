@@ -22,7 +22,16 @@ fn tokens() {
 
 #[test]
 fn attributes() {
-    for attribute in ["#[test]", "#[cfg(test)]", "#[allow(unused)]", "#![no_std]", "#[repr(u8)]", "#[derive(Hash)]", "#[derive(Clone)]", "#[derive(Clone, Drop)]"] {
+    for attribute in [
+        "#[test]",
+        "#[cfg(test)]",
+        "#[allow(unused)]",
+        "#![no_std]",
+        "#[repr(u8)]",
+        "#[derive(Hash)]",
+        "#[derive(Clone)]",
+        "#[derive(Clone, Drop)]",
+    ] {
         refused(&format!("\n{attribute}\nstruct A;\n"), 2, "no rule for");
     }
 }

@@ -4,9 +4,18 @@ use super::{becomes, refused, rust};
 
 #[test]
 fn names_of_std() {
-    becomes("use std::fmt;\nuse std::mem::size_of;\nuse std::simd::prelude::*;\n", "use core::fmt;\nuse core::mem::size_of;\nuse crate::simd::*;\n");
-    becomes("use std::marker::{Model, PhantomData};\nuse std::error::Error;\n", "use core::marker::PhantomData;\nuse core::error::Error;\n");
-    becomes("use std::alloc::Global;\nuse std::alloc::AllocError;\n\nfn one() {}\n", "use crate::growing::AllocError;\n\nfn one() {}\n");
+    becomes(
+        "use std::fmt;\nuse std::mem::size_of;\nuse std::simd::prelude::*;\n",
+        "use core::fmt;\nuse core::mem::size_of;\nuse crate::simd::*;\n",
+    );
+    becomes(
+        "use std::marker::{Model, PhantomData};\nuse std::error::Error;\n",
+        "use core::marker::PhantomData;\nuse core::error::Error;\n",
+    );
+    becomes(
+        "use std::alloc::Global;\nuse std::alloc::AllocError;\n\nfn one() {}\n",
+        "use crate::growing::AllocError;\n\nfn one() {}\n",
+    );
     refused("use std::rc::Rc;\n", 1, "'std' here");
     refused("use std::alloc::{AllocError, Global};\n", 1, "'std' here");
     refused("fn one() -> std::fmt::Result {}\n", 1, "'std' here");
@@ -14,7 +23,10 @@ fn names_of_std() {
 
 #[test]
 fn what_may_be_let_go() {
-    becomes("/// A.\n#[derive(Drop)]\nstruct A;\n\n#[derive(Drop, Debug)]\nstruct B;\n", "/// A.\nstruct A;\n\n#[derive(Debug)]\nstruct B;\n");
+    becomes(
+        "/// A.\n#[derive(Drop)]\nstruct A;\n\n#[derive(Drop, Debug)]\nstruct B;\n",
+        "/// A.\nstruct A;\n\n#[derive(Debug)]\nstruct B;\n",
+    );
     becomes("pub trait A<R: B>: Drop {\n    fn one();\n}\n", "pub trait A<R: B> {\n    fn one();\n}\n");
     refused("fn one<T: Drop>(t: T) {}\n", 1, "'Drop' here");
     refused("impl Drop for A {\n    fn drop(&mut self) {}\n}\n", 1, "'Drop' here");
@@ -24,7 +36,9 @@ fn what_may_be_let_go() {
 #[test]
 fn shown_text() {
     let source = "impl fmt::Display for A {\n    fn fmt<W: fmt::Write>(&self, f: &mut fmt::Formatter<W>) -> fmt::Result {\n        write!(f, \"{}\", 1)\n    }\n}\n\nuse std::fmt;\n";
-    assert!(rust(source).contains("    fn fmt(&self, f: &mut fmt::Formatter<'_>) -> fmt::Result {\n        write!(f, \"{}\", 1)\n"));
+    assert!(
+        rust(source).contains("    fn fmt(&self, f: &mut fmt::Formatter<'_>) -> fmt::Result {\n        write!(f, \"{}\", 1)\n")
+    );
 }
 
 #[test]
@@ -35,8 +49,13 @@ fn constants_that_are_proved() {
 
 #[test]
 fn a_clone_cannot_fail() {
-    let clone = |body: &str| format!("impl Clone for A {{\n    fn clone(&self) -> Result<Self, AllocError> {{\n        {body}\n    }}\n}}\n");
-    becomes(&clone("Ok(A { a: (self.a) })"), "impl Clone for A {\n    fn clone(&self) -> Self {\n        A { a: (self.a) }\n    }\n}\n");
+    let clone = |body: &str| {
+        format!("impl Clone for A {{\n    fn clone(&self) -> Result<Self, AllocError> {{\n        {body}\n    }}\n}}\n")
+    };
+    becomes(
+        &clone("Ok(A { a: (self.a) })"),
+        "impl Clone for A {\n    fn clone(&self) -> Self {\n        A { a: (self.a) }\n    }\n}\n",
+    );
     refused(&clone("Ok(A { a: self.a.one()? })"), 2, "a clone of another form");
     refused(&clone("let a = self.a;\n        Ok(A { a })"), 2, "a clone of another form");
     refused(&clone("Ok(A { a }).two()"), 2, "a clone of another form");
@@ -47,7 +66,10 @@ fn a_clone_cannot_fail() {
 fn vectors_that_grow() {
     let head = "use alloc::vec::Vec;\nuse crate::growing::Growing;\n\n";
     let source = "fn one(out: &mut Vec<u8>) {\n    out.push(1)?;\n    self.values\n        .resize(1, 2)?;\n    out.extend_from_slice(&[1]).unwrap();\n}\n";
-    becomes(source, &format!("{head}{}", source.replace("push", "try_push").replace("resize", "try_resize").replace("extend", "try_extend")));
+    becomes(
+        source,
+        &format!("{head}{}", source.replace("push", "try_push").replace("resize", "try_resize").replace("extend", "try_extend")),
+    );
     becomes("fn one() {\n    a.reserve(1).is_err();\n}\n", "fn one() {\n    a.try_reserve(1).is_err();\n}\n");
     becomes("fn one() {\n    a.push_reserved(1);\n}\n\nfn push() {}\n", "fn one() {\n    a.push(1);\n}\n\nfn push() {}\n");
     let made = "use alloc::vec::Vec;\n\nfn one(\n    a: u8,\n) {\n    let b = Vec::new();\n}\n";
@@ -59,7 +81,10 @@ fn vectors_that_grow() {
 
 #[test]
 fn a_part_of_a_vector() {
-    becomes("fn one() {\n    let b = out.slice_mut(from..);\n    two(1, out.slice_mut(a[0]..));\n}\n", "fn one() {\n    let b = &mut out[from..];\n    two(1, &mut out[a[0]..]);\n}\n");
+    becomes(
+        "fn one() {\n    let b = out.slice_mut(from..);\n    two(1, out.slice_mut(a[0]..));\n}\n",
+        "fn one() {\n    let b = &mut out[from..];\n    two(1, &mut out[a[0]..]);\n}\n",
+    );
     refused("fn one() {\n    out.slice_mut(from..).fill(0);\n}\n", 2, "'slice_mut' inside");
     refused("fn one() {\n    two(self.out.slice_mut(from..));\n}\n", 2, "'slice_mut' inside");
 }
@@ -67,7 +92,10 @@ fn a_part_of_a_vector() {
 #[test]
 fn vectors_of_lanes() {
     becomes("fn one() {\n    self << u32x4::splat(shift) >> u32x8::splat(by)\n}\n", "fn one() {\n    self << shift >> by\n}\n");
-    becomes("fn one() {\n    a.shuffle::<4>(b, [3, 4, 5, 6]) + c.swizzle::<2>([1, 0])\n}\n", "fn one() {\n    a.shuffle_3_4_5_6(b) + c.swizzle_1_0()\n}\n");
+    becomes(
+        "fn one() {\n    a.shuffle::<4>(b, [3, 4, 5, 6]) + c.swizzle::<2>([1, 0])\n}\n",
+        "fn one() {\n    a.shuffle_3_4_5_6(b) + c.swizzle_1_0()\n}\n",
+    );
     refused("fn one() {\n    self << u32x4::splat(a + 1)\n}\n", 2, "a shift by more than a name");
     refused("fn one() {\n    a.shuffle::<4>(b, LANES)\n}\n", 2, "this form of a shuffle");
     refused("fn one() {\n    a.shuffle::<4>(b.c(), [0, 1])\n}\n", 2, "this form of a shuffle");
@@ -80,8 +108,14 @@ fn paths() {
     let made = "use crate::bitpacking::{BitPacker, Kind};\nuse crate::lists::a::b;\n\npub(in crate::lists) fn one() {\n    b::two(crate::bitpacking::laws::three);\n}\n";
     becomes(source, made);
     becomes("mod a;\n\npub use a::{b, c};\nuse super::d;\n", "mod a;\n\npub use a::{b, c};\nuse super::d;\n");
-    becomes("fn one() {\n    A::two::<8>(u32::MAX, u32x8::of());\n}\n", "fn one() {\n    A::two::<8>(u32::MAX, u32x8::of());\n}\n");
-    becomes("/// `bitpacking::Kind` of crate::a\nfn one() {\n    \"crate::a\"\n}\n", "/// `bitpacking::Kind` of crate::a\nfn one() {\n    \"crate::a\"\n}\n");
+    becomes(
+        "fn one() {\n    A::two::<8>(u32::MAX, u32x8::of());\n}\n",
+        "fn one() {\n    A::two::<8>(u32::MAX, u32x8::of());\n}\n",
+    );
+    becomes(
+        "/// `bitpacking::Kind` of crate::a\nfn one() {\n    \"crate::a\"\n}\n",
+        "/// `bitpacking::Kind` of crate::a\nfn one() {\n    \"crate::a\"\n}\n",
+    );
     refused("use hex::digits;\n", 1, "the crate or module 'hex'");
     refused("mod a;\n\nfn one() {\n    hex::digits();\n}\n", 4, "the crate or module 'hex'");
     refused("pub(in crate) fn one() {}\n", 1, "'in' before 'fn'");

@@ -10,7 +10,8 @@ use crate::rows::{Row, with_packer};
 
 pub fn long(row: &Row, report: &mut Report) {
     let values = values(row.list_kind(), row.number("count"), row.number("bits"));
-    let bytes = with_packer!(row.number("lanes"), packer, written(&packer, row, &values)).unwrap_or_else(|fault| panic!("{fault:?}"));
+    let bytes =
+        with_packer!(row.number("lanes"), packer, written(&packer, row, &values)).unwrap_or_else(|fault| panic!("{fault:?}"));
     report.check(&row.name, "length", bytes.len(), row.number("length"));
     report.check(&row.name, "digest", sha256(&bytes), row.text("sha256").to_string());
     let read = with_packer!(row.number("lanes"), packer, read(packer, row, &bytes));

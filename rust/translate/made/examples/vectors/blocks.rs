@@ -46,7 +46,13 @@ fn fault<P: BitPacker>(packer: &P, call: &str, kind: Kind, width: usize, row: &R
     let is_wide = width > MAX_WIDTH as usize;
     if call == "unpack" {
         let size = P::compressed_block_size(width as u8);
-        return if is_wide { 3 } else if row.bytes("given").len() != size { 5 } else { 0 };
+        return if is_wide {
+            3
+        } else if row.bytes("given").len() != size {
+            5
+        } else {
+            0
+        };
     }
     let values = row.numbers("given");
     match () {

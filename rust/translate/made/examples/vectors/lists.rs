@@ -113,7 +113,9 @@ pub fn upgraded3(row: &Row, report: &mut Report) {
 }
 
 pub fn upgraded4(row: &Row, report: &mut Report) {
-    upgraded(row, report, |out| with_packer!(row.lanes(), packer, list4::upgrade(&packer, &row.bytes("bytes"), &mut Vec::new(), out)));
+    upgraded(row, report, |out| {
+        with_packer!(row.lanes(), packer, list4::upgrade(&packer, &row.bytes("bytes"), &mut Vec::new(), out))
+    });
 }
 
 fn upgraded(row: &Row, report: &mut Report, upgrade: impl Fn(&mut Vec<u8>) -> Result<(), ListError>) {

@@ -1,0 +1,298 @@
+//! Vectors of four and eight words, with the names of `std::simd`, by `core::arch`: SSE2, AVX2, NEON or SIMD128, as the target has.
+//! Any other target has arrays. A shift has one count for all lanes, and a shuffle the name of its lanes.
+#![allow(non_camel_case_types)]
+
+use core::ops::{Add, BitAnd, BitOr, Shl, Shr, Sub};
+
+#[cfg(all(target_arch = "x86_64", target_feature = "sse2"))]
+#[path = "simd/four_sse2.rs"]
+mod four;
+
+#[cfg(all(target_arch = "aarch64", target_feature = "neon", target_endian = "little"))]
+#[path = "simd/four_neon.rs"]
+mod four;
+
+#[cfg(all(target_arch = "wasm32", target_feature = "simd128"))]
+#[path = "simd/four_wasm.rs"]
+mod four;
+
+#[cfg(not(any(
+    all(target_arch = "x86_64", target_feature = "sse2"),
+    all(target_arch = "aarch64", target_feature = "neon", target_endian = "little"),
+    all(target_arch = "wasm32", target_feature = "simd128"),
+)))]
+#[path = "simd/four_arrays.rs"]
+mod four;
+
+#[cfg(all(target_arch = "x86_64", target_feature = "avx2"))]
+#[path = "simd/eight_avx2.rs"]
+mod eight;
+
+#[cfg(not(all(target_arch = "x86_64", target_feature = "avx2")))]
+#[path = "simd/eight_fours.rs"]
+mod eight;
+
+/// Eight bytes.
+#[derive(Clone, Copy)]
+pub(crate) struct u8x8([u8; 8]);
+
+impl u8x8 {
+    #[inline(always)]
+    pub(crate) fn from_array(bytes: [u8; 8]) -> Self {
+        u8x8(bytes)
+    }
+}
+
+/// The bytes of a vector of one word.
+#[derive(Clone, Copy)]
+pub(crate) struct u8x4([u8; 4]);
+
+impl u8x4 {
+    #[inline(always)]
+    pub(crate) fn from_slice(bytes: &[u8]) -> Self {
+        u8x4(*bytes.first_chunk().unwrap())
+    }
+
+    #[inline(always)]
+    pub(crate) fn copy_to_slice(self, bytes: &mut [u8]) {
+        *bytes.first_chunk_mut().unwrap() = self.0;
+    }
+}
+
+/// One word.
+#[derive(Clone, Copy)]
+pub(crate) struct u32x1([u32; 1]);
+
+impl u32x1 {
+    #[inline(always)]
+    pub(crate) fn from_array(words: [u32; 1]) -> Self {
+        u32x1(words)
+    }
+
+    #[inline(always)]
+    pub(crate) fn to_array(self) -> [u32; 1] {
+        self.0
+    }
+
+    #[inline(always)]
+    pub(crate) fn from_le_bytes(bytes: u8x4) -> Self {
+        u32x1([u32::from_le_bytes(bytes.0)])
+    }
+
+    #[inline(always)]
+    pub(crate) fn to_le_bytes(self) -> u8x4 {
+        u8x4(self.0[0].to_le_bytes())
+    }
+}
+
+/// The operators of a vector, by functions of a module.
+macro_rules! operators {
+    ($name:ident, $of:ident) => {
+        impl Shl<u32> for $name {
+            type Output = Self;
+
+            #[inline(always)]
+            fn shl(self, shift: u32) -> Self {
+                $name($of::shl(self.0, shift))
+            }
+        }
+
+        impl Shr<u32> for $name {
+            type Output = Self;
+
+            #[inline(always)]
+            fn shr(self, shift: u32) -> Self {
+                $name($of::shr(self.0, shift))
+            }
+        }
+
+        impl BitOr for $name {
+            type Output = Self;
+
+            #[inline(always)]
+            fn bitor(self, other: Self) -> Self {
+                $name($of::or(self.0, other.0))
+            }
+        }
+
+        impl BitAnd for $name {
+            type Output = Self;
+
+            #[inline(always)]
+            fn bitand(self, other: Self) -> Self {
+                $name($of::and(self.0, other.0))
+            }
+        }
+
+        impl Add for $name {
+            type Output = Self;
+
+            #[inline(always)]
+            fn add(self, other: Self) -> Self {
+                $name($of::add(self.0, other.0))
+            }
+        }
+
+        impl Sub for $name {
+            type Output = Self;
+
+            #[inline(always)]
+            fn sub(self, other: Self) -> Self {
+                $name($of::sub(self.0, other.0))
+            }
+        }
+    };
+}
+
+/// A vector of words and the one of its little-endian bytes, by functions of a module.
+macro_rules! vector {
+    ($name:ident, $bytes:ident, $lanes:literal, $size:literal, $of:ident) => {
+        #[derive(Clone, Copy)]
+        pub(crate) struct $bytes($of::Words);
+
+        impl $bytes {
+            #[inline(always)]
+            pub(crate) fn from_slice(bytes: &[u8]) -> Self {
+                $bytes($of::load_bytes(bytes.first_chunk().unwrap()))
+            }
+
+            #[inline(always)]
+            pub(crate) fn copy_to_slice(self, bytes: &mut [u8]) {
+                $of::store_bytes(self.0, bytes.first_chunk_mut().unwrap())
+            }
+        }
+
+        #[derive(Clone, Copy)]
+        pub(crate) struct $name($of::Words);
+
+        impl $name {
+            #[inline(always)]
+            pub(crate) fn splat(word: u32) -> Self {
+                $name($of::splat(word))
+            }
+
+            #[inline(always)]
+            pub(crate) fn from_slice(words: &[u32]) -> Self {
+                $name($of::load(words.first_chunk().unwrap()))
+            }
+
+            #[inline(always)]
+            pub(crate) fn copy_to_slice(self, words: &mut [u32]) {
+                $of::store(self.0, words.first_chunk_mut().unwrap())
+            }
+
+            #[inline(always)]
+            fn to_array(self) -> [u32; $lanes] {
+                let mut words = [0; $lanes];
+                $of::store(self.0, &mut words);
+                words
+            }
+
+            #[inline(always)]
+            pub(crate) fn from_le_bytes(bytes: $bytes) -> Self {
+                $name(bytes.0)
+            }
+
+            #[inline(always)]
+            pub(crate) fn to_le_bytes(self) -> $bytes {
+                $bytes(self.0)
+            }
+
+            #[inline(always)]
+            pub(crate) fn reduce_or(self) -> u32 {
+                let words = self.to_array();
+                let mut all = 0;
+                for lane in 0..$lanes {
+                    all |= words[lane];
+                }
+                all
+            }
+        }
+
+        operators!($name, $of);
+    };
+}
+
+vector!(u32x4, u8x16, 4, 16, four);
+vector!(u32x8, u8x32, 8, 32, eight);
+
+impl u32x8 {
+    #[inline(always)]
+    pub(crate) fn simd_eq(self, other: Self) -> Self {
+        u32x8(eight::eq(self.0, other.0))
+    }
+
+    #[inline(always)]
+    pub(crate) fn simd_ge(self, other: Self) -> Self {
+        u32x8(eight::ge(self.0, other.0))
+    }
+
+    #[inline(always)]
+    pub(crate) fn simd_le(self, other: Self) -> Self {
+        other.simd_ge(self)
+    }
+
+    /// A bit for each lane of a comparison.
+    #[inline(always)]
+    pub(crate) fn to_bitmask(self) -> u64 {
+        eight::bits(self.0) as u64
+    }
+}
+
+impl u8x8 {
+    #[inline(always)]
+    pub(crate) fn cast(self) -> u32x8 {
+        u32x8(eight::widen(self.0))
+    }
+}
+
+/// Shuffles, named by the lanes that they take: first those of `self`, then those of `other`.
+impl u32x4 {
+    #[inline(always)]
+    pub(crate) fn shuffle_3_4_5_6(self, other: Self) -> Self {
+        u32x4(four::shuffle_3_4_5_6(self.0, other.0))
+    }
+
+    #[inline(always)]
+    pub(crate) fn shuffle_0_4_5_6(self, other: Self) -> Self {
+        u32x4(four::shuffle_0_4_5_6(self.0, other.0))
+    }
+
+    #[inline(always)]
+    pub(crate) fn shuffle_0_1_4_5(self, other: Self) -> Self {
+        u32x4(four::shuffle_0_1_4_5(self.0, other.0))
+    }
+
+    #[inline(always)]
+    pub(crate) fn swizzle_3_3_3_3(self) -> Self {
+        u32x4(four::swizzle_3_3_3_3(self.0))
+    }
+}
+
+/// Shuffles, named by the lanes that they take: first those of `self`, then those of `other`.
+impl u32x8 {
+    #[inline(always)]
+    pub(crate) fn shuffle_7_8_9_10_11_12_13_14(self, other: Self) -> Self {
+        u32x8(eight::shuffle_7_8_9_10_11_12_13_14(self.0, other.0))
+    }
+
+    #[inline(always)]
+    pub(crate) fn shuffle_0_8_9_10_4_12_13_14(self, other: Self) -> Self {
+        u32x8(eight::shuffle_0_8_9_10_4_12_13_14(self.0, other.0))
+    }
+
+    #[inline(always)]
+    pub(crate) fn shuffle_0_1_8_9_4_5_12_13(self, other: Self) -> Self {
+        u32x8(eight::shuffle_0_1_8_9_4_5_12_13(self.0, other.0))
+    }
+
+    #[inline(always)]
+    pub(crate) fn shuffle_0_1_2_3_11_11_11_11(self, other: Self) -> Self {
+        u32x8(eight::shuffle_0_1_2_3_11_11_11_11(self.0, other.0))
+    }
+
+    #[inline(always)]
+    pub(crate) fn swizzle_7_7_7_7_7_7_7_7(self) -> Self {
+        u32x8(eight::swizzle_7_7_7_7_7_7_7_7(self.0))
+    }
+}

@@ -1,0 +1,103 @@
+//! Four words in a register of NEON.
+
+use core::arch::aarch64::*;
+
+pub(super) type Words = uint32x4_t;
+
+#[inline(always)]
+pub(super) fn load(words: &[u32; 4]) -> Words {
+    unsafe { vld1q_u32(words.as_ptr()) }
+}
+
+#[inline(always)]
+pub(super) fn store(a: Words, words: &mut [u32; 4]) {
+    unsafe { vst1q_u32(words.as_mut_ptr(), a) }
+}
+
+#[inline(always)]
+pub(super) fn load_bytes(bytes: &[u8; 16]) -> Words {
+    unsafe { vreinterpretq_u32_u8(vld1q_u8(bytes.as_ptr())) }
+}
+
+#[inline(always)]
+pub(super) fn store_bytes(a: Words, bytes: &mut [u8; 16]) {
+    unsafe { vst1q_u8(bytes.as_mut_ptr(), vreinterpretq_u8_u32(a)) }
+}
+
+#[inline(always)]
+pub(super) fn splat(word: u32) -> Words {
+    unsafe { vdupq_n_u32(word) }
+}
+
+#[inline(always)]
+pub(super) fn shl(a: Words, shift: u32) -> Words {
+    unsafe { vshlq_u32(a, vdupq_n_s32(shift as i32)) }
+}
+
+#[inline(always)]
+pub(super) fn shr(a: Words, shift: u32) -> Words {
+    unsafe { vshlq_u32(a, vdupq_n_s32(-(shift as i32))) }
+}
+
+#[inline(always)]
+pub(super) fn or(a: Words, b: Words) -> Words {
+    unsafe { vorrq_u32(a, b) }
+}
+
+#[inline(always)]
+pub(super) fn and(a: Words, b: Words) -> Words {
+    unsafe { vandq_u32(a, b) }
+}
+
+#[inline(always)]
+pub(super) fn add(a: Words, b: Words) -> Words {
+    unsafe { vaddq_u32(a, b) }
+}
+
+#[inline(always)]
+pub(super) fn sub(a: Words, b: Words) -> Words {
+    unsafe { vsubq_u32(a, b) }
+}
+
+#[inline(always)]
+pub(super) fn eq(a: Words, b: Words) -> Words {
+    unsafe { vceqq_u32(a, b) }
+}
+
+#[inline(always)]
+pub(super) fn ge(a: Words, b: Words) -> Words {
+    unsafe { vcgeq_u32(a, b) }
+}
+
+#[inline(always)]
+pub(super) fn bits(a: Words) -> u32 {
+    unsafe { vaddvq_u32(vandq_u32(a, vld1q_u32([1, 2, 4, 8].as_ptr()))) }
+}
+
+#[inline(always)]
+pub(super) fn widen(bytes: [u8; 8]) -> (Words, Words) {
+    unsafe {
+        let halves = vmovl_u8(vld1_u8(bytes.as_ptr()));
+        (vmovl_u16(vget_low_u16(halves)), vmovl_high_u16(halves))
+    }
+}
+
+#[inline(always)]
+pub(super) fn shuffle_3_4_5_6(a: Words, b: Words) -> Words {
+    unsafe { vextq_u32::<3>(a, b) }
+}
+
+#[inline(always)]
+pub(super) fn shuffle_0_4_5_6(a: Words, b: Words) -> Words {
+    unsafe { vsetq_lane_u32::<0>(vgetq_lane_u32::<0>(a), vextq_u32::<3>(b, b)) }
+}
+
+#[inline(always)]
+pub(super) fn shuffle_0_1_4_5(a: Words, b: Words) -> Words {
+    unsafe { vcombine_u32(vget_low_u32(a), vget_low_u32(b)) }
+}
+
+#[inline(always)]
+pub(super) fn swizzle_3_3_3_3(a: Words) -> Words {
+    unsafe { vdupq_laneq_u32::<3>(a) }
+}

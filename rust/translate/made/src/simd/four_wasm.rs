@@ -1,0 +1,102 @@
+//! Four words in a register of WebAssembly.
+
+use core::arch::wasm32::*;
+
+pub(super) type Words = v128;
+
+#[inline(always)]
+pub(super) fn load(words: &[u32; 4]) -> Words {
+    unsafe { v128_load(words.as_ptr().cast()) }
+}
+
+#[inline(always)]
+pub(super) fn store(a: Words, words: &mut [u32; 4]) {
+    unsafe { v128_store(words.as_mut_ptr().cast(), a) }
+}
+
+#[inline(always)]
+pub(super) fn load_bytes(bytes: &[u8; 16]) -> Words {
+    unsafe { v128_load(bytes.as_ptr().cast()) }
+}
+
+#[inline(always)]
+pub(super) fn store_bytes(a: Words, bytes: &mut [u8; 16]) {
+    unsafe { v128_store(bytes.as_mut_ptr().cast(), a) }
+}
+
+#[inline(always)]
+pub(super) fn splat(word: u32) -> Words {
+    u32x4_splat(word)
+}
+
+#[inline(always)]
+pub(super) fn shl(a: Words, shift: u32) -> Words {
+    u32x4_shl(a, shift)
+}
+
+#[inline(always)]
+pub(super) fn shr(a: Words, shift: u32) -> Words {
+    u32x4_shr(a, shift)
+}
+
+#[inline(always)]
+pub(super) fn or(a: Words, b: Words) -> Words {
+    v128_or(a, b)
+}
+
+#[inline(always)]
+pub(super) fn and(a: Words, b: Words) -> Words {
+    v128_and(a, b)
+}
+
+#[inline(always)]
+pub(super) fn add(a: Words, b: Words) -> Words {
+    u32x4_add(a, b)
+}
+
+#[inline(always)]
+pub(super) fn sub(a: Words, b: Words) -> Words {
+    u32x4_sub(a, b)
+}
+
+#[inline(always)]
+pub(super) fn eq(a: Words, b: Words) -> Words {
+    u32x4_eq(a, b)
+}
+
+#[inline(always)]
+pub(super) fn ge(a: Words, b: Words) -> Words {
+    u32x4_ge(a, b)
+}
+
+#[inline(always)]
+pub(super) fn bits(a: Words) -> u32 {
+    u32x4_bitmask(a) as u32
+}
+
+#[inline(always)]
+pub(super) fn widen(bytes: [u8; 8]) -> (Words, Words) {
+    let halves = unsafe { v128_load64_zero(bytes.as_ptr().cast()) };
+    let halves = u16x8_extend_low_u8x16(halves);
+    (u32x4_extend_low_u16x8(halves), u32x4_extend_high_u16x8(halves))
+}
+
+#[inline(always)]
+pub(super) fn shuffle_3_4_5_6(a: Words, b: Words) -> Words {
+    u32x4_shuffle::<3, 4, 5, 6>(a, b)
+}
+
+#[inline(always)]
+pub(super) fn shuffle_0_4_5_6(a: Words, b: Words) -> Words {
+    u32x4_shuffle::<0, 4, 5, 6>(a, b)
+}
+
+#[inline(always)]
+pub(super) fn shuffle_0_1_4_5(a: Words, b: Words) -> Words {
+    u32x4_shuffle::<0, 1, 4, 5>(a, b)
+}
+
+#[inline(always)]
+pub(super) fn swizzle_3_3_3_3(a: Words) -> Words {
+    u32x4_shuffle::<3, 3, 3, 3>(a, a)
+}
