@@ -1,6 +1,7 @@
 #!/usr/bin/env python3
 """Tests that what decides can fail, with made-up results: `report`, by which a script ends; `judged` of scripts/check; `why_not` of
-scripts/mutate/unproved.py, over what a check printed; and `not_refused`, by which scripts that read the sources try wrong changes.
+scripts/mutate/unproved.py, over what a check printed; `not_refused`, by which scripts that read the sources try wrong changes; and
+`chosen` of scripts/mutate/record.py, over a copy in which a source and an edit change: all edits of the crates above it are tried then.
 
 The last line is 'N passed, M failed'.
 """
@@ -8,10 +9,14 @@ import contextlib
 import importlib.machinery
 import importlib.util
 import io
+import shutil
 import sys
+import tempfile
 
 sys.path.insert(1, f"{sys.path[0]}/..")
 import common
+import changes
+import record
 import texts
 import unproved
 from changes import Edit
@@ -104,8 +109,43 @@ def faults():
     yield "a change that does not fit", texts.not_refused(twice, [lambda: []]), "its lines are in LICENSE 0 times, and not once"
 
 
+def tried(sums, known, by="a hash"):
+    """By crate, how many of a hundred edits are tried."""
+    edits = {crate: [Edit(f"{crate}/it/{number}") for number in range(100)] for crate in sums}
+    return {crate: len(some) for crate, some in record.chosen(edits, sums, known, by).items()}
+
+
+def sums_after(path, more):
+    """The sums of a copy of two crates and their edits, one above the other, as they are and with more at the end of a file."""
+    below = CRATE, "bitpacking"
+    with tempfile.TemporaryDirectory(prefix="sums-") as top:
+        for folder in [*(f"crates/{it}" for it in below), *(f"{changes.FOLDER}/{it}" for it in below)]:
+            shutil.copytree(f"{common.ROOT}/{folder}", f"{top}/{folder}", ignore=shutil.ignore_patterns("out"))
+        before = {crate: record.sum_of(crate, top) for crate in below}
+        with open(f"{top}/{path}", "a", encoding="utf-8") as file:
+            file.write(more)
+        return before, {crate: record.sum_of(crate, top) for crate in below}
+
+
+def records():
+    """Each choice of edits as a name, how many of each crate are tried, and how many have to be."""
+    sums, some, every = {"one": "1", "two": "2"}, {"one": 10, "two": 10}, {"one": 100, "two": 100}
+    yield "edits of crates that did not change", tried(sums, sums), some
+    yield "edits of a crate that changed", tried(sums, sums | {"two": "3"}), {"one": 10, "two": 100}
+    yield "edits without a record", tried(sums, {}), every
+    yield "edits without a commit", tried(sums, sums, ""), every
+    edits = [Edit(f"one/it/{number}") for number in range(100)]
+    one, two = ({it.path for it in record.some_of(edits, by)} for by in ("a hash", "another"))
+    yield "edits by another commit", one != two, True
+    edit = texts.paths(f"{changes.FOLDER}/{CRATE}/*/*.edit")[0]
+    for path, wanted in [(f"crates/{CRATE}/src/word.rt", {CRATE: 100, "bitpacking": 100}), (edit, {CRATE: 100, "bitpacking": 10})]:
+        before, after = sums_after(path, "// More.\n")
+        yield f"edits after a change of {path}", tried(after, before), wanted
+    yield "edits after no change", tried(*sums_after(f"crates/{CRATE}/src/word.rt", "")), {CRATE: 10, "bitpacking": 10}
+
+
 def checks():
-    for part in [reports, parts, edits, faults]:
+    for part in [reports, parts, edits, faults, records]:
         for name, found, right in part():
             yield name, None if found == right else f"it is {found}, and not {right}"
 

@@ -1,0 +1,54 @@
+#!/usr/bin/env python3
+"""Tests that scripts/quick fails: with another body of a function, with another vector, and with a source that has no translation. Each is made
+in place, and taken back. The last line is 'N passed, M failed'.
+"""
+import sys
+
+sys.path.insert(1, f"{sys.path[0]}/..")
+from common import ROOT, left_out_without, report, run, source
+import fast
+
+# By name: a file, lines in it and others in their place, the parts of quick that run, and what it has to say.
+WRONG = {
+    "another body": (
+        "crates/bitpack_lists/src/numbers.rt",
+        "        bytes[index + 3],",
+        "        bytes[index + 2],",
+        ["vectors", "c"],
+        ["FAILED: the vectors over Rust: ", "FAILED: scripts/test/tables.c: "],
+    ),
+    "another vector": ("vectors/lists2.tsv", "plain\t1\t3,1\t", "plain\t1\t3,2\t", ["vectors"], ["FAILED: the vectors over Rust: "]),
+    "a source that has no translation": (
+        "crates/bitpack_lists/src/numbers.rt",
+        "pub(crate) fn read_one(",
+        "ghost law\npub(crate) fn read_one(",
+        ["vectors"],
+        ["FAILED: the archive: ", "bitpack_lists/src/numbers.rt:"],
+    ),
+}
+
+
+def otherwise(path, before, after, parts, texts):
+    """What is wrong with what quick says of a file with a change, or None."""
+    text = source(path)
+    if text.count(before) != 1:
+        return f"its lines are in {path} {text.count(before)} times, and not once"
+    try:
+        with open(f"{ROOT}/{path}", "w", encoding="utf-8") as file:
+            file.write(text.replace(before, after))
+        done = run(sys.executable, f"{ROOT}/scripts/quick", *parts)
+    finally:
+        with open(f"{ROOT}/{path}", "w", encoding="utf-8") as file:
+            file.write(text)
+    missing = [it for it in texts if it not in done.stdout]
+    return None if done.returncode == 1 and not missing else f"it ended with {done.returncode}, and said {done.stdout[-2000:]}"
+
+
+def main():
+    if left_out_without("the failures of quick", *fast.TOOLS):
+        return 0
+    return report([(name, otherwise(*change)) for name, change in WRONG.items()])
+
+
+if __name__ == "__main__":
+    sys.exit(main())
