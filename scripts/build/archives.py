@@ -206,6 +206,8 @@ def fresh(stamp, numbers):
 def made(kept, whole):
     """Each archive as a name and what is wrong with it, or None. Those for C are built if they are not kept, and all others if they are not
     whole. Nothing is built after one that fails."""
+    if not whole and os.path.isfile(f"{OUT}/sources"):
+        os.remove(f"{OUT}/sources")
     why = None if kept else proved_and_built()
     if why:
         yield "the archives for C", why
@@ -257,17 +259,17 @@ def build(anew=False, thorough=False):
     kept, whole = (False, False) if anew else fresh(stamp, numbers)
     if not kept:
         print(TIME, flush=True)
-    if os.path.isfile(stamp):
-        os.remove(stamp)
     checks = list(made(kept, whole))
     if all(wrong is None for _, wrong in checks) and (thorough or not whole):
         checks += by_instructions()
     failed = [it for it in checks if it[1] is not None]
     for name, wrong in failed:
         print(f"FAILED: {name}: {wrong}")
-    if not failed:
-        with open(stamp, "w", encoding="ascii") as file:
-            file.write("\n".join(numbers))
+    # Several may look at archives that are whole at once, and none of them touches the note.
+    if not failed and not whole:
+        choosing.written(stamp, "\n".join(numbers))
+    elif failed and os.path.isfile(stamp):
+        os.remove(stamp)
     return len(checks) - len(failed), len(failed)
 
 
