@@ -8,7 +8,7 @@ use std::process::Abort;
 /// allocates all memory calls it first.
 #[inline(never)]
 pub(super) fn grow_stack(rt: &impl Abort) {
-    let mut places = [0u32; 786_432];
+    let mut places = [0u32; 262_144];
     let mut value = 1u32;
     for place in places.iter_mut() {
         value = value.wrapping_mul(1_664_525).wrapping_add(1_013_904_223);
