@@ -9,7 +9,7 @@ use crate::paths::{CRATES, Module};
 use crate::{Wrong, in_rust};
 
 /// The folders that have nothing but what is made.
-const OWN: [&str; 2] = ["src", "examples"];
+const OWN: [&str; 3] = ["archive", "examples", "src"];
 /// Files of the folder `made`, with their texts.
 macro_rules! made {
     ($($path:literal),* $(,)?) => {
@@ -20,6 +20,8 @@ macro_rules! made {
 /// What is there beside the translation.
 const MADE: &[(&str, &str)] = made![
     "Cargo.toml",
+    "archive/Cargo.toml",
+    "archive/lib.rs",
     "examples/vectors/blocks.rs",
     "examples/vectors/digests.rs",
     "examples/vectors/lists.rs",
@@ -55,7 +57,7 @@ pub fn translate(crates: &Path, out: &Path, version: &str) -> Result<usize, Wron
         }
     }
     for (path, text) in MADE {
-        let text = if *path == "Cargo.toml" { text.replace("0.0.0", version) } else { text.to_string() };
+        let text = if path.ends_with("Cargo.toml") { text.replace("0.0.0", version) } else { text.to_string() };
         if made.insert(path.into(), text).is_some() {
             return Err(failed(&out.join(path), "two sources become this file"));
         }

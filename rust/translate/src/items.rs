@@ -21,7 +21,7 @@ pub fn compared(source: &str, made: &str) -> Result<(), Wrong> {
             return Err(Wrong::at(item.line, format!("'{} {}' is lost: the translation has {other} there", wanted.0, wanted.1)));
         }
     }
-    let more = found.next().map(|it| Wrong::at(it.line, format!("the translation has one more '{} {}'", it.keyword, it.name)));
+    let more = found.next().map(|it| Wrong::at(0, format!("the translation has one more '{} {}'", it.keyword, it.name)));
     more.map_or(Ok(()), Err)
 }
 

@@ -1,0 +1,3 @@
+//! The functions for C, as libbitpacking.a.
+
+pub use bitpacking_source::c;
