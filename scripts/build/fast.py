@@ -16,8 +16,6 @@ SOURCE = f"{OUT}/source"
 TOOLS = ["cargo", "cc", "ld", "ar", "nm", "objcopy"]
 MARK = "bitpacking_not_proved"
 VERSION = "unsigned bitpacking_version(void);\nunsigned bitpacking_version(void)\n{\n    return 0;\n}\n"
-# A change of one function compiles little again.
-PROFILE = ["--config", "profile.release.incremental=true", "--config", "profile.release.codegen-units=64"]
 
 
 class Failed(Exception):
@@ -45,8 +43,8 @@ def translated():
 
 def compiled(level):
     """Compiles the crate for a level of x86-64, with the program that runs the vectors. Returns the path of the static library."""
-    cargo("build", SOURCE, level, "--features", "c", "--lib", "--example", "vectors", *PROFILE, flags=f"-C target-cpu={level} -D warnings")
-    return f"{OUT}/{level}/release/libbitpacking_source.a"
+    cargo("build", SOURCE, level, "--workspace", "--lib", "--example", "vectors", flags=f"-C target-cpu={level} -D warnings")
+    return f"{OUT}/{level}/release/libbitpacking.a"
 
 
 def header():
