@@ -58,6 +58,18 @@ def toolchain():
     return run("rt", "version").stdout
 
 
+@functools.lru_cache(maxsize=None)
+def digest(path, _written, _size):
+    """A number that changes with a file, which is read once."""
+    with open(path, "rb") as file:
+        return hashlib.sha256(file.read()).digest()
+
+
+def digest_of(path):
+    found = os.stat(path)
+    return digest(path, found.st_mtime_ns, found.st_size)
+
+
 def sum_of(crate, top=ROOT):
     """A number that changes with the toolchain, and with each source of a crate and of those below it, in a copy of the repository."""
     found = hashlib.sha256(toolchain().encode())
@@ -66,8 +78,7 @@ def sum_of(crate, top=ROOT):
         found.update(f"{line}\n".encode())
         for path in sorted(glob.glob(f"{top}/crates/{name}/[sp]*/**", recursive=True)):
             if os.path.isfile(path):
-                with open(path, "rb") as file:
-                    found.update(f"{os.path.relpath(path, top)}\n".encode() + file.read())
+                found.update(f"{os.path.relpath(path, top)}\n".encode() + digest_of(path))
     return found.hexdigest()
 
 

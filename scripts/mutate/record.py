@@ -20,8 +20,7 @@ def sum_of(crate, top=ROOT):
     """A number that changes with each source and each edit that a try of the crate's edits reads, in a copy of the repository."""
     found = hashlib.sha256(proving.sum_of(crate, top).encode())
     for path in sorted(glob.glob(f"{top}/{changes.FOLDER}/{crate}/**/*.edit", recursive=True)):
-        with open(path, "rb") as file:
-            found.update(f"{os.path.relpath(path, top)}\n".encode() + file.read())
+        found.update(f"{os.path.relpath(path, top)}\n".encode() + proving.digest_of(path))
     return found.hexdigest()
 
 

@@ -21,7 +21,6 @@ import collections
 import concurrent.futures
 import functools
 import os
-import queue
 import re
 import shutil
 import subprocess
@@ -254,19 +253,19 @@ def checks_of(crate, edits, most):
 class Rooms:
     """Copies of the repository in which edits are tried, all of some crates and some of the others."""
 
-    def __init__(self, top, number, whole):
-        self.whole, self.free, self.faults = whole, queue.SimpleQueue(), {}
+    def __init__(self, top, whole):
+        self.top, self.whole, self.free, self.faults = top, whole, [], {}
         # How many edits a check takes at most, by crate.
         self.most = collections.defaultdict(lambda: MOST)
-        for at in range(number):
-            copied(f"{top}/room{at}")
-            self.free.put(f"{top}/room{at}")
 
     def try_in_one(self, crate, edits):
         """Tries the edits in one check, and keeps what failed in `faults`. Returns the edits that wait."""
-        room, start = self.free.get(), time.time()
+        start = time.time()
+        room = self.free.pop() if self.free else tempfile.mkdtemp(prefix="room-", dir=self.top)
+        if not os.listdir(room):
+            copied(room)
         whys, waiting, more = tried(room, crate, edits, crate in self.whole)
-        self.free.put(room)
+        self.free.append(room)
         if more is None and len(edits) > 1:
             self.most[crate], more = max(1, len(edits) // 4), []
             print(f"{crate}: {next(iter(whys.values()))}", flush=True)
@@ -315,7 +314,7 @@ def try_edits(by_crate, whole):
                 proving.library(below, lambda *_: None)
         faults = proved(whole)
     with tempfile.TemporaryDirectory(prefix="unproved-") as top:
-        rooms = Rooms(top, COPIES, whole)
+        rooms = Rooms(top, whole)
         rooms.try_all({crate: edits for crate, edits in by_crate.items() if crate not in faults})
     return rooms.faults | faults
 
