@@ -33,9 +33,10 @@ def known():
 
 
 def add(sums):
-    """Writes the sums of these crates into the record."""
+    """Writes the sums of these crates into the record, beside those of the others."""
+    text = "".join(f"{crate} {it}\n" for crate, it in sorted({**known(), **sums}.items()))
     with open(RECORD, "w", encoding="ascii") as file:
-        file.writelines(f"{crate} {it}\n" for crate, it in sorted({**known(), **sums}.items()))
+        file.write(text)
 
 
 def commit():

@@ -12,6 +12,7 @@ import io
 import shutil
 import sys
 import tempfile
+from unittest import mock
 
 sys.path.insert(1, f"{sys.path[0]}/..")
 import common
@@ -141,6 +142,10 @@ def records():
     for path, wanted in [(f"crates/{CRATE}/src/word.rt", {CRATE: 100, "bitpacking": 100}), (edit, {CRATE: 100, "bitpacking": 10})]:
         before, after = sums_after(path, "// More.\n")
         yield f"edits after a change of {path}", tried(after, before), wanted
+    with tempfile.TemporaryDirectory(prefix="record-") as top, mock.patch.object(record, "RECORD", f"{top}/tried.txt"):
+        record.add({"one": "1", "two": "2"})
+        record.add({"two": "3"})
+        yield "a record of one crate more", record.known(), {"one": "1", "two": "3"}
     yield "edits after no change", tried(*sums_after(f"crates/{CRATE}/src/word.rt", "")), {CRATE: 10, "bitpacking": 10}
 
 
