@@ -9,7 +9,7 @@ use lib.Count.{count_leading_zeros}
 use Rattle.bitpacking.specs.Bits.{AreBytes}
 use Rattle.bitpacking.specs.Width.{Fits, Least}
 use Rattle.bitpacking.specs.Layout.{codes_of, size, Layout}
-use Rattle.bitpacking.proofs.ForCallers.{AreBytes-take, one_layout_bytes, one_layout_codes}
+use Rattle.bitpacking.proofs.ForCallers.{AreBytes-take, one_layout_bytes, one_layout_codes, same_least_width}
 use Rattle.bitpack_groups.specs.declared.group_error.GroupError.TheVariants.{Short, BadWidth, LooseWidth, Padding}
 use Rattle.bitpack_groups.specs.Groups.{group_size, padded, IsGroup, body_of, all_codes, are_loose, are_zeros, group_end, group_fault}
 use Rattle.bitpack_groups.proofs.FaultLemmas.{passed}
@@ -179,3 +179,12 @@ written-room codes width few least =
 
 pub padded-is : (codes : List ℕ) → length codes ≤ 32 → codes ++ drop (length codes) (replicate {A = ℕ} 32 0) ≡ padded codes
 padded-is codes few = ap (λ zs. codes ++ zs) (drop-replicate (length codes) 32 0)
+
+-- How long a group is, by the least width of its codes.
+pub length-group : (codes part : List ℕ) (width : ℕ) → length codes ≤ 32 → Least codes width → IsGroup codes part → length part ≡ 1 + group_size (length codes) width
+length-group codes part width few least group =
+    let same : group.width ≡ width = same_least_width codes width group.width least group.least in
+    let le : group_size (length codes) group.width ≤ 4 * group.width = group_size-le (length codes) group.width few in
+    let long : length group.body ≡ 4 * group.width = group.layout.byte_count ∙ omega arith in
+    ap length group.parts ∙ ap suc (length-take-le (group_size (length codes) group.width) group.body (omega arith))
+    ∙ ap (λ w. suc (group_size (length codes) w)) same ∙ omega arith

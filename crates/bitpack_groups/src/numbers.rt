@@ -93,3 +93,17 @@ pub fn write_number(value: u32, bytes: &mut [u8]) -> usize
     bytes[len] = left as u8;
     len + 1
 }
+
+/// How many bytes the number has.
+pub fn number_len(value: u32) -> usize
+    ensures len { result ≡ length (number value) }
+    ensures few { result ≤ LONGEST_NUMBER }
+{
+    let mut left = value;
+    let mut len = 1;
+    while left >= 128 {
+        left /= 128;
+        len += 1;
+    }
+    len
+}

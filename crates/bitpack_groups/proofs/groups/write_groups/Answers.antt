@@ -98,8 +98,10 @@ returns c =
     sym (append-nil (take end bytes)) ∙ ap (λ zs. take end bytes ++ zs) (sym none) ∙ items in
     let size : (groups : List ℕ) → AreGroups (groups_of (length codes)) codes groups → end ≡ length groups = λ groups are.
     sym (length-take-le end bytes c.loop-index.invariant.within) ∙ ap length (done groups are) in
+    let (all, small, are) = groups_exist (groups_of (length codes)) codes (omega arith) (omega arith) (AreWords-from_slice codes c.type_inv.codes) in
     record {
-      groups = λ groups are. ap (λ n. take n bytes) (sym (size groups are)) ∙ done groups are;
+      run = rw (done all are) are;
+      groups = λ groups are'. ap (λ n. take n bytes) (sym (size groups are')) ∙ done groups are';
       len = size;
       within = c.loop-index.invariant.within;
     }
