@@ -10,3 +10,4 @@ pub mod Sound
 pub mod Varints
 pub mod WorkedFaults
 pub mod WorkedSets
+pub mod Written

@@ -1,0 +1,6 @@
+//! From ids to bytes: the text of a set is measured, and then written.
+
+mod integers;
+mod measuring;
+mod order;
+mod runs;
