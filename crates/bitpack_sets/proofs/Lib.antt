@@ -2,6 +2,7 @@
 mod ArrayLaws
 mod BlocksLaws
 mod BodyFaults
+mod BodyFilled
 mod BodyLaws
 mod ByteLaws
 mod ChunkLaws
@@ -20,6 +21,7 @@ mod LongLaws
 mod MeasureLaws
 mod OnesLaws
 mod PartLaws
+mod PartsFilled
 mod RaisedLaws
 mod ReadLaws
 mod RefusalLaws

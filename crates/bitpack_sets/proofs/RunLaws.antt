@@ -54,6 +54,10 @@ first_part : (base x : ℕ) (xs : List ℕ) → (ls : List ℕ) × (qs : List (�
 unfolding parts
 first_part base x xs = first_put base x (parts base xs)
 
+pub parts_some : (base : ℕ) (xs : List ℕ) → 0 < length xs → 0 < length (parts base xs)
+parts_some base [] some = absurd (omega arith)
+parts_some base (x ∷ xs) some = let (ls, qs, e) = first_part base x xs in let f = ap length e in omega arith
+
 ends_run : (base x y : ℕ) (ys : List ℕ) → y / base ≢ x / base → parts base (x ∷ y ∷ ys) ≡ (x / base, x % base ∷ []) ∷ parts base (y ∷ ys)
 unfolding parts
 ends_run base x y ys apart =

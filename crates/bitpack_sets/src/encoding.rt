@@ -1,5 +1,6 @@
 //! From ids to bytes: the text of a set is measured, and then written.
 
+mod bodies;
 mod integers;
 mod measuring;
 mod order;
