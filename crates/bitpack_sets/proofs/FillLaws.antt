@@ -42,6 +42,17 @@ fill_part out new at size part rest all fill long is =
       parts = ap (λ (l : List ℕ). l ++ rest) (front ∙ ap (λ (l : List ℕ). take at out ++ l) is) ∙ append_assoc (take at out) part rest ∙ fill.parts;
     }
 
+-- a part is written after what there is
+pub fill_more : (out new : List ℕ) (at end : ℕ) (part rest all : List ℕ) → IsFilled out at (part ++ rest) all → length new ≡ length out
+    → take end new ≡ take at out ++ part → end ≡ at + length part → IsFilled new end rest all
+fill_more out new at end part rest all fill long is e =
+    let room = fill_room out at part rest all fill in
+    record {
+      size = long ∙ fill.size;
+      within = omega arith;
+      parts = ap (λ (l : List ℕ). l ++ rest) is ∙ append_assoc (take at out) part rest ∙ fill.parts;
+    }
+
 pub fill_one : (out : List ℕ) (at x : ℕ) (rest all : List ℕ) → IsFilled out at (x ∷ rest) all → IsFilled (set out at x) (at + 1) rest all
 fill_one out at x rest all fill =
     let e = fill_left out at (x ∷ rest) all fill in

@@ -9,14 +9,17 @@ mod ChunkLaws
 mod ChunkTexts
 mod CountLaws
 mod DecodeLaws
+mod EntriesFilled
 mod EntryLaws
 mod FaultLaws
+mod FewLaws
 mod FillLaws
 mod GapLaws
 mod GroupLaws
 mod HalfLaws
 mod IntegerLaws
 mod JoinLaws
+mod LongFilled
 mod LongLaws
 mod MeasureLaws
 mod OnesLaws

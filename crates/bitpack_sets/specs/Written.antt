@@ -1,11 +1,11 @@
 -- What a writer of sets refuses, what it measures, and what it leaves.
-use Rattle.std.specs.Prelude.{◌≡◌, ◌≢◌, ℕ, ◌+◌, ◌-◌, ◌/◌, ◌%◌, ◌^◌, ◌<◌, ◌≤◌, ◌++◌, nat_lt, if◌then◌else◌, List, drop, length, map, slice_index, Option, Some, None, Result, Err, IfErr, IfOk, IsOk, MatchOption, OnErr, OnOk, vec_len, vec_capacity}
+use Rattle.std.specs.Prelude.{◌≡◌, ◌≢◌, ℕ, ◌+◌, ◌-◌, ◌*◌, ◌/◌, ◌%◌, ◌^◌, ◌<◌, ◌≤◌, ◌++◌, nat_lt, if◌then◌else◌, List, drop, length, map, slice_index, Option, Some, None, Result, Err, IfErr, IfOk, IsOk, MatchOption, OnErr, OnOk, vec_len, vec_capacity}
 use Rattle.std.specs.List.{concat, flat_map}
 use Rattle.std.specs.Option.{option_map}
 use Rattle.std.specs.declared.vec.Vec.{Vec}
 use Rattle.bitpack_sets.specs.declared.set_error.SetError.{SetError}
 use Rattle.bitpack_sets.specs.declared.set_error.SetError.TheVariants.{Memory, NotSorted, Short, TooLong}
-use Rattle.bitpack_sets.specs.Sets.{IsRising, IsSet, body, parts, slice, text}
+use Rattle.bitpack_sets.specs.Sets.{IsRising, IsSet, body, le_bytes, parts, slice, sums, text}
 use Rattle.bitpack_sets.specs.Slices.{first_fall}
 
 -- why a writer refuses ids: they are too many, or one is not above the one before
@@ -43,6 +43,21 @@ slices ps = flat_map (λ part. slice part.1) ps
 abbrev pub bodies : List ℕ → List (List ℕ)
 bodies ids = map (λ chunk. body chunk.1) (parts (2 ^ 16) ids)
 
+-- the keys of ids in chunks, the ends of their bodies, the first of which begins at `start`, and the sums of their ids, of which there are
+-- `before` before them
+abbrev pub keys_text : List ℕ → List ℕ
+keys_text ids = flat_map (le_bytes 2) (map (λ chunk. chunk.0) (parts (2 ^ 16) ids))
+
+abbrev pub ends_text : ℕ → ℕ → List ℕ → List ℕ
+ends_text size start ids = flat_map (le_bytes size) (sums start (map length (bodies ids)))
+
+abbrev pub sums_text : ℕ → ℕ → List ℕ → List ℕ
+sums_text size before ids = flat_map (le_bytes size) (sums before (map (λ chunk. length chunk.1) (parts (2 ^ 16) ids)))
+
+-- the directory and the bodies
+abbrev pub directory : ℕ → ℕ → List ℕ → List ℕ
+directory end_size sum_size ids = keys_text ids ++ (ends_text end_size 0 ids ++ (sums_text sum_size 0 ids ++ concat (bodies ids)))
+
 -- ---- what is measured, and written
 
 -- the length of the text of a set, and from 128 ids on how many chunks it has, and how many bytes are bodies
@@ -50,6 +65,8 @@ pub record IsMeasured (ids : List ℕ) (len chunks bytes : ℕ) : Type 0 where
   pub len_is : len ≡ length (text ids)
   pub chunks_is : 128 ≤ length ids → chunks ≡ length (parts (2 ^ 16) ids)
   pub bytes_is : 128 ≤ length ids → bytes ≡ length (concat (bodies ids))
+  pub few : chunks ≤ length ids
+  pub small : bytes ≤ 2 * length ids
 
 -- the length of the text of a set; or the ids are none
 pub record MeasuresSet (ids : List ℕ) (result : Result ℕ SetError) : Type 0 where

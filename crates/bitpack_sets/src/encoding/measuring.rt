@@ -13,6 +13,8 @@ pub(crate) fn measure_chunks(ids: &[u32]) -> (usize, usize)
     requires { IsSet ids.now }
     ensures chunks { result.0 ≡ length (parts 65536 ids.now) }
     ensures bodies { result.1 ≡ length (concat (bodies ids.now)) }
+    ensures few { result.0 ≤ length ids.now }
+    ensures small { result.1 ≤ 2 * length ids.now }
 {
     let mut left = ids;
     let mut chunks = 0;
