@@ -9,6 +9,7 @@ mod ChunkLaws
 mod ChunkTexts
 mod CountLaws
 mod DecodeLaws
+mod EncodeLaws
 mod EntriesFilled
 mod EntryLaws
 mod FaultLaws

@@ -1,7 +1,8 @@
 //! Which ids a writer refuses.
 
-ghost use Rattle.std.specs.Prelude.{◌≡◌, false, ℕ, ◌+◌, ◌<◌, length, slice_index};
+ghost use Rattle.std.specs.Prelude.{◌≡◌, false, ℕ, ◌+◌, ◌<◌, OnOk, length, slice_index};
 ghost use Rattle.bitpack_sets.specs.Errors.{Finds};
+ghost use Rattle.bitpack_sets.specs.Sets.{IsSet};
 ghost use Rattle.bitpack_sets.specs.Slices.{first_fall};
 ghost use Rattle.bitpack_sets.specs.Written.{refusal};
 
@@ -12,15 +13,16 @@ const LONGEST_SET: usize = 1 << 28;
 
 /// Tests that ids are a set: not too many, and each above the one before it.
 pub(crate) fn test_ids(ids: &[u32]) -> Result<(), SetError>
-    ensures { Finds result (refusal ids.now) }
+    ensures fault { Finds result (refusal ids.now) }
+    ensures set { OnOk result (IsSet ids.now) }
 {
     if ids.len() > LONGEST_SET {
         return Err(SetError::TooLong(ids.len()));
     }
-    if let Some(position) = first_unsorted(ids) {
-        return Err(SetError::NotSorted(position));
+    match first_unsorted(ids) {
+        Some(position) => Err(SetError::NotSorted(position)),
+        None => Ok(()),
     }
-    Ok(())
 }
 
 /// The first position whose id is not above the one before it. Most ids increase, so that no position is looked for.
