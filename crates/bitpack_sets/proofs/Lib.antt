@@ -29,6 +29,7 @@ mod PartsFilled
 mod RaisedLaws
 mod ReadLaws
 mod RefusalLaws
+mod RoomLaws
 mod RunLaws
 mod ShortLaws
 mod SliceLaws

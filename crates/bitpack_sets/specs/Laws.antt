@@ -1,5 +1,5 @@
 -- Laws of the texts of sets, proved of the definitions alone.
-use Rattle.std.specs.Prelude.{◌≡◌, ◌↔◌, ℕ, List, None}
+use Rattle.std.specs.Prelude.{◌≡◌, ◌↔◌, ℕ, ◌+◌, ◌*◌, ◌/◌, ◌≤◌, List, length, None}
 use Rattle.bitpacking.specs.Bits.{AreBytes}
 use Rattle.bitpack_sets.specs.Faults.{fault}
 use Rattle.bitpack_sets.specs.Reads.{ids_in}
@@ -20,3 +20,7 @@ IdsAreRead = (bytes : List ℕ) → AreBytes bytes → fault bytes ≡ None → 
 -- the text of a set is bytes without a fault, and the set is read from it
 abbrev pub TextIsRead : Type 0
 TextIsRead = (ids : List ℕ) → IsSet ids → AreBytes (text ids) × (fault (text ids) ≡ None) × (ids_in (text ids) ≡ ids)
+
+-- so many bytes are enough for any set of as many ids
+abbrev pub LongestText : Type 0
+LongestText = (ids : List ℕ) → IsSet ids → length (text ids) ≤ 9 * length ids / 2 + 10

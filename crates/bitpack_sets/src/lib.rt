@@ -2,10 +2,11 @@
 #![tactic(auto)]
 
 mod chunk;
-pub mod encoding;
+mod encoding;
 pub mod laws;
 mod set_error;
 mod slice;
 mod worked_sets;
 
+pub use encoding::{encode, encode_to, encoded_len};
 pub use set_error::SetError;
