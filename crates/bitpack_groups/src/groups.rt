@@ -32,9 +32,11 @@ pub fn test_groups<'a>(
 ) -> Result<&'a [u8], GroupError>
     requires block { block ≤ 2 ^ 28 }
     requires few { length codes.old ≤ 2 ^ 28 }
-    ensures fault { FindsFault result (groups_fault (groups_of (length codes.old)) block (length codes.old) bytes.now) }
+    ensures fault { FindsFault result
+        (groups_fault (groups_of (length codes.old)) block (length codes.old) bytes.now) }
     ensures codes { OnOk result (codes.new ≡ groups_codes (groups_of (length codes.old)) (length codes.old) bytes.now) }
-    ensures rest { IfOk result (λ rest. rest.now ≡ after_groups (groups_of (length codes.old)) (length codes.old) bytes.now) }
+    ensures rest { IfOk result (λ rest.
+        rest.now ≡ after_groups (groups_of (length codes.old)) (length codes.old) bytes.now) }
 {
     let mut rest = bytes;
     let mut group = [0; LONGEST_GROUP];
