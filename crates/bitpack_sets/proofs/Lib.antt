@@ -1,0 +1,21 @@
+-- The lemmas of this crate.
+mod ArrayLaws
+mod BlocksLaws
+mod BodyLaws
+mod CountLaws
+mod DecodeLaws
+mod FaultLaws
+mod HalfLaws
+mod JoinLaws
+mod LongLaws
+mod OnesLaws
+mod PartLaws
+mod RaisedLaws
+mod ReadLaws
+mod ShortLaws
+mod SliceLaws
+mod TestLaws
+mod ToldLaws
+mod Words
+mod WorkedProofs
+mod WriteLaws

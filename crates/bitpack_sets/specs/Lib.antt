@@ -1,0 +1,11 @@
+-- The definitions of this crate.
+pub mod Directory
+pub mod Errors
+pub mod Faults
+pub mod Laws
+pub mod Reads
+pub mod Sets
+pub mod Slices
+pub mod Varints
+pub mod WorkedFaults
+pub mod WorkedSets
