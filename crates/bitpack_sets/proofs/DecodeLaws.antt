@@ -55,7 +55,7 @@ number_split (suc k) n (b ∷ bytes) h =
     ∙ ring b (number_of (take n (drop k bytes))) (2 ^ (8 * k)) (number_of (take k bytes))
     ∙ ap (λ (m : ℕ). number_of (take n (drop k bytes)) * m + (b + 256 * number_of (take k bytes))) (sym (next_power k))
 
-number_bits : (k : ℕ) (bytes : List ℕ) → EachByte bytes → number_of (take k bytes) < 2 ^ (8 * k)
+pub number_bits : (k : ℕ) (bytes : List ℕ) → EachByte bytes → number_of (take k bytes) < 2 ^ (8 * k)
 unfolding number_of
 number_bits zero bytes h = lit< tt
 number_bits (suc k) [] h = let p = next_power k in let ih = number_bits k [] tt in omega arith

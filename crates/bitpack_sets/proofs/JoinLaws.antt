@@ -1,8 +1,8 @@
 -- Parts are got back from their numbers.
-use Rattle.std.proofs.Common.{◌≡◌, ◌≢◌, ℕ, ◌+◌, ◌*◌, ◌/◌, ◌%◌, ◌<◌, ◌≤◌, Bool, List, [], ◌∷◌, ◌++◌, map, length, refl, sym, ap, ◌∙◌, arith, cond, subst, take, drop, get_or, length-append}
+use Rattle.std.proofs.Common.{◌≡◌, ◌≢◌, ℕ, ◌+◌, ◌*◌, ◌/◌, ◌%◌, ◌<◌, ◌≤◌, Bool, List, [], ◌∷◌, ◌++◌, map, length, refl, sym, ap, ◌∙◌, arith, cond, subst, take, drop, get_or, length-append, add-mul, one-mul}
 use Rattle.std.proofs.lemmas.Bool.{ne_eqb, eq-eqb}
 use Rattle.std.proofs.lemmas.List.{length-map}
-use Rattle.std.proofs.lemmas.Nat.{div-mul-add, mod-mul-add}
+use Rattle.std.proofs.lemmas.Nat.{div-mul-add, mod-mul-add, mul-le}
 use Rattle.bitpack_sets.proofs.BlocksLaws.{blocks_are, build}
 use Rattle.bitpack_sets.proofs.OnesLaws.{rising_lower}
 use Rattle.bitpack_sets.proofs.PartLaws.{AreParts, join}
@@ -63,20 +63,21 @@ rising_append : (a b c : ℕ) (xs ys : List ℕ) → IsRising a b xs → IsRisin
 rising_append a b c [] ys r s = rising_lower b a c ys r s
 rising_append a b c (x ∷ xs) ys (f, r) s = (f, rising_append (x + 1) b c xs ys r s)
 
-rising_map : (h from : ℕ) (xs : List ℕ) → IsRising from 256 xs → IsRising (h * 256 + from) (h * 256 + 256) (map (λ low. h * 256 + low) xs)
-rising_map h from [] r = omega arith
-rising_map h from (x ∷ xs) (a, r) =
-    let e : h * 256 + (x + 1) ≡ (h * 256 + x) + 1 = omega arith in
-    (omega arith, subst (λ (n : ℕ). IsRising n (h * 256 + 256) (map (λ low. h * 256 + low) xs)) e (rising_map h (x + 1) xs r))
+rising_map : (base h from : ℕ) (xs : List ℕ) → IsRising from base xs → IsRising (h * base + from) (h * base + base) (map (λ low. h * base + low) xs)
+rising_map base h from [] r = omega arith
+rising_map base h from (x ∷ xs) (a, r) =
+    let e : h * base + (x + 1) ≡ (h * base + x) + 1 = omega arith in
+    (omega arith, subst (λ (n : ℕ). IsRising n (h * base + base) (map (λ low. h * base + low) xs)) e (rising_map base h (x + 1) xs r))
 
-pub join_rises : (low high : ℕ) (ps : List (ℕ × List ℕ)) → AreParts 256 low high ps → IsRising (low * 256) (high * 256) (join 256 ps)
-join_rises low high [] are = omega arith
-join_rises low high (p ∷ ps) (a, some, r, later) =
-    let e : (p.0 + 1) * 256 ≡ p.0 * 256 + 256 = omega arith in
-    let ih = join_rises (p.0 + 1) high ps later in
-    rising_append (low * 256) (p.0 * 256 + 256) (high * 256) (map (λ low. p.0 * 256 + low) p.1) (join 256 ps)
-    (rising_lower (p.0 * 256 + 0) (low * 256) (p.0 * 256 + 256) (map (λ low. p.0 * 256 + low) p.1) (omega arith) (rising_map p.0 0 p.1 r))
-    (subst (λ (n : ℕ). IsRising n (high * 256) (join 256 ps)) e ih)
+pub join_rises : (base low high : ℕ) (ps : List (ℕ × List ℕ)) → AreParts base low high ps → IsRising (low * base) (high * base) (join base ps)
+join_rises base low high [] are = mul-le low base high base are (omega arith)
+join_rises base low high (p ∷ ps) (a, some, r, later) =
+    let e : (p.0 + 1) * base ≡ p.0 * base + base = add-mul p.0 1 base ∙ ap (λ (n : ℕ). p.0 * base + n) (one-mul base) in
+    let up : low * base ≤ p.0 * base = mul-le low base p.0 base a (omega arith) in
+    let ih = join_rises base (p.0 + 1) high ps later in
+    rising_append (low * base) (p.0 * base + base) (high * base) (map (λ low. p.0 * base + low) p.1) (join base ps)
+    (rising_lower (p.0 * base + 0) (low * base) (p.0 * base + base) (map (λ low. p.0 * base + low) p.1) (omega arith) (rising_map base p.0 0 p.1 r))
+    (subst (λ (n : ℕ). IsRising n (high * base) (join base ps)) e ih)
 
 -- ---- what is tested as blocks is the blocks of the numbers that are read
 
@@ -111,6 +112,6 @@ blocks_read count body is =
     let ps : List (ℕ × List ℕ) = build hs counts bytes in
     let (are, text) = blocks_are count body is in
     let same : block_numbers body ≡ join 256 ps = numbers_built hs counts bytes in (
-      subst (IsRising 0 65536) (sym same) (join_rises 0 256 ps are),
+      subst (IsRising 0 65536) (sym same) (join_rises 256 0 256 ps are),
       ap blocks same ∙ ap blocks_of (parts_join 256 0 256 ps are) ∙ text,
     )

@@ -1,9 +1,12 @@
 -- The lemmas of this crate.
 mod ArrayLaws
 mod BlocksLaws
+mod BodyFaults
 mod BodyLaws
+mod ChunkLaws
 mod CountLaws
 mod DecodeLaws
+mod EntryLaws
 mod FaultLaws
 mod HalfLaws
 mod JoinLaws

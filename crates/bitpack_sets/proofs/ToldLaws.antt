@@ -79,7 +79,7 @@ pairs_below (a ∷ []) are = tt
 pairs_below (a ∷ b ∷ body) (h, (k, are)) = (omega arith, pairs_below body are)
 
 -- the fault of numbers, and of what is to be blocks
-abbrev of_numbers : ℕ → ℕ → ℕ → List ℕ → Option SetError
+abbrev pub of_numbers : ℕ → ℕ → ℕ → List ℕ → Option SetError
 of_numbers m before count bytes =
     option_or (option_map NotSorted (first_fall before (pairs_of bytes)))
     (cond (ltb (length (blocks (pairs_of bytes))) (2 * count)) (Some (LooseBody m)) None)
@@ -89,18 +89,21 @@ unfolding body_fault
 is_numbers m before count bytes size =
     ap (λ (b : Bool). cond b (of_numbers m before count bytes) (cond (are_blocks count bytes) None (Some (BadBody m)))) (eq-eqb (length bytes) (2 * count) size)
 
-body_none : (m before count : ℕ) (bytes : List ℕ) → EachByte bytes → length bytes ≡ 2 * count → body_fault m before count bytes ≡ None
-    → (xs : List ℕ) × IsRising 0 65536 xs × (length xs ≡ count) × (body xs ≡ bytes)
+pub body_none : (m before count : ℕ) (bytes : List ℕ) → EachByte bytes → length bytes ≡ 2 * count → body_fault m before count bytes ≡ None
+    → IsRising 0 65536 (pairs_of bytes) × (length (pairs_of bytes) ≡ count) × (body (pairs_of bytes) ≡ bytes)
 body_none m before count bytes are size h =
     let xs : List ℕ = pairs_of bytes in
     let here : of_numbers m before count bytes ≡ None = sym (is_numbers m before count bytes size) ∙ h in
     let (falls, loose) = or_none _ _ here in
     let (shorter, _) = if_some (ltb (length (blocks (pairs_of bytes))) (2 * count)) (LooseBody m) None loose in
     let (many, back) = pairs_back bytes count are size in
-    let more = not_below (length (blocks xs)) (2 * count) shorter in
-    (xs, rises_from before 65536 xs (pairs_below bytes are) (map_none NotSorted (first_fall before (pairs_of bytes)) falls), many, body_numbers xs (omega arith) ∙ back)
+    let more = not_below (length (blocks xs)) (2 * count) shorter in (
+      rises_from before 65536 xs (pairs_below bytes are) (map_none NotSorted (first_fall before (pairs_of bytes)) falls),
+      many,
+      body_numbers xs (omega arith) ∙ back,
+    )
 
-none_body : (m before count : ℕ) (bytes xs : List ℕ) → length bytes ≡ 2 * count → IsRising 0 65536 xs → length xs ≡ count → body xs ≡ bytes
+pub none_body : (m before count : ℕ) (bytes xs : List ℕ) → length bytes ≡ 2 * count → IsRising 0 65536 xs → length xs ≡ count → body xs ≡ bytes
     → body_fault m before count bytes ≡ None
 none_body m before count bytes xs size rises many text =
     let more : 2 * length xs ≤ length (blocks xs) = elim (cases_lt (length (blocks xs)) (2 * length xs)) [
@@ -114,11 +117,3 @@ none_body m before count bytes xs size rises many text =
     is_numbers m before count bytes size
     ∙ none_or (option_map NotSorted (first_fall before (pairs_of bytes))) _ (none_map NotSorted (first_fall before (pairs_of bytes)) falls)
     (some_not (ltb (length (blocks (pairs_of bytes))) (2 * count)) (LooseBody m) None long refl)
-
--- a body of two bytes a number has no fault exactly if it is the body of some numbers
-pub numbers_no_fault : (m before count : ℕ) (bytes : List ℕ) → EachByte bytes → length bytes ≡ 2 * count
-    → (body_fault m before count bytes ≡ None) ↔ ((xs : List ℕ) × IsRising 0 65536 xs × (length xs ≡ count) × (body xs ≡ bytes))
-numbers_no_fault m before count bytes are size = (
-  body_none m before count bytes are size,
-  λ (xs, rises, many, text). none_body m before count bytes xs size rises many text,
-)

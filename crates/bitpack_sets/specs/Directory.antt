@@ -45,12 +45,12 @@ abbrev pub bodies_end : ℕ → List ℕ → ℕ
 bodies_end chunks rest = bodies_start chunks rest + before (end_at chunks rest) chunks
 
 -- the numbers of a body of `count`: its size tells what it is
-abbrev pub body_numbers : ℕ → List ℕ → List ℕ
-body_numbers count body = if length body == 2 * count then pairs_of body else block_numbers body
+abbrev pub body_numbers_of : ℕ → List ℕ → List ℕ
+body_numbers_of count body = if length body == 2 * count then pairs_of body else block_numbers body
 
 -- chunk m: its key and its numbers
 abbrev pub chunk_at : ℕ → List ℕ → ℕ → ℕ × List ℕ
-chunk_at chunks rest m = (key_at rest m, body_numbers (count_at chunks rest m) (body_at chunks rest m))
+chunk_at chunks rest m = (key_at rest m, body_numbers_of (count_at chunks rest m) (body_at chunks rest m))
 
 -- the ids of chunks
 abbrev pub ids_of_chunks : List (ℕ × List ℕ) → List ℕ

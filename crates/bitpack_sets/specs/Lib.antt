@@ -6,6 +6,7 @@ pub mod Laws
 pub mod Reads
 pub mod Sets
 pub mod Slices
+pub mod Sound
 pub mod Varints
 pub mod WorkedFaults
 pub mod WorkedSets
