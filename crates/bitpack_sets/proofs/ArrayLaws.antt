@@ -1,5 +1,5 @@
--- Bytes have no fault as an array exactly if they are the array of some ids.
-use Rattle.std.proofs.Common.{◌≡◌, ℕ, zero, suc, ◌+◌, ◌*◌, ◌/◌, ◌%◌, ◌^◌, ◌<◌, ◌≤◌, ◌↔◌, Bool, true, false, ltb, List, [], ◌∷◌, ◌++◌, take, drop, length, Option, Some, None, refl, sym, ap, ◌∙◌, arith, cond, inl, inr, subst, take-append-drop}
+-- Bytes have no fault as an array exactly if they are the array of the ids that are read from them.
+use Rattle.std.proofs.Common.{◌≡◌, ℕ, zero, suc, ◌+◌, ◌*◌, ◌/◌, ◌%◌, ◌^◌, ◌<◌, ◌≤◌, Bool, true, false, ltb, List, [], ◌∷◌, ◌++◌, take, drop, length, Option, Some, None, refl, sym, ap, ◌∙◌, arith, cond, inl, inr, subst, take-append-drop}
 use Rattle.std.specs.Option.{is_some, option_map, option_or}
 use Rattle.std.proofs.lemmas.Bool.{cases_lt, le-leb, lt-leb, lt-ltb, le-ltb, true≢false}
 use Rattle.std.proofs.lemmas.List.{take_all, drop_at}
@@ -111,7 +111,7 @@ ids_none ids rest are h =
     let apart : ids < 4 * length (parts (2 ^ 16) (quads_of (take (4 * ids) rest))) = is_below _ _ (if_none _ _ e) in
     (size, rises_from 0 (2 ^ 32) (quads_of rest) below falls, many, subst (λ (l : List ℕ). ids < 4 * length (parts (2 ^ 16) (quads_of l))) whole apart, back)
 
-pub array_no_fault : OneNumber → (bytes : List ℕ) → AreBytes bytes → array_fault bytes ≡ None → (ids : List ℕ) × IsArray ids bytes
+pub array_no_fault : OneNumber → (bytes : List ℕ) → AreBytes bytes → array_fault bytes ≡ None → IsArray (quads_of (drop (number_end bytes) bytes)) bytes
 unfolding array_fault
 array_no_fault one bytes are h =
     let (a, b) = or_none _ _ h in
@@ -123,7 +123,7 @@ array_no_fault one bytes are h =
     array_parts (quads_of rest) ∙ ap (λ (n : ℕ). 6 ∷ (number n ++ flat_map (le_bytes 4) (quads_of rest))) count
     ∙ ap (λ (l : List ℕ). 6 ∷ (number (number_value bytes) ++ l)) back ∙ ap (λ (l : List ℕ). 6 ∷ (l ++ rest)) (sym front)
     ∙ ap (λ (l : List ℕ). 6 ∷ l) (take-append-drop (number_end bytes) bytes) in
-    (quads_of rest, record { rising = rising; many = omega arith; few = omega arith; apart = subst (λ (n : ℕ). n < 4 * length (parts (2 ^ 16) (quads_of rest))) (sym count) apart; text = text })
+    record { rising = rising; many = omega arith; few = omega arith; apart = subst (λ (n : ℕ). n < 4 * length (parts (2 ^ 16) (quads_of rest))) (sym count) apart; text = text }
 
 none_count : (bytes : List ℕ) → number_fault bytes ≡ None → 128 ≤ number_value bytes → number_value bytes ≤ 2 ^ 28 → count_fault bytes ≡ None
 unfolding count_fault
@@ -159,7 +159,3 @@ no_fault_array back bytes ids is =
     ap (λ (n : ℕ). drop n bytes) end' ∙ ap (drop (length (number (length ids)))) text ∙ drop_at (number (length ids)) (flat_map (le_bytes 4) ids) (length (number (length ids))) refl in
     none_or _ _ (none_count bytes (ap number_fault text ∙ sound) (omega arith) (omega arith))
     (ap (λ (n : ℕ). ids_fault n (drop (number_end bytes) bytes)) value' ∙ none_ids ids (drop (number_end bytes) bytes) is.rising is.apart rest)
-
--- bytes have no fault as an array exactly if they are the array of some ids, as numbers of seven bits a byte are told apart
-pub array_law : OneNumber → NumberReadsBack → (bytes : List ℕ) → AreBytes bytes → (array_fault bytes ≡ None) ↔ ((ids : List ℕ) × IsArray ids bytes)
-array_law one back bytes are = (array_no_fault one bytes are, λ (ids, is). no_fault_array back bytes ids is)

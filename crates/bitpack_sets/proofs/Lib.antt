@@ -3,11 +3,15 @@ mod ArrayLaws
 mod BlocksLaws
 mod BodyFaults
 mod BodyLaws
+mod ByteLaws
 mod ChunkLaws
+mod ChunkTexts
 mod CountLaws
 mod DecodeLaws
 mod EntryLaws
 mod FaultLaws
+mod GapLaws
+mod GroupLaws
 mod HalfLaws
 mod JoinLaws
 mod LongLaws
@@ -18,6 +22,7 @@ mod ReadLaws
 mod ShortLaws
 mod SliceLaws
 mod TestLaws
+mod TextLaws
 mod ToldLaws
 mod Words
 mod WorkedProofs

@@ -31,7 +31,7 @@ before_next f m = ap (before f) (add-one m)
 
 -- ---- integers
 
-digit : (k : ℕ) → 2 ^ (8 * k) ≡ 256 ^ k
+pub digit : (k : ℕ) → 2 ^ (8 * k) ≡ 256 ^ k
 digit zero = refl
 digit (suc k) =
     let e : 8 * suc k ≡ 8 * k + 8 = omega arith in

@@ -1,6 +1,5 @@
 -- The first fault of bytes as the text of a set.
 use Rattle.std.specs.Prelude.{ℕ, zero, suc, ◌+◌, ◌-◌, ◌*◌, ◌^◌, Bool, ◌&&◌, ◌||◌, ◌==◌, not, nat_lt, nat_le, if◌then◌else◌, List, [], ◌∷◌, length, take, drop, slice_index, Option, Some, None}
-use Rattle.std.specs.List.{position}
 use Rattle.std.specs.Option.{option_map, option_or}
 use Rattle.bitpack_sets.specs.declared.set_error.SetError.{SetError}
 use Rattle.bitpack_sets.specs.declared.set_error.SetError.TheVariants.{Short, BadVersion, TooLong, BadOffset, NotSorted, Trailing, BadNumber, BadSizes, BadKey, BadSum, BadBody, LooseBody, LooseForm}
@@ -36,6 +35,11 @@ unfoldable pub ids_from : ℕ → List ℕ → List ℕ
 ids_from first [] = first ∷ []
 ids_from first (code ∷ codes) = first ∷ ids_from (first + code + 1) codes
 
+-- the first position whose id is 2 ^ 32 or above, if the first id has this position
+unfoldable pub first_over : ℕ → List ℕ → Option ℕ
+first_over place [] = None
+first_over place (x ∷ xs) = if nat_le (2 ^ 32) x then Some place else first_over (place + 1) xs
+
 -- the ids of what is after byte 0, one and `more`
 abbrev pub short_ids : ℕ → List ℕ → List ℕ
 short_ids more bytes = ids_from (number_value bytes) (groups_codes (groups_of more) more (drop (number_end bytes) bytes))
@@ -47,7 +51,7 @@ short_fault (suc more) bytes =
     let rest = drop (number_end bytes) bytes in
     option_or (of (number_fault bytes))
     (option_or (of (groups_fault (groups_of more) 0 more rest))
-    (option_or (option_map NotSorted (position (nat_le (2 ^ 32)) (short_ids more bytes)))
+    (option_or (option_map NotSorted (first_over 0 (short_ids more bytes)))
     (trailing_after 0 (after_groups (groups_of more) more rest))))
 
 -- ---- arrays

@@ -16,3 +16,7 @@ NoFault = (bytes : List ℕ) → AreBytes bytes → (fault bytes ≡ None) ↔ (
 -- the ids of bytes without a fault are the set whose text they are
 abbrev pub IdsAreRead : Type 0
 IdsAreRead = (bytes : List ℕ) → AreBytes bytes → fault bytes ≡ None → IsSet (ids_in bytes) × (text (ids_in bytes) ≡ bytes)
+
+-- the text of a set is bytes without a fault, and the set is read from it
+abbrev pub TextIsRead : Type 0
+TextIsRead = (ids : List ℕ) → IsSet ids → AreBytes (text ids) × (fault (text ids) ≡ None) × (ids_in (text ids) ≡ ids)

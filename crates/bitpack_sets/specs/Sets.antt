@@ -1,6 +1,6 @@
 -- Id sets: the one text of a set of ids. A set is the increasing list of its ids.
 use Rattle.std.specs.Prelude.{ℕ, zero, suc, ◌+◌, ◌-◌, ◌*◌, ◌/◌, ◌%◌, ◌^◌, ◌≤◌, ◌==◌, nat_lt, nat_le, if◌then◌else◌, List, [], ◌∷◌, ◌++◌, map, length, take, drop}
-use Rattle.std.specs.List.{concat, count_by, flat_map, list_any, range_with_len}
+use Rattle.std.specs.List.{concat, flat_map, list_all}
 use Rattle.bitpack_sets.specs.Varints.{byte_count, groups_of, number}
 
 -- increasing numbers from `low` on, below `high`
@@ -82,9 +82,13 @@ unfoldable pub gaps : ℕ → List ℕ → List ℕ
 gaps before [] = []
 gaps before (x ∷ xs) = (x - before - 1) ∷ gaps x xs
 
--- how many widths below 32 are too small for the codes
+-- the first width from one on that the codes fit, of `more` widths and the one after them
+unfoldable pub width_from : ℕ → ℕ → List ℕ → ℕ
+width_from zero width codes = width
+width_from (suc more) width codes = if list_all (λ code. nat_lt code (2 ^ width)) codes then width else width_from more (width + 1) codes
+
 abbrev pub least_width : List ℕ → ℕ
-least_width codes = count_by (λ width. list_any (nat_le (2 ^ width)) codes) (range_with_len 0 32)
+least_width codes = width_from 32 0 codes
 
 -- the number whose digits of this width are the codes
 unfoldable pub packed : ℕ → List ℕ → ℕ

@@ -2,6 +2,7 @@
 #![tactic(auto)]
 
 mod chunk;
+pub mod laws;
 mod set_error;
 mod slice;
 mod worked_sets;
