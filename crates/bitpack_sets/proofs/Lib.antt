@@ -9,12 +9,14 @@ mod ChunkTexts
 mod CountLaws
 mod DecodeLaws
 mod EntryLaws
+mod FallLaws
 mod FaultLaws
 mod GapLaws
 mod GroupLaws
 mod HalfLaws
 mod JoinLaws
 mod LongLaws
+mod NumberReads
 mod OnesLaws
 mod PartLaws
 mod RaisedLaws

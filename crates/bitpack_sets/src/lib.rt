@@ -1,10 +1,17 @@
 //! Id sets: increasing `u32` ids in fewer bytes than packed differences take.
 #![tactic(auto)]
 
+mod array;
 mod chunk;
+mod directory;
+mod few;
+mod id_set;
 pub mod laws;
+mod opening;
 mod set_error;
 mod slice;
+mod varints;
 mod worked_sets;
 
+pub use id_set::IdSet;
 pub use set_error::SetError;

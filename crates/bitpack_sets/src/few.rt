@@ -1,0 +1,83 @@
+//! Sets of fewer than 128 ids: the first id as a number, and groups of the differences of the others.
+
+ghost use Rattle.std.specs.Prelude.{◌≡◌, ℕ, ◌+◌, ◌^◌, ◌<◌, ◌≤◌, IfOk, OnOk, length, Option};
+ghost use Rattle.bitpack_sets.specs.Errors.{Finds};
+ghost use Rattle.bitpack_sets.specs.Faults.{ids_from, short_fault, some_fault};
+ghost use Rattle.bitpack_sets.specs.Varints.{after_groups, groups_codes, groups_fault, groups_of, of};
+
+use crate::set_error::SetError;
+use crate::varints::{open_group, open_number};
+use bitpack_groups::{LONGEST_GROUP, next_len};
+
+/// The most ids of such a set.
+const MOST_FEW: usize = 127;
+
+/// Tests what is after byte 0 of the text of `count` ids.
+pub(crate) fn test_few(count: usize, bytes: &[u8]) -> Result<(), SetError>
+    requires few { count ≤ MOST_FEW }
+    ensures { Finds result (short_fault count bytes.now) }
+{
+    if count == 0 {
+        return test_end(bytes);
+    }
+    test_some(count - 1, bytes)
+}
+
+/// Tests what is after byte 0 of the text of one id and `more`.
+#[tactic(auto, unfolding(crate::specs::Faults::some_fault))]
+fn test_some(more: usize, bytes: &[u8]) -> Result<(), SetError>
+    requires few { more < MOST_FEW }
+    ensures { Finds result (some_fault more bytes.now) }
+{
+    let (first, end) = open_number(bytes)?;
+    let mut codes = [0; MOST_FEW];
+    let codes = &mut codes[..more];
+    let rest = test_groups(&bytes[end..], codes)?;
+    if let Some(position) = first_over(first, codes) {
+        return Err(SetError::NotSorted(position));
+    }
+    test_end(rest)
+}
+
+/// No byte is left.
+fn test_end(rest: &[u8]) -> Result<(), SetError>
+    ensures { Finds result (Rattle.bitpack_sets.specs.Faults.trailing_after 0 rest.now) }
+{
+    if rest.len() > 0 {
+        return Err(SetError::Trailing);
+    }
+    Ok(())
+}
+
+/// Tests the groups of as many codes as the slice has, which are unpacked to it. Returns the bytes after them.
+fn test_groups<'a>(bytes: &'a [u8], codes: &mut [u32]) -> Result<&'a [u8], SetError>
+    requires few { length codes.old ≤ MOST_FEW }
+    ensures fault { Finds result (of (groups_fault (groups_of (length codes.old)) 0 (length codes.old) bytes.now)) }
+    ensures codes { OnOk result (codes.new ≡ groups_codes (groups_of (length codes.old)) (length codes.old) bytes.now) }
+    ensures rest { IfOk result (λ rest. rest.now ≡ after_groups (groups_of (length codes.old)) (length codes.old) bytes.now) }
+{
+    let mut rest = bytes;
+    let mut group = [0; LONGEST_GROUP];
+    for index in 0..(codes.len() + 31) / LONGEST_GROUP {
+        let from = LONGEST_GROUP * index;
+        let count = next_len(codes.len() - from);
+        let end = open_group(index, count, rest, &mut group)?;
+        codes[from..from + count].copy_from_slice(&group[..count]);
+        rest = &rest[end..];
+    }
+    Ok(rest)
+}
+
+/// The first position whose id is above `u32::MAX`, of an id and others that are as far above the one before as their codes say.
+fn first_over(first: u32, codes: &[u32]) -> Option<usize>
+    ensures { result ≡ Rattle.bitpack_sets.specs.Faults.first_over 0 (ids_from first codes.now) }
+{
+    let mut id = first as u64;
+    for index in 0..codes.len() {
+        id += codes[index] as u64 + 1;
+        if id > u32::MAX as u64 {
+            return Some(index + 1);
+        }
+    }
+    None
+}
