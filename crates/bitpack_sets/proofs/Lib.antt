@@ -5,6 +5,7 @@ mod BodyFaults
 mod BodyLaws
 mod ByteLaws
 mod ChunkLaws
+mod ChunkReads
 mod ChunkTexts
 mod CountLaws
 mod DecodeLaws

@@ -3,6 +3,7 @@
 
 mod array;
 mod chunk;
+mod decoding;
 mod directory;
 mod few;
 mod id_set;

@@ -1,0 +1,91 @@
+-- The chunks of a set as they are read, one after the other.
+use Rattle.std.proofs.Common.{◌≡◌, ℕ, zero, suc, ◌+◌, ◌-◌, ◌*◌, ◌/◌, ◌<◌, ◌≤◌, Bool, List, [], ◌∷◌, ◌++◌, map, take, drop, length, cond, eqb, refl, sym, ap, ◌∙◌, arith, subst, eq-eqb, append_assoc, inl, inr}
+use Rattle.std.specs.List.{range_with_len}
+use Rattle.std.proofs.lemmas.Bool.{cases_lt, ne_eqb}
+use Rattle.std.proofs.lemmas.List.{append-nil}
+use Rattle.bitpack_sets.proofs.BodyLaws.{body_blocks, body_numbers, numbers_len}
+use Rattle.bitpack_sets.proofs.EntryLaws.{body_len, ends_grow, grown_to, sums_grow}
+use Rattle.bitpack_sets.proofs.ShortLaws.{before_next}
+use Rattle.bitpack_sets.proofs.TestLaws.{blocks_are_blocks}
+use Rattle.bitpack_sets.specs.Directory.{before, bodies_end, bodies_start, body_at, body_numbers_of, chunk_at, chunk_ids, count_at, end_at, ids_of_chunks, key_at, size_at, sum_at}
+use Rattle.bitpack_sets.specs.Sets.{IsRising, blocks}
+use Rattle.bitpack_sets.specs.Slices.{IsBlocks, block_numbers, pairs_of}
+use Rattle.bitpack_sets.specs.Sound.{IsBody, IsRest}
+
+-- ---- a body
+
+-- a body of another size than two bytes a number is blocks
+pub blocks_read : (count : ℕ) (bytes : List ℕ) → 0 < count → IsBody count bytes (body_numbers_of count bytes) → (length bytes ≡ 2 * count → ⊥)
+    → IsBlocks (length (block_numbers bytes)) bytes × (length (block_numbers bytes) ≡ count) × (body_numbers_of count bytes ≡ block_numbers bytes)
+blocks_read count bytes some is ne =
+    let xs : List ℕ = body_numbers_of count bytes in
+    let read : xs ≡ block_numbers bytes = ap (λ (b : Bool). cond b (pairs_of bytes) (block_numbers bytes)) (ne_eqb (length bytes) (2 * count) ne) in
+    let size : length xs ≡ count = is.count_is in
+    let text : blocks xs ≡ bytes = elim (cases_lt (length (blocks xs)) (2 * length xs)) [
+      | inl less ↦ sym (body_blocks xs less) ∙ is.text
+      | inr more ↦ absurd (ne (sym (ap length (sym (body_numbers xs more) ∙ is.text)) ∙ numbers_len xs ∙ ap (λ (n : ℕ). 2 * n) size))
+    ] in
+    let here : IsBlocks (length xs) bytes = subst (IsBlocks (length xs)) text (blocks_are_blocks xs is.rising (omega arith)) in
+    (subst (λ (l : List ℕ). IsBlocks (length l) bytes) read here, ap length (sym read) ∙ size, read)
+
+pub numbers_read : (count : ℕ) (bytes : List ℕ) → length bytes ≡ 2 * count → body_numbers_of count bytes ≡ pairs_of bytes
+numbers_read count bytes e = ap (λ (b : Bool). cond b (pairs_of bytes) (block_numbers bytes)) (eq-eqb (length bytes) (2 * count) e)
+
+-- as it is cut from the rest
+pub body_cut : (chunks m start begin end : ℕ) (rest : List ℕ) → start ≡ bodies_start chunks rest → begin ≡ before (end_at chunks rest) m → end ≡ end_at chunks rest m
+    → take (start + end - (start + begin)) (drop (start + begin) rest) ≡ body_at chunks rest m
+body_cut chunks m start begin end rest s b e =
+    let size : start + end - (start + begin) ≡ size_at chunks rest m = omega arith in
+    let from : start + begin ≡ bodies_start chunks rest + before (end_at chunks rest) m = omega arith in
+    ap (λ (n : ℕ). take n (drop (start + begin) rest)) size ∙ ap (λ (n : ℕ). take (size_at chunks rest m) (drop n rest)) from
+
+pub body_end : (ids chunks m : ℕ) (rest : List ℕ) → IsRest ids chunks rest → m < chunks → bodies_start chunks rest + end_at chunks rest m ≤ length rest
+body_end ids chunks m rest is lt =
+    let top = grown_to (end_at chunks rest) m chunks (ends_grow ids chunks rest is.entries) lt in
+    let e = is.end in
+    omega arith
+
+pub raised_same : (base key : ℕ) (xs ys : List ℕ) → base ≡ key * 65536 → xs ≡ ys → map (λ i. base + i) xs ≡ map (λ low. key * 65536 + low) ys
+raised_same base key xs ys e f = ap (λ (n : ℕ). map (λ i. n + i) xs) e ∙ ap (map (λ low. key * 65536 + low)) f
+
+-- ---- counts
+
+pub count_next : (ids chunks m : ℕ) (rest : List ℕ) → IsRest ids chunks rest → m < chunks → (next : ℕ) → next ≡ before (sum_at chunks rest) m
+    → next + count_at chunks rest m ≡ before (sum_at chunks rest) (m + 1)
+count_next ids chunks m rest is lt next e =
+    let some = (is.entries m lt).some in
+    let f = before_next (sum_at chunks rest) m in
+    omega arith
+
+last_sum : (ids chunks c : ℕ) (rest : List ℕ) → IsRest ids chunks rest → c ≡ chunks → before (sum_at chunks rest) c ≡ ids
+last_sum ids chunks zero rest is e = let some = is.some in absurd (omega arith)
+last_sum ids chunks (suc c) rest is e = let lt : c < chunks = omega arith in (is.entries c lt).last (omega arith)
+
+pub sum_all : (ids chunks m : ℕ) (rest : List ℕ) → IsRest ids chunks rest → m ≡ chunks → before (sum_at chunks rest) m ≡ ids
+sum_all ids chunks m rest is e = last_sum ids chunks m rest is e
+
+pub count_within : (ids chunks m : ℕ) (rest : List ℕ) → IsRest ids chunks rest → m < chunks → before (sum_at chunks rest) m + count_at chunks rest m ≤ ids
+count_within ids chunks m rest is lt =
+    let some = (is.entries m lt).some in
+    let top = grown_to (sum_at chunks rest) m chunks (sums_grow ids chunks rest is.entries) lt in
+    let all = last_sum ids chunks chunks rest is refl in
+    omega arith
+
+-- ---- chunk by chunk
+
+pub chunks_next : (chunks m : ℕ) (rest done more : List ℕ) → m < chunks
+    → more ≡ done ++ map (λ low. key_at rest m * 65536 + low) (body_numbers_of (count_at chunks rest m) (body_at chunks rest m))
+    → done ++ ids_of_chunks (map (chunk_at chunks rest) (range_with_len m (chunks - m))) ≡ chunk_ids chunks rest
+    → more ++ ids_of_chunks (map (chunk_at chunks rest) (range_with_len (m + 1) (chunks - (m + 1)))) ≡ chunk_ids chunks rest
+chunks_next chunks m rest done more lt e so_far =
+    let own : List ℕ = map (λ low. key_at rest m * 65536 + low) (body_numbers_of (count_at chunks rest m) (body_at chunks rest m)) in
+    let left : List ℕ = ids_of_chunks (map (chunk_at chunks rest) (range_with_len (m + 1) (chunks - (m + 1)))) in
+    let next : suc (chunks - (m + 1)) ≡ chunks - m = omega arith in
+    ap (λ (l : List ℕ). l ++ left) e ∙ append_assoc done own left
+    ∙ ap (λ (n : ℕ). done ++ ids_of_chunks (map (chunk_at chunks rest) (range_with_len m n))) next ∙ so_far
+
+pub chunks_done : (chunks m : ℕ) (rest done : List ℕ) → chunks ≤ m
+    → done ++ ids_of_chunks (map (chunk_at chunks rest) (range_with_len m (chunks - m))) ≡ chunk_ids chunks rest → done ≡ chunk_ids chunks rest
+chunks_done chunks m rest done h so_far =
+    let none : 0 ≡ chunks - m = omega arith in
+    sym (append-nil done) ∙ ap (λ (n : ℕ). done ++ ids_of_chunks (map (chunk_at chunks rest) (range_with_len m n))) none ∙ so_far
