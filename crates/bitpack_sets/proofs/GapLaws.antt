@@ -1,8 +1,8 @@
 -- A set of fewer than 128 ids has no fault exactly if it is the text of the ids that are read from it.
-use Rattle.std.proofs.Common.{◌≡◌, ℕ, zero, suc, ◌+◌, ◌-◌, ◌*◌, ◌/◌, ◌^◌, ◌<◌, ◌≤◌, Bool, true, false, leb, cond, min, List, [], ◌∷◌, ◌++◌, take, drop, length, get_or, Option, Some, None, refl, sym, ap, ◌∙◌, arith, inl, inr, subst, length-append, take-append-drop}
+use Rattle.std.proofs.Common.{◌≡◌, ℕ, zero, suc, ◌+◌, ◌-◌, ◌*◌, ◌/◌, ◌^◌, ◌<◌, ◌≤◌, Bool, true, false, leb, cond, min, List, [], ◌∷◌, ◌++◌, take, drop, length, get_or, Option, Some, None, refl, sym, ap, ◌∙◌, arith, inl, inr, subst, length-append, take-append-drop, append_assoc, set, add-one}
 use Rattle.std.specs.Option.{is_some, option_or}
 use Rattle.std.proofs.lemmas.Bool.{cases_lt, le-leb, le-ltb, lt-leb, true≢false}
-use Rattle.std.proofs.lemmas.List.{append-nil, drop_all, drop_at, drop_more, get_or-drop, get_or_past}
+use Rattle.std.proofs.lemmas.List.{append-nil, drop_all, drop_at, drop_more, take_all, take_more_set, get_or-drop, get_or_past}
 use Rattle.bitpack_groups.specs.Groups.{group_end}
 use Rattle.bitpack_groups.specs.declared.group_error.GroupError.{GroupError}
 use Rattle.bitpack_groups.proofs.ForCallers.{fault-here, fault-next, groups_are_read, groups_read_back, number_reads_back, one_number, one_run_of_codes}
@@ -15,6 +15,7 @@ use Rattle.bitpack_sets.proofs.LongLaws.{Below, rising_below}
 use Rattle.bitpack_sets.proofs.OnesLaws.{rising_lower}
 use Rattle.bitpack_sets.proofs.SliceLaws.{rising_room}
 use Rattle.bitpack_sets.specs.Faults.{first_over, ids_from, short_fault, short_ids, some_fault}
+use Rattle.bitpack_sets.specs.Reads.{few_ids}
 use Rattle.bitpack_sets.specs.Sets.{IsRising, gaps, group, groups, short}
 use Rattle.bitpack_sets.specs.Varints.{AreGroups, after_groups, group_fault, of, groups_codes, groups_fault, groups_of, number, number_end, number_fault, number_value, set_error}
 use Rattle.bitpack_sets.specs.declared.set_error.SetError.{SetError}
@@ -132,6 +133,33 @@ unfolding first_over ids_from
 over_done i id codes h small =
     ap (λ (l : List ℕ). first_over i (ids_from id l)) (drop_all i codes h) ∙ ap (λ (b : Bool). cond b (Some i) None) (lt-leb (2 ^ 32) id small)
 
+pub over_small : (i id : ℕ) (codes : List ℕ) → i < length codes → id < 2 ^ 32 → first_over i (ids_from id (drop i codes)) ≡ None → id + (get_or codes i 0 + 1) < 2 ^ 32
+over_small i id codes h small none = elim (cases_lt (id + (get_or codes i 0 + 1)) (2 ^ 32)) [
+  | inl less ↦ less
+  | inr more ↦ absurd (true≢false (ap is_some (sym (over_next i id (id + (get_or codes i 0 + 1)) codes h small refl ∙ over_found (i + 1) (id + (get_or codes i 0 + 1)) (drop (i + 1) codes) more) ∙ none)))
+]
+
+-- as a loop writes them
+pub ids_first : (first : ℕ) (out codes : List ℕ) → 0 < length out → take (0 + 1) (set out 0 first) ++ drop 1 (ids_from first (drop 0 codes)) ≡ ids_from first codes
+ids_first first [] codes h = absurd (omega arith)
+ids_first first (x ∷ out) codes h = sym (begins first codes)
+
+pub ids_next : (i id next : ℕ) (codes out : List ℕ) → i < length codes → i + 1 < length out → next ≡ id + (get_or codes i 0 + 1)
+    → take (i + 1 + 1) (set out (i + 1) next) ++ drop 1 (ids_from next (drop (i + 1) codes)) ≡ take (i + 1) out ++ drop 1 (ids_from id (drop i codes))
+unfolding ids_from
+ids_next i id next codes out h room e =
+    let code : ℕ = get_or codes i 0 in
+    let f : next ≡ id + code + 1 = omega arith in
+    let left : List ℕ = drop 1 (ids_from next (drop (i + 1) codes)) in
+    ap (λ (l : List ℕ). l ++ left) (take_more_set out (i + 1) next room) ∙ append_assoc (take (i + 1) out) (next ∷ []) left
+    ∙ ap (λ (l : List ℕ). take (i + 1) out ++ l) (sym (begins next (drop (i + 1) codes)) ∙ ap (λ (n : ℕ). ids_from n (drop (i + 1) codes)) f)
+    ∙ ap (λ (l : List ℕ). take (i + 1) out ++ drop 1 (ids_from id l)) (sym (drop_more codes i 0 h))
+
+pub ids_done : (i id : ℕ) (codes out : List ℕ) → length codes ≤ i → length out ≤ i + 1 → out ≡ take (i + 1) out ++ drop 1 (ids_from id (drop i codes))
+unfolding ids_from
+ids_done i id codes out h room =
+    sym (take_all (i + 1) out room) ∙ sym (append-nil (take (i + 1) out)) ∙ ap (λ (l : List ℕ). take (i + 1) out ++ drop 1 (ids_from id l)) (sym (drop_all i codes h))
+
 from_rises : (first : ℕ) (codes : List ℕ) → Below (2 ^ 32) (ids_from first codes) → IsRising first (2 ^ 32) (ids_from first codes)
 unfolding ids_from
 from_rises first [] (a, h) = (omega arith, omega arith)
@@ -241,3 +269,28 @@ none_short x xs (zero', r) =
     (none_or _ _ (none_map set_error _ (ap (groups_fault (groups_of more) 0 more) same ∙ none))
     (none_or _ _ (none_map NotSorted _ (ap (first_over 0) ids ∙ none_over 0 (x ∷ xs) (rising_below 0 (2 ^ 32) (x ∷ xs) (zero', r))))
     (some_not _ Trailing None (le-ltb 0 (length (after_groups (groups_of more) more (drop (number_end (number x ++ run)) (number x ++ run)))) (omega (arith, ap length left))) refl)))
+
+-- what one id and others without a fault have
+pub record IsSoundFew (more : ℕ) (bytes : List ℕ) : Type 0 where
+  pub number : number_fault bytes ≡ None
+  pub groups_none : groups_fault (groups_of more) 0 more (drop (number_end bytes) bytes) ≡ None
+  pub small : first_over 0 (short_ids more bytes) ≡ None
+
+pub sound_few : (more : ℕ) (bytes : List ℕ) → some_fault more bytes ≡ None → IsSoundFew more bytes
+unfolding some_fault
+sound_few more bytes e =
+    let (number_none, e1) = or_none _ _ e in
+    let (groups_none, e2) = or_none _ _ e1 in
+    let (over, after) = or_none _ _ e2 in
+    record { number = map_none set_error _ number_none; groups_none = map_none set_error _ groups_none; small = map_none NotSorted _ over }
+
+-- one id and others, by how many they are
+some_more : (m n : ℕ) → n ≡ m + 1 → n ≡ suc m
+some_more m n e = e ∙ add-one m
+
+pub some_at : (m n : ℕ) (bytes : List ℕ) → n ≡ m + 1 → short_fault n bytes ≡ None → some_fault m bytes ≡ None
+unfolding short_fault
+some_at m n bytes e none = subst (λ (k : ℕ). short_fault k bytes ≡ None) (some_more m n e) none
+
+pub ids_at : (m n : ℕ) (bytes : List ℕ) → n ≡ m + 1 → short_ids m bytes ≡ few_ids n bytes
+ids_at m n bytes e = ap (λ (k : ℕ). few_ids k bytes) (sym (some_more m n e))

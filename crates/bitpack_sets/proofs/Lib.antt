@@ -12,6 +12,7 @@ mod DecodeLaws
 mod EntryLaws
 mod FallLaws
 mod FaultLaws
+mod FormLaws
 mod GapLaws
 mod GroupLaws
 mod HalfLaws

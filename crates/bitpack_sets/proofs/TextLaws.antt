@@ -54,7 +54,7 @@ count_none bytes h =
     let (e, f) = if_some _ _ _ d in
     (map_none set_error _ a, not_below (number_value bytes) 128 c, not_below (2 ^ 28) (number_value bytes) e)
 
-chunks_none : (ids : ℕ) (bytes : List ℕ) → chunk_count_fault ids bytes ≡ None
+pub chunks_none : (ids : ℕ) (bytes : List ℕ) → chunk_count_fault ids bytes ≡ None
     → (number_fault bytes ≡ None) × (0 < number_value bytes) × (4 * number_value bytes ≤ ids) × (number_value bytes ≤ 65536)
 unfolding chunk_count_fault
 chunks_none ids bytes h =

@@ -18,6 +18,16 @@ pub(crate) fn id_at(rest: &[u8], position: usize) -> u32
     u32::from_le_bytes([rest[from], rest[from + 1], rest[from + 2], rest[from + 3]])
 }
 
+/// Writes all ids of an array.
+pub(crate) fn unpack_array(rest: &[u8], out: &mut [u32])
+    requires { length rest.now ≡ 4 * length out.old }
+    ensures { out.new ≡ quads_of rest.now }
+{
+    for position in 0..out.len() {
+        out[position] = id_at(rest, position);
+    }
+}
+
 /// Tests what is after the count of an array of `count` ids.
 #[tactic(auto, unfolding(crate::specs::Faults::ids_fault))]
 pub(crate) fn test_array(count: usize, rest: &[u8]) -> Result<(), SetError>

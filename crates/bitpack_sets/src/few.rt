@@ -1,13 +1,14 @@
 //! Sets of fewer than 128 ids: the first id as a number, and groups of the differences of the others.
 
-ghost use Rattle.std.specs.Prelude.{◌≡◌, ℕ, ◌+◌, ◌^◌, ◌<◌, ◌≤◌, IfOk, OnOk, length, Option};
+ghost use Rattle.std.specs.Prelude.{◌≡◌, ℕ, ◌+◌, ◌^◌, ◌<◌, ◌≤◌, IfOk, OnOk, length, None, Option};
+ghost use Rattle.bitpack_sets.specs.Reads.{few_ids};
 ghost use Rattle.bitpack_sets.specs.Errors.{Finds};
 ghost use Rattle.bitpack_sets.specs.Faults.{ids_from, short_fault, some_fault};
 ghost use Rattle.bitpack_sets.specs.Varints.{after_groups, groups_codes, groups_fault, groups_of, of};
 
 use crate::set_error::SetError;
 use crate::varints::{open_group, open_number};
-use bitpack_groups::{LONGEST_GROUP, next_len};
+use bitpack_groups::{LONGEST_GROUP, next_len, unpack_groups, unpack_number};
 
 /// The most ids of such a set.
 const MOST_FEW: usize = 127;
@@ -37,6 +38,44 @@ fn test_some(more: usize, bytes: &[u8]) -> Result<(), SetError>
         return Err(SetError::NotSorted(position));
     }
     test_end(rest)
+}
+
+/// Writes the ids of what is after byte 0 of the text of as many ids as the slice has. It has no fault.
+pub(crate) fn unpack_few(bytes: &[u8], out: &mut [u32])
+    requires few { length out.old ≤ MOST_FEW }
+    requires sound { short_fault (length out.old) bytes.now ≡ None }
+    ensures { out.new ≡ few_ids (length out.old) bytes.now }
+{
+    if out.is_empty() {
+        return;
+    }
+    let mut codes = [0; MOST_FEW];
+    unpack_some(bytes, &mut codes[..out.len() - 1], out);
+}
+
+/// Writes an id and as many others as there is room for codes.
+fn unpack_some(bytes: &[u8], codes: &mut [u32], out: &mut [u32])
+    requires room { length out.old ≡ length codes.old + 1 }
+    requires sound { short_fault (length out.old) bytes.now ≡ None }
+    ensures { out.new ≡ few_ids (length out.old) bytes.now }
+{
+    let (first, end) = unpack_number(bytes);
+    unpack_groups(&bytes[end..], codes);
+    add_up(first, codes, out);
+}
+
+/// Writes an id and those that are as far above the one before as their codes say.
+fn add_up(first: u32, codes: &[u32], out: &mut [u32])
+    requires room { length out.old ≡ length codes.now + 1 }
+    requires small { Rattle.bitpack_sets.specs.Faults.first_over 0 (ids_from first codes.now) ≡ None }
+    ensures { out.new ≡ ids_from first codes.now }
+{
+    let mut id = first;
+    out[0] = id;
+    for index in 0..codes.len() {
+        id = id + codes[index] + 1;
+        out[index + 1] = id;
+    }
 }
 
 /// No byte is left.

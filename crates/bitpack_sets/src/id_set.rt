@@ -4,7 +4,11 @@ ghost use Rattle.std.specs.Prelude.{◌≡◌, ◌^◌, ◌≤◌};
 ghost use Rattle.bitpacking.specs.Bits.{AreBytes};
 ghost use Rattle.bitpack_sets.specs.Stated.{States};
 
+use crate::array::unpack_array;
+use crate::decoding::unpack_chunks;
+use crate::few::unpack_few;
 use crate::opening::test_text;
+use crate::reserved::append_zeros;
 use crate::set_error::SetError;
 
 /// A set of ids whose bytes were tested when it was opened, so that reading it tests nothing again and cannot fail.
@@ -20,7 +24,7 @@ pub struct IdSet<'a> {
 }
 
 impl<'a> IdSet<'a> {
-    ghost use Rattle.std.specs.Prelude.{◌↔◌, IsTrue, [], length, IfOk, None};
+    ghost use Rattle.std.specs.Prelude.{◌↔◌, ◌+◌, ◌<◌, ◌++◌, IsTrue, [], drop, length, take, vec_capacity, vec_len, IfErr, IfOk, None, OnErr, OnOk};
     ghost use Rattle.bitpack_sets.specs.Errors.{Finds};
     ghost use Rattle.bitpack_sets.specs.Faults.{fault};
     ghost use Rattle.bitpack_sets.specs.Opened.{ids, text_of};
@@ -56,5 +60,55 @@ impl<'a> IdSet<'a> {
         ensures { IsTrue result ↔ (ids self.now ≡ []) }
     {
         self.count == 0
+    }
+
+    /// Appends all ids.
+    ///
+    /// Fails only with `Memory`, if the vector cannot grow by the number of ids.
+    pub fn append_to(&self, out: &mut Vec<u32>) -> Result<(), SetError>
+        ensures ok { OnOk result (out.new.items ≡ out.old.items ++ ids self.now) }
+        ensures memory { IfErr result (λ e. e ≡ SetError.Memory) }
+        ensures room { OnErr result (vec_capacity out.old < vec_len out.old + length (ids self.now)) }
+        ensures unchanged { OnErr result (out.new.items ≡ out.old.items) }
+    {
+        let from = out.len();
+        let count = self.len();
+        if out.reserve(count).is_err() {
+            return Err(SetError::Memory);
+        }
+        append_zeros(out, count);
+        self.copy_to(out.slice_mut(from..));
+        Ok(())
+    }
+
+    /// Writes all ids at the start of the slice, and returns their number. Allocates nothing.
+    ///
+    /// Requires room for all ids. The rest of the slice is unchanged.
+    pub fn copy_to(&self, out: &mut [u32]) -> usize
+        requires room { length (ids self.now) ≤ length out.old }
+        ensures len { result ≡ length (ids self.now) }
+        ensures ids { take result out.new ≡ ids self.now }
+        ensures rest { drop result out.new ≡ drop result out.old }
+    {
+        let count = self.len();
+        self.unpack(&mut out[..count]);
+        count
+    }
+
+    // Unpacks each body once.
+    fn unpack(&self, out: &mut [u32])
+        requires room { length out.old ≡ length (ids self.now) }
+        ensures { out.new ≡ ids self.now }
+    {
+        let form = self.bytes[0];
+        if form == 5 {
+            unpack_chunks(self.count, self.chunks, self.rest, out);
+            return;
+        }
+        if form == 6 {
+            unpack_array(self.rest, out);
+            return;
+        }
+        unpack_few(self.rest, out);
     }
 }

@@ -9,6 +9,7 @@ mod few;
 mod id_set;
 pub mod laws;
 mod opening;
+mod reserved;
 mod set_error;
 mod slice;
 mod varints;
