@@ -1,14 +1,21 @@
 -- The chunks of a set as they are read, one after the other.
-use Rattle.std.proofs.Common.{◌≡◌, ℕ, zero, suc, ◌+◌, ◌-◌, ◌*◌, ◌/◌, ◌<◌, ◌≤◌, Bool, List, [], ◌∷◌, ◌++◌, map, take, drop, length, cond, eqb, refl, sym, ap, ◌∙◌, arith, subst, eq-eqb, append_assoc, inl, inr}
+use Rattle.std.proofs.Common.{◌≡◌, ℕ, zero, suc, ◌+◌, ◌-◌, ◌*◌, ◌/◌, ◌<◌, ◌≤◌, Bool, true, false, get_or, ◌%◌, List, [], ◌∷◌, ◌++◌, map, take, drop, length, cond, eqb, refl, sym, ap, ◌∙◌, arith, subst, eq-eqb, append_assoc, inl, inr}
 use Rattle.std.specs.List.{range_with_len}
 use Rattle.std.proofs.lemmas.Bool.{cases_lt, ne_eqb}
 use Rattle.std.proofs.lemmas.List.{append-nil}
+use Rattle.std.proofs.lemmas.List.FromFn.{get_or-map-range_with_len}
 use Rattle.bitpack_sets.proofs.BodyLaws.{body_blocks, body_numbers, numbers_len}
 use Rattle.bitpack_sets.proofs.EntryLaws.{body_len, ends_grow, grown_to, sums_grow}
+use Rattle.bitpack_sets.proofs.ChunkLaws.{are_parts, keys_text}
+use Rattle.bitpack_sets.proofs.JoinReads.{has_join, has_join_not, keys_rise, none}
+use Rattle.bitpack_sets.proofs.LongLaws.{keys}
 use Rattle.bitpack_sets.proofs.ShortLaws.{before_next}
 use Rattle.bitpack_sets.proofs.TestLaws.{blocks_are_blocks}
+use Rattle.bitpack_sets.proofs.ToldLaws.{numbers_back}
+use Rattle.bitpack_sets.proofs.Words.{EachByte}
 use Rattle.bitpack_sets.specs.Directory.{before, bodies_end, bodies_start, body_at, body_numbers_of, chunk_at, chunk_ids, count_at, end_at, ids_of_chunks, key_at, size_at, sum_at}
-use Rattle.bitpack_sets.specs.Sets.{IsRising, blocks}
+use Rattle.bitpack_sets.specs.Reads.{has, rank}
+use Rattle.bitpack_sets.specs.Sets.{IsRising, blocks, numbers}
 use Rattle.bitpack_sets.specs.Slices.{IsBlocks, block_numbers, pairs_of}
 use Rattle.bitpack_sets.specs.Sound.{IsBody, IsRest}
 
@@ -89,3 +96,38 @@ pub chunks_done : (chunks m : ℕ) (rest done : List ℕ) → chunks ≤ m
 chunks_done chunks m rest done h so_far =
     let none : 0 ≡ chunks - m = omega arith in
     sym (append-nil done) ∙ ap (λ (n : ℕ). done ++ ids_of_chunks (map (chunk_at chunks rest) (range_with_len m n))) none ∙ so_far
+
+-- ---- keys
+
+abbrev pub read_chunks : ℕ → List ℕ → List (ℕ × List ℕ)
+read_chunks chunks rest = map (chunk_at chunks rest) (range_with_len 0 chunks)
+
+-- the bytes of the keys are numbers, which are the keys
+pub keys_read : (ids chunks : ℕ) (rest : List ℕ) → EachByte rest → IsRest ids chunks rest → pairs_of (take (2 * chunks) (drop 1 rest)) ≡ keys (read_chunks chunks rest)
+unfolding numbers
+keys_read ids chunks rest are is =
+    let rises : IsRising 0 65536 (keys (read_chunks chunks rest)) = keys_rise 65536 0 65536 (read_chunks chunks rest) (are_parts ids chunks rest are is) in
+    sym (ap pairs_of (keys_text ids chunks rest are is)) ∙ numbers_back 0 (keys (read_chunks chunks rest)) rises
+
+pub keys_rise_in : (ids chunks : ℕ) (rest : List ℕ) → EachByte rest → IsRest ids chunks rest → IsRising 0 65536 (pairs_of (take (2 * chunks) (drop 1 rest)))
+keys_rise_in ids chunks rest are is = subst (IsRising 0 65536) (sym (keys_read ids chunks rest are is)) (keys_rise 65536 0 65536 (read_chunks chunks rest) (are_parts ids chunks rest are is))
+
+-- chunk m of those that are read
+pub chunk_there : (ids chunks m : ℕ) (rest : List ℕ) → m < chunks → get_or (read_chunks chunks rest) m none ≡ chunk_at chunks rest m
+chunk_there ids chunks m rest lt = get_or-map-range_with_len (chunk_at chunks rest) 0 chunks m m none lt (zero_plus m)
+  where
+    zero_plus : (n : ℕ) → 0 + n ≡ n
+    zero_plus n = omega arith
+
+-- an id is looked up in the chunk of its key
+pub has_not_in : (ids chunks x : ℕ) (rest : List ℕ) → EachByte rest → IsRest ids chunks rest → has (x / 65536) (pairs_of (take (2 * chunks) (drop 1 rest))) ≡ false
+    → has x (chunk_ids chunks rest) ≡ false
+has_not_in ids chunks x rest are is h =
+    has_join_not 65536 x 0 65536 (read_chunks chunks rest) (are_parts ids chunks rest are is) (sym (ap (has (x / 65536)) (keys_read ids chunks rest are is)) ∙ h)
+
+pub has_in : (ids chunks x m : ℕ) (rest : List ℕ) → EachByte rest → IsRest ids chunks rest → m < chunks → m ≡ rank (x / 65536) (pairs_of (take (2 * chunks) (drop 1 rest)))
+    → has (x / 65536) (pairs_of (take (2 * chunks) (drop 1 rest))) ≡ true → has x (chunk_ids chunks rest) ≡ has (x % 65536) (body_numbers_of (count_at chunks rest m) (body_at chunks rest m))
+has_in ids chunks x m rest are is lt e h =
+    let same = keys_read ids chunks rest are is in
+    has_join 65536 x 0 65536 m (read_chunks chunks rest) (are_parts ids chunks rest are is) (e ∙ ap (rank (x / 65536)) same) (sym (ap (has (x / 65536)) same) ∙ h)
+    ∙ ap (λ (p : ℕ × List ℕ). has (x % 65536) p.1) (chunk_there ids chunks m rest lt)

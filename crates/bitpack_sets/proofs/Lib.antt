@@ -17,6 +17,7 @@ mod GapLaws
 mod GroupLaws
 mod HalfLaws
 mod JoinLaws
+mod JoinReads
 mod LongLaws
 mod NumberReads
 mod OnesLaws

@@ -10,6 +10,7 @@ mod id_set;
 pub mod laws;
 mod opening;
 mod reserved;
+mod searching;
 mod set_error;
 mod slice;
 mod varints;
