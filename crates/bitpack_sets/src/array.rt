@@ -3,7 +3,8 @@
 ghost use Rattle.std.specs.Prelude.{◌≡◌, ◌≢◌, ◌+◌, ◌*◌, ◌/◌, ◌^◌, ◌<◌, ◌≤◌, length, slice_index};
 ghost use Rattle.bitpack_sets.specs.Errors.{Finds};
 ghost use Rattle.bitpack_sets.specs.Faults.{ids_fault};
-ghost use Rattle.bitpack_sets.specs.Sets.{parts};
+ghost use Rattle.bitpack_sets.specs.Reads.{has, rank};
+ghost use Rattle.bitpack_sets.specs.Sets.{IsRising, parts};
 ghost use Rattle.bitpack_sets.specs.Slices.{quads_of};
 
 use crate::set_error::SetError;
@@ -25,6 +26,38 @@ pub(crate) fn unpack_array(rest: &[u8], out: &mut [u32])
 {
     for position in 0..out.len() {
         out[position] = id_at(rest, position);
+    }
+}
+
+/// How many ids of an array are below one, by halves.
+pub(crate) fn rank_in_array(rest: &[u8], id: u32) -> usize
+    requires { IsRising 0 (2 ^ 32) (quads_of rest.now) }
+    ensures { result ≡ rank id (quads_of rest.now) }
+{
+    let mut low = 0;
+    let mut left = rest.len() / 4;
+    while left > 0 {
+        let half = left / 2;
+        if id_at(rest, low + half) < id {
+            low += half + 1;
+            left -= half + 1;
+        } else {
+            left = half;
+        }
+    }
+    low
+}
+
+/// Whether an array has an id.
+pub(crate) fn in_array(rest: &[u8], id: u32) -> bool
+    requires { IsRising 0 (2 ^ 32) (quads_of rest.now) }
+    ensures { result ≡ has id (quads_of rest.now) }
+{
+    let position = rank_in_array(rest, id);
+    if position < rest.len() / 4 {
+        id_at(rest, position) == id
+    } else {
+        false
     }
 }
 

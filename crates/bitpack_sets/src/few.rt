@@ -1,7 +1,7 @@
 //! Sets of fewer than 128 ids: the first id as a number, and groups of the differences of the others.
 
 ghost use Rattle.std.specs.Prelude.{◌≡◌, ℕ, ◌+◌, ◌^◌, ◌<◌, ◌≤◌, IfOk, OnOk, length, None, Option};
-ghost use Rattle.bitpack_sets.specs.Reads.{few_ids};
+ghost use Rattle.bitpack_sets.specs.Reads.{few_ids, has, rank};
 ghost use Rattle.bitpack_sets.specs.Errors.{Finds};
 ghost use Rattle.bitpack_sets.specs.Faults.{ids_from, short_fault, some_fault};
 ghost use Rattle.bitpack_sets.specs.Varints.{after_groups, groups_codes, groups_fault, groups_of, of};
@@ -51,6 +51,53 @@ pub(crate) fn unpack_few(bytes: &[u8], out: &mut [u32])
     }
     let mut codes = [0; MOST_FEW];
     unpack_some(bytes, &mut codes[..out.len() - 1], out);
+}
+
+/// Whether an id is among those of such a text.
+pub(crate) fn in_few(count: usize, bytes: &[u8], id: u32) -> bool
+    requires few { count ≤ MOST_FEW }
+    requires sound { short_fault count bytes.now ≡ None }
+    ensures { result ≡ has id (few_ids count bytes.now) }
+{
+    let mut ids = [0; MOST_FEW];
+    let ids = &mut ids[..count];
+    unpack_few(bytes, ids);
+    is_among(ids, id)
+}
+
+/// How many of the ids of such a text are below one.
+pub(crate) fn rank_in_few(count: usize, bytes: &[u8], id: u32) -> usize
+    requires few { count ≤ MOST_FEW }
+    requires sound { short_fault count bytes.now ≡ None }
+    ensures { result ≡ rank id (few_ids count bytes.now) }
+{
+    let mut ids = [0; MOST_FEW];
+    let ids = &mut ids[..count];
+    unpack_few(bytes, ids);
+    count_below(ids, id)
+}
+
+/// Whether an id is among some.
+fn is_among(ids: &[u32], id: u32) -> bool
+    ensures { result ≡ has id ids.now }
+{
+    for other in ids {
+        if *other == id {
+            return true;
+        }
+    }
+    false
+}
+
+/// How many ids are below one.
+fn count_below(ids: &[u32], id: u32) -> usize
+    ensures { result ≡ rank id ids.now }
+{
+    let mut count = 0;
+    for other in ids {
+        count += (*other < id) as usize;
+    }
+    count
 }
 
 /// Writes an id and as many others as there is room for codes.

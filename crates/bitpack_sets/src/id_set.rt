@@ -4,11 +4,12 @@ ghost use Rattle.std.specs.Prelude.{◌≡◌, ◌^◌, ◌≤◌};
 ghost use Rattle.bitpacking.specs.Bits.{AreBytes};
 ghost use Rattle.bitpack_sets.specs.Stated.{States};
 
-use crate::array::unpack_array;
+use crate::array::{in_array, unpack_array};
 use crate::decoding::unpack_chunks;
-use crate::few::unpack_few;
+use crate::few::{in_few, unpack_few};
 use crate::opening::test_text;
 use crate::reserved::append_zeros;
+use crate::searching::in_chunks;
 use crate::set_error::SetError;
 
 /// A set of ids whose bytes were tested when it was opened, so that reading it tests nothing again and cannot fail.
@@ -28,6 +29,7 @@ impl<'a> IdSet<'a> {
     ghost use Rattle.bitpack_sets.specs.Errors.{Finds};
     ghost use Rattle.bitpack_sets.specs.Faults.{fault};
     ghost use Rattle.bitpack_sets.specs.Opened.{ids, text_of};
+    ghost use Rattle.bitpack_sets.specs.Reads.{has};
     ghost use Rattle.bitpack_sets.specs.Sets.{IsSet, text};
 
     /// Opens the text of a set. Tests all bytes, accepts any, and allocates nothing.
@@ -60,6 +62,20 @@ impl<'a> IdSet<'a> {
         ensures { IsTrue result ↔ (ids self.now ≡ []) }
     {
         self.count == 0
+    }
+
+    /// Whether the set has this id.
+    pub fn contains(&self, id: u32) -> bool
+        ensures { result ≡ has id (ids self.now) }
+    {
+        let form = self.bytes[0];
+        if form == 5 {
+            return in_chunks(self.count, self.chunks, self.rest, id);
+        }
+        if form == 6 {
+            return in_array(self.rest, id);
+        }
+        in_few(self.count, self.rest, id)
     }
 
     /// Appends all ids.
