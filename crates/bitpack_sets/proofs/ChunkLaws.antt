@@ -73,7 +73,7 @@ module _ (ids chunks : ℕ) (rest : List ℕ) (are : EachByte rest) (is : IsRest
   keys_in : keys chunks_in ≡ map (key_at rest) (range_with_len 0 chunks)
   keys_in = map_map (λ (part : ℕ × List ℕ). part.0) (chunk_at chunks rest) 0 chunks
 
-  counts_in : counts chunks_in ≡ map (step_of (sum_at chunks rest)) (range_with_len 0 chunks)
+  pub counts_in : counts chunks_in ≡ map (step_of (sum_at chunks rest)) (range_with_len 0 chunks)
   counts_in =
       map_map (λ (part : ℕ × List ℕ). length part.1) (chunk_at chunks rest) 0 chunks
       ∙ map_same (λ m. length (body_numbers_of (count_at chunks rest m) (body_at chunks rest m))) (step_of (sum_at chunks rest)) 0 chunks (λ i low high. (is.bodies i (omega arith)).count_is)

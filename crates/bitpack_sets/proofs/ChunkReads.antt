@@ -3,13 +3,13 @@ use Rattle.std.proofs.Common.{◌≡◌, ℕ, zero, suc, ◌+◌, ◌-◌, ◌*�
 use Rattle.std.specs.List.{range_with_len}
 use Rattle.std.proofs.lemmas.Bool.{cases_lt, ne_eqb}
 use Rattle.std.proofs.lemmas.List.{append-nil}
-use Rattle.std.proofs.lemmas.List.FromFn.{get_or-map-range_with_len}
+use Rattle.std.proofs.lemmas.List.FromFn.{get_or-map-range_with_len, take-map-range_with_len}
 use Rattle.bitpack_sets.proofs.BodyLaws.{body_blocks, body_numbers, numbers_len}
 use Rattle.bitpack_sets.proofs.EntryLaws.{body_len, ends_grow, grown_to, sums_grow}
-use Rattle.bitpack_sets.proofs.ChunkLaws.{are_parts, keys_text}
-use Rattle.bitpack_sets.proofs.JoinReads.{has_join, has_join_not, keys_rise, none}
-use Rattle.bitpack_sets.proofs.LongLaws.{keys}
-use Rattle.bitpack_sets.proofs.ShortLaws.{before_next}
+use Rattle.bitpack_sets.proofs.ChunkLaws.{are_parts, counts_in, keys_text}
+use Rattle.bitpack_sets.proofs.JoinReads.{has_join, has_join_not, keys_rise, none, rank_join, rank_join_not}
+use Rattle.bitpack_sets.proofs.LongLaws.{counts, keys, total}
+use Rattle.bitpack_sets.proofs.ShortLaws.{Grows, before_next, step_of, steps_total}
 use Rattle.bitpack_sets.proofs.TestLaws.{blocks_are_blocks}
 use Rattle.bitpack_sets.proofs.ToldLaws.{numbers_back}
 use Rattle.bitpack_sets.proofs.Words.{EachByte}
@@ -131,3 +131,31 @@ has_in ids chunks x m rest are is lt e h =
     let same = keys_read ids chunks rest are is in
     has_join 65536 x 0 65536 m (read_chunks chunks rest) (are_parts ids chunks rest are is) (e ∙ ap (rank (x / 65536)) same) (sym (ap (has (x / 65536)) same) ∙ h)
     ∙ ap (λ (p : ℕ × List ℕ). has (x % 65536) p.1) (chunk_there ids chunks m rest lt)
+
+-- how many ids the chunks before one have
+counted_before : (ids chunks m : ℕ) (rest : List ℕ) → EachByte rest → IsRest ids chunks rest → m ≤ chunks → total (take m (counts (read_chunks chunks rest))) ≡ before (sum_at chunks rest) m
+counted_before ids chunks m rest are is most =
+    let up : Grows (sum_at chunks rest) 0 m = λ i low high. sums_grow ids chunks rest is.entries i low (omega arith) in
+    let all = steps_total (sum_at chunks rest) 0 m up in
+    let e : 0 + m ≡ m = omega arith in
+    ap (λ (l : List ℕ). total (take m l)) (counts_in ids chunks rest are is) ∙ ap total (take-map-range_with_len (step_of (sum_at chunks rest)) 0 chunks m most)
+    ∙ plus (total (map (step_of (sum_at chunks rest)) (range_with_len 0 m))) ∙ all ∙ ap (before (sum_at chunks rest)) e
+  where
+    plus : (n : ℕ) → n ≡ 0 + n
+    plus n = omega arith
+
+pub rank_not_in : (ids chunks x m : ℕ) (rest : List ℕ) → EachByte rest → IsRest ids chunks rest → m ≤ chunks → m ≡ rank (x / 65536) (pairs_of (take (2 * chunks) (drop 1 rest)))
+    → has (x / 65536) (pairs_of (take (2 * chunks) (drop 1 rest))) ≡ false → rank x (chunk_ids chunks rest) ≡ before (sum_at chunks rest) m
+rank_not_in ids chunks x m rest are is most e h =
+    let same = keys_read ids chunks rest are is in
+    rank_join_not 65536 x 0 65536 m (read_chunks chunks rest) (omega arith) (are_parts ids chunks rest are is) (e ∙ ap (rank (x / 65536)) same) (sym (ap (has (x / 65536)) same) ∙ h)
+    ∙ counted_before ids chunks m rest are is most
+
+pub rank_in : (ids chunks x m : ℕ) (rest : List ℕ) → EachByte rest → IsRest ids chunks rest → m < chunks → m ≡ rank (x / 65536) (pairs_of (take (2 * chunks) (drop 1 rest)))
+    → has (x / 65536) (pairs_of (take (2 * chunks) (drop 1 rest))) ≡ true
+    → rank x (chunk_ids chunks rest) ≡ before (sum_at chunks rest) m + rank (x % 65536) (body_numbers_of (count_at chunks rest m) (body_at chunks rest m))
+rank_in ids chunks x m rest are is lt e h =
+    let same = keys_read ids chunks rest are is in
+    rank_join 65536 x 0 65536 m (read_chunks chunks rest) (omega arith) (are_parts ids chunks rest are is) (e ∙ ap (rank (x / 65536)) same) (sym (ap (has (x / 65536)) same) ∙ h)
+    ∙ ap (λ (n : ℕ). n + rank (x % 65536) (get_or (read_chunks chunks rest) m none).1) (counted_before ids chunks m rest are is (omega arith))
+    ∙ ap (λ (p : ℕ × List ℕ). before (sum_at chunks rest) m + rank (x % 65536) p.1) (chunk_there ids chunks m rest lt)

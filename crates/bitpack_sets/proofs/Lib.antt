@@ -1,5 +1,6 @@
 -- The lemmas of this crate.
 mod ArrayLaws
+mod BlockReads
 mod BlocksLaws
 mod BodyFaults
 mod BodyLaws

@@ -4,12 +4,12 @@ ghost use Rattle.std.specs.Prelude.{◌≡◌, ◌^◌, ◌≤◌};
 ghost use Rattle.bitpacking.specs.Bits.{AreBytes};
 ghost use Rattle.bitpack_sets.specs.Stated.{States};
 
-use crate::array::{in_array, unpack_array};
+use crate::array::{in_array, rank_in_array, unpack_array};
 use crate::decoding::unpack_chunks;
-use crate::few::{in_few, unpack_few};
+use crate::few::{in_few, rank_in_few, unpack_few};
 use crate::opening::test_text;
 use crate::reserved::append_zeros;
-use crate::searching::in_chunks;
+use crate::searching::{in_chunks, rank_in_chunks};
 use crate::set_error::SetError;
 
 /// A set of ids whose bytes were tested when it was opened, so that reading it tests nothing again and cannot fail.
@@ -29,7 +29,7 @@ impl<'a> IdSet<'a> {
     ghost use Rattle.bitpack_sets.specs.Errors.{Finds};
     ghost use Rattle.bitpack_sets.specs.Faults.{fault};
     ghost use Rattle.bitpack_sets.specs.Opened.{ids, text_of};
-    ghost use Rattle.bitpack_sets.specs.Reads.{has};
+    ghost use Rattle.bitpack_sets.specs.Reads.{has, rank};
     ghost use Rattle.bitpack_sets.specs.Sets.{IsSet, text};
 
     /// Opens the text of a set. Tests all bytes, accepts any, and allocates nothing.
@@ -76,6 +76,20 @@ impl<'a> IdSet<'a> {
             return in_array(self.rest, id);
         }
         in_few(self.count, self.rest, id)
+    }
+
+    /// How many ids are below one. It is the position of the id, if the set has it.
+    pub fn rank(&self, id: u32) -> usize
+        ensures { result ≡ rank id (ids self.now) }
+    {
+        let form = self.bytes[0];
+        if form == 5 {
+            return rank_in_chunks(self.count, self.chunks, self.rest, id);
+        }
+        if form == 6 {
+            return rank_in_array(self.rest, id);
+        }
+        rank_in_few(self.count, self.rest, id)
     }
 
     /// Appends all ids.
