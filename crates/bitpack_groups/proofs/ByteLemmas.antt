@@ -1,5 +1,5 @@
 -- Lists of bytes, and their parts.
-use Rattle.std.proofs.Common.{◌≡◌, ℕ, zero, suc, ◌+◌, ◌^◌, ◌<◌, List, [], ◌∷◌, ◌++◌, drop, get_or, arith}
+use Rattle.std.proofs.Common.{ℕ, zero, suc, ◌+◌, ◌^◌, ◌<◌, List, [], ◌∷◌, ◌++◌, drop, arith}
 use Rattle.std.proofs.lemmas.List.{get_or-drop}
 use Rattle.bitpacking.specs.Bits.{AreBytes}
 

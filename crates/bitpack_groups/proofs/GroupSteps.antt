@@ -1,5 +1,5 @@
 -- The groups of codes, one after the other: as they are tested, read and written.
-use Rattle.std.proofs.Common.{◌≡◌, ℕ, suc, Option, ◌+◌, ◌-◌, ◌*◌, ◌/◌, ◌<◌, ◌≤◌, min, Some, None, List, [], ◌++◌, length, take, drop, refl, sym, ◌∙◌, ap, arith, append_assoc, inl, inr}
+use Rattle.std.proofs.Common.{◌≡◌, ℕ, suc, Option, ◌+◌, ◌-◌, ◌*◌, ◌<◌, ◌≤◌, min, Some, None, List, [], ◌++◌, length, take, drop, refl, sym, ◌∙◌, ap, arith, append_assoc, inl, inr}
 use Rattle.std.proofs.lemmas.Bool.{cases_lt}
 use Rattle.std.proofs.lemmas.List.{take_all, append-nil, drop-drop, drop_all, length-take, length-take-le, length-append, length-drop}
 use Rattle.std.proofs.lemmas.Slice.{take-put_mid}

@@ -1,13 +1,11 @@
 -- Groups hold the codes that are read from them, and no others; codes have one run of groups.
-use Rattle.std.proofs.Common.{◌≡◌, ℕ, zero, suc, ◌+◌, ◌-◌, ◌*◌, ◌^◌, ◌<◌, ◌≤◌, min, Option, Some, None, List, [], ◌++◌, length, take, drop, refl, sym, ◌∙◌, ap, arith, append_assoc, inl, inr}
-use Rattle.std.specs.Option.{option_or}
+use Rattle.std.proofs.Common.{◌≡◌, ℕ, zero, suc, ◌+◌, ◌-◌, ◌*◌, ◌^◌, ◌<◌, ◌≤◌, min, List, [], ◌++◌, length, take, drop, refl, sym, ◌∙◌, ap, arith, append_assoc, inl, inr}
 use Rattle.std.proofs.lemmas.Bool.{cases_lt}
 use Rattle.std.proofs.lemmas.List.{length-append, length-drop, length-take, take-append-drop, take_at, drop_at, take_all, drop_all, append-nil, nil_from_length}
 use Rattle.std.proofs.lemmas.List.Elements.{All-append, All-nil, All-take, All-drop}
 use Rattle.bitpacking.specs.Bits.{AreBytes}
 use Rattle.bitpacking.specs.Codes.{AreWords}
 use Rattle.bitpack_groups.specs.Laws.{GroupsAreRead, GroupsReadBack, OneRunOfCodes}
-use Rattle.bitpack_groups.specs.declared.group_error.GroupError.{GroupError}
 use Rattle.bitpack_groups.specs.Groups.{AreGroups, IsGroup, group_fault, group_codes, group_end, groups_fault, groups_codes, groups_of, after_groups}
 use Rattle.bitpack_groups.proofs.ByteLemmas.{AreBytes-append, AreBytes-drop, AreBytes-nil}
 use Rattle.bitpack_groups.proofs.FaultLemmas.{none_first}

@@ -1,11 +1,10 @@
 -- How long numbers and groups can be: no number has more than five bytes, and no group more than a byte beside its codes.
-use Rattle.std.proofs.Common.{◌≡◌, ℕ, zero, suc, ◌+◌, ◌*◌, ◌/◌, ◌%◌, ◌^◌, ◌<◌, ◌≤◌, List, [], ◌∷◌, length, take, drop, ap, arith, inl, inr}
+use Rattle.std.proofs.Common.{◌≡◌, ℕ, zero, suc, ◌+◌, ◌/◌, ◌%◌, ◌^◌, ◌<◌, ◌≤◌, [], length, take, drop, ap, arith, inl, inr}
 use Rattle.std.proofs.lemmas.Bool.{cases_lt, le-ltb, lt-ltb}
 use Rattle.std.proofs.lemmas.List.{length-append, length-drop, length-take}
 use Rattle.std.proofs.lemmas.List.Elements.{All-drop, All-take}
 use Rattle.std.proofs.lemmas.Nat.{mul-le}
 use Rattle.bitpacking.specs.Bits.{AreBytes}
-use Rattle.bitpacking.specs.Codes.{AreWords}
 use Rattle.bitpacking.proofs.ForCallers.{one_least_width}
 use Rattle.bitpack_groups.specs.Groups.{group_size}
 use Rattle.bitpack_groups.specs.Laws.{LongestGroup, LongestGroups, LongestNumber}

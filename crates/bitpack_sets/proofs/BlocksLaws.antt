@@ -12,7 +12,7 @@ build [] counts bytes = []
 build (h ∷ hs) [] bytes = []
 build (h ∷ hs) (less ∷ counts) bytes = (h, slice_numbers (less + 1) (take (slice_len (less + 1)) bytes)) ∷ build hs counts (drop (slice_len (less + 1)) bytes)
 
-build_highs : (hs counts bytes : List ℕ) → length hs ≡ length counts → map (λ part. part.0) (build hs counts bytes) ≡ hs
+pub build_highs : (hs counts bytes : List ℕ) → length hs ≡ length counts → map (λ part. part.0) (build hs counts bytes) ≡ hs
 unfolding build
 build_highs [] counts bytes e = refl
 build_highs (h ∷ hs) [] bytes e = absurd (omega arith)
@@ -42,7 +42,7 @@ build_slices (h ∷ hs) (less ∷ counts) bytes e (room, is, later) =
     ∙ ap (λ (l : List ℕ). take (slice_len (less + 1)) bytes ++ l) (build_slices hs counts (drop (slice_len (less + 1)) bytes) (omega arith) later)
     ∙ take-append-drop (slice_len (less + 1)) bytes
 
-build_are : (low : ℕ) (hs counts bytes : List ℕ) → length hs ≡ length counts → IsRising low 256 hs → AreSlices counts bytes → AreParts 256 low 256 (build hs counts bytes)
+pub build_are : (low : ℕ) (hs counts bytes : List ℕ) → length hs ≡ length counts → IsRising low 256 hs → AreSlices counts bytes → AreParts 256 low 256 (build hs counts bytes)
 unfolding build
 build_are low [] counts bytes e rises are = rises
 build_are low (h ∷ hs) [] bytes e rises are = absurd (omega arith)

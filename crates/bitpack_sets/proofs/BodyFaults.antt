@@ -24,7 +24,7 @@ below_of x y h ne = elim (cases_lt x y) [ inl less ↦ less | inr more ↦ absur
 abbrev else_of : ℕ → ℕ → List ℕ → Bool → Option SetError → Option SetError
 else_of m count bytes same numbers = cond same numbers (cond (are_blocks count bytes) None (Some (BadBody m)))
 
-blocks_fault : (m position count : ℕ) (bytes : List ℕ) → (length bytes ≡ 2 * count → ⊥) → body_fault m position count bytes ≡ cond (are_blocks count bytes) None (Some (BadBody m))
+pub blocks_fault : (m position count : ℕ) (bytes : List ℕ) → (length bytes ≡ 2 * count → ⊥) → body_fault m position count bytes ≡ cond (are_blocks count bytes) None (Some (BadBody m))
 unfolding body_fault
 blocks_fault m position count bytes ne = ap (λ (b : Bool). else_of m count bytes b (of_numbers m position count bytes)) (ne_eqb (length bytes) (2 * count) ne)
 

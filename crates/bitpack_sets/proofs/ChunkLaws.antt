@@ -73,7 +73,7 @@ module _ (ids chunks : ℕ) (rest : List ℕ) (are : EachByte rest) (is : IsRest
   keys_in : keys chunks_in ≡ map (key_at rest) (range_with_len 0 chunks)
   keys_in = map_map (λ (part : ℕ × List ℕ). part.0) (chunk_at chunks rest) 0 chunks
 
-  counts_in : counts chunks_in ≡ map (step_of (sum_at chunks rest)) (range_with_len 0 chunks)
+  pub counts_in : counts chunks_in ≡ map (step_of (sum_at chunks rest)) (range_with_len 0 chunks)
   counts_in =
       map_map (λ (part : ℕ × List ℕ). length part.1) (chunk_at chunks rest) 0 chunks
       ∙ map_same (λ m. length (body_numbers_of (count_at chunks rest m) (body_at chunks rest m))) (step_of (sum_at chunks rest)) 0 chunks (λ i low high. (is.bodies i (omega arith)).count_is)
@@ -133,7 +133,7 @@ module _ (ids chunks : ℕ) (rest : List ℕ) (are : EachByte rest) (is : IsRest
   sums_in : sums 0 (counts chunks_in) ≡ map (sum_at chunks rest) (range_with_len 0 chunks)
   sums_in = ap (sums 0) counts_in ∙ steps_summed (sum_at chunks rest) 0 chunks sums_up
 
-  keys_text : flat_map (le_bytes 2) (keys chunks_in) ≡ take (2 * chunks) (drop 1 rest)
+  pub keys_text : flat_map (le_bytes 2) (keys chunks_in) ≡ take (2 * chunks) (drop 1 rest)
   keys_text =
       let room = is.directory.room in
       ap (flat_map (le_bytes 2)) keys_in ∙ shorts_all 2 chunks (drop 1 rest) (bytes_dropped 1 rest are) (omega (arith, length-drop 1 rest))

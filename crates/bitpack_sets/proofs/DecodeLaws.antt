@@ -6,7 +6,7 @@ use Rattle.bitpack_sets.proofs.SliceLaws.{rising_room}
 use Rattle.bitpack_sets.proofs.RaisedLaws.{map_raised, ones_split}
 use Rattle.bitpack_sets.proofs.Words.{EachByte}
 use Rattle.bitpack_sets.specs.Sets.{IsRising}
-use Rattle.bitpack_sets.specs.Slices.{AreSlices, number_of, numbers_of, ones_from, slice_len, slice_numbers}
+use Rattle.bitpack_sets.specs.Slices.{AreSlices, IsSlice, number_of, numbers_of, ones_from, slice_len, slice_numbers}
 
 -- ---- words
 
@@ -162,6 +162,12 @@ slices_step i place counts bytes are h within =
     let count : ℕ = get_or counts i 0 + 1 in
     let (room, is, later) = subst (λ (l : List ℕ). AreSlices l (drop place bytes)) (drop_more counts i 0 h) are in
     (omega (arith, length-drop place bytes), subst (λ (l : List ℕ). AreSlices (drop (i + 1) counts) l) (drop-drop (slice_len count) place bytes) later)
+
+pub slice_here : (i place : ℕ) (counts bytes : List ℕ) → AreSlices (drop i counts) (drop place bytes) → i < length counts
+    → IsSlice (get_or counts i 0 + 1) (take (slice_len (get_or counts i 0 + 1)) (drop place bytes))
+slice_here i place counts bytes are h =
+    let (room, is, later) = subst (λ (l : List ℕ). AreSlices l (drop place bytes)) (drop_more counts i 0 h) are in
+    is
 
 pub parts_done : (base i n : ℕ) (hs counts bytes out : List ℕ) → length counts ≤ i → length hs ≤ i
     → take n out ++ map (λ j. base + j) (numbers_of (drop i hs) (drop i counts) bytes) ≡ take n out

@@ -1,5 +1,5 @@
 -- What it says of the directory and the bodies of a set in chunks that they have no fault.
-use Rattle.std.proofs.Common.{◌≡◌, ℕ, zero, suc, ◌+◌, ◌-◌, ◌*◌, ◌<◌, ◌≤◌, Bool, true, false, ◌&&◌, ◌||◌, not, ltb, leb, eqb, List, take, drop, length, get_or, Option, None, refl, sym, ap, ◌∙◌, arith, inl, inr, subst, eqb-true, eq-eqb, length-drop}
+use Rattle.std.proofs.Common.{◌≡◌, ℕ, zero, suc, ◌+◌, ◌-◌, ◌*◌, ◌<◌, ◌≤◌, Bool, true, false, ◌&&◌, ◌||◌, not, ltb, leb, eqb, List, take, drop, length, get_or, Option, Some, None, add-one, refl, sym, ap, ◌∙◌, arith, inl, inr, subst, eqb-true, eq-eqb, length-drop}
 use Rattle.std.specs.Option.{option_or}
 use Rattle.std.proofs.lemmas.Bool.{cases_lt, le-leb, lt-leb, lt-ltb, le-ltb, ne_eqb, true≢false}
 use Rattle.std.proofs.lemmas.List.{length-take-le}
@@ -57,6 +57,30 @@ unfolding first_of
 none_first fault zero h = refl
 none_first fault (suc count) h = none_or (first_of fault count) (fault count) (none_first fault count (λ m lt. h m (omega arith))) (h count (omega arith))
 
+-- as a loop finds it
+pub first_start : (fault : ℕ → Option SetError) → first_of fault 0 ≡ None
+unfolding first_of
+first_start fault = refl
+
+pub first_more : (fault : ℕ → Option SetError) (m : ℕ) → first_of fault m ≡ None → fault m ≡ None → first_of fault (m + 1) ≡ None
+unfolding first_of
+first_more fault m e f = ap (first_of fault) (add-one m) ∙ none_or (first_of fault m) (fault m) e f
+
+some_or : (a b : Option SetError) (e : SetError) → a ≡ Some e → option_or a b ≡ Some e
+some_or a b e h = ap (λ (o : Option SetError). option_or o b) h
+
+pub first_found : (fault : ℕ → Option SetError) (count m : ℕ) (e : SetError) → m < count → first_of fault m ≡ None → fault m ≡ Some e → first_of fault count ≡ Some e
+unfolding first_of
+first_found fault zero m e h before here = absurd (omega arith)
+first_found fault (suc count) m e h before here = elim (cases_lt m count) [
+  | inl less ↦ some_or (first_of fault count) (fault count) e (first_found fault count m e less before here)
+  | inr more ↦
+      let same : m ≡ count = omega arith in
+      let none : first_of fault count ≡ None = subst (λ (n : ℕ). first_of fault n ≡ None) same before in
+      let found : fault count ≡ Some e = subst (λ (n : ℕ). fault n ≡ Some e) same here in
+      ap (λ (o : Option SetError). option_or o (fault count)) none ∙ found
+]
+
 -- ---- entries
 
 pub entry_none : (ids chunks : ℕ) (rest : List ℕ) (m : ℕ) → entry_fault ids chunks rest m ≡ None → IsEntry ids chunks rest m
@@ -105,6 +129,11 @@ sizes_none rest e =
     let (e3, sum_some) = both _ _ e2 in
     let (end_some, end_few) = both _ _ e3 in
     (not_below (length rest) 1 some, is_below 0 (end_size rest) end_some, most_is (end_size rest) 4 end_few, is_below 0 (sum_size rest) sum_some, most_is (sum_size rest) 4 sum_few)
+
+pub has_directory : (chunks : ℕ) (rest : List ℕ) → sizes_fault rest ≡ None → bodies_start chunks rest ≤ length rest → HasDirectory chunks rest
+has_directory chunks rest e room =
+    let (one, end_some, end_few, sum_some, sum_few) = sizes_none rest e in
+    record { end_some = end_some; end_few = end_few; sum_some = sum_some; sum_few = sum_few; room = room }
 
 pub all_true : (a b : Bool) → a ≡ true → b ≡ true → (a && b) ≡ true
 all_true a b e f = ap (λ (x : Bool). x && b) e ∙ f
@@ -186,3 +215,17 @@ rest_none ids chunks rest are some e =
           (sym (at_body chunks rest m) ∙ first_none (body_fault_at chunks rest) chunks bad m lt);
       end = omega arith;
     }
+
+-- the body of a chunk as a loop takes it
+pub body_there : (chunks m position own start begin end : ℕ) (rest : List ℕ) → position ≡ before (sum_at chunks rest) m → own ≡ sum_at chunks rest m - position
+    → start ≡ bodies_start chunks rest → begin ≡ before (end_at chunks rest) m → end ≡ end_at chunks rest m
+    → body_fault_at chunks rest m ≡ body_fault m position own (take (start + end - (start + begin)) (drop (start + begin) rest))
+unfolding body_fault_at
+body_there chunks m position own start begin end rest p o s b e =
+    let size : start + end - (start + begin) ≡ size_at chunks rest m = omega arith in
+    let from : start + begin ≡ bodies_start chunks rest + before (end_at chunks rest) m = omega arith in
+    let count : own ≡ count_at chunks rest m = omega arith in
+    ap (λ (n : ℕ). body_fault m n (count_at chunks rest m) (body_at chunks rest m)) (sym p)
+    ∙ ap (λ (n : ℕ). body_fault m position n (body_at chunks rest m)) (sym count)
+    ∙ ap (λ (n : ℕ). body_fault m position own (take (size_at chunks rest m) (drop n rest))) (sym from)
+    ∙ ap (λ (n : ℕ). body_fault m position own (take n (drop (start + begin) rest))) (sym size)

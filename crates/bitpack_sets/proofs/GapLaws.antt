@@ -1,9 +1,11 @@
 -- A set of fewer than 128 ids has no fault exactly if it is the text of the ids that are read from it.
-use Rattle.std.proofs.Common.{◌≡◌, ℕ, zero, suc, ◌+◌, ◌-◌, ◌*◌, ◌/◌, ◌^◌, ◌<◌, ◌≤◌, Bool, true, false, leb, cond, List, [], ◌∷◌, ◌++◌, take, drop, length, get_or, Option, Some, None, refl, sym, ap, ◌∙◌, arith, inl, inr, subst, length-append, take-append-drop}
-use Rattle.std.specs.Option.{option_or}
+use Rattle.std.proofs.Common.{◌≡◌, ℕ, zero, suc, ◌+◌, ◌-◌, ◌*◌, ◌/◌, ◌^◌, ◌<◌, ◌≤◌, Bool, true, false, leb, cond, min, List, [], ◌∷◌, ◌++◌, take, drop, length, get_or, Option, Some, None, refl, sym, ap, ◌∙◌, arith, inl, inr, subst, length-append, take-append-drop, append_assoc, set, add-one}
+use Rattle.std.specs.Option.{is_some, option_or}
 use Rattle.std.proofs.lemmas.Bool.{cases_lt, le-leb, le-ltb, lt-leb, true≢false}
-use Rattle.std.proofs.lemmas.List.{append-nil, drop_at, get_or-drop, get_or_past}
-use Rattle.bitpack_groups.proofs.ForCallers.{groups_are_read, groups_read_back, number_reads_back, one_number, one_run_of_codes}
+use Rattle.std.proofs.lemmas.List.{append-nil, drop_all, drop_at, drop_more, take_all, take_more_set, get_or-drop, get_or_past}
+use Rattle.bitpack_groups.specs.Groups.{group_end}
+use Rattle.bitpack_groups.specs.declared.group_error.GroupError.{GroupError}
+use Rattle.bitpack_groups.proofs.ForCallers.{fault-here, fault-next, groups_are_read, groups_read_back, number_reads_back, one_number, one_run_of_codes}
 use Rattle.bitpacking.specs.Bits.{AreBytes}
 use Rattle.bitpacking.specs.Codes.{AreWords}
 use Rattle.bitpack_sets.proofs.CountLaws.{bytes_are}
@@ -12,9 +14,10 @@ use Rattle.bitpack_sets.proofs.GroupLaws.{group_is}
 use Rattle.bitpack_sets.proofs.LongLaws.{Below, rising_below}
 use Rattle.bitpack_sets.proofs.OnesLaws.{rising_lower}
 use Rattle.bitpack_sets.proofs.SliceLaws.{rising_room}
-use Rattle.bitpack_sets.specs.Faults.{first_over, ids_from, short_fault, short_ids}
+use Rattle.bitpack_sets.specs.Faults.{first_over, ids_from, short_fault, short_ids, some_fault}
+use Rattle.bitpack_sets.specs.Reads.{few_ids}
 use Rattle.bitpack_sets.specs.Sets.{IsRising, gaps, group, groups, short}
-use Rattle.bitpack_sets.specs.Varints.{AreGroups, after_groups, groups_codes, groups_fault, groups_of, number, number_end, number_fault, number_value, set_error}
+use Rattle.bitpack_sets.specs.Varints.{AreGroups, after_groups, group_fault, of, groups_codes, groups_fault, groups_of, number, number_end, number_fault, number_value, set_error}
 use Rattle.bitpack_sets.specs.declared.set_error.SetError.{SetError}
 use Rattle.bitpack_sets.specs.declared.set_error.SetError.TheVariants.{NotSorted, Trailing}
 
@@ -109,11 +112,83 @@ unfolding first_over
 none_over place [] h = refl
 none_over place (x ∷ xs) (a, h) = some_not (leb (2 ^ 32) x) place (first_over (place + 1) xs) (lt-leb (2 ^ 32) x a) (none_over (place + 1) xs h)
 
+-- as a loop finds it
+pub over_next : (i id next : ℕ) (codes : List ℕ) → i < length codes → id < 2 ^ 32 → next ≡ id + (get_or codes i 0 + 1)
+    → first_over i (ids_from id (drop i codes)) ≡ first_over (i + 1) (ids_from next (drop (i + 1) codes))
+unfolding first_over ids_from
+over_next i id next codes h small e =
+    let code : ℕ = get_or codes i 0 in
+    let f : id + code + 1 ≡ next = omega arith in
+    ap (λ (l : List ℕ). first_over i (ids_from id l)) (drop_more codes i 0 h)
+    ∙ ap (λ (b : Bool). cond b (Some i) (first_over (i + 1) (ids_from (id + code + 1) (drop (i + 1) codes)))) (lt-leb (2 ^ 32) id small)
+    ∙ ap (λ (n : ℕ). first_over (i + 1) (ids_from n (drop (i + 1) codes))) f
+
+pub over_found : (place id : ℕ) (codes : List ℕ) → 2 ^ 32 ≤ id → first_over place (ids_from id codes) ≡ Some place
+unfolding first_over
+over_found place id codes h =
+    ap (first_over place) (begins id codes) ∙ ap (λ (b : Bool). cond b (Some place) (first_over (place + 1) (drop 1 (ids_from id codes)))) (le-leb (2 ^ 32) id h)
+
+pub over_done : (i id : ℕ) (codes : List ℕ) → length codes ≤ i → id < 2 ^ 32 → first_over i (ids_from id (drop i codes)) ≡ None
+unfolding first_over ids_from
+over_done i id codes h small =
+    ap (λ (l : List ℕ). first_over i (ids_from id l)) (drop_all i codes h) ∙ ap (λ (b : Bool). cond b (Some i) None) (lt-leb (2 ^ 32) id small)
+
+pub over_small : (i id : ℕ) (codes : List ℕ) → i < length codes → id < 2 ^ 32 → first_over i (ids_from id (drop i codes)) ≡ None → id + (get_or codes i 0 + 1) < 2 ^ 32
+over_small i id codes h small none = elim (cases_lt (id + (get_or codes i 0 + 1)) (2 ^ 32)) [
+  | inl less ↦ less
+  | inr more ↦ absurd (true≢false (ap is_some (sym (over_next i id (id + (get_or codes i 0 + 1)) codes h small refl ∙ over_found (i + 1) (id + (get_or codes i 0 + 1)) (drop (i + 1) codes) more) ∙ none)))
+]
+
+-- as a loop writes them
+pub ids_first : (first : ℕ) (out codes : List ℕ) → 0 < length out → take (0 + 1) (set out 0 first) ++ drop 1 (ids_from first (drop 0 codes)) ≡ ids_from first codes
+ids_first first [] codes h = absurd (omega arith)
+ids_first first (x ∷ out) codes h = sym (begins first codes)
+
+pub ids_next : (i id next : ℕ) (codes out : List ℕ) → i < length codes → i + 1 < length out → next ≡ id + (get_or codes i 0 + 1)
+    → take (i + 1 + 1) (set out (i + 1) next) ++ drop 1 (ids_from next (drop (i + 1) codes)) ≡ take (i + 1) out ++ drop 1 (ids_from id (drop i codes))
+unfolding ids_from
+ids_next i id next codes out h room e =
+    let code : ℕ = get_or codes i 0 in
+    let f : next ≡ id + code + 1 = omega arith in
+    let left : List ℕ = drop 1 (ids_from next (drop (i + 1) codes)) in
+    ap (λ (l : List ℕ). l ++ left) (take_more_set out (i + 1) next room) ∙ append_assoc (take (i + 1) out) (next ∷ []) left
+    ∙ ap (λ (l : List ℕ). take (i + 1) out ++ l) (sym (begins next (drop (i + 1) codes)) ∙ ap (λ (n : ℕ). ids_from n (drop (i + 1) codes)) f)
+    ∙ ap (λ (l : List ℕ). take (i + 1) out ++ drop 1 (ids_from id l)) (sym (drop_more codes i 0 h))
+
+pub ids_done : (i id : ℕ) (codes out : List ℕ) → length codes ≤ i → length out ≤ i + 1 → out ≡ take (i + 1) out ++ drop 1 (ids_from id (drop i codes))
+unfolding ids_from
+ids_done i id codes out h room =
+    sym (take_all (i + 1) out room) ∙ sym (append-nil (take (i + 1) out)) ∙ ap (λ (l : List ℕ). take (i + 1) out ++ drop 1 (ids_from id l)) (sym (drop_all i codes h))
+
 from_rises : (first : ℕ) (codes : List ℕ) → Below (2 ^ 32) (ids_from first codes) → IsRising first (2 ^ 32) (ids_from first codes)
 unfolding ids_from
 from_rises first [] (a, h) = (omega arith, omega arith)
 from_rises first (code ∷ codes) (a, h) =
     (omega arith, rising_lower (first + code + 1) (first + 1) (2 ^ 32) (ids_from (first + code + 1) codes) (omega arith) (from_rises (first + code + 1) codes h))
+
+-- ---- as a loop finds it
+
+of_some : (o : Option GroupError) (e : SetError) → of o ≡ Some e → (fault : GroupError) × (o ≡ Some fault) × (set_error fault ≡ e)
+of_some None e h = absurd (true≢false (sym (ap is_some h)))
+of_some (Some fault) e h = (fault, refl, unwrapped (set_error fault) e h)
+  where
+    unwrapped : (a b : SetError) → ◌≡◌ {A = Option SetError} (Some a) (Some b) → a ≡ b
+    unwrapped a b h = cc
+
+zero_plus : (i : ℕ) → 0 + i ≡ i
+zero_plus i = omega arith
+
+pub of_here : (groups total i count : ℕ) (rest : List ℕ) (e : SetError) → i < groups → count ≡ min 32 (total - 32 * i) → of (group_fault i count rest) ≡ Some e
+    → of (groups_fault (groups - i) (0 + i) (total - 32 * i) rest) ≡ Some e
+of_here groups total i count rest e lt is h =
+    let (fault, found, same) = of_some (group_fault i count rest) e h in
+    let here = fault-here groups 0 total i count rest lt is fault (ap (λ (n : ℕ). group_fault n count rest) (zero_plus i) ∙ found) in
+    ap of here ∙ ap Some same
+
+pub of_later : (groups total i count : ℕ) (rest : List ℕ) → i < groups → count ≡ min 32 (total - 32 * i) → of (group_fault i count rest) ≡ None
+    → groups_fault (groups - i) (0 + i) (total - 32 * i) rest ≡ groups_fault (groups - (i + 1)) (0 + (i + 1)) (total - 32 * (i + 1)) (drop (group_end count rest) rest)
+of_later groups total i count rest lt is h =
+    fault-next groups 0 total i count rest lt is (ap (λ (n : ℕ). group_fault n count rest) (zero_plus i) ∙ map_none set_error (group_fault i count rest) h)
 
 -- ---- the law
 
@@ -134,7 +209,7 @@ short_is x xs = refl
 
 pub short_none : (more : ℕ) (bytes : List ℕ) → AreBytes bytes → short_fault (suc more) bytes ≡ None
     → IsRising 0 (2 ^ 32) (short_ids more bytes) × (length (short_ids more bytes) ≡ suc more) × (short (short_ids more bytes) ≡ (129 + more) ∷ bytes)
-unfolding short_fault
+unfolding short_fault some_fault
 short_none more bytes are e =
     let (number_none, e1) = or_none _ _ e in
     let (groups_none, e2) = or_none _ _ e1 in
@@ -173,7 +248,7 @@ pub later_bytes : (x : ℕ) (xs : List ℕ) → IsRising (x + 1) (2 ^ 32) xs →
 later_bytes x xs r = subst (λ (n : ℕ). AreBytes (groups (groups_of n) (gaps x xs))) (gaps_len x xs) (groups_run (gaps x xs) (gaps_below x xs r)).0
 
 pub none_short : (x : ℕ) (xs : List ℕ) → IsRising 0 (2 ^ 32) (x ∷ xs) → short_fault (suc (length xs)) (later_text x xs) ≡ None
-unfolding short_fault
+unfolding short_fault some_fault
 none_short x xs (zero', r) =
     let room = rising_room (x + 1) (2 ^ 32) xs r in
     let more : ℕ = length xs in
@@ -194,3 +269,28 @@ none_short x xs (zero', r) =
     (none_or _ _ (none_map set_error _ (ap (groups_fault (groups_of more) 0 more) same ∙ none))
     (none_or _ _ (none_map NotSorted _ (ap (first_over 0) ids ∙ none_over 0 (x ∷ xs) (rising_below 0 (2 ^ 32) (x ∷ xs) (zero', r))))
     (some_not _ Trailing None (le-ltb 0 (length (after_groups (groups_of more) more (drop (number_end (number x ++ run)) (number x ++ run)))) (omega (arith, ap length left))) refl)))
+
+-- what one id and others without a fault have
+pub record IsSoundFew (more : ℕ) (bytes : List ℕ) : Type 0 where
+  pub number : number_fault bytes ≡ None
+  pub groups_none : groups_fault (groups_of more) 0 more (drop (number_end bytes) bytes) ≡ None
+  pub small : first_over 0 (short_ids more bytes) ≡ None
+
+pub sound_few : (more : ℕ) (bytes : List ℕ) → some_fault more bytes ≡ None → IsSoundFew more bytes
+unfolding some_fault
+sound_few more bytes e =
+    let (number_none, e1) = or_none _ _ e in
+    let (groups_none, e2) = or_none _ _ e1 in
+    let (over, after) = or_none _ _ e2 in
+    record { number = map_none set_error _ number_none; groups_none = map_none set_error _ groups_none; small = map_none NotSorted _ over }
+
+-- one id and others, by how many they are
+some_more : (m n : ℕ) → n ≡ m + 1 → n ≡ suc m
+some_more m n e = e ∙ add-one m
+
+pub some_at : (m n : ℕ) (bytes : List ℕ) → n ≡ m + 1 → short_fault n bytes ≡ None → some_fault m bytes ≡ None
+unfolding short_fault
+some_at m n bytes e none = subst (λ (k : ℕ). short_fault k bytes ≡ None) (some_more m n e) none
+
+pub ids_at : (m n : ℕ) (bytes : List ℕ) → n ≡ m + 1 → short_ids m bytes ≡ few_ids n bytes
+ids_at m n bytes e = ap (λ (k : ℕ). few_ids k bytes) (sym (some_more m n e))

@@ -81,7 +81,7 @@ join_rises base low high (p ∷ ps) (a, some, r, later) =
 
 -- ---- what is tested as blocks is the blocks of the numbers that are read
 
-numbers_built : (hs counts bytes : List ℕ) → numbers_of hs counts bytes ≡ join 256 (build hs counts bytes)
+pub numbers_built : (hs counts bytes : List ℕ) → numbers_of hs counts bytes ≡ join 256 (build hs counts bytes)
 unfolding numbers_of build
 numbers_built [] counts bytes = refl
 numbers_built (h ∷ hs) [] bytes = refl

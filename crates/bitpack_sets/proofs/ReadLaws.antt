@@ -295,7 +295,7 @@ byte_is false = refl
 pub lowest : (n : ℕ) → n ≤ n
 lowest n = omega arith
 
-eqb_same : (a b c d : ℕ) → (a ≡ b → c ≡ d) → (c ≡ d → a ≡ b) → eqb a b ≡ eqb c d
+pub eqb_same : (a b c d : ℕ) → (a ≡ b → c ≡ d) → (c ≡ d → a ≡ b) → eqb a b ≡ eqb c d
 eqb_same a b c d f g = elim (cases_lt a b) [
   | inl less ↦ ne_eqb a b (λ e. omega arith) ∙ sym (ne_eqb c d (λ e. apart_below a b less (g e)))
   | inr more ↦ elim (cases_lt b a) [
@@ -304,7 +304,7 @@ eqb_same a b c d f g = elim (cases_lt a b) [
   ]
 ]
 
-has_append : (x : ℕ) (xs ys : List ℕ) → has x (xs ++ ys) ≡ (has x xs || has x ys)
+pub has_append : (x : ℕ) (xs ys : List ℕ) → has x (xs ++ ys) ≡ (has x xs || has x ys)
 has_append x [] ys = refl
 has_append x (y ∷ xs) ys = ap (λ (b : Bool). eqb y x || b) (has_append x xs ys) ∙ or_assoc (eqb y x) (has x xs) (has x ys)
 

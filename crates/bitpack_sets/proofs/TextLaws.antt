@@ -28,6 +28,7 @@ use Rattle.bitpack_sets.specs.Reads.{few_ids, ids_in, ids_in_array, ids_in_chunk
 use Rattle.bitpack_sets.specs.Sets.{IsRising, IsSet, array, gaps, groups, in_chunks, le_bytes, long, parts, short, sums, text}
 use Rattle.bitpack_sets.specs.Slices.{quads_of}
 use Rattle.bitpack_sets.specs.Sound.{IsRest}
+use Rattle.bitpack_sets.specs.Stated.{stated_count}
 use Rattle.bitpack_sets.specs.Varints.{byte_count, groups_codes, groups_of, number, number_end, number_fault, number_value, set_error}
 use Rattle.bitpack_sets.specs.declared.set_error.SetError.{SetError}
 use Rattle.bitpack_sets.specs.declared.set_error.SetError.TheVariants.{BadNumber, BadVersion, TooLong}
@@ -53,7 +54,7 @@ count_none bytes h =
     let (e, f) = if_some _ _ _ d in
     (map_none set_error _ a, not_below (number_value bytes) 128 c, not_below (2 ^ 28) (number_value bytes) e)
 
-chunks_none : (ids : ℕ) (bytes : List ℕ) → chunk_count_fault ids bytes ≡ None
+pub chunks_none : (ids : ℕ) (bytes : List ℕ) → chunk_count_fault ids bytes ≡ None
     → (number_fault bytes ≡ None) × (0 < number_value bytes) × (4 * number_value bytes ≤ ids) × (number_value bytes ≤ 65536)
 unfolding chunk_count_fault
 chunks_none ids bytes h =
@@ -329,3 +330,61 @@ text_is_read ids is =
     let (are, none) = text_sound ids is in
     let (is', e) = ids_are_read (text ids) are none in
     (are, none, one_set (ids_in (text ids)) ids is' is e)
+
+-- ---- counts
+
+-- the count that a text states is that of its ids
+count_chunks : (bytes : List ℕ) → AreBytes bytes → in_chunks_fault bytes ≡ None → length (ids_in_chunks bytes) ≡ number_value bytes
+unfolding in_chunks_fault
+count_chunks bytes are h =
+    let (h1, h2) = or_none _ _ h in
+    let (h3, h4) = or_none _ _ h2 in
+    let later : List ℕ = drop (number_end bytes) bytes in
+    let rest : List ℕ = drop (number_end later) later in
+    let (sound', some, apart, most) = chunks_none (number_value bytes) later h3 in
+    let each : EachByte rest = bytes_dropped (number_end later) later (bytes_are later (are_dropped (number_end bytes) bytes are)) in
+    ids_count (number_value bytes) (number_value later) rest each (rest_none (number_value bytes) (number_value later) rest each some h4)
+
+count_array : (bytes : List ℕ) → AreBytes bytes → array_fault bytes ≡ None → length (ids_in_array bytes) ≡ number_value bytes
+unfolding array
+count_array bytes are h =
+    let is : IsArray (ids_in_array bytes) bytes = array_no_fault one_number bytes are h in
+    let few = is.few in
+    let ids : List ℕ = ids_in_array bytes in
+    let (sound, value, end) = number_reads_back (length ids) (flat_map (le_bytes 4) ids) (omega arith) in
+    sym value ∙ ap number_value (tails 6 6 (number (length ids) ++ flat_map (le_bytes 4) ids) bytes is.text)
+
+count_few : (count : ℕ) (bytes : List ℕ) → AreBytes bytes → short_fault count bytes ≡ None → length (few_ids count bytes) ≡ count
+count_few zero bytes are h = refl
+count_few (suc more) bytes are h = (short_none more bytes are h).1
+
+pub count_stated : (bytes : List ℕ) → AreBytes bytes → fault bytes ≡ None → stated_count bytes ≡ length (ids_in bytes)
+unfolding fault ids_in
+count_stated [] are h = absurd (some_not_none _ h)
+count_stated (form ∷ bytes) are h =
+    let later : AreBytes bytes = λ k. are (suc k) in
+    let other : Option SetError = cond (eqb form 6) (array_fault bytes) (cond (ltb form 128) (Some (BadVersion form)) (short_fault (form - 128) bytes)) in
+    let others : List ℕ = cond (eqb form 6) (ids_in_array bytes) (few_ids (form - 128) bytes) in
+    elim (eqb_tells form 5) [
+      | inl (five, is) ↦
+          let none : in_chunks_fault bytes ≡ None = sym (ap (λ (b : Bool). cond b (in_chunks_fault bytes) other) five) ∙ h in
+          let low : ltb form 128 ≡ true = lt-ltb form 128 (omega arith) in
+          ap (λ (b : Bool). cond b (number_value bytes) (form - 128)) low ∙ sym (count_chunks bytes later none)
+          ∙ sym (ap (λ (b : Bool). length (cond b (ids_in_chunks bytes) others)) five)
+      | inr (not_five, isnt) ↦
+          let here : other ≡ None = sym (ap (λ (b : Bool). cond b (in_chunks_fault bytes) other) not_five) ∙ h in
+          let at : length others ≡ length (cond (eqb form 5) (ids_in_chunks bytes) others) = sym (ap (λ (b : Bool). length (cond b (ids_in_chunks bytes) others)) not_five) in
+          elim (eqb_tells form 6) [
+            | inl (six, is) ↦
+                let none : array_fault bytes ≡ None = sym (ap (λ (b : Bool). cond b (array_fault bytes) (cond (ltb form 128) (Some (BadVersion form)) (short_fault (form - 128) bytes))) six) ∙ here in
+                let low : ltb form 128 ≡ true = lt-ltb form 128 (omega arith) in
+                ap (λ (b : Bool). cond b (number_value bytes) (form - 128)) low ∙ sym (count_array bytes later none)
+                ∙ sym (ap (λ (b : Bool). length (cond b (ids_in_array bytes) (few_ids (form - 128) bytes))) six) ∙ at
+            | inr (not_six, isnt') ↦
+                let left : cond (ltb form 128) (Some (BadVersion form)) (short_fault (form - 128) bytes) ≡ None =
+                sym (ap (λ (b : Bool). cond b (array_fault bytes) (cond (ltb form 128) (Some (BadVersion form)) (short_fault (form - 128) bytes))) not_six) ∙ here in
+                let (high, none) = if_some (ltb form 128) (BadVersion form) (short_fault (form - 128) bytes) left in
+                ap (λ (b : Bool). cond b (number_value bytes) (form - 128)) high ∙ sym (count_few (form - 128) bytes later none)
+                ∙ sym (ap (λ (b : Bool). length (cond b (ids_in_array bytes) (few_ids (form - 128) bytes))) not_six) ∙ at
+          ]
+    ]

@@ -44,15 +44,18 @@ first_over place (x ∷ xs) = if nat_le (2 ^ 32) x then Some place else first_ov
 abbrev pub short_ids : ℕ → List ℕ → List ℕ
 short_ids more bytes = ids_from (number_value bytes) (groups_codes (groups_of more) more (drop (number_end bytes) bytes))
 
--- of what is after byte 0 of a set of so many ids
-unfoldable pub short_fault : ℕ → List ℕ → Option SetError
-short_fault zero bytes = trailing_after 0 bytes
-short_fault (suc more) bytes =
+-- of what is after byte 0 of a set of so many ids, or of one and `more`
+unfoldable pub some_fault : ℕ → List ℕ → Option SetError
+some_fault more bytes =
     let rest = drop (number_end bytes) bytes in
     option_or (of (number_fault bytes))
     (option_or (of (groups_fault (groups_of more) 0 more rest))
     (option_or (option_map NotSorted (first_over 0 (short_ids more bytes)))
     (trailing_after 0 (after_groups (groups_of more) more rest))))
+
+unfoldable pub short_fault : ℕ → List ℕ → Option SetError
+short_fault zero bytes = trailing_after 0 bytes
+short_fault (suc more) bytes = some_fault more bytes
 
 -- ---- arrays
 

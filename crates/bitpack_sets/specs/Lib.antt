@@ -3,10 +3,12 @@ pub mod Directory
 pub mod Errors
 pub mod Faults
 pub mod Laws
+pub mod Opened
 pub mod Reads
 pub mod Sets
 pub mod Slices
 pub mod Sound
+pub mod Stated
 pub mod Varints
 pub mod WorkedFaults
 pub mod WorkedSets

@@ -1,18 +1,19 @@
 //! Unpacks the numbers of bodies, in order.
 
 ghost use Rattle.std.specs.Prelude.{◌≡◌, ◌+◌, ◌*◌, ◌/◌, ◌^◌, ◌<◌, ◌≤◌, ◌++◌, drop, length, map, slice_index, take};
-ghost use Rattle.bitpack_sets.specs.Slices.{AreSlices, IsBlocks, IsSlice, block_numbers, numbers_of, pairs_of, slice_len, slice_numbers};
+ghost use Rattle.bitpack_sets.specs.Slices.{AreSlices, IsBlocks, IsSlice, block_numbers, numbers_in, numbers_of, pairs_of, slice_len, slice_numbers};
 
 use crate::chunk::search::number_at;
 use crate::slice::byte_len;
-use crate::slice::reading::unpack_slice;
+use crate::slice::reading::{unpack_slice, unpack_within};
 
 /// Writes the numbers of a body of blocks, each with `base` added. Returns where they end.
 pub(crate) fn unpack_blocks(body: &[u8], base: u32, out: &mut [u32], at: usize) -> usize
     requires blocks { IsBlocks (length (block_numbers body.now)) body.now }
     requires fits { base + 65536 ≤ 2 ^ 32 }
-    requires room { at + 65536 ≤ length out.old }
-    ensures { take result out.new ≡ take at out.old ++ map (λ i. base + i) (block_numbers body.now) }
+    requires room { at + length (block_numbers body.now) ≤ length out.old }
+    ensures end { result ≡ at + length (block_numbers body.now) }
+    ensures values { take result out.new ≡ take at out.old ++ map (λ i. base + i) (block_numbers body.now) }
 {
     let many = body[0] as usize + 1;
     let size = byte_len(many);
@@ -37,8 +38,9 @@ fn unpack_parts(
     requires highs { IsSlice (length counts.now) highs.now }
     requires slices { AreSlices counts.now slices.now }
     requires fits { base + 65536 ≤ 2 ^ 32 }
-    requires room { at + 65536 ≤ length out.old }
-    ensures { take result out.new
+    requires room { at + numbers_in counts.now ≤ length out.old }
+    ensures end { result ≡ at + numbers_in counts.now }
+    ensures values { take result out.new
         ≡ take at out.old ++ map (λ i. base + i) (numbers_of (slice_numbers (length counts.now) highs.now) counts.now slices.now) }
 {
     let mut firsts = [0; 256];
@@ -49,7 +51,7 @@ fn unpack_parts(
         let count = counts[i] as usize + 1;
         let size = byte_len(count);
         let first = base + 256 * firsts[i];
-        next = unpack_slice(count, &slices[place..place + size], first, out, next);
+        next = unpack_within(count, &slices[place..place + size], first, out, next);
         place += size;
     }
     next

@@ -7,6 +7,7 @@ ghost use Rattle.bitpack_sets.specs.Slices.{AreSlices, IsBlocks, IsSlice, block_
 
 use crate::slice::byte_len;
 use crate::slice::search::{in_slice, rank_in_slice};
+use crate::slice::testing::count_numbers;
 
 /// Whether a body of blocks has this number.
 pub(crate) fn in_blocks(body: &[u8], number: u16) -> bool
@@ -38,6 +39,39 @@ fn in_parts(highs: &[u8], counts: &[u8], slices: &[u8], number: u16) -> bool
     let count = counts[index] as usize + 1;
     let size = byte_len(count);
     in_slice(count, &slices[place..place + size], (number % 256) as u8)
+}
+
+/// How many numbers of a body of blocks are below one.
+pub(crate) fn rank_in_blocks(body: &[u8], number: u16) -> usize
+    requires { IsBlocks (length (block_numbers body.now)) body.now }
+    ensures { result ≡ rank number (block_numbers body.now) }
+{
+    let many = body[0] as usize + 1;
+    let size = byte_len(many);
+    let highs = &body[1..1 + size];
+    let counts = &body[1 + size..1 + size + many];
+    let slices = &body[1 + size + many..];
+    rank_in_parts(highs, counts, slices, number)
+}
+
+/// How many numbers of slices end to end are below one: their high bytes, of each the count less 1, and the slices.
+fn rank_in_parts(highs: &[u8], counts: &[u8], slices: &[u8], number: u16) -> usize
+    requires few { length counts.now ≤ 256 }
+    requires size { length highs.now ≡ slice_len (length counts.now) }
+    requires highs { IsSlice (length counts.now) highs.now }
+    requires slices { AreSlices counts.now slices.now }
+    ensures { result ≡ rank number (numbers_of (slice_numbers (length counts.now) highs.now) counts.now slices.now) }
+{
+    let high = (number / 256) as u8;
+    let index = rank_in_slice(counts.len(), highs, high);
+    let before = count_numbers(&counts[..index]);
+    if !in_slice(counts.len(), highs, high) {
+        return before;
+    }
+    let place = place_of_slice(counts, index);
+    let count = counts[index] as usize + 1;
+    let size = byte_len(count);
+    before + rank_in_slice(count, &slices[place..place + size], (number % 256) as u8)
 }
 
 /// Where a slice begins among slices end to end, of which each count less 1 is given.

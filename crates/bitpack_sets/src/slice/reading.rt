@@ -2,7 +2,32 @@
 
 ghost use Rattle.std.specs.Prelude.{◌≡◌, ◌+◌, ◌*◌, ◌/◌, ◌^◌, ◌<◌, ◌≤◌, ◌++◌, drop, length, map, slice_index, take};
 ghost use Rattle.std.specs.List.{range_with_len};
-ghost use Rattle.bitpack_sets.specs.Slices.{number_of, ones_from, slice_len, slice_numbers};
+ghost use Rattle.bitpack_sets.specs.Slices.{IsSlice, number_of, ones_from, slice_len, slice_numbers};
+
+/// Writes the numbers of a slice of `count`, each with `base` added, where there may be no room but for them. Returns where they end.
+pub(crate) fn unpack_within(
+    count: usize,
+    bytes: &[u8],
+    base: u32,
+    out: &mut [u32],
+    at: usize,
+) -> usize
+    requires count { count ≤ 256 }
+    requires size { length bytes.now ≡ slice_len count }
+    requires slice { IsSlice count bytes.now }
+    requires fits { base + 256 ≤ 2 ^ 32 }
+    requires room { at + count ≤ length out.old }
+    ensures end { result ≡ at + count }
+    ensures values { take result out.new ≡ take at out.old ++ map (λ i. base + i) (slice_numbers count bytes.now) }
+{
+    if out.len() - at >= 256 {
+        return unpack_slice(count, bytes, base, out, at);
+    }
+    let mut numbers = [0; 256];
+    let end = unpack_slice(count, bytes, base, &mut numbers, 0);
+    out[at..at + end].copy_from_slice(&numbers[..end]);
+    at + end
+}
 
 /// Writes the numbers of a slice of `count`, each with `base` added. Returns where they end.
 pub(crate) fn unpack_slice(

@@ -1,5 +1,5 @@
 -- One byte more is counted.
-use Rattle.std.proofs.Common.{◌≡◌, ℕ, length, ap, arith}
+use Rattle.std.proofs.Common.{length, ap, arith}
 use Rattle.bitpack_groups.proofs.Lengths.{longest_number}
 use Rattle.bitpack_groups.proofs.NumberLemmas.{number-large, number-small}
 use Rattle.bitpack_groups.proofs.numbers.number_len.Goals as goal
