@@ -1,0 +1,5 @@
+-- The definitions of this crate.
+pub mod Faults
+pub mod Groups
+pub mod Laws
+pub mod Numbers

@@ -1,0 +1,60 @@
+-- A body has no fault exactly if it is the body of the numbers that are read from it.
+use Rattle.std.proofs.Common.{◌≡◌, ℕ, suc, ◌+◌, ◌*◌, ◌<◌, ◌≤◌, Bool, true, false, ltb, eqb, List, [], ◌∷◌, ◌++◌, map, length, Option, Some, None, refl, sym, ap, ◌∙◌, arith, cond, inl, inr, subst, length-append}
+use Rattle.std.specs.List.{flat_map}
+use Rattle.std.proofs.lemmas.Bool.{cases_lt, ne_eqb}
+use Rattle.std.proofs.lemmas.Bool.Decides.{eqb_tells}
+use Rattle.bitpack_sets.proofs.BodyLaws.{body_blocks, body_numbers, numbers_len}
+use Rattle.bitpack_sets.proofs.FaultLaws.{if_none, if_none'}
+use Rattle.bitpack_sets.proofs.PartLaws.{AreParts, parts_are}
+use Rattle.bitpack_sets.proofs.TestLaws.{blocks_are_blocks, blocks_tested}
+use Rattle.bitpack_sets.proofs.ToldLaws.{blocks_told, body_none, none_body, of_numbers}
+use Rattle.bitpack_sets.proofs.Words.{EachByte}
+use Rattle.bitpack_sets.specs.Directory.{body_numbers_of}
+use Rattle.bitpack_sets.specs.Faults.{body_fault}
+use Rattle.bitpack_sets.specs.Sets.{IsRising, blocks, body, numbers}
+use Rattle.bitpack_sets.specs.Slices.{IsBlocks, are_blocks, block_numbers, pairs_of}
+use Rattle.bitpack_sets.specs.Sound.{IsBody}
+use Rattle.bitpack_sets.specs.declared.set_error.SetError.{SetError}
+use Rattle.bitpack_sets.specs.declared.set_error.SetError.TheVariants.{BadBody}
+
+below_of : (x y : ℕ) → x ≤ y → (x ≡ y → ⊥) → x < y
+below_of x y h ne = elim (cases_lt x y) [ inl less ↦ less | inr more ↦ absurd (ne (omega arith)) ]
+
+-- a body of another size is blocks
+abbrev else_of : ℕ → ℕ → List ℕ → Bool → Option SetError → Option SetError
+else_of m count bytes same numbers = cond same numbers (cond (are_blocks count bytes) None (Some (BadBody m)))
+
+pub blocks_fault : (m position count : ℕ) (bytes : List ℕ) → (length bytes ≡ 2 * count → ⊥) → body_fault m position count bytes ≡ cond (are_blocks count bytes) None (Some (BadBody m))
+unfolding body_fault
+blocks_fault m position count bytes ne = ap (λ (b : Bool). else_of m count bytes b (of_numbers m position count bytes)) (ne_eqb (length bytes) (2 * count) ne)
+
+pub body_read : (m position count : ℕ) (bytes : List ℕ) → EachByte bytes → length bytes ≤ 2 * count → body_fault m position count bytes ≡ None
+    → IsBody count bytes (body_numbers_of count bytes)
+body_read m position count bytes are size h = elim (eqb_tells (length bytes) (2 * count)) [
+  | inl (equal, same) ↦
+      let (rising, many, text) = body_none m position count bytes are same h in
+      let read : pairs_of bytes ≡ body_numbers_of count bytes = sym (ap (λ (b : Bool). cond b (pairs_of bytes) (block_numbers bytes)) equal) in
+      subst (IsBody count bytes) read (record { rising = rising; count_is = many; text = text })
+  | inr (other, ne) ↦
+      let less : length bytes < 2 * count = below_of (length bytes) (2 * count) size ne in
+      let is : IsBlocks count bytes = (blocks_tested count bytes are).0 (if_none (are_blocks count bytes) (BadBody m) (sym (blocks_fault m position count bytes ne) ∙ h)) in
+      let (rising, many, text) = blocks_told count bytes is in
+      let long = ap length text in
+      let read : block_numbers bytes ≡ body_numbers_of count bytes = sym (ap (λ (b : Bool). cond b (pairs_of bytes) (block_numbers bytes)) other) in
+      subst (IsBody count bytes) read (record { rising = rising; count_is = many; text = body_blocks (block_numbers bytes) (omega arith) ∙ text })
+]
+
+pub body_sound : (m position count : ℕ) (bytes xs : List ℕ) → EachByte bytes → 0 < count → IsBody count bytes xs → body_fault m position count bytes ≡ None
+body_sound m position count bytes xs are some is =
+    let many = is.count_is in
+    elim (cases_lt (length (blocks xs)) (2 * length xs)) [
+      | inl less ↦
+          let text : blocks xs ≡ bytes = sym (body_blocks xs less) ∙ is.text in
+          let long = ap length text in
+          let blocked : IsBlocks count bytes = subst (λ (n : ℕ). IsBlocks n bytes) many (subst (IsBlocks (length xs)) text (blocks_are_blocks xs is.rising (omega arith))) in
+          blocks_fault m position count bytes (λ e. absurd (omega arith)) ∙ if_none' (are_blocks count bytes) (BadBody m) ((blocks_tested count bytes are).1 blocked)
+      | inr more ↦
+          let text : numbers xs ≡ bytes = sym (body_numbers xs more) ∙ is.text in
+          let long : length bytes ≡ 2 * count = sym (ap length text) ∙ numbers_len xs ∙ ap (λ (n : ℕ). 2 * n) many in
+          none_body m position count bytes xs long is.rising many is.text
+    ]

@@ -1,0 +1,176 @@
+-- The words of bytes, and what is written.
+use Rattle.std.proofs.Common.{◌≡◌, ℕ, zero, suc, ◌+◌, ◌*◌, ◌^◌, ◌<◌, ◌≤◌, List, [], ◌∷◌, ◌++◌, map, take, drop, length, get_or, set, refl, sym, ap, ◌∙◌, arith, lit<, subst, append_assoc, append-nil, pow-add, length-drop}
+use Rattle.std.specs.List.{range_with_len}
+use Rattle.std.proofs.lemmas.List.{drop-drop, drop_all, drop_more, length-map, map-append, take_more, take_more_set, take_all}
+use Rattle.bitpack_sets.proofs.SliceLaws.{rising_room}
+use Rattle.bitpack_sets.proofs.RaisedLaws.{map_raised, ones_split}
+use Rattle.bitpack_sets.proofs.Words.{EachByte}
+use Rattle.bitpack_sets.specs.Sets.{IsRising}
+use Rattle.bitpack_sets.specs.Slices.{AreSlices, IsSlice, number_of, numbers_of, ones_from, slice_len, slice_numbers}
+
+-- ---- words
+
+pub number_take : (n k k' : ℕ) (bytes : List ℕ) → k' ≡ k + 1 → k < length bytes
+    → number_of (take (suc n) (drop k bytes)) ≡ get_or bytes k 0 + 256 * number_of (take n (drop k' bytes))
+unfolding number_of
+number_take n k k' bytes e h =
+    ap (λ (l : List ℕ). number_of (take (suc n) l)) (drop_more bytes k 0 h) ∙ ap (λ (m : ℕ). get_or bytes k 0 + 256 * number_of (take n (drop m bytes))) (sym e)
+
+none_left : (bytes : List ℕ) → number_of (take 0 bytes) ≡ 0
+unfolding number_of
+none_left bytes = refl
+
+pub word_number : (k : ℕ) (bytes : List ℕ) → k + 8 ≤ length bytes
+    → number_of (take 8 (drop k bytes)) ≡ get_or bytes k 0 + 256 * get_or bytes (k + 1) 0 + 65536 * get_or bytes (k + 2) 0 + 16777216 * get_or bytes (k + 3) 0
+    + 4294967296 * get_or bytes (k + 4) 0 + 1099511627776 * get_or bytes (k + 5) 0 + 281474976710656 * get_or bytes (k + 6) 0 + 72057594037927936 * get_or bytes (k + 7) 0
+word_number k bytes h =
+    let a = number_take 7 k (k + 1) bytes (omega arith) (omega arith) in
+    let b = number_take 6 (k + 1) (k + 2) bytes (omega arith) (omega arith) in
+    let c = number_take 5 (k + 2) (k + 3) bytes (omega arith) (omega arith) in
+    let d = number_take 4 (k + 3) (k + 4) bytes (omega arith) (omega arith) in
+    let e = number_take 3 (k + 4) (k + 5) bytes (omega arith) (omega arith) in
+    let f = number_take 2 (k + 5) (k + 6) bytes (omega arith) (omega arith) in
+    let g = number_take 1 (k + 6) (k + 7) bytes (omega arith) (omega arith) in
+    let i = number_take 0 (k + 7) (k + 8) bytes (omega arith) (omega arith) in
+    let j = none_left (drop (k + 8) bytes) in
+    omega arith
+
+next_power : (k : ℕ) → 2 ^ (8 * suc k) ≡ 2 ^ (8 * k) * 256
+next_power k = let e : 8 * suc k ≡ 8 * k + 8 = omega arith in ap (λ (n : ℕ). 2 ^ n) e ∙ pow-add 2 (8 * k) 8
+
+ring : (b w p r : ℕ) → b + 256 * (w * p + r) ≡ w * (p * 256) + (b + 256 * r)
+ring b w p r = grind arith
+
+number_split : (k n : ℕ) (bytes : List ℕ) → k ≤ length bytes
+    → number_of (take (k + n) bytes) ≡ number_of (take n (drop k bytes)) * 2 ^ (8 * k) + number_of (take k bytes)
+unfolding number_of
+number_split zero n bytes h =
+    let e : zero + n ≡ n = omega arith in
+    let f = ap (λ (m : ℕ). number_of (take m bytes)) e in
+    omega arith
+number_split (suc k) n [] h = absurd (omega arith)
+number_split (suc k) n (b ∷ bytes) h =
+    let e : suc k + n ≡ suc (k + n) = omega arith in
+    ap (λ (m : ℕ). number_of (take m (b ∷ bytes))) e ∙ ap (λ (m : ℕ). b + 256 * m) (number_split k n bytes (omega arith))
+    ∙ ring b (number_of (take n (drop k bytes))) (2 ^ (8 * k)) (number_of (take k bytes))
+    ∙ ap (λ (m : ℕ). number_of (take n (drop k bytes)) * m + (b + 256 * number_of (take k bytes))) (sym (next_power k))
+
+pub number_bits : (k : ℕ) (bytes : List ℕ) → EachByte bytes → number_of (take k bytes) < 2 ^ (8 * k)
+unfolding number_of
+number_bits zero bytes h = lit< tt
+number_bits (suc k) [] h = let p = next_power k in let ih = number_bits k [] tt in omega arith
+number_bits (suc k) (b ∷ bytes) (a, h) = let p = next_power k in let ih = number_bits k bytes h in omega arith
+
+pub bytes_dropped : (n : ℕ) (bytes : List ℕ) → EachByte bytes → EachByte (drop n bytes)
+bytes_dropped zero bytes h = h
+bytes_dropped (suc n) [] h = h
+bytes_dropped (suc n) (byte ∷ bytes) (a, h) = bytes_dropped n bytes h
+
+-- one word more of the bits of bytes
+pub word_more : (bytes : List ℕ) (base n : ℕ) → EachByte bytes → 8 * n ≤ length bytes
+    → map (λ i. base + i) (ones_from (number_of (take (8 * (n + 1)) bytes)) 0 (64 * (n + 1)))
+    ≡ map (λ i. base + i) (ones_from (number_of (take (8 * n) bytes)) 0 (64 * n))
+    ++ map (λ i. base + 64 * n + i) (ones_from (number_of (take 8 (drop (8 * n) bytes))) 0 64)
+word_more bytes base n are h =
+    let f : List ℕ → List ℕ = map (λ i. base + i) in
+    let r : ℕ = number_of (take (8 * n) bytes) in
+    let w : ℕ = number_of (take 8 (drop (8 * n) bytes)) in
+    let e : 8 * (n + 1) ≡ 8 * n + 8 = omega arith in
+    let size : 64 * (n + 1) ≡ 64 * n + 64 = omega arith in
+    let power : 8 * (8 * n) ≡ 64 * n = omega arith in
+    let split : number_of (take (8 * (n + 1)) bytes) ≡ w * 2 ^ (64 * n) + r =
+    ap (λ (m : ℕ). number_of (take m bytes)) e ∙ number_split (8 * n) 8 bytes h ∙ ap (λ (m : ℕ). w * 2 ^ m + r) power in
+    let low : r < 2 ^ (64 * n) = subst (λ (m : ℕ). r < 2 ^ m) power (number_bits (8 * n) bytes are) in
+    let high : w < 2 ^ 64 = number_bits 8 (drop (8 * n) bytes) (bytes_dropped (8 * n) bytes are) in
+    ap (λ (m : ℕ). f (ones_from m 0 (64 * (n + 1)))) split
+    ∙ ap (λ (m : ℕ). f (ones_from (w * 2 ^ (64 * n) + r) 0 m)) size
+    ∙ ap f (ones_split (64 * n) 64 w r low high)
+    ∙ map-append (λ i. base + i) (ones_from r 0 (64 * n)) (map (λ i. 64 * n + i) (ones_from w 0 64))
+    ∙ ap (λ (l : List ℕ). f (ones_from r 0 (64 * n)) ++ l) (map_raised base (64 * n) (ones_from w 0 64))
+
+-- ---- what is written
+
+-- one number more of some
+pub more_written : (f : ℕ → ℕ) (out xs front : List ℕ) (at i x : ℕ) → i < length xs → at + i < length out → x ≡ get_or xs i 0
+    → take (at + i) out ≡ front ++ map f (take i xs) → take (at + (i + 1)) (set out (at + i) (f x)) ≡ front ++ map f (take (i + 1) xs)
+more_written f out xs front at i x h room e before =
+    let next : at + (i + 1) ≡ (at + i) + 1 = omega arith in
+    ap (λ (m : ℕ). take m (set out (at + i) (f x))) next ∙ take_more_set out (at + i) (f x) room ∙ ap (λ (l : List ℕ). l ++ f x ∷ []) before
+    ∙ append_assoc front (map f (take i xs)) (f x ∷ []) ∙ ap (λ (y : ℕ). front ++ (map f (take i xs) ++ f y ∷ [])) e
+    ∙ ap (λ (l : List ℕ). front ++ l) (sym (map-append f (take i xs) (get_or xs i 0 ∷ [])) ∙ ap (map f) (sym (take_more xs i 0 h)))
+
+-- none yet
+pub none_written : (f : ℕ → ℕ) (out xs : List ℕ) (at : ℕ) → take (at + 0) out ≡ take at out ++ map f (take 0 xs)
+none_written f out xs at = let e : at + 0 ≡ at = omega arith in ap (λ (m : ℕ). take m out) e ∙ sym (append-nil (take at out))
+
+-- all of them
+pub all_written : (f : ℕ → ℕ) (out xs front : List ℕ) (at i n : ℕ) → length xs ≤ i → n ≡ at + i → take (at + i) out ≡ front ++ map f (take i xs) → take n out ≡ front ++ map f xs
+all_written f out xs front at i n done e before =
+    ap (λ (m : ℕ). take m out) e ∙ before ∙ ap (λ (l : List ℕ). front ++ map f l) (take_all i xs done)
+
+pub range_at : (low n i : ℕ) → i < n → get_or (range_with_len low n) i 0 ≡ low + i
+range_at low zero i h = absurd (omega arith)
+range_at low (suc n) zero h = omega arith
+range_at low (suc n) (suc i) h = let ih = range_at (low + 1) n i (omega arith) in omega arith
+
+-- ---- slices end to end
+
+get_take : (r i : ℕ) (xs : List ℕ) → i < length (take r xs) → get_or (take r xs) i 0 ≡ get_or xs i 0
+get_take zero i xs h = absurd (omega arith)
+get_take (suc r) i [] h = absurd (omega arith)
+get_take (suc r) zero (x ∷ xs) h = refl
+get_take (suc r) (suc i) (x ∷ xs) h = get_take r i xs (omega arith)
+
+get_raised : (i : ℕ) (xs : List ℕ) → get_or (map (λ j. 0 + j) xs) i 0 ≡ get_or xs i 0
+get_raised i [] = refl
+get_raised zero (x ∷ xs) = omega arith
+get_raised (suc i) (x ∷ xs) = get_raised i xs
+
+-- the high bytes are written
+pub first_at : (r i : ℕ) (out hs : List ℕ) → take r out ≡ map (λ j. 0 + j) hs → i < length hs → get_or out i 0 ≡ get_or hs i 0
+first_at r i out hs e h =
+    let size = ap length e ∙ length-map hs (λ j. 0 + j) in
+    sym (get_take r i out (omega arith)) ∙ ap (λ (l : List ℕ). get_or l i 0) e ∙ get_raised i hs
+
+pub rising_top : (low high i : ℕ) (xs : List ℕ) → IsRising low high xs → i < length xs → get_or xs i 0 < high
+rising_top low high i [] r h = absurd (omega arith)
+rising_top low high zero (x ∷ xs) (a, r) h = let room = rising_room (x + 1) high xs r in omega arith
+rising_top low high (suc i) (x ∷ xs) (a, r) h = rising_top (x + 1) high i xs r (omega arith)
+
+pub parts_step : (base i place : ℕ) (hs counts bytes : List ℕ) → i < length hs → i < length counts
+    → map (λ j. base + j) (numbers_of (drop i hs) (drop i counts) (drop place bytes))
+    ≡ map (λ j. base + 256 * get_or hs i 0 + j) (slice_numbers (get_or counts i 0 + 1) (take (slice_len (get_or counts i 0 + 1)) (drop place bytes)))
+    ++ map (λ j. base + j) (numbers_of (drop (i + 1) hs) (drop (i + 1) counts) (drop (place + slice_len (get_or counts i 0 + 1)) bytes))
+unfolding numbers_of
+parts_step base i place hs counts bytes h k =
+    let f : List ℕ → List ℕ = map (λ j. base + j) in
+    let high : ℕ = get_or hs i 0 in
+    let count : ℕ = get_or counts i 0 + 1 in
+    let low : List ℕ = slice_numbers count (take (slice_len count) (drop place bytes)) in
+    let rest : List ℕ = numbers_of (drop (i + 1) hs) (drop (i + 1) counts) (drop (slice_len count) (drop place bytes)) in
+    let e : base + high * 256 ≡ base + 256 * high = omega arith in
+    ap (λ (l : List ℕ). f (numbers_of l (drop i counts) (drop place bytes))) (drop_more hs i 0 h)
+    ∙ ap (λ (l : List ℕ). f (numbers_of (high ∷ drop (i + 1) hs) l (drop place bytes))) (drop_more counts i 0 k)
+    ∙ map-append (λ j. base + j) (map (λ j. high * 256 + j) low) rest
+    ∙ ap (λ (l : List ℕ). l ++ f rest) (map_raised base (high * 256) low)
+    ∙ ap (λ (m : ℕ). map (λ j. m + j) low ++ f rest) e
+    ∙ ap (λ (l : List ℕ). map (λ j. base + 256 * high + j) low ++ f (numbers_of (drop (i + 1) hs) (drop (i + 1) counts) l)) (drop-drop (slice_len count) place bytes)
+
+pub slices_step : (i place : ℕ) (counts bytes : List ℕ) → AreSlices (drop i counts) (drop place bytes) → i < length counts → place ≤ length bytes
+    → (place + slice_len (get_or counts i 0 + 1) ≤ length bytes) × AreSlices (drop (i + 1) counts) (drop (place + slice_len (get_or counts i 0 + 1)) bytes)
+slices_step i place counts bytes are h within =
+    let count : ℕ = get_or counts i 0 + 1 in
+    let (room, is, later) = subst (λ (l : List ℕ). AreSlices l (drop place bytes)) (drop_more counts i 0 h) are in
+    (omega (arith, length-drop place bytes), subst (λ (l : List ℕ). AreSlices (drop (i + 1) counts) l) (drop-drop (slice_len count) place bytes) later)
+
+pub slice_here : (i place : ℕ) (counts bytes : List ℕ) → AreSlices (drop i counts) (drop place bytes) → i < length counts
+    → IsSlice (get_or counts i 0 + 1) (take (slice_len (get_or counts i 0 + 1)) (drop place bytes))
+slice_here i place counts bytes are h =
+    let (room, is, later) = subst (λ (l : List ℕ). AreSlices l (drop place bytes)) (drop_more counts i 0 h) are in
+    is
+
+pub parts_done : (base i n : ℕ) (hs counts bytes out : List ℕ) → length counts ≤ i → length hs ≤ i
+    → take n out ++ map (λ j. base + j) (numbers_of (drop i hs) (drop i counts) bytes) ≡ take n out
+unfolding numbers_of
+parts_done base i n hs counts bytes out h k =
+    ap (λ (l : List ℕ). take n out ++ map (λ j. base + j) (numbers_of l (drop i counts) bytes)) (drop_all i hs k) ∙ append-nil (take n out)

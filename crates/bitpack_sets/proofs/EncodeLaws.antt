@@ -1,0 +1,89 @@
+-- The text of a set by its form, and what calls leave.
+use Rattle.std.proofs.Common.{◌≡◌, ℕ, zero, suc, ◌+◌, ◌-◌, ◌*◌, ◌^◌, ◌<◌, ◌≤◌, List, [], ◌∷◌, ◌++◌, length, take, drop, Option, Some, None, Result, Ok, Err, MatchOption, OnErr, true, refl, sym, ap, ◌∙◌, arith, length-append}
+use Rattle.std.specs.Result.{is_err}
+use Rattle.std.specs.List.{concat}
+use Rattle.std.proofs.lemmas.Bool.{cond_above, cond_below}
+use Rattle.std.proofs.lemmas.List.{append-nil, drop_all, drop_at, take_all, take_at}
+use Rattle.bitpack_sets.proofs.LongFilled.{array_size, chunks_length}
+use Rattle.bitpack_sets.proofs.LongLaws.{long_array, long_chunks}
+use Rattle.bitpack_sets.specs.declared.set_error.SetError.{SetError}
+use Rattle.bitpack_sets.specs.Sets.{array, in_chunks, long, parts, short, text}
+use Rattle.bitpack_sets.specs.Varints.{byte_count, number}
+use Rattle.bitpack_sets.specs.Written.{IsMeasured, bodies, refusal}
+
+-- ---- the three forms
+
+pub few_is : (ids : List ℕ) → length ids ≤ 127 → text ids ≡ short ids
+unfolding text
+few_is ids h = let few : length ids < 128 = omega arith in sym (cond_below (length ids) 128 (short ids) (long ids) few)
+
+many_is : (ids : List ℕ) → 127 < length ids → text ids ≡ long ids
+unfolding text
+many_is ids h = let many : 128 ≤ length ids = omega arith in sym (cond_above (length ids) 128 (short ids) (long ids) _ many refl)
+
+pub array_is : (ids : List ℕ) (chunks : ℕ) → 127 < length ids → chunks ≡ length (parts 65536 ids) → length ids < 4 * chunks → text ids ≡ array ids
+array_is ids chunks many e h = many_is ids many ∙ long_array ids (omega arith)
+
+pub chunks_is : (ids : List ℕ) (chunks : ℕ) → 127 < length ids → chunks ≡ length (parts 65536 ids) → 4 * chunks ≤ length ids → text ids ≡ in_chunks ids
+chunks_is ids chunks many e h = many_is ids many ∙ long_chunks ids (omega arith)
+
+-- ---- what is measured
+
+pub few_measured : (ids : List ℕ) (len : ℕ) → length ids ≤ 127 → len ≡ length (short ids) → IsMeasured ids len 0 0
+few_measured ids len few e = record {
+  len_is = e ∙ sym (ap length (few_is ids few));
+  chunks_is = λ many. absurd (omega arith);
+  bytes_is = λ many. absurd (omega arith);
+  few = omega arith;
+  small = omega arith;
+}
+
+pub array_measured : (ids : List ℕ) (len chunks size : ℕ) → 127 < length ids → chunks ≡ length (parts 65536 ids) → size ≡ length (concat (bodies ids)) → chunks ≤ length ids
+    → size ≤ 2 * length ids → length ids < 4 * chunks → len ≡ 1 + length (number (length ids)) + 4 * length ids → IsMeasured ids len chunks size
+array_measured ids len chunks size many a b few small less e = record {
+  len_is = e ∙ sym (array_size ids) ∙ sym (ap length (array_is ids chunks many a less));
+  chunks_is = λ _. a;
+  bytes_is = λ _. b;
+  few = few;
+  small = small;
+}
+
+pub chunks_measured : (ids : List ℕ) (len chunks size : ℕ) → 127 < length ids → chunks ≡ length (parts 65536 ids) → size ≡ length (concat (bodies ids)) → chunks ≤ length ids
+    → size ≤ 2 * length ids → 4 * chunks ≤ length ids
+    → len ≡ 2 + length (number (length ids)) + length (number chunks) + (2 + byte_count size + byte_count (length ids)) * chunks + size → IsMeasured ids len chunks size
+chunks_measured ids len chunks size many a b few small more e = record {
+  len_is = e ∙ sym (chunks_length ids chunks size a b) ∙ sym (ap length (chunks_is ids chunks many a more));
+  chunks_is = λ _. a;
+  bytes_is = λ _. b;
+  few = few;
+  small = small;
+}
+
+-- ---- what calls leave
+
+pub refused : {A : Type 0} (ids : List ℕ) (e : SetError) (P : Type 0) (result : Result A SetError) → refusal ids ≡ Some e → result ≡ Err e
+    → MatchOption (refusal ids) P (λ fault. result ≡ Err fault)
+refused ids e P result is err = rw is err
+
+pub accepted : (ids : List ℕ) {P : Type 0} (Q : SetError → Type 0) → refusal ids ≡ None → P → MatchOption (refusal ids) P Q
+accepted ids Q none holds = rw none holds
+
+pub not_refused : (ids : List ℕ) (e : SetError) → refusal ids ≡ Some e → refusal ids ≡ None → ⊥
+not_refused ids e is none = let both : Some e ≡ None = sym is ∙ none in absurd cc
+
+pub on_err : {A E P : Type 0} (result : Result A E) → is_err result ≡ true → OnErr result P → P
+on_err (Ok x) e holds = absurd cc
+on_err (Err x) e holds = holds
+
+-- zeros at the end of a vector that are written over
+pub written_over : (old zeros items new : List ℕ) (from len : ℕ) → items ≡ old ++ zeros → from ≡ length old → length new ≡ length zeros → len ≡ length items
+    → take len ((take from items ++ (new ++ drop (length new) (drop from items)))
+    ++ drop (length (take from items ++ (new ++ drop (length new) (drop from items)))) items) ≡ old ++ new
+written_over old zeros items new from len e at same all =
+    let front : take from items ≡ old = ap (take from) e ∙ take_at old zeros from (sym at) in
+    let back : drop from items ≡ zeros = ap (drop from) e ∙ drop_at old zeros from (sym at) in
+    let none : drop (length new) zeros ≡ [] = drop_all (length new) zeros (omega arith) in
+    let long : length items ≡ length old + length zeros = ap length e ∙ length-append old zeros in
+    let end : drop (length (old ++ new)) items ≡ [] = drop_all (length (old ++ new)) items (omega (arith, length-append old new)) in
+    let whole : take len (old ++ new) ≡ old ++ new = take_all len (old ++ new) (omega (arith, length-append old new)) in
+    rw (front, back, none, append-nil new, end, append-nil (old ++ new)) whole

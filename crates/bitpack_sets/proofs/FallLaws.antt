@@ -1,0 +1,218 @@
+-- Walks over increasing numbers: the first that is not above the one before, and how many chunks and slices they have.
+use Rattle.std.proofs.Common.{◌≡◌, ◌≢◌, ℕ, zero, suc, ◌+◌, ◌-◌, ◌*◌, ◌/◌, ◌%◌, ◌<◌, ◌≤◌, Bool, true, false, eqb, leb, cond, List, [], ◌∷◌, ◌++◌, map, drop, length, get_or, Option, Some, None, refl, sym, ap, ◌∙◌, arith, eqb-true, eq-eqb, length-append, length-drop}
+use Rattle.std.specs.List.{flat_map}
+use Rattle.std.proofs.lemmas.Bool.{le-leb, lt-leb, ne_eqb}
+use Rattle.std.proofs.lemmas.Bool.Decides.{eqb_tells}
+use Rattle.std.proofs.lemmas.List.{drop_more, length-map}
+use Rattle.bitpack_sets.proofs.TestLaws.{slice_size}
+use Rattle.bitpack_sets.specs.Sets.{blocks, blocks_of, parts, slice, with_number}
+use Rattle.bitpack_sets.specs.Slices.{first_fall, slice_len}
+
+-- ---- the first fall
+
+-- the list from one before an index on
+two_more : (xs : List ℕ) (i : ℕ) → 1 ≤ i → i < length xs → drop (i - 1) xs ≡ get_or xs (i - 1) 0 ∷ get_or xs i 0 ∷ drop (i + 1) xs
+two_more xs i some lt =
+    let e : i - 1 + 1 ≡ i = omega arith in
+    drop_more xs (i - 1) 0 (omega arith) ∙ ap (λ (n : ℕ). get_or xs (i - 1) 0 ∷ drop n xs) e ∙ ap (λ (l : List ℕ). get_or xs (i - 1) 0 ∷ l) (drop_more xs i 0 lt)
+
+pub fall_here : (place i : ℕ) (xs : List ℕ) → 1 ≤ i → i < length xs → get_or xs i 0 ≤ get_or xs (i - 1) 0
+    → first_fall place xs ≡ first_fall (place + (i - 1)) (drop (i - 1) xs) → first_fall place xs ≡ Some (place + i)
+unfolding first_fall
+fall_here place i xs some lt falls so_far =
+    let e : place + (i - 1) + 1 ≡ place + i = omega arith in
+    so_far ∙ ap (first_fall (place + (i - 1))) (two_more xs i some lt)
+    ∙ ap (λ (b : Bool). cond b (Some (place + (i - 1) + 1)) (first_fall (place + (i - 1) + 1) (get_or xs i 0 ∷ drop (i + 1) xs))) (le-leb (get_or xs i 0) (get_or xs (i - 1) 0) falls) ∙ ap Some e
+
+pub fall_later : (place i : ℕ) (xs : List ℕ) → 1 ≤ i → i < length xs → get_or xs (i - 1) 0 < get_or xs i 0
+    → first_fall place xs ≡ first_fall (place + (i - 1)) (drop (i - 1) xs) → first_fall place xs ≡ first_fall (place + (i + 1 - 1)) (drop (i + 1 - 1) xs)
+unfolding first_fall
+fall_later place i xs some lt rises so_far =
+    let e : place + (i - 1) + 1 ≡ place + (i + 1 - 1) = omega arith in
+    let f : i + 1 - 1 ≡ i = omega arith in
+    so_far ∙ ap (first_fall (place + (i - 1))) (two_more xs i some lt)
+    ∙ ap (λ (b : Bool). cond b (Some (place + (i - 1) + 1)) (first_fall (place + (i - 1) + 1) (get_or xs i 0 ∷ drop (i + 1) xs))) (lt-leb (get_or xs i 0) (get_or xs (i - 1) 0) rises)
+    ∙ ap (λ (n : ℕ). first_fall n (get_or xs i 0 ∷ drop (i + 1) xs)) e ∙ ap (first_fall (place + (i + 1 - 1))) (sym (drop_more xs i 0 lt) ∙ ap (λ (n : ℕ). drop n xs) (sym f))
+
+pub fall_start : (place : ℕ) (xs : List ℕ) → first_fall place xs ≡ first_fall (place + (1 - 1)) (drop (1 - 1) xs)
+fall_start place xs = let e : place ≡ place + (1 - 1) = omega arith in ap (λ (n : ℕ). first_fall n xs) e
+
+short_none : (place : ℕ) (xs : List ℕ) → length xs ≤ 1 → first_fall place xs ≡ None
+unfolding first_fall
+short_none place [] h = refl
+short_none place (x ∷ []) h = refl
+short_none place (x ∷ y ∷ ys) h = absurd (omega arith)
+
+pub fall_none : (place i : ℕ) (xs : List ℕ) → length xs ≤ i → first_fall place xs ≡ first_fall (place + (i - 1)) (drop (i - 1) xs) → first_fall place xs ≡ None
+fall_none place i xs done so_far = so_far ∙ short_none (place + (i - 1)) (drop (i - 1) xs) (omega (arith, length-drop (i - 1) xs))
+
+-- ---- parts
+
+-- the first part, of numbers that begin with one
+record Begins (base x : ℕ) (xs : List ℕ) : Type 0 where
+  first : ℕ × List ℕ
+  others : List (ℕ × List ℕ)
+  are : parts base (x ∷ xs) ≡ first ∷ others
+  key : first.0 ≡ x / base
+
+begins_case : (b : Bool) (base x : ℕ) (part : ℕ × List ℕ) (ps : List (ℕ × List ℕ)) → (b ≡ true → part.0 ≡ x / base)
+    → (first : ℕ × List ℕ) × (others : List (ℕ × List ℕ)) × (cond b ((part.0, x % base ∷ part.1) ∷ ps) ((x / base, x % base ∷ []) ∷ part ∷ ps) ≡ first ∷ others) × (first.0 ≡ x / base)
+begins_case true base x part ps h = ((part.0, x % base ∷ part.1), ps, refl, h refl)
+begins_case false base x part ps h = ((x / base, x % base ∷ []), part ∷ ps, refl, refl)
+
+begins_with : (base x : ℕ) (ps : List (ℕ × List ℕ))
+    → (first : ℕ × List ℕ) × (others : List (ℕ × List ℕ)) × (with_number base x ps ≡ first ∷ others) × (first.0 ≡ x / base)
+unfolding with_number
+begins_with base x [] = ((x / base, x % base ∷ []), [], refl, refl)
+begins_with base x (part ∷ ps) = begins_case (eqb part.0 (x / base)) base x part ps (λ e. eqb-true part.0 (x / base) e)
+
+begins : (base x : ℕ) (xs : List ℕ) → Begins base x xs
+unfolding parts
+begins base x xs =
+    let (first, others, are, key) = begins_with base x (parts base xs) in
+    record { first = first; others = others; are = are; key = key }
+
+-- one number more at the front has the part of the next, or one of its own
+next_same : (base x y : ℕ) (ys : List ℕ) → y / base ≡ x / base → length (parts base (x ∷ y ∷ ys)) ≡ length (parts base (y ∷ ys))
+unfolding parts with_number
+next_same base x y ys e =
+    let b = begins base y ys in
+    let part : ℕ × List ℕ = b.first in
+    ap (λ (ps : List (ℕ × List ℕ)). length (with_number base x ps)) b.are
+    ∙ ap (λ (t : Bool). length (cond t ((part.0, x % base ∷ part.1) ∷ b.others) ((x / base, x % base ∷ []) ∷ part ∷ b.others))) (eq-eqb part.0 (x / base) (b.key ∙ e)) ∙ ap length (sym b.are)
+
+next_other : (base x y : ℕ) (ys : List ℕ) → y / base ≢ x / base → length (parts base (x ∷ y ∷ ys)) ≡ suc (length (parts base (y ∷ ys)))
+unfolding parts with_number
+next_other base x y ys e =
+    let b = begins base y ys in
+    let part : ℕ × List ℕ = b.first in
+    ap (λ (ps : List (ℕ × List ℕ)). length (with_number base x ps)) b.are
+    ∙ ap (λ (t : Bool). length (cond t ((part.0, x % base ∷ part.1) ∷ b.others) ((x / base, x % base ∷ []) ∷ part ∷ b.others))) (ne_eqb part.0 (x / base) (λ f. e (sym b.key ∙ f))) ∙ ap suc (ap length (sym b.are))
+
+-- chunks so far, and those of the numbers from one before an index on, which has one of them
+abbrev pub Counted : ℕ → ℕ → ℕ → List ℕ → Type 0
+Counted base chunks i xs = chunks + length (parts base (drop (i - 1) xs)) ≡ length (parts base xs) + 1
+
+pub counted_start : (base : ℕ) (xs : List ℕ) → Counted base 1 1 xs
+counted_start base xs = omega arith
+
+pub counted_same : (base chunks i : ℕ) (xs : List ℕ) → 1 ≤ i → i < length xs → get_or xs i 0 / base ≡ get_or xs (i - 1) 0 / base → Counted base chunks i xs → Counted base chunks (i + 1) xs
+counted_same base chunks i xs some lt same so_far =
+    let f : i + 1 - 1 ≡ i = omega arith in
+    let a = ap (λ (l : List ℕ). length (parts base l)) (two_more xs i some lt) in
+    let b = next_same base (get_or xs (i - 1) 0) (get_or xs i 0) (drop (i + 1) xs) same in
+    let c = ap (λ (l : List ℕ). length (parts base l)) (sym (drop_more xs i 0 lt) ∙ ap (λ (n : ℕ). drop n xs) (sym f)) in
+    omega arith
+
+pub counted_other : (base chunks i : ℕ) (xs : List ℕ) → 1 ≤ i → i < length xs → get_or xs i 0 / base ≢ get_or xs (i - 1) 0 / base → Counted base chunks i xs → Counted base (chunks + 1) (i + 1) xs
+counted_other base chunks i xs some lt other so_far =
+    let f : i + 1 - 1 ≡ i = omega arith in
+    let a = ap (λ (l : List ℕ). length (parts base l)) (two_more xs i some lt) in
+    let b = next_other base (get_or xs (i - 1) 0) (get_or xs i 0) (drop (i + 1) xs) other in
+    let c = ap (λ (l : List ℕ). length (parts base l)) (sym (drop_more xs i 0 lt) ∙ ap (λ (n : ℕ). drop n xs) (sym f)) in
+    omega arith
+
+one_part : (base : ℕ) (xs : List ℕ) → length xs ≡ 1 → length (parts base xs) ≡ 1
+unfolding parts with_number
+one_part base [] e = absurd (omega arith)
+one_part base (x ∷ []) e = refl
+one_part base (x ∷ y ∷ ys) e = absurd (omega arith)
+
+pub counted_done : (base chunks i : ℕ) (xs : List ℕ) → 0 < length xs → i ≡ length xs → Counted base chunks i xs → chunks ≡ length (parts base xs)
+counted_done base chunks i xs some e so_far =
+    let one = one_part base (drop (i - 1) xs) (omega (arith, length-drop (i - 1) xs)) in
+    omega arith
+
+-- ---- slices, from the last number on
+
+-- how many bytes the slices of parts have
+abbrev pub sizes : List (ℕ × List ℕ) → ℕ
+sizes [] = 0
+sizes (p ∷ ps) = slice_len (length p.1) + sizes ps
+
+-- what is counted of the numbers from an index on
+pub record IsRun (high count slices size : ℕ) (xs : List ℕ) : Type 0 where
+  pub part : List ℕ
+  pub others : List (ℕ × List ℕ)
+  pub are : parts 256 xs ≡ (high, part) ∷ others
+  pub count_is : length part ≡ count
+  pub slices_is : suc (length others) ≡ slices
+  pub size_is : sizes others ≡ size
+
+pub run_start : (xs : List ℕ) (i high : ℕ) → i + 1 ≡ length xs → high ≡ get_or xs i 0 / 256 → IsRun high 1 1 0 (drop i xs)
+unfolding parts with_number
+run_start xs i high last e =
+    let x : ℕ = get_or xs i 0 in
+    let none : drop (i + 1) xs ≡ [] = empty (drop (i + 1) xs) (omega (arith, length-drop (i + 1) xs)) in
+    let only : drop i xs ≡ x ∷ [] = drop_more xs i 0 (omega arith) ∙ ap (λ (l : List ℕ). x ∷ l) none in
+    record { part = x % 256 ∷ []; others = []; are = ap (parts 256) only ∙ ap (λ (h : ℕ). (h, x % 256 ∷ []) ∷ []) (sym e); count_is = refl; slices_is = refl; size_is = refl }
+  where
+    empty : (l : List ℕ) → length l ≡ 0 → l ≡ []
+    empty [] e = refl
+    empty (y ∷ l) e = absurd (omega arith)
+
+pub run_same : (high count slices size i : ℕ) (xs : List ℕ) → i < length xs → high ≡ get_or xs i 0 / 256 → IsRun high count slices size (drop (i + 1) xs) → IsRun high (count + 1) slices size (drop i xs)
+unfolding parts with_number
+run_same high count slices size i xs lt same is =
+    let x : ℕ = get_or xs i 0 in
+    let is_count = is.count_is in
+    record {
+      part = x % 256 ∷ is.part;
+      others = is.others;
+      are = ap (parts 256) (drop_more xs i 0 lt) ∙ ap (with_number 256 x) is.are
+          ∙ ap (λ (t : Bool). cond t ((high, x % 256 ∷ is.part) ∷ is.others) ((x / 256, x % 256 ∷ []) ∷ (high, is.part) ∷ is.others)) (eq-eqb high (x / 256) same);
+      count_is = omega arith;
+      slices_is = is.slices_is;
+      size_is = is.size_is;
+    }
+
+pub run_other : (high count slices size i next : ℕ) (xs : List ℕ) → i < length xs → next ≡ get_or xs i 0 / 256 → high ≢ next → IsRun high count slices size (drop (i + 1) xs)
+    → IsRun next 1 (slices + 1) (size + slice_len count) (drop i xs)
+unfolding parts with_number
+run_other high count slices size i next xs lt e other is =
+    let x : ℕ = get_or xs i 0 in
+    let c = ap slice_len is.count_is in
+    let d = is.slices_is in
+    let f = is.size_is in
+    record {
+      part = x % 256 ∷ [];
+      others = (high, is.part) ∷ is.others;
+      are = ap (parts 256) (drop_more xs i 0 lt) ∙ ap (with_number 256 x) is.are
+          ∙ ap (λ (t : Bool). cond t ((high, x % 256 ∷ is.part) ∷ is.others) ((x / 256, x % 256 ∷ []) ∷ (high, is.part) ∷ is.others)) (ne_eqb high (x / 256) (λ g. other (g ∙ sym e)))
+          ∙ ap (λ (h : ℕ). (h, x % 256 ∷ []) ∷ (high, is.part) ∷ is.others) (sym e);
+      count_is = refl;
+      slices_is = omega arith;
+      size_is = omega arith;
+    }
+
+slices_len : (ps : List (ℕ × List ℕ)) → length (flat_map (λ part. slice part.1) ps) ≡ sizes ps
+slices_len [] = refl
+slices_len (p ∷ ps) =
+    let a = length-append (slice p.1) (flat_map (λ part. slice part.1) ps) in
+    let b = slice_size p.1 in
+    let c = slices_len ps in
+    omega arith
+
+-- the length of blocks
+blocks_size : (ps : List (ℕ × List ℕ)) → length (blocks_of ps) ≡ 1 + slice_len (length ps) + length ps + sizes ps
+unfolding blocks_of
+blocks_size ps =
+    let h : List ℕ = slice (map (λ part. part.0) ps) in
+    let c : List ℕ = map (λ part. length part.1 - 1) ps in
+    let s : List ℕ = flat_map (λ part. slice part.1) ps in
+    let a = length-append (h ++ c) s in
+    let b = length-append h c in
+    let d : length h ≡ slice_len (length ps) = slice_size (map (λ part. part.0) ps) ∙ ap slice_len (length-map ps (λ part. part.0)) in
+    let e : length c ≡ length ps = length-map ps (λ part. length part.1 - 1) in
+    let f = slices_len ps in
+    omega arith
+
+pub run_done : (high count slices size : ℕ) (xs : List ℕ) → IsRun high count slices size xs → 1 + slice_len slices + slices + size + slice_len count ≡ length (blocks xs)
+run_done high count slices size xs is =
+    let a = ap (λ (ps : List (ℕ × List ℕ)). length (blocks_of ps)) is.are in
+    let b = blocks_size ((high, is.part) ∷ is.others) in
+    let c = ap slice_len is.count_is in
+    let d = ap slice_len is.slices_is in
+    let e = is.slices_is in
+    let f = is.size_is in
+    omega arith

@@ -1,0 +1,229 @@
+-- The tests of slices and blocks, as faults have them, say what bytes are. The blocks of numbers pass them.
+use Rattle.std.proofs.Common.{◌≡◌, ℕ, zero, suc, ◌+◌, ◌-◌, ◌*◌, ◌<◌, ◌≤◌, Bool, true, false, ◌&&◌, ltb, leb, eqb, List, [], ◌∷◌, ◌++◌, map, take, drop, length, get_or, Option, None, refl, sym, ap, ◌∙◌, arith, cond, inl, inr, subst, eqb-true, eq-eqb, length-append, append_assoc, lit≤}
+use Rattle.std.specs.Bool.{Decides}
+use Rattle.std.specs.List.{flat_map}
+use Rattle.std.specs.Option.{is_none}
+use Rattle.std.proofs.lemmas.Bool.{cases_lt, cond_above, cond_below, lt-ltb, le-ltb, le-leb, lt-leb, true≢false}
+use Rattle.std.proofs.lemmas.List.{drop_at, length-map, take_at}
+use Rattle.bitpack_sets.proofs.ArrayLaws.{no_fall, rises_from}
+use Rattle.bitpack_sets.proofs.BodyLaws.{little_len}
+use Rattle.bitpack_sets.proofs.CountLaws.{few_numbers, few_slice, full_slice, some_counted, some_slice}
+use Rattle.bitpack_sets.proofs.DecodeLaws.{bytes_dropped}
+use Rattle.bitpack_sets.proofs.FaultLaws.{is_below, not_below}
+use Rattle.bitpack_sets.proofs.LongLaws.{Below}
+use Rattle.bitpack_sets.proofs.PartLaws.{AreParts, join, join_parts, parts_are}
+use Rattle.bitpack_sets.proofs.SliceLaws.{rising_room, slice_few, slice_many, slice_some}
+use Rattle.bitpack_sets.proofs.ToldLaws.{told}
+use Rattle.bitpack_sets.proofs.Words.{EachByte}
+use Rattle.bitpack_sets.specs.Sets.{IsRising, bits, blocks, blocks_of, le_bytes, parts, slice}
+use Rattle.bitpack_sets.specs.Slices.{AreSlices, IsBlocks, IsSlice, are_blocks, are_slices, bits_in, counts_in, first_fall, high_count, highs_in, is_slice, numbers_in, rises, slice_len, slice_numbers, slices_in}
+
+both_true : (a b : Bool) → (a && b) ≡ true → (a ≡ true) × (b ≡ true)
+both_true true b e = (refl, e)
+both_true false b e = absurd (true≢false (sym e))
+
+true_both : (a b : Bool) → a ≡ true → b ≡ true → (a && b) ≡ true
+true_both a b e f = ap (λ (x : Bool). x && b) e ∙ f
+
+at_most : (x y : ℕ) → leb x y ≡ true → x ≤ y
+at_most x y e = elim (cases_lt y x) [ inl less ↦ absurd (true≢false (sym e ∙ lt-leb x y less)) | inr more ↦ more ]
+
+none_is : (o : Option ℕ) → is_none o ≡ true → o ≡ None
+none_is None e = refl
+none_is _ e = absurd (true≢false (sym e))
+
+-- ---- slices
+
+bytes_below : (bytes : List ℕ) → EachByte bytes → Below 256 bytes
+bytes_below [] are = tt
+bytes_below (byte ∷ bytes) (a, are) = (a, bytes_below bytes are)
+
+pub bytes_taken : (n : ℕ) (bytes : List ℕ) → EachByte bytes → EachByte (take n bytes)
+bytes_taken zero bytes are = tt
+bytes_taken (suc n) [] are = tt
+bytes_taken (suc n) (byte ∷ bytes) (a, are) = (a, bytes_taken n bytes are)
+
+pub slice_tested : (count : ℕ) (bytes : List ℕ) → count ≤ 256 → length bytes ≡ slice_len count → EachByte bytes → Decides (is_slice count bytes) (IsSlice count bytes)
+slice_tested count bytes most size are = elim (cases_lt count 32) [
+  | inl few ↦
+      let test : is_slice count bytes ≡ rises bytes = sym (cond_below count 32 (rises bytes) _ few) in
+      let long : length bytes ≡ count = size ∙ sym (cond_below count 32 count _ few) in (
+        λ e. few_slice count bytes few long (rises_from 0 256 bytes (bytes_below bytes are) (none_is (first_fall 0 bytes) (sym test ∙ e))),
+        λ is. test ∙ ap is_none (no_fall 0 0 256 bytes (subst (IsRising 0 256) (few_numbers count bytes few) is.rising)),
+      )
+  | inr more ↦ elim (cases_lt count 256) [
+    | inl some ↦
+        let test : is_slice count bytes ≡ eqb (bits_in bytes) count = sym (cond_above count 32 _ _ _ more (cond_below count 256 (eqb (bits_in bytes) count) _ some)) in
+        let long : length bytes ≡ 32 = size ∙ sym (cond_above count 32 _ _ _ more (cond_below count 256 32 0 some)) in (
+          λ e. some_slice count bytes more some long are (eqb-true (bits_in bytes) count (sym test ∙ e)),
+          λ is. test ∙ eq-eqb (bits_in bytes) count (some_counted count bytes more some long are is),
+        )
+    | inr many ↦
+        let test : is_slice count bytes ≡ true = sym (cond_above count 32 _ _ _ more (cond_above count 256 _ _ _ many refl)) in
+        let none : length bytes ≡ 0 = size ∙ sym (cond_above count 32 _ _ _ more (cond_above count 256 32 0 _ many refl)) in
+        let same : 256 ≡ count = omega arith in
+        (λ e. subst (λ (n : ℕ). IsSlice n bytes) same (full_slice bytes none), λ is. test)
+  ]
+]
+
+taken : (n : ℕ) (bytes : List ℕ) → n ≤ length bytes → length (take n bytes) ≡ n
+taken zero bytes h = refl
+taken (suc n) [] h = absurd (omega arith)
+taken (suc n) (byte ∷ bytes) h = ap suc (taken n bytes (omega arith))
+
+none_left : (bytes : List ℕ) → length bytes ≡ 0 → bytes ≡ []
+none_left [] e = refl
+none_left (byte ∷ bytes) e = absurd (omega arith)
+
+pub slices_tested : (counts bytes : List ℕ) → EachByte counts → EachByte bytes → Decides (are_slices counts bytes) (AreSlices counts bytes)
+unfolding are_slices
+slices_tested [] bytes small are = (λ e. none_left bytes (eqb-true (length bytes) 0 e), λ e. eq-eqb (length bytes) 0 (ap length e))
+slices_tested (less ∷ counts) bytes (a, small) are =
+    let len : ℕ = slice_len (less + 1) in
+    let front : List ℕ = take len bytes in
+    let one : len ≤ length bytes → Decides (is_slice (less + 1) front) (IsSlice (less + 1) front) =
+    λ room. slice_tested (less + 1) front (omega arith) (taken len bytes room) (bytes_taken len bytes are) in
+    let (yields, needs) = slices_tested counts (drop len bytes) small (bytes_dropped len bytes are) in (
+      λ e. let (p, rest) = both_true _ _ e in
+          let (room, is) = both_true _ _ p in
+          (at_most len (length bytes) room, (one (at_most len (length bytes) room)).0 is, yields rest),
+      λ (room, is, rest). true_both _ _ (true_both _ _ (le-leb len (length bytes) room) ((one room).1 is)) (needs rest),
+    )
+
+-- ---- blocks
+
+byte_at : (bytes : List ℕ) (i : ℕ) → EachByte bytes → get_or bytes i 0 < 256
+byte_at [] i are = omega arith
+byte_at (byte ∷ bytes) zero (a, are) = a
+byte_at (byte ∷ bytes) (suc i) (a, are) = byte_at bytes i are
+
+dropped_len : (n : ℕ) (bytes : List ℕ) → length (drop n bytes) ≡ length bytes - n
+dropped_len zero bytes = omega arith
+dropped_len (suc n) [] = omega arith
+dropped_len (suc n) (byte ∷ bytes) = dropped_len n bytes ∙ omega arith
+
+pub blocks_tested : (count : ℕ) (body : List ℕ) → EachByte body → Decides (are_blocks count body) (IsBlocks count body)
+unfolding are_blocks
+blocks_tested count body are =
+    let many : ℕ = high_count body in
+    let first = byte_at body 0 are in
+    let fits : 1 + slice_len many + many ≤ length body → length (highs_in body) ≡ slice_len many =
+    λ room. taken (slice_len many) (drop 1 body) (omega (arith, dropped_len 1 body)) in
+    let high : 1 + slice_len many + many ≤ length body → Decides (is_slice many (highs_in body)) (IsSlice many (highs_in body)) =
+    λ room. slice_tested many (highs_in body) (omega arith) (fits room) (bytes_taken (slice_len many) (drop 1 body) (bytes_dropped 1 body are)) in
+    let (yields, needs) = slices_tested (counts_in body) (slices_in body) (bytes_taken many (drop (1 + slice_len many) body) (bytes_dropped (1 + slice_len many) body are))
+    (bytes_dropped (1 + slice_len many + many) body are) in (
+      λ e. let (e1, slices) = both_true _ _ e in
+          let (e2, counted) = both_true _ _ e1 in
+          let (e3, highs) = both_true _ _ e2 in
+          let (some, room) = both_true _ _ e3 in
+          let wide = at_most (1 + slice_len many + many) (length body) room in
+          record {
+            some = is_below 0 (length body) some;
+            room = wide;
+            highs = (high wide).0 highs;
+            count_is = eqb-true (numbers_in (counts_in body)) count counted;
+            slices = yields slices;
+          },
+      λ is. true_both _ _ (true_both _ _ (true_both _ _ (true_both _ _ (lt-ltb 0 (length body) is.some) (le-leb (1 + slice_len many + many) (length body) is.room))
+          ((high is.room).1 is.highs)) (eq-eqb (numbers_in (counts_in body)) count is.count_is)) (needs is.slices),
+    )
+
+-- ---- the blocks of numbers
+
+pub slice_size : (xs : List ℕ) → length (slice xs) ≡ slice_len (length xs)
+slice_size xs = elim (cases_lt (length xs) 32) [
+  | inl few ↦ ap length (slice_few xs few) ∙ cond_below (length xs) 32 (length xs) _ few
+  | inr more ↦ elim (cases_lt (length xs) 256) [
+    | inl some ↦ ap length (slice_some xs more some) ∙ little_len 32 (bits xs) ∙ cond_above (length xs) 32 _ _ _ more (cond_below (length xs) 256 32 0 some)
+    | inr many ↦ ap length (slice_many xs many) ∙ cond_above (length xs) 32 _ _ _ more (cond_above (length xs) 256 32 0 _ many refl)
+  ]
+]
+
+abbrev highs_of : List (ℕ × List ℕ) → List ℕ
+highs_of ps = map (λ part. part.0) ps
+
+abbrev counts_of : List (ℕ × List ℕ) → List ℕ
+counts_of ps = map (λ part. length part.1 - 1) ps
+
+abbrev slices_of : List (ℕ × List ℕ) → List ℕ
+slices_of ps = flat_map (λ part. slice part.1) ps
+
+one_less : (n : ℕ) → 0 < n → n - 1 + 1 ≡ n
+one_less n h = omega arith
+
+slices_are : (low high : ℕ) (ps : List (ℕ × List ℕ)) → AreParts 256 low high ps → AreSlices (counts_of ps) (slices_of ps)
+slices_are low high [] are = refl
+slices_are low high (p ∷ ps) (a, some, r, later) =
+    let n : length p.1 - 1 + 1 ≡ length p.1 = one_less (length p.1) some in
+    let len : length (slice p.1) ≡ slice_len (length p.1 - 1 + 1) = slice_size p.1 ∙ ap slice_len (sym n) in
+    let front : take (slice_len (length p.1 - 1 + 1)) (slice p.1 ++ slices_of ps) ≡ slice p.1 = take_at (slice p.1) (slices_of ps) _ len in
+    let back : drop (slice_len (length p.1 - 1 + 1)) (slice p.1 ++ slices_of ps) ≡ slices_of ps = drop_at (slice p.1) (slices_of ps) _ len in
+    let room = length-append (slice p.1) (slices_of ps) in (
+      omega arith,
+      subst (IsSlice (length p.1 - 1 + 1)) (sym front) (told (length p.1 - 1 + 1) (slice p.1) p.1 r (sym n) refl),
+      subst (AreSlices (counts_of ps)) (sym back) (slices_are (p.0 + 1) high ps later),
+    )
+
+counted : (low high : ℕ) (ps : List (ℕ × List ℕ)) → AreParts 256 low high ps → numbers_in (counts_of ps) ≡ length (join 256 ps)
+unfolding numbers_in
+counted low high [] are = refl
+counted low high (p ∷ ps) (a, some, r, later) =
+    let one = length-append (map (λ low. p.0 * 256 + low) p.1) (join 256 ps) in
+    let two = length-map p.1 (λ low. p.0 * 256 + low) in
+    let rest : numbers_in (counts_of ps) ≡ length (join 256 ps) = counted (p.0 + 1) high ps later in
+    omega arith
+
+highs_rise : (low high : ℕ) (ps : List (ℕ × List ℕ)) → AreParts 256 low high ps → IsRising low high (highs_of ps)
+highs_rise low high [] are = are
+highs_rise low high (p ∷ ps) (a, some, r, later) = (a, highs_rise (p.0 + 1) high ps later)
+
+some_parts : (ps : List (ℕ × List ℕ)) → 0 < length (join 256 ps) → 0 < length ps
+some_parts [] h = absurd (omega arith)
+some_parts (p ∷ ps) h = omega arith
+
+-- the parts of the blocks of some parts
+parts_blocks : (count : ℕ) (ps : List (ℕ × List ℕ)) → AreParts 256 0 256 ps → 0 < length ps → length (join 256 ps) ≡ count → IsBlocks count (blocks_of ps)
+unfolding blocks_of
+parts_blocks count ps are some size =
+    let r : ℕ = length ps - 1 + 1 in
+    let n : r ≡ length ps = one_less (length ps) some in
+    let hs : List ℕ = slice (highs_of ps) in
+    let cs : List ℕ = counts_of ps in
+    let ss : List ℕ = slices_of ps in
+    let high_len : length (highs_of ps) ≡ r = length-map ps (λ part. part.0) ∙ sym n in
+    let count_len : length cs ≡ r = length-map ps (λ part. length part.1 - 1) ∙ sym n in
+    let h : length hs ≡ slice_len r = slice_size (highs_of ps) ∙ ap slice_len high_len in
+    let whole : (hs ++ cs) ++ ss ≡ hs ++ (cs ++ ss) = append_assoc hs cs ss in
+    let front : take (slice_len r) ((hs ++ cs) ++ ss) ≡ hs = ap (take (slice_len r)) whole ∙ take_at hs (cs ++ ss) (slice_len r) h in
+    let later : drop (slice_len r) ((hs ++ cs) ++ ss) ≡ cs ++ ss = ap (drop (slice_len r)) whole ∙ drop_at hs (cs ++ ss) (slice_len r) h in
+    let mid : take r (drop (slice_len r) ((hs ++ cs) ++ ss)) ≡ cs = ap (take r) later ∙ take_at cs ss r count_len in
+    let both = length-append hs cs in
+    let all = length-append (hs ++ cs) ss in
+    let end : drop (slice_len r + r) ((hs ++ cs) ++ ss) ≡ ss = drop_at (hs ++ cs) ss (slice_len r + r) (omega arith) in
+    let moved : drop (1 + slice_len r) ((length ps - 1) ∷ (hs ++ cs) ++ ss) ≡ drop (slice_len r) ((hs ++ cs) ++ ss) = ap (λ (m : ℕ). drop m ((length ps - 1) ∷ (hs ++ cs) ++ ss)) (one_more (slice_len r)) in
+    let moved' : drop (1 + slice_len r + r) ((length ps - 1) ∷ (hs ++ cs) ++ ss) ≡ drop (slice_len r + r) ((hs ++ cs) ++ ss) = ap (λ (m : ℕ). drop m ((length ps - 1) ∷ (hs ++ cs) ++ ss)) (two_more (slice_len r) r) in
+    let counts_are : take r (drop (1 + slice_len r) ((length ps - 1) ∷ (hs ++ cs) ++ ss)) ≡ cs = ap (take r) moved ∙ mid in
+    record {
+      some = omega arith;
+      room = omega arith;
+      highs = subst (IsSlice r) (sym front) (told r hs (highs_of ps) (highs_rise 0 256 ps are) high_len refl);
+      count_is = ap numbers_in counts_are ∙ counted 0 256 ps are ∙ size;
+      slices = subst (λ (l : List ℕ). AreSlices l (drop (1 + slice_len r + r) ((length ps - 1) ∷ (hs ++ cs) ++ ss))) (sym counts_are)
+          (subst (AreSlices cs) (sym (moved' ∙ end)) (slices_are 0 256 ps are));
+    }
+  where
+    one_more : (n : ℕ) → 1 + n ≡ suc n
+    one_more n = omega arith
+
+    two_more : (n k : ℕ) → 1 + n + k ≡ suc (n + k)
+    two_more n k = omega arith
+
+-- the blocks of increasing numbers are tested as blocks
+pub blocks_are_blocks : (xs : List ℕ) → IsRising 0 65536 xs → 0 < length xs → IsBlocks (length xs) (blocks xs)
+blocks_are_blocks xs rises some =
+    let ps : List (ℕ × List ℕ) = parts 256 xs in
+    let are : AreParts 256 0 256 ps = parts_are 256 0 256 0 xs (omega arith) (omega arith) rises in
+    let back : join 256 ps ≡ xs = join_parts 256 xs in
+    let some' : 0 < length (join 256 ps) = omega (arith, ap length back) in
+    parts_blocks (length xs) ps are (some_parts ps some') (ap length back)

@@ -1,0 +1,53 @@
+-- The rank of the high byte is the place of its slice.
+use Rattle.std.proofs.Common.{◌≡◌, ◌∙◌, ◌+◌, ◌-◌, ◌/◌, ◌%◌, ℕ, List, ap, sym, arith, length, drop, take, get_or}
+use Rattle.bitpack_sets.proofs.ReadLaws.{in_numbers, not_in, place_fits, rank_less}
+use Rattle.bitpack_sets.proofs.chunk.search.in_parts.Goals as goal
+use Rattle.bitpack_sets.specs.Reads.{has}
+use Rattle.bitpack_sets.specs.Slices.{slice_len, slice_numbers, slices_len}
+
+-- the slice as the code cuts it
+at_place : (count place size from : ℕ) (bytes : List ℕ) → place ≡ from → size ≡ slice_len count
+    → slice_numbers count (take (place + size - place) (drop place bytes)) ≡ slice_numbers count (take (slice_len count) (drop from bytes))
+at_place count place size from bytes e f =
+    let less : place + size - place ≡ slice_len count = omega arith in
+    ap (λ (m : ℕ). slice_numbers count (take m (drop place bytes))) less ∙ ap (λ (m : ℕ). slice_numbers count (take (slice_len count) (drop m bytes))) e
+
+pub returns-then-not-in_slice : goal.returns-then-not-in_slice
+returns-then-not-in_slice c = sym (not_in c.args.number (slice_numbers (length c.args.counts.now) c.args.highs.now) c.args.counts.now c.args.slices.now c.requires.slices
+    (sym c.in_slice.ensures ∙ c.if-not-in_slice.true))
+
+pub place_of_slice-place-requires-clause-within : goal.place_of_slice-place-requires-clause-within
+place_of_slice-place-requires-clause-within c =
+    let few = rank_less (c.args.number / 256) (slice_numbers (length c.args.counts.now) c.args.highs.now) (sym c.in_slice.ensures ∙ c.if-not-in_slice.false) in
+    let size = c.requires.highs.count_is in
+    omega arith
+
+pub bounds-counts-index : goal.bounds-counts-index
+bounds-counts-index c =
+    let few = rank_less (c.args.number / 256) (slice_numbers (length c.args.counts.now) c.args.highs.now) (sym c.in_slice.ensures ∙ c.if-not-in_slice.false) in
+    let size = c.requires.highs.count_is in
+    omega arith
+
+pub overflow_add-place : goal.overflow_add-place
+overflow_add-place c =
+    let few = rank_less (c.args.number / 256) (slice_numbers (length c.args.counts.now) c.args.highs.now) (sym c.in_slice.ensures ∙ c.if-not-in_slice.false) in
+    let size = c.requires.highs.count_is in
+    let fits = place_fits c.rank_in_slice-index.result c.args.counts.now c.args.slices.now c.requires.slices (omega arith) in
+    omega arith
+
+pub slice_bounds-in_slice-end : goal.slice_bounds-in_slice-end
+slice_bounds-in_slice-end c =
+    let few = rank_less (c.args.number / 256) (slice_numbers (length c.args.counts.now) c.args.highs.now) (sym c.in_slice.ensures ∙ c.if-not-in_slice.false) in
+    let size = c.requires.highs.count_is in
+    let fits = place_fits c.rank_in_slice-index.result c.args.counts.now c.args.slices.now c.requires.slices (omega arith) in
+    omega arith
+
+pub returns : goal.returns
+returns c =
+    let size : length (slice_numbers (length c.args.counts.now) c.args.highs.now) ≡ length c.args.counts.now = c.requires.highs.count_is in
+    let found = in_numbers c.args.number 0 c.rank_in_slice-index.result (slice_numbers (length c.args.counts.now) c.args.highs.now) c.args.counts.now c.args.slices.now
+    c.rank_in_slice-index.ensures size c.requires.highs.rising c.requires.slices (sym c.in_slice.ensures ∙ c.if-not-in_slice.false) in
+    c.in_slice-2.ensures
+    ∙ ap (has (c.args.number % 256)) (at_place (get_or c.args.counts.now c.rank_in_slice-index.result 0 + 1) c.place_of_slice-place.result c.byte_len-size.result
+    (slices_len (take c.rank_in_slice-index.result c.args.counts.now)) c.args.slices.now c.place_of_slice-place.ensures c.byte_len-size.ensures)
+    ∙ sym found

@@ -1,0 +1,94 @@
+-- The numbers of the slices before that of the high byte, and those of its own.
+use Rattle.std.proofs.Common.{◌≡◌, ◌∙◌, ◌+◌, ◌-◌, ◌*◌, ◌/◌, ◌%◌, ◌<◌, ◌≤◌, ℕ, List, ap, sym, arith, length, drop, take, get_or}
+use Rattle.std.proofs.lemmas.List.{length-take-le}
+use Rattle.bitpack_sets.proofs.BlockReads.{numbers_few, rank_not_there, rank_there, slice_there}
+use Rattle.bitpack_sets.proofs.CountLaws.{bytes_are}
+use Rattle.bitpack_sets.proofs.HalfLaws.{rank_most}
+use Rattle.bitpack_sets.proofs.ReadLaws.{place_fits, rank_less}
+use Rattle.bitpack_sets.proofs.TestLaws.{bytes_taken}
+use Rattle.bitpack_sets.proofs.chunk.search.rank_in_parts.Goals as goal
+use Rattle.bitpack_sets.specs.Reads.{has, rank}
+use Rattle.bitpack_sets.specs.Slices.{AreSlices, numbers_in, slice_len, slice_numbers, slices_len}
+
+-- the slice as the code cuts it
+at_place : (count place size from : ℕ) (bytes : List ℕ) → place ≡ from → size ≡ slice_len count
+    → slice_numbers count (take (place + size - place) (drop place bytes)) ≡ slice_numbers count (take (slice_len count) (drop from bytes))
+at_place count place size from bytes e f =
+    let less : place + size - place ≡ slice_len count = omega arith in
+    ap (λ (m : ℕ). slice_numbers count (take m (drop place bytes))) less ∙ ap (λ (m : ℕ). slice_numbers count (take (slice_len count) (drop m bytes))) e
+
+-- the place of the high byte is among the counts
+at_most : (i x : ℕ) (hs counts : List ℕ) → i ≡ rank x hs → length hs ≡ length counts → i ≤ length counts
+at_most i x hs counts e size = let most = rank_most x hs in omega arith
+
+below_counts : (i x : ℕ) (hs counts : List ℕ) → i ≡ rank x hs → rank x hs < length hs → length hs ≡ length counts → i < length counts
+below_counts i x hs counts e less size = omega arith
+
+-- as many numbers as the count says
+own_few : (i place size : ℕ) (counts bytes : List ℕ) → AreSlices counts bytes → place ≡ slices_len (take i counts) → size ≡ slice_len (get_or counts i 0 + 1) → i < length counts
+    → length (slice_numbers (get_or counts i 0 + 1) (take (place + size - place) (drop place bytes))) ≡ get_or counts i 0 + 1
+own_few i place size counts bytes are e f lt =
+    ap length (at_place (get_or counts i 0 + 1) place size (slices_len (take i counts)) bytes e f) ∙ (slice_there i counts bytes are lt).count_is
+
+pub slice_bounds-count_numbers-end : goal.slice_bounds-count_numbers-end
+slice_bounds-count_numbers-end c =
+    let hs : List ℕ = slice_numbers (length c.args.counts.now) c.args.highs.now in
+    sym (length-take-le c.rank_in_slice-index.result c.args.counts.now (at_most c.rank_in_slice-index.result (c.args.number / 256) hs c.args.counts.now c.rank_in_slice-index.ensures c.requires.highs.count_is))
+
+pub returns-then-not-in_slice : goal.returns-then-not-in_slice
+returns-then-not-in_slice c =
+    let hs : List ℕ = slice_numbers (length c.args.counts.now) c.args.highs.now in
+    c.count_numbers-before.ensures
+    ∙ sym (rank_not_there c.args.number c.rank_in_slice-index.result hs c.args.counts.now c.args.slices.now c.requires.highs.count_is c.requires.highs.rising c.requires.slices c.rank_in_slice-index.ensures
+    (sym c.in_slice.ensures ∙ c.if-not-in_slice.true))
+
+pub place_of_slice-place-requires-clause-within : goal.place_of_slice-place-requires-clause-within
+place_of_slice-place-requires-clause-within c =
+    let few = rank_less (c.args.number / 256) (slice_numbers (length c.args.counts.now) c.args.highs.now) (sym c.in_slice.ensures ∙ c.if-not-in_slice.false) in
+    let size = c.requires.highs.count_is in
+    omega (arith, c.rank_in_slice-index.ensures)
+
+pub bounds-counts-index : goal.bounds-counts-index
+bounds-counts-index c =
+    let few = rank_less (c.args.number / 256) (slice_numbers (length c.args.counts.now) c.args.highs.now) (sym c.in_slice.ensures ∙ c.if-not-in_slice.false) in
+    let size = c.requires.highs.count_is in
+    omega (arith, c.rank_in_slice-index.ensures)
+
+pub overflow_add-place : goal.overflow_add-place
+overflow_add-place c =
+    let few = rank_less (c.args.number / 256) (slice_numbers (length c.args.counts.now) c.args.highs.now) (sym c.in_slice.ensures ∙ c.if-not-in_slice.false) in
+    let size = c.requires.highs.count_is in
+    let fits = place_fits c.rank_in_slice-index.result c.args.counts.now c.args.slices.now c.requires.slices (omega (arith, c.rank_in_slice-index.ensures)) in
+    omega (arith, c.place_of_slice-place.ensures, c.byte_len-size.ensures)
+
+pub slice_bounds-rank_in_slice-end : goal.slice_bounds-rank_in_slice-end
+slice_bounds-rank_in_slice-end c =
+    let few = rank_less (c.args.number / 256) (slice_numbers (length c.args.counts.now) c.args.highs.now) (sym c.in_slice.ensures ∙ c.if-not-in_slice.false) in
+    let size = c.requires.highs.count_is in
+    let fits = place_fits c.rank_in_slice-index.result c.args.counts.now c.args.slices.now c.requires.slices (omega (arith, c.rank_in_slice-index.ensures)) in
+    omega (arith, c.place_of_slice-place.ensures, c.byte_len-size.ensures)
+
+pub overflow_add-result : goal.overflow_add-result
+overflow_add-result c =
+    let index : ℕ = c.rank_in_slice-index.result in
+    let counts : List ℕ = c.args.counts.now in
+    let are = bytes_taken index counts (bytes_are counts (λ k. (c.type_inv.counts k).fits)) in
+    let most = at_most index (c.args.number / 256) (slice_numbers (length counts) c.args.highs.now) counts c.rank_in_slice-index.ensures c.requires.highs.count_is in
+    let few = numbers_few (take index counts) are in
+    let long = length-take-le index counts most in
+    let less = rank_most (c.args.number % 256) (slice_numbers (get_or counts index 0 + 1) (take (c.place_of_slice-place.result + c.byte_len-size.result - c.place_of_slice-place.result) (drop c.place_of_slice-place.result c.args.slices.now))) in
+    let own = own_few index c.place_of_slice-place.result c.byte_len-size.result counts c.args.slices.now c.requires.slices c.place_of_slice-place.ensures c.byte_len-size.ensures
+    (let small = rank_less (c.args.number / 256) (slice_numbers (length counts) c.args.highs.now) (sym c.in_slice.ensures ∙ c.if-not-in_slice.false) in let size = c.requires.highs.count_is in omega (arith, c.rank_in_slice-index.ensures)) in
+    let byte = (c.type_inv.counts index).fits in
+    omega (arith, c.count_numbers-before.ensures, c.rank_in_slice.ensures)
+
+pub returns : goal.returns
+returns c =
+    let hs : List ℕ = slice_numbers (length c.args.counts.now) c.args.highs.now in
+    let index : ℕ = c.rank_in_slice-index.result in
+    let counts : List ℕ = c.args.counts.now in
+    let lt = (let small = rank_less (c.args.number / 256) hs (sym c.in_slice.ensures ∙ c.if-not-in_slice.false) in let size = c.requires.highs.count_is in below_counts index (c.args.number / 256) hs counts c.rank_in_slice-index.ensures small size) in
+    let same = at_place (get_or counts index 0 + 1) c.place_of_slice-place.result c.byte_len-size.result (slices_len (take index counts)) c.args.slices.now c.place_of_slice-place.ensures c.byte_len-size.ensures in
+    ap (λ (n : ℕ). n + c.rank_in_slice.result) c.count_numbers-before.ensures
+    ∙ ap (λ (n : ℕ). numbers_in (take index counts) + n) (c.rank_in_slice.ensures ∙ ap (rank (c.args.number % 256)) same)
+    ∙ sym (rank_there c.args.number index hs counts c.args.slices.now c.requires.highs.count_is c.requires.highs.rising c.requires.slices lt c.rank_in_slice-index.ensures (sym c.in_slice.ensures ∙ c.if-not-in_slice.false))

@@ -1,0 +1,7 @@
+-- The count that the text states is that of its ids.
+use Rattle.std.proofs.Common.{◌∙◌}
+use Rattle.bitpack_sets.proofs.TextLaws.{count_stated}
+use Rattle.bitpack_sets.proofs.id_set.IdSet.len.Goals as goal
+
+pub returns : goal.returns
+returns c = let set = c.args.self.now in set.states.count_is ∙ count_stated set.bytes.now set.are_bytes set.states.none

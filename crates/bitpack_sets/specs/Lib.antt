@@ -1,0 +1,15 @@
+-- The definitions of this crate.
+pub mod Directory
+pub mod Errors
+pub mod Faults
+pub mod Laws
+pub mod Opened
+pub mod Reads
+pub mod Sets
+pub mod Slices
+pub mod Sound
+pub mod Stated
+pub mod Varints
+pub mod WorkedFaults
+pub mod WorkedSets
+pub mod Written

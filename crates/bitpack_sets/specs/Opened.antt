@@ -1,0 +1,12 @@
+-- What a set that was opened shows: its bytes and its ids; and where its parts begin.
+use Rattle.std.specs.Prelude.{◌≡◌, ℕ, ◌-◌, nat_lt, if◌then◌else◌, List, drop, slice_index, Option, None}
+use Rattle.bitpack_sets.specs.declared.id_set.IdSet.{IdSet}
+use Rattle.bitpack_sets.specs.Reads.{ids_in}
+
+-- its bytes
+abbrev pub text_of : IdSet → List ℕ
+text_of set = set.bytes.now
+
+-- its ids
+abbrev pub ids : IdSet → List ℕ
+ids set = ids_in (text_of set)

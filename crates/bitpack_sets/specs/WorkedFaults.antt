@@ -1,0 +1,58 @@
+-- Texts worked by hand that are refused, and what opens.
+use Rattle.std.specs.Prelude.{◌≡◌, ℕ, ◌*◌, ◌/◌, ◌%◌, List, [], ◌∷◌, ◌++◌, replicate, Some, None}
+use Rattle.std.specs.List.{flat_map, range_with_len}
+use Rattle.bitpack_sets.specs.declared.set_error.SetError.TheVariants.{Short, BadVersion, TooLong, BadOffset, NotSorted, Trailing, BadNumber, BadSizes, Padding, BadSum, BadBody, LooseBody, LooseForm}
+use Rattle.bitpack_sets.specs.Faults.{fault}
+
+abbrev pub WorkedFaults : Type 0
+WorkedFaults =
+    (fault [] ≡ Some Short) × (fault (0x05 ∷ []) ≡ Some Short) × (fault (0x81 ∷ []) ≡ Some Short)
+    × (fault (0x81 ∷ 0x85 ∷ []) ≡ Some Short) × (fault (0x82 ∷ 0x85 ∷ []) ≡ Some Short) × (fault (0x05 ∷ 0x80 ∷ []) ≡ Some Short)
+    × (fault (0x00 ∷ []) ≡ Some (BadVersion 0)) × (fault (0x7F ∷ []) ≡ Some (BadVersion 127))
+    × (fault (0x81 ∷ 0x85 ∷ 0x00 ∷ []) ≡ Some BadNumber) × (fault (0x05 ∷ 0x7F ∷ []) ≡ Some BadNumber)
+    × (fault (0x05 ∷ 0xFF ∷ 0x00 ∷ []) ≡ Some BadNumber) × (fault (0x05 ∷ 0x80 ∷ 0x01 ∷ 0x00 ∷ []) ≡ Some BadNumber)
+    × (fault (0x05 ∷ 0x81 ∷ 0x80 ∷ 0x80 ∷ 0x80 ∷ 0x01 ∷ []) ≡ Some (TooLong 268435457))
+    × (fault (0x06 ∷ []) ≡ Some Short) × (fault (0x06 ∷ 0x80 ∷ 0x01 ∷ []) ≡ Some Short) × (fault (0x06 ∷ 0x7F ∷ []) ≡ Some BadNumber)
+    × (fault (0x82 ∷ 0x05 ∷ 0x01 ∷ 0x21 ∷ []) ≡ Some Padding)
+    × (fault (0x82 ∷ 0x05 ∷ 0x00 ∷ 0x01 ∷ []) ≡ Some Trailing)
+    × (fault (0x82 ∷ 0xFF ∷ 0xFF ∷ 0xFF ∷ 0xFF ∷ 0x0F ∷ 0x00 ∷ []) ≡ Some (NotSorted 1))
+    × (fault (0x05 ∷ 0x80 ∷ 0x01 ∷ 0x01 ∷ 0x10 ∷ []) ≡ Some (BadSizes 16))
+    × (fault (0x05 ∷ 0x80 ∷ 0x01 ∷ 0x01 ∷ 0x81 ∷ 0x01 ∷ []) ≡ Some (BadSizes 129))
+
+-- the text of 0 to 127, with parts changed
+abbrev pub changed : ℕ → ℕ → List ℕ → ℕ → ℕ → List ℕ → List ℕ
+changed chunks sizes key end sum body = 0x05 ∷ 0x80 ∷ 0x01 ∷ chunks ∷ sizes ∷ key ++ end ∷ sum ∷ body
+
+-- an array of 128 ids, each of these bytes
+abbrev pub array : (ℕ → List ℕ) → List ℕ
+array id = 0x06 ∷ 0x80 ∷ 0x01 ∷ flat_map id (range_with_len 0 128)
+
+abbrev pub bits : List ℕ
+bits = replicate 16 0xFF ++ replicate 16 0
+
+abbrev pub zeros : List ℕ
+zeros = 0 ∷ 0 ∷ []
+
+abbrev pub WorkedChanges : Type 0
+WorkedChanges =
+    (fault (changed 1 0x11 zeros 0x23 0x80 (0 ∷ 0 ∷ 0x7F ∷ bits)) ≡ None)
+    × (fault (changed 2 0x11 zeros 0x23 0x80 (0 ∷ 0 ∷ 0x7F ∷ bits)) ≡ Some (BadOffset 0))
+    × (fault (changed 33 0x11 zeros 0x23 0x80 (0 ∷ 0 ∷ 0x7F ∷ bits)) ≡ Some BadNumber)
+    × (fault (changed 1 0x12 zeros 0x23 0x80 (0 ∷ 0 ∷ 0x7F ∷ bits)) ≡ Some (BadSum 0))
+    × (fault (changed 1 0x11 zeros 0x22 0x80 (0 ∷ 0 ∷ 0x7F ∷ bits)) ≡ Some (BadBody 0))
+    × (fault (changed 1 0x11 zeros 0x00 0x80 (0 ∷ 0 ∷ 0x7F ∷ bits)) ≡ Some (BadOffset 0))
+    × (fault (changed 1 0x11 zeros 0x23 0x81 (0 ∷ 0 ∷ 0x7F ∷ bits)) ≡ Some (BadSum 0))
+    × (fault (changed 1 0x11 zeros 0x23 0x7F (0 ∷ 0 ∷ 0x7F ∷ bits)) ≡ Some (BadSum 0))
+    × (fault (changed 1 0x11 zeros 0x23 0x80 (1 ∷ 0 ∷ 0x7F ∷ bits)) ≡ Some (BadBody 0))
+    × (fault (changed 1 0x11 zeros 0x23 0x80 (0 ∷ 0 ∷ 0x7E ∷ bits)) ≡ Some (BadBody 0))
+    × (fault (changed 1 0x11 zeros 0x23 0x80 (0 ∷ 0 ∷ 0x7F ∷ 0xFE ∷ replicate 15 0xFF ++ replicate 16 0)) ≡ Some (BadBody 0))
+    × (fault (changed 1 0x11 zeros 0x23 0x80 (0 ∷ 0 ∷ 0x7F ∷ replicate 16 0xFF ++ replicate 15 0 ++ 0x01 ∷ [])) ≡ Some (BadBody 0))
+    × (fault (changed 1 0x11 (1 ∷ 0 ∷ []) 0x23 0x80 (0 ∷ 0 ∷ 0x7F ∷ bits)) ≡ None)
+    × (fault (changed 1 0x11 zeros 0x23 0x80 (0 ∷ 1 ∷ 0x7F ∷ bits)) ≡ None)
+    × (fault (changed 1 0x11 zeros 0x23 0x80 (0 ∷ 0 ∷ 0x7F ∷ replicate 16 0xFF ++ replicate 15 0)) ≡ Some Short)
+    × (fault (changed 1 0x11 zeros 0x23 0x80 (0 ∷ 0 ∷ 0x7F ∷ bits ++ 0 ∷ [])) ≡ Some Trailing)
+    × (fault (0x05 ∷ 0x80 ∷ 0x01 ∷ 0x01 ∷ 0x12 ∷ 0 ∷ 0 ∷ 0 ∷ 1 ∷ 0x80 ∷ flat_map (λ i. 2 * i ∷ 0 ∷ []) (range_with_len 0 128)) ≡ Some (LooseBody 0))
+    × (fault (array (λ i. 0 ∷ 128 * (i % 2) ∷ i / 2 ∷ 0 ∷ [])) ≡ None)
+    × (fault (array (λ i. 0 ∷ 64 * (i % 4) ∷ i / 4 ∷ 0 ∷ [])) ≡ Some LooseForm)
+    × (fault (array (λ i. 0 ∷ 0 ∷ 0 ∷ i / 2 ∷ [])) ≡ Some (NotSorted 1))
+    × (fault (array (λ i. 0 ∷ 128 * (i % 2) ∷ i / 2 ∷ 0 ∷ []) ++ 0 ∷ []) ≡ Some Trailing)

@@ -1,0 +1,93 @@
+-- What a writer of sets refuses, what it measures, and what it leaves.
+use Rattle.std.specs.Prelude.{◌≡◌, ◌≢◌, ℕ, ◌+◌, ◌-◌, ◌*◌, ◌/◌, ◌%◌, ◌^◌, ◌<◌, ◌≤◌, ◌++◌, nat_lt, if◌then◌else◌, List, drop, length, map, slice_index, Option, Some, None, Result, Err, IfErr, IfOk, IsOk, MatchOption, OnErr, OnOk, vec_len, vec_capacity}
+use Rattle.std.specs.List.{concat, flat_map}
+use Rattle.std.specs.Option.{option_map}
+use Rattle.std.specs.declared.vec.Vec.{Vec}
+use Rattle.bitpack_sets.specs.declared.set_error.SetError.{SetError}
+use Rattle.bitpack_sets.specs.declared.set_error.SetError.TheVariants.{Memory, NotSorted, Short, TooLong}
+use Rattle.bitpack_sets.specs.Sets.{IsRising, IsSet, body, le_bytes, parts, slice, sums, text}
+use Rattle.bitpack_sets.specs.Slices.{first_fall}
+
+-- why a writer refuses ids: they are too many, or one is not above the one before
+abbrev pub refusal : List ℕ → Option SetError
+refusal ids = if nat_lt (2 ^ 28) (length ids) then Some (TooLong (length ids)) else option_map NotSorted (first_fall 0 ids)
+
+-- ---- ids in one chunk, or in one slice
+
+-- the first `count` numbers have one quotient, and the next one has another
+pub record IsRun (base : ℕ) (xs : List ℕ) (count : ℕ) : Type 0 where
+  pub some : 0 < count
+  pub within : count ≤ length xs
+  pub shared : (k : ℕ) → k < count → slice_index xs k / base ≡ slice_index xs 0 / base
+  pub apart : count < length xs → slice_index xs count / base ≢ slice_index xs 0 / base
+
+-- increasing ids of one chunk, and their low numbers
+pub record IsChunk (ids : List ℕ) : Type 0 where
+  pub rising : IsRising 0 (2 ^ 32) ids
+  pub shared : (k : ℕ) → k < length ids → slice_index ids k / 65536 ≡ slice_index ids 0 / 65536
+
+abbrev pub lows : List ℕ → List ℕ
+lows ids = map (λ id. id % 65536) ids
+
+-- the parts of blocks: the high bytes, how many numbers have each less 1, and the slices
+abbrev pub highs : List (ℕ × List ℕ) → List ℕ
+highs ps = map (λ part. part.0) ps
+
+abbrev pub counts : List (ℕ × List ℕ) → List ℕ
+counts ps = map (λ part. length part.1 - 1) ps
+
+abbrev pub slices : List (ℕ × List ℕ) → List ℕ
+slices ps = flat_map (λ part. slice part.1) ps
+
+-- the bodies of a set in chunks
+abbrev pub bodies : List ℕ → List (List ℕ)
+bodies ids = map (λ chunk. body chunk.1) (parts (2 ^ 16) ids)
+
+-- the keys of ids in chunks, the ends of their bodies, the first of which begins at `start`, and the sums of their ids, of which there are
+-- `before` before them
+abbrev pub keys_text : List ℕ → List ℕ
+keys_text ids = flat_map (le_bytes 2) (map (λ chunk. chunk.0) (parts (2 ^ 16) ids))
+
+abbrev pub ends_text : ℕ → ℕ → List ℕ → List ℕ
+ends_text size start ids = flat_map (le_bytes size) (sums start (map length (bodies ids)))
+
+abbrev pub sums_text : ℕ → ℕ → List ℕ → List ℕ
+sums_text size before ids = flat_map (le_bytes size) (sums before (map (λ chunk. length chunk.1) (parts (2 ^ 16) ids)))
+
+-- the directory and the bodies
+abbrev pub directory : ℕ → ℕ → List ℕ → List ℕ
+directory end_size sum_size ids = keys_text ids ++ (ends_text end_size 0 ids ++ (sums_text sum_size 0 ids ++ concat (bodies ids)))
+
+-- ---- what is measured, and written
+
+-- the length of the text of a set, and from 128 ids on how many chunks it has, and how many bytes are bodies
+pub record IsMeasured (ids : List ℕ) (len chunks bytes : ℕ) : Type 0 where
+  pub len_is : len ≡ length (text ids)
+  pub chunks_is : 128 ≤ length ids → chunks ≡ length (parts (2 ^ 16) ids)
+  pub bytes_is : 128 ≤ length ids → bytes ≡ length (concat (bodies ids))
+  pub few : chunks ≤ length ids
+  pub small : bytes ≤ 2 * length ids
+
+-- the length of the text of a set; or the ids are none
+pub record MeasuresSet (ids : List ℕ) (result : Result ℕ SetError) : Type 0 where
+  pub set : OnOk result (IsSet ids)
+  pub len : IfOk result (λ len. len ≡ length (text ids))
+  pub fault : MatchOption (refusal ids) (IsOk result) (λ fault. result ≡ Err fault)
+
+-- the text of a set is written, and what is after it is unchanged; or the ids are none, or the slice is too short, and nothing changed
+pub record WritesSet (ids : List ℕ) (result : Result ℕ SetError) (old new : List ℕ) : Type 0 where
+  pub set : OnOk result (IsSet ids)
+  pub len : IfOk result (λ len. len ≡ length (text ids))
+  pub ok : OnOk result (new ≡ text ids ++ drop (length (text ids)) old)
+  pub fault : MatchOption (refusal ids) (IfErr result (λ e. e ≡ Short)) (λ fault. result ≡ Err fault)
+  pub room : refusal ids ≡ None → OnErr result (length old < length (text ids))
+  pub unchanged : OnErr result (new ≡ old)
+
+-- the text of a set is appended; or the ids are none, or the vector has no room and memory runs out, and nothing changed
+pub record AppendsSet {A : Type 0} (ids : List ℕ) (result : Result (Unit {0}) SetError) (old new : Vec ℕ A) : Type 0 where
+  pub set : OnOk result (IsSet ids)
+  pub ok : OnOk result (new.items ≡ old.items ++ text ids)
+  pub fault : MatchOption (refusal ids) (IfErr result (λ e. e ≡ Memory)) (λ fault. result ≡ Err fault)
+  pub room : refusal ids ≡ None → OnErr result (vec_capacity old < vec_len old + length (text ids))
+  pub unchanged : OnErr result (new.items ≡ old.items)
+  pub kept : OnErr result (vec_capacity new ≡ vec_capacity old)

@@ -1,0 +1,119 @@
+//! Sets whose ids lie far apart: an array of four bytes for each.
+
+ghost use Rattle.std.specs.Prelude.{◌≡◌, ◌≢◌, ◌+◌, ◌*◌, ◌/◌, ◌^◌, ◌<◌, ◌≤◌, length, slice_index};
+ghost use Rattle.bitpack_sets.specs.Errors.{Finds};
+ghost use Rattle.bitpack_sets.specs.Faults.{ids_fault};
+ghost use Rattle.bitpack_sets.specs.Reads.{has, rank};
+ghost use Rattle.bitpack_sets.specs.Sets.{IsRising, parts};
+ghost use Rattle.bitpack_sets.specs.Slices.{quads_of};
+
+use crate::set_error::SetError;
+
+/// The id at a position.
+#[inline(always)]
+pub(crate) fn id_at(rest: &[u8], position: usize) -> u32
+    requires { 4 * position + 4 ≤ length rest.now }
+    ensures { result ≡ slice_index (quads_of rest.now) position }
+{
+    let from = 4 * position;
+    u32::from_le_bytes([rest[from], rest[from + 1], rest[from + 2], rest[from + 3]])
+}
+
+/// Writes all ids of an array.
+pub(crate) fn unpack_array(rest: &[u8], out: &mut [u32])
+    requires { length rest.now ≡ 4 * length out.old }
+    ensures { out.new ≡ quads_of rest.now }
+{
+    for position in 0..out.len() {
+        out[position] = id_at(rest, position);
+    }
+}
+
+/// How many ids of an array are below one, by halves.
+pub(crate) fn rank_in_array(rest: &[u8], id: u32) -> usize
+    requires { IsRising 0 (2 ^ 32) (quads_of rest.now) }
+    ensures { result ≡ rank id (quads_of rest.now) }
+{
+    let mut low = 0;
+    let mut left = rest.len() / 4;
+    while left > 0 {
+        let half = left / 2;
+        if id_at(rest, low + half) < id {
+            low += half + 1;
+            left -= half + 1;
+        } else {
+            left = half;
+        }
+    }
+    low
+}
+
+/// Whether an array has an id.
+pub(crate) fn in_array(rest: &[u8], id: u32) -> bool
+    requires { IsRising 0 (2 ^ 32) (quads_of rest.now) }
+    ensures { result ≡ has id (quads_of rest.now) }
+{
+    let position = rank_in_array(rest, id);
+    if position < rest.len() / 4 {
+        id_at(rest, position) == id
+    } else {
+        false
+    }
+}
+
+/// Tests what is after the count of an array of `count` ids.
+#[tactic(auto, unfolding(crate::specs::Faults::ids_fault))]
+pub(crate) fn test_array(count: usize, rest: &[u8]) -> Result<(), SetError>
+    requires some { 1 ≤ count }
+    requires few { count ≤ 2 ^ 28 }
+    ensures { Finds result (ids_fault count rest.now) }
+{
+    if rest.len() < 4 * count {
+        return Err(SetError::Short);
+    }
+    let ids = &rest[..4 * count];
+    if let Some(position) = first_fall(ids) {
+        return Err(SetError::NotSorted(position));
+    }
+    if count >= 4 * count_chunks(ids) {
+        return Err(SetError::LooseForm);
+    }
+    if rest.len() > 4 * count {
+        return Err(SetError::Trailing);
+    }
+    Ok(())
+}
+
+/// The first position whose id is not above the one before.
+fn first_fall(ids: &[u8]) -> Option<usize>
+    ensures { result ≡ Rattle.bitpack_sets.specs.Slices.first_fall 0 (quads_of ids.now) }
+{
+    for position in 1..ids.len() / 4 {
+        if id_at(ids, position) <= id_at(ids, position - 1) {
+            return Some(position);
+        }
+    }
+    None
+}
+
+/// How many chunks ids have.
+fn count_chunks(ids: &[u8]) -> usize
+    requires { 4 ≤ length ids.now }
+    ensures few { result ≤ length ids.now / 4 }
+    ensures count { result ≡ length (parts (2 ^ 16) (quads_of ids.now)) }
+{
+    let mut chunks = 1;
+    for position in 1..ids.len() / 4 {
+        chunks += changes(id_at(ids, position) >> 16, id_at(ids, position - 1) >> 16);
+    }
+    chunks
+}
+
+/// 1 if a key is another than the one before, else 0.
+#[inline(always)]
+fn changes(key: u32, before: u32) -> usize
+    ensures same { key ≡ before → result ≡ 0 }
+    ensures other { key ≢ before → result ≡ 1 }
+{
+    (key != before) as usize
+}

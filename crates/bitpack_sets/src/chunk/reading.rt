@@ -1,0 +1,72 @@
+//! Unpacks the numbers of bodies, in order.
+
+ghost use Rattle.std.specs.Prelude.{◌≡◌, ◌+◌, ◌*◌, ◌/◌, ◌^◌, ◌<◌, ◌≤◌, ◌++◌, drop, length, map, slice_index, take};
+ghost use Rattle.bitpack_sets.specs.Slices.{AreSlices, IsBlocks, IsSlice, block_numbers, numbers_in, numbers_of, pairs_of, slice_len, slice_numbers};
+
+use crate::chunk::search::number_at;
+use crate::slice::byte_len;
+use crate::slice::reading::{unpack_slice, unpack_within};
+
+/// Writes the numbers of a body of blocks, each with `base` added. Returns where they end.
+pub(crate) fn unpack_blocks(body: &[u8], base: u32, out: &mut [u32], at: usize) -> usize
+    requires blocks { IsBlocks (length (block_numbers body.now)) body.now }
+    requires fits { base + 65536 ≤ 2 ^ 32 }
+    requires room { at + length (block_numbers body.now) ≤ length out.old }
+    ensures end { result ≡ at + length (block_numbers body.now) }
+    ensures values { take result out.new ≡ take at out.old ++ map (λ i. base + i) (block_numbers body.now) }
+{
+    let many = body[0] as usize + 1;
+    let size = byte_len(many);
+    let highs = &body[1..1 + size];
+    let counts = &body[1 + size..1 + size + many];
+    let slices = &body[1 + size + many..];
+    unpack_parts(highs, counts, slices, base, out, at)
+}
+
+/// Writes the numbers of slices end to end, each with `base` added: their high bytes, of each the count less 1, and the slices. Returns where
+/// they end.
+fn unpack_parts(
+    highs: &[u8],
+    counts: &[u8],
+    slices: &[u8],
+    base: u32,
+    out: &mut [u32],
+    at: usize,
+) -> usize
+    requires few { length counts.now ≤ 256 }
+    requires size { length highs.now ≡ slice_len (length counts.now) }
+    requires highs { IsSlice (length counts.now) highs.now }
+    requires slices { AreSlices counts.now slices.now }
+    requires fits { base + 65536 ≤ 2 ^ 32 }
+    requires room { at + numbers_in counts.now ≤ length out.old }
+    ensures end { result ≡ at + numbers_in counts.now }
+    ensures values { take result out.new
+        ≡ take at out.old ++ map (λ i. base + i) (numbers_of (slice_numbers (length counts.now) highs.now) counts.now slices.now) }
+{
+    let mut firsts = [0; 256];
+    unpack_slice(counts.len(), highs, 0, &mut firsts, 0);
+    let mut next = at;
+    let mut place = 0;
+    for i in 0..counts.len() {
+        let count = counts[i] as usize + 1;
+        let size = byte_len(count);
+        let first = base + 256 * firsts[i];
+        next = unpack_within(count, &slices[place..place + size], first, out, next);
+        place += size;
+    }
+    next
+}
+
+/// Writes the numbers of a body of numbers, each with `base` added. Returns where they end.
+pub(crate) fn unpack_numbers(body: &[u8], base: u32, out: &mut [u32], at: usize) -> usize
+    requires fits { base + 65536 ≤ 2 ^ 32 }
+    requires room { at + length body.now / 2 ≤ length out.old }
+    ensures end { result ≡ at + length body.now / 2 }
+    ensures values { take result out.new ≡ take at out.old ++ map (λ i. base + i) (pairs_of body.now) }
+{
+    let many = body.len() / 2;
+    for i in 0..many {
+        out[at + i] = base + number_at(body, i) as u32;
+    }
+    at + many
+}

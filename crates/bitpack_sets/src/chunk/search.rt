@@ -1,0 +1,129 @@
+//! Looks numbers up in bodies.
+
+ghost use Rattle.std.specs.Prelude.{◌≡◌, ◌+◌, ◌*◌, ◌/◌, ◌^◌, ◌<◌, ◌≤◌, ◌++◌, drop, length, map, slice_index, take};
+ghost use Rattle.bitpack_sets.specs.Reads.{has, rank};
+ghost use Rattle.bitpack_sets.specs.Sets.{IsRising};
+ghost use Rattle.bitpack_sets.specs.Slices.{AreSlices, IsBlocks, IsSlice, block_numbers, numbers_of, pairs_of, slice_len, slice_numbers, slices_len};
+
+use crate::slice::byte_len;
+use crate::slice::search::{in_slice, rank_in_slice};
+use crate::slice::testing::count_numbers;
+
+/// Whether a body of blocks has this number.
+pub(crate) fn in_blocks(body: &[u8], number: u16) -> bool
+    requires { IsBlocks (length (block_numbers body.now)) body.now }
+    ensures { result ≡ has number (block_numbers body.now) }
+{
+    let many = body[0] as usize + 1;
+    let size = byte_len(many);
+    let highs = &body[1..1 + size];
+    let counts = &body[1 + size..1 + size + many];
+    let slices = &body[1 + size + many..];
+    in_parts(highs, counts, slices, number)
+}
+
+/// Whether slices end to end have this number: their high bytes, of each the count less 1, and the slices.
+fn in_parts(highs: &[u8], counts: &[u8], slices: &[u8], number: u16) -> bool
+    requires few { length counts.now ≤ 256 }
+    requires size { length highs.now ≡ slice_len (length counts.now) }
+    requires highs { IsSlice (length counts.now) highs.now }
+    requires slices { AreSlices counts.now slices.now }
+    ensures { result ≡ has number (numbers_of (slice_numbers (length counts.now) highs.now) counts.now slices.now) }
+{
+    let high = (number / 256) as u8;
+    if !in_slice(counts.len(), highs, high) {
+        return false;
+    }
+    let index = rank_in_slice(counts.len(), highs, high);
+    let place = place_of_slice(counts, index);
+    let count = counts[index] as usize + 1;
+    let size = byte_len(count);
+    in_slice(count, &slices[place..place + size], (number % 256) as u8)
+}
+
+/// How many numbers of a body of blocks are below one.
+pub(crate) fn rank_in_blocks(body: &[u8], number: u16) -> usize
+    requires { IsBlocks (length (block_numbers body.now)) body.now }
+    ensures { result ≡ rank number (block_numbers body.now) }
+{
+    let many = body[0] as usize + 1;
+    let size = byte_len(many);
+    let highs = &body[1..1 + size];
+    let counts = &body[1 + size..1 + size + many];
+    let slices = &body[1 + size + many..];
+    rank_in_parts(highs, counts, slices, number)
+}
+
+/// How many numbers of slices end to end are below one: their high bytes, of each the count less 1, and the slices.
+fn rank_in_parts(highs: &[u8], counts: &[u8], slices: &[u8], number: u16) -> usize
+    requires few { length counts.now ≤ 256 }
+    requires size { length highs.now ≡ slice_len (length counts.now) }
+    requires highs { IsSlice (length counts.now) highs.now }
+    requires slices { AreSlices counts.now slices.now }
+    ensures { result ≡ rank number (numbers_of (slice_numbers (length counts.now) highs.now) counts.now slices.now) }
+{
+    let high = (number / 256) as u8;
+    let index = rank_in_slice(counts.len(), highs, high);
+    let before = count_numbers(&counts[..index]);
+    if !in_slice(counts.len(), highs, high) {
+        return before;
+    }
+    let place = place_of_slice(counts, index);
+    let count = counts[index] as usize + 1;
+    let size = byte_len(count);
+    before + rank_in_slice(count, &slices[place..place + size], (number % 256) as u8)
+}
+
+/// Where a slice begins among slices end to end, of which each count less 1 is given.
+fn place_of_slice(counts: &[u8], index: usize) -> usize
+    requires within { index ≤ length counts.now }
+    requires few { length counts.now ≤ 256 }
+    ensures { result ≡ slices_len (take index counts.now) }
+{
+    let mut place = 0;
+    for i in 0..index {
+        place += byte_len(counts[i] as usize + 1);
+    }
+    place
+}
+
+/// The number of this place in a body of numbers.
+#[inline(always)]
+pub(crate) fn number_at(body: &[u8], place: usize) -> u16
+    requires { place < length body.now / 2 }
+    ensures { result ≡ slice_index (pairs_of body.now) place }
+{
+    body[2 * place] as u16 + 256 * body[2 * place + 1] as u16
+}
+
+/// How many numbers of a body of numbers are below this one, by halves.
+pub(crate) fn rank_in_numbers(body: &[u8], number: u16) -> usize
+    requires { IsRising 0 65536 (pairs_of body.now) }
+    ensures { result ≡ rank number (pairs_of body.now) }
+{
+    let mut low = 0;
+    let mut left = body.len() / 2;
+    while left > 0 {
+        let half = left / 2;
+        if number_at(body, low + half) < number {
+            low += half + 1;
+            left -= half + 1;
+        } else {
+            left = half;
+        }
+    }
+    low
+}
+
+/// Whether a body of numbers has this one.
+pub(crate) fn in_numbers(body: &[u8], number: u16) -> bool
+    requires { IsRising 0 65536 (pairs_of body.now) }
+    ensures { result ≡ has number (pairs_of body.now) }
+{
+    let place = rank_in_numbers(body, number);
+    if place < body.len() / 2 {
+        number_at(body, place) == number
+    } else {
+        false
+    }
+}

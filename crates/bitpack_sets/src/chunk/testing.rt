@@ -1,0 +1,152 @@
+//! Tests bodies.
+
+ghost use Rattle.std.specs.Prelude.{◌≡◌, ◌≢◌, ◌+◌, ◌*◌, ◌/◌, ◌^◌, ◌<◌, ◌≤◌, ℕ, length, None};
+ghost use Rattle.std.specs.Bool.{Decides};
+ghost use Rattle.bitpack_sets.specs.Directory.{before, bodies_end, count_at};
+ghost use Rattle.bitpack_sets.specs.Errors.{Finds};
+ghost use Rattle.bitpack_sets.specs.Faults.{body_fault, body_fault_at, first_of};
+ghost use Rattle.bitpack_sets.specs.Sets.{blocks};
+ghost use Rattle.bitpack_sets.specs.Slices.{IsBlocks, pairs_of};
+ghost use Rattle.bitpack_sets.specs.Sound.{HasDirectory, IsEntry};
+
+use crate::chunk::search::number_at;
+use crate::directory::{begin_at, bodies_start, count_before, end_at, sum_at};
+use crate::set_error::SetError;
+use crate::slice::byte_len;
+use crate::slice::testing::{are_slices, count_numbers, is_slice};
+
+/// Tests the body of each chunk.
+pub(crate) fn test_bodies(count: usize, chunks: usize, rest: &[u8]) -> Result<(), SetError>
+    requires few { chunks ≤ 65536 }
+    requires directory { HasDirectory chunks rest.now }
+    requires entries { (m : ℕ) → m < chunks → IsEntry count chunks rest.now m }
+    requires room { bodies_end chunks rest.now ≤ length rest.now }
+    ensures { Finds result (first_of (body_fault_at chunks rest.now) chunks) }
+{
+    let start = bodies_start(chunks, rest);
+    for chunk in 0..chunks {
+        let position = count_before(chunks, rest, chunk) as usize;
+        let own = sum_at(chunks, rest, chunk) as usize - position;
+        let begin = begin_at(chunks, rest, chunk) as usize;
+        let end = end_at(chunks, rest, chunk) as usize;
+        test_body(chunk, position, own, &rest[start + begin..start + end])?;
+    }
+    Ok(())
+}
+
+/// Tests the body of a chunk of `count` numbers, after `position` others.
+#[tactic(auto, unfolding(crate::specs::Faults::body_fault))]
+fn test_body(chunk: usize, position: usize, count: usize, body: &[u8]) -> Result<(), SetError>
+    requires some { 1 ≤ count }
+    requires few { count ≤ 65536 }
+    requires position { position ≤ 2 ^ 32 }
+    ensures { Finds result (body_fault chunk position count body.now) }
+{
+    if body.len() != 2 * count {
+        if is_blocks(count, body) {
+            return Ok(());
+        }
+        return Err(SetError::BadBody(chunk));
+    }
+    if let Some(position) = first_fall(position, body) {
+        return Err(SetError::NotSorted(position));
+    }
+    if blocks_len(body) < 2 * count {
+        return Err(SetError::LooseBody(chunk));
+    }
+    Ok(())
+}
+
+/// The first position whose number is not above the one before, of a body of numbers of which the first has this position.
+fn first_fall(position: usize, body: &[u8]) -> Option<usize>
+    requires few { length body.now ≤ 131072 }
+    requires position { position ≤ 2 ^ 32 }
+    ensures { result ≡ Rattle.bitpack_sets.specs.Slices.first_fall position (pairs_of body.now) }
+{
+    for index in 1..body.len() / 2 {
+        if number_at(body, index) <= number_at(body, index - 1) {
+            return Some(position + index);
+        }
+    }
+    None
+}
+
+/// A slice that is counted: its high byte, how many numbers it has; and how many slices there are with it, and how many bytes the others
+/// have.
+#[derive(Clone, Copy)]
+struct Run {
+    high: u16,
+    count: usize,
+    slices: usize,
+    size: usize,
+}
+
+/// How many bytes the numbers of a body of numbers would take as blocks. It counts from the last number on.
+fn blocks_len(body: &[u8]) -> usize
+    requires some { 2 ≤ length body.now }
+    requires few { length body.now ≤ 131072 }
+    ensures { result ≡ length (blocks (pairs_of body.now)) }
+{
+    let mut left = body.len() / 2 - 1;
+    let mut run = Run {
+        high: number_at(body, left) / 256,
+        count: 1,
+        slices: 1,
+        size: 0,
+    };
+    while left > 0 {
+        left -= 1;
+        run = with_high(run, number_at(body, left) / 256);
+    }
+    1 + byte_len(run.slices) + run.slices + run.size + byte_len(run.count)
+}
+
+/// A number more, with this high byte.
+#[inline(always)]
+fn with_high(run: Run, high: u16) -> Run
+    requires count { run.count ≤ 65536 }
+    requires slices { run.slices ≤ 65536 }
+    requires size { run.size ≤ 2 ^ 32 }
+    ensures same { run.high ≡ high → result ≡ record run { count = run.count + 1 } }
+    ensures other { run.high ≢ high → result
+        ≡ record { high = high; count = 1; slices = run.slices + 1; size = run.size + Rattle.bitpack_sets.specs.Slices.slice_len run.count } }
+{
+    if run.high == high {
+        return Run {
+            high: run.high,
+            count: run.count + 1,
+            slices: run.slices,
+            size: run.size,
+        };
+    }
+    Run {
+        high,
+        count: 1,
+        slices: run.slices + 1,
+        size: run.size + byte_len(run.count),
+    }
+}
+
+/// Whether bytes are the blocks of `count` numbers.
+pub(crate) fn is_blocks(count: usize, body: &[u8]) -> bool
+    ensures { Decides result (IsBlocks count body.now) }
+{
+    if body.is_empty() {
+        return false;
+    }
+    let many = body[0] as usize + 1;
+    let size = byte_len(many);
+    if body.len() < 1 + size + many {
+        return false;
+    }
+    let highs = &body[1..1 + size];
+    let counts = &body[1 + size..1 + size + many];
+    let slices = &body[1 + size + many..];
+    if !is_slice(many, highs) {
+        return false;
+    }
+    if count_numbers(counts) != count {
+        return false;
+    }
+    are_slices(counts, slices)
+}

@@ -1,0 +1,52 @@
+//! Unpacks the ids of sets in chunks.
+
+ghost use Rattle.std.specs.Prelude.{◌≡◌, ◌+◌, ◌*◌, ◌^◌, ◌<◌, ◌≤◌, ◌++◌, length, map, take};
+ghost use Rattle.bitpack_sets.specs.Directory.{body_at, body_numbers_of, chunk_ids, count_at};
+ghost use Rattle.bitpack_sets.specs.Sound.{IsRest};
+
+use crate::chunk::reading::{unpack_blocks, unpack_numbers};
+use crate::directory::{begin_at, bodies_start, count_before, end_at, key_at, sum_at};
+
+/// Writes all ids of a set in chunks.
+pub(crate) fn unpack_chunks(count: usize, chunks: usize, rest: &[u8], out: &mut [u32])
+    requires few { chunks ≤ 65536 }
+    requires rest { IsRest count chunks rest.now }
+    requires room { length out.old ≡ count }
+    ensures { out.new ≡ chunk_ids chunks rest.now }
+{
+    let start = bodies_start(chunks, rest);
+    let mut next = 0;
+    for chunk in 0..chunks {
+        next = unpack_chunk(count, chunks, rest, start, chunk, out, next);
+    }
+}
+
+/// Writes the ids of a chunk. Returns where they end.
+fn unpack_chunk(
+    count: usize,
+    chunks: usize,
+    rest: &[u8],
+    start: usize,
+    chunk: usize,
+    out: &mut [u32],
+    at: usize,
+) -> usize
+    requires rest { IsRest count chunks rest.now }
+    requires start { start ≡ Rattle.bitpack_sets.specs.Directory.bodies_start chunks rest.now }
+    requires within { chunk < chunks }
+    requires room { at + count_at chunks rest.now chunk ≤ length out.old }
+    ensures end { result ≡ at + count_at chunks rest.now chunk }
+    ensures values { take result out.new ≡ take at out.old
+        ++ map (λ low. Rattle.bitpack_sets.specs.Directory.key_at rest.now chunk * 65536 + low)
+        (body_numbers_of (count_at chunks rest.now chunk) (body_at chunks rest.now chunk)) }
+{
+    let own = (sum_at(chunks, rest, chunk) - count_before(chunks, rest, chunk)) as usize;
+    let begin = begin_at(chunks, rest, chunk) as usize;
+    let end = end_at(chunks, rest, chunk) as usize;
+    let body = &rest[start + begin..start + end];
+    let base = key_at(chunks, rest, chunk) as u32 * 65536;
+    if body.len() == 2 * own {
+        return unpack_numbers(body, base, out, at);
+    }
+    unpack_blocks(body, base, out, at)
+}

@@ -1,0 +1,127 @@
+//! From ids to bytes: the text of a set is measured, and then written.
+
+ghost use Rattle.std.specs.Prelude.{◌≡◌, ◌+◌, ◌≤◌, ◌++◌, length, replicate, vec_len, vec_capacity};
+ghost use Rattle.bitpack_sets.specs.Sets.{IsSet, text};
+ghost use Rattle.bitpack_sets.specs.Written.{AppendsSet, IsMeasured, MeasuresSet, WritesSet};
+
+mod bodies;
+mod chunks;
+mod few;
+mod integers;
+mod measuring;
+mod order;
+mod runs;
+
+use crate::encoding::chunks::{array_len, chunks_len, write_array, write_chunks};
+use crate::encoding::few::{MOST_FEW, few_len, write_few};
+use crate::encoding::measuring::measure_chunks;
+use crate::encoding::order::test_ids;
+use crate::set_error::SetError;
+
+/// What is known of a text before it is written: how many bytes it has, and from 128 ids on how many chunks, and how many bytes their bodies.
+#[derive(Clone, Copy)]
+struct Measured {
+    len: usize,
+    chunks: usize,
+    bodies: usize,
+}
+
+/// Returns the length in bytes of the set of these ids. They have to increase, and are at most 268,435,456.
+pub fn encoded_len(ids: &[u32]) -> Result<usize, SetError>
+    ensures { MeasuresSet ids.now result }
+{
+    test_ids(ids)?;
+    let measured = measure(ids);
+    Ok(measured.len)
+}
+
+/// Writes the set of these ids at the start of the slice, and returns its length in bytes. Allocates nothing.
+///
+/// The ids have to increase, and are at most 268,435,456. If the slice is too short, it fails with `Short` and writes nothing. The bytes
+/// after the set are unchanged. [`encoded_len`] returns how many bytes are needed.
+pub fn encode_to(ids: &[u32], bytes: &mut [u8]) -> Result<usize, SetError>
+    ensures { WritesSet ids.now result bytes.old bytes.new }
+{
+    test_ids(ids)?;
+    let measured = measure(ids);
+    let len = measured.len;
+    if bytes.len() < len {
+        return Err(SetError::Short);
+    }
+    write_set(ids, measured, &mut bytes[..len]);
+    Ok(len)
+}
+
+/// Appends the set of these ids. They have to increase, and are at most 268,435,456. The vector grows at most once.
+pub fn encode(ids: &[u32], out: &mut Vec<u8>) -> Result<(), SetError>
+    ensures { AppendsSet ids.now result out.old out.new }
+{
+    test_ids(ids)?;
+    let measured = measure(ids);
+    let len = measured.len;
+    if out.reserve(len).is_err() {
+        return Err(SetError::Memory);
+    }
+    let start = out.len();
+    append_zeros(out, len);
+    let bytes = out.slice_mut(start..);
+    write_set(ids, measured, bytes);
+    Ok(())
+}
+
+/// Appends `count` zeros to a vector that has the room.
+fn append_zeros(out: &mut Vec<u8>, count: usize)
+    requires room { vec_len out.old + count ≤ vec_capacity out.old }
+    ensures items { out.new.items ≡ out.old.items ++ replicate count 0 }
+    ensures len { vec_len out.new ≡ vec_len out.old + count }
+{
+    let len = out.len();
+    out.resize(len + count, 0).unwrap();
+}
+
+/// Measures the text of a set.
+fn measure(ids: &[u32]) -> Measured
+    requires { IsSet ids.now }
+    ensures { IsMeasured ids.now result.len result.chunks result.bodies }
+{
+    let count = ids.len();
+    if count <= MOST_FEW {
+        let len = few_len(ids);
+        return Measured {
+            len,
+            chunks: 0,
+            bodies: 0,
+        };
+    }
+    let (chunks, bodies) = measure_chunks(ids);
+    if count < 4 * chunks {
+        let len = array_len(count);
+        return Measured {
+            len,
+            chunks,
+            bodies,
+        };
+    }
+    let len = chunks_len(count, chunks, bodies);
+    Measured {
+        len,
+        chunks,
+        bodies,
+    }
+}
+
+/// Writes the text of a set that was measured.
+fn write_set(ids: &[u32], measured: Measured, out: &mut [u8])
+    requires set { IsSet ids.now }
+    requires measured { IsMeasured ids.now measured.len measured.chunks measured.bodies }
+    requires size { length out.old ≡ length (text ids.now) }
+    ensures { out.new ≡ text ids.now }
+{
+    if ids.len() <= MOST_FEW {
+        write_few(ids, out);
+    } else if ids.len() < 4 * measured.chunks {
+        write_array(ids, out);
+    } else {
+        write_chunks(ids, measured.chunks, measured.bodies, out);
+    }
+}

@@ -1,0 +1,64 @@
+//! How many bytes the bodies of a set have.
+
+ghost use Rattle.std.specs.Prelude.{◌≡◌, ℕ, List, ◌+◌, ◌*◌, ◌^◌, ◌<◌, ◌≤◌, length, map};
+ghost use Rattle.std.specs.List.{concat, flat_map};
+ghost use Rattle.bitpack_sets.specs.Sets.{IsSet, body, parts, slice};
+ghost use Rattle.bitpack_sets.specs.Written.{IsChunk, bodies, lows, slices};
+
+use crate::encoding::runs::{CHUNK_BITS, SLICE_BITS, run_len};
+use crate::slice::byte_len;
+
+/// How many chunks a set has, and how many bytes their bodies.
+pub(crate) fn measure_chunks(ids: &[u32]) -> (usize, usize)
+    requires { IsSet ids.now }
+    ensures chunks { result.0 ≡ length (parts 65536 ids.now) }
+    ensures bodies { result.1 ≡ length (concat (bodies ids.now)) }
+    ensures few { result.0 ≤ length ids.now }
+    ensures small { result.1 ≤ 2 * length ids.now }
+{
+    let mut left = ids;
+    let mut chunks = 0;
+    let mut bodies = 0;
+    while !left.is_empty() {
+        let run = run_len(CHUNK_BITS, left);
+        let (count, size) = measure_slices(&left[..run]);
+        bodies += body_len(run, count, size);
+        chunks += 1;
+        left = &left[run..];
+    }
+    (chunks, bodies)
+}
+
+/// How many slices a chunk has, and how many bytes they.
+pub(crate) fn measure_slices(ids: &[u32]) -> (usize, usize)
+    requires { IsChunk ids.now }
+    ensures count { result.0 ≡ length (parts 256 (lows ids.now)) }
+    ensures size { result.1 ≡ length (slices (parts 256 (lows ids.now))) }
+    ensures few { result.0 ≤ length ids.now }
+    ensures small { result.1 ≤ length ids.now }
+{
+    let mut left = ids;
+    let mut count = 0;
+    let mut size = 0;
+    while !left.is_empty() {
+        let run = run_len(SLICE_BITS, left);
+        size += byte_len(run);
+        count += 1;
+        left = &left[run..];
+    }
+    (count, size)
+}
+
+/// How many bytes the body of a chunk of `len` ids has, whose slices are `count`, of `size` bytes.
+pub(crate) fn body_len(len: usize, count: usize, size: usize) -> usize
+    requires len { len ≤ 65536 }
+    requires count { count ≤ len }
+    requires size { size ≤ len }
+    ensures few { result ≤ 2 * len }
+    ensures len { (numbers : List ℕ) → length numbers ≡ len → length (parts 256 numbers) ≡ count
+        → length (slices (parts 256 numbers)) ≡ size → result ≡ length (body numbers) }
+{
+    let blocks = 1 + byte_len(count) + count + size;
+    let numbers = 2 * len;
+    if blocks < numbers { blocks } else { numbers }
+}

@@ -1,0 +1,169 @@
+//! Sets of fewer than 128 ids: the first id as a number, and groups of the differences of the others.
+
+ghost use Rattle.std.specs.Prelude.{◌≡◌, ℕ, ◌+◌, ◌^◌, ◌<◌, ◌≤◌, IfOk, OnOk, length, None, Option};
+ghost use Rattle.bitpack_sets.specs.Reads.{few_ids, has, rank};
+ghost use Rattle.bitpack_sets.specs.Errors.{Finds};
+ghost use Rattle.bitpack_sets.specs.Faults.{ids_from, short_fault, some_fault};
+ghost use Rattle.bitpack_sets.specs.Varints.{after_groups, groups_codes, groups_fault, groups_of, of};
+
+use crate::set_error::SetError;
+use crate::varints::{open_group, open_number};
+use bitpack_groups::{LONGEST_GROUP, next_len, unpack_groups, unpack_number};
+
+/// The most ids of such a set.
+const MOST_FEW: usize = 127;
+
+/// Tests what is after byte 0 of the text of `count` ids.
+pub(crate) fn test_few(count: usize, bytes: &[u8]) -> Result<(), SetError>
+    requires few { count ≤ MOST_FEW }
+    ensures { Finds result (short_fault count bytes.now) }
+{
+    if count == 0 {
+        return test_end(bytes);
+    }
+    test_some(count - 1, bytes)
+}
+
+/// Tests what is after byte 0 of the text of one id and `more`.
+#[tactic(auto, unfolding(crate::specs::Faults::some_fault))]
+fn test_some(more: usize, bytes: &[u8]) -> Result<(), SetError>
+    requires few { more < MOST_FEW }
+    ensures { Finds result (some_fault more bytes.now) }
+{
+    let (first, end) = open_number(bytes)?;
+    let mut codes = [0; MOST_FEW];
+    let codes = &mut codes[..more];
+    let rest = test_groups(&bytes[end..], codes)?;
+    if let Some(position) = first_over(first, codes) {
+        return Err(SetError::NotSorted(position));
+    }
+    test_end(rest)
+}
+
+/// Writes the ids of what is after byte 0 of the text of as many ids as the slice has. It has no fault.
+pub(crate) fn unpack_few(bytes: &[u8], out: &mut [u32])
+    requires few { length out.old ≤ MOST_FEW }
+    requires sound { short_fault (length out.old) bytes.now ≡ None }
+    ensures { out.new ≡ few_ids (length out.old) bytes.now }
+{
+    if out.is_empty() {
+        return;
+    }
+    let mut codes = [0; MOST_FEW];
+    unpack_some(bytes, &mut codes[..out.len() - 1], out);
+}
+
+/// Whether an id is among those of such a text.
+pub(crate) fn in_few(count: usize, bytes: &[u8], id: u32) -> bool
+    requires few { count ≤ MOST_FEW }
+    requires sound { short_fault count bytes.now ≡ None }
+    ensures { result ≡ has id (few_ids count bytes.now) }
+{
+    let mut ids = [0; MOST_FEW];
+    let ids = &mut ids[..count];
+    unpack_few(bytes, ids);
+    is_among(ids, id)
+}
+
+/// How many of the ids of such a text are below one.
+pub(crate) fn rank_in_few(count: usize, bytes: &[u8], id: u32) -> usize
+    requires few { count ≤ MOST_FEW }
+    requires sound { short_fault count bytes.now ≡ None }
+    ensures { result ≡ rank id (few_ids count bytes.now) }
+{
+    let mut ids = [0; MOST_FEW];
+    let ids = &mut ids[..count];
+    unpack_few(bytes, ids);
+    count_below(ids, id)
+}
+
+/// Whether an id is among some.
+fn is_among(ids: &[u32], id: u32) -> bool
+    ensures { result ≡ has id ids.now }
+{
+    for other in ids {
+        if *other == id {
+            return true;
+        }
+    }
+    false
+}
+
+/// How many ids are below one.
+fn count_below(ids: &[u32], id: u32) -> usize
+    ensures { result ≡ rank id ids.now }
+{
+    let mut count = 0;
+    for other in ids {
+        count += (*other < id) as usize;
+    }
+    count
+}
+
+/// Writes an id and as many others as there is room for codes.
+fn unpack_some(bytes: &[u8], codes: &mut [u32], out: &mut [u32])
+    requires room { length out.old ≡ length codes.old + 1 }
+    requires sound { short_fault (length out.old) bytes.now ≡ None }
+    ensures { out.new ≡ few_ids (length out.old) bytes.now }
+{
+    let (first, end) = unpack_number(bytes);
+    unpack_groups(&bytes[end..], codes);
+    add_up(first, codes, out);
+}
+
+/// Writes an id and those that are as far above the one before as their codes say.
+fn add_up(first: u32, codes: &[u32], out: &mut [u32])
+    requires room { length out.old ≡ length codes.now + 1 }
+    requires small { Rattle.bitpack_sets.specs.Faults.first_over 0 (ids_from first codes.now) ≡ None }
+    ensures { out.new ≡ ids_from first codes.now }
+{
+    let mut id = first;
+    out[0] = id;
+    for index in 0..codes.len() {
+        id = id + codes[index] + 1;
+        out[index + 1] = id;
+    }
+}
+
+/// No byte is left.
+fn test_end(rest: &[u8]) -> Result<(), SetError>
+    ensures { Finds result (Rattle.bitpack_sets.specs.Faults.trailing_after 0 rest.now) }
+{
+    if rest.len() > 0 {
+        return Err(SetError::Trailing);
+    }
+    Ok(())
+}
+
+/// Tests the groups of as many codes as the slice has, which are unpacked to it. Returns the bytes after them.
+fn test_groups<'a>(bytes: &'a [u8], codes: &mut [u32]) -> Result<&'a [u8], SetError>
+    requires few { length codes.old ≤ MOST_FEW }
+    ensures fault { Finds result (of (groups_fault (groups_of (length codes.old)) 0 (length codes.old) bytes.now)) }
+    ensures codes { OnOk result (codes.new ≡ groups_codes (groups_of (length codes.old)) (length codes.old) bytes.now) }
+    ensures rest { IfOk result (λ rest. rest.now ≡ after_groups (groups_of (length codes.old)) (length codes.old) bytes.now) }
+{
+    let mut rest = bytes;
+    let mut group = [0; LONGEST_GROUP];
+    for index in 0..(codes.len() + 31) / LONGEST_GROUP {
+        let from = LONGEST_GROUP * index;
+        let count = next_len(codes.len() - from);
+        let end = open_group(index, count, rest, &mut group)?;
+        codes[from..from + count].copy_from_slice(&group[..count]);
+        rest = &rest[end..];
+    }
+    Ok(rest)
+}
+
+/// The first position whose id is above `u32::MAX`, of an id and others that are as far above the one before as their codes say.
+fn first_over(first: u32, codes: &[u32]) -> Option<usize>
+    ensures { result ≡ Rattle.bitpack_sets.specs.Faults.first_over 0 (ids_from first codes.now) }
+{
+    let mut id = first as u64;
+    for index in 0..codes.len() {
+        id += codes[index] as u64 + 1;
+        if id > u32::MAX as u64 {
+            return Some(index + 1);
+        }
+    }
+    None
+}

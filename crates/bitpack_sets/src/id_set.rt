@@ -1,0 +1,144 @@
+//! An id set, read without decoding all of it. It is zero-copy: it borrows its bytes.
+
+ghost use Rattle.std.specs.Prelude.{◌≡◌, ◌^◌, ◌≤◌};
+ghost use Rattle.bitpacking.specs.Bits.{AreBytes};
+ghost use Rattle.bitpack_sets.specs.Stated.{States};
+
+use crate::array::{in_array, rank_in_array, unpack_array};
+use crate::decoding::unpack_chunks;
+use crate::few::{in_few, rank_in_few, unpack_few};
+use crate::opening::test_text;
+use crate::reserved::append_zeros;
+use crate::searching::{in_chunks, rank_in_chunks};
+use crate::set_error::SetError;
+
+/// A set of ids whose bytes were tested when it was opened, so that reading it tests nothing again and cannot fail.
+#[derive(Clone, Copy)]
+pub struct IdSet<'a> {
+    bytes: &'a [u8],
+    count: usize,
+    chunks: usize,
+    // What is after the counts.
+    rest: &'a [u8],
+    ghost are_bytes: { AreBytes bytes.now },
+    ghost states: { States bytes.now count chunks rest.now },
+}
+
+impl<'a> IdSet<'a> {
+    ghost use Rattle.std.specs.Prelude.{◌↔◌, ◌+◌, ◌<◌, ◌++◌, IsTrue, [], drop, length, take, vec_capacity, vec_len, IfErr, IfOk, None, OnErr, OnOk};
+    ghost use Rattle.bitpack_sets.specs.Errors.{Finds};
+    ghost use Rattle.bitpack_sets.specs.Faults.{fault};
+    ghost use Rattle.bitpack_sets.specs.Opened.{ids, text_of};
+    ghost use Rattle.bitpack_sets.specs.Reads.{has, rank};
+    ghost use Rattle.bitpack_sets.specs.Sets.{IsSet, text};
+
+    /// Opens the text of a set. Tests all bytes, accepts any, and allocates nothing.
+    pub fn open(bytes: &'a [u8]) -> Result<IdSet<'a>, SetError>
+        // Bytes with a fault are refused for the first, and bytes without one are opened.
+        ensures fault { Finds result (fault bytes.now) }
+        ensures bytes { IfOk result (λ set. text_of set ≡ bytes.now) }
+        // The bytes are the text of these ids.
+        ensures set { IfOk result (λ set. IsSet (ids set)) }
+        ensures text { IfOk result (λ set. text (ids set) ≡ bytes.now) }
+    {
+        let parts = test_text(bytes)?;
+        Ok(IdSet {
+            bytes,
+            count: parts.count,
+            chunks: parts.chunks,
+            rest: parts.rest,
+        })
+    }
+
+    /// The number of ids.
+    pub fn len(&self) -> usize
+        ensures { result ≡ length (ids self.now) }
+    {
+        self.count
+    }
+
+    /// Whether there is no id.
+    pub fn is_empty(&self) -> bool
+        ensures { IsTrue result ↔ (ids self.now ≡ []) }
+    {
+        self.count == 0
+    }
+
+    /// Whether the set has this id.
+    pub fn contains(&self, id: u32) -> bool
+        ensures { result ≡ has id (ids self.now) }
+    {
+        let form = self.bytes[0];
+        if form == 5 {
+            return in_chunks(self.count, self.chunks, self.rest, id);
+        }
+        if form == 6 {
+            return in_array(self.rest, id);
+        }
+        in_few(self.count, self.rest, id)
+    }
+
+    /// How many ids are below one. It is the position of the id, if the set has it.
+    pub fn rank(&self, id: u32) -> usize
+        ensures { result ≡ rank id (ids self.now) }
+    {
+        let form = self.bytes[0];
+        if form == 5 {
+            return rank_in_chunks(self.count, self.chunks, self.rest, id);
+        }
+        if form == 6 {
+            return rank_in_array(self.rest, id);
+        }
+        rank_in_few(self.count, self.rest, id)
+    }
+
+    /// Appends all ids.
+    ///
+    /// Fails only with `Memory`, if the vector cannot grow by the number of ids.
+    pub fn append_to(&self, out: &mut Vec<u32>) -> Result<(), SetError>
+        ensures ok { OnOk result (out.new.items ≡ out.old.items ++ ids self.now) }
+        ensures memory { IfErr result (λ e. e ≡ SetError.Memory) }
+        ensures room { OnErr result (vec_capacity out.old < vec_len out.old + length (ids self.now)) }
+        ensures unchanged { OnErr result (out.new.items ≡ out.old.items) }
+    {
+        let from = out.len();
+        let count = self.len();
+        if out.reserve(count).is_err() {
+            return Err(SetError::Memory);
+        }
+        append_zeros(out, count);
+        self.copy_to(out.slice_mut(from..));
+        Ok(())
+    }
+
+    /// Writes all ids at the start of the slice, and returns their number. Allocates nothing.
+    ///
+    /// Requires room for all ids. The rest of the slice is unchanged.
+    pub fn copy_to(&self, out: &mut [u32]) -> usize
+        requires room { length (ids self.now) ≤ length out.old }
+        ensures len { result ≡ length (ids self.now) }
+        ensures ids { take result out.new ≡ ids self.now }
+        ensures rest { drop result out.new ≡ drop result out.old }
+    {
+        let count = self.len();
+        self.unpack(&mut out[..count]);
+        count
+    }
+
+    // Unpacks each body once.
+    fn unpack(&self, out: &mut [u32])
+        requires room { length out.old ≡ length (ids self.now) }
+        ensures { out.new ≡ ids self.now }
+    {
+        let form = self.bytes[0];
+        if form == 5 {
+            unpack_chunks(self.count, self.chunks, self.rest, out);
+            return;
+        }
+        if form == 6 {
+            unpack_array(self.rest, out);
+            return;
+        }
+        unpack_few(self.rest, out);
+    }
+}

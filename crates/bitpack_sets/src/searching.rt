@@ -1,0 +1,89 @@
+//! Looks ids up in sets in chunks.
+
+ghost use Rattle.std.specs.Prelude.{◌≡◌, ◌+◌, ◌*◌, ◌/◌, ◌%◌, ◌^◌, ◌<◌, ◌≤◌, length};
+ghost use Rattle.bitpack_sets.specs.Directory.{body_at, body_numbers_of, chunk_ids, count_at};
+ghost use Rattle.bitpack_sets.specs.Reads.{has, rank};
+ghost use Rattle.bitpack_sets.specs.Sound.{IsRest};
+
+use crate::chunk::search::{in_blocks, in_numbers, number_at, rank_in_blocks, rank_in_numbers};
+use crate::directory::{begin_at, bodies_start, count_before, end_at, sum_at};
+
+/// Whether a set in chunks has this id.
+pub(crate) fn in_chunks(count: usize, chunks: usize, rest: &[u8], id: u32) -> bool
+    requires few { chunks ≤ 65536 }
+    requires rest { IsRest count chunks rest.now }
+    ensures { result ≡ has id (chunk_ids chunks rest.now) }
+{
+    let key = (id / 65536) as u16;
+    let keys = &rest[1..1 + 2 * chunks];
+    let chunk = rank_in_numbers(keys, key);
+    if chunk >= chunks {
+        return false;
+    }
+    if number_at(keys, chunk) != key {
+        return false;
+    }
+    in_chunk(count, chunks, rest, chunk, (id % 65536) as u16)
+}
+
+/// How many ids of a set in chunks are below one.
+pub(crate) fn rank_in_chunks(count: usize, chunks: usize, rest: &[u8], id: u32) -> usize
+    requires few { chunks ≤ 65536 }
+    requires rest { IsRest count chunks rest.now }
+    ensures { result ≡ rank id (chunk_ids chunks rest.now) }
+{
+    let key = (id / 65536) as u16;
+    let keys = &rest[1..1 + 2 * chunks];
+    let chunk = rank_in_numbers(keys, key);
+    let before = count_before(chunks, rest, chunk) as usize;
+    if chunk >= chunks {
+        return before;
+    }
+    if number_at(keys, chunk) != key {
+        return before;
+    }
+    before + rank_in_chunk(count, chunks, rest, chunk, (id % 65536) as u16)
+}
+
+/// How many numbers of a chunk are below one.
+fn rank_in_chunk(count: usize, chunks: usize, rest: &[u8], chunk: usize, number: u16) -> usize
+    requires few { chunks ≤ 65536 }
+    requires rest { IsRest count chunks rest.now }
+    requires within { chunk < chunks }
+    ensures { result ≡ rank number (body_numbers_of (count_at chunks rest.now chunk) (body_at chunks rest.now chunk)) }
+{
+    let own = (sum_at(chunks, rest, chunk) - count_before(chunks, rest, chunk)) as usize;
+    let body = body_of(count, chunks, rest, chunk);
+    if body.len() == 2 * own {
+        return rank_in_numbers(body, number);
+    }
+    rank_in_blocks(body, number)
+}
+
+/// Whether a chunk has this number.
+fn in_chunk(count: usize, chunks: usize, rest: &[u8], chunk: usize, number: u16) -> bool
+    requires few { chunks ≤ 65536 }
+    requires rest { IsRest count chunks rest.now }
+    requires within { chunk < chunks }
+    ensures { result ≡ has number (body_numbers_of (count_at chunks rest.now chunk) (body_at chunks rest.now chunk)) }
+{
+    let own = (sum_at(chunks, rest, chunk) - count_before(chunks, rest, chunk)) as usize;
+    let body = body_of(count, chunks, rest, chunk);
+    if body.len() == 2 * own {
+        return in_numbers(body, number);
+    }
+    in_blocks(body, number)
+}
+
+/// The body of a chunk.
+fn body_of<'a>(count: usize, chunks: usize, rest: &'a [u8], chunk: usize) -> &'a [u8]
+    requires few { chunks ≤ 65536 }
+    requires rest { IsRest count chunks rest.now }
+    requires within { chunk < chunks }
+    ensures { result.now ≡ body_at chunks rest.now chunk }
+{
+    let start = bodies_start(chunks, rest);
+    let begin = begin_at(chunks, rest, chunk) as usize;
+    let end = end_at(chunks, rest, chunk) as usize;
+    &rest[start + begin..start + end]
+}

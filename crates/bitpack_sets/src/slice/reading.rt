@@ -1,0 +1,133 @@
+//! Unpacks the numbers of slices, in order.
+
+ghost use Rattle.std.specs.Prelude.{◌≡◌, ◌+◌, ◌*◌, ◌/◌, ◌^◌, ◌<◌, ◌≤◌, ◌++◌, drop, length, map, slice_index, take};
+ghost use Rattle.std.specs.List.{range_with_len};
+ghost use Rattle.bitpack_sets.specs.Slices.{IsSlice, number_of, ones_from, slice_len, slice_numbers};
+
+/// Writes the numbers of a slice of `count`, each with `base` added, where there may be no room but for them. Returns where they end.
+pub(crate) fn unpack_within(
+    count: usize,
+    bytes: &[u8],
+    base: u32,
+    out: &mut [u32],
+    at: usize,
+) -> usize
+    requires count { count ≤ 256 }
+    requires size { length bytes.now ≡ slice_len count }
+    requires slice { IsSlice count bytes.now }
+    requires fits { base + 256 ≤ 2 ^ 32 }
+    requires room { at + count ≤ length out.old }
+    ensures end { result ≡ at + count }
+    ensures values { take result out.new ≡ take at out.old ++ map (λ i. base + i) (slice_numbers count bytes.now) }
+{
+    if out.len() - at >= 256 {
+        return unpack_slice(count, bytes, base, out, at);
+    }
+    let mut numbers = [0; 256];
+    let end = unpack_slice(count, bytes, base, &mut numbers, 0);
+    out[at..at + end].copy_from_slice(&numbers[..end]);
+    at + end
+}
+
+/// Writes the numbers of a slice of `count`, each with `base` added. Returns where they end.
+pub(crate) fn unpack_slice(
+    count: usize,
+    bytes: &[u8],
+    base: u32,
+    out: &mut [u32],
+    at: usize,
+) -> usize
+    requires count { count ≤ 256 }
+    requires size { length bytes.now ≡ slice_len count }
+    requires fits { base + 256 ≤ 2 ^ 32 }
+    requires room { at + 256 ≤ length out.old }
+    ensures few { result ≤ at + 256 }
+    ensures values { take result out.new ≡ take at out.old ++ map (λ i. base + i) (slice_numbers count bytes.now) }
+{
+    if count < 32 {
+        unpack_bytes(bytes, base, out, at)
+    } else if count < 256 {
+        unpack_bits(bytes, base, out, at)
+    } else {
+        unpack_full(base, out, at)
+    }
+}
+
+/// Writes bytes, each with `base` added. Returns where they end.
+fn unpack_bytes(bytes: &[u8], base: u32, out: &mut [u32], at: usize) -> usize
+    requires fits { base + 256 ≤ 2 ^ 32 }
+    requires room { at + length bytes.now ≤ length out.old }
+    ensures end { result ≡ at + length bytes.now }
+    ensures values { take result out.new ≡ take at out.old ++ map (λ i. base + i) bytes.now }
+{
+    for i in 0..bytes.len() {
+        out[at + i] = base + bytes[i] as u32;
+    }
+    at + bytes.len()
+}
+
+/// Writes the numbers whose bits are 1, each with `base` added. Returns where they end.
+fn unpack_bits(bytes: &[u8], base: u32, out: &mut [u32], at: usize) -> usize
+    requires size { length bytes.now ≡ 32 }
+    requires fits { base + 256 ≤ 2 ^ 32 }
+    requires room { at + 256 ≤ length out.old }
+    ensures few { result ≤ at + 256 }
+    ensures values { take result out.new ≡ take at out.old ++ map (λ i. base + i) (ones_from (number_of bytes.now) 0 256) }
+{
+    let mut next = at;
+    for i in 0..4 {
+        next = unpack_ones(word_at(bytes, i), base + 64 * i as u32, out, next);
+    }
+    next
+}
+
+/// Writes 256 numbers from `base` on. Returns where they end.
+fn unpack_full(base: u32, out: &mut [u32], at: usize) -> usize
+    requires fits { base + 256 ≤ 2 ^ 32 }
+    requires room { at + 256 ≤ length out.old }
+    ensures end { result ≡ at + 256 }
+    ensures values { take result out.new ≡ take at out.old ++ map (λ i. base + i) (range_with_len 0 256) }
+{
+    for i in 0..256 {
+        out[at + i] = base + i as u32;
+    }
+    at + 256
+}
+
+/// Writes the numbers of the bits of a word that are 1, in order, each with `base` added. Returns where they end.
+#[inline(always)]
+fn unpack_ones(word: u64, base: u32, out: &mut [u32], at: usize) -> usize
+    requires fits { base + 64 ≤ 2 ^ 32 }
+    requires room { at + 64 ≤ length out.old }
+    ensures end { result ≡ at + length (ones_from word 0 64) }
+    ensures values { take result out.new ≡ take at out.old ++ map (λ i. base + i) (ones_from word 0 64) }
+{
+    let mut next = at;
+    let mut left = word;
+    while left != 0 {
+        let place = left.trailing_zeros();
+        out[next] = base + place;
+        next += 1;
+        left -= 1 << place;
+    }
+    next
+}
+
+/// Word i of some bytes.
+#[inline(always)]
+fn word_at(bytes: &[u8], i: usize) -> u64
+    requires { 8 * i + 8 ≤ length bytes.now }
+    ensures { result ≡ number_of (take 8 (drop (8 * i) bytes.now)) }
+{
+    let place = 8 * i;
+    u64::from_le_bytes([
+        bytes[place],
+        bytes[place + 1],
+        bytes[place + 2],
+        bytes[place + 3],
+        bytes[place + 4],
+        bytes[place + 5],
+        bytes[place + 6],
+        bytes[place + 7],
+    ])
+}

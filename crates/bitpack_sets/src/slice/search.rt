@@ -1,0 +1,78 @@
+//! Looks numbers up in slices.
+
+ghost use Rattle.std.specs.Prelude.{◌≡◌, ◌+◌, ◌*◌, ◌/◌, ◌^◌, ◌<◌, ◌≤◌, ◌++◌, drop, length, map, slice_index, take};
+ghost use Rattle.bitpack_sets.specs.Reads.{has, rank};
+ghost use Rattle.bitpack_sets.specs.Slices.{number_of, ones_from, slice_len, slice_numbers};
+
+use crate::slice::testing::count_bits;
+
+/// Whether a slice of `count` numbers has this one.
+pub(crate) fn in_slice(count: usize, bytes: &[u8], number: u8) -> bool
+    requires count { count ≤ 256 }
+    requires size { length bytes.now ≡ slice_len count }
+    ensures { result ≡ has number (slice_numbers count bytes.now) }
+{
+    if count < 32 {
+        in_bytes(bytes, number)
+    } else if count < 256 {
+        in_bits(bytes, number)
+    } else {
+        true
+    }
+}
+
+/// Whether a byte is among some.
+fn in_bytes(bytes: &[u8], number: u8) -> bool
+    ensures { result ≡ has number bytes.now }
+{
+    for byte in bytes {
+        if *byte == number {
+            return true;
+        }
+    }
+    false
+}
+
+/// Whether the bit of a number is 1.
+fn in_bits(bytes: &[u8], number: u8) -> bool
+    requires { length bytes.now ≡ 32 }
+    ensures { result ≡ has number (ones_from (number_of bytes.now) 0 256) }
+{
+    bytes[(number / 8) as usize] >> (number % 8) & 1 == 1
+}
+
+/// How many numbers of a slice of `count` are below this one.
+pub(crate) fn rank_in_slice(count: usize, bytes: &[u8], number: u8) -> usize
+    requires count { count ≤ 256 }
+    requires size { length bytes.now ≡ slice_len count }
+    ensures { result ≡ rank number (slice_numbers count bytes.now) }
+{
+    if count < 32 {
+        rank_in_bytes(bytes, number)
+    } else if count < 256 {
+        rank_in_bits(bytes, number)
+    } else {
+        number as usize
+    }
+}
+
+/// How many bytes are below this one.
+fn rank_in_bytes(bytes: &[u8], number: u8) -> usize
+    ensures { result ≡ rank number bytes.now }
+{
+    let mut count = 0;
+    for byte in bytes {
+        count += (*byte < number) as usize;
+    }
+    count
+}
+
+/// How many bits before that of a number are 1.
+fn rank_in_bits(bytes: &[u8], number: u8) -> usize
+    requires { length bytes.now ≡ 32 }
+    ensures { result ≡ rank number (ones_from (number_of bytes.now) 0 256) }
+{
+    let whole = (number / 8) as usize;
+    let rest = bytes[whole] & ((1 << (number % 8)) - 1);
+    count_bits(&bytes[..whole]) + rest.count_ones() as usize
+}
