@@ -13,6 +13,7 @@ import sys
 sys.dont_write_bytecode = True
 
 from calls import loose_blocks, refused_packs, refused_unpacks, single_blocks, upgrades
+from id_sets import id_sets, spelled_bytes, spelled_ids
 from lists import digest_lists, digests, edge_lists, long_lists, made_lists, single_lists, worked_lists, worked_lists2
 from lists3 import counted_lists, greatest_lists, tail_lists, upgrades3, worked_lists3
 from lists4 import lists4, upgrades4
@@ -20,6 +21,7 @@ from parts import FOLDER, KINDS, LANES, body_of, list_text, plain_blocks
 from refusals import number_of, refused_rows
 from refusals3 import refused_rows3
 from refusals4 import refused_rows4
+from refused_id_sets import damaged_sets, refused_id_sets
 from rules import rule_of
 from sets import combinations, intersections, refused_values, searches
 
@@ -47,6 +49,18 @@ def refused_calls(blocks):
             yield "unpack", f"{lanes}x", "plain", "-", width, body, number
 
 
+def set_rows():
+    """The sets, and after them the damaged texts that are the text of another set."""
+    found = {text: ids for ids, text in id_sets()} | {text: ids for text, fault, ids in damaged_sets() if fault is None}
+    for text, ids in found.items():
+        yield spelled_ids(ids), spelled_bytes(text)
+
+
+def refused_set_rows():
+    for fault, text in refused_id_sets():
+        yield number_of(fault), fault, spelled_bytes(text)
+
+
 def tables(blocks):
     """The text of each file, by its name."""
     found = {
@@ -60,6 +74,8 @@ def tables(blocks):
         "union.tsv": table("lanes bytes other_lanes other_bytes united", combinations(set.union)),
         "difference.tsv": table("lanes bytes other_lanes other_bytes left", combinations(set.difference)),
         "refused_values.tsv": table("version kind lanes values position", refused_values()),
+        "id_sets.tsv": table("ids bytes", set_rows()),
+        "refused_id_sets.tsv": table("number fault bytes", refused_set_rows()),
         "digests.tsv": table("kind lanes count bits version length sha256", digests()),
     }
     for name, rows in [("", upgrades(blocks)), ("3", upgrades3(blocks)), ("4", upgrades4(blocks))]:

@@ -19,6 +19,11 @@ NUMBERS = {
     "Padding": 14,
     "BadSizes": 16,
     "BadBits": 17,
+    "BadKey": 18,
+    "BadSum": 19,
+    "BadBody": 20,
+    "LooseBody": 21,
+    "LooseForm": 22,
 }
 
 

@@ -21,7 +21,13 @@ def numbers(text):
 
 
 def octets(text):
-    return b"" if text == "-" else bytes.fromhex(text)
+    return b"" if text == "-" else bytes.fromhex(spelled(text))
+
+
+def spelled_ids(text):
+    """The ids of id_sets.tsv: `5-9` is five of them, and `0-8/2` those with steps of 2."""
+    for first, last, step in re.findall(r"(\d+)(?:-(\d+))?(?:/(\d+))?", text):
+        yield from range(int(first), int(last or first) + 1, int(step or 1))
 
 
 def spelled(field):

@@ -7,6 +7,7 @@ check may find a mistake in the decoders themselves.
 The last line is 'N passed, M failed', which counts the readers of the vectors.
 """
 
+import functools
 import hashlib
 import itertools
 import multiprocessing
@@ -18,15 +19,16 @@ import sys
 sys.path.insert(1, f"{sys.path[0]}/..")
 from common import ROOT, report, run, source
 from parts import drawn
-from rows import block_lines, list_lines, lines_by_hand, numbers, octets, page_lines, query_lines, table
+from rows import block_lines, list_lines, lines_by_hand, numbers, octets, page_lines, query_lines, spelled_ids, table
 
 KINDS = ["plain", "sorted", "strict"]
 
 
 def model():
-    """An implementation in Python: the fenced `python` blocks of docs/FORMAT.md, and what vectors/model.py and line_model.py add to them."""
+    """An implementation in Python: the fenced `python` blocks of docs/FORMAT.md, and what vectors/model.py, set_model.py and line_model.py add
+    to them."""
     shown = re.findall(r"^```python\n(.*?)^```$", source("docs/FORMAT.md"), re.M | re.S)
-    return "\n".join([*shown, source("vectors/model.py"), source("vectors/line_model.py")])
+    return "\n".join([*shown, *(source(f"vectors/{name}.py") for name in ["model", "set_model", "line_model"])])
 
 
 def names_of(text):
@@ -197,6 +199,19 @@ def long_list_checks(names):
         yield f"{name}, read", answer_of(decode, lanes, text), right
 
 
+def id_set_checks(names):
+    for row in table("refused_id_sets.tsv"):
+        yield f"refused set {row['bytes'][:80]}", answer_of(names["decode_set"], octets(row["bytes"])), row["fault"]
+    for row in table("id_sets.tsv"):
+        ids, text = [*spelled_ids(row["ids"])], octets(row["bytes"])
+        yield f"set {row['bytes'][:80]}", answer_of(names["decode_set"], text), ids
+        yield f"text of set {row['bytes'][:80]}", answer_of(names["encode_set"], ids), text
+        for p in {1, len(ids) // 2, len(ids) - 1} if 1 < len(ids) < 1000 else []:  # an id is that before it, or less
+            for least in {ids[p - 1], 0}:
+                wrong = [*ids[:p], least, *ids[p:]]
+                yield f"refused ids {row['bytes'][:80]}", answer_of(names["encode_set"], wrong), f"NotSorted({p})"
+
+
 def line_checks(names):
     for line, right in lines_by_hand():
         yield line, names["answer"](line), right
@@ -209,6 +224,7 @@ CHECKS = {
     "dense_lists": dense_list_checks,
     "queries": query_checks,
     "sets": set_checks,
+    "id_sets": id_set_checks,
     "lines": line_checks,
     "long_lists": long_list_checks,
 }
@@ -239,11 +255,12 @@ def parquet_checks(names):
 
 
 def page_checks(names):
-    """The texts in the tables of docs/FORMAT.md that show the rules, by the decoder of their version in one lane."""
-    for version in ["1", "2", "3", "4"]:
-        shown = source("docs/FORMAT.md").split(f"\n## Packed lists, version {version}\n")[1].split("\n## ")[0]
+    """The texts in the tables of docs/FORMAT.md that show the rules, by the decoder of their version in one lane, or of sets."""
+    readers = {f"Packed lists, version {it or 1}": functools.partial(names[f"decode{it}"], 1) for it in ["", "2", "3", "4"]}
+    for title, decode in [*readers.items(), ("Id sets", names["decode_set"])]:
+        shown = source("docs/FORMAT.md").split(f"\n## {title}\n")[1].split("\n## ")[0]
         for text, fault in re.findall(r"^\| `([0-9A-F ]+)` \| (\w+(?:\([\d, ]+\))?) \|", shown, re.M):
-            yield f"{text} by the page", answer_of(names[f"decode{version.strip('1')}"], 1, bytes.fromhex(text)), fault
+            yield f"{text} by the page", answer_of(decode, bytes.fromhex(text)), fault
 
 
 def caught(text, kind):
@@ -305,7 +322,7 @@ def of_python():
     """The checks of the readers in Python, with their names."""
     names = names_of(model())
     found = [it for checks in [*CHECKS.values(), rule_checks, parquet_checks, page_checks] for it in checks(names)]
-    yield "the decoders of docs/FORMAT.md, vectors/model.py and line_model.py", found
+    yield "the decoders of docs/FORMAT.md, vectors/model.py, set_model.py and line_model.py", found
     yield "wrong implementations", mistake_checks()
 
 

@@ -29,6 +29,7 @@ const MADE: &[(&str, &str)] = made![
     "examples/vectors/queries.rs",
     "examples/vectors/report.rs",
     "examples/vectors/rows.rs",
+    "examples/vectors/sets.rs",
     "src/c_slices.rs",
     "src/growing.rs",
     "src/lib.rs",

@@ -13,7 +13,9 @@ pub mod c;
 #[cfg(feature = "c")]
 mod c_slices;
 pub mod growing;
+mod groups;
 pub mod lists;
 mod register;
+pub mod sets;
 mod simd;
 pub mod sorted;

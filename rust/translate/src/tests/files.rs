@@ -57,6 +57,20 @@ fn each_file_has_its_place() {
 }
 
 #[test]
+fn each_crate_is_a_module() {
+    let folder = Folder::new("modules");
+    let source = "use bitpack_groups::GroupError;\n\npub(crate) fn one() {\n    crate::two::three();\n}\n";
+    fs::write(folder.0.join("crates/bitpack_sets/src/one.rt"), source).unwrap();
+    folder.translate().unwrap();
+    let made = "use crate::groups::GroupError;\n\npub(in crate::sets) fn one() {\n    crate::sets::two::three();\n}\n";
+    assert_eq!(fs::read_to_string(folder.made("src/sets/one.rs")).unwrap(), made);
+    for module in CRATES {
+        let head = include_str!("../../made/src/lib.rs");
+        assert!(head.lines().any(|it| it.trim_start_matches("pub ") == format!("mod {};", module.name)), "{}", module.name);
+    }
+}
+
+#[test]
 fn only_what_changes_is_written() {
     let folder = Folder::new("changes");
     folder.write("one.rt", "fn one() {}\n");
@@ -96,5 +110,5 @@ fn two_translations_are_the_same() {
     let made = translate(&crates, &one.made(""), "1.2.3").unwrap();
     assert_eq!(translate(&crates, &other.made(""), "1.2.3"), Ok(made));
     let same = process::Command::new("diff").arg("-r").args([one.made(""), other.made("")]).status().unwrap();
-    assert!(same.success() && made > 150);
+    assert!(same.success() && made > 200);
 }

@@ -6,6 +6,7 @@ mod lists;
 mod queries;
 mod report;
 mod rows;
+mod sets;
 
 use std::env;
 use std::process::ExitCode;
@@ -15,7 +16,7 @@ use report::Report;
 use rows::Row;
 
 /// Each table, and what checks a row of it.
-const TABLES: [(&str, fn(&Row, &mut Report)); 23] = [
+const TABLES: [(&str, fn(&Row, &mut Report)); 25] = [
     ("blocks.tsv", blocks::packed),
     ("single.tsv", blocks::packed),
     ("loose.tsv", blocks::packed),
@@ -39,6 +40,8 @@ const TABLES: [(&str, fn(&Row, &mut Report)); 23] = [
     ("union.tsv", queries::united),
     ("difference.tsv", queries::subtracted),
     ("digests.tsv", digests::long),
+    ("id_sets.tsv", sets::opened),
+    ("refused_id_sets.tsv", sets::refused),
 ];
 
 fn main() -> ExitCode {

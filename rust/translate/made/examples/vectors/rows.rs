@@ -32,7 +32,7 @@ impl Row {
     }
 
     pub fn number(&self, name: &str) -> usize {
-        self.text(name).parse().unwrap_or_else(|why| panic!("{name}: {why}"))
+        whole(self.text(name))
     }
 
     /// The numbers of a field, between commas.
@@ -42,13 +42,24 @@ impl Row {
         numbers.map(|it| it.parse().unwrap_or_else(|why| panic!("{name}: {why}"))).collect()
     }
 
-    /// The bytes of a field, two digits each.
+    /// The bytes of a field, two digits each. `{00*16}` is a byte 16 times.
     pub fn bytes(&self, name: &str) -> Vec<u8> {
         let text = self.text(name);
-        let digits = if text == "-" { "" } else { text };
-        assert!(digits.is_ascii() && digits.len() % 2 == 0, "{name}");
-        let starts = (0..digits.len()).step_by(2);
-        starts.map(|at| u8::from_str_radix(&digits[at..at + 2], 16).unwrap_or_else(|why| panic!("{name}: {why}"))).collect()
+        let parts = text.split(['{', '}']).filter(|it| *it != "-");
+        parts
+            .flat_map(|it| it.split_once('*').map_or_else(|| octets(it), |(byte, times)| octets(byte).repeat(whole(times))))
+            .collect()
+    }
+
+    /// The ids of a set: `5-9` is five of them, and `0-8/2` those with steps of 2.
+    pub fn ids(&self) -> Vec<u32> {
+        let runs = self.text("ids").split(',').filter(|it| *it != "-");
+        let run = |it: &str| {
+            let (ends, step) = it.split_once('/').unwrap_or((it, "1"));
+            let (first, last) = ends.split_once('-').unwrap_or((ends, ends));
+            (whole(first)..=whole(last)).step_by(whole(step))
+        };
+        runs.flat_map(run).map(|it| it.try_into().expect("an id")).collect()
     }
 
     pub fn lanes(&self) -> usize {
@@ -74,6 +85,16 @@ impl Row {
             other => panic!("kind {other}"),
         }
     }
+}
+
+fn whole(digits: &str) -> usize {
+    digits.parse().unwrap_or_else(|why| panic!("{digits}: {why}"))
+}
+
+fn octets(digits: &str) -> Vec<u8> {
+    assert!(digits.is_ascii() && digits.len() % 2 == 0, "{digits}");
+    let starts = (0..digits.len()).step_by(2);
+    starts.map(|at| u8::from_str_radix(&digits[at..at + 2], 16).unwrap_or_else(|why| panic!("{digits}: {why}"))).collect()
 }
 
 /// An expression over the packer of some lanes.

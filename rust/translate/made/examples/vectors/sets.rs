@@ -1,0 +1,42 @@
+//! Id sets: what their bytes say, and which bytes are refused.
+
+use bitpacking_source::sets::{IdSet, SetError};
+
+use crate::report::Report;
+use crate::rows::Row;
+
+/// How many values are around those that a set writes.
+const MORE: usize = 3;
+
+pub fn opened(row: &Row, report: &mut Report) {
+    let (ids, bytes) = (row.ids(), row.bytes("bytes"));
+    let set = match IdSet::open(&bytes) {
+        Ok(set) => set,
+        Err(fault) => return report.check(&row.name, "open", Some(fault), None),
+    };
+    report.check(&row.name, "len", (set.len(), set.is_empty()), (ids.len(), ids.is_empty()));
+    let (mut appended, mut right) = (vec![u32::MAX; MORE], vec![u32::MAX; MORE]);
+    right.extend(&ids);
+    report.check(&row.name, "append_to", set.append_to(&mut appended), Ok(()));
+    report.check(&row.name, "ids appended", &appended == &right, true);
+    let mut copied = vec![u32::MAX; ids.len() + MORE];
+    report.check(&row.name, "copy_to", set.copy_to(&mut copied), ids.len());
+    right.rotate_left(MORE);
+    report.check(&row.name, "ids copied", copied == right, true);
+    contained(&set, &ids, row, report);
+}
+
+/// Each id, the numbers beside it, those with one other bit in each half, and the least and greatest number.
+fn contained(set: &IdSet<'_>, ids: &[u32], row: &Row, report: &mut Report) {
+    let near = |id: u32| [id.wrapping_sub(1), id, id.wrapping_add(1), id ^ 1 << 7, id ^ 1 << 8, id ^ 1 << 16, id ^ 1 << 31];
+    let asked = ids.iter().flat_map(|it| near(*it)).chain([0, u32::MAX]);
+    let wrong: Vec<u32> = asked.filter(|it| set.contains(*it) != ids.binary_search(it).is_ok()).take(5).collect();
+    report.check(&row.name, "numbers whose contains is wrong", wrong, vec![]);
+}
+
+/// A fault is spelled as Rust shows it.
+pub fn refused(row: &Row, report: &mut Report) {
+    let fault: Option<SetError> = IdSet::open(&row.bytes("bytes")).err();
+    let found = fault.map_or((0, "-".to_string()), |it| (it.number().into(), format!("{it:?}")));
+    report.check(&row.name, "fault", found, (row.number("number"), row.text("fault").to_string()));
+}

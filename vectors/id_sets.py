@@ -1,0 +1,223 @@
+"""Id sets with their bytes: worked by hand, and written by the rules of docs/FORMAT.md from the ids one by one."""
+
+from itertools import groupby
+
+from parts import drawn, group, number
+
+# Sets worked by hand, with their bytes.
+WORKED = [
+    ([], "80"),
+    ([5], "81 05"),
+    ([2**32 - 1], "81 FFFFFFFF0F"),
+    ([7, 9, 10, 300], "84 07 09 01 00 84 04"),
+    ([*range(33)], "A1 00 00"),
+    ([*range(34)], "A2 00 00 00"),
+    ([*range(0, 69, 2)], "A3 00 01 FFFFFFFF 01 03"),
+    ([0, 2**32 - 1], "82 00 20 FEFFFFFF"),
+    ([*range(128)], "05 8001 01 11 0000 23 80" + "00 00 7F" + 16 * "FF" + 16 * "00"),
+    ([*range(65536, 65536 + 128)], "05 8001 01 11 0100 23 80" + "00 00 7F" + 16 * "FF" + 16 * "00"),
+    ([*range(256, 384)], "05 8001 01 11 0000 23 80" + "00 01 7F" + 16 * "FF" + 16 * "00"),
+    ([*range(0, 255, 2)], "05 8001 01 11 0000 23 80" + "00 00 7F" + 32 * "55"),
+    ([*range(256)], "05 8002 01 21 0000 03 0001" + "00 00 FF"),
+    ([*range(65536)], "05 808004 01 32 0000 0101 000001" + 257 * "FF"),
+    (
+        [*range(65530, 65658)],
+        "05 8001 02 11 0000 0100 09 2C 06 80" + "00 FF 05 FA FB FC FD FE FF" + "00 00 79" + 15 * "FF" + "03" + 16 * "00",
+    ),
+    (
+        [*range(31), *range(256, 353)],
+        "05 8001 01 11 0000 44 80" + "01 00 01 1E 60" + bytes(range(31)).hex() + 12 * "FF" + "01" + 19 * "00",
+    ),
+    (
+        [*range(0, 63, 2), *range(256, 352)],
+        "05 8001 01 11 0000 45 80" + "01 00 01 1F 5F" + 8 * "55" + 24 * "00" + 12 * "FF" + 20 * "00",
+    ),
+    ([512 * i + 3 for i in range(128)], "05 8001 01 12 0000 0001 80" + "".join(f"03{2 * i:02x}" for i in range(128))),
+    ([32768 * i for i in range(128)], "06 8001" + "".join((32768 * i).to_bytes(4, "little").hex() for i in range(128))),
+    (
+        [16384 * i for i in range(128)],
+        "05 8001 20 12"
+        + "".join(f"{m:02x}00" for m in range(32))
+        + "".join((8 * m + 8).to_bytes(2, "little").hex() for m in range(32))
+        + "".join(f"{4 * m + 4:02x}" for m in range(32))
+        + 32 * "0000 0040 0080 00C0",
+    ),
+]
+
+
+def parts_of(numbers, size):
+    """The numbers by their quotient by a size, each with the remainders."""
+    return [(high, [it % size for it in low]) for high, low in groupby(numbers, lambda it: it // size)]
+
+
+def slice_of(numbers):
+    if len(numbers) < 32:
+        return bytes(numbers)
+    if len(numbers) == 256:
+        return b""
+    return sum(1 << it for it in numbers).to_bytes(32, "little")
+
+
+def blocks_of(numbers):
+    slices = parts_of(numbers, 256)
+    counts = bytes(len(low) - 1 for _, low in slices)
+    return bytes([len(slices) - 1]) + slice_of([high for high, _ in slices]) + counts + b"".join(slice_of(low) for _, low in slices)
+
+
+def pairs_of(numbers):
+    return b"".join(bytes([it % 256, it // 256]) for it in numbers)
+
+
+def body_of_chunk(numbers):
+    return min(pairs_of(numbers), blocks_of(numbers), key=len)  # of two with one length, the first
+
+
+def sums_of(counts):
+    return [sum(counts[: m + 1]) for m in range(len(counts))]
+
+
+def chunked(count, keys, ends, sums, bodies, sizes=None, chunks=None):
+    """The bytes of a set in chunks from its parts, with the least sizes if none are given, and a count of chunks."""
+    if sizes is None:
+        sizes = sum(size * (1 + (last >= 256) + (last >= 2**16) + (last >= 2**24)) for size, last in [(1, ends[-1]), (16, count)])
+    text = bytes([5]) + number(count) + number(len(keys) if chunks is None else chunks) + bytes([sizes])
+    for size, numbers in [(2, keys), (sizes % 16, ends), (sizes // 16, sums)]:
+        text += b"".join(it.to_bytes(size, "little") for it in numbers)
+    return text + b"".join(bodies)
+
+
+def few_of(ids):
+    codes = [after - before - 1 for before, after in zip(ids, ids[1:])]
+    groups = [group(codes[at : at + 32]) for at in range(0, len(codes), 32)]
+    return bytes([128 + len(ids)]) + b"".join([*map(number, ids[:1]), *groups])
+
+
+def array_of(ids):
+    return bytes([6]) + number(len(ids)) + b"".join(it.to_bytes(4, "little") for it in ids)
+
+
+def in_chunks(ids):
+    chunks = parts_of(ids, 2**16)
+    bodies = [body_of_chunk(numbers) for _, numbers in chunks]
+    ends, sums = sums_of([*map(len, bodies)]), sums_of([len(numbers) for _, numbers in chunks])
+    return chunked(len(ids), [key for key, _ in chunks], ends, sums, bodies)
+
+
+def set_text(ids):
+    """The bytes of increasing ids."""
+    if len(ids) < 128:
+        return few_of(ids)
+    return array_of(ids) if len(ids) < 4 * len({it >> 16 for it in ids}) else in_chunks(ids)
+
+
+def placed(*slices):
+    """The numbers of a chunk whose slices have these high bytes and low bytes."""
+    return [256 * high + low for high, lows in slices for low in lows]
+
+
+def spread(count):
+    """Different bytes, as far apart as there is room."""
+    return [256 * i // count for i in range(count)]
+
+
+FILL = [65536 + 2 * i for i in range(128)]  # a chunk of 128 numbers, after one that has fewer
+
+
+def few_sets():
+    """Sets below 128 ids: each limit of a number as the first id, each width, and counts at the ends of groups."""
+    for bits in [0, 1, 6, 7, 8, 14, 15, 21, 22, 28, 29, 31]:
+        yield [2**bits - 1]
+        yield [2**bits]
+    for width in range(1, 33):
+        yield [0, 2 ** (width - 1) + 1]
+        yield [0, min(2**width, 2**32 - 1)]
+    for count in [2, 3, 8, 31, 32, 33, 34, 64, 65, 66, 96, 97, 98, 126, 127]:
+        yield [*range(2**32 - count, 2**32)]
+        yield sums_of([x // 2**8 % 1000 + 1 for x in drawn(count)])
+        yield sums_of([x // 2**7 + 1 for x in drawn(count)])[:count] if count < 100 else [5, *range(9, 8 + count)]
+
+
+def slice_sets():
+    """Slices of each form, of low bytes and of high bytes, and bodies on both sides of the edge between numbers and blocks."""
+    for c in [1, 2, 3, 30, 31, 32, 33, 127, 128, 129, 254, 255, 256]:
+        yield placed((0, range(0, 256, 2)), (200, spread(c)))
+        yield placed((c % 7, range(256 - c, 256)), (9, range(1, 256, 2)))
+    for r in [1, 2, 3, 30, 31, 32, 33, 127, 128, 254, 255, 256]:
+        yield placed(*((high, [high - 1, 255] if high % 2 else range(4)) for high in spread(r))) + FILL
+    for r in [1, 2, 5, 20, 27, 28]:  # blocks take 3 * r + c bytes, and numbers 2 * (c + r - 1)
+        for c in [r + 1, r + 2, r + 3]:
+            yield placed(*((high, [high + 1]) for high in range(r - 1)), (255, spread(c))) + FILL
+    for c in [31, 32, 33, 34, 35]:  # 31 other slices of one number
+        yield placed(*((high, [high]) for high in range(31)), (100, spread(c))) + FILL
+    for r in [31, 32, 33, 34, 35, 255, 256]:  # two numbers each
+        yield placed(*((high, [0, 255]) for high in spread(r))) + FILL
+    for count in [128, 129, 255, 256]:
+        yield [256 * i + 255 - i for i in spread(256)[:count]]
+
+
+def array_sets():
+    """Sets on both sides of the edge between an array and chunks, and chunks of all keys."""
+    for chunks in [33, 40, 64]:
+        for count in [4 * chunks - 1, 4 * chunks, 4 * chunks + 1]:
+            yield sorted(65536 * (65535 - m % chunks) + 7 * m for m in range(count))
+    yield [2**25 * i + i for i in range(128)]
+    yield [*range(127), 2**32 - 1]
+    yield [*range(127 * 256, 128 * 256 - 1), 2**31, 2**32 - 1]
+    yield [65536 * m + it for m in [0, 1, 255, 256, 65534, 65535] for it in [0, 1, 255, 256, *range(300, 320), 65534, 65535]]
+    yield [*range(2**32 - 128, 2**32)]
+
+
+def sized_sets():
+    """Sets at the limits of one and two bytes, of the last end and of the count."""
+    for count in [255, 257, 65535]:
+        yield [*range(count)]
+    yield [*range(65537)]
+    yield [*range(65536 * 5 - 300, 65536 * 5 + 300)]
+    for count in [7, 8]:  # 7 bodies of 35 bytes, and one of 3 and as many more
+        yield [65536 * m + 2 * i for m in range(7) for i in range(128)] + [*range(7 * 65536, 7 * 65536 + count)]
+    half = [65536 * m + 2 * i for m in range(7) for i in range(2**15)]  # 8,449 bytes a body
+    for count in [23, 24]:  # a body of 257 bytes, 191 slices of 32 bytes, and one of as many more
+        last = placed(*((high, range(0, 256, 2)) for high in range(191)), (191, range(count)), *((high, range(256)) for high in range(192, 256)))
+        yield half + [7 * 65536 + it for it in last]
+
+
+def drawn_sets():
+    """Sets by the rule of docs/VECTORS.md, from one id of 2 to one of many millions."""
+    for count, bits in [(100, 32), (120, 20), (120, 9), (300, 32), (400, 25), (400, 22), (500, 20), (500, 17), (500, 16), (400, 12), (600, 10)]:
+        yield sorted({x >> 32 - bits for x in drawn(count)})
+    thin = [(place, x) for place, x in enumerate(drawn(40 * 256))]
+    yield [place for place, x in thin if x >> 32 - place // 256 % 9 == 0]  # the slices have 256, 128, 64 .. 1 of their numbers
+    runs, last = [], 0
+    for x in drawn(40):
+        last += x // 2**8 % 5000 + 1
+        runs += range(last, last + x // 2**24)
+        last = runs[-1] if runs else last
+    yield runs
+
+
+def id_sets():
+    """All sets with their bytes, each once."""
+    found = {bytes.fromhex(text): ids for ids, text in WORKED}
+    for ids in [*few_sets(), *slice_sets(), *array_sets(), *sized_sets(), *drawn_sets()]:
+        assert all(before < after < 2**32 for before, after in zip(ids, ids[1:]))
+        found.setdefault(set_text(ids), ids)
+    return [(ids, text) for text, ids in found.items()]
+
+
+def spelled_ids(ids):
+    """Ids with commas. `5-9` is five of them, and `0-8/2` are those with steps of 2."""
+    found, at = [], 0
+    while at < len(ids):
+        end, step = at + 1, ids[at + 1] - ids[at] if at + 1 < len(ids) else 1
+        while end < len(ids) and ids[end] - ids[end - 1] == step:
+            end += 1
+        is_run = end - at > 3
+        found.append(f"{ids[at]}-{ids[end - 1]}" + f"/{step}" * (step > 1) if is_run else str(ids[at]))
+        at = end if is_run else at + 1
+    return ",".join(found) or "-"
+
+
+def spelled_bytes(text):
+    """Bytes as digits. `{00*16}` are sixteen times the same."""
+    runs = [(byte, len([*run])) for byte, run in groupby(text)]
+    return "".join(f"{{{byte:02x}*{count}}}" if count > 4 else f"{byte:02x}" * count for byte, count in runs) or "-"

@@ -1,0 +1,51 @@
+"""The writer of the id sets of docs/FORMAT.md. It goes with vectors/model.py, after the functions of that page."""
+
+
+def slice_bytes(lows):
+    if len(lows) < 32:
+        return bytes(lows)
+    bits = bytearray(32 if len(lows) < 256 else 0)
+    for low in lows if bits else []:
+        bits[low // 8] += 1 << low % 8
+    return bytes(bits)
+
+
+def blocks_bytes(numbers):
+    lows = {}
+    for value in numbers:
+        lows.setdefault(value // 256, []).append(value % 256)
+    front = bytes([len(lows) - 1]) + slice_bytes([*lows])
+    return front + bytes(len(it) - 1 for it in lows.values()) + b"".join(slice_bytes(it) for it in lows.values())
+
+
+def body_bytes(numbers):
+    pairs, blocks = b"".join(it.to_bytes(2, "little") for it in numbers), blocks_bytes(numbers)
+    return blocks if len(blocks) < len(pairs) else pairs
+
+
+def chunks_bytes(count, chunks):
+    end, total, ends, sums, bodies = 0, 0, [], [], b""
+    for numbers in chunks.values():
+        body = body_bytes(numbers)
+        end += len(body)
+        total += len(numbers)
+        ends.append(end)
+        sums.append(total)
+        bodies += body
+    (e, ends), (z, sums) = shorts_of(ends), shorts_of(sums)
+    keys = b"".join(key.to_bytes(2, "little") for key in chunks)
+    return bytes([5]) + number_of(count) + number_of(len(chunks)) + bytes([e + 16 * z]) + keys + ends + sums + bodies
+
+
+def encode_set(ids):
+    need(len(ids) <= 2**28, "TooLong", len(ids))
+    for p in range(1, len(ids)):
+        need(ids[p - 1] < ids[p], "NotSorted", p)
+    if len(ids) < 128:
+        return bytes([128 + len(ids)]) + tail_of(0, 0, 2, ids)
+    chunks = {}
+    for value in ids:
+        chunks.setdefault(value >> 16, []).append(value & 65_535)
+    if len(ids) < 4 * len(chunks):
+        return bytes([6]) + number_of(len(ids)) + b"".join(value.to_bytes(4, "little") for value in ids)
+    return chunks_bytes(len(ids), chunks)
