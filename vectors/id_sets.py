@@ -177,13 +177,27 @@ def sized_sets():
         yield [65536 * m + 2 * i for m in range(7) for i in range(128)] + [*range(7 * 65536, 7 * 65536 + count)]
     half = [65536 * m + 2 * i for m in range(7) for i in range(2**15)]  # 8,449 bytes a body
     for count in [23, 24]:  # a body of 257 bytes, 191 slices of 32 bytes, and one of as many more
-        last = placed(*((high, range(0, 256, 2)) for high in range(191)), (191, range(count)), *((high, range(256)) for high in range(192, 256)))
+        last = placed(
+            *((high, range(0, 256, 2)) for high in range(191)), (191, range(count)), *((high, range(256)) for high in range(192, 256))
+        )
         yield half + [7 * 65536 + it for it in last]
 
 
 def drawn_sets():
     """Sets by the rule of docs/VECTORS.md, from one id of 2 to one of many millions."""
-    for count, bits in [(100, 32), (120, 20), (120, 9), (300, 32), (400, 25), (400, 22), (500, 20), (500, 17), (500, 16), (400, 12), (600, 10)]:
+    for count, bits in [
+        (100, 32),
+        (120, 20),
+        (120, 9),
+        (300, 32),
+        (400, 25),
+        (400, 22),
+        (500, 20),
+        (500, 17),
+        (500, 16),
+        (400, 12),
+        (600, 10),
+    ]:
         yield sorted({x >> 32 - bits for x in drawn(count)})
     thin = [(place, x) for place, x in enumerate(drawn(40 * 256))]
     yield [place for place, x in thin if x >> 32 - place // 256 % 9 == 0]  # the slices have 256, 128, 64 .. 1 of their numbers

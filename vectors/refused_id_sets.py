@@ -166,10 +166,22 @@ def refused_directories():
         keys = [*range(len(sums))]
         sizes = 0x14 if max(sums) < 256 > count else 0x44
         yield f"BadSum({m})", chunked(count, keys, [35 * key + 35 for key in keys], sums, [], sizes)
-        yield f"BadSum({m})", chunked(count, keys, [35 * key + 35 for key in keys[:m]] + [0] * (len(keys) - m), sums, [], sizes)  # before BadOffset
+        yield f"BadSum({m})", chunked(
+            count, keys, [35 * key + 35 for key in keys[:m]] + [0] * (len(keys) - m), sums, [], sizes
+        )  # before BadOffset
     yield "BadOffset(0)", chunked(256, [0, 0], [0, 3], [128, 256], [])  # chunk by chunk, before BadKey(1)
     yield "BadSum(0)", chunked(256, [0, 0], [3, 3], [0, 256], [])
-    for ends, m in [([0], 0), ([257], 0), ([258], 0), ([2**16], 0), ([2**24 + 35], 0), ([2**32 - 1], 0), ([35, 35], 1), ([35, 34], 1), ([35, 292], 1)]:
+    for ends, m in [
+        ([0], 0),
+        ([257], 0),
+        ([258], 0),
+        ([2**16], 0),
+        ([2**24 + 35], 0),
+        ([2**32 - 1], 0),
+        ([35, 35], 1),
+        ([35, 34], 1),
+        ([35, 292], 1),
+    ]:
         counts = [128 * m + 128 for m in range(len(ends))]
         keys = [*range(len(ends))]
         yield f"BadOffset({m})", chunked(counts[-1], keys, ends, counts, [])
@@ -230,7 +242,9 @@ def refused_bodies():
         for after in [b"", b"\0"]:  # before Trailing
             if count >= 128:
                 yield f"{name}({position})", chunked(count, [9], [len(body)], [count], [body, after])
-            yield f"{name}({place})", chunked(number_of_ids, [0, 8, 65535], [35, 38, end], [128, 384, number_of_ids], [*others, body, after])
+            yield f"{name}({place})", chunked(
+                number_of_ids, [0, 8, 65535], [35, 38, end], [128, 384, number_of_ids], [*others, body, after]
+            )
     twice = pairs_of([0, 0, *range(1, 127)])
     yield "LooseBody(0)", chunked(256, [0, 1], [256, 512], [128, 256], [pairs_of(range(128)), twice])  # body by body
     yield "NotSorted(1)", chunked(256, [0, 1], [256, 512], [128, 256], [twice, pairs_of(range(128))])

@@ -23,7 +23,7 @@ pub fn next_len(left: usize) -> usize
     }
 }
 
-/// Tests the groups of as many codes as the slice has, at the front of the bytes, the first of which is block number `block`. Returns the
+/// Tests the groups of as many codes as the slice has, at the front of the bytes, the first is block number `block`. Returns the
 /// bytes after them. After a refusal the codes may be any.
 pub fn test_groups<'a>(
     block: usize,

@@ -1,4 +1,4 @@
-//! Numbers of one to five bytes, and codes in groups of 32: the parts of which short lists and sets are made.
+//! Numbers of one to five bytes, and codes in groups of 32: the parts that short lists and sets are made of.
 //!
 //! A number is seven bits a byte. A group is the least width of its codes, and the first bytes of a block of one lane that holds them.
 #![tactic(auto)]

@@ -75,18 +75,18 @@ pub is_blocks : (ids : List ℕ) → length (body (lows ids)) < 2 * length ids �
 is_blocks ids less = elim (cases_lt (length (blocks (lows ids))) (2 * length (lows ids))) [
   | inl few ↦ body_blocks (lows ids) few
   | inr many ↦
-    let e = ap length (body_numbers (lows ids) many) in
-    let f = numbers_len (lows ids) in
-    let g = length-map ids (λ id. id % 65536) in
-    absurd (omega arith)
+      let e = ap length (body_numbers (lows ids) many) in
+      let f = numbers_len (lows ids) in
+      let g = length-map ids (λ id. id % 65536) in
+      absurd (omega arith)
 ]
 
 pub is_numbers : (ids : List ℕ) → 2 * length ids ≤ length (body (lows ids)) → body (lows ids) ≡ numbers (lows ids)
 is_numbers ids more = elim (cases_lt (length (blocks (lows ids))) (2 * length (lows ids))) [
   | inl few ↦
-    let e = ap length (body_blocks (lows ids) few) in
-    let g = length-map ids (λ id. id % 65536) in
-    absurd (omega arith)
+      let e = ap length (body_blocks (lows ids) few) in
+      let g = length-map ids (λ id. id % 65536) in
+      absurd (omega arith)
   | inr many ↦ body_numbers (lows ids) many
 ]
 

@@ -1,4 +1,4 @@
--- A set in chunks without a fault is the text of the ids that are read from it.
+-- A set in chunks without a fault is the encoding of the ids that are read from it.
 use Rattle.std.proofs.Common.{◌≡◌, ℕ, zero, suc, ◌+◌, ◌-◌, ◌*◌, ◌/◌, ◌%◌, ◌^◌, ◌<◌, ◌≤◌, List, [], ◌∷◌, ◌++◌, map, take, drop, length, get_or, refl, sym, ap, ◌∙◌, arith, subst, length-drop, take-append-drop}
 use Rattle.std.specs.List.{concat, flat_map, range_with_len}
 use Rattle.std.proofs.lemmas.List.{drop-drop, drop_all, drop_more, length-map, take_all}

@@ -1,4 +1,4 @@
--- The text of ids in chunks has no fault.
+-- The encoding of ids in chunks has no fault.
 use Rattle.std.proofs.Common.{◌≡◌, ℕ, zero, suc, ◌+◌, ◌-◌, ◌*◌, ◌/◌, ◌%◌, ◌^◌, ◌<◌, ◌≤◌, List, [], ◌∷◌, ◌++◌, map, take, drop, length, get_or, None, refl, sym, ap, ◌∙◌, arith, subst, length-append, inl, inr}
 use Rattle.std.specs.List.{concat, flat_map}
 use Rattle.std.proofs.lemmas.Bool.{cases_lt, cond_above, cond_below, le-ltb}
@@ -95,7 +95,7 @@ count_bytes x = elim (cases_lt x (2 ^ 8)) [
   ]
 ]
 
--- ---- a text
+-- ---- an encoding
 
 module _ (n : ℕ) (ps : List (ℕ × List ℕ)) (are : AreParts 65536 0 65536 ps) (some : 0 < length ps) (few : n ≤ 2 ^ 28) (all : total (counts ps) ≡ n) where
   abbrev rest : List ℕ

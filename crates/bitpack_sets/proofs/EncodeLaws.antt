@@ -1,4 +1,4 @@
--- The text of a set by its form, and what calls leave.
+-- The encoding of a set by its form, and what calls leave.
 use Rattle.std.proofs.Common.{◌≡◌, ℕ, zero, suc, ◌+◌, ◌-◌, ◌*◌, ◌^◌, ◌<◌, ◌≤◌, List, [], ◌∷◌, ◌++◌, length, take, drop, Option, Some, None, Result, Ok, Err, MatchOption, OnErr, true, refl, sym, ap, ◌∙◌, arith, length-append}
 use Rattle.std.specs.Result.{is_err}
 use Rattle.std.specs.List.{concat}

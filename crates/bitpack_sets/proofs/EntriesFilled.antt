@@ -49,7 +49,7 @@ module _ (ids left : List ℕ) (index end sum e z run : ℕ) (keys ends sums' by
   next_end size long =
       let later : List ℕ = map length (bodies (drop run left)) in
       let one = subst (λ (ps : List (ℕ × List ℕ)). IsFilled ends (e * index) (flat_map (le_bytes e) (sums end (map length (map (λ chunk. body chunk.1) ps)))) (ends_text e 0 ids))
-          (run_part 65536 run left is) before.ends_filled in
+      (run_part 65536 run left is) before.ends_filled in
       let two = subst (λ (l : List ℕ). IsFilled ends (e * index) (flat_map (le_bytes e) l) (ends_text e 0 ids)) (next_sum end (length (body (lows (take run left)))) later) one in
       subst (λ n. IsFilled ends (e * index) (le_bytes e (end + n) ++ flat_map (le_bytes e) (sums (end + n) later)) (ends_text e 0 ids)) (sym long) two
 
@@ -58,7 +58,7 @@ module _ (ids left : List ℕ) (index end sum e z run : ℕ) (keys ends sums' by
       let later : List ℕ = map (λ chunk. length chunk.1) (parts 65536 (drop run left)) in
       let long : length (lows (take run left)) ≡ run = length-map (take run left) (λ id. id % 65536) ∙ length-take-le run left is.within in
       let one = subst (λ (ps : List (ℕ × List ℕ)). IsFilled sums' (z * index) (flat_map (le_bytes z) (sums sum (map (λ chunk. length chunk.1) ps))) (sums_text z 0 ids))
-          (run_part 65536 run left is) before.sums_filled in
+      (run_part 65536 run left is) before.sums_filled in
       let two = subst (λ (l : List ℕ). IsFilled sums' (z * index) (flat_map (le_bytes z) l) (sums_text z 0 ids)) (next_sum sum (length (lows (take run left))) later) one in
       subst (λ n. IsFilled sums' (z * index) (le_bytes z (sum + n) ++ flat_map (le_bytes z) (sums (sum + n) later)) (sums_text z 0 ids)) long two
 

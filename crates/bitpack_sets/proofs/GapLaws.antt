@@ -1,4 +1,4 @@
--- A set of fewer than 128 ids has no fault exactly if it is the text of the ids that are read from it.
+-- A set of fewer than 128 ids has no fault exactly if it is the encoding of the ids that are read from it.
 use Rattle.std.proofs.Common.{◌≡◌, ℕ, zero, suc, ◌+◌, ◌-◌, ◌*◌, ◌/◌, ◌^◌, ◌<◌, ◌≤◌, Bool, true, false, leb, cond, min, List, [], ◌∷◌, ◌++◌, take, drop, length, get_or, Option, Some, None, refl, sym, ap, ◌∙◌, arith, inl, inr, subst, length-append, take-append-drop, append_assoc, set, add-one}
 use Rattle.std.specs.Option.{is_some, option_or}
 use Rattle.std.proofs.lemmas.Bool.{cases_lt, le-leb, le-ltb, lt-leb, true≢false}
@@ -199,7 +199,7 @@ no_bytes (byte ∷ bytes) h = absurd (omega arith)
 pub are_dropped : (n : ℕ) (bytes : List ℕ) → AreBytes bytes → AreBytes (drop n bytes)
 are_dropped n bytes are k = subst (λ (x : ℕ). x < 2 ^ 8) (sym (get_or-drop n bytes k 0)) (are (n + k))
 
--- the text of an id and others, after byte 0
+-- the encoding of an id and others, after byte 0
 abbrev pub later_text : ℕ → List ℕ → List ℕ
 later_text x xs = number x ++ groups (groups_of (length xs)) (gaps x xs)
 

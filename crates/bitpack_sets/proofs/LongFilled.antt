@@ -1,4 +1,4 @@
--- The parts of the text of 128 ids or more together.
+-- The parts of the encoding of 128 ids or more together.
 use Rattle.std.proofs.Common.{◌≡◌, ℕ, zero, suc, ◌+◌, ◌-◌, ◌*◌, ◌^◌, ◌<◌, ◌≤◌, List, [], ◌∷◌, ◌++◌, map, length, set, take, refl, sym, ap, ◌∙◌, arith, subst, length-append, add-mul}
 use Rattle.std.specs.List.{concat, flat_map}
 use Rattle.std.proofs.Math.Nat.{mul-le-mul_right}
@@ -69,7 +69,7 @@ chunks_size ids count size a b =
 product_sum : (e z count : ℕ) → (2 + e + z) * count ≡ 2 * count + e * count + z * count
 product_sum e z count = add-mul (2 + e) z count ∙ ap (λ n. n + z * count) (add-mul 2 e count)
 
--- the sizes of the parts are the size of the text
+-- the sizes of the parts are the size of the encoding
 pub chunks_length : (ids : List ℕ) (count size : ℕ) → count ≡ length (parts 65536 ids) → size ≡ length (concat (bodies ids))
     → length (in_chunks ids) ≡ 2 + length (number (length ids)) + length (number count) + (2 + byte_count size + byte_count (length ids)) * count + size
 chunks_length ids count size a b =
@@ -90,7 +90,7 @@ chunks_joined ids head first second sizes rest count size e z a b e_is z_is one 
     ∙ ap (λ (l : List ℕ). 5 ∷ (number (length ids) ++ (number (length (parts 65536 ids)) ++ ((e + 16 * z) ∷ l)))) r
     ∙ ap (λ n. 5 ∷ (number (length ids) ++ (number (length (parts 65536 ids)) ++ ((n + 16 * z) ∷ directory n z ids)))) e_same
     ∙ ap (λ n. 5 ∷ (number (length ids) ++ (number (length (parts 65536 ids)) ++ ((byte_count (length (concat (bodies ids))) + 16 * n)
-        ∷ directory (byte_count (length (concat (bodies ids)))) n ids)))) z_is
+    ∷ directory (byte_count (length (concat (bodies ids)))) n ids)))) z_is
     ∙ sym (chunks_text ids)
 
 pub few_times : (e most count : ℕ) → e ≤ most → e * count ≤ most * count

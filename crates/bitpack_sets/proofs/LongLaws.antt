@@ -144,7 +144,7 @@ flat_keys : (ps : List (ℕ × List ℕ)) → flat_map (λ chunk. le_bytes 2 chu
 flat_keys [] = refl
 flat_keys (p ∷ ps) = ap (λ (l : List ℕ). le_bytes 2 p.0 ++ l) (flat_keys ps)
 
--- the parts of a text, by its chunks
+-- the parts of an encoding, by its chunks
 abbrev pub ends : List (ℕ × List ℕ) → List ℕ
 ends ps = sums 0 (map length (bodies ps))
 
@@ -233,7 +233,7 @@ numbers_part back x y xs ys h k e =
     let moved : number x ++ xs ≡ number x ++ ys = e ∙ ap (λ (n : ℕ). number n ++ ys) (sym same) in
     (same, append_cancel_left (number x) xs ys moved)
 
--- a text in chunks determines its ids, as numbers of seven bits a byte are told apart
+-- an encoding in chunks determines its ids, as numbers of seven bits a byte are told apart
 one_in_chunks : NumberReadsBack → (xs ys : List ℕ) → IsRising 0 (2 ^ 32) xs → IsRising 0 (2 ^ 32) ys → length xs ≤ 2 ^ 28 → length ys ≤ 2 ^ 28
     → in_chunks xs ≡ in_chunks ys → xs ≡ ys
 one_in_chunks back xs ys h k few few' e =
@@ -289,7 +289,7 @@ six_five x y e f g = omega arith
 apart : (xs ys : List ℕ) → array xs ≡ in_chunks ys → ⊥
 apart xs ys e = six_five 6 5 refl refl (heads 6 5 _ _ (sym (array_parts xs) ∙ e ∙ long_parts ys))
 
--- the text of 128 ids or more determines them
+-- the encoding of 128 ids or more determines them
 pub one_long : NumberReadsBack → OneLong
 one_long back xs ys h k few few' e =
     elim (cases_lt (length xs) (4 * length (parts 65536 xs))) [

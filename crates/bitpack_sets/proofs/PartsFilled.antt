@@ -28,7 +28,6 @@ parts_start ids firsts less out chunk a b e =
 
 -- what is next: its high byte, how many numbers it has less 1, and its slice
 module _ (all : List (ℕ × List ℕ)) (left : List ℕ) (index end run : ℕ) (firsts less out : List ℕ) (before : PartsLeft all left index end firsts less out) (is : IsRun 256 left run) where
-
   next_high : IsFilled firsts index ((get_or left 0 0 / 256 % 256) ∷ highs (parts 256 (lows (drop run left)))) (highs all)
   next_high = subst (λ (ps : List (ℕ × List ℕ)). IsFilled firsts index (highs ps) (highs all)) (slice_part run left before.chunk is) before.firsts_filled
 
@@ -58,7 +57,7 @@ module _ (all : List (ℕ × List ℕ)) (left : List ℕ) (index end run : ℕ) 
       let b = slice_bytes run left is in
       let cut : end + (end + size - end) ≡ end + size = omega arith in
       subst (λ (rest : List ℕ). PartsLeft all rest (index + 1) (end + size) (set firsts index (get_or left 0 0 / 256 % 256)) (set less index (run - 1))
-          (put_mid end (end + size - end) out new)) (sym (rest_is run left))
+      (put_mid end (end + size - end) out new)) (sym (rest_is run left))
       record {
         chunk = chunk_rest run left before.chunk;
         firsts_filled = fill_one firsts index _ _ _ next_high;

@@ -1,4 +1,4 @@
--- How many bytes are enough for the text of a set.
+-- How many bytes are enough for the encoding of a set.
 use Rattle.std.proofs.Common.{◌≡◌, ℕ, zero, suc, ◌+◌, ◌-◌, ◌*◌, ◌/◌, ◌%◌, ◌^◌, ◌<◌, ◌≤◌, List, [], ◌∷◌, ◌++◌, length, get_or, drop, refl, sym, ap, ◌∙◌, arith, lit<, inl, inr}
 use Rattle.std.specs.List.{concat}
 use Rattle.std.proofs.lemmas.Bool.{cases_lt}
@@ -21,12 +21,12 @@ three_bytes x few =
       | inr large ↦ elim (cases_lt (x / 128) 128) [
         | inl small ↦ omega (arith, ap length (number_in-large 4 x large), ap length (number_in-small 3 (x / 128) small))
         | inr more ↦
-          omega (
-            arith,
-            ap length (number_in-large 4 x large),
-            ap length (number_in-large 3 (x / 128) more),
-            ap length (number_in-small 2 (x / 128 / 128) (omega arith)),
-          )
+            omega (
+              arith,
+              ap length (number_in-large 4 x large),
+              ap length (number_in-large 3 (x / 128) more),
+              ap length (number_in-small 2 (x / 128 / 128) (omega arith)),
+            )
       ]
     ]
 
@@ -82,19 +82,19 @@ pub longest_text : LongestText
 longest_text ids set = elim (cases_lt 127 (length ids)) [
   | inl many ↦ elim (cases_lt (length ids) (4 * length (parts 65536 ids))) [
     | inl apart ↦
-      let size = ap length (array_is ids (length (parts 65536 ids)) many refl apart) ∙ array_size ids in
-      let a = longest_number (length ids) in
-      omega arith
+        let size = ap length (array_is ids (length (parts 65536 ids)) many refl apart) ∙ array_size ids in
+        let a = longest_number (length ids) in
+        omega arith
     | inr close ↦
-      let size = ap length (chunks_is ids (length (parts 65536 ids)) many refl close) ∙ chunks_length ids (length (parts 65536 ids)) (length (concat (bodies ids))) refl refl in
-      let room = chunks_room ids (length (parts 65536 ids)) set refl close in
-      omega arith
+        let size = ap length (chunks_is ids (length (parts 65536 ids)) many refl close) ∙ chunks_length ids (length (parts 65536 ids)) (length (concat (bodies ids))) refl refl in
+        let room = chunks_room ids (length (parts 65536 ids)) set refl close in
+        omega arith
   ]
   | inr few ↦ elim (cases_lt 0 (length ids)) [
     | inl some ↦
-      let size = ap length (few_is ids few) in
-      let room = few_room ids set some in
-      omega arith
+        let size = ap length (few_is ids few) in
+        let room = few_room ids set some in
+        omega arith
     | inr none ↦ (let size = none_room ids none in omega arith)
   ]
 ]

@@ -1,4 +1,4 @@
--- Bytes have no fault exactly if they are the text of a set, which is read from them; and a text is that of one set.
+-- Bytes have no fault exactly if they encode a set, which is read from them; and an encoding is that of one set.
 use Rattle.std.proofs.Common.{◌≡◌, ◌↔◌, ℕ, zero, suc, ◌+◌, ◌-◌, ◌*◌, ◌^◌, ◌<◌, ◌≤◌, Bool, true, false, ◌||◌, eqb, ltb, cond, List, [], ◌∷◌, ◌++◌, take, drop, length, get_or, Option, Some, None, refl, sym, ap, ◌∙◌, arith, inl, inr, subst, length-append, take-append-drop}
 use Rattle.std.proofs.lemmas.Bool.{cases_lt, cond_above, cond_below, eq-eqb, le-ltb, lt-ltb, ne_eqb, true≢false}
 use Rattle.std.proofs.lemmas.Bool.Decides.{eqb_tells}
@@ -170,7 +170,7 @@ ids_are_read (form ∷ bytes) are h =
 
 -- ---- texts
 
--- the text of a set is bytes without a fault
+-- the encoding of a set is bytes without a fault
 abbrev IsSound : List ℕ → Type 0
 IsSound bytes = AreBytes bytes × (fault bytes ≡ None)
 
@@ -263,7 +263,7 @@ text_sound ids is = elim (cases_lt (length ids) 128) [
   ]
 ]
 
--- ---- one set a text
+-- ---- one set an encoding
 
 heads : (m n : ℕ) (xs ys : List ℕ) → m ∷ xs ≡ n ∷ ys → m ≡ n
 heads m n xs ys e = cc
@@ -324,7 +324,7 @@ no_fault bytes are = (
   λ (ids, is, e). ap fault (sym e) ∙ (text_sound ids is).1,
 )
 
--- what is read from a text is the set that was written
+-- what is read from an encoding is the set that was written
 pub text_is_read : TextIsRead
 text_is_read ids is =
     let (are, none) = text_sound ids is in
@@ -333,7 +333,7 @@ text_is_read ids is =
 
 -- ---- counts
 
--- the count that a text states is that of its ids
+-- the count that an encoding states is that of its ids
 count_chunks : (bytes : List ℕ) → AreBytes bytes → in_chunks_fault bytes ≡ None → length (ids_in_chunks bytes) ≡ number_value bytes
 unfolding in_chunks_fault
 count_chunks bytes are h =

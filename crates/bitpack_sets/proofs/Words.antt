@@ -24,7 +24,7 @@ OneBody = (xs ys : List ℕ) → IsRising 0 65536 xs → IsRising 0 65536 ys →
 abbrev pub NumbersPart : Type 0
 NumbersPart = (x y : ℕ) (xs ys : List ℕ) → x < 2 ^ 32 → y < 2 ^ 32 → number x ++ xs ≡ number y ++ ys → (x ≡ y) × (xs ≡ ys)
 
--- the text of 128 ids or more is that of no others
+-- the encoding of 128 ids or more is that of no others
 abbrev pub OneLong : Type 0
 OneLong = (xs ys : List ℕ) → IsRising 0 (2 ^ 32) xs → IsRising 0 (2 ^ 32) ys → length xs ≤ 2 ^ 28 → length ys ≤ 2 ^ 28 → long xs ≡ long ys → xs ≡ ys
 

@@ -1,4 +1,4 @@
--- What a call returns that refuses a text, or ids.
+-- What a call returns that refuses bytes, or ids.
 use Rattle.std.specs.Prelude.{◌≡◌, ℕ, Option, Some, None, Result, Ok, Err}
 use Rattle.bitpack_sets.specs.declared.set_error.SetError.{SetError}
 use Rattle.bitpack_sets.specs.declared.set_error.SetError.TheVariants.{Short, BadVersion, TooLong, BadWidth, LooseWidth, BadOffset, NotSorted, Trailing, Memory, BadNumber, Padding, BadSizes, BadKey, BadSum, BadBody, LooseBody, LooseForm}

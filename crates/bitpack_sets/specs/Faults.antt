@@ -1,4 +1,4 @@
--- The first fault of bytes as the text of a set.
+-- The first fault of bytes as an encoded set.
 use Rattle.std.specs.Prelude.{ℕ, zero, suc, ◌+◌, ◌-◌, ◌*◌, ◌^◌, Bool, ◌&&◌, ◌||◌, ◌==◌, not, nat_lt, nat_le, if◌then◌else◌, List, [], ◌∷◌, length, take, drop, slice_index, Option, Some, None}
 use Rattle.std.specs.Option.{option_map, option_or}
 use Rattle.bitpack_sets.specs.declared.set_error.SetError.{SetError}
@@ -44,7 +44,7 @@ first_over place (x ∷ xs) = if nat_le (2 ^ 32) x then Some place else first_ov
 abbrev pub short_ids : ℕ → List ℕ → List ℕ
 short_ids more bytes = ids_from (number_value bytes) (groups_codes (groups_of more) more (drop (number_end bytes) bytes))
 
--- of what is after byte 0 of a set of so many ids, or of one and `more`
+-- of what is after byte 0 of a set of ids of this count, or of one and `more`
 unfoldable pub some_fault : ℕ → List ℕ → Option SetError
 some_fault more bytes =
     let rest = drop (number_end bytes) bytes in
@@ -59,7 +59,7 @@ short_fault (suc more) bytes = some_fault more bytes
 
 -- ---- arrays
 
--- of the ids of an array of so many
+-- of the ids of an array of this count
 unfoldable pub ids_fault : ℕ → List ℕ → Option SetError
 ids_fault ids rest =
     let xs = quads_of (take (4 * ids) rest) in
@@ -118,7 +118,7 @@ chunks_fault ids chunks rest =
     (option_or (first_of (body_fault_at chunks rest) chunks)
     (trailing_after (bodies_end chunks rest) rest))))))
 
--- of the varint at the front, as the count of chunks of so many ids
+-- of the varint at the front, as the count of chunks of `count` ids
 unfoldable pub chunk_count_fault : ℕ → List ℕ → Option SetError
 chunk_count_fault ids bytes =
     option_or (of (number_fault bytes))
@@ -132,7 +132,7 @@ in_chunks_fault bytes =
     (option_or (chunk_count_fault (number_value bytes) later)
     (chunks_fault (number_value bytes) (number_value later) (drop (number_end later) later)))
 
--- ---- any text
+-- ---- any bytes
 
 unfoldable pub fault : List ℕ → Option SetError
 fault [] = Some Short

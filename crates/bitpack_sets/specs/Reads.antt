@@ -1,4 +1,4 @@
--- The ids that a reader finds in a text, and what is looked up among them.
+-- The ids that a reader finds in encoded bytes, and what is looked up among them.
 use Rattle.std.specs.Prelude.{ℕ, zero, suc, ◌+◌, ◌-◌, ◌==◌, Bool, nat_lt, if◌then◌else◌, drop, List, [], ◌∷◌}
 use Rattle.std.specs.List.{list_any}
 use Rattle.bitpack_sets.specs.Directory.{chunk_ids}
@@ -6,7 +6,7 @@ use Rattle.bitpack_sets.specs.Faults.{short_ids}
 use Rattle.bitpack_sets.specs.Slices.{quads_of}
 use Rattle.bitpack_sets.specs.Varints.{number_end, number_value}
 
--- of what is after byte 0: in a set of so many ids, in chunks, and in an array
+-- of what is after byte 0: in a set of few ids, in chunks, and in an array
 abbrev pub few_ids : ℕ → List ℕ → List ℕ
 few_ids zero bytes = []
 few_ids (suc more) bytes = short_ids more bytes
@@ -17,7 +17,7 @@ ids_in_chunks bytes = let later = drop (number_end bytes) bytes in chunk_ids (nu
 abbrev pub ids_in_array : List ℕ → List ℕ
 ids_in_array bytes = quads_of (drop (number_end bytes) bytes)
 
--- the ids of a text
+-- the ids of encoded bytes
 unfoldable pub ids_in : List ℕ → List ℕ
 ids_in [] = []
 ids_in (form ∷ bytes) =

@@ -1,4 +1,4 @@
--- Id sets: the one text of a set of ids. A set is the increasing list of its ids.
+-- Id sets: the one encoding of a set of ids. A set is the increasing list of its ids.
 use Rattle.std.specs.Prelude.{ℕ, zero, suc, ◌+◌, ◌-◌, ◌*◌, ◌/◌, ◌%◌, ◌^◌, ◌≤◌, ◌==◌, nat_lt, nat_le, if◌then◌else◌, List, [], ◌∷◌, ◌++◌, map, length, take, drop}
 use Rattle.std.specs.List.{concat, flat_map, list_all}
 use Rattle.bitpack_sets.specs.Varints.{byte_count, groups_of, number}
@@ -53,7 +53,7 @@ numbers chunk = flat_map (le_bytes 2) chunk
 unfoldable pub body : List ℕ → List ℕ
 body chunk = if nat_lt (length (blocks chunk)) (2 * length chunk) then blocks chunk else numbers chunk
 
--- ---- the text of 128 ids or more: in chunks, or an array of ids that lie far apart
+-- ---- the encoding of 128 ids or more: in chunks, or an array of ids that lie far apart
 
 -- the sums of the first one, two and so on, each added to `before`
 unfoldable pub sums : ℕ → List ℕ → List ℕ
@@ -75,7 +75,7 @@ array ids = 6 ∷ number (length ids) ++ flat_map (le_bytes 4) ids
 unfoldable pub long : List ℕ → List ℕ
 long ids = if nat_lt (length ids) (4 * length (parts (2 ^ 16) ids)) then array ids else in_chunks ids
 
--- ---- the text of fewer ids
+-- ---- the encoding of fewer ids
 
 -- each id less the one before it less 1
 unfoldable pub gaps : ℕ → List ℕ → List ℕ
@@ -106,6 +106,6 @@ unfoldable pub short : List ℕ → List ℕ
 short [] = 128 ∷ []
 short (x ∷ xs) = (129 + length xs) ∷ number x ++ groups (groups_of (length xs)) (gaps x xs)
 
--- the text of a set
+-- the encoding of a set
 unfoldable pub text : List ℕ → List ℕ
 text ids = if nat_lt (length ids) 128 then short ids else long ids

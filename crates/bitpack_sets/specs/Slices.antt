@@ -41,7 +41,7 @@ slice_numbers count bytes = if nat_lt count 32 then bytes else if nat_lt count 2
 abbrev pub is_slice : ℕ → List ℕ → Bool
 is_slice count bytes = if nat_lt count 32 then rises bytes else if nat_lt count 256 then bits_in bytes == count else true
 
--- how many bytes slices have, of which each count less 1 is given
+-- how many bytes slices have; each count less 1 is given
 unfoldable pub slices_len : List ℕ → ℕ
 slices_len [] = 0
 slices_len (less ∷ counts) = slice_len (less + 1) + slices_len counts

@@ -27,7 +27,7 @@ pub record HasDirectory (chunks : ℕ) (rest : List ℕ) : Type 0 where
   pub sum_few : sum_size rest ≤ 4
   pub room : bodies_start chunks rest ≤ length rest
 
--- the rest of the text of a set of `ids` ids in `chunks` chunks
+-- the rest of the encoding of a set of `ids` ids in `chunks` chunks
 pub record IsRest (ids chunks : ℕ) (rest : List ℕ) : Type 0 where
   pub some : 0 < chunks
   pub directory : HasDirectory chunks rest

@@ -19,7 +19,7 @@ WorkedFaults =
     × (fault (0x05 ∷ 0x80 ∷ 0x01 ∷ 0x01 ∷ 0x10 ∷ []) ≡ Some (BadSizes 16))
     × (fault (0x05 ∷ 0x80 ∷ 0x01 ∷ 0x01 ∷ 0x81 ∷ 0x01 ∷ []) ≡ Some (BadSizes 129))
 
--- the text of 0 to 127, with parts changed
+-- the encoding of 0 to 127, with parts changed
 abbrev pub changed : ℕ → ℕ → List ℕ → ℕ → ℕ → List ℕ → List ℕ
 changed chunks sizes key end sum body = 0x05 ∷ 0x80 ∷ 0x01 ∷ chunks ∷ sizes ∷ key ++ end ∷ sum ∷ body
 

@@ -43,7 +43,7 @@ slices ps = flat_map (λ part. slice part.1) ps
 abbrev pub bodies : List ℕ → List (List ℕ)
 bodies ids = map (λ chunk. body chunk.1) (parts (2 ^ 16) ids)
 
--- the keys of ids in chunks, the ends of their bodies, the first of which begins at `start`, and the sums of their ids, of which there are
+-- the keys of ids in chunks, the ends of their bodies, the first beginning at `start`, and the sums of their ids, after
 -- `before` before them
 abbrev pub keys_text : List ℕ → List ℕ
 keys_text ids = flat_map (le_bytes 2) (map (λ chunk. chunk.0) (parts (2 ^ 16) ids))
@@ -60,7 +60,7 @@ directory end_size sum_size ids = keys_text ids ++ (ends_text end_size 0 ids ++ 
 
 -- ---- what is measured, and written
 
--- the length of the text of a set, and from 128 ids on how many chunks it has, and how many bytes are bodies
+-- the length of the encoding of a set, and from 128 ids on how many chunks it has, and how many bytes are bodies
 pub record IsMeasured (ids : List ℕ) (len chunks bytes : ℕ) : Type 0 where
   pub len_is : len ≡ length (text ids)
   pub chunks_is : 128 ≤ length ids → chunks ≡ length (parts (2 ^ 16) ids)
@@ -68,13 +68,13 @@ pub record IsMeasured (ids : List ℕ) (len chunks bytes : ℕ) : Type 0 where
   pub few : chunks ≤ length ids
   pub small : bytes ≤ 2 * length ids
 
--- the length of the text of a set; or the ids are none
+-- the length of the encoding of a set; or the ids are none
 pub record MeasuresSet (ids : List ℕ) (result : Result ℕ SetError) : Type 0 where
   pub set : OnOk result (IsSet ids)
   pub len : IfOk result (λ len. len ≡ length (text ids))
   pub fault : MatchOption (refusal ids) (IsOk result) (λ fault. result ≡ Err fault)
 
--- the text of a set is written, and what is after it is unchanged; or the ids are none, or the slice is too short, and nothing changed
+-- the encoding of a set is written, and what is after it is unchanged; or the ids are none, or the slice is too short, and nothing changed
 pub record WritesSet (ids : List ℕ) (result : Result ℕ SetError) (old new : List ℕ) : Type 0 where
   pub set : OnOk result (IsSet ids)
   pub len : IfOk result (λ len. len ≡ length (text ids))
@@ -83,7 +83,7 @@ pub record WritesSet (ids : List ℕ) (result : Result ℕ SetError) (old new : 
   pub room : refusal ids ≡ None → OnErr result (length old < length (text ids))
   pub unchanged : OnErr result (new ≡ old)
 
--- the text of a set is appended; or the ids are none, or the vector has no room and memory runs out, and nothing changed
+-- the encoding of a set is appended; or the ids are none, or the vector has no room and memory runs out, and nothing changed
 pub record AppendsSet {A : Type 0} (ids : List ℕ) (result : Result (Unit {0}) SetError) (old new : Vec ℕ A) : Type 0 where
   pub set : OnOk result (IsSet ids)
   pub ok : OnOk result (new.items ≡ old.items ++ text ids)

@@ -102,7 +102,7 @@ pub(crate) fn begin_at(chunks: usize, rest: &[u8], chunk: usize) -> u32
     }
 }
 
-/// How many ids are before those of a chunk.
+/// How many ids are before a chunk.
 #[inline(always)]
 pub(crate) fn count_before(chunks: usize, rest: &[u8], chunk: usize) -> u32
     requires directory { HasDirectory chunks rest.now }

@@ -1,4 +1,4 @@
-//! From ids to bytes: the text of a set is measured, and then written.
+//! From ids to bytes: the encoding of a set is measured, and then written.
 
 ghost use Rattle.std.specs.Prelude.{◌≡◌, ◌+◌, ◌≤◌, ◌++◌, length, replicate, vec_len, vec_capacity};
 ghost use Rattle.bitpack_sets.specs.Sets.{IsSet, text};
@@ -18,7 +18,8 @@ use crate::encoding::measuring::measure_chunks;
 use crate::encoding::order::test_ids;
 use crate::set_error::SetError;
 
-/// What is known of a text before it is written: how many bytes it has, and from 128 ids on how many chunks, and how many bytes their bodies.
+/// What is known of an encoded set before it is written: how many bytes it has, and from 128 ids on how many chunks, and how many bytes
+/// their bodies have.
 #[derive(Clone, Copy)]
 struct Measured {
     len: usize,
@@ -79,7 +80,7 @@ fn append_zeros(out: &mut Vec<u8>, count: usize)
     out.resize(len + count, 0).unwrap();
 }
 
-/// Measures the text of a set.
+/// Measures the encoding of a set.
 fn measure(ids: &[u32]) -> Measured
     requires { IsSet ids.now }
     ensures { IsMeasured ids.now result.len result.chunks result.bodies }
@@ -110,7 +111,7 @@ fn measure(ids: &[u32]) -> Measured
     }
 }
 
-/// Writes the text of a set that was measured.
+/// Writes the encoding of a set that was measured.
 fn write_set(ids: &[u32], measured: Measured, out: &mut [u8])
     requires set { IsSet ids.now }
     requires measured { IsMeasured ids.now measured.len measured.chunks measured.bodies }

@@ -13,7 +13,7 @@ use bitpack_groups::{LONGEST_GROUP, next_len, unpack_groups, unpack_number};
 /// The most ids of such a set.
 const MOST_FEW: usize = 127;
 
-/// Tests what is after byte 0 of the text of `count` ids.
+/// Tests what is after byte 0 of the encoding of `count` ids.
 pub(crate) fn test_few(count: usize, bytes: &[u8]) -> Result<(), SetError>
     requires few { count ≤ MOST_FEW }
     ensures { Finds result (short_fault count bytes.now) }
@@ -24,7 +24,7 @@ pub(crate) fn test_few(count: usize, bytes: &[u8]) -> Result<(), SetError>
     test_some(count - 1, bytes)
 }
 
-/// Tests what is after byte 0 of the text of one id and `more`.
+/// Tests what is after byte 0 of the encoding of one id and `more`.
 #[tactic(auto, unfolding(crate::specs::Faults::some_fault))]
 fn test_some(more: usize, bytes: &[u8]) -> Result<(), SetError>
     requires few { more < MOST_FEW }
@@ -40,7 +40,7 @@ fn test_some(more: usize, bytes: &[u8]) -> Result<(), SetError>
     test_end(rest)
 }
 
-/// Writes the ids of what is after byte 0 of the text of as many ids as the slice has. It has no fault.
+/// Writes the ids of what is after byte 0 of the encoding of as many ids as the slice has. It has no fault.
 pub(crate) fn unpack_few(bytes: &[u8], out: &mut [u32])
     requires few { length out.old ≤ MOST_FEW }
     requires sound { short_fault (length out.old) bytes.now ≡ None }
@@ -53,7 +53,7 @@ pub(crate) fn unpack_few(bytes: &[u8], out: &mut [u32])
     unpack_some(bytes, &mut codes[..out.len() - 1], out);
 }
 
-/// Whether an id is among those of such a text.
+/// Whether an id is in such a set.
 pub(crate) fn in_few(count: usize, bytes: &[u8], id: u32) -> bool
     requires few { count ≤ MOST_FEW }
     requires sound { short_fault count bytes.now ≡ None }
@@ -65,7 +65,7 @@ pub(crate) fn in_few(count: usize, bytes: &[u8], id: u32) -> bool
     is_among(ids, id)
 }
 
-/// How many of the ids of such a text are below one.
+/// How many ids of such a set are below one.
 pub(crate) fn rank_in_few(count: usize, bytes: &[u8], id: u32) -> usize
     requires few { count ≤ MOST_FEW }
     requires sound { short_fault count bytes.now ≡ None }

@@ -32,12 +32,12 @@ impl<'a> IdSet<'a> {
     ghost use Rattle.bitpack_sets.specs.Reads.{has, rank};
     ghost use Rattle.bitpack_sets.specs.Sets.{IsSet, text};
 
-    /// Opens the text of a set. Tests all bytes, accepts any, and allocates nothing.
+    /// Opens an encoded set. Tests all bytes, accepts any, and allocates nothing.
     pub fn open(bytes: &'a [u8]) -> Result<IdSet<'a>, SetError>
         // Bytes with a fault are refused for the first, and bytes without one are opened.
         ensures fault { Finds result (fault bytes.now) }
         ensures bytes { IfOk result (λ set. text_of set ≡ bytes.now) }
-        // The bytes are the text of these ids.
+        // The bytes are the encoding of these ids.
         ensures set { IfOk result (λ set. IsSet (ids set)) }
         ensures text { IfOk result (λ set. text (ids set) ≡ bytes.now) }
     {

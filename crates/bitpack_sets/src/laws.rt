@@ -4,7 +4,7 @@
 
 ghost use Rattle.bitpack_sets.specs.Laws.{IdsAreRead, LongestText, NoFault, OneSet, TextIsRead};
 
-/// A set has one text, and a text is that of one set. Bytes have no fault exactly if they are the text of a set, which is the one that is
+/// A set has one encoding, and encoded bytes have one set. Bytes have no fault exactly if they encode a set, which is the one that is
 /// read from them.
 pub fn one_text()
     ensures set { OneSet }

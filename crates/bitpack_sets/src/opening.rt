@@ -1,4 +1,4 @@
-//! Tests the text of a set.
+//! Tests the encoding of a set.
 
 ghost use Rattle.std.specs.Prelude.{◌≡◌, ◌≤◌, ◌<◌, ◌^◌, ◌*◌, IfOk, drop, length};
 ghost use Rattle.bitpack_sets.specs.Errors.{Finds};
@@ -19,7 +19,7 @@ const MOST_IDS: usize = 1 << 28;
 /// The most chunks.
 const MOST_CHUNKS: usize = 1 << 16;
 
-/// What the first bytes of a text state, and what is after them.
+/// What the first bytes of an encoding state, and what is after them.
 #[derive(Clone, Copy)]
 pub(crate) struct Parts<'a> {
     pub(crate) count: usize,
@@ -70,7 +70,7 @@ fn open_count(bytes: &[u8]) -> Result<(usize, usize), SetError>
     Ok((count, end))
 }
 
-/// Tests the number at the front of the bytes as the count of chunks of so many ids. Returns it, and how many bytes it has.
+/// Tests the number at the front of the bytes as the count of chunks of `count` ids. Returns it, and how many bytes it has.
 #[tactic(auto, unfolding(crate::specs::Faults::chunk_count_fault))]
 fn open_chunk_count(count: usize, bytes: &[u8]) -> Result<(usize, usize), SetError>
     requires { count ≤ 2 ^ 28 }

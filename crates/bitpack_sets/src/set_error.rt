@@ -8,7 +8,7 @@ use std::fmt;
 pub enum SetError {
     /// Bytes are missing.
     Short,
-    /// The first byte is that of no set.
+    /// The first byte begins no set.
     BadVersion(u8),
     /// These are more than 268,435,456 ids.
     TooLong(usize),
@@ -32,13 +32,13 @@ pub enum SetError {
     BadSizes(u8),
     /// The key of this chunk is not above the one before it.
     BadKey(usize),
-    /// The sum of this chunk says that it has no id, or more than 65,536; or that of the last chunk is not the count of ids.
+    /// The sum of this chunk says that it has no id, or more than 65,536; or the sum of the last chunk is not the count of ids.
     BadSum(usize),
     /// The body of this chunk is not one of as many numbers.
     BadBody(usize),
     /// The body of this chunk has two bytes for each number, and its blocks are shorter.
     LooseBody(usize),
-    /// The ids stand as an array, and their text is in chunks.
+    /// The ids stand as an array, and belong in chunks.
     LooseForm,
 }
 
@@ -46,7 +46,7 @@ impl SetError {
     ghost use Rattle.std.specs.Prelude.{◌≡◌};
     ghost use Rattle.bitpack_sets.specs.Errors.{number_of_error};
 
-    /// Returns the number of the refusal. It is that of a packed list's refusal, if lists have it too.
+    /// Returns the number of the refusal. Refusals that packed lists have too have the same number.
     pub fn number(&self) -> u8
         ensures { result ≡ number_of_error self.now }
     {
@@ -113,7 +113,7 @@ impl fmt::Display for SetError {
                     "the body of chunk {chunk} is numbers, and its blocks are shorter"
                 )
             }
-            SetError::LooseForm => write!(f, "the ids are an array, and their text is in chunks"),
+            SetError::LooseForm => write!(f, "the ids are an array, and belong in chunks"),
         }
     }
 }

@@ -74,7 +74,7 @@ fn rank_in_parts(highs: &[u8], counts: &[u8], slices: &[u8], number: u16) -> usi
     before + rank_in_slice(count, &slices[place..place + size], (number % 256) as u8)
 }
 
-/// Where a slice begins among slices end to end, of which each count less 1 is given.
+/// The index where a slice begins among slices end to end. Each count less 1 is given.
 fn place_of_slice(counts: &[u8], index: usize) -> usize
     requires within { index ≤ length counts.now }
     requires few { length counts.now ≤ 256 }
@@ -87,7 +87,7 @@ fn place_of_slice(counts: &[u8], index: usize) -> usize
     place
 }
 
-/// The number of this place in a body of numbers.
+/// The number at this position of a body of numbers.
 #[inline(always)]
 pub(crate) fn number_at(body: &[u8], place: usize) -> u16
     requires { place < length body.now / 2 }

@@ -57,7 +57,7 @@ fn test_body(chunk: usize, position: usize, count: usize, body: &[u8]) -> Result
     Ok(())
 }
 
-/// The first position whose number is not above the one before, of a body of numbers of which the first has this position.
+/// The first position whose number is not above the one before, in a body of numbers whose first one has this position.
 fn first_fall(position: usize, body: &[u8]) -> Option<usize>
     requires few { length body.now ≤ 131072 }
     requires position { position ≤ 2 ^ 32 }

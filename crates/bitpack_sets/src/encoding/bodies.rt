@@ -48,13 +48,7 @@ fn write_blocks(ids: &[u32], count: usize, out: &mut [u8])
 }
 
 /// Writes the high bytes of a chunk, for each how many numbers have it less 1, and its slice. It works in the room.
-fn write_parts(
-    ids: &[u32],
-    firsts: &mut [u8],
-    less: &mut [u8],
-    out: &mut [u8],
-    room: &mut [u8],
-)
+fn write_parts(ids: &[u32], firsts: &mut [u8], less: &mut [u8], out: &mut [u8], room: &mut [u8])
     requires chunk { IsChunk ids.now }
     requires firsts { length firsts.old ≡ length (parts 256 (lows ids.now)) }
     requires less { length less.old ≡ length (parts 256 (lows ids.now)) }

@@ -1,14 +1,14 @@
-//! The text of a set of fewer than 128 ids.
+//! The encoding of a set of fewer than 128 ids.
 
 ghost use Rattle.std.specs.Prelude.{◌≡◌, ◌+◌, ◌<◌, ◌≤◌, drop, length, slice_index};
 ghost use Rattle.bitpack_sets.specs.Sets.{IsSet, gaps, short};
 
 use bitpack_groups::{groups_len, number_len, write_groups, write_number};
 
-/// The most ids of a set whose text has groups.
+/// The most ids of a set whose bytes have groups.
 pub(crate) const MOST_FEW: usize = 127;
 
-/// How many bytes the text of a set of few ids has.
+/// How many bytes the encoding of a set of few ids has.
 pub(crate) fn few_len(ids: &[u32]) -> usize
     requires set { IsSet ids.now }
     requires few { length ids.now ≤ MOST_FEW }
@@ -23,7 +23,7 @@ pub(crate) fn few_len(ids: &[u32]) -> usize
     1 + number_len(ids[0]) + groups_len(codes)
 }
 
-/// Writes the text of a set of few ids.
+/// Writes the encoding of a set of few ids.
 pub(crate) fn write_few(ids: &[u32], out: &mut [u8])
     requires set { IsSet ids.now }
     requires few { length ids.now ≤ MOST_FEW }
@@ -37,7 +37,7 @@ pub(crate) fn write_few(ids: &[u32], out: &mut [u8])
     write_some(ids, out);
 }
 
-/// Writes the text of a set of few ids, at least one.
+/// Writes the encoding of a set of few ids, at least one.
 fn write_some(ids: &[u32], out: &mut [u8])
     requires set { IsSet ids.now }
     requires some { 0 < length ids.now }

@@ -9,7 +9,7 @@ pub(crate) const CHUNK_BITS: u32 = 16;
 /// Ids are in one slice if they are the same without their 8 lowest bits.
 pub(crate) const SLICE_BITS: u32 = 8;
 
-/// How many ids at the front are the same as the first one without their lowest bits, of which there are `bits`.
+/// How many ids at the front are the same as the first one without their `bits` lowest bits.
 #[inline(always)]
 pub(crate) fn run_len(bits: u32, ids: &[u32]) -> usize
     requires some { 0 < length ids.now }

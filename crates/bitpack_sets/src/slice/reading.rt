@@ -4,7 +4,7 @@ ghost use Rattle.std.specs.Prelude.{◌≡◌, ◌+◌, ◌*◌, ◌/◌, ◌^�
 ghost use Rattle.std.specs.List.{range_with_len};
 ghost use Rattle.bitpack_sets.specs.Slices.{IsSlice, number_of, ones_from, slice_len, slice_numbers};
 
-/// Writes the numbers of a slice of `count`, each with `base` added, where there may be no room but for them. Returns where they end.
+/// Writes the numbers of a slice of `count`, each with `base` added, also if there is only room for them. Returns where they end.
 pub(crate) fn unpack_within(
     count: usize,
     bytes: &[u8],

@@ -67,7 +67,7 @@ fn rank_in_bytes(bytes: &[u8], number: u8) -> usize
     count
 }
 
-/// How many bits before that of a number are 1.
+/// How many bits before the bit of a number are 1.
 fn rank_in_bits(bytes: &[u8], number: u8) -> usize
     requires { length bytes.now ≡ 32 }
     ensures { result ≡ rank number (ones_from (number_of bytes.now) 0 256) }

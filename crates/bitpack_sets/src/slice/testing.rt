@@ -22,7 +22,7 @@ pub(crate) fn is_slice(count: usize, bytes: &[u8]) -> bool
     }
 }
 
-/// Whether bytes are slices end to end, of which each count less 1 is given.
+/// Whether bytes are slices end to end; each count less 1 is given.
 pub(crate) fn are_slices(counts: &[u8], bytes: &[u8]) -> bool
     ensures { Decides result (AreSlices counts.now bytes.now) }
 {
@@ -41,7 +41,7 @@ pub(crate) fn are_slices(counts: &[u8], bytes: &[u8]) -> bool
     place == bytes.len()
 }
 
-/// How many numbers slices have, of which each count less 1 is given.
+/// How many numbers slices have; each count less 1 is given.
 pub(crate) fn count_numbers(counts: &[u8]) -> usize
     requires { length counts.now ≤ 256 }
     ensures { result ≡ numbers_in counts.now }

@@ -1,4 +1,4 @@
--- The zeros in the room that is reserved become the text.
+-- The zeros in the room that is reserved become the encoding.
 use Rattle.std.proofs.Common.{◌≡◌, ◌++◌, ◌+◌, ◌<◌, ◌≤◌, ℕ, List, drop, length, replicate, ap, sym, ◌∙◌, arith, refl, rules}
 use Rattle.std.proofs.lemmas.List.{length-replicate}
 use Rattle.bitpack_sets.proofs.EncodeLaws.{accepted, on_err, written_over}

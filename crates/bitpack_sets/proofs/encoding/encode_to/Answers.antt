@@ -1,4 +1,4 @@
--- The text is written if the slice has room for it.
+-- The encoding is written if the slice has room for it.
 use Rattle.std.proofs.Common.{◌≡◌, ◌++◌, ◌<◌, ◌≤◌, ℕ, List, drop, length, ap, sym, ◌∙◌, arith, refl, rules}
 use Rattle.std.proofs.lemmas.List.{length-take-le}
 use Rattle.bitpack_sets.proofs.EncodeLaws.{accepted}

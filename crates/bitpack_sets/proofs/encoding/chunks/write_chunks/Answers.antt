@@ -1,4 +1,4 @@
--- The parts of the text have their places.
+-- The parts of the encoding have their places.
 use Rattle.std.proofs.Common.{◌≡◌, ℕ, ◌+◌, ◌*◌, ◌≤◌, List, length, ap, sym, arith, ◌∙◌}
 use Rattle.bitpack_sets.proofs.FewLaws.{all_of}
 use Rattle.bitpack_sets.proofs.LongFilled.{chunks_joined, chunks_size}

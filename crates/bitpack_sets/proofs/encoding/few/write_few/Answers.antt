@@ -1,4 +1,4 @@
--- Without an id, the text is one byte.
+-- Without an id, the encoding is one byte.
 use Rattle.std.proofs.Common.{◌≡◌, ap, arith, length, rules, sym, ◌∙◌}
 use Rattle.bitpack_sets.proofs.FewLaws.{no_ids, one_set}
 use Rattle.bitpack_sets.proofs.encoding.few.write_few.Goals as goal

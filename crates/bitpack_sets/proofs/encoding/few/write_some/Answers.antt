@@ -1,4 +1,4 @@
--- The parts of the text have their places.
+-- The parts of the encoding have their places.
 use Rattle.std.proofs.Common.{◌≡◌, ◌+◌, ◌≤◌, ◌<◌, ◌∷◌, ◌++◌, List, ℕ, ap, arith, length, subst, sym, ◌∙◌, take, get_or}
 use Rattle.bitpack_sets.proofs.FewLaws.{all_of, codes_of, codes_one, codes_run, few_size, few_text, groups_text, one_set}
 use Rattle.bitpack_sets.proofs.encoding.few.write_some.Goals as goal

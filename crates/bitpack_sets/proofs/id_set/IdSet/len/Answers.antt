@@ -1,4 +1,4 @@
--- The count that the text states is that of its ids.
+-- The count that the encoding states is that of its ids.
 use Rattle.std.proofs.Common.{◌∙◌}
 use Rattle.bitpack_sets.proofs.TextLaws.{count_stated}
 use Rattle.bitpack_sets.proofs.id_set.IdSet.len.Goals as goal
