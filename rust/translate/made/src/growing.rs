@@ -1,5 +1,6 @@
 //! Vectors that grow, or say that there is no memory.
 
+use alloc::collections::TryReserveError;
 use alloc::vec::Vec;
 
 /// There is no memory.
@@ -14,6 +15,12 @@ impl core::fmt::Display for AllocError {
 
 impl core::error::Error for AllocError {}
 
+impl From<TryReserveError> for AllocError {
+    fn from(_: TryReserveError) -> AllocError {
+        AllocError
+    }
+}
+
 /// What a vector does if there is memory.
 pub(crate) trait Growing<T> {
     fn try_push(&mut self, value: T) -> Result<(), AllocError>;
@@ -27,7 +34,7 @@ impl<T: Copy> Growing<T> for Vec<T> {
     #[inline(always)]
     fn try_push(&mut self, value: T) -> Result<(), AllocError> {
         if self.len() == self.capacity() {
-            self.try_reserve(1).map_err(|_| AllocError)?;
+            self.try_reserve(1)?;
         }
         self.push(value);
         Ok(())
@@ -35,14 +42,14 @@ impl<T: Copy> Growing<T> for Vec<T> {
 
     #[inline(always)]
     fn try_extend_from_slice(&mut self, values: &[T]) -> Result<(), AllocError> {
-        self.try_reserve(values.len()).map_err(|_| AllocError)?;
+        self.try_reserve(values.len())?;
         self.extend_from_slice(values);
         Ok(())
     }
 
     #[inline(always)]
     fn try_resize(&mut self, len: usize, value: T) -> Result<(), AllocError> {
-        self.try_reserve(len.saturating_sub(self.len())).map_err(|_| AllocError)?;
+        self.try_reserve(len.saturating_sub(self.len()))?;
         self.resize(len, value);
         Ok(())
     }
