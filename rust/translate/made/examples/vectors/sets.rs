@@ -1,6 +1,6 @@
 //! Id sets: what their bytes say, and which bytes are refused.
 
-use bitpacking_source::sets::{IdSet, SetError};
+use bitpacking_source::sets::{IdSet, SetError, encode, encode_to, encoded_len};
 
 use crate::report::Report;
 use crate::rows::Row;
@@ -24,14 +24,38 @@ pub fn opened(row: &Row, report: &mut Report) {
     right.rotate_left(MORE);
     report.check(&row.name, "ids copied", copied == right, true);
     contained(&set, &ids, row, report);
+    written(&ids, &bytes, row, report);
+}
+
+/// By each call that writes: into a vector, into a slice with room, and into one that lacks a byte.
+fn written(ids: &[u32], bytes: &[u8], row: &Row, report: &mut Report) {
+    report.check(&row.name, "encoded_len", encoded_len(ids), Ok(bytes.len()));
+    let (mut appended, mut right) = (vec![0xA5; MORE], vec![0xA5; MORE]);
+    right.extend(bytes);
+    report.check(&row.name, "encode", encode(ids, &mut appended), Ok(()));
+    report.check(&row.name, "bytes appended", appended == right, true);
+    let mut slice = vec![0xA5; bytes.len() + MORE];
+    report.check(&row.name, "encode_to", encode_to(ids, &mut slice), Ok(bytes.len()));
+    right.rotate_left(MORE);
+    report.check(&row.name, "bytes written", slice == right, true);
+    let mut short = vec![0xA5; bytes.len() - 1];
+    report.check(&row.name, "encode_to without room", encode_to(ids, &mut short), Err(SetError::Short));
+    report.check(&row.name, "bytes without room", short.iter().all(|it| *it == 0xA5), true);
+    if let Some(last) = ids.last() {
+        let twice = [ids, &[*last]].concat();
+        report.check(&row.name, "encode the last id twice", encode(&twice, &mut appended), Err(SetError::NotSorted(ids.len())));
+    }
+    report.check(&row.name, "bytes after a refusal", appended.len(), bytes.len() + MORE);
 }
 
 /// Each id, the numbers beside it, those with one other bit in each half, and the least and greatest number.
 fn contained(set: &IdSet<'_>, ids: &[u32], row: &Row, report: &mut Report) {
     let near = |id: u32| [id.wrapping_sub(1), id, id.wrapping_add(1), id ^ 1 << 7, id ^ 1 << 8, id ^ 1 << 16, id ^ 1 << 31];
     let asked = ids.iter().flat_map(|it| near(*it)).chain([0, u32::MAX]);
-    let wrong: Vec<u32> = asked.filter(|it| set.contains(*it) != ids.binary_search(it).is_ok()).take(5).collect();
-    report.check(&row.name, "numbers whose contains is wrong", wrong, vec![]);
+    let found = |id: u32| (set.contains(id), set.rank(id));
+    let right = |id: u32| (ids.binary_search(&id).is_ok(), ids.partition_point(|it| *it < id));
+    let wrong: Vec<u32> = asked.filter(|it| found(*it) != right(*it)).take(5).collect();
+    report.check(&row.name, "numbers whose contains or rank is wrong", wrong, vec![]);
 }
 
 /// A fault is spelled as Rust shows it.
