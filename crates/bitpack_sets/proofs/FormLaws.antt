@@ -2,20 +2,21 @@
 use Rattle.std.proofs.Common.{◌≡◌, ◌≢◌, ℕ, ◌+◌, ◌-◌, ◌*◌, ◌<◌, ◌≤◌, Bool, true, false, eqb, ltb, cond, List, [], ◌∷◌, drop, length, get_or, Option, Some, None, refl, sym, ap, ◌∙◌, arith, subst, eq-eqb, inl, inr}
 use Rattle.std.specs.Option.{is_some, option_or}
 use Rattle.std.proofs.lemmas.Bool.{cases_lt, le-ltb, lt-ltb, ne_eqb, true≢false}
+use Rattle.std.proofs.lemmas.Bool.Decides.{eqb_tells}
 use Rattle.bitpacking.specs.Bits.{AreBytes}
 use Rattle.bitpack_sets.proofs.CountLaws.{bytes_are}
 use Rattle.bitpack_sets.proofs.DecodeLaws.{bytes_dropped}
 use Rattle.bitpack_sets.proofs.EntryLaws.{rest_none}
-use Rattle.bitpack_sets.proofs.FaultLaws.{if_some, not_below, or_none}
+use Rattle.bitpack_sets.proofs.FaultLaws.{if_some, map_none, not_below, or_none}
 use Rattle.bitpack_sets.proofs.TextLaws.{chunks_none}
 use Rattle.bitpack_sets.proofs.Words.{EachByte}
 use Rattle.bitpack_sets.specs.Directory.{chunk_ids}
-use Rattle.bitpack_sets.specs.Faults.{array_fault, fault, ids_fault, in_chunks_fault, short_fault}
+use Rattle.bitpack_sets.specs.Faults.{array_fault, count_fault, fault, ids_fault, in_chunks_fault, short_fault}
 use Rattle.bitpack_sets.specs.Reads.{few_ids, ids_in, ids_in_array, ids_in_chunks}
 use Rattle.bitpack_sets.specs.Slices.{quads_of}
 use Rattle.bitpack_sets.specs.Sound.{IsRest}
-use Rattle.bitpack_sets.specs.Stated.{States, stated_count}
-use Rattle.bitpack_sets.specs.Varints.{number_end, number_value}
+use Rattle.bitpack_sets.specs.Stated.{States, after_count, stated_count}
+use Rattle.bitpack_sets.specs.Varints.{number_end, number_fault, number_value, set_error}
 use Rattle.bitpack_sets.specs.declared.set_error.SetError.{SetError}
 use Rattle.bitpack_sets.specs.declared.set_error.SetError.TheVariants.{BadVersion, Short}
 
@@ -161,3 +162,29 @@ stated_few bytes rest count chunks are is not5 not6 =
       sound = ap (λ (m : ℕ). short_fault m rest) n ∙ ap (short_fault (get_or bytes 0 0 - 128)) r ∙ none;
       ids_are = ids_few bytes some high ∙ ap (λ (m : ℕ). few_ids m (drop 1 bytes)) (sym n) ∙ ap (few_ids count) (sym r);
     }
+
+-- ---- a text without a fault
+
+pub low_form : (bytes : List ℕ) → fault bytes ≡ None → get_or bytes 0 0 < 128 → get_or bytes 0 0 ≢ 6 → get_or bytes 0 0 ≡ 5
+low_form bytes none low not6 = elim (eqb_tells (get_or bytes 0 0) 5) [
+  | inl (five, is) ↦ is
+  | inr (other, isnt) ↦ absurd (some_not_none _ (sym (at_low bytes (some_bytes bytes none) isnt not6 low) ∙ none))
+]
+
+count_sound : (bytes : List ℕ) → count_fault bytes ≡ None → number_fault bytes ≡ None
+unfolding count_fault
+count_sound bytes e = let (a, b) = or_none _ _ e in map_none set_error _ a
+
+pub low_number : (bytes : List ℕ) → fault bytes ≡ None → get_or bytes 0 0 < 128 → number_fault (drop 1 bytes) ≡ None
+unfolding in_chunks_fault array_fault
+low_number bytes none low = elim (eqb_tells (get_or bytes 0 0) 6) [
+  | inl (six, is) ↦ (let (a, b) = or_none _ _ (sym (at_six bytes (some_bytes bytes none) is) ∙ none) in count_sound (drop 1 bytes) a)
+  | inr (other, isnt) ↦ (let (a, b) = or_none _ _ (sym (at_five bytes (some_bytes bytes none) (low_form bytes none low isnt)) ∙ none) in count_sound (drop 1 bytes) a)
+]
+
+pub five_number : (bytes : List ℕ) → fault bytes ≡ None → get_or bytes 0 0 ≡ 5 → number_fault (after_count bytes) ≡ None
+unfolding in_chunks_fault
+five_number bytes none five =
+    let (a, b) = or_none _ _ (sym (at_five bytes (some_bytes bytes none) five) ∙ none) in
+    let (c, d) = or_none _ _ b in
+    (chunks_none (number_value (drop 1 bytes)) (after_count bytes) c).0

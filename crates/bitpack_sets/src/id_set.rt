@@ -7,7 +7,7 @@ ghost use Rattle.bitpack_sets.specs.Stated.{States};
 use crate::array::{in_array, rank_in_array, unpack_array};
 use crate::decoding::unpack_chunks;
 use crate::few::{in_few, rank_in_few, unpack_few};
-use crate::opening::test_text;
+use crate::opening::{read_parts, test_text};
 use crate::reserved::append_zeros;
 use crate::searching::{in_chunks, rank_in_chunks};
 use crate::set_error::SetError;
@@ -48,6 +48,23 @@ impl<'a> IdSet<'a> {
             chunks: parts.chunks,
             rest: parts.rest,
         })
+    }
+
+    /// The set whose bytes were opened before: they are not tested again. It is for a caller who stores only the bytes of sets that were
+    /// opened.
+    pub fn of_tested(bytes: &'a [u8]) -> IdSet<'a>
+        requires sound { fault bytes.now ≡ None }
+        ensures bytes { text_of result ≡ bytes.now }
+        ensures set { IsSet (ids result) }
+        ensures text { text (ids result) ≡ bytes.now }
+    {
+        let parts = read_parts(bytes);
+        IdSet {
+            bytes,
+            count: parts.count,
+            chunks: parts.chunks,
+            rest: parts.rest,
+        }
     }
 
     /// The number of ids.

@@ -1,6 +1,6 @@
 //! Tests the encoding of a set.
 
-ghost use Rattle.std.specs.Prelude.{◌≡◌, ◌≤◌, ◌<◌, ◌^◌, ◌*◌, IfOk, drop, length};
+ghost use Rattle.std.specs.Prelude.{◌≡◌, ◌≤◌, ◌<◌, ◌^◌, ◌*◌, IfOk, None, drop, length};
 ghost use Rattle.bitpack_sets.specs.Errors.{Finds};
 ghost use Rattle.bitpack_sets.specs.Faults.{array_fault, chunk_count_fault, chunks_fault, count_fault, fault, in_chunks_fault};
 ghost use Rattle.bitpack_sets.specs.Stated.{States};
@@ -12,6 +12,7 @@ use crate::directory::{begin_at, bodies_start, test_entries, test_least, test_si
 use crate::few::test_few;
 use crate::set_error::SetError;
 use crate::varints::open_number;
+use bitpack_groups::unpack_number;
 
 /// The most ids of a set.
 const MOST_IDS: usize = 1 << 28;
@@ -49,6 +50,38 @@ pub(crate) fn test_text<'a>(bytes: &'a [u8]) -> Result<Parts<'a>, SetError>
             })
         }
         other => Err(SetError::BadVersion(other)),
+    }
+}
+
+/// What the first bytes of a text without a fault state, and what is after them.
+pub(crate) fn read_parts<'a>(bytes: &'a [u8]) -> Parts<'a>
+    requires { fault bytes.now ≡ None }
+    ensures { States bytes.now result.count result.chunks result.rest.now }
+{
+    let form = bytes[0];
+    let later = &bytes[1..];
+    if form >= 128 {
+        return Parts {
+            count: form as usize - 128,
+            chunks: 0,
+            rest: later,
+        };
+    }
+    let (count, end) = unpack_number(later);
+    let count = count as usize;
+    let rest = &later[end..];
+    if form == 6 {
+        return Parts {
+            count,
+            chunks: 0,
+            rest,
+        };
+    }
+    let (chunks, end) = unpack_number(rest);
+    Parts {
+        count,
+        chunks: chunks as usize,
+        rest: &rest[end..],
     }
 }
 
