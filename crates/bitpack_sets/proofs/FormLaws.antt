@@ -163,7 +163,7 @@ stated_few bytes rest count chunks are is not5 not6 =
       ids_are = ids_few bytes some high ∙ ap (λ (m : ℕ). few_ids m (drop 1 bytes)) (sym n) ∙ ap (few_ids count) (sym r);
     }
 
--- ---- a text without a fault
+-- ---- an encoding without a fault
 
 pub low_form : (bytes : List ℕ) → fault bytes ≡ None → get_or bytes 0 0 < 128 → get_or bytes 0 0 ≢ 6 → get_or bytes 0 0 ≡ 5
 low_form bytes none low not6 = elim (eqb_tells (get_or bytes 0 0) 5) [

@@ -10,6 +10,7 @@ mod ChunkLaws
 mod ChunkReads
 mod ChunkTexts
 mod CountLaws
+mod CutLaws
 mod DecodeLaws
 mod EncodeLaws
 mod EntriesFilled

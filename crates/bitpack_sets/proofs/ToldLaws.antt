@@ -10,7 +10,7 @@ use Rattle.bitpack_sets.proofs.BodyLaws.{body_blocks, body_numbers}
 use Rattle.bitpack_sets.proofs.LongLaws.{Below}
 use Rattle.bitpack_sets.proofs.CountLaws.{slice_back}
 use Rattle.bitpack_sets.proofs.JoinLaws.{blocks_read, numbers_counted}
-use Rattle.bitpack_sets.proofs.ReadLaws.{counts_len}
+use Rattle.bitpack_sets.proofs.CutLaws.{counts_len}
 use Rattle.bitpack_sets.proofs.SliceLaws.{rising_room}
 use Rattle.bitpack_sets.proofs.Words.{EachByte}
 use Rattle.bitpack_sets.specs.Faults.{body_fault}

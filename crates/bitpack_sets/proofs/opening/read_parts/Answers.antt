@@ -1,4 +1,4 @@
--- What byte 0 tells of a text without a fault.
+-- What byte 0 tells of an encoding without a fault.
 use Rattle.std.proofs.Common.{◌≡◌, ◌-◌, ℕ, List, ap, arith, drop, length, take, ◌∙◌}
 use Rattle.std.proofs.lemmas.List.{take_rest}
 use Rattle.bitpack_sets.specs.Stated.{after_count}

@@ -1,6 +1,6 @@
 -- The parts are cut as a body of blocks is read.
 use Rattle.std.proofs.Common.{ℕ, ◌≡◌, ◌∙◌, ◌+◌, ◌-◌, ◌++◌, List, ap, arith, drop, get_or, length, take, map}
-use Rattle.bitpack_sets.proofs.ReadLaws.{counts_cut, cut}
+use Rattle.bitpack_sets.proofs.CutLaws.{counts_cut, cut}
 use Rattle.bitpack_sets.specs.Slices.{IsBlocks, block_numbers, numbers_in, slice_len}
 use Rattle.bitpack_sets.proofs.chunk.reading.unpack_blocks.Goals as goal
 

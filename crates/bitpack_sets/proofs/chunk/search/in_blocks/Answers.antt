@@ -1,6 +1,6 @@
 -- The parts are cut as a body of blocks is read.
 use Rattle.std.proofs.Common.{◌∙◌, ap, arith}
-use Rattle.bitpack_sets.proofs.ReadLaws.{cut}
+use Rattle.bitpack_sets.proofs.CutLaws.{cut}
 use Rattle.bitpack_sets.proofs.chunk.search.in_blocks.Goals as goal
 use Rattle.bitpack_sets.specs.Reads.{has}
 

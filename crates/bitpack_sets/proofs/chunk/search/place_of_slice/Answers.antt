@@ -1,6 +1,6 @@
 -- One slice more is passed.
 use Rattle.std.proofs.Common.{arith, get_or, sym, ◌+◌}
-use Rattle.bitpack_sets.proofs.ReadLaws.{len_few, lens_more, lens_none}
+use Rattle.bitpack_sets.proofs.CutLaws.{len_few, lens_more, lens_none}
 use Rattle.bitpack_sets.proofs.chunk.search.place_of_slice.Goals as goal
 
 pub loop-i-init : goal.loop-i-init

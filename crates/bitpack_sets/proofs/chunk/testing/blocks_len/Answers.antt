@@ -5,7 +5,7 @@ use Rattle.bitpack_sets.specs.Slices.{pairs_of, slice_len}
 use Rattle.bitpack_sets.specs.declared.chunk.testing.Run.{Run}
 use Rattle.bitpack_sets.proofs.FallLaws.{IsRun, run_done, run_other, run_same, run_start}
 use Rattle.bitpack_sets.proofs.HalfLaws.{pairs_len}
-use Rattle.bitpack_sets.proofs.ReadLaws.{len_few}
+use Rattle.bitpack_sets.proofs.CutLaws.{len_few}
 use Rattle.bitpack_sets.proofs.chunk.testing.blocks_len.Goals as goal
 
 pub loop-left-init : goal.loop-left-init
