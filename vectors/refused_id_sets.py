@@ -230,6 +230,8 @@ def refused_bodies():
         ("LooseBody", 0, [*range(128)]),
         ("LooseBody", 0, placed(*((high, [high]) for high in range(19)), (255, spread(128)))),
         ("LooseBody", 0, placed(*((high, [0, 255]) for high in range(64)))),
+        ("LooseBody", 0, placed(*((high, [0, 255]) for high in range(34)))),  # by one byte, also those below
+        *(("LooseBody", 0, placed(*((high, [high]) for high in range(r)), (255, spread(r + 4)))) for r in [0, 4, 27]),
         ("LooseBody", 0, placed(*((high, [0, 1, 2]) for high in range(100)))),
         ("LooseBody", 0, [*range(1000)]),
     ]
