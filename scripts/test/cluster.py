@@ -46,7 +46,7 @@ WRONG = [
     ("shards.py", "if zlib.crc32(memoryview(self.map)[: self.lists]) != crc:", "if False:", "test_damaged_files"),
     ("shards.py", "if shard.map.size() != len(shard.map):", "if False:", "test_cut_after_it_was_mapped"),
 ]
-PATIENCE = 180
+PATIENCE = 900
 
 
 def sessions(page):

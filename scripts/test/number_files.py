@@ -28,7 +28,7 @@ from terminal import Terminal
 FOLDER = "examples/numbers"
 MOST_LINES = 400
 # Seconds for one call, which takes far below one.
-PATIENCE = 60
+PATIENCE = 240
 DAMAGES = 1000
 KINDS, LANES = ["plain", "sorted", "strict"], [1, 4, 8]
 MODEL = vectors.names_of(vectors.model())

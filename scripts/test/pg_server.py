@@ -23,7 +23,7 @@ PACKAGES = {
     "includedir-server:postgres.h": "postgresql-server-dev-15",
 }
 SETTINGS = {"listen_addresses": "", "jit": "off", "max_connections": "120", "shared_buffers": "64MB", "fsync": "off", "autovacuum": "off"}
-PATIENCE = 60
+PATIENCE = 240
 
 
 def config(name):

@@ -27,7 +27,7 @@ SOURCES = [f"{ROOT}/{FOLDER}/{name}.c" for name in ("search", "index", "best")]
 STOPPED = 99
 ENVIRONMENT = dict(os.environ, ASAN_OPTIONS=f"detect_leaks=0:exitcode={STOPPED}", UBSAN_OPTIONS=f"exitcode={STOPPED}", LC_ALL="C")
 # Seconds for one search, which takes far below one.
-PATIENCE = 30
+PATIENCE = 120
 DAMAGES = 1000
 
 # Queries, and what they mean by the sets of documents in which grep finds a word.
