@@ -38,6 +38,8 @@ import record
 COPIES = min(4, len(os.sched_getaffinity(0)))
 # How many edits a check takes at most: the more it takes, the more memory it needs, and the longer the others wait for it at the end.
 MOST = 34
+# The name of an impl, of which `--only` says nothing.
+IMPL = r"(?:^|::)[A-Z]\w*$"
 # Where a copy has what the check of a whole crate begins with, in the folder of the crate.
 KEPT = "out/kept"
 
@@ -75,7 +77,11 @@ def command_of(crate, edits, whole):
     if changes_below(crate, edits):
         return ["rt", "check", "--only", ""]
     functions = sorted({function for edit in edits for function in edit.unproved}) or [""]
-    only = ["--incremental", KEPT] if whole and edits[0].unproved else [word for it in functions for word in ("--only", it)]
+    only = [word for it in functions for word in ("--only", it)]
+    if whole and edits[0].unproved:
+        only = ["--incremental", KEPT]
+    elif any(re.search(IMPL, it) for it in functions):
+        only = []
     return [f"{proving.kit()}/bin/rattle", "check", *proving.words_of(crate), *proving.proof(*only, jobs=1)]
 
 
