@@ -1,9 +1,12 @@
 -- The definitions of this crate.
+pub mod Bitmaps
+pub mod Chunks
 pub mod Directory
 pub mod Errors
 pub mod Faults
 pub mod Laws
 pub mod Opened
+pub mod Operations
 pub mod Reads
 pub mod Sets
 pub mod Slices

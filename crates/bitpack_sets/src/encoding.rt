@@ -7,7 +7,7 @@ ghost use Rattle.bitpack_sets.specs.Written.{AppendsSet, IsMeasured, MeasuresSet
 mod bodies;
 mod chunks;
 mod few;
-mod integers;
+pub(crate) mod integers;
 mod measuring;
 mod order;
 mod runs;

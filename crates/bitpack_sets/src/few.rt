@@ -4,14 +4,16 @@ ghost use Rattle.std.specs.Prelude.{◌≡◌, ℕ, ◌+◌, ◌^◌, ◌<◌, �
 ghost use Rattle.bitpack_sets.specs.Reads.{few_ids, has, rank};
 ghost use Rattle.bitpack_sets.specs.Errors.{Finds};
 ghost use Rattle.bitpack_sets.specs.Faults.{ids_from, short_fault, some_fault};
+ghost use Rattle.bitpack_sets.specs.Slices.{quads_of};
 ghost use Rattle.bitpack_sets.specs.Varints.{after_groups, groups_codes, groups_fault, groups_of, of};
 
+use crate::encoding::integers::write_integers;
 use crate::set_error::SetError;
 use crate::varints::{open_group, open_number};
 use bitpack_groups::{LONGEST_GROUP, next_len, unpack_groups, unpack_number};
 
 /// The most ids of such a set.
-const MOST_FEW: usize = 127;
+pub(crate) const MOST_FEW: usize = 127;
 
 /// Tests what is after byte 0 of the encoding of `count` ids.
 pub(crate) fn test_few(count: usize, bytes: &[u8]) -> Result<(), SetError>
@@ -51,6 +53,17 @@ pub(crate) fn unpack_few(bytes: &[u8], out: &mut [u32])
     }
     let mut codes = [0; MOST_FEW];
     unpack_some(bytes, &mut codes[..out.len() - 1], out);
+}
+
+/// Writes the ids of such a set, four bytes for each.
+pub(crate) fn unpack_few_bytes(bytes: &[u8], out: &mut [u8])
+    requires size { (count : ℕ) × (count ≤ MOST_FEW) × (length out.old ≡ 4 * count) × (short_fault count bytes.now ≡ None) }
+    ensures { quads_of out.new ≡ few_ids (length out.old / 4) bytes.now }
+{
+    let mut ids = [0; MOST_FEW];
+    let ids = &mut ids[..out.len() / 4];
+    unpack_few(bytes, ids);
+    write_integers(4, ids, out);
 }
 
 /// Whether an id is in such a set.

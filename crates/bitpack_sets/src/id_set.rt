@@ -5,12 +5,16 @@ ghost use Rattle.bitpacking.specs.Bits.{AreBytes};
 ghost use Rattle.bitpack_sets.specs.Stated.{States};
 
 use crate::array::{in_array, rank_in_array, unpack_array};
+use crate::chunks::Chunks;
 use crate::decoding::unpack_chunks;
-use crate::few::{in_few, rank_in_few, unpack_few};
+use crate::few::{MOST_FEW, in_few, rank_in_few, unpack_few, unpack_few_bytes};
 use crate::opening::{read_parts, test_text};
 use crate::reserved::append_zeros;
 use crate::searching::{in_chunks, rank_in_chunks};
 use crate::set_error::SetError;
+
+/// How many bytes the ids of a set of few take as an array, at most.
+pub(crate) const ROOM: usize = 4 * MOST_FEW;
 
 /// A set of ids whose bytes were tested when it was opened, so that reading it tests nothing again and cannot fail.
 #[derive(Clone, Copy)]
@@ -140,6 +144,22 @@ impl<'a> IdSet<'a> {
         let count = self.len();
         self.unpack(&mut out[..count]);
         count
+    }
+
+    /// The chunks of the set. The room is for the ids of a set of few.
+    pub(crate) fn chunks<'b>(&'b self, room: &'b mut [u8; ROOM]) -> Chunks<'b>
+        ensures { ids_from result 0 ≡ ids self.now }
+    {
+        let form = self.bytes[0];
+        if form == 5 {
+            return Chunks::new(self.chunks, self.rest, self.count);
+        }
+        if form == 6 {
+            return Chunks::of_array(self.rest);
+        }
+        let room = &mut room[..4 * self.count];
+        unpack_few_bytes(self.rest, room);
+        Chunks::of_array(room)
     }
 
     // Unpacks each body once.

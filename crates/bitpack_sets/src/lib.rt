@@ -2,7 +2,10 @@
 #![tactic(auto)]
 
 mod array;
+mod bitmap;
 mod chunk;
+mod chunks;
+mod combining;
 mod decoding;
 mod directory;
 mod encoding;
@@ -10,6 +13,8 @@ mod few;
 mod id_set;
 pub mod laws;
 mod opening;
+mod operation;
+mod pairing;
 mod reserved;
 mod searching;
 mod set_error;
@@ -17,6 +22,8 @@ mod slice;
 mod varints;
 mod worked_sets;
 
+pub use combining::{combine_count, combine_to};
 pub use encoding::{encode, encode_to, encoded_len};
 pub use id_set::IdSet;
+pub use operation::Operation;
 pub use set_error::SetError;

@@ -96,7 +96,7 @@ fn unpack_full(base: u32, out: &mut [u32], at: usize) -> usize
 
 /// Writes the numbers of the bits of a word that are 1, in order, each with `base` added. Returns where they end.
 #[inline(always)]
-fn unpack_ones(word: u64, base: u32, out: &mut [u32], at: usize) -> usize
+pub(crate) fn unpack_ones(word: u64, base: u32, out: &mut [u32], at: usize) -> usize
     requires fits { base + 64 ≤ 2 ^ 32 }
     requires room { at + 64 ≤ length out.old }
     ensures end { result ≡ at + length (ones_from word 0 64) }
@@ -115,7 +115,7 @@ fn unpack_ones(word: u64, base: u32, out: &mut [u32], at: usize) -> usize
 
 /// Word i of some bytes.
 #[inline(always)]
-fn word_at(bytes: &[u8], i: usize) -> u64
+pub(crate) fn word_at(bytes: &[u8], i: usize) -> u64
     requires { 8 * i + 8 ≤ length bytes.now }
     ensures { result ≡ number_of (take 8 (drop (8 * i) bytes.now)) }
 {

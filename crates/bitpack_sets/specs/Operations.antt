@@ -1,0 +1,21 @@
+-- Operations on two sets: each says of an id whether the answer has it, by whether each set has it.
+use Rattle.std.specs.Prelude.{ℕ, ◌^◌, Bool, not, ◌&&◌, ◌||◌, if◌then◌else◌, List}
+use Rattle.std.specs.List.{filter, range_with_len}
+use Rattle.bitpack_sets.specs.Reads.{has}
+use Rattle.bitpack_sets.specs.declared.operation.Operation.{Operation}
+use Rattle.bitpack_sets.specs.declared.operation.Operation.TheVariants.{And, Or, AndNot, Xor}
+
+-- whether the answer has an id
+abbrev pub holds : Operation → Bool → Bool → Bool
+holds And a b = a && b
+holds Or a b = a || b
+holds AndNot a b = a && not b
+holds Xor a b = if a then not b else b
+
+-- the numbers below a bound that pass a test
+unfoldable pub those : ℕ → (ℕ → Bool) → List ℕ
+those bound passes = filter passes (range_with_len 0 bound)
+
+-- the ids of the answer
+abbrev pub answer : Operation → List ℕ → List ℕ → List ℕ
+answer operation xs ys = those (2 ^ 32) (λ x. holds operation (has x xs) (has x ys))

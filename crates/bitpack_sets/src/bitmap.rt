@@ -1,0 +1,6 @@
+//! Bitmaps of chunks: 256 bits for each high byte. The bits of high bytes that are not asked for say nothing, and are never cleared.
+
+pub(crate) mod combining;
+pub(crate) mod loading;
+pub(crate) mod marking;
+pub(crate) mod unpacking;

@@ -1,0 +1,37 @@
+//! Combines bitmaps.
+
+ghost use Rattle.std.specs.Prelude.{◌≡◌, ℕ, ◌/◌, ◌<◌, ◌≢◌, true};
+ghost use Rattle.bitpack_sets.specs.Bitmaps.{has_bit};
+ghost use Rattle.bitpack_sets.specs.Operations.{holds};
+ghost use Rattle.bitpack_sets.specs.Reads.{has};
+ghost use Rattle.bitpack_sets.specs.Sets.{IsRising};
+
+use crate::operation::Operation;
+
+/// Combines the bits of these high bytes with those of another bitmap.
+pub(crate) fn combine(
+    operation: Operation,
+    highs: &[u32],
+    words: &mut [u64; 1024],
+    others: &[u64; 1024],
+)
+    requires { IsRising 0 256 highs.now }
+    ensures { (x : ℕ) → x < 65536 → has (x / 256) highs.now ≡ true
+        → has_bit words.new x ≡ holds operation (has_bit words.old x) (has_bit others.now x) }
+{
+    for high in highs {
+        combine_slice(operation, *high as usize, words, others);
+    }
+}
+
+/// Combines the bits of one high byte.
+#[inline(always)]
+fn combine_slice(operation: Operation, high: usize, words: &mut [u64; 1024], others: &[u64; 1024])
+    requires { high < 256 }
+    ensures own { (x : ℕ) → x / 256 ≡ high → has_bit words.new x ≡ holds operation (has_bit words.old x) (has_bit others.now x) }
+    ensures rest { (x : ℕ) → x / 256 ≢ high → has_bit words.new x ≡ has_bit words.old x }
+{
+    for i in 4 * high..4 * high + 4 {
+        words[i] = operation.word(words[i], others[i]);
+    }
+}

@@ -1,0 +1,117 @@
+//! Loads the numbers of a chunk into its bitmap.
+
+ghost use Rattle.std.specs.Prelude.{◌≡◌, ◌≢◌, ◌×◌, ◌⊎◌, ℕ, ◌+◌, ◌*◌, ◌/◌, ◌<◌, ◌≤◌, ◌||◌, ◌==◌, true, false, length, slice_index, take};
+ghost use Rattle.bitpack_sets.specs.Bitmaps.{Holds, has_bit, has_high};
+ghost use Rattle.bitpack_sets.specs.Chunks.{lows_of};
+ghost use Rattle.bitpack_sets.specs.Reads.{has};
+ghost use Rattle.bitpack_sets.specs.Sets.{IsRising};
+ghost use Rattle.bitpack_sets.specs.Slices.{AreSlices, IsBlocks, IsSlice, block_numbers, numbers_of, slice_len, slice_numbers, slices_len};
+
+use crate::bitmap::marking::{rank_of_bit, set_bit, slice_bits, test_bit};
+use crate::slice::byte_len;
+
+/// The high bytes of a body of blocks, as bits.
+pub(crate) fn block_highs(body: &[u8]) -> [u64; 4]
+    requires { IsBlocks (length (block_numbers body.now)) body.now }
+    ensures { (h : ℕ) → h < 256 → has_bit result h ≡ has_high h (block_numbers body.now) }
+{
+    let many = body[0] as usize + 1;
+    slice_bits(many, &body[1..1 + byte_len(many)])
+}
+
+/// Loads the slices of these high bytes from a body of blocks.
+pub(crate) fn load_blocks(body: &[u8], highs: &[u32], words: &mut [u64; 1024])
+    requires blocks { IsBlocks (length (block_numbers body.now)) body.now }
+    requires highs { IsRising 0 256 highs.now }
+    ensures { Holds highs.now words.new (block_numbers body.now) }
+{
+    let many = body[0] as usize + 1;
+    let size = byte_len(many);
+    let occur = slice_bits(many, &body[1..1 + size]);
+    let counts = &body[1 + size..1 + size + many];
+    let slices = &body[1 + size + many..];
+    let mut starts = [0; 257];
+    fill_starts(counts, &mut starts);
+    for high in highs {
+        let bits = bits_at(&occur, counts, slices, &starts, *high as usize);
+        let from = 4 * *high as usize;
+        words[from..from + 4].copy_from_slice(&bits);
+    }
+}
+
+/// The slice of a high byte, as bits: none, if it does not occur.
+#[inline(always)]
+fn bits_at(
+    occur: &[u64; 4],
+    counts: &[u8],
+    slices: &[u8],
+    starts: &[u16; 257],
+    high: usize,
+) -> [u64; 4] {
+    if !test_bit(occur, high) {
+        return [0; 4];
+    }
+    let index = rank_of_bit(occur, high);
+    let count = counts[index] as usize + 1;
+    let start = starts[index] as usize;
+    slice_bits(count, &slices[start..start + byte_len(count)])
+}
+
+/// Where each slice begins among slices end to end. Each count less 1 is given.
+fn fill_starts(counts: &[u8], starts: &mut [u16; 257])
+    requires few { length counts.now ≤ 256 }
+    ensures { (index : ℕ) → index < length counts.now → slice_index starts.new index ≡ slices_len (take index counts.now) }
+{
+    let mut start = 0;
+    for index in 0..counts.len() {
+        starts[index] = start;
+        start += byte_len(counts[index] as usize + 1) as u16;
+    }
+}
+
+/// The low 16 bits of an integer of two or four bytes.
+#[inline(always)]
+fn low_at(size: usize, bytes: &[u8], i: usize) -> usize
+    requires size { size ≡ 2 ⊎ size ≡ 4 }
+    requires within { size * i + size ≤ length bytes.now }
+    ensures small { result < 65536 }
+    ensures low { result ≡ slice_index (lows_of size bytes.now) i }
+{
+    let from = size * i;
+    bytes[from] as usize + 256 * bytes[from + 1] as usize
+}
+
+/// The high bytes of the low 16 bits of integers of two or four bytes, as bits.
+pub(crate) fn integer_highs(size: usize, bytes: &[u8]) -> [u64; 4]
+    requires { size ≡ 2 ⊎ size ≡ 4 }
+    ensures { (h : ℕ) → h < 256 → has_bit result h ≡ has_high h (lows_of size bytes.now) }
+{
+    let mut highs = [0; 4];
+    for i in 0..bytes.len() / size {
+        set_bit(&mut highs, low_at(size, bytes, i) / 256);
+    }
+    highs
+}
+
+/// Loads the low 16 bits of integers of two or four bytes.
+pub(crate) fn load_integers(size: usize, bytes: &[u8], highs: &[u32], words: &mut [u64; 1024])
+    requires size { size ≡ 2 ⊎ size ≡ 4 }
+    requires highs { IsRising 0 256 highs.now }
+    ensures { Holds highs.now words.new (lows_of size bytes.now) }
+{
+    clear(highs, words);
+    for i in 0..bytes.len() / size {
+        set_bit(words, low_at(size, bytes, i));
+    }
+}
+
+/// Clears the bits of these high bytes.
+pub(crate) fn clear(highs: &[u32], words: &mut [u64; 1024])
+    requires { IsRising 0 256 highs.now }
+    ensures { (x : ℕ) → x < 65536 → has (x / 256) highs.now ≡ true → has_bit words.new x ≡ false }
+{
+    for high in highs {
+        let from = 4 * *high as usize;
+        words[from..from + 4].fill(0);
+    }
+}

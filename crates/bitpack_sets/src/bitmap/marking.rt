@@ -1,0 +1,74 @@
+//! Tests and sets bits.
+
+ghost use Rattle.std.specs.Prelude.{◌≡◌, ◌×◌, ℕ, ◌*◌, ◌<◌, ◌≤◌, ◌||◌, ◌==◌, length};
+ghost use Rattle.bitpack_sets.specs.Bitmaps.{has_bit};
+ghost use Rattle.bitpack_sets.specs.Operations.{those};
+ghost use Rattle.bitpack_sets.specs.Reads.{has};
+ghost use Rattle.bitpack_sets.specs.Slices.{slice_len, slice_numbers};
+
+use crate::slice::reading::word_at;
+
+/// Whether a bit is 1.
+#[inline(always)]
+pub(crate) fn test_bit(words: &[u64], i: usize) -> bool
+    requires { i < 64 * length words.now }
+    ensures { result ≡ has_bit words.now i }
+{
+    words[i / 64] >> (i % 64) & 1 == 1
+}
+
+/// Sets a bit.
+#[inline(always)]
+pub(crate) fn set_bit(words: &mut [u64], i: usize)
+    requires within { i < 64 * length words.old }
+    ensures { (k : ℕ) → has_bit words.new k ≡ (k == i || has_bit words.old k) }
+{
+    words[i / 64] |= 1 << (i % 64);
+}
+
+/// How many of 256 bits before this one are 1.
+#[inline(always)]
+pub(crate) fn rank_of_bit(words: &[u64; 4], i: usize) -> usize
+    requires { i < 256 }
+    ensures { result ≡ length (those i (has_bit words.now)) }
+{
+    let below = words[i / 64] & ((1 << (i % 64)) - 1);
+    let mut rank = below.count_ones() as usize;
+    for word in 0..i / 64 {
+        rank += words[word].count_ones() as usize;
+    }
+    rank
+}
+
+/// The numbers of a slice of `count`, as bits.
+#[inline(always)]
+pub(crate) fn slice_bits(count: usize, bytes: &[u8]) -> [u64; 4]
+    requires count { count ≤ 256 }
+    requires size { length bytes.now ≡ slice_len count }
+    ensures { (i : ℕ) → i < 256 → has_bit result i ≡ has i (slice_numbers count bytes.now) }
+{
+    if count < 32 {
+        byte_bits(bytes)
+    } else if count < 256 {
+        [
+            word_at(bytes, 0),
+            word_at(bytes, 1),
+            word_at(bytes, 2),
+            word_at(bytes, 3),
+        ]
+    } else {
+        [u64::MAX; 4]
+    }
+}
+
+/// The values of bytes, as bits.
+#[inline(always)]
+fn byte_bits(bytes: &[u8]) -> [u64; 4]
+    ensures { (i : ℕ) → i < 256 → has_bit result i ≡ has i bytes.now }
+{
+    let mut bits = [0; 4];
+    for byte in bytes {
+        set_bit(&mut bits, *byte as usize);
+    }
+    bits
+}

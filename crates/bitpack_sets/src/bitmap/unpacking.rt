@@ -1,0 +1,89 @@
+//! Unpacks and counts the numbers of bitmaps.
+
+ghost use Rattle.std.specs.Prelude.{◌≡◌, ◌×◌, ◌+◌, ◌*◌, ◌^◌, ◌<◌, ◌≤◌, ◌++◌, length, map, take};
+ghost use Rattle.bitpack_sets.specs.Bitmaps.{bitmap_numbers, has_bit};
+ghost use Rattle.bitpack_sets.specs.Operations.{those};
+ghost use Rattle.bitpack_sets.specs.Sets.{IsRising};
+
+use crate::slice::reading::unpack_ones;
+
+/// Writes the numbers of bits that are 1, of 256, each with `base` added. Returns where they end.
+#[inline(always)]
+pub(crate) fn unpack_bits(bits: &[u64], base: u32, out: &mut [u32], at: usize) -> usize
+    requires size { length bits.now ≡ 4 }
+    requires fits { base + 256 ≤ 2 ^ 32 }
+    requires room { at + 256 ≤ length out.old }
+    ensures end { result ≡ at + length (those 256 (has_bit bits.now)) }
+    ensures values { take result out.new ≡ take at out.old ++ map (λ i. base + i) (those 256 (has_bit bits.now)) }
+{
+    let mut next = at;
+    for i in 0..4 {
+        next = unpack_ones(bits[i], base + 64 * i as u32, out, next);
+    }
+    next
+}
+
+/// Writes them also if there is only room for them.
+fn unpack_bits_within(bits: &[u64], base: u32, out: &mut [u32], at: usize) -> usize
+    requires size { length bits.now ≡ 4 }
+    requires fits { base + 256 ≤ 2 ^ 32 }
+    requires room { at + length (those 256 (has_bit bits.now)) ≤ length out.old }
+    ensures end { result ≡ at + length (those 256 (has_bit bits.now)) }
+    ensures values { take result out.new ≡ take at out.old ++ map (λ i. base + i) (those 256 (has_bit bits.now)) }
+{
+    if out.len() - at >= 256 {
+        return unpack_bits(bits, base, out, at);
+    }
+    let mut numbers = [0; 256];
+    let end = unpack_bits(bits, base, &mut numbers, 0);
+    out[at..at + end].copy_from_slice(&numbers[..end]);
+    at + end
+}
+
+/// Writes the numbers of a bitmap that have these high bytes, each with `base` added. Returns where they end.
+pub(crate) fn unpack_bitmap(
+    highs: &[u32],
+    words: &[u64; 1024],
+    base: u32,
+    out: &mut [u32],
+    at: usize,
+) -> usize
+    requires highs { IsRising 0 256 highs.now }
+    requires fits { base + 65536 ≤ 2 ^ 32 }
+    requires room { at + length (bitmap_numbers highs.now words.now) ≤ length out.old }
+    ensures end { result ≡ at + length (bitmap_numbers highs.now words.now) }
+    ensures values { take result out.new ≡ take at out.old ++ map (λ i. base + i) (bitmap_numbers highs.now words.now) }
+{
+    let mut next = at;
+    for high in highs {
+        let from = 4 * *high as usize;
+        next = unpack_bits_within(&words[from..from + 4], base + 256 * *high, out, next);
+    }
+    next
+}
+
+/// How many numbers a bitmap has that have these high bytes.
+pub(crate) fn count_bitmap(highs: &[u32], words: &[u64; 1024]) -> usize
+    requires { IsRising 0 256 highs.now }
+    ensures { result ≡ length (bitmap_numbers highs.now words.now) }
+{
+    let mut count = 0;
+    for high in highs {
+        let from = 4 * *high as usize;
+        count += count_bits(&words[from..from + 4]);
+    }
+    count
+}
+
+/// How many of 256 bits are 1.
+#[inline(always)]
+fn count_bits(bits: &[u64]) -> usize
+    requires { length bits.now ≡ 4 }
+    ensures { result ≡ length (those 256 (has_bit bits.now)) }
+{
+    let mut count = 0;
+    for word in bits {
+        count += word.count_ones() as usize;
+    }
+    count
+}

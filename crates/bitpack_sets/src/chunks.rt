@@ -1,0 +1,181 @@
+//! The chunks of a set of any form: a chunk is the ids that share their high 16 bits, its key.
+
+ghost use Rattle.std.specs.Prelude.{◌≡◌, ◌^◌, ◌≤◌, ◌→◌};
+ghost use Rattle.bitpack_sets.specs.Sets.{IsRising};
+ghost use Rattle.bitpack_sets.specs.Slices.{quads_of};
+ghost use Rattle.bitpack_sets.specs.Sound.{IsRest};
+
+use crate::array::{id_at, rank_in_array};
+use crate::bitmap::loading::{block_highs, clear, integer_highs, load_blocks, load_integers};
+use crate::chunk::search::{number_at, rank_in_numbers};
+use crate::directory::{count_before, key_at, sum_at};
+use crate::searching::body_of;
+
+/// The key after all keys.
+pub(crate) const NO_KEY: u32 = 65536;
+
+/// The chunks of a set. A place is the index of a chunk, or in an array the position of an id.
+#[derive(Clone, Copy)]
+pub(crate) struct Chunks<'a> {
+    // How many chunks a set in chunks has, 0 of an array.
+    count: usize,
+    // What is after the counts of a set in chunks, or the ids of an array.
+    rest: &'a [u8],
+    // How many ids a set in chunks has.
+    ids: usize,
+    ghost few: { count ≤ 65536 },
+    ghost sound: { count ≢ 0 → IsRest ids count rest.now },
+    ghost rising: { count ≡ 0 → IsRising 0 (2 ^ 32) (quads_of rest.now) },
+}
+
+impl<'a> Chunks<'a> {
+    ghost use Rattle.std.specs.Prelude.{ℕ, ◌+◌, ◌*◌, ◌/◌, ◌%◌, ◌<◌, ◌==◌, false, if◌then◌else◌, length};
+    ghost use Rattle.bitpack_sets.specs.Bitmaps.{Holds, has_bit, has_high};
+    ghost use Rattle.bitpack_sets.specs.Chunks.{first_key, ids_from, lows_between, places};
+    ghost use Rattle.bitpack_sets.specs.Reads.{has};
+
+    /// The chunks of a set of `ids` ids in chunks.
+    pub(crate) fn new(count: usize, rest: &'a [u8], ids: usize) -> Chunks<'a>
+        requires few { count ≤ 65536 }
+        requires rest { IsRest ids count rest.now }
+        ensures { ids_from result 0 ≡ chunk_ids count rest.now }
+    {
+        Chunks { count, rest, ids }
+    }
+
+    /// The chunks of ids of four bytes.
+    pub(crate) fn of_array(rest: &'a [u8]) -> Chunks<'a>
+        requires { IsRising 0 (2 ^ 32) (quads_of rest.now) }
+        ensures { ids_from result 0 ≡ quads_of rest.now }
+    {
+        Chunks {
+            count: 0,
+            rest,
+            ids: 0,
+        }
+    }
+
+    /// The place after the last.
+    fn len(&self) -> usize
+        ensures { result ≡ places self.now }
+    {
+        if self.count == 0 {
+            self.rest.len() / 4
+        } else {
+            self.count
+        }
+    }
+
+    /// The key of the first id from a place on, `NO_KEY` if there is none.
+    pub(crate) fn key(&self, place: usize) -> u32
+        ensures { result ≡ first_key (ids_from self.now place) }
+    {
+        if place >= self.len() {
+            NO_KEY
+        } else if self.count == 0 {
+            id_at(self.rest, place) >> 16
+        } else {
+            key_at(self.count, self.rest, place) as u32
+        }
+    }
+
+    /// The first place from one on whose id has this key or a higher one.
+    pub(crate) fn seek(&self, place: usize, key: u32) -> usize
+        requires within { place ≤ places self.now }
+        requires key { key ≤ NO_KEY }
+        ensures within { result ≤ places self.now }
+        ensures later { place ≤ result }
+        ensures reached { key ≤ first_key (ids_from self.now result) }
+        // It passes over ids of lower keys alone.
+        ensures ids { (x : ℕ) → key * 65536 ≤ x → has x (ids_from self.now place) ≡ has x (ids_from self.now result) }
+    {
+        let mut low = place;
+        let mut left = self.len() - place;
+        while left > 0 {
+            let half = left / 2;
+            if self.key(low + half) < key {
+                low += half + 1;
+                left -= half + 1;
+            } else {
+                left = half;
+            }
+        }
+        low
+    }
+
+    /// Where the ids of a key end that begin at a place: at that place, if it has another key.
+    pub(crate) fn end(&self, place: usize, key: u32) -> usize
+        requires within { place ≤ places self.now }
+        requires key { key < NO_KEY }
+        requires least { key ≤ first_key (ids_from self.now place) }
+        ensures within { result ≤ places self.now }
+        ensures later { place ≤ result }
+        ensures passed { key < first_key (ids_from self.now result) }
+        ensures own { (x : ℕ) → x / 65536 ≡ key → has x (ids_from self.now place) ≡ has (x % 65536) (lows_between self.now place result) }
+        ensures others { (x : ℕ) → key < x / 65536 → has x (ids_from self.now place) ≡ has x (ids_from self.now result) }
+    {
+        if self.key(place) != key {
+            place
+        } else if self.count == 0 {
+            self.seek(place, key + 1)
+        } else {
+            place + 1
+        }
+    }
+
+    /// The high bytes of the low 16 bits of the ids between two places, which share a key.
+    pub(crate) fn highs(&self, place: usize, end: usize) -> [u64; 4]
+        requires within { (place ≤ end) × (end ≤ places self.now) }
+        requires one { self.count ≢ 0 → end ≤ place + 1 }
+        ensures { (h : ℕ) → h < 256 → has_bit result h ≡ has_high h (lows_between self.now place end) }
+    {
+        if place == end {
+            return [0; 4];
+        }
+        if self.count == 0 {
+            return integer_highs(4, &self.rest[4 * place..4 * end]);
+        }
+        let body = body_of(self.ids, self.count, self.rest, place);
+        if self.is_numbers(place, body) {
+            return integer_highs(2, body);
+        }
+        block_highs(body)
+    }
+
+    /// Loads the low 16 bits of the ids between two places, which share a key, if they have these high bytes.
+    pub(crate) fn load(&self, place: usize, end: usize, highs: &[u32], words: &mut [u64; 1024])
+        requires within { (place ≤ end) × (end ≤ places self.now) }
+        requires one { self.count ≢ 0 → end ≤ place + 1 }
+        requires highs { IsRising 0 256 highs.now }
+        ensures { Holds highs.now words.new (lows_between self.now place end) }
+    {
+        if place == end {
+            clear(highs, words);
+        } else if self.count == 0 {
+            load_integers(4, &self.rest[4 * place..4 * end], highs, words);
+        } else {
+            self.load_body(place, highs, words);
+        }
+    }
+
+    // Loads the body of a chunk.
+    fn load_body(&self, chunk: usize, highs: &[u32], words: &mut [u64; 1024])
+        requires chunks { self.count ≢ 0 }
+        requires within { chunk < self.count }
+        requires highs { IsRising 0 256 highs.now }
+        ensures { Holds highs.now words.new (lows_between self.now chunk (chunk + 1)) }
+    {
+        let body = body_of(self.ids, self.count, self.rest, chunk);
+        if self.is_numbers(chunk, body) {
+            load_integers(2, body, highs, words);
+        } else {
+            load_blocks(body, highs, words);
+        }
+    }
+
+    // Whether the body of a chunk is numbers.
+    fn is_numbers(&self, chunk: usize, body: &[u8]) -> bool {
+        let own = sum_at(self.count, self.rest, chunk) - count_before(self.count, self.rest, chunk);
+        body.len() == 2 * own as usize
+    }
+}

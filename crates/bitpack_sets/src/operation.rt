@@ -1,0 +1,76 @@
+//! What two sets are combined by.
+
+ghost use Rattle.std.specs.Prelude.{◌≡◌, ℕ, ◌+◌, ◌<◌, ◌&&◌, ◌||◌, ◌==◌, true, false};
+ghost use Rattle.std.specs.Int.{bit_at};
+ghost use Rattle.bitpack_sets.specs.Bitmaps.{has_bit};
+
+/// Which ids of two sets the answer has.
+#[derive(Clone, Copy)]
+pub enum Operation {
+    /// Those in both.
+    And,
+    /// Those in one or both.
+    Or,
+    /// Those in the first alone.
+    AndNot,
+    /// Those in one of the two, and not in both.
+    Xor,
+}
+
+impl Operation {
+    ghost use Rattle.bitpack_sets.specs.Operations.{holds};
+
+    /// Combines the bits of two words.
+    #[inline(always)]
+    pub(crate) fn word(self, a: u64, b: u64) -> u64
+        ensures { (i : ℕ) → (bit_at result i == 1) ≡ holds self (bit_at a i == 1) (bit_at b i == 1) }
+    {
+        match self {
+            Operation::And => a & b,
+            Operation::Or => a | b,
+            Operation::AndNot => a & !b,
+            Operation::Xor => a ^ b,
+        }
+    }
+
+    /// Whether the answer has ids that are in the first set alone.
+    pub(crate) fn keeps_left(self) -> bool
+        ensures { result ≡ holds self true false }
+    {
+        match self {
+            Operation::And => false,
+            _ => true,
+        }
+    }
+
+    /// Whether the answer has ids that are in the second set alone.
+    pub(crate) fn keeps_right(self) -> bool
+        ensures { result ≡ holds self false true }
+    {
+        match self {
+            Operation::Or => true,
+            Operation::Xor => true,
+            _ => false,
+        }
+    }
+
+    /// The high bytes that the answer can have, by the high bytes of two chunks.
+    pub(crate) fn highs(self, a: &[u64; 4], b: &[u64; 4]) -> [u64; 4]
+        // What it leaves out, the answer has not.
+        ensures both { (h : ℕ) → h < 256 → has_bit result h ≡ false → holds self (has_bit a.now h) (has_bit b.now h) ≡ false }
+        ensures left { (h : ℕ) → h < 256 → has_bit result h ≡ false → holds self (has_bit a.now h) false ≡ false }
+        ensures right { (h : ℕ) → h < 256 → has_bit result h ≡ false → holds self false (has_bit b.now h) ≡ false }
+    {
+        let operation = match self {
+            Operation::And => Operation::And,
+            Operation::AndNot => return *a,
+            _ => Operation::Or,
+        };
+        [
+            operation.word(a[0], b[0]),
+            operation.word(a[1], b[1]),
+            operation.word(a[2], b[2]),
+            operation.word(a[3], b[3]),
+        ]
+    }
+}

@@ -1,0 +1,85 @@
+//! Walks through two sets chunk by chunk.
+
+ghost use Rattle.std.specs.Prelude.{◌≡◌, ◌≤◌};
+ghost use Rattle.bitpack_sets.specs.Chunks.{places};
+
+use crate::bitmap::combining::combine;
+use crate::bitmap::unpacking::unpack_bits;
+use crate::chunks::{Chunks, NO_KEY};
+use crate::operation::Operation;
+
+/// What is left of two sets that are combined.
+pub(crate) struct Pair<'a> {
+    operation: Operation,
+    a: Chunks<'a>,
+    b: Chunks<'a>,
+    // The places of the first ids that are left.
+    i: usize,
+    j: usize,
+    ghost a_within: { i ≤ places a },
+    ghost b_within: { j ≤ places b },
+}
+
+/// A chunk of the answer: its key, and the high bytes that it can have. Their bits are in the bitmap beside it.
+pub(crate) struct Answer {
+    pub(crate) key: u32,
+    pub(crate) highs: [u32; 256],
+    pub(crate) high_count: usize,
+}
+
+impl<'a> Pair<'a> {
+    pub(crate) fn new(operation: Operation, a: Chunks<'a>, b: Chunks<'a>) -> Pair<'a> {
+        Pair {
+            operation,
+            a,
+            b,
+            i: 0,
+            j: 0,
+        }
+    }
+
+    /// The next chunk of the answer, whose bits are left in `words`. None if no id is left.
+    pub(crate) fn next(
+        &mut self,
+        words: &mut [u64; 1024],
+        others: &mut [u64; 1024],
+    ) -> Option<Answer> {
+        self.skip();
+        let key = self.a.key(self.i).min(self.b.key(self.j));
+        if key == NO_KEY {
+            return None;
+        }
+        let i = self.a.end(self.i, key);
+        let j = self.b.end(self.j, key);
+        let occur = self
+            .operation
+            .highs(&self.a.highs(self.i, i), &self.b.highs(self.j, j));
+        let mut highs = [0; 256];
+        let high_count = unpack_bits(&occur, 0, &mut highs, 0);
+        self.a.load(self.i, i, &highs[..high_count], words);
+        self.b.load(self.j, j, &highs[..high_count], others);
+        combine(self.operation, &highs[..high_count], words, others);
+        self.i = i;
+        self.j = j;
+        Some(Answer {
+            key,
+            highs,
+            high_count,
+        })
+    }
+
+    // Passes over chunks of one set alone, if their ids are not in the answer.
+    fn skip(&mut self) {
+        loop {
+            let x = self.a.key(self.i);
+            let y = self.b.key(self.j);
+            if x < y && !self.operation.keeps_left() {
+                self.i = self.a.seek(self.i, y);
+            } else if y < x && !self.operation.keeps_right() {
+                self.j = self.b.seek(self.j, x);
+            } else {
+                return;
+            }
+        }
+    }
+}
