@@ -13,6 +13,7 @@ import sys
 sys.dont_write_bytecode = True
 
 from calls import loose_blocks, refused_packs, refused_unpacks, single_blocks, upgrades
+from combined_id_sets import combined_id_sets
 from id_sets import id_sets, spelled_bytes, spelled_ids
 from lists import digest_lists, digests, edge_lists, long_lists, made_lists, single_lists, worked_lists, worked_lists2
 from lists3 import counted_lists, greatest_lists, tail_lists, upgrades3, worked_lists3
@@ -76,6 +77,7 @@ def tables(blocks):
         "refused_values.tsv": table("version kind lanes values position", refused_values()),
         "id_sets.tsv": table("ids bytes", set_rows()),
         "refused_id_sets.tsv": table("number fault bytes", refused_set_rows()),
+        "combined_id_sets.tsv": table("ids others both", (map(spelled_ids, it) for it in combined_id_sets())),
         "digests.tsv": table("kind lanes count bits version length sha256", digests()),
     }
     for name, rows in [("", upgrades(blocks)), ("3", upgrades3(blocks)), ("4", upgrades4(blocks))]:

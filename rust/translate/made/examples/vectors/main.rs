@@ -1,6 +1,7 @@
 //! Runs the tables of a folder over the crate: `vectors FOLDER`. It prints each check that fails, and last 'N passed, M failed'.
 
 mod blocks;
+mod combined_sets;
 mod digests;
 mod lists;
 mod queries;
@@ -16,7 +17,7 @@ use report::Report;
 use rows::Row;
 
 /// Each table, and what checks a row of it.
-const TABLES: [(&str, fn(&Row, &mut Report)); 25] = [
+const TABLES: [(&str, fn(&Row, &mut Report)); 26] = [
     ("blocks.tsv", blocks::packed),
     ("single.tsv", blocks::packed),
     ("loose.tsv", blocks::packed),
@@ -42,6 +43,7 @@ const TABLES: [(&str, fn(&Row, &mut Report)); 25] = [
     ("digests.tsv", digests::long),
     ("id_sets.tsv", sets::opened),
     ("refused_id_sets.tsv", sets::refused),
+    ("combined_id_sets.tsv", combined_sets::combined),
 ];
 
 fn main() -> ExitCode {

@@ -52,8 +52,8 @@ impl Row {
     }
 
     /// The ids of a set: `5-9` is five of them, and `0-8/2` those with steps of 2.
-    pub fn ids(&self) -> Vec<u32> {
-        let runs = self.text("ids").split(',').filter(|it| *it != "-");
+    pub fn ids(&self, name: &str) -> Vec<u32> {
+        let runs = self.text(name).split(',').filter(|it| *it != "-");
         let run = |it: &str| {
             let (ends, step) = it.split_once('/').unwrap_or((it, "1"));
             let (first, last) = ends.split_once('-').unwrap_or((ends, ends));

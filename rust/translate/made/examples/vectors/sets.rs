@@ -9,7 +9,7 @@ use crate::rows::Row;
 const MORE: usize = 3;
 
 pub fn opened(row: &Row, report: &mut Report) {
-    let (ids, bytes) = (row.ids(), row.bytes("bytes"));
+    let (ids, bytes) = (row.ids("ids"), row.bytes("bytes"));
     let set = match IdSet::open(&bytes) {
         Ok(set) => set,
         Err(fault) => return report.check(&row.name, "open", Some(fault), None),
