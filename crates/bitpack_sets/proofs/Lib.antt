@@ -1,5 +1,6 @@
 -- The lemmas of this crate.
 mod ArrayLaws
+mod BitmapLaws
 mod BlockReads
 mod BlocksLaws
 mod BodyFaults
