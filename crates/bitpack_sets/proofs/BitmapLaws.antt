@@ -11,11 +11,14 @@ use Rattle.std.proofs.lemmas.Nat.{and_mask, one_shl}
 use Rattle.bitpack_sets.proofs.CountLaws.{ones_counted, ones_length}
 use Rattle.bitpack_sets.proofs.DecodeLaws.{bytes_dropped}
 use Rattle.bitpack_sets.proofs.ReadLaws.{bit_of_bytes, eqb_same, has_all, has_append, has_bit as bits_bit}
+use Rattle.bitpack_sets.proofs.SliceLaws.{rising_room}
 use Rattle.bitpack_sets.proofs.TestLaws.{bytes_taken}
 use Rattle.bitpack_sets.proofs.Words.{EachByte}
+use Rattle.bitpack_sets.proofs.WriteLaws.{rising_take}
 use Rattle.bitpack_sets.specs.Bitmaps.{has_bit}
 use Rattle.bitpack_sets.specs.Operations.{holds, those}
 use Rattle.bitpack_sets.specs.Reads.{has}
+use Rattle.bitpack_sets.specs.Sets.{IsRising}
 use Rattle.bitpack_sets.specs.Slices.{number_of, ones_from}
 use Rattle.bitpack_sets.specs.declared.operation.Operation.{Operation}
 use Rattle.bitpack_sets.specs.declared.operation.Operation.TheVariants.{And, Or, AndNot, Xor}
@@ -217,12 +220,16 @@ those_counted words q r h =
     ∙ ap (λ (n : ℕ). length (those (64 * q) (has_bit words)) + n) (length-map (ones_from (get_or words q 0) 0 r) (λ i. 64 * q + i))
 
 -- one word more is counted
+pub ones_counted_more : (words : List ℕ) (q : ℕ)
+    → length (those (64 * (q + 1)) (has_bit words)) ≡ length (those (64 * q) (has_bit words)) + length (ones_from (get_or words q 0) 0 64)
+ones_counted_more words q =
+    let e : 64 * (q + 1) ≡ 64 * q + 64 = omega arith in
+    ap (λ (n : ℕ). length (those n (has_bit words))) e ∙ those_counted words q 64 (lit≤ tt)
+
 pub word_counted : (words : List ℕ) (q : ℕ) → get_or words q 0 < 2 ^ 64
     → length (those (64 * (q + 1)) (has_bit words)) ≡ length (those (64 * q) (has_bit words)) + count_ones (get_or words q 0)
 word_counted words q small =
-    let e : 64 * (q + 1) ≡ 64 * q + 64 = omega arith in
-    ap (λ (n : ℕ). length (those n (has_bit words))) e ∙ those_counted words q 64 (lit≤ tt)
-    ∙ ap (λ (n : ℕ). length (those (64 * q) (has_bit words)) + n) (ones_counted (get_or words q 0) 64 small)
+    ones_counted_more words q ∙ ap (λ (n : ℕ). length (those (64 * q) (has_bit words)) + n) (ones_counted (get_or words q 0) 64 small)
 
 -- and the lower bits of a word
 pub bits_counted_below : (words : List ℕ) (i : ℕ)
@@ -335,3 +342,76 @@ pub has_more : (x : ℕ) (xs : List ℕ) (i : ℕ) → i < length xs → (eqb x 
 has_more x xs i h =
     or_turned (eqb x (get_or xs i 0)) (eqb (get_or xs i 0) x) (has x (take i xs)) (eqb_turned x (get_or xs i 0))
     ∙ sym (has_append x (take i xs) (get_or xs i 0 ∷ [])) ∙ ap (has x) (sym (take_more xs i 0 h))
+
+-- ---- the bits of some high bytes
+
+-- the words of a high byte
+pub has_part : (words : List ℕ) (high i : ℕ) → i < 256 → has_bit (take 4 (drop (4 * high) words)) i ≡ has_bit words (256 * high + i)
+unfolding has_bit
+has_part words high i small =
+    let word : 4 * high + i / 64 ≡ (256 * high + i) / 64 = omega arith in
+    let bit : i % 64 ≡ (256 * high + i) % 64 = omega arith in
+    ap (λ (w : ℕ). eqb (bit_at w (i % 64)) 1)
+    (get_or-take 4 (drop (4 * high) words) (i / 64) 0 (omega arith) ∙ get_or-drop (4 * high) words (i / 64) 0 ∙ ap (λ (k : ℕ). get_or words k 0) word)
+    ∙ ap (λ (k : ℕ). eqb (bit_at (get_or words ((256 * high + i) / 64) 0) k) 1) bit
+
+-- numbers below others are apart from them
+pub has_above : (x low high : ℕ) (xs : List ℕ) → IsRising low high xs → high ≤ x → has x xs ≡ false
+has_above x low high [] r h = refl
+has_above x low high (y ∷ xs) (a, r) h =
+    let room = rising_room (y + 1) high xs r in
+    ap (λ (b : Bool). b || has x xs) (ne_eqb y x (λ e. omega arith)) ∙ has_above x (y + 1) high xs r h
+
+pub next_apart : (low high i : ℕ) (xs : List ℕ) → IsRising low high xs → i < length xs → has (get_or xs i 0) (take i xs) ≡ false
+next_apart low high i xs r h = has_above (get_or xs i 0) low (get_or xs i 0) (take i xs) (rising_take low high xs i r h) (omega arith)
+
+-- the bits of these high bytes are combined, and the others are as they were
+pub record IsMixed (operation : Operation) (highs old words others : List ℕ) : Type 0 where
+  pub done : (x : ℕ) → has (x / 256) highs ≡ true → has_bit words x ≡ holds operation (has_bit old x) (has_bit others x)
+  pub rest : (x : ℕ) → has (x / 256) highs ≡ false → has_bit words x ≡ has_bit old x
+
+pub none_mixed : (operation : Operation) (old others : List ℕ) → IsMixed operation [] old old others
+none_mixed operation old others = record { done = λ x h. absurd (true≢false (sym h)); rest = λ x h. refl }
+
+pub more_mixed : (operation : Operation) (highs old words new others : List ℕ) (i : ℕ) → IsRising 0 256 highs → i < length highs
+    → ((x : ℕ) → x / 256 ≡ get_or highs i 0 → has_bit new x ≡ holds operation (has_bit words x) (has_bit others x))
+    → ((x : ℕ) → x / 256 ≢ get_or highs i 0 → has_bit new x ≡ has_bit words x)
+    → IsMixed operation (take i highs) old words others → IsMixed operation (take (i + 1) highs) old new others
+more_mixed operation highs old words new others i rising h own kept before = record {
+  done = λ x is. elim (cases_eq (x / 256) (get_or highs i 0)) [
+    | inl same ↦
+        own x same ∙ ap (λ (b : Bool). holds operation b (has_bit others x)) (before.rest x (ap (λ (y : ℕ). has y (take i highs)) same ∙ next_apart 0 256 i highs rising h))
+    | inr other ↦
+        kept x other
+        ∙ before.done x (sym (ap (λ (b : Bool). b || has (x / 256) (take i highs)) (ne_eqb (x / 256) (get_or highs i 0) other)) ∙ has_more (x / 256) highs i h ∙ is)
+  ];
+  rest = λ x is.
+      let (other, none) = or_parts (eqb (x / 256) (get_or highs i 0)) (has (x / 256) (take i highs)) (has_more (x / 256) highs i h ∙ is) in
+      kept x (λ e. true≢false (sym (eq-eqb (x / 256) (get_or highs i 0) e) ∙ other)) ∙ before.rest x none;
+}
+
+-- the bits of the words from one place to another are combined
+pub record IsWordsMixed (operation : Operation) (from to : ℕ) (old words others : List ℕ) : Type 0 where
+  pub done : (x : ℕ) → from ≤ x / 64 → x / 64 < to → has_bit words x ≡ holds operation (has_bit old x) (has_bit others x)
+  pub below : (x : ℕ) → x / 64 < from → has_bit words x ≡ has_bit old x
+  pub above : (x : ℕ) → to ≤ x / 64 → has_bit words x ≡ has_bit old x
+
+pub no_words : (operation : Operation) (from : ℕ) (old others : List ℕ) → IsWordsMixed operation from from old old others
+no_words operation from old others = record { done = λ x a b. absurd (omega arith); below = λ x a. refl; above = λ x a. refl }
+
+word_mixed : (operation : Operation) (words others : List ℕ) (i v x : ℕ) → i < length words → IsCombined operation words others i v → x / 64 ≡ i
+    → has_bit (set words i v) x ≡ holds operation (has_bit words x) (has_bit others x)
+word_mixed operation words others i v x h is e =
+    has_written words i v x h e ∙ is (x % 64) ∙ ap (λ (b : Bool). holds operation b (eqb (bit_at (get_or others i 0) (x % 64)) 1)) (sym (has_of words i x e))
+    ∙ ap (λ (b : Bool). holds operation (has_bit words x) b) (sym (has_of others i x e))
+
+pub more_words : (operation : Operation) (from i v : ℕ) (old words others : List ℕ) → from ≤ i → i < length words → IsCombined operation words others i v
+    → IsWordsMixed operation from i old words others → IsWordsMixed operation from (i + 1) old (set words i v) others
+more_words operation from i v old words others later h is before = record {
+  done = λ x a b. elim (cases_eq (x / 64) i) [
+    | inl same ↦ word_mixed operation words others i v x h is same ∙ ap (λ (b : Bool). holds operation b (has_bit others x)) (before.above x (omega arith))
+    | inr other ↦ has_kept words i v x other ∙ before.done x a (omega arith)
+  ];
+  below = λ x a. has_kept words i v x (λ e. omega arith) ∙ before.below x a;
+  above = λ x a. has_kept words i v x (λ e. omega arith) ∙ before.above x (omega arith);
+}

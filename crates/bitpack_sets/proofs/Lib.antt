@@ -44,6 +44,7 @@ mod SliceLaws
 mod TestLaws
 mod TextLaws
 mod ToldLaws
+mod UnpackLaws
 mod Words
 mod WorkedProofs
 mod WriteLaws
