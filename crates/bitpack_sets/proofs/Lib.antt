@@ -1,5 +1,6 @@
 -- The lemmas of this crate.
 mod ArrayLaws
+mod BitmapLaws
 mod BlockReads
 mod BlocksLaws
 mod BodyFaults
@@ -9,6 +10,7 @@ mod ByteLaws
 mod ChunkLaws
 mod ChunkReads
 mod ChunkTexts
+mod CombineLaws
 mod CountLaws
 mod CutLaws
 mod DecodeLaws
@@ -43,6 +45,7 @@ mod SliceLaws
 mod TestLaws
 mod TextLaws
 mod ToldLaws
+mod UnpackLaws
 mod Words
 mod WorkedProofs
 mod WriteLaws
