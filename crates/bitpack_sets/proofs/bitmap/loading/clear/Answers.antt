@@ -1,9 +1,8 @@
 -- The bits of one high byte more are clear.
-use Rattle.std.proofs.Common.{◌≡◌, ◌*◌, ◌+◌, ◌-◌, ◌∙◌, ap, arith, drop, false, get_or, length, length-drop, replicate, sym, take, ℕ}
-use Rattle.std.proofs.lemmas.List.{length-take-le}
+use Rattle.std.proofs.Common.{◌≡◌, ◌*◌, ◌+◌, ◌-◌, ◌∙◌, ap, arith, false, get_or, length, replicate, sym, ℕ}
 use Rattle.bitpack_sets.proofs.DecodeLaws.{rising_top}
 use Rattle.bitpack_sets.proofs.FillLaws.{length-written}
-use Rattle.bitpack_sets.proofs.LoadLaws.{bit_clear, high_written}
+use Rattle.bitpack_sets.proofs.LoadLaws.{bit_clear, four_words, high_written}
 use Rattle.bitpack_sets.proofs.bitmap.loading.clear.Goals as goal
 
 pub slice_bounds-fill-end : goal.slice_bounds-fill-end
@@ -15,9 +14,7 @@ loop-high-preserved c =
     let size = c.loop-high.invariant.size in
     let from : ℕ = 4 * get_or c.args.highs.now c.loop-high.high-index 0 in
     let long : from + 4 - from ≡ 4 = omega arith in
-    let part : length (take (from + 4 - from) (drop from c.loop-high.words)) ≡ from + 4 - from =
-    length-take-le (from + 4 - from) (drop from c.loop-high.words) (omega (arith, length-drop from c.loop-high.words)) in
-    let zeros : c.fill.new.self ≡ replicate 4 0 = c.fill.ensures.after (λ y e. e) ∙ ap (λ (n : ℕ). replicate n 0) (part ∙ long) in
+    let zeros : c.fill.new.self ≡ replicate 4 0 = c.fill.ensures.after (λ y e. e) ∙ ap (λ (n : ℕ). replicate n 0) (four_words from c.loop-high.words (omega arith)) in
     let four : length c.fill.new.self ≡ 4 = ap length zeros in
     record {
       size = length-written from (from + 4 - from) c.loop-high.words c.fill.new.self (omega arith) (four ∙ sym long) (omega arith) ∙ size;

@@ -1,5 +1,5 @@
 -- One slice more is passed.
-use Rattle.std.proofs.Common.{◌≡◌, ◌+◌, ◌∙◌, arith, get_or, inl, inr, length-set, sym}
+use Rattle.std.proofs.Common.{◌+◌, ◌∙◌, arith, get_or, length-set, sym}
 use Rattle.bitpack_sets.proofs.CutLaws.{len_few, lens_more, lens_none}
 use Rattle.bitpack_sets.proofs.LoadLaws.{one_known}
 use Rattle.bitpack_sets.proofs.bitmap.loading.fill_starts.Goals as goal
