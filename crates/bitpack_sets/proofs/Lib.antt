@@ -33,6 +33,7 @@ mod NumberReads
 mod OnesLaws
 mod PartLaws
 mod PartsFilled
+mod PlaceLaws
 mod RaisedLaws
 mod ReadLaws
 mod RefusalLaws
@@ -43,6 +44,7 @@ mod SliceLaws
 mod TestLaws
 mod TextLaws
 mod ToldLaws
+mod WalkLaws
 mod Words
 mod WorkedProofs
 mod WriteLaws
