@@ -54,8 +54,8 @@ module _ (ids chunks : ℕ) (rest : List ℕ) (are : EachByte rest) (is : IsRest
   end : (p : ℕ) → chunks ≤ p → chunks_from chunks rest p ≡ []
   end p h = let e : chunks - p ≡ 0 = omega arith in ap (λ (k : ℕ). map (chunk_at chunks rest) (range_with_len p k)) e
 
-  under : (p x : ℕ) → p ≤ chunks → x / 65536 < first_key (ids_of_chunks (chunks_from chunks rest p)) → has x (ids_of_chunks (chunks_from chunks rest p)) ≡ false
-  under p x h less = elim (cases_lt p chunks) [
+  under : (p x : ℕ) → x / 65536 < first_key (ids_of_chunks (chunks_from chunks rest p)) → has x (ids_of_chunks (chunks_from chunks rest p)) ≡ false
+  under p x less = elim (cases_lt p chunks) [
     | inl lt ↦ part_under (key_at rest p) x (chunks_from chunks rest p) (subst (AreParts 65536 (key_at rest p) 65536) (sym (more p lt)) (there p lt)) less
     | inr past ↦ ap (λ (ps : List (ℕ × List ℕ)). has x (join 65536 ps)) (end p past)
   ]

@@ -17,7 +17,7 @@ pub record IsWalk (n : ℕ) (ids : ℕ → List ℕ) : Type 0 where
   pub end : (p : ℕ) → n ≤ p → first_key (ids p) ≡ 65536
   pub up : (p : ℕ) → p < n → first_key (ids p) ≤ first_key (ids (p + 1))
   pub pass : (p x : ℕ) → p < n → first_key (ids p) < x / 65536 → has x (ids p) ≡ has x (ids (p + 1))
-  pub under : (p x : ℕ) → p ≤ n → x / 65536 < first_key (ids p) → has x (ids p) ≡ false
+  pub under : (p x : ℕ) → x / 65536 < first_key (ids p) → has x (ids p) ≡ false
 
 -- ---- a list of ids
 
@@ -43,7 +43,7 @@ array_walk n xs e r = record {
   end = λ p h. ap first_key (drop_all p xs (omega arith));
   up = λ p h. up p (omega arith);
   pass = λ p x h less. pass p x (omega arith) less;
-  under = λ p x h less. key_under 0 x (drop p xs) (rising_from 0 (2 ^ 32) p xs r) less;
+  under = λ p x less. key_under 0 x (drop p xs) (rising_from 0 (2 ^ 32) p xs r) less;
 }
   where
     more : (p : ℕ) → p < length xs → drop p xs ≡ get_or xs p 0 ∷ drop (p + 1) xs

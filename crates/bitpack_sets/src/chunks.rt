@@ -32,7 +32,7 @@ pub(crate) struct Chunks<'a> {
 }
 
 impl<'a> Chunks<'a> {
-    ghost use Rattle.std.specs.Prelude.{ℕ, ◌+◌, ◌*◌, ◌/◌, ◌%◌, ◌<◌, ◌==◌, length};
+    ghost use Rattle.std.specs.Prelude.{ℕ, ◌+◌, ◌*◌, ◌/◌, ◌%◌, ◌<◌, ◌==◌, false, length};
     ghost use Rattle.bitpack_sets.specs.Bitmaps.{Holds, has_bit, has_high};
     ghost use Rattle.bitpack_sets.specs.Chunks.{first_key, ids_from, lows_between, places};
     ghost use Rattle.bitpack_sets.specs.Directory.{chunk_ids, count_at};
@@ -72,7 +72,9 @@ impl<'a> Chunks<'a> {
 
     /// The key of the first id from a position on, `NO_KEY` if there is none.
     pub(crate) fn key(&self, place: usize) -> u32
-        ensures { result ≡ first_key (ids_from self.now place) }
+        ensures first { result ≡ first_key (ids_from self.now place) }
+        ensures most { result ≤ NO_KEY }
+        ensures none { (x : ℕ) → x / 65536 < result → has x (ids_from self.now place) ≡ false }
     {
         if place >= self.len() {
             NO_KEY
@@ -115,7 +117,9 @@ impl<'a> Chunks<'a> {
         requires least { key ≤ first_key (ids_from self.now place) }
         ensures within { result ≤ places self.now }
         ensures later { place ≤ result }
+        ensures one { self.now.count ≢ 0 → result ≤ place + 1 }
         ensures passed { key < first_key (ids_from self.now result) }
+        ensures none { (x : ℕ) → x / 65536 ≤ key → has x (ids_from self.now result) ≡ false }
         ensures own { (x : ℕ) → x / 65536 ≡ key → has x (ids_from self.now place) ≡ has (x % 65536) (lows_between self.now place result) }
         ensures others { (x : ℕ) → key < x / 65536 → has x (ids_from self.now place) ≡ has x (ids_from self.now result) }
     {

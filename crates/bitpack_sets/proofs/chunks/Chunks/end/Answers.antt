@@ -14,7 +14,7 @@ use Rattle.bitpack_sets.specs.declared.chunks.Chunks.{Chunks}
 pub returns-then-key-clause-own : goal.returns-then-key-clause-own
 returns-then-key-clause-own c x e =
     let set = c.args.self.now in
-    (walk set).under c.args.place x c.requires.within (omega (arith, c.key.ensures, c.if-key.true, c.requires.least, e))
+    (walk set).under c.args.place x (omega (arith, c.key.ensures.first, c.if-key.true, c.requires.least, e))
     ∙ sym (ap (has (x % 65536)) (between_none set c.args.place))
 
 pub returns-then-self-eq0-clause-own : goal.returns-then-self-eq0-clause-own
@@ -51,7 +51,7 @@ pub returns-else-self-eq0-clause-within : goal.returns-else-self-eq0-clause-with
 returns-else-self-eq0-clause-within c =
     let set = c.args.self.now in
     let some = c.if-self-eq0.false in
-    let lt = chunk_there set c.args.place c.args.key some c.requires.within (sym c.if-key.false ∙ c.key.ensures) c.requires.key in
+    let lt = chunk_there set c.args.place c.args.key some c.requires.within (sym c.if-key.false ∙ c.key.ensures.first) c.requires.key in
     let all = places_chunks set some in
     omega arith
 
@@ -59,15 +59,15 @@ pub returns-else-self-eq0-clause-passed : goal.returns-else-self-eq0-clause-pass
 returns-else-self-eq0-clause-passed c =
     let set = c.args.self.now in
     let some = c.if-self-eq0.false in
-    let lt = chunk_there set c.args.place c.args.key some c.requires.within (sym c.if-key.false ∙ c.key.ensures) c.requires.key in
-    (chunk_facts set c.args.place c.args.key some lt (sym c.if-key.false ∙ c.key.ensures)).1
+    let lt = chunk_there set c.args.place c.args.key some c.requires.within (sym c.if-key.false ∙ c.key.ensures.first) c.requires.key in
+    (chunk_facts set c.args.place c.args.key some lt (sym c.if-key.false ∙ c.key.ensures.first)).1
 
 pub returns-else-self-eq0-clause-own : goal.returns-else-self-eq0-clause-own
 returns-else-self-eq0-clause-own c x e =
     let set = c.args.self.now in
     let some = c.if-self-eq0.false in
-    let lt = chunk_there set c.args.place c.args.key some c.requires.within (sym c.if-key.false ∙ c.key.ensures) c.requires.key in
-    let here = (chunk_facts set c.args.place c.args.key some lt (sym c.if-key.false ∙ c.key.ensures)).0 in
+    let lt = chunk_there set c.args.place c.args.key some c.requires.within (sym c.if-key.false ∙ c.key.ensures.first) c.requires.key in
+    let here = (chunk_facts set c.args.place c.args.key some lt (sym c.if-key.false ∙ c.key.ensures.first)).0 in
     ap (has x) (from_chunks set c.args.place some)
     ∙ chunk_own set.ids set.count set.rest.now (bytes_are set.rest.now set.are_bytes) (set.sound some) c.args.place x lt (e ∙ here)
     ∙ sym (ap (has (x % 65536)) (between_chunk set c.args.place (c.args.place + 1) some (λ s. absurd (omega arith))))
@@ -76,5 +76,11 @@ pub returns-else-self-eq0-clause-others : goal.returns-else-self-eq0-clause-othe
 returns-else-self-eq0-clause-others c x more =
     let set = c.args.self.now in
     let some = c.if-self-eq0.false in
-    let lt = chunk_there set c.args.place c.args.key some c.requires.within (sym c.if-key.false ∙ c.key.ensures) c.requires.key in
-    (walk set).pass c.args.place x (let all = places_chunks set some in omega arith) (omega (arith, c.key.ensures, c.if-key.false))
+    let lt = chunk_there set c.args.place c.args.key some c.requires.within (sym c.if-key.false ∙ c.key.ensures.first) c.requires.key in
+    (walk set).pass c.args.place x (let all = places_chunks set some in omega arith) (omega (arith, c.key.ensures.first, c.if-key.false))
+
+pub returns-then-self-eq0-clause-none : goal.returns-then-self-eq0-clause-none
+returns-then-self-eq0-clause-none c x most = (walk c.args.self.now).under c.seek.result x (omega (arith, c.seek.ensures.reached))
+
+pub returns-else-self-eq0-clause-none : goal.returns-else-self-eq0-clause-none
+returns-else-self-eq0-clause-none c x most = let passed = returns-else-self-eq0-clause-passed c in (walk c.args.self.now).under (c.args.place + 1) x (omega arith)

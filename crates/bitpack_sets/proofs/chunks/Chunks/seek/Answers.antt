@@ -14,4 +14,4 @@ pub loop-left-preserved-then-key : goal.loop-left-preserved-then-key
 loop-left-preserved-then-key c =
     let set = c.args.self.now in
     sought_right (places set) (ids_from set) (walk set) c.args.place c.args.key c.loop-left.low c.loop-left.left (c.loop-left.left / 2) c.loop-left.invariant
-    (let some = c.loop-left-test.true in omega arith) (omega (arith, c.key.ensures, c.if-key.true))
+    (let some = c.loop-left-test.true in omega arith) (omega (arith, c.key.ensures.first, c.if-key.true))
