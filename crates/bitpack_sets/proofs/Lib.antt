@@ -36,6 +36,7 @@ mod NumberReads
 mod OnesLaws
 mod PartLaws
 mod PartsFilled
+mod PlaceLaws
 mod RaisedLaws
 mod ReadLaws
 mod RefusalLaws
@@ -46,7 +47,11 @@ mod SliceLaws
 mod TestLaws
 mod TextLaws
 mod ToldLaws
+<<<<<<< HEAD
 mod UnpackLaws
+=======
+mod WalkLaws
+>>>>>>> eefae0da21e5f217f9c7692b3afdda8b1badda1e
 mod Words
 mod WorkedProofs
 mod WriteLaws

@@ -1,20 +1,22 @@
 //! The chunks of a set of any form: a chunk is the ids that share their high 16 bits, its key.
 
-ghost use Rattle.std.specs.Prelude.{◌≡◌, ◌^◌, ◌≤◌, ◌→◌};
+ghost use Rattle.std.specs.Prelude.{◌≡◌, ◌≢◌, ◌^◌, ◌≤◌};
+ghost use Rattle.std.proofs.Props.{props};
+ghost use Rattle.bitpacking.specs.Bits.{AreBytes};
+ghost use Rattle.bitpack_sets.specs.Props.{rising_prop};
 ghost use Rattle.bitpack_sets.specs.Sets.{IsRising};
 ghost use Rattle.bitpack_sets.specs.Slices.{quads_of};
 ghost use Rattle.bitpack_sets.specs.Sound.{IsRest};
 
-use crate::array::{id_at, rank_in_array};
+use crate::array::id_at;
 use crate::bitmap::loading::{block_highs, clear, integer_highs, load_blocks, load_integers};
-use crate::chunk::search::{number_at, rank_in_numbers};
 use crate::directory::{count_before, key_at, sum_at};
 use crate::searching::body_of;
 
 /// The key after all keys.
 pub(crate) const NO_KEY: u32 = 65536;
 
-/// The chunks of a set. A place is the index of a chunk, or in an array the position of an id.
+/// The chunks of a set. A position is the index of a chunk, or the index of an id in an array.
 #[derive(Clone, Copy)]
 pub(crate) struct Chunks<'a> {
     // How many chunks a set in chunks has, 0 of an array.
@@ -24,14 +26,16 @@ pub(crate) struct Chunks<'a> {
     // How many ids a set in chunks has.
     ids: usize,
     ghost few: { count ≤ 65536 },
-    ghost sound: { count ≢ 0 → IsRest ids count rest.now },
-    ghost rising: { count ≡ 0 → IsRising 0 (2 ^ 32) (quads_of rest.now) },
+    ghost are_bytes: { AreBytes rest.now },
+    ghost sound: { count ≢ 0 → IsRest ids count rest.now } by { Prim.hlevel (props, rising_prop) },
+    ghost rising: { count ≡ 0 → IsRising 0 (2 ^ 32) (quads_of rest.now) } by { Prim.hlevel (props, rising_prop) },
 }
 
 impl<'a> Chunks<'a> {
-    ghost use Rattle.std.specs.Prelude.{ℕ, ◌+◌, ◌*◌, ◌/◌, ◌%◌, ◌<◌, ◌==◌, false, if◌then◌else◌, length};
+    ghost use Rattle.std.specs.Prelude.{ℕ, ◌+◌, ◌*◌, ◌/◌, ◌%◌, ◌<◌, ◌==◌, false, length};
     ghost use Rattle.bitpack_sets.specs.Bitmaps.{Holds, has_bit, has_high};
     ghost use Rattle.bitpack_sets.specs.Chunks.{first_key, ids_from, lows_between, places};
+    ghost use Rattle.bitpack_sets.specs.Directory.{chunk_ids, count_at};
     ghost use Rattle.bitpack_sets.specs.Reads.{has};
 
     /// The chunks of a set of `ids` ids in chunks.
@@ -55,7 +59,7 @@ impl<'a> Chunks<'a> {
         }
     }
 
-    /// The place after the last.
+    /// The position after the last.
     fn len(&self) -> usize
         ensures { result ≡ places self.now }
     {
@@ -66,9 +70,11 @@ impl<'a> Chunks<'a> {
         }
     }
 
-    /// The key of the first id from a place on, `NO_KEY` if there is none.
+    /// The key of the first id from a position on, `NO_KEY` if there is none.
     pub(crate) fn key(&self, place: usize) -> u32
-        ensures { result ≡ first_key (ids_from self.now place) }
+        ensures first { result ≡ first_key (ids_from self.now place) }
+        ensures most { result ≤ NO_KEY }
+        ensures none { (x : ℕ) → x / 65536 < result → has x (ids_from self.now place) ≡ false }
     {
         if place >= self.len() {
             NO_KEY
@@ -79,12 +85,13 @@ impl<'a> Chunks<'a> {
         }
     }
 
-    /// The first place from one on whose id has this key or a higher one.
+    /// The first position from one on whose id has this key or a higher one, by halves.
     pub(crate) fn seek(&self, place: usize, key: u32) -> usize
         requires within { place ≤ places self.now }
         requires key { key ≤ NO_KEY }
         ensures within { result ≤ places self.now }
         ensures later { place ≤ result }
+        ensures lower { (p : ℕ) → place ≤ p → p < result → first_key (ids_from self.now p) < key }
         ensures reached { key ≤ first_key (ids_from self.now result) }
         // It passes over ids of lower keys alone.
         ensures ids { (x : ℕ) → key * 65536 ≤ x → has x (ids_from self.now place) ≡ has x (ids_from self.now result) }
@@ -103,14 +110,16 @@ impl<'a> Chunks<'a> {
         low
     }
 
-    /// Where the ids of a key end that begin at a place: at that place, if it has another key.
+    /// Where the ids of a key end that begin at a position: at that position, if it has another key.
     pub(crate) fn end(&self, place: usize, key: u32) -> usize
         requires within { place ≤ places self.now }
         requires key { key < NO_KEY }
         requires least { key ≤ first_key (ids_from self.now place) }
         ensures within { result ≤ places self.now }
         ensures later { place ≤ result }
+        ensures one { self.now.count ≢ 0 → result ≤ place + 1 }
         ensures passed { key < first_key (ids_from self.now result) }
+        ensures none { (x : ℕ) → x / 65536 ≤ key → has x (ids_from self.now result) ≡ false }
         ensures own { (x : ℕ) → x / 65536 ≡ key → has x (ids_from self.now place) ≡ has (x % 65536) (lows_between self.now place result) }
         ensures others { (x : ℕ) → key < x / 65536 → has x (ids_from self.now place) ≡ has x (ids_from self.now result) }
     {
@@ -123,10 +132,10 @@ impl<'a> Chunks<'a> {
         }
     }
 
-    /// The high bytes of the low 16 bits of the ids between two places, which share a key.
+    /// The high bytes of the low 16 bits of the ids between two positions, which share a key.
     pub(crate) fn highs(&self, place: usize, end: usize) -> [u64; 4]
         requires within { (place ≤ end) × (end ≤ places self.now) }
-        requires one { self.count ≢ 0 → end ≤ place + 1 }
+        requires one { self.now.count ≢ 0 → end ≤ place + 1 }
         ensures { (h : ℕ) → h < 256 → has_bit result h ≡ has_high h (lows_between self.now place end) }
     {
         if place == end {
@@ -142,10 +151,10 @@ impl<'a> Chunks<'a> {
         block_highs(body)
     }
 
-    /// Loads the low 16 bits of the ids between two places, which share a key, if they have these high bytes.
+    /// Loads the low 16 bits of the ids between two positions, which share a key, if they have these high bytes.
     pub(crate) fn load(&self, place: usize, end: usize, highs: &[u32], words: &mut [u64; 1024])
         requires within { (place ≤ end) × (end ≤ places self.now) }
-        requires one { self.count ≢ 0 → end ≤ place + 1 }
+        requires one { self.now.count ≢ 0 → end ≤ place + 1 }
         requires highs { IsRising 0 256 highs.now }
         ensures { Holds highs.now words.new (lows_between self.now place end) }
     {
@@ -160,8 +169,8 @@ impl<'a> Chunks<'a> {
 
     // Loads the body of a chunk.
     fn load_body(&self, chunk: usize, highs: &[u32], words: &mut [u64; 1024])
-        requires chunks { self.count ≢ 0 }
-        requires within { chunk < self.count }
+        requires chunks { self.now.count ≢ 0 }
+        requires within { chunk < self.now.count }
         requires highs { IsRising 0 256 highs.now }
         ensures { Holds highs.now words.new (lows_between self.now chunk (chunk + 1)) }
     {
@@ -174,7 +183,11 @@ impl<'a> Chunks<'a> {
     }
 
     // Whether the body of a chunk is numbers.
-    fn is_numbers(&self, chunk: usize, body: &[u8]) -> bool {
+    fn is_numbers(&self, chunk: usize, body: &[u8]) -> bool
+        requires chunks { self.now.count ≢ 0 }
+        requires within { chunk < self.now.count }
+        ensures { result ≡ (length body.now == 2 * count_at self.now.count self.now.rest.now chunk) }
+    {
         let own = sum_at(self.count, self.rest, chunk) - count_before(self.count, self.rest, chunk);
         body.len() == 2 * own as usize
     }
