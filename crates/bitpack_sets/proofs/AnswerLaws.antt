@@ -1,10 +1,11 @@
 -- The numbers below a bound that pass a test, and the answer chunk by chunk.
-use Rattle.std.proofs.Common.{◌≡◌, ℕ, zero, suc, ◌+◌, ◌-◌, ◌*◌, ◌/◌, ◌%◌, ◌^◌, ◌<◌, ◌≤◌, Bool, true, false, ◌&&◌, ◌||◌, cond, eqb, List, [], ◌∷◌, ◌++◌, map, refl, sym, ap, ◌∙◌, arith, subst, lit<, lit≤, inl, inr, add-one}
+use Rattle.std.proofs.Common.{◌≢◌, eq-eqb, ◌≡◌, ℕ, zero, suc, ◌+◌, ◌-◌, ◌*◌, ◌/◌, ◌%◌, ◌^◌, ◌<◌, ◌≤◌, Bool, true, false, ◌&&◌, ◌||◌, cond, eqb, List, [], ◌∷◌, ◌++◌, map, refl, sym, ap, ◌∙◌, arith, subst, lit<, lit≤, inl, inr, add-one}
 use Rattle.std.specs.List.{filter, list_any, range_with_len}
-use Rattle.std.proofs.lemmas.Bool.{cases_lt}
+use Rattle.std.proofs.lemmas.Bool.{cases_lt, ne_eqb, true≢false}
 use Rattle.std.proofs.lemmas.List.Elements.{filter-append}
 use Rattle.bitpack_sets.proofs.OnesLaws.{rising_lower}
-use Rattle.bitpack_sets.proofs.ReadLaws.{lowest}
+use Rattle.bitpack_sets.proofs.ReadLaws.{has_below, lowest}
+use Rattle.bitpack_sets.specs.Bitmaps.{has_high}
 use Rattle.bitpack_sets.specs.Operations.{holds, those}
 use Rattle.bitpack_sets.specs.Pairs.{left, places_left}
 use Rattle.bitpack_sets.specs.Reads.{has}
@@ -103,3 +104,116 @@ pass_right operation p q r x key none below same = elim (cases_lt x (key * 65536
       ap (λ (b : Bool). holds operation b p) e ∙ none_right operation p none ∙ sym (none_right operation q none) ∙ ap (λ (b : Bool). holds operation b q) (sym e))
   | inr more ↦ ap (holds operation r) (same more)
 ]
+
+-- ---- the numbers below a bound that pass a test
+
+has_first : (b : Bool) (x low : ℕ) (xs : List ℕ) → low ≡ x → has x xs ≡ false → has x (cond b (low ∷ xs) xs) ≡ b
+has_first true x low xs e h = ap (λ (b : Bool). b || has x xs) (eq-eqb low x e)
+has_first false x low xs e h = h
+
+has_later : (b : Bool) (x low : ℕ) (xs : List ℕ) → low ≢ x → has x (cond b (low ∷ xs) xs) ≡ has x xs
+has_later true x low xs ne = ap (λ (b : Bool). b || has x xs) (ne_eqb low x ne)
+has_later false x low xs ne = refl
+
+has_filter : (p : ℕ → Bool) (x low n : ℕ) → low ≤ x → x < low + n → has x (filter p (range_with_len low n)) ≡ p x
+has_filter p x low zero a b = absurd (omega arith)
+has_filter p x low (suc n) a b = elim (cases_lt low x) [
+  | inl less ↦ has_later (p low) x low (filter p (range_with_len (low + 1) n)) (λ e. omega arith) ∙ has_filter p x (low + 1) n (omega arith) (omega arith)
+  | inr more ↦ (let e : low ≡ x = omega arith in
+      has_first (p low) x low (filter p (range_with_len (low + 1) n)) e
+      (has_below x (low + 1) (low + 1 + n) (filter p (range_with_len (low + 1) n)) (filter_rises p (low + 1) n (low + 1 + n) (lowest (low + 1 + n))) (omega arith))
+      ∙ ap p e)
+]
+
+pub has_those : (n : ℕ) (p : ℕ → Bool) (x : ℕ) → x < n → has x (those n p) ≡ p x
+unfolding those
+has_those n p x h = has_filter p x 0 n (omega arith) (omega arith)
+
+pub those_rise : (n : ℕ) (p : ℕ → Bool) → IsRising 0 n (those n p)
+unfolding those
+those_rise n p = filter_rises p 0 n n (omega arith)
+
+pub those_same : (n : ℕ) (p q : ℕ → Bool) → ((x : ℕ) → x < n → p x ≡ q x) → those n p ≡ those n q
+unfolding those
+those_same n p q same = filter_same p q 0 n (λ x a b. same x (omega arith))
+
+pub those_none : (n : ℕ) (p : ℕ → Bool) → ((x : ℕ) → x < n → p x ≡ false) → those n p ≡ []
+unfolding those
+those_none n p none = filter_none p 0 n (λ x a b. none x (omega arith))
+
+-- cut into what is before a part, the part, and what is after it
+cut : (p : ℕ → Bool) (low size more : ℕ) → filter p (range_with_len 0 (low + (size + more)))
+    ≡ filter p (range_with_len 0 low) ++ (filter p (range_with_len low size) ++ filter p (range_with_len (low + size) more))
+cut p low size more =
+    ap (filter p) (range_more 0 low (size + more)) ∙ filter-append p (range_with_len 0 low) (range_with_len (0 + low) (size + more))
+    ∙ ap (λ (xs : List ℕ). filter p (range_with_len 0 low) ++ xs)
+    (let e : 0 + low ≡ low = omega arith in ap (λ (l : ℕ). filter p (range_with_len l (size + more))) e
+    ∙ ap (filter p) (range_more low size more) ∙ filter-append p (range_with_len low size) (range_with_len (low + size) more))
+
+-- a part of the numbers comes before all that is left
+pub those_part : (n low size : ℕ) (p q r : ℕ → Bool) → low + size ≤ n → ((x : ℕ) → x < low → p x ≡ false) → ((x : ℕ) → x < size → p (low + x) ≡ q x)
+    → ((x : ℕ) → x < low + size → r x ≡ false) → ((x : ℕ) → low + size ≤ x → x < n → p x ≡ r x)
+    → those n p ≡ map (λ i. low + i) (those size q) ++ those n r
+unfolding those
+those_part n low size p q r room before own passed after =
+    let more : ℕ = n - (low + size) in
+    let all : n ≡ low + (size + more) = omega arith in
+    let zero_low : low + 0 ≡ low = omega arith in
+    ap (λ (m : ℕ). filter p (range_with_len 0 m)) all ∙ cut p low size more
+    ∙ ap (λ (xs : List ℕ). xs ++ (filter p (range_with_len low size) ++ filter p (range_with_len (low + size) more))) (filter_none p 0 low (λ x a b. before x (omega arith)))
+    ∙ ap (λ (xs : List ℕ). xs ++ filter p (range_with_len (low + size) more))
+    (ap (λ (l : ℕ). filter p (range_with_len l size)) (sym zero_low) ∙ filter_raised p q low 0 size (λ x a b. own x (omega arith)))
+    ∙ ap (λ (xs : List ℕ). map (λ i. low + i) (filter q (range_with_len 0 size)) ++ xs)
+    (filter_same p r (low + size) more (λ x a b. after x a (omega arith))
+    ∙ sym (ap (λ (m : ℕ). filter r (range_with_len 0 m)) all ∙ cut r low size more
+    ∙ ap (λ (xs : List ℕ). xs ++ (filter r (range_with_len low size) ++ filter r (range_with_len (low + size) more))) (filter_none r 0 low (λ x a b. passed x (omega arith)))
+    ∙ ap (λ (xs : List ℕ). xs ++ filter r (range_with_len (low + size) more)) (filter_none r low size (λ x a b. passed x (omega arith)))))
+
+-- ---- a chunk of the answer
+
+map_zero : (xs : List ℕ) → map (λ i. 0 + i) xs ≡ xs
+map_zero [] = refl
+map_zero (x ∷ xs) = let e : 0 + x ≡ x = omega arith in ap (λ (y : ℕ). y ∷ map (λ i. 0 + i) xs) e ∙ ap (λ (ys : List ℕ). x ∷ ys) (map_zero xs)
+
+pub listed_rise : (xs : List ℕ) (p : ℕ → Bool) → xs ≡ map (λ i. 0 + i) (those 256 p) → IsRising 0 256 xs
+listed_rise xs p e = subst (λ (ys : List ℕ). IsRising 0 256 ys) (sym (e ∙ map_zero (those 256 p))) (those_rise 256 p)
+
+pub listed_has : (xs : List ℕ) (p : ℕ → Bool) (x : ℕ) → xs ≡ map (λ i. 0 + i) (those 256 p) → x < 256 → has x xs ≡ p x
+listed_has xs p x e h = ap (has x) (e ∙ map_zero (those 256 p)) ∙ has_those 256 p x h
+
+or_first : (a b : Bool) → (a || b) ≡ false → a ≡ false
+or_first true b h = h
+or_first false b h = refl
+
+or_second : (a b : Bool) → (a || b) ≡ false → b ≡ false
+or_second true b h = absurd (true≢false h)
+or_second false b h = h
+
+pub high_none : (x h : ℕ) (xs : List ℕ) → h ≡ x / 256 → has_high h xs ≡ false → has x xs ≡ false
+high_none x h [] is none = refl
+high_none x h (y ∷ xs) is none =
+    let first : eqb (y / 256) h ≡ false = or_first (eqb (y / 256) h) (has_high h xs) none in
+    ap (λ (b : Bool). b || has x xs) (ne_eqb y x (λ e. true≢false (sym (eq-eqb (y / 256) h (ap (λ (n : ℕ). n / 256) e ∙ sym is)) ∙ first)))
+    ∙ high_none x h xs is (or_second (eqb (y / 256) h) (has_high h xs) none)
+
+-- what neither high byte allows, the answer has not
+left_out : (operation : Operation) (p high q high' : Bool) → (high ≡ false → p ≡ false) → (high' ≡ false → q ≡ false)
+    → holds operation high high' ≡ false → holds operation high false ≡ false → holds operation false high' ≡ false → holds operation p q ≡ false
+left_out operation true true true true f g both one other = both
+left_out operation true true false high' f g both one other = one
+left_out operation false high true true f g both one other = other
+left_out operation false high false high' f g both one other = neither operation
+left_out operation true false q high' f g both one other = absurd (true≢false (f refl))
+left_out operation p high true false f g both one other = absurd (true≢false (g refl))
+
+pub each : (operation : Operation) (p p' q q' : Bool) → p ≡ p' → q ≡ q' → holds operation p q ≡ holds operation p' q'
+each operation p p' q q' e f = ap (λ (b : Bool). holds operation b q) e ∙ ap (holds operation p') f
+
+pub no_one : (operation : Operation) (p q : Bool) → p ≡ false → q ≡ false → holds operation p q ≡ false
+no_one operation p q e f = each operation p false q false e f ∙ neither operation
+
+pub own_bit : (operation : Operation) (p high q high' occurs there bit bit' word : Bool) → (high ≡ false → p ≡ false) → (high' ≡ false → q ≡ false)
+    → (occurs ≡ false → holds operation high high' ≡ false) → (occurs ≡ false → holds operation high false ≡ false) → (occurs ≡ false → holds operation false high' ≡ false)
+    → there ≡ occurs → (there ≡ true → bit ≡ p) → (there ≡ true → bit' ≡ q) → (there ≡ true → word ≡ holds operation bit bit') → holds operation p q ≡ (there && word)
+own_bit operation p high q high' occurs true bit bit' word f g both one other e a b w = sym (w refl ∙ each operation bit p bit' q (a refl) (b refl))
+own_bit operation p high q high' occurs false bit bit' word f g both one other e a b w = left_out operation p high q high' f g (both (sym e)) (one (sym e)) (other (sym e))
