@@ -1,10 +1,11 @@
 -- The numbers below a bound that pass a test, and the answer chunk by chunk.
-use Rattle.std.proofs.Common.{◌≢◌, eq-eqb, ◌≡◌, ℕ, zero, suc, ◌+◌, ◌-◌, ◌*◌, ◌/◌, ◌%◌, ◌^◌, ◌<◌, ◌≤◌, Bool, true, false, ◌&&◌, ◌||◌, cond, eqb, List, [], ◌∷◌, ◌++◌, map, refl, sym, ap, ◌∙◌, arith, subst, lit<, lit≤, inl, inr, add-one}
+use Rattle.std.proofs.Common.{length, ◌≢◌, eq-eqb, ◌≡◌, ℕ, zero, suc, ◌+◌, ◌-◌, ◌*◌, ◌/◌, ◌%◌, ◌^◌, ◌<◌, ◌≤◌, Bool, true, false, ◌&&◌, ◌||◌, cond, eqb, List, [], ◌∷◌, ◌++◌, map, refl, sym, ap, ◌∙◌, arith, subst, lit<, lit≤, inl, inr, add-one}
 use Rattle.std.specs.List.{filter, list_any, range_with_len}
 use Rattle.std.proofs.lemmas.Bool.{cases_lt, ne_eqb, true≢false}
 use Rattle.std.proofs.lemmas.List.Elements.{filter-append}
 use Rattle.bitpack_sets.proofs.OnesLaws.{rising_lower}
 use Rattle.bitpack_sets.proofs.ReadLaws.{has_below, lowest}
+use Rattle.bitpack_sets.proofs.SliceLaws.{rising_room}
 use Rattle.bitpack_sets.specs.Bitmaps.{has_high}
 use Rattle.bitpack_sets.specs.Operations.{holds, those}
 use Rattle.bitpack_sets.specs.Pairs.{left, places_left}
@@ -217,3 +218,6 @@ pub own_bit : (operation : Operation) (p high q high' occurs there bit bit' word
     → there ≡ occurs → (there ≡ true → bit ≡ p) → (there ≡ true → bit' ≡ q) → (there ≡ true → word ≡ holds operation bit bit') → holds operation p q ≡ (there && word)
 own_bit operation p high q high' occurs true bit bit' word f g both one other e a b w = sym (w refl ∙ each operation bit p bit' q (a refl) (b refl))
 own_bit operation p high q high' occurs false bit bit' word f g both one other e a b w = left_out operation p high q high' f g (both (sym e)) (one (sym e)) (other (sym e))
+
+pub those_few : (n : ℕ) (p : ℕ → Bool) → length (those n p) ≤ n
+those_few n p = let r : 0 + length (those n p) ≤ n = rising_room 0 n (those n p) (those_rise n p) in omega arith

@@ -4,7 +4,7 @@ use Rattle.bitpack_sets.specs.Chunks.{ids_from, lows_between}
 use Rattle.bitpack_sets.specs.Operations.{holds}
 use Rattle.bitpack_sets.specs.Pairs.{IsPart, left}
 use Rattle.bitpack_sets.specs.Reads.{has}
-use Rattle.bitpack_sets.proofs.AnswerLaws.{each, high_none, listed_has, listed_rise, no_one, own_bit}
+use Rattle.bitpack_sets.proofs.AnswerLaws.{each, high_none, listed_has, listed_rise, no_one, own_bit, those_few}
 use Rattle.bitpack_sets.proofs.pairing.Pair.next.Goals as goal
 
 pub returns-then-key-eq-NO_KEY-clause-none : goal.returns-then-key-eq-NO_KEY-clause-none
@@ -55,3 +55,6 @@ returns-clause-part c =
       higher = λ x h. c.skip.ensures.left x
           ∙ each set.operation (has x (ids_from set.a set.i)) (has x (ids_from set.a c.end-i.result)) (has x (ids_from set.b set.j)) (has x (ids_from set.b c.end-j.result)) (c.end-i.ensures.others x h) (c.end-j.ensures.others x h);
     }
+
+pub returns-clause-count : goal.returns-clause-count
+returns-clause-count c = let few = those_few 256 (has_bit c.highs-occur.result) in let end = c.unpack_bits-high_count.ensures.end in omega arith
