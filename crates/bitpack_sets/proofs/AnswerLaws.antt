@@ -1,14 +1,15 @@
 -- The numbers below a bound that pass a test, and the answer chunk by chunk.
-use Rattle.std.proofs.Common.{length, ◌≢◌, eq-eqb, ◌≡◌, ℕ, zero, suc, ◌+◌, ◌-◌, ◌*◌, ◌/◌, ◌%◌, ◌^◌, ◌<◌, ◌≤◌, Bool, true, false, ◌&&◌, ◌||◌, cond, eqb, List, [], ◌∷◌, ◌++◌, map, refl, sym, ap, ◌∙◌, arith, subst, lit<, lit≤, inl, inr, add-one}
+use Rattle.std.proofs.Common.{length, take, append_assoc, length-append, ◌≢◌, eq-eqb, ◌≡◌, ℕ, zero, suc, ◌+◌, ◌-◌, ◌*◌, ◌/◌, ◌%◌, ◌^◌, ◌<◌, ◌≤◌, Bool, true, false, ◌&&◌, ◌||◌, cond, eqb, List, [], ◌∷◌, ◌++◌, map, refl, sym, ap, ◌∙◌, arith, subst, lit<, lit≤, inl, inr, add-one}
 use Rattle.std.specs.List.{filter, list_any, range_with_len}
 use Rattle.std.proofs.lemmas.Bool.{cases_lt, ne_eqb, true≢false}
+use Rattle.std.proofs.lemmas.List.{append-nil, length-map, length-take, length-take-le}
 use Rattle.std.proofs.lemmas.List.Elements.{filter-append}
 use Rattle.bitpack_sets.proofs.OnesLaws.{rising_lower}
 use Rattle.bitpack_sets.proofs.ReadLaws.{has_below, lowest}
 use Rattle.bitpack_sets.proofs.SliceLaws.{rising_room}
-use Rattle.bitpack_sets.specs.Bitmaps.{has_high}
-use Rattle.bitpack_sets.specs.Operations.{holds, those}
-use Rattle.bitpack_sets.specs.Pairs.{left, places_left}
+use Rattle.bitpack_sets.specs.Bitmaps.{bitmap_numbers, has_bit, has_high}
+use Rattle.bitpack_sets.specs.Operations.{answer, holds, those}
+use Rattle.bitpack_sets.specs.Pairs.{IsPart, left, places_left}
 use Rattle.bitpack_sets.specs.Reads.{has}
 use Rattle.bitpack_sets.specs.Sets.{IsRising}
 use Rattle.bitpack_sets.specs.declared.operation.Operation.{Operation}
@@ -221,3 +222,79 @@ own_bit operation p high q high' occurs false bit bit' word f g both one other e
 
 pub those_few : (n : ℕ) (p : ℕ → Bool) → length (those n p) ≤ n
 those_few n p = let r : 0 + length (those n p) ≤ n = rising_room 0 n (those n p) (those_rise n p) in omega arith
+
+-- ---- the answer chunk by chunk
+
+pub answer_left : (operation : Operation) (xs xs' ys ys' : List ℕ) (more : ℕ → Bool) → xs' ≡ xs → ys' ≡ ys
+    → ((x : ℕ) → more x ≡ holds operation (has x xs') (has x ys')) → answer operation xs ys ≡ those (2 ^ 32) more
+answer_left operation xs xs' ys ys' more e f same = those_same (2 ^ 32) (λ x. holds operation (has x xs) (has x ys)) more
+    (λ x h. each operation (has x xs) (has x xs') (has x ys) (has x ys') (ap (has x) (sym e)) (ap (has x) (sym f)) ∙ sym (same x))
+
+pub part_first : (key : ℕ) (highs words : List ℕ) (before after : ℕ → Bool) → IsPart key highs words before after
+    → those (2 ^ 32) before ≡ map (λ i. key * 65536 + i) (bitmap_numbers highs words) ++ those (2 ^ 32) after
+part_first key highs words before after part =
+    let small : key < 65536 = part.small in
+    those_part (2 ^ 32) (key * 65536) 65536 before (λ x. has (x / 256) highs && has_bit words x) after (omega arith)
+    (λ x h. part.lower x (omega arith))
+    (λ x h. (let low : (key * 65536 + x) % 65536 ≡ x = omega arith in
+    part.own (key * 65536 + x) (omega arith) ∙ ap (λ (y : ℕ). has (y / 256) highs && has_bit words y) low))
+    (λ x h. part.passed x (omega arith))
+    (λ x a b. part.higher x (omega arith))
+
+-- so far this part of the answer is written
+pub record Written (out : List ℕ) (at : ℕ) (all : List ℕ) (more : ℕ → Bool) : Type 0 where
+  pub within : at ≤ length out
+  pub parts : all ≡ take at out ++ those (2 ^ 32) more
+
+taken : (n : ℕ) (xs : List ℕ) → length (take n xs) ≡ n → n ≤ length xs
+taken n xs e = let cut = length-take n xs in omega arith
+
+pub written_more : (out out' : List ℕ) (at at' key : ℕ) (all highs words : List ℕ) (before after : ℕ → Bool) → Written out at all before → IsPart key highs words before after
+    → at' ≡ at + length (bitmap_numbers highs words) → take at' out' ≡ take at out ++ map (λ i. key * 65536 + i) (bitmap_numbers highs words) → Written out' at' all after
+written_more out out' at at' key all highs words before after so part end values =
+    let raised : List ℕ = map (λ i. key * 65536 + i) (bitmap_numbers highs words) in
+    record {
+      within =
+          (let long : length (take at' out') ≡ length (take at out) + length raised = ap length values ∙ length-append (take at out) raised in
+          let some : length (take at out) ≡ at = length-take-le at out so.within in
+          let more : length raised ≡ length (bitmap_numbers highs words) = length-map (bitmap_numbers highs words) (λ i. key * 65536 + i) in
+          taken at' out' (omega arith));
+      parts = so.parts ∙ ap (λ (xs : List ℕ). take at out ++ xs) (part_first key highs words before after part)
+          ∙ sym (append_assoc (take at out) raised (those (2 ^ 32) after)) ∙ ap (λ (xs : List ℕ). xs ++ those (2 ^ 32) after) (sym values);
+    }
+
+pub written_all : (out : List ℕ) (at : ℕ) (all : List ℕ) (more : ℕ → Bool) → Written out at all more → ((x : ℕ) → x < 2 ^ 32 → more x ≡ false) → take at out ≡ all
+written_all out at all more so none = sym (so.parts ∙ ap (λ (xs : List ℕ). take at out ++ xs) (those_none (2 ^ 32) more none) ∙ append-nil (take at out))
+
+pub length_all : (out : List ℕ) (at : ℕ) (all : List ℕ) (more : ℕ → Bool) → Written out at all more → ((x : ℕ) → x < 2 ^ 32 → more x ≡ false) → at ≡ length all
+length_all out at all more so none = sym (length-take-le at out so.within) ∙ ap length (written_all out at all more so none)
+
+-- so far this part of the answer is counted
+pub record Counted (count : ℕ) (all : List ℕ) (more : ℕ → Bool) : Type 0 where
+  pub rest : length all ≡ count + length (those (2 ^ 32) more)
+
+pub counted_more : (count count' key : ℕ) (all highs words : List ℕ) (before after : ℕ → Bool) → Counted count all before → IsPart key highs words before after
+    → count' ≡ count + length (bitmap_numbers highs words) → Counted count' all after
+counted_more count count' key all highs words before after so part e =
+    let rest = so.rest in
+    let cut = ap length (part_first key highs words before after part)
+    ∙ length-append (map (λ i. key * 65536 + i) (bitmap_numbers highs words)) (those (2 ^ 32) after)
+    ∙ ap (λ (n : ℕ). n + length (those (2 ^ 32) after)) (length-map (bitmap_numbers highs words) (λ i. key * 65536 + i)) in
+    record { rest = omega arith }
+
+pub counted_so : (out : List ℕ) (at : ℕ) (all : List ℕ) (more : ℕ → Bool) → Written out at all more → Counted at all more
+counted_so out at all more so = record {
+  rest = ap length so.parts ∙ length-append (take at out) (those (2 ^ 32) more) ∙ ap (λ (n : ℕ). n + length (those (2 ^ 32) more)) (length-take-le at out so.within);
+}
+
+pub counted_all : (count : ℕ) (all : List ℕ) (more : ℕ → Bool) → Counted count all more → ((x : ℕ) → x < 2 ^ 32 → more x ≡ false) → count ≡ length all
+counted_all count all more so none =
+    let rest = so.rest in
+    let end : length (those (2 ^ 32) more) ≡ 0 = ap length (those_none (2 ^ 32) more none) in
+    omega arith
+
+pub answer_few : (operation : Operation) (xs ys : List ℕ) → length (answer operation xs ys) ≤ 2 ^ 32
+answer_few operation xs ys = those_few (2 ^ 32) (λ x. holds operation (has x xs) (has x ys))
+
+pub numbers_few : (highs words : List ℕ) → length (bitmap_numbers highs words) ≤ 65536
+numbers_few highs words = those_few 65536 (λ x. has (x / 256) highs && has_bit words x)

@@ -1,6 +1,6 @@
 //! Sets of fewer than 128 ids: the first id as a number, and groups of the differences of the others.
 
-ghost use Rattle.std.specs.Prelude.{◌≡◌, ℕ, ◌+◌, ◌^◌, ◌<◌, ◌≤◌, IfOk, OnOk, length, None, Option};
+ghost use Rattle.std.specs.Prelude.{◌≡◌, ◌*◌, ◌/◌, ℕ, ◌+◌, ◌^◌, ◌<◌, ◌≤◌, IfOk, OnOk, length, None, Option};
 ghost use Rattle.bitpack_sets.specs.Reads.{few_ids, has, rank};
 ghost use Rattle.bitpack_sets.specs.Errors.{Finds};
 ghost use Rattle.bitpack_sets.specs.Faults.{ids_from, short_fault, some_fault};
