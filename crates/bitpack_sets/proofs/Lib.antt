@@ -1,4 +1,5 @@
 -- The lemmas of this crate.
+mod AnswerLaws
 mod ArrayLaws
 mod BitmapLaws
 mod BlockReads

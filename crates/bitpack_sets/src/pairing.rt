@@ -9,6 +9,7 @@ use crate::chunks::{Chunks, NO_KEY};
 use crate::operation::Operation;
 
 /// What is left of two sets that are combined.
+#[derive(Drop)]
 pub(crate) struct Pair<'a> {
     operation: Operation,
     a: Chunks<'a>,
@@ -21,6 +22,7 @@ pub(crate) struct Pair<'a> {
 }
 
 /// A chunk of the answer: its key, and the high bytes that it can have. Their bits are in the bitmap beside it.
+#[derive(Drop)]
 pub(crate) struct Answer {
     pub(crate) key: u32,
     pub(crate) highs: [u32; 256],
@@ -28,7 +30,17 @@ pub(crate) struct Answer {
 }
 
 impl<'a> Pair<'a> {
-    pub(crate) fn new(operation: Operation, a: Chunks<'a>, b: Chunks<'a>) -> Pair<'a> {
+    ghost use Rattle.std.specs.Prelude.{ℕ, ◌^◌, ◌<◌, IfSome, IfNone, true, false, take};
+    ghost use Rattle.bitpack_sets.specs.Chunks.{first_key, ids_from};
+    ghost use Rattle.bitpack_sets.specs.Operations.{holds};
+    ghost use Rattle.bitpack_sets.specs.Pairs.{IsPart, left, places_left};
+    ghost use Rattle.bitpack_sets.specs.Reads.{has};
+
+    /// All of two sets.
+    #[tactic(auto, unfolding(crate::specs::Pairs::left))]
+    pub(crate) fn new(operation: Operation, a: Chunks<'a>, b: Chunks<'a>) -> Pair<'a>
+        ensures { (x : ℕ) → left result x ≡ holds operation (has x (ids_from a.entry 0)) (has x (ids_from b.entry 0)) }
+    {
         Pair {
             operation,
             a,
@@ -43,7 +55,13 @@ impl<'a> Pair<'a> {
         &mut self,
         words: &mut [u64; 1024],
         others: &mut [u64; 1024],
-    ) -> Option<Answer> {
+    ) -> Option<Answer>
+        ensures none { IfNone result ((x : ℕ) → x < 2 ^ 32 → left self.old x ≡ false) }
+        ensures count { IfSome result (λ part. part.high_count ≤ 256) }
+        ensures part { IfSome result (λ part. IsPart part.key (take part.high_count part.highs) words.new (left self.old) (left self.new)) }
+        // It goes on.
+        ensures fewer { IfSome result (λ part. places_left self.new < places_left self.old) }
+    {
         self.skip();
         let key = self.a.key(self.i).min(self.b.key(self.j));
         if key == NO_KEY {
@@ -69,7 +87,13 @@ impl<'a> Pair<'a> {
     }
 
     // Passes over chunks of one set alone, if their ids are not in the answer.
-    fn skip(&mut self) {
+    fn skip(&mut self)
+        ensures left { (x : ℕ) → left self.old x ≡ left self.new x }
+        ensures fewer { places_left self.new ≤ places_left self.old }
+        // Then the lower key is of a set that the operation keeps.
+        ensures keeps_left { first_key (ids_from self.new.a self.new.i) < first_key (ids_from self.new.b self.new.j) → holds self.new.operation true false ≡ true }
+        ensures keeps_right { first_key (ids_from self.new.b self.new.j) < first_key (ids_from self.new.a self.new.i) → holds self.new.operation false true ≡ true }
+    {
         loop {
             let x = self.a.key(self.i);
             let y = self.b.key(self.j);
