@@ -38,6 +38,7 @@ mod ReadLaws
 mod RefusalLaws
 mod RoomLaws
 mod RunLaws
+mod SelectLaws
 mod ShortLaws
 mod SliceLaws
 mod TestLaws

@@ -1,6 +1,6 @@
 //! Sets of fewer than 128 ids: the first id as a number, and groups of the differences of the others.
 
-ghost use Rattle.std.specs.Prelude.{◌≡◌, ℕ, ◌+◌, ◌^◌, ◌<◌, ◌≤◌, IfOk, OnOk, length, None, Option};
+ghost use Rattle.std.specs.Prelude.{◌≡◌, ℕ, ◌+◌, ◌^◌, ◌<◌, ◌≤◌, IfOk, OnOk, length, None, Option, slice_index};
 ghost use Rattle.bitpack_sets.specs.Reads.{few_ids, has, rank};
 ghost use Rattle.bitpack_sets.specs.Errors.{Finds};
 ghost use Rattle.bitpack_sets.specs.Faults.{ids_from, short_fault, some_fault};
@@ -75,6 +75,19 @@ pub(crate) fn rank_in_few(count: usize, bytes: &[u8], id: u32) -> usize
     let ids = &mut ids[..count];
     unpack_few(bytes, ids);
     count_below(ids, id)
+}
+
+/// The id at a position of such a set.
+pub(crate) fn select_in_few(count: usize, bytes: &[u8], position: usize) -> u32
+    requires few { count ≤ MOST_FEW }
+    requires sound { short_fault count bytes.now ≡ None }
+    requires within { position < count }
+    ensures { result ≡ slice_index (few_ids count bytes.now) position }
+{
+    let mut ids = [0; MOST_FEW];
+    let ids = &mut ids[..count];
+    unpack_few(bytes, ids);
+    ids[position]
 }
 
 /// Whether an id is among some.

@@ -4,12 +4,12 @@ ghost use Rattle.std.specs.Prelude.{◌≡◌, ◌^◌, ◌≤◌};
 ghost use Rattle.bitpacking.specs.Bits.{AreBytes};
 ghost use Rattle.bitpack_sets.specs.Stated.{States};
 
-use crate::array::{in_array, rank_in_array, unpack_array};
+use crate::array::{id_at, in_array, rank_in_array, unpack_array};
 use crate::decoding::unpack_chunks;
-use crate::few::{in_few, rank_in_few, unpack_few};
+use crate::few::{in_few, rank_in_few, select_in_few, unpack_few};
 use crate::opening::{read_parts, test_text};
 use crate::reserved::append_zeros;
-use crate::searching::{in_chunks, rank_in_chunks};
+use crate::searching::{in_chunks, rank_in_chunks, select_in_chunks};
 use crate::set_error::SetError;
 
 /// A set of ids whose bytes were tested when it was opened, so that reading it tests nothing again and cannot fail.
@@ -25,7 +25,7 @@ pub struct IdSet<'a> {
 }
 
 impl<'a> IdSet<'a> {
-    ghost use Rattle.std.specs.Prelude.{◌↔◌, ◌+◌, ◌<◌, ◌++◌, IsTrue, [], drop, length, take, vec_capacity, vec_len, IfErr, IfOk, None, OnErr, OnOk};
+    ghost use Rattle.std.specs.Prelude.{◌↔◌, ◌+◌, ◌<◌, ◌++◌, IsTrue, [], drop, length, take, vec_capacity, vec_len, IfErr, IfOk, IfSome, MatchOption, None, OnErr, OnOk, Some, slice_get, slice_index};
     ghost use Rattle.bitpack_sets.specs.Errors.{Finds};
     ghost use Rattle.bitpack_sets.specs.Faults.{fault};
     ghost use Rattle.bitpack_sets.specs.Opened.{ids, text_of};
@@ -107,6 +107,43 @@ impl<'a> IdSet<'a> {
             return rank_in_array(self.rest, id);
         }
         rank_in_few(self.count, self.rest, id)
+    }
+
+    /// The id at a position, which begins at 0. It is `None` exactly if the position is not below the number of ids.
+    pub fn select(&self, position: usize) -> Option<u32>
+        ensures { result ≡ slice_get (ids self.now) position }
+    {
+        if position >= self.len() {
+            return None;
+        }
+        Some(self.at(position))
+    }
+
+    /// The first id that is at least `target`, with its position. It is `None` exactly if all ids are below `target`.
+    pub fn seek(&self, target: u32) -> Option<(usize, u32)>
+        ensures found { MatchOption result (rank target (ids self.now) ≡ length (ids self.now))
+            (λ found. (found.0 ≡ rank target (ids self.now)) × (slice_get (ids self.now) found.0 ≡ Some found.1)) }
+        ensures least { IfSome result (λ found. target ≤ found.1) }
+    {
+        let position = self.rank(target);
+        if position >= self.len() {
+            return None;
+        }
+        Some((position, self.at(position)))
+    }
+
+    fn at(&self, position: usize) -> u32
+        requires { position < length (ids self.now) }
+        ensures { result ≡ slice_index (ids self.now) position }
+    {
+        let form = self.bytes[0];
+        if form == 5 {
+            return select_in_chunks(self.count, self.chunks, self.rest, position);
+        }
+        if form == 6 {
+            return id_at(self.rest, position);
+        }
+        select_in_few(self.count, self.rest, position)
     }
 
     /// Appends all ids.

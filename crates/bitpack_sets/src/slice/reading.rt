@@ -115,7 +115,7 @@ fn unpack_ones(word: u64, base: u32, out: &mut [u32], at: usize) -> usize
 
 /// Word i of some bytes.
 #[inline(always)]
-fn word_at(bytes: &[u8], i: usize) -> u64
+pub(crate) fn word_at(bytes: &[u8], i: usize) -> u64
     requires { 8 * i + 8 ≤ length bytes.now }
     ensures { result ≡ number_of (take 8 (drop (8 * i) bytes.now)) }
 {
