@@ -34,6 +34,7 @@ mod OnesLaws
 mod PartLaws
 mod PartsFilled
 mod RaisedLaws
+mod RangeLaws
 mod ReadLaws
 mod RefusalLaws
 mod RoomLaws

@@ -63,7 +63,7 @@ join_at base i j ps lt few =
 
 -- ---- chunks
 
-many_chunks : (chunks : ℕ) (rest : List ℕ) → length (read_chunks chunks rest) ≡ chunks
+pub many_chunks : (chunks : ℕ) (rest : List ℕ) → length (read_chunks chunks rest) ≡ chunks
 many_chunks chunks rest = length-map-range_with_len (chunk_at chunks rest) 0 chunks
 
 -- the id at a position of a chunk
@@ -81,10 +81,10 @@ chunk_select ids chunks m position left rest are is lt few e =
 
 -- ---- slices
 
-build_long : (hs cs bytes : List ℕ) → length hs ≡ length cs → length (build hs cs bytes) ≡ length cs
+pub build_long : (hs cs bytes : List ℕ) → length hs ≡ length cs → length (build hs cs bytes) ≡ length cs
 build_long hs cs bytes e = sym (length-map (build hs cs bytes) (λ part. part.0)) ∙ ap length (build_highs hs cs bytes e) ∙ e
 
-build_first : (i : ℕ) (hs cs bytes : List ℕ) → length hs ≡ length cs → i < length cs → (get_or (build hs cs bytes) i none).0 ≡ get_or hs i 0
+pub build_first : (i : ℕ) (hs cs bytes : List ℕ) → length hs ≡ length cs → i < length cs → (get_or (build hs cs bytes) i none).0 ≡ get_or hs i 0
 build_first i hs cs bytes e lt =
     let long = build_long hs cs bytes e in
     sym (get_or-map (λ part. part.0) (build hs cs bytes) i none 0 (omega arith)) ∙ ap (λ (l : List ℕ). get_or l i 0) (build_highs hs cs bytes e)

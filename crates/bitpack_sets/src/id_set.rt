@@ -5,8 +5,8 @@ ghost use Rattle.bitpacking.specs.Bits.{AreBytes};
 ghost use Rattle.bitpack_sets.specs.Stated.{States};
 
 use crate::array::{id_at, in_array, rank_in_array, unpack_array};
-use crate::decoding::unpack_chunks;
-use crate::few::{in_few, rank_in_few, select_in_few, unpack_few};
+use crate::decoding::{unpack_chunks, unpack_chunks_from};
+use crate::few::{in_few, rank_in_few, select_in_few, unpack_few, unpack_few_from};
 use crate::opening::{read_parts, test_text};
 use crate::reserved::append_zeros;
 use crate::searching::{in_chunks, rank_in_chunks, select_in_chunks};
@@ -25,7 +25,7 @@ pub struct IdSet<'a> {
 }
 
 impl<'a> IdSet<'a> {
-    ghost use Rattle.std.specs.Prelude.{◌↔◌, ◌+◌, ◌<◌, ◌++◌, IsTrue, [], drop, length, take, vec_capacity, vec_len, IfErr, IfOk, IfSome, MatchOption, None, OnErr, OnOk, Some, slice_get, slice_index};
+    ghost use Rattle.std.specs.Prelude.{◌↔◌, ◌+◌, ◌-◌, ◌<◌, ◌++◌, IsTrue, [], drop, length, min, take, vec_capacity, vec_len, IfErr, IfOk, IfSome, MatchOption, None, OnErr, OnOk, Some, slice_get, slice_index};
     ghost use Rattle.bitpack_sets.specs.Errors.{Finds};
     ghost use Rattle.bitpack_sets.specs.Faults.{fault};
     ghost use Rattle.bitpack_sets.specs.Opened.{ids, text_of};
@@ -177,6 +177,40 @@ impl<'a> IdSet<'a> {
         let count = self.len();
         self.unpack(&mut out[..count]);
         count
+    }
+
+    /// Writes the ids from a position on at the start of the slice, as many as there are and it has room for. Returns their number, 0 from the
+    /// number of ids on. Allocates nothing, and looks only into bodies that have such ids.
+    ///
+    /// The rest of the slice is unchanged.
+    pub fn copy_range(&self, from: usize, out: &mut [u32]) -> usize
+        ensures len { result ≡ min (length out.old) (length (ids self.now) - from) }
+        ensures ids { take result out.new ≡ take result (drop from (ids self.now)) }
+        ensures rest { drop result out.new ≡ drop result out.old }
+    {
+        if from >= self.len() {
+            return 0;
+        }
+        let count = out.len().min(self.len() - from);
+        self.unpack_from(from, &mut out[..count]);
+        count
+    }
+
+    fn unpack_from(&self, from: usize, out: &mut [u32])
+        requires begin { from < length (ids self.now) }
+        requires within { from + length out.old ≤ length (ids self.now) }
+        ensures { out.new ≡ take (length out.old) (drop from (ids self.now)) }
+    {
+        let form = self.bytes[0];
+        if form == 5 {
+            unpack_chunks_from(self.count, self.chunks, self.rest, from, out);
+            return;
+        }
+        if form == 6 {
+            unpack_array(&self.rest[4 * from..4 * (from + out.len())], out);
+            return;
+        }
+        unpack_few_from(self.count, self.rest, from, out);
     }
 
     // Unpacks each body once.

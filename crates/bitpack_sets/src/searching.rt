@@ -129,7 +129,7 @@ fn in_chunk(count: usize, chunks: usize, rest: &[u8], chunk: usize, number: u16)
 }
 
 /// The body of a chunk.
-fn body_of<'a>(count: usize, chunks: usize, rest: &'a [u8], chunk: usize) -> &'a [u8]
+pub(crate) fn body_of<'a>(count: usize, chunks: usize, rest: &'a [u8], chunk: usize) -> &'a [u8]
     requires few { chunks ≤ 65536 }
     requires rest { IsRest count chunks rest.now }
     requires within { chunk < chunks }

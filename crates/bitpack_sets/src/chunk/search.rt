@@ -122,7 +122,7 @@ pub(crate) fn slice_of(counts: &[u8], position: usize) -> (usize, usize)
 }
 
 /// The index where a slice begins among slices end to end. Each count less 1 is given.
-fn place_of_slice(counts: &[u8], index: usize) -> usize
+pub(crate) fn place_of_slice(counts: &[u8], index: usize) -> usize
     requires within { index ≤ length counts.now }
     requires few { length counts.now ≤ 256 }
     ensures { result ≡ slices_len (take index counts.now) }

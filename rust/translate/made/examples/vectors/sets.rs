@@ -28,6 +28,7 @@ pub fn opened(row: &Row, report: &mut Report) {
     report.check(&row.name, "ids copied", copied == right, true);
     contained(&set, &ids, row, report);
     selected(&set, &ids, row, report);
+    copied_from(&set, &ids, row, report);
     written(&ids, &bytes, row, report);
 }
 
@@ -76,6 +77,22 @@ fn selected(set: &IdSet<'_>, ids: &[u32], row: &Row, report: &mut Report) {
     let targets = ids.iter().step_by(step).chain(ids.last()).flat_map(|it| near(*it)).chain([0, u32::MAX]);
     let wrong: Vec<u32> = targets.filter(|it| set.seek(*it) != right(*it)).take(5).collect();
     report.check(&row.name, "numbers whose seek is wrong", wrong, vec![]);
+}
+
+/// The ids from some positions on, to slices of some lengths, and what is after them.
+fn copied_from(set: &IdSet<'_>, ids: &[u32], row: &Row, report: &mut Report) {
+    let step = ids.len() / 64 + 1;
+    let positions = (0..ids.len()).step_by(step).chain([ids.len().saturating_sub(1), ids.len(), ids.len() + 1, usize::MAX]);
+    let lengths = [0, 1, 2, 31, 255, 256, 257, 1000, ids.len(), ids.len() + MORE];
+    let asked = positions.flat_map(|from| lengths.map(|len| (from, len)));
+    let is_right = |(from, len): &(usize, usize)| {
+        let mut copied = vec![u32::MAX; *len];
+        let left = &ids[ids.len().min(*from)..];
+        let count = left.len().min(*len);
+        set.copy_range(*from, &mut copied) == count && copied[..count] == left[..count] && copied[count..].iter().all(|it| *it == u32::MAX)
+    };
+    let wrong: Vec<(usize, usize)> = asked.filter(|it| !is_right(it)).take(5).collect();
+    report.check(&row.name, "positions and lengths whose copy_range is wrong", wrong, vec![]);
 }
 
 /// A fault is spelled as Rust shows it.
