@@ -7,6 +7,7 @@ ghost use Rattle.bitpack_sets.specs.Stated.{States};
 use crate::array::{id_at, in_array, rank_in_array, unpack_array};
 use crate::decoding::{unpack_chunks, unpack_chunks_from};
 use crate::few::{in_few, rank_in_few, select_in_few, unpack_few, unpack_few_from};
+use crate::ids::Ids;
 use crate::opening::{read_parts, test_text};
 use crate::reserved::append_zeros;
 use crate::searching::{in_chunks, rank_in_chunks, select_in_chunks};
@@ -130,6 +131,13 @@ impl<'a> IdSet<'a> {
             return None;
         }
         Some((position, self.at(position)))
+    }
+
+    /// An iterator over the ids, in increasing order.
+    pub fn iter(&self) -> Ids<'a>
+        ensures { drop result.next (ids result.set) ≡ ids self.now }
+    {
+        Ids::new(*self)
     }
 
     fn at(&self, position: usize) -> u32

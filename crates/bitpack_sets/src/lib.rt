@@ -8,6 +8,7 @@ mod directory;
 mod encoding;
 mod few;
 mod id_set;
+mod ids;
 pub mod laws;
 mod opening;
 mod reserved;
@@ -19,4 +20,5 @@ mod worked_sets;
 
 pub use encoding::{encode, encode_to, encoded_len};
 pub use id_set::IdSet;
+pub use ids::Ids;
 pub use set_error::SetError;

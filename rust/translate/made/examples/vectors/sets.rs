@@ -92,6 +92,8 @@ fn copied_from(set: &IdSet<'_>, ids: &[u32], row: &Row, report: &mut Report) {
         set.copy_range(*from, &mut copied) == count && copied[..count] == left[..count] && copied[count..].iter().all(|it| *it == u32::MAX)
     };
     let wrong: Vec<(usize, usize)> = asked.filter(|it| !is_right(it)).take(5).collect();
+    report.check(&row.name, "ids of the iterator", set.iter().eq(ids.iter().copied()), true);
+    report.check(&row.name, "how many are left", set.iter().size_hint(), (ids.len(), Some(ids.len())));
     report.check(&row.name, "positions and lengths whose copy_range is wrong", wrong, vec![]);
 }
 
