@@ -35,8 +35,31 @@ blocks_read count bytes some is ne =
     let here : IsBlocks (length xs) bytes = subst (IsBlocks (length xs)) text (blocks_are_blocks xs is.rising (omega arith)) in
     (subst (λ (l : List ℕ). IsBlocks (length l) bytes) read here, ap length (sym read) ∙ size, read)
 
+-- a body as the code tells it from numbers
+pub record HasBlocks (count : ℕ) (bytes body : List ℕ) : Type 0 where
+  pub are : IsBlocks (length (block_numbers body)) body
+  pub size : length (block_numbers body) ≡ count
+  pub read : block_numbers body ≡ body_numbers_of count bytes
+
+pub blocks_told : (ids chunks m sum prior : ℕ) (rest body : List ℕ) → IsRest ids chunks rest → m < chunks → sum ≡ sum_at chunks rest m → prior ≡ before (sum_at chunks rest) m
+    → body ≡ body_at chunks rest m → (length body ≡ 2 * (sum - prior) → ⊥) → HasBlocks (count_at chunks rest m) (body_at chunks rest m) body
+blocks_told ids chunks m sum prior rest body is lt s p e ne =
+    let own : sum - prior ≡ count_at chunks rest m = omega arith in
+    let (are, size, read) = blocks_read (count_at chunks rest m) (body_at chunks rest m) (is.entries m lt).some (is.bodies m lt) (λ h. ne (ap length e ∙ h ∙ ap (λ (n : ℕ). 2 * n) (sym own))) in
+    record {
+      are = subst (λ (l : List ℕ). IsBlocks (length (block_numbers l)) l) (sym e) are;
+      size = ap (λ (l : List ℕ). length (block_numbers l)) e ∙ size;
+      read = ap block_numbers e ∙ sym read;
+    }
+
 pub numbers_read : (count : ℕ) (bytes : List ℕ) → length bytes ≡ 2 * count → body_numbers_of count bytes ≡ pairs_of bytes
 numbers_read count bytes e = ap (λ (b : Bool). cond b (pairs_of bytes) (block_numbers bytes)) (eq-eqb (length bytes) (2 * count) e)
+
+pub numbers_told : (chunks m sum prior : ℕ) (rest body : List ℕ) → sum ≡ sum_at chunks rest m → prior ≡ before (sum_at chunks rest) m → body ≡ body_at chunks rest m
+    → length body ≡ 2 * (sum - prior) → pairs_of body ≡ body_numbers_of (count_at chunks rest m) (body_at chunks rest m)
+numbers_told chunks m sum prior rest body s p e same =
+    let own : sum - prior ≡ count_at chunks rest m = omega arith in
+    ap pairs_of e ∙ sym (numbers_read (count_at chunks rest m) (body_at chunks rest m) (sym (ap length e) ∙ same ∙ ap (λ (n : ℕ). 2 * n) own))
 
 -- as it is cut from the rest
 pub body_cut : (chunks m start begin end : ℕ) (rest : List ℕ) → start ≡ bodies_start chunks rest → begin ≡ before (end_at chunks rest) m → end ≡ end_at chunks rest m

@@ -20,7 +20,7 @@ use Rattle.bitpack_sets.proofs.RaisedLaws.{ones_split}
 use Rattle.bitpack_sets.proofs.ReadLaws.{slice_at}
 use Rattle.bitpack_sets.proofs.Words.{EachByte}
 use Rattle.bitpack_sets.specs.Directory.{before, body_at, body_numbers_of, chunk_at, chunk_ids, count_at, key_at, sum_at}
-use Rattle.bitpack_sets.specs.Slices.{AreSlices, number_of, numbers_in, numbers_of, ones_from, slice_len}
+use Rattle.bitpack_sets.specs.Slices.{AreSlices, number_of, numbers_in, numbers_of, ones_from}
 use Rattle.bitpack_sets.specs.Sound.{IsRest}
 
 -- ---- parts
@@ -225,9 +225,3 @@ slice_within cs i left position e few = elim (cases_lt i (length cs)) [
   | inl less ↦ less
   | inr done ↦ (let all = numbers_all cs i done in absurd (omega arith))
 ]
-
--- a slice as it is cut
-pub slice_cut : (count place size from : ℕ) (bytes : List ℕ) → place ≡ from → size ≡ slice_len count → take (place + size - place) (drop place bytes) ≡ take (slice_len count) (drop from bytes)
-slice_cut count place size from bytes e f =
-    let less : place + size - place ≡ slice_len count = omega arith in
-    ap (λ (m : ℕ). take m (drop place bytes)) less ∙ ap (λ (m : ℕ). take (slice_len count) (drop m bytes)) e

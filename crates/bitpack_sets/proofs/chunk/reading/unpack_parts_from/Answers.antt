@@ -4,9 +4,9 @@ use Rattle.std.proofs.lemmas.List.{take_all}
 use Rattle.std.proofs.Math.Nat.{min-le_left, min-le_right}
 use borrow.Rule.Slice.PartMut.{same_len_mid}
 use Rattle.bitpack_sets.proofs.BlockReads.{slice_there}
+use Rattle.bitpack_sets.proofs.CutLaws.{slice_cut}
 use Rattle.bitpack_sets.proofs.ReadLaws.{place_fits}
 use Rattle.bitpack_sets.proofs.RangeLaws.{AtSlice, map_range, min_less, part_len, part_written, slice_passed, slice_range}
-use Rattle.bitpack_sets.proofs.SelectLaws.{slice_cut}
 use Rattle.bitpack_sets.proofs.chunk.reading.unpack_parts_from.Goals as goal
 use Rattle.bitpack_sets.specs.Slices.{IsSlice, numbers_of, slice_numbers, slices_len}
 

@@ -1,8 +1,9 @@
 -- The number is that of its slice.
 use Rattle.std.proofs.Common.{◌+◌, ◌-◌, ◌*◌, ◌∙◌, ℕ, List, ap, arith, get_or, length, subst, sym, take}
 use Rattle.bitpack_sets.proofs.BlockReads.{slice_there}
+use Rattle.bitpack_sets.proofs.CutLaws.{slice_cut}
 use Rattle.bitpack_sets.proofs.ReadLaws.{place_fits}
-use Rattle.bitpack_sets.proofs.SelectLaws.{slice_cut, slice_select}
+use Rattle.bitpack_sets.proofs.SelectLaws.{slice_select}
 use Rattle.bitpack_sets.proofs.chunk.search.select_in_parts.Goals as goal
 use Rattle.bitpack_sets.specs.Slices.{IsSlice, slice_numbers, slices_len}
 
