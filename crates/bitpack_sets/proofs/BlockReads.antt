@@ -1,18 +1,17 @@
 -- The rank of a number among those of a body of blocks.
-use Rattle.std.proofs.Common.{◌≡◌, ℕ, zero, suc, ◌+◌, ◌*◌, ◌/◌, ◌%◌, ◌<◌, ◌≤◌, Bool, true, false, List, [], ◌∷◌, map, take, drop, length, get_or, refl, sym, ap, ◌∙◌, arith, subst}
+use Rattle.std.proofs.Common.{◌≡◌, ℕ, zero, suc, ◌+◌, ◌*◌, ◌/◌, ◌%◌, ◌<◌, ◌≤◌, true, false, List, [], ◌∷◌, take, drop, length, get_or, refl, sym, ap, ◌∙◌, arith, subst}
 use Rattle.std.proofs.lemmas.List.{drop-drop}
 use Rattle.bitpack_sets.proofs.BlocksLaws.{build, build_are, build_highs}
 use Rattle.bitpack_sets.proofs.JoinLaws.{numbers_built}
 use Rattle.bitpack_sets.proofs.JoinReads.{none, rank_join, rank_join_not}
 use Rattle.bitpack_sets.proofs.LongLaws.{counts, keys, total}
-use Rattle.bitpack_sets.proofs.PartLaws.{AreParts, join}
 use Rattle.bitpack_sets.proofs.ReadLaws.{slice_at}
 use Rattle.bitpack_sets.proofs.Words.{EachByte}
 use Rattle.bitpack_sets.specs.Reads.{has, rank}
 use Rattle.bitpack_sets.specs.Sets.{IsRising}
 use Rattle.bitpack_sets.specs.Slices.{AreSlices, IsSlice, numbers_in, numbers_of, slice_len, slice_numbers, slices_len}
 
-build_total : (i : ℕ) (hs cs bytes : List ℕ) → length hs ≡ length cs → AreSlices cs bytes → total (take i (counts (build hs cs bytes))) ≡ numbers_in (take i cs)
+pub build_total : (i : ℕ) (hs cs bytes : List ℕ) → length hs ≡ length cs → AreSlices cs bytes → total (take i (counts (build hs cs bytes))) ≡ numbers_in (take i cs)
 unfolding build numbers_in
 build_total zero hs cs bytes e are = refl
 build_total (suc i) [] [] bytes e are = refl
@@ -23,7 +22,7 @@ build_total (suc i) (h ∷ hs) (less ∷ cs) bytes e (room, is, later) =
     let ih = build_total i hs cs (drop (slice_len (less + 1)) bytes) (omega arith) later in
     omega arith
 
-build_at : (i : ℕ) (hs cs bytes : List ℕ) → length hs ≡ length cs → i < length cs → (get_or (build hs cs bytes) i none).1 ≡ slice_at i cs bytes
+pub build_at : (i : ℕ) (hs cs bytes : List ℕ) → length hs ≡ length cs → i < length cs → (get_or (build hs cs bytes) i none).1 ≡ slice_at i cs bytes
 unfolding build slices_len
 build_at i [] [] bytes e lt = absurd (omega arith)
 build_at i [] (less ∷ cs) bytes e lt = absurd (omega arith)

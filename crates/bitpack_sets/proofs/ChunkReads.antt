@@ -1,11 +1,11 @@
 -- The chunks of a set as they are read, one after the other.
-use Rattle.std.proofs.Common.{◌≡◌, ℕ, zero, suc, ◌+◌, ◌-◌, ◌*◌, ◌/◌, ◌<◌, ◌≤◌, Bool, true, false, get_or, ◌%◌, List, [], ◌∷◌, ◌++◌, map, take, drop, length, cond, eqb, refl, sym, ap, ◌∙◌, arith, subst, eq-eqb, append_assoc, inl, inr}
+use Rattle.std.proofs.Common.{◌≡◌, ℕ, zero, suc, ◌+◌, ◌-◌, ◌*◌, ◌/◌, ◌<◌, ◌≤◌, Bool, true, false, get_or, ◌%◌, List, ◌++◌, map, take, drop, length, cond, refl, sym, ap, ◌∙◌, arith, subst, eq-eqb, append_assoc, inl, inr}
 use Rattle.std.specs.List.{range_with_len}
 use Rattle.std.proofs.lemmas.Bool.{cases_lt, ne_eqb}
 use Rattle.std.proofs.lemmas.List.{append-nil}
 use Rattle.std.proofs.lemmas.List.FromFn.{get_or-map-range_with_len, take-map-range_with_len}
 use Rattle.bitpack_sets.proofs.BodyLaws.{body_blocks, body_numbers, numbers_len}
-use Rattle.bitpack_sets.proofs.EntryLaws.{body_len, ends_grow, grown_to, sums_grow}
+use Rattle.bitpack_sets.proofs.EntryLaws.{ends_grow, grown_to, sums_grow}
 use Rattle.bitpack_sets.proofs.ChunkLaws.{are_parts, counts_in, keys_text}
 use Rattle.bitpack_sets.proofs.JoinReads.{has_join, has_join_not, keys_rise, none, rank_join, rank_join_not}
 use Rattle.bitpack_sets.proofs.LongLaws.{counts, keys, total}
@@ -13,7 +13,7 @@ use Rattle.bitpack_sets.proofs.ShortLaws.{Grows, before_next, step_of, steps_tot
 use Rattle.bitpack_sets.proofs.TestLaws.{blocks_are_blocks}
 use Rattle.bitpack_sets.proofs.ToldLaws.{numbers_back}
 use Rattle.bitpack_sets.proofs.Words.{EachByte}
-use Rattle.bitpack_sets.specs.Directory.{before, bodies_end, bodies_start, body_at, body_numbers_of, chunk_at, chunk_ids, count_at, end_at, ids_of_chunks, key_at, size_at, sum_at}
+use Rattle.bitpack_sets.specs.Directory.{before, bodies_start, body_at, body_numbers_of, chunk_at, chunk_ids, count_at, end_at, ids_of_chunks, key_at, size_at, sum_at}
 use Rattle.bitpack_sets.specs.Reads.{has, rank}
 use Rattle.bitpack_sets.specs.Sets.{IsRising, blocks, numbers}
 use Rattle.bitpack_sets.specs.Slices.{IsBlocks, block_numbers, pairs_of}
@@ -35,8 +35,31 @@ blocks_read count bytes some is ne =
     let here : IsBlocks (length xs) bytes = subst (IsBlocks (length xs)) text (blocks_are_blocks xs is.rising (omega arith)) in
     (subst (λ (l : List ℕ). IsBlocks (length l) bytes) read here, ap length (sym read) ∙ size, read)
 
+-- a body as the code tells it from numbers
+pub record HasBlocks (count : ℕ) (bytes body : List ℕ) : Type 0 where
+  pub are : IsBlocks (length (block_numbers body)) body
+  pub size : length (block_numbers body) ≡ count
+  pub read : block_numbers body ≡ body_numbers_of count bytes
+
+pub blocks_told : (ids chunks m sum prior : ℕ) (rest body : List ℕ) → IsRest ids chunks rest → m < chunks → sum ≡ sum_at chunks rest m → prior ≡ before (sum_at chunks rest) m
+    → body ≡ body_at chunks rest m → (length body ≡ 2 * (sum - prior) → ⊥) → HasBlocks (count_at chunks rest m) (body_at chunks rest m) body
+blocks_told ids chunks m sum prior rest body is lt s p e ne =
+    let own : sum - prior ≡ count_at chunks rest m = omega arith in
+    let (are, size, read) = blocks_read (count_at chunks rest m) (body_at chunks rest m) (is.entries m lt).some (is.bodies m lt) (λ h. ne (ap length e ∙ h ∙ ap (λ (n : ℕ). 2 * n) (sym own))) in
+    record {
+      are = subst (λ (l : List ℕ). IsBlocks (length (block_numbers l)) l) (sym e) are;
+      size = ap (λ (l : List ℕ). length (block_numbers l)) e ∙ size;
+      read = ap block_numbers e ∙ sym read;
+    }
+
 pub numbers_read : (count : ℕ) (bytes : List ℕ) → length bytes ≡ 2 * count → body_numbers_of count bytes ≡ pairs_of bytes
 numbers_read count bytes e = ap (λ (b : Bool). cond b (pairs_of bytes) (block_numbers bytes)) (eq-eqb (length bytes) (2 * count) e)
+
+pub numbers_told : (chunks m sum prior : ℕ) (rest body : List ℕ) → sum ≡ sum_at chunks rest m → prior ≡ before (sum_at chunks rest) m → body ≡ body_at chunks rest m
+    → length body ≡ 2 * (sum - prior) → pairs_of body ≡ body_numbers_of (count_at chunks rest m) (body_at chunks rest m)
+numbers_told chunks m sum prior rest body s p e same =
+    let own : sum - prior ≡ count_at chunks rest m = omega arith in
+    ap pairs_of e ∙ sym (numbers_read (count_at chunks rest m) (body_at chunks rest m) (sym (ap length e) ∙ same ∙ ap (λ (n : ℕ). 2 * n) own))
 
 -- as it is cut from the rest
 pub body_cut : (chunks m start begin end : ℕ) (rest : List ℕ) → start ≡ bodies_start chunks rest → begin ≡ before (end_at chunks rest) m → end ≡ end_at chunks rest m
@@ -133,7 +156,7 @@ has_in ids chunks x m rest are is lt e h =
     ∙ ap (λ (p : ℕ × List ℕ). has (x % 65536) p.1) (chunk_there ids chunks m rest lt)
 
 -- how many ids the chunks before one have
-counted_before : (ids chunks m : ℕ) (rest : List ℕ) → EachByte rest → IsRest ids chunks rest → m ≤ chunks → total (take m (counts (read_chunks chunks rest))) ≡ before (sum_at chunks rest) m
+pub counted_before : (ids chunks m : ℕ) (rest : List ℕ) → EachByte rest → IsRest ids chunks rest → m ≤ chunks → total (take m (counts (read_chunks chunks rest))) ≡ before (sum_at chunks rest) m
 counted_before ids chunks m rest are is most =
     let up : Grows (sum_at chunks rest) 0 m = λ i low high. sums_grow ids chunks rest is.entries i low (omega arith) in
     let all = steps_total (sum_at chunks rest) 0 m up in

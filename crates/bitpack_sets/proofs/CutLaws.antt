@@ -31,6 +31,12 @@ lens_more counts i h =
     let b = lens_append (take i counts) (get_or counts i 0 ∷ []) in
     omega arith
 
+-- a slice as it is cut
+pub slice_cut : (count place size from : ℕ) (bytes : List ℕ) → place ≡ from → size ≡ slice_len count → take (place + size - place) (drop place bytes) ≡ take (slice_len count) (drop from bytes)
+slice_cut count place size from bytes e f =
+    let less : place + size - place ≡ slice_len count = omega arith in
+    ap (λ (m : ℕ). take m (drop place bytes)) less ∙ ap (λ (m : ℕ). take (slice_len count) (drop m bytes)) e
+
 -- ---- the parts of a body as they are cut
 
 pub highs_cut : (size many : ℕ) (body : List ℕ) → size ≡ slice_len many → take (1 + size - 1) (drop 1 body) ≡ take (slice_len many) (drop 1 body)

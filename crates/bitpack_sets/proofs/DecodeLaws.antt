@@ -41,7 +41,7 @@ next_power k = let e : 8 * suc k ≡ 8 * k + 8 = omega arith in ap (λ (n : ℕ)
 ring : (b w p r : ℕ) → b + 256 * (w * p + r) ≡ w * (p * 256) + (b + 256 * r)
 ring b w p r = grind arith
 
-number_split : (k n : ℕ) (bytes : List ℕ) → k ≤ length bytes
+pub number_split : (k n : ℕ) (bytes : List ℕ) → k ≤ length bytes
     → number_of (take (k + n) bytes) ≡ number_of (take n (drop k bytes)) * 2 ^ (8 * k) + number_of (take k bytes)
 unfolding number_of
 number_split zero n bytes h =

@@ -39,20 +39,19 @@ mod PartLaws
 mod PartsFilled
 mod PlaceLaws
 mod RaisedLaws
+mod RangeLaws
 mod ReadLaws
 mod RefusalLaws
 mod RoomLaws
 mod RunLaws
+mod SelectLaws
 mod ShortLaws
 mod SliceLaws
 mod TestLaws
 mod TextLaws
 mod ToldLaws
-<<<<<<< HEAD
 mod UnpackLaws
-=======
 mod WalkLaws
->>>>>>> eefae0da21e5f217f9c7692b3afdda8b1badda1e
 mod Words
 mod WorkedProofs
 mod WriteLaws

@@ -1,6 +1,6 @@
 //! Sets of fewer than 128 ids: the first id as a number, and groups of the differences of the others.
 
-ghost use Rattle.std.specs.Prelude.{◌≡◌, ℕ, ◌+◌, ◌*◌, ◌^◌, ◌<◌, ◌≤◌, IfOk, OnOk, length, None, Option};
+ghost use Rattle.std.specs.Prelude.{◌≡◌, ℕ, ◌+◌, ◌*◌, ◌^◌, ◌<◌, ◌≤◌, IfOk, OnOk, length, None, Option, drop, slice_index, take};
 ghost use Rattle.bitpack_sets.specs.Reads.{few_ids, has, rank};
 ghost use Rattle.bitpack_sets.specs.Errors.{Finds};
 ghost use Rattle.bitpack_sets.specs.Faults.{ids_from, short_fault, some_fault};
@@ -68,6 +68,19 @@ pub(crate) fn unpack_few_bytes(count: usize, bytes: &[u8], out: &mut [u8])
     write_integers(4, ids, out);
 }
 
+/// Writes the ids of such a set from a position on, as many as there is room for.
+pub(crate) fn unpack_few_from(count: usize, bytes: &[u8], from: usize, out: &mut [u32])
+    requires few { count ≤ MOST_FEW }
+    requires sound { short_fault count bytes.now ≡ None }
+    requires within { from + length out.old ≤ count }
+    ensures { out.new ≡ take (length out.old) (drop from (few_ids count bytes.now)) }
+{
+    let mut ids = [0; MOST_FEW];
+    let ids = &mut ids[..count];
+    unpack_few(bytes, ids);
+    out.copy_from_slice(&ids[from..from + out.len()]);
+}
+
 /// Whether an id is in such a set.
 pub(crate) fn in_few(count: usize, bytes: &[u8], id: u32) -> bool
     requires few { count ≤ MOST_FEW }
@@ -90,6 +103,19 @@ pub(crate) fn rank_in_few(count: usize, bytes: &[u8], id: u32) -> usize
     let ids = &mut ids[..count];
     unpack_few(bytes, ids);
     count_below(ids, id)
+}
+
+/// The id at a position of such a set.
+pub(crate) fn select_in_few(count: usize, bytes: &[u8], position: usize) -> u32
+    requires few { count ≤ MOST_FEW }
+    requires sound { short_fault count bytes.now ≡ None }
+    requires within { position < count }
+    ensures { result ≡ slice_index (few_ids count bytes.now) position }
+{
+    let mut ids = [0; MOST_FEW];
+    let ids = &mut ids[..count];
+    unpack_few(bytes, ids);
+    ids[position]
 }
 
 /// Whether an id is among some.

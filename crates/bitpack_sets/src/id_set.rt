@@ -4,13 +4,16 @@ ghost use Rattle.std.specs.Prelude.{◌≡◌, ◌^◌, ◌≤◌};
 ghost use Rattle.bitpacking.specs.Bits.{AreBytes};
 ghost use Rattle.bitpack_sets.specs.Stated.{States};
 
-use crate::array::{in_array, rank_in_array, unpack_array};
+use crate::array::{id_at, in_array, rank_in_array, unpack_array};
 use crate::chunks::Chunks;
-use crate::decoding::unpack_chunks;
-use crate::few::{MOST_FEW, in_few, rank_in_few, unpack_few, unpack_few_bytes};
+use crate::decoding::{unpack_chunks, unpack_chunks_from};
+use crate::few::{
+    MOST_FEW, in_few, rank_in_few, select_in_few, unpack_few, unpack_few_bytes, unpack_few_from,
+};
+use crate::ids::Ids;
 use crate::opening::{read_parts, test_text};
 use crate::reserved::append_zeros;
-use crate::searching::{in_chunks, rank_in_chunks};
+use crate::searching::{in_chunks, rank_in_chunks, select_in_chunks};
 use crate::set_error::SetError;
 
 /// How many bytes the ids of a set of few take as an array, at most.
@@ -29,7 +32,7 @@ pub struct IdSet<'a> {
 }
 
 impl<'a> IdSet<'a> {
-    ghost use Rattle.std.specs.Prelude.{◌↔◌, ◌+◌, ◌<◌, ◌++◌, IsTrue, [], drop, length, take, vec_capacity, vec_len, IfErr, IfOk, None, OnErr, OnOk};
+    ghost use Rattle.std.specs.Prelude.{◌↔◌, ◌+◌, ◌<◌, ◌++◌, IsTrue, [], drop, length, take, vec_capacity, vec_len, IfErr, IfOk, None, OnErr, OnOk, ◌-◌, min, IfSome, MatchOption, Some, slice_get, slice_index};
     ghost use Rattle.bitpack_sets.specs.Chunks.{ids_from};
     ghost use Rattle.bitpack_sets.specs.Errors.{Finds};
     ghost use Rattle.bitpack_sets.specs.Faults.{fault};
@@ -114,6 +117,50 @@ impl<'a> IdSet<'a> {
         rank_in_few(self.count, self.rest, id)
     }
 
+    /// The id at a position, which begins at 0. It is `None` exactly if the position is not below the number of ids.
+    pub fn select(&self, position: usize) -> Option<u32>
+        ensures { result ≡ slice_get (ids self.now) position }
+    {
+        if position >= self.len() {
+            return None;
+        }
+        Some(self.at(position))
+    }
+
+    /// The first id that is at least `target`, with its position. It is `None` exactly if all ids are below `target`.
+    pub fn seek(&self, target: u32) -> Option<(usize, u32)>
+        ensures found { MatchOption result (rank target (ids self.now) ≡ length (ids self.now))
+            (λ found. (found.0 ≡ rank target (ids self.now)) × (slice_get (ids self.now) found.0 ≡ Some found.1)) }
+        ensures least { IfSome result (λ found. target ≤ found.1) }
+    {
+        let position = self.rank(target);
+        if position >= self.len() {
+            return None;
+        }
+        Some((position, self.at(position)))
+    }
+
+    /// An iterator over the ids, in increasing order.
+    pub fn iter(&self) -> Ids<'a>
+        ensures { drop result.next (ids result.set) ≡ ids self.now }
+    {
+        Ids::new(*self)
+    }
+
+    fn at(&self, position: usize) -> u32
+        requires { position < length (ids self.now) }
+        ensures { result ≡ slice_index (ids self.now) position }
+    {
+        let form = self.bytes[0];
+        if form == 5 {
+            return select_in_chunks(self.count, self.chunks, self.rest, position);
+        }
+        if form == 6 {
+            return id_at(self.rest, position);
+        }
+        select_in_few(self.count, self.rest, position)
+    }
+
     /// Appends all ids.
     ///
     /// Fails only with `Memory`, if the vector cannot grow by the number of ids.
@@ -161,6 +208,40 @@ impl<'a> IdSet<'a> {
         let room = &mut room[..4 * self.count];
         unpack_few_bytes(self.count, self.rest, room);
         Chunks::of_array(room)
+    }
+
+    /// Writes the ids from a position on at the start of the slice, as many as there are and it has room for. Returns their number, 0 from the
+    /// number of ids on. Allocates nothing, and looks only into bodies that have such ids.
+    ///
+    /// The rest of the slice is unchanged.
+    pub fn copy_range(&self, from: usize, out: &mut [u32]) -> usize
+        ensures len { result ≡ min (length out.old) (length (ids self.now) - from) }
+        ensures ids { take result out.new ≡ take result (drop from (ids self.now)) }
+        ensures rest { drop result out.new ≡ drop result out.old }
+    {
+        if from >= self.len() {
+            return 0;
+        }
+        let count = out.len().min(self.len() - from);
+        self.unpack_from(from, &mut out[..count]);
+        count
+    }
+
+    fn unpack_from(&self, from: usize, out: &mut [u32])
+        requires begin { from < length (ids self.now) }
+        requires within { from + length out.old ≤ length (ids self.now) }
+        ensures { out.new ≡ take (length out.old) (drop from (ids self.now)) }
+    {
+        let form = self.bytes[0];
+        if form == 5 {
+            unpack_chunks_from(self.count, self.chunks, self.rest, from, out);
+            return;
+        }
+        if form == 6 {
+            unpack_array(&self.rest[4 * from..4 * (from + out.len())], out);
+            return;
+        }
+        unpack_few_from(self.count, self.rest, from, out);
     }
 
     // Unpacks each body once.

@@ -1,12 +1,14 @@
 //! Looks ids up in sets in chunks.
 
-ghost use Rattle.std.specs.Prelude.{◌≡◌, ◌+◌, ◌*◌, ◌/◌, ◌%◌, ◌^◌, ◌<◌, ◌≤◌, length};
-ghost use Rattle.bitpack_sets.specs.Directory.{body_at, body_numbers_of, chunk_ids, count_at};
+ghost use Rattle.std.specs.Prelude.{◌≡◌, ◌+◌, ◌*◌, ◌/◌, ◌%◌, ◌^◌, ◌<◌, ◌≤◌, length, slice_index};
+ghost use Rattle.bitpack_sets.specs.Directory.{before, body_at, body_numbers_of, chunk_ids, count_at};
 ghost use Rattle.bitpack_sets.specs.Reads.{has, rank};
 ghost use Rattle.bitpack_sets.specs.Sound.{IsRest};
 
-use crate::chunk::search::{in_blocks, in_numbers, number_at, rank_in_blocks, rank_in_numbers};
-use crate::directory::{begin_at, bodies_start, count_before, end_at, sum_at};
+use crate::chunk::search::{
+    in_blocks, in_numbers, number_at, rank_in_blocks, rank_in_numbers, select_in_blocks,
+};
+use crate::directory::{begin_at, bodies_start, count_before, end_at, key_at, sum_at};
 
 /// Whether a set in chunks has this id.
 pub(crate) fn in_chunks(count: usize, chunks: usize, rest: &[u8], id: u32) -> bool
@@ -43,6 +45,57 @@ pub(crate) fn rank_in_chunks(count: usize, chunks: usize, rest: &[u8], id: u32) 
         return before;
     }
     before + rank_in_chunk(count, chunks, rest, chunk, (id % 65536) as u16)
+}
+
+/// The id at a position of a set in chunks.
+pub(crate) fn select_in_chunks(count: usize, chunks: usize, rest: &[u8], position: usize) -> u32
+    requires few { chunks ≤ 65536 }
+    requires rest { IsRest count chunks rest.now }
+    requires within { position < count }
+    ensures { result ≡ slice_index (chunk_ids chunks rest.now) position }
+{
+    let chunk = chunk_of(count, chunks, rest, position);
+    let left = position - count_before(chunks, rest, chunk) as usize;
+    let key = key_at(chunks, rest, chunk) as u32;
+    key * 65536 + select_in_chunk(count, chunks, rest, chunk, left) as u32
+}
+
+/// The chunk that has the id at a position, by halves.
+pub(crate) fn chunk_of(count: usize, chunks: usize, rest: &[u8], position: usize) -> usize
+    requires rest { IsRest count chunks rest.now }
+    requires within { position < count }
+    ensures chunk { result < chunks }
+    ensures from { before (Rattle.bitpack_sets.specs.Directory.sum_at chunks rest.now) result ≤ position }
+    ensures below { position < Rattle.bitpack_sets.specs.Directory.sum_at chunks rest.now result }
+{
+    let mut chunk = 0;
+    let mut left = chunks;
+    while left > 1 {
+        let half = left / 2;
+        if count_before(chunks, rest, chunk + half) as usize <= position {
+            chunk += half;
+            left -= half;
+        } else {
+            left = half;
+        }
+    }
+    chunk
+}
+
+/// The number at a position of a chunk.
+fn select_in_chunk(count: usize, chunks: usize, rest: &[u8], chunk: usize, position: usize) -> u16
+    requires few { chunks ≤ 65536 }
+    requires rest { IsRest count chunks rest.now }
+    requires within { chunk < chunks }
+    requires position { position < count_at chunks rest.now chunk }
+    ensures { result ≡ slice_index (body_numbers_of (count_at chunks rest.now chunk) (body_at chunks rest.now chunk)) position }
+{
+    let own = (sum_at(chunks, rest, chunk) - count_before(chunks, rest, chunk)) as usize;
+    let body = body_of(count, chunks, rest, chunk);
+    if body.len() == 2 * own {
+        return number_at(body, position);
+    }
+    select_in_blocks(body, position)
 }
 
 /// How many numbers of a chunk are below one.

@@ -3,9 +3,10 @@
 ghost use Rattle.std.specs.Prelude.{◌≡◌, ◌+◌, ◌*◌, ◌/◌, ◌^◌, ◌<◌, ◌≤◌, ◌++◌, drop, length, map, slice_index, take};
 ghost use Rattle.bitpack_sets.specs.Slices.{AreSlices, IsBlocks, IsSlice, block_numbers, numbers_in, numbers_of, pairs_of, slice_len, slice_numbers};
 
-use crate::chunk::search::number_at;
+use crate::chunk::search::{number_at, place_of_slice, slice_of};
 use crate::slice::byte_len;
-use crate::slice::reading::{unpack_slice, unpack_within};
+use crate::slice::reading::{unpack_slice, unpack_slice_from, unpack_within};
+use crate::slice::search::select_in_slice;
 
 /// Writes the numbers of a body of blocks, each with `base` added. Returns where they end.
 pub(crate) fn unpack_blocks(body: &[u8], base: u32, out: &mut [u32], at: usize) -> usize
@@ -55,6 +56,59 @@ fn unpack_parts(
         place += size;
     }
     next
+}
+
+/// Writes the numbers of a body of blocks from a position on, as many as there is room for, each with `base` added.
+pub(crate) fn unpack_blocks_from(body: &[u8], base: u32, from: usize, out: &mut [u32])
+    requires blocks { IsBlocks (length (block_numbers body.now)) body.now }
+    requires fits { base + 65536 ≤ 2 ^ 32 }
+    requires begin { from < length (block_numbers body.now) }
+    requires within { from + length out.old ≤ length (block_numbers body.now) }
+    ensures { out.new ≡ map (λ i. base + i) (take (length out.old) (drop from (block_numbers body.now))) }
+{
+    let many = body[0] as usize + 1;
+    let size = byte_len(many);
+    let highs = &body[1..1 + size];
+    let counts = &body[1 + size..1 + size + many];
+    let slices = &body[1 + size + many..];
+    unpack_parts_from(highs, counts, slices, base, from, out);
+}
+
+/// Writes the numbers of slices end to end from a position on, as many as there is room for, each with `base` added. Given are their high
+/// bytes, of each the count less 1, and the slices.
+fn unpack_parts_from(
+    highs: &[u8],
+    counts: &[u8],
+    slices: &[u8],
+    base: u32,
+    from: usize,
+    out: &mut [u32],
+)
+    requires few { length counts.now ≤ 256 }
+    requires size { length highs.now ≡ slice_len (length counts.now) }
+    requires highs { IsSlice (length counts.now) highs.now }
+    requires slices { AreSlices counts.now slices.now }
+    requires fits { base + 65536 ≤ 2 ^ 32 }
+    requires begin { from < numbers_in counts.now }
+    requires within { from + length out.old ≤ numbers_in counts.now }
+    ensures { out.new ≡ map (λ i. base + i)
+        (take (length out.old) (drop from (numbers_of (slice_numbers (length counts.now) highs.now) counts.now slices.now))) }
+{
+    let (mut index, mut left) = slice_of(counts, from);
+    let mut place = place_of_slice(counts, index);
+    let mut next = 0;
+    while next < out.len() {
+        let count = counts[index] as usize + 1;
+        let size = byte_len(count);
+        let slice = &slices[place..place + size];
+        let first = base + 256 * select_in_slice(counts.len(), highs, index) as u32;
+        let wanted = (count - left).min(out.len() - next);
+        unpack_slice_from(count, slice, first, left, &mut out[next..next + wanted]);
+        next += wanted;
+        place += size;
+        index += 1;
+        left = 0;
+    }
 }
 
 /// Writes the numbers of a body of numbers, each with `base` added. Returns where they end.

@@ -3,10 +3,10 @@
 ghost use Rattle.std.specs.Prelude.{◌≡◌, ◌+◌, ◌*◌, ◌/◌, ◌^◌, ◌<◌, ◌≤◌, ◌++◌, drop, length, map, slice_index, take};
 ghost use Rattle.bitpack_sets.specs.Reads.{has, rank};
 ghost use Rattle.bitpack_sets.specs.Sets.{IsRising};
-ghost use Rattle.bitpack_sets.specs.Slices.{AreSlices, IsBlocks, IsSlice, block_numbers, numbers_of, pairs_of, slice_len, slice_numbers, slices_len};
+ghost use Rattle.bitpack_sets.specs.Slices.{AreSlices, IsBlocks, IsSlice, block_numbers, numbers_in, numbers_of, pairs_of, slice_len, slice_numbers, slices_len};
 
 use crate::slice::byte_len;
-use crate::slice::search::{in_slice, rank_in_slice};
+use crate::slice::search::{in_slice, rank_in_slice, select_in_slice};
 use crate::slice::testing::count_numbers;
 
 /// Whether a body of blocks has this number.
@@ -74,8 +74,55 @@ fn rank_in_parts(highs: &[u8], counts: &[u8], slices: &[u8], number: u16) -> usi
     before + rank_in_slice(count, &slices[place..place + size], (number % 256) as u8)
 }
 
+/// The number at this position of a body of blocks.
+pub(crate) fn select_in_blocks(body: &[u8], position: usize) -> u16
+    requires blocks { IsBlocks (length (block_numbers body.now)) body.now }
+    requires within { position < length (block_numbers body.now) }
+    ensures { result ≡ slice_index (block_numbers body.now) position }
+{
+    let many = body[0] as usize + 1;
+    let size = byte_len(many);
+    let highs = &body[1..1 + size];
+    let counts = &body[1 + size..1 + size + many];
+    let slices = &body[1 + size + many..];
+    select_in_parts(highs, counts, slices, position)
+}
+
+/// The number at this position of slices end to end: their high bytes, of each the count less 1, and the slices.
+fn select_in_parts(highs: &[u8], counts: &[u8], slices: &[u8], position: usize) -> u16
+    requires few { length counts.now ≤ 256 }
+    requires size { length highs.now ≡ slice_len (length counts.now) }
+    requires highs { IsSlice (length counts.now) highs.now }
+    requires slices { AreSlices counts.now slices.now }
+    requires within { position < numbers_in counts.now }
+    ensures { result ≡ slice_index (numbers_of (slice_numbers (length counts.now) highs.now) counts.now slices.now) position }
+{
+    let (index, left) = slice_of(counts, position);
+    let place = place_of_slice(counts, index);
+    let count = counts[index] as usize + 1;
+    let size = byte_len(count);
+    let high = select_in_slice(counts.len(), highs, index) as u16;
+    256 * high + select_in_slice(count, &slices[place..place + size], left) as u16
+}
+
+/// The slice that has the number at a position, and the position of the number in it. Each count less 1 is given.
+pub(crate) fn slice_of(counts: &[u8], position: usize) -> (usize, usize)
+    requires { position < numbers_in counts.now }
+    ensures slice { result.0 < length counts.now }
+    ensures own { result.1 ≤ slice_index counts.now result.0 }
+    ensures position { numbers_in (take result.0 counts.now) + result.1 ≡ position }
+{
+    let mut index = 0;
+    let mut left = position;
+    while left > counts[index] as usize {
+        left -= counts[index] as usize + 1;
+        index += 1;
+    }
+    (index, left)
+}
+
 /// The index where a slice begins among slices end to end. Each count less 1 is given.
-fn place_of_slice(counts: &[u8], index: usize) -> usize
+pub(crate) fn place_of_slice(counts: &[u8], index: usize) -> usize
     requires within { index ≤ length counts.now }
     requires few { length counts.now ≤ 256 }
     ensures { result ≡ slices_len (take index counts.now) }

@@ -29,6 +29,20 @@ pub(crate) fn unpack_within(
     at + end
 }
 
+/// Writes the numbers of a slice of `count` from a position on, as many as there is room for, each with `base` added.
+pub(crate) fn unpack_slice_from(count: usize, bytes: &[u8], base: u32, from: usize, out: &mut [u32])
+    requires count { count ≤ 256 }
+    requires size { length bytes.now ≡ slice_len count }
+    requires slice { IsSlice count bytes.now }
+    requires fits { base + 256 ≤ 2 ^ 32 }
+    requires within { from + length out.old ≤ count }
+    ensures { out.new ≡ map (λ i. base + i) (take (length out.old) (drop from (slice_numbers count bytes.now))) }
+{
+    let mut numbers = [0; 256];
+    unpack_slice(count, bytes, base, &mut numbers, 0);
+    out.copy_from_slice(&numbers[from..from + out.len()]);
+}
+
 /// Writes the numbers of a slice of `count`, each with `base` added. Returns where they end.
 pub(crate) fn unpack_slice(
     count: usize,

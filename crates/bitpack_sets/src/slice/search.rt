@@ -2,8 +2,9 @@
 
 ghost use Rattle.std.specs.Prelude.{◌≡◌, ◌+◌, ◌*◌, ◌/◌, ◌^◌, ◌<◌, ◌≤◌, ◌++◌, drop, length, map, slice_index, take};
 ghost use Rattle.bitpack_sets.specs.Reads.{has, rank};
-ghost use Rattle.bitpack_sets.specs.Slices.{number_of, ones_from, slice_len, slice_numbers};
+ghost use Rattle.bitpack_sets.specs.Slices.{IsSlice, number_of, ones_from, slice_len, slice_numbers};
 
+use crate::slice::reading::word_at;
 use crate::slice::testing::count_bits;
 
 /// Whether a slice of `count` numbers has this one.
@@ -75,4 +76,49 @@ fn rank_in_bits(bytes: &[u8], number: u8) -> usize
     let whole = (number / 8) as usize;
     let rest = bytes[whole] & ((1 << (number % 8)) - 1);
     count_bits(&bytes[..whole]) + rest.count_ones() as usize
+}
+
+/// The number at this position of a slice of `count`.
+pub(crate) fn select_in_slice(count: usize, bytes: &[u8], position: usize) -> u8
+    requires count { count ≤ 256 }
+    requires size { length bytes.now ≡ slice_len count }
+    requires slice { IsSlice count bytes.now }
+    requires within { position < count }
+    ensures { result ≡ slice_index (slice_numbers count bytes.now) position }
+{
+    if count < 32 {
+        bytes[position]
+    } else if count < 256 {
+        select_in_bits(bytes, position)
+    } else {
+        position as u8
+    }
+}
+
+/// The number of the bit that has this position among those that are 1.
+fn select_in_bits(bytes: &[u8], position: usize) -> u8
+    requires size { length bytes.now ≡ 32 }
+    requires within { position < length (ones_from (number_of bytes.now) 0 256) }
+    ensures { result ≡ slice_index (ones_from (number_of bytes.now) 0 256) position }
+{
+    let mut index = 0;
+    let mut left = position;
+    while left >= word_at(bytes, index).count_ones() as usize {
+        left -= word_at(bytes, index).count_ones() as usize;
+        index += 1;
+    }
+    64 * index as u8 + select_in_word(word_at(bytes, index), left)
+}
+
+/// The number of the bit of a word that has this position among those that are 1.
+#[inline(always)]
+fn select_in_word(word: u64, position: usize) -> u8
+    requires { position < length (ones_from word 0 64) }
+    ensures { result ≡ slice_index (ones_from word 0 64) position }
+{
+    let mut left = word;
+    for _ in 0..position {
+        left -= 1 << left.trailing_zeros();
+    }
+    left.trailing_zeros() as u8
 }

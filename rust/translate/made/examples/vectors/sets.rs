@@ -8,6 +8,9 @@ use crate::rows::Row;
 /// How many values are around those that a set writes.
 const MORE: usize = 3;
 
+/// How many positions of a set are asked for at most.
+const MOST_ASKED: usize = 4096;
+
 pub fn opened(row: &Row, report: &mut Report) {
     let (ids, bytes) = (row.ids("ids"), row.bytes("bytes"));
     let set = match IdSet::open(&bytes) {
@@ -24,6 +27,8 @@ pub fn opened(row: &Row, report: &mut Report) {
     right.rotate_left(MORE);
     report.check(&row.name, "ids copied", copied == right, true);
     contained(&set, &ids, row, report);
+    selected(&set, &ids, row, report);
+    copied_from(&set, &ids, row, report);
     written(&ids, &bytes, row, report);
 }
 
@@ -56,6 +61,40 @@ fn contained(set: &IdSet<'_>, ids: &[u32], row: &Row, report: &mut Report) {
     let right = |id: u32| (ids.binary_search(&id).is_ok(), ids.partition_point(|it| *it < id));
     let wrong: Vec<u32> = asked.filter(|it| found(*it) != right(*it)).take(5).collect();
     report.check(&row.name, "numbers whose contains or rank is wrong", wrong, vec![]);
+}
+
+/// The id at each position, or at some of many, and at two past the end; and the first id from each number near these on.
+fn selected(set: &IdSet<'_>, ids: &[u32], row: &Row, report: &mut Report) {
+    let step = ids.len() / MOST_ASKED + 1;
+    let positions = (0..ids.len()).step_by(step).chain([ids.len().saturating_sub(1), ids.len(), ids.len() + 1, usize::MAX]);
+    let wrong: Vec<usize> = positions.filter(|it| set.select(*it) != ids.get(*it).copied()).take(5).collect();
+    report.check(&row.name, "positions whose select is wrong", wrong, vec![]);
+    let right = |target: u32| {
+        let position = ids.partition_point(|it| *it < target);
+        ids.get(position).map(|it| (position, *it))
+    };
+    let near = |id: u32| [id.saturating_sub(1), id, id.saturating_add(1)];
+    let targets = ids.iter().step_by(step).chain(ids.last()).flat_map(|it| near(*it)).chain([0, u32::MAX]);
+    let wrong: Vec<u32> = targets.filter(|it| set.seek(*it) != right(*it)).take(5).collect();
+    report.check(&row.name, "numbers whose seek is wrong", wrong, vec![]);
+}
+
+/// The ids from some positions on, to slices of some lengths, and what is after them.
+fn copied_from(set: &IdSet<'_>, ids: &[u32], row: &Row, report: &mut Report) {
+    let step = ids.len() / 64 + 1;
+    let positions = (0..ids.len()).step_by(step).chain([ids.len().saturating_sub(1), ids.len(), ids.len() + 1, usize::MAX]);
+    let lengths = [0, 1, 2, 31, 255, 256, 257, 1000, ids.len(), ids.len() + MORE];
+    let asked = positions.flat_map(|from| lengths.map(|len| (from, len)));
+    let is_right = |(from, len): &(usize, usize)| {
+        let mut copied = vec![u32::MAX; *len];
+        let left = &ids[ids.len().min(*from)..];
+        let count = left.len().min(*len);
+        set.copy_range(*from, &mut copied) == count && copied[..count] == left[..count] && copied[count..].iter().all(|it| *it == u32::MAX)
+    };
+    let wrong: Vec<(usize, usize)> = asked.filter(|it| !is_right(it)).take(5).collect();
+    report.check(&row.name, "ids of the iterator", set.iter().eq(ids.iter().copied()), true);
+    report.check(&row.name, "how many are left", set.iter().size_hint(), (ids.len(), Some(ids.len())));
+    report.check(&row.name, "positions and lengths whose copy_range is wrong", wrong, vec![]);
 }
 
 /// A fault is spelled as Rust shows it.

@@ -1,16 +1,10 @@
 -- The rank of the high byte is the place of its slice.
-use Rattle.std.proofs.Common.{◌≡◌, ◌∙◌, ◌+◌, ◌-◌, ◌/◌, ◌%◌, ℕ, List, ap, sym, arith, length, drop, take, get_or}
+use Rattle.std.proofs.Common.{◌≡◌, ◌∙◌, ◌+◌, ◌-◌, ◌/◌, ◌%◌, ℕ, List, ap, sym, arith, length, take, get_or}
+use Rattle.bitpack_sets.proofs.CutLaws.{slice_cut}
 use Rattle.bitpack_sets.proofs.ReadLaws.{in_numbers, not_in, place_fits, rank_less}
 use Rattle.bitpack_sets.proofs.chunk.search.in_parts.Goals as goal
 use Rattle.bitpack_sets.specs.Reads.{has}
-use Rattle.bitpack_sets.specs.Slices.{slice_len, slice_numbers, slices_len}
-
--- the slice as the code cuts it
-at_place : (count place size from : ℕ) (bytes : List ℕ) → place ≡ from → size ≡ slice_len count
-    → slice_numbers count (take (place + size - place) (drop place bytes)) ≡ slice_numbers count (take (slice_len count) (drop from bytes))
-at_place count place size from bytes e f =
-    let less : place + size - place ≡ slice_len count = omega arith in
-    ap (λ (m : ℕ). slice_numbers count (take m (drop place bytes))) less ∙ ap (λ (m : ℕ). slice_numbers count (take (slice_len count) (drop m bytes))) e
+use Rattle.bitpack_sets.specs.Slices.{slice_numbers, slices_len}
 
 pub returns-then-not-in_slice : goal.returns-then-not-in_slice
 returns-then-not-in_slice c = sym (not_in c.args.number (slice_numbers (length c.args.counts.now) c.args.highs.now) c.args.counts.now c.args.slices.now c.requires.slices
@@ -48,6 +42,6 @@ returns c =
     let found = in_numbers c.args.number 0 c.rank_in_slice-index.result (slice_numbers (length c.args.counts.now) c.args.highs.now) c.args.counts.now c.args.slices.now
     c.rank_in_slice-index.ensures size c.requires.highs.rising c.requires.slices (sym c.in_slice.ensures ∙ c.if-not-in_slice.false) in
     c.in_slice-2.ensures
-    ∙ ap (has (c.args.number % 256)) (at_place (get_or c.args.counts.now c.rank_in_slice-index.result 0 + 1) c.place_of_slice-place.result c.byte_len-size.result
+    ∙ ap (λ (l : List ℕ). has (c.args.number % 256) (slice_numbers (get_or c.args.counts.now c.rank_in_slice-index.result 0 + 1) l)) (slice_cut (get_or c.args.counts.now c.rank_in_slice-index.result 0 + 1) c.place_of_slice-place.result c.byte_len-size.result
     (slices_len (take c.rank_in_slice-index.result c.args.counts.now)) c.args.slices.now c.place_of_slice-place.ensures c.byte_len-size.ensures)
     ∙ sym found

@@ -1,21 +1,15 @@
 -- The numbers of the slices before that of the high byte, and those of its own.
-use Rattle.std.proofs.Common.{◌≡◌, ◌∙◌, ◌+◌, ◌-◌, ◌*◌, ◌/◌, ◌%◌, ◌<◌, ◌≤◌, ℕ, List, ap, sym, arith, length, drop, take, get_or}
+use Rattle.std.proofs.Common.{◌≡◌, ◌∙◌, ◌+◌, ◌-◌, ◌/◌, ◌%◌, ◌<◌, ◌≤◌, ℕ, List, ap, sym, arith, length, drop, take, get_or}
 use Rattle.std.proofs.lemmas.List.{length-take-le}
 use Rattle.bitpack_sets.proofs.BlockReads.{numbers_few, rank_not_there, rank_there, slice_there}
 use Rattle.bitpack_sets.proofs.CountLaws.{bytes_are}
+use Rattle.bitpack_sets.proofs.CutLaws.{slice_cut}
 use Rattle.bitpack_sets.proofs.HalfLaws.{rank_most}
 use Rattle.bitpack_sets.proofs.ReadLaws.{place_fits, rank_less}
 use Rattle.bitpack_sets.proofs.TestLaws.{bytes_taken}
 use Rattle.bitpack_sets.proofs.chunk.search.rank_in_parts.Goals as goal
-use Rattle.bitpack_sets.specs.Reads.{has, rank}
+use Rattle.bitpack_sets.specs.Reads.{rank}
 use Rattle.bitpack_sets.specs.Slices.{AreSlices, numbers_in, slice_len, slice_numbers, slices_len}
-
--- the slice as the code cuts it
-at_place : (count place size from : ℕ) (bytes : List ℕ) → place ≡ from → size ≡ slice_len count
-    → slice_numbers count (take (place + size - place) (drop place bytes)) ≡ slice_numbers count (take (slice_len count) (drop from bytes))
-at_place count place size from bytes e f =
-    let less : place + size - place ≡ slice_len count = omega arith in
-    ap (λ (m : ℕ). slice_numbers count (take m (drop place bytes))) less ∙ ap (λ (m : ℕ). slice_numbers count (take (slice_len count) (drop m bytes))) e
 
 -- the place of the high byte is among the counts
 at_most : (i x : ℕ) (hs counts : List ℕ) → i ≡ rank x hs → length hs ≡ length counts → i ≤ length counts
@@ -28,7 +22,7 @@ below_counts i x hs counts e less size = omega arith
 own_few : (i place size : ℕ) (counts bytes : List ℕ) → AreSlices counts bytes → place ≡ slices_len (take i counts) → size ≡ slice_len (get_or counts i 0 + 1) → i < length counts
     → length (slice_numbers (get_or counts i 0 + 1) (take (place + size - place) (drop place bytes))) ≡ get_or counts i 0 + 1
 own_few i place size counts bytes are e f lt =
-    ap length (at_place (get_or counts i 0 + 1) place size (slices_len (take i counts)) bytes e f) ∙ (slice_there i counts bytes are lt).count_is
+    ap (λ (l : List ℕ). length (slice_numbers (get_or counts i 0 + 1) l)) (slice_cut (get_or counts i 0 + 1) place size (slices_len (take i counts)) bytes e f) ∙ (slice_there i counts bytes are lt).count_is
 
 pub slice_bounds-count_numbers-end : goal.slice_bounds-count_numbers-end
 slice_bounds-count_numbers-end c =
@@ -88,7 +82,7 @@ returns c =
     let index : ℕ = c.rank_in_slice-index.result in
     let counts : List ℕ = c.args.counts.now in
     let lt = (let small = rank_less (c.args.number / 256) hs (sym c.in_slice.ensures ∙ c.if-not-in_slice.false) in let size = c.requires.highs.count_is in below_counts index (c.args.number / 256) hs counts c.rank_in_slice-index.ensures small size) in
-    let same = at_place (get_or counts index 0 + 1) c.place_of_slice-place.result c.byte_len-size.result (slices_len (take index counts)) c.args.slices.now c.place_of_slice-place.ensures c.byte_len-size.ensures in
+    let same = slice_cut (get_or counts index 0 + 1) c.place_of_slice-place.result c.byte_len-size.result (slices_len (take index counts)) c.args.slices.now c.place_of_slice-place.ensures c.byte_len-size.ensures in
     ap (λ (n : ℕ). n + c.rank_in_slice.result) c.count_numbers-before.ensures
-    ∙ ap (λ (n : ℕ). numbers_in (take index counts) + n) (c.rank_in_slice.ensures ∙ ap (rank (c.args.number % 256)) same)
+    ∙ ap (λ (n : ℕ). numbers_in (take index counts) + n) (c.rank_in_slice.ensures ∙ ap (λ (l : List ℕ). rank (c.args.number % 256) (slice_numbers (get_or counts index 0 + 1) l)) same)
     ∙ sym (rank_there c.args.number index hs counts c.args.slices.now c.requires.highs.count_is c.requires.highs.rising c.requires.slices lt c.rank_in_slice-index.ensures (sym c.in_slice.ensures ∙ c.if-not-in_slice.false))
