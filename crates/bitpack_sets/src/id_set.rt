@@ -142,6 +142,7 @@ impl<'a> IdSet<'a> {
 
     /// An iterator over the ids, in increasing order.
     pub fn iter(&self) -> Ids<'a>
+        // All ids are left.
         ensures { drop result.next (ids result.set) ≡ ids self.now }
     {
         Ids::new(*self)
@@ -210,10 +211,10 @@ impl<'a> IdSet<'a> {
         Chunks::of_array(room)
     }
 
-    /// Writes the ids from a position on at the start of the slice, as many as there are and it has room for. Returns their number, 0 from the
-    /// number of ids on. Allocates nothing, and looks only into bodies that have such ids.
+    /// Writes the ids from a position on at the start of the slice, as many as there are and it has room for, and returns how many it wrote.
+    /// It writes none if the position is not below the number of ids.
     ///
-    /// The rest of the slice is unchanged.
+    /// The rest of the slice is unchanged. Allocates nothing, and looks only into bodies that have such ids.
     pub fn copy_range(&self, from: usize, out: &mut [u32]) -> usize
         ensures len { result ≡ min (length out.old) (length (ids self.now) - from) }
         ensures ids { take result out.new ≡ take result (drop from (ids self.now)) }

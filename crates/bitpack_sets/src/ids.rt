@@ -12,7 +12,7 @@ const MOST_UNPACKED: usize = 256;
 #[derive(Drop)]
 pub struct Ids<'a> {
     set: IdSet<'a>,
-    // The position of the next id, and where those begin and end that are unpacked.
+    // The position of the next id, and where the ids begin and end that are unpacked.
     next: usize,
     begin: usize,
     end: usize,
