@@ -32,6 +32,7 @@ impl<'a> Chunks<'a> {
     ghost use Rattle.std.specs.Prelude.{ℕ, ◌+◌, ◌*◌, ◌/◌, ◌%◌, ◌<◌, ◌==◌, false, if◌then◌else◌, length};
     ghost use Rattle.bitpack_sets.specs.Bitmaps.{Holds, has_bit, has_high};
     ghost use Rattle.bitpack_sets.specs.Chunks.{first_key, ids_from, lows_between, places};
+    ghost use Rattle.bitpack_sets.specs.Directory.{chunk_ids};
     ghost use Rattle.bitpack_sets.specs.Reads.{has};
 
     /// The chunks of a set of `ids` ids in chunks.
