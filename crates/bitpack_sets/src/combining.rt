@@ -52,15 +52,16 @@ pub fn combine_to(
     let mut rooms = ([0; ROOM], [0; ROOM]);
     let mut words = [0; 1024];
     let mut others = [0; 1024];
+    let mut highs = [0; 256];
     let mut pair = Pair::new(operation, a.chunks(&mut rooms.0), b.chunks(&mut rooms.1));
     let mut at = 0;
-    while let Some(part) = pair.next(&mut words, &mut others) {
-        let highs = &part.highs[..part.high_count];
+    while let Some(part) = pair.next(&mut words, &mut others, &mut highs) {
+        let own = &highs[..part.high_count];
         let left = out.len() - at;
-        if left < 65536 && left < count_bitmap(highs, &words) {
+        if left < 65536 && left < count_bitmap(own, &words) {
             return Err(SetError::Short);
         }
-        at = unpack_bitmap(highs, &words, part.key * 65536, out, at);
+        at = unpack_bitmap(own, &words, part.key * 65536, out, at);
     }
     Ok(at)
 }
@@ -72,10 +73,11 @@ pub fn combine_count(operation: Operation, a: &IdSet, b: &IdSet) -> usize
     let mut rooms = ([0; ROOM], [0; ROOM]);
     let mut words = [0; 1024];
     let mut others = [0; 1024];
+    let mut highs = [0; 256];
     let mut pair = Pair::new(operation, a.chunks(&mut rooms.0), b.chunks(&mut rooms.1));
     let mut count = 0;
-    while let Some(part) = pair.next(&mut words, &mut others) {
-        count += count_bitmap(&part.highs[..part.high_count], &words);
+    while let Some(part) = pair.next(&mut words, &mut others, &mut highs) {
+        count += count_bitmap(&highs[..part.high_count], &words);
     }
     count
 }
@@ -101,9 +103,10 @@ fn gives_none(operation: Operation, a: &IdSet, b: &IdSet) -> bool
     let mut rooms = ([0; ROOM], [0; ROOM]);
     let mut words = [0; 1024];
     let mut others = [0; 1024];
+    let mut highs = [0; 256];
     let mut pair = Pair::new(operation, a.chunks(&mut rooms.0), b.chunks(&mut rooms.1));
-    while let Some(part) = pair.next(&mut words, &mut others) {
-        if count_bitmap(&part.highs[..part.high_count], &words) > 0 {
+    while let Some(part) = pair.next(&mut words, &mut others, &mut highs) {
+        if count_bitmap(&highs[..part.high_count], &words) > 0 {
             return false;
         }
     }
