@@ -14,7 +14,7 @@ pub(crate) struct Pair<'a> {
     operation: Operation,
     a: Chunks<'a>,
     b: Chunks<'a>,
-    // The places of the first ids that are left.
+    // Where the ids that are left begin.
     i: usize,
     j: usize,
     ghost a_within: { i ≤ places a },
@@ -85,7 +85,7 @@ impl<'a> Pair<'a> {
     fn skip(&mut self)
         ensures left { (x : ℕ) → left self.old x ≡ left self.new x }
         ensures fewer { places_left self.new ≤ places_left self.old }
-        // Then the lower key is of a set that the operation keeps.
+        // Then the answer can have ids of the lower key.
         ensures keeps_left { first_key (ids_from self.new.a self.new.i) < first_key (ids_from self.new.b self.new.j) → holds self.new.operation true false ≡ true }
         ensures keeps_right { first_key (ids_from self.new.b self.new.j) < first_key (ids_from self.new.a self.new.i) → holds self.new.operation false true ≡ true }
     {
