@@ -298,3 +298,13 @@ answer_few operation xs ys = those_few (2 ^ 32) (λ x. holds operation (has x xs
 
 pub numbers_few : (highs words : List ℕ) → length (bitmap_numbers highs words) ≤ 65536
 numbers_few highs words = those_few 65536 (λ x. has (x / 256) highs && has_bit words x)
+
+no_items : (xs : List ℕ) → length xs ≡ 0 → xs ≡ []
+no_items [] e = refl
+no_items (x ∷ xs) e = absurd (omega arith)
+
+pub none_counted : (all : List ℕ) (more : ℕ → Bool) → Counted 0 all more → ((x : ℕ) → x < 2 ^ 32 → more x ≡ false) → all ≡ []
+none_counted all more so none = no_items all (sym (counted_all 0 all more so none))
+
+pub some_counted : (count : ℕ) (all : List ℕ) (more : ℕ → Bool) → Counted count all more → 0 < count → all ≡ [] → ⊥
+some_counted count all more so some e = let rest = so.rest in let no : length all ≡ 0 = ap length e in omega arith

@@ -11,7 +11,7 @@ use Rattle.bitpack_sets.specs.declared.pairing.Pair.{Pair}
 unfoldable pub left : Pair → ℕ → Bool
 left pair x = holds pair.operation (has x (ids_from pair.a pair.i)) (has x (ids_from pair.b pair.j))
 
--- how many places are left
+-- how many chunks, or ids of an array, are left of both
 abbrev pub places_left : Pair → ℕ
 places_left pair = (places pair.a - pair.i) + (places pair.b - pair.j)
 

@@ -23,7 +23,7 @@ mod slice;
 mod varints;
 mod worked_sets;
 
-pub use combining::{combine_count, combine_to};
+pub use combining::{combine, combine_count, combine_to, is_disjoint, is_subset};
 pub use encoding::{encode, encode_to, encoded_len};
 pub use id_set::IdSet;
 pub use ids::Ids;

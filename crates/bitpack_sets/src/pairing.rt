@@ -14,18 +14,17 @@ pub(crate) struct Pair<'a> {
     operation: Operation,
     a: Chunks<'a>,
     b: Chunks<'a>,
-    // The places of the first ids that are left.
+    // Where the ids that are left begin.
     i: usize,
     j: usize,
     ghost a_within: { i ≤ places a },
     ghost b_within: { j ≤ places b },
 }
 
-/// A chunk of the answer: its key, and the high bytes that it can have. Their bits are in the bitmap beside it.
-#[derive(Drop)]
-pub(crate) struct Answer {
+/// A chunk of the answer: its key, and how many high bytes it can have.
+#[derive(Clone, Copy)]
+pub(crate) struct Part {
     pub(crate) key: u32,
-    pub(crate) highs: [u32; 256],
     pub(crate) high_count: usize,
 }
 
@@ -50,15 +49,16 @@ impl<'a> Pair<'a> {
         }
     }
 
-    /// The next chunk of the answer, whose bits are left in `words`. None if no id is left.
+    /// The next chunk of the answer. Its high bytes are left in `highs`, and their bits in `words`. None if no id is left.
     pub(crate) fn next(
         &mut self,
         words: &mut [u64; 1024],
         others: &mut [u64; 1024],
-    ) -> Option<Answer>
+        highs: &mut [u32; 256],
+    ) -> Option<Part>
         ensures none { IfNone result ((x : ℕ) → x < 2 ^ 32 → left self.old x ≡ false) }
         ensures count { IfSome result (λ part. part.high_count ≤ 256) }
-        ensures part { IfSome result (λ part. IsPart part.key (take part.high_count part.highs) words.new (left self.old) (left self.new)) }
+        ensures part { IfSome result (λ part. IsPart part.key (take part.high_count highs.new) words.new (left self.old) (left self.new)) }
         // It goes on.
         ensures fewer { IfSome result (λ part. places_left self.new < places_left self.old) }
     {
@@ -72,25 +72,20 @@ impl<'a> Pair<'a> {
         let occur = self
             .operation
             .highs(&self.a.highs(self.i, i), &self.b.highs(self.j, j));
-        let mut highs = [0; 256];
-        let high_count = unpack_bits(&occur, 0, &mut highs, 0);
+        let high_count = unpack_bits(&occur, 0, highs, 0);
         self.a.load(self.i, i, &highs[..high_count], words);
         self.b.load(self.j, j, &highs[..high_count], others);
         combine(self.operation, &highs[..high_count], words, others);
         self.i = i;
         self.j = j;
-        Some(Answer {
-            key,
-            highs,
-            high_count,
-        })
+        Some(Part { key, high_count })
     }
 
     // Passes over chunks of one set alone, if their ids are not in the answer.
     fn skip(&mut self)
         ensures left { (x : ℕ) → left self.old x ≡ left self.new x }
         ensures fewer { places_left self.new ≤ places_left self.old }
-        // Then the lower key is of a set that the operation keeps.
+        // Then the answer can have ids of the lower key.
         ensures keeps_left { first_key (ids_from self.new.a self.new.i) < first_key (ids_from self.new.b self.new.j) → holds self.new.operation true false ≡ true }
         ensures keeps_right { first_key (ids_from self.new.b self.new.j) < first_key (ids_from self.new.a self.new.i) → holds self.new.operation false true ≡ true }
     {

@@ -20,7 +20,7 @@ overflow_sub-left c = c.loop-part.invariant.within
 
 pub returns-then-left-count_bitmap-clause-room : goal.returns-then-left-count_bitmap-clause-room
 returns-then-left-count_bitmap-clause-room c =
-    let numbers = bitmap_numbers (take c.in-Some.part.high_count c.in-Some.part.highs) c.next.new.words in
+    let numbers = bitmap_numbers (take c.in-Some.part.high_count c.next.new.highs) c.next.new.words in
     let within = c.loop-part.invariant.within in
     let more = (counted_more c.loop-part.at (c.loop-part.at + length numbers) c.in-Some.part.key _ _ _ _ _ (counted_so _ _ _ _ c.loop-part.invariant) c.in-Some.ensures.part (omega arith)).rest in
     let count = c.count_bitmap.ensures in
@@ -31,7 +31,7 @@ returns-then-left-count_bitmap-clause-room c =
 pub unpack_bitmap-at-requires-clause-room : goal.unpack_bitmap-at-requires-clause-room
 unpack_bitmap-at-requires-clause-room c =
     let within = c.loop-part.invariant.within in
-    let few = numbers_few (take c.in-Some.part.high_count c.in-Some.part.highs) c.next.new.words in
+    let few = numbers_few (take c.in-Some.part.high_count c.next.new.highs) c.next.new.words in
     elim c.else-left-lt65536.branch [
       | else-left-lt65536-via-then-left-lt65536+else-left-count_bitmap w ↦ (let count = w.count_bitmap.ensures in let most = w.if-left-count_bitmap.false in omega arith)
       | else-left-lt65536-via-else-left-lt65536 w ↦ (let most = w.if-left-lt65536.false in omega arith)
