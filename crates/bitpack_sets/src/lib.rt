@@ -19,4 +19,5 @@ mod worked_sets;
 
 pub use encoding::{encode, encode_to, encoded_len};
 pub use id_set::IdSet;
+pub use opening::Parts;
 pub use set_error::SetError;
