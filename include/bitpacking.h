@@ -1,20 +1,20 @@
-/* bitpacking.h: blocks of 32-bit integers packed in few bits per value, and chains and lists of such blocks.
+/* bitpacking.h: blocks of 32-bit integers packed in few bits per value, chains and lists of such blocks, and id sets.
  *
  * The functions are in a static library, libbitpacking.a; docs/C.md of the repository says how to build it. It chooses the level of the
  * processor, or has one level. Four functions are `static inline` here, and in no archive: bitpacking_list_empty, bitpacking_list_none,
  * bitpacking_cursor_block and bitpacking_error_text; the shared library has them for other languages. Four steps of cursors, list_append, list_join,
- * and list_pack and list_size of each packer, are in the archive and `static inline` here too: see bitpacking_cursor_value_inline and
+ * set_pack, and list_pack and list_size of each packer, are in the archive and `static inline` here too: see bitpacking_cursor_value_inline and
  * bitpacking_4x_list_pack_inline.
  *
  * What each call of the archive returns and writes is proved for all arguments that meet these rules:
  *
  * - A pointer with a length after it is to that many items. It may be NULL if the length is 0.
- * - The pointers num_bits, view, cursor, builder, position, item, block, least and greatest are to one item each, and must not be NULL. Only
- *   the position of list_pack, list_size, list_append and list_join may be NULL: see bitpacking_4x_list_pack_inline.
+ * - The pointers num_bits, view, cursor, builder, position, item, id, block, least and greatest are to one item each, and must not be NULL.
+ *   Only the position of list_pack, list_size, list_append, list_join and set_pack may be NULL: see bitpacking_4x_list_pack_inline.
  * - Pointers are aligned for their type.
  * - The buffers that a call writes overlap none of its other arguments, no bytes of a view or a cursor, and no values of a builder.
  * - Nothing else writes to an argument during a call, and nothing reads what the call writes.
- * - The bytes of a list do not change while a view or a cursor of it is used: see bitpacking_list below.
+ * - The bytes of a list or of a set do not change while a view or a cursor of it is used: see bitpacking_list below.
  *
  * The functions allocate nothing and have no state: they may run on any threads at once.
  *
@@ -29,8 +29,8 @@
  *     strictly_sorted    one less than that, modulo 2^32                       initial, or BITPACKING_NO_INITIAL for none
  *
  * A call that works returns a number of bytes, or a width, from 0 on. A call that fails returns one of the negative numbers
- * below, and writes nothing: the buffers are unchanged. Only list_pack, list_size, list_append, list_join and list_builder_extend
- * write at one error, the position of a value that is out of order. Comments name an error without BITPACKING_.
+ * below, and writes nothing: the buffers are unchanged. Only list_pack, list_size, list_append, list_join, list_builder_extend and
+ * set_pack write at one error, the position of a value that is out of order. Comments name an error without BITPACKING_.
  *
  *     uint32_t values[128], back[128];
  *     uint8_t bytes[BITPACKING_4X_BLOCK_SIZE(BITPACKING_MAX_WIDTH)], width;
@@ -315,6 +315,13 @@ static inline bitpacking_list bitpacking_list_none(void)
 #define BITPACKING_LIST_PADDING (-34)     /* from version 3 on: a bit after the codes of a group is set */
 #define BITPACKING_LIST_BAD_SIZES (-36)   /* of version 4: the ends or the marks do not have the least count of bytes */
 #define BITPACKING_LIST_BAD_BITS (-37)    /* of version 4: a set of bits is not the one of its block */
+
+/* Faults that only id sets have: see bitpacking_set_open. */
+#define BITPACKING_SET_BAD_KEY (-38)    /* the key of a chunk is not above the one before it */
+#define BITPACKING_SET_BAD_SUM (-39)    /* a chunk has no id or more than 65,536, or the chunks have another number of ids than the set */
+#define BITPACKING_SET_BAD_BODY (-40)   /* the body of a chunk is not one of as many numbers */
+#define BITPACKING_SET_LOOSE_BODY (-41) /* the body of a chunk has two bytes for each number, and its blocks are shorter */
+#define BITPACKING_SET_LOOSE_FORM (-42) /* the ids stand as an array, and belong in chunks */
 
 /* No block or no position: what bitpacking_list_fault writes then. */
 #define BITPACKING_NOWHERE SIZE_MAX
@@ -742,6 +749,16 @@ static inline const char *bitpacking_error_text(ptrdiff_t number)
         return "The ends or the marks of the list do not have the least count of bytes.";
     case BITPACKING_LIST_BAD_BITS:
         return "A set of bits in the list is not the one of its block.";
+    case BITPACKING_SET_BAD_KEY:
+        return "The key of a chunk is not above the one before it.";
+    case BITPACKING_SET_BAD_SUM:
+        return "A chunk of the set has a wrong number of ids.";
+    case BITPACKING_SET_BAD_BODY:
+        return "The body of a chunk is not one of as many numbers.";
+    case BITPACKING_SET_LOOSE_BODY:
+        return "The body of a chunk is not in its shortest form.";
+    case BITPACKING_SET_LOOSE_FORM:
+        return "The ids of the set belong in chunks.";
     default:
         return "No error has this number.";
     }
@@ -799,6 +816,74 @@ ptrdiff_t bitpacking_list_remove(const bitpacking_list *view, uint32_t *values, 
 /* Adds the values of the list to the first `count` values, each once. The values after these are room: values_len is at least the sum of
  * count and the length of the list. */
 ptrdiff_t bitpacking_list_add(const bitpacking_list *view, size_t count, uint32_t *values, size_t values_len);
+
+/* Id sets: increasing ids, in fewer bytes than a list of them has. A single id is looked up in place. docs/FORMAT.md of the repository
+ * describes each byte. A set has one encoding.
+ *
+ * A view of a set is one as of a list: a struct of the caller that borrows the bytes, and whose fields only bitpacking_set_open and
+ * bitpacking_set_open_tested may write. Set it to BITPACKING_SET_EMPTY before anything else, or all of it to zero: each is the empty set.
+ *
+ *     bitpacking_set set = BITPACKING_SET_EMPTY;
+ *     if (bitpacking_set_open(bytes, bytes_len, &set) < 0) return -1;
+ *     if (bitpacking_set_contains(&set, 1000)) ...
+ */
+typedef struct bitpacking_set {
+    const uint8_t *bytes;
+    size_t bytes_len;
+    size_t count;
+    size_t chunks;
+    const uint8_t *rest;
+    size_t rest_len;
+} bitpacking_set;
+
+#define BITPACKING_SET_EMPTY {NULL, 0, 0, 0, NULL, 0}
+
+/* Room that is enough for every set of ids_len ids, in bytes. */
+#define BITPACKING_SET_ROOM(ids_len) (10 + 9 * sizeof(uint8_t) * (ids_len) / 2)
+
+/* Writes the set of these ids at the start of bytes, and returns its number of bytes. Bytes after those are unchanged. The ids increase: each
+ * is above the one before it.
+ * The first of: LIST_TOO_LONG: these are more than 268,435,456 ids; LIST_NOT_SORTED, and then *position is the position of the first id that
+ * is not above the one before it, unless position is NULL; SHORT: bytes_len is below the number of bytes of the set, which
+ * BITPACKING_SET_ROOM(ids_len) never is. Nothing else is written then, and *position only if the result is LIST_NOT_SORTED. */
+ptrdiff_t bitpacking_set_pack(const uint32_t *ids, size_t ids_len, uint8_t *bytes, size_t bytes_len, size_t *position);
+
+/* The inline form of bitpacking_set_pack, whose position may be NULL. */
+static inline ptrdiff_t bitpacking_set_pack_inline(const uint32_t *ids, size_t ids_len, uint8_t *bytes, size_t bytes_len, size_t *position)
+{
+    size_t ignored;
+
+    return (bitpacking_set_pack)(ids, ids_len, bytes, bytes_len, position != NULL ? position : &ignored);
+}
+
+#ifndef BITPACKING_NO_INLINE
+#define bitpacking_set_pack(...) bitpacking_set_pack_inline(__VA_ARGS__)
+#endif
+
+/* Opens a set. Accepts any bytes, and tests all of them: they may be untrusted. Returns 0; or the number of the first fault in the order of
+ * docs/FORMAT.md, and then the view is unchanged. A fault that lists have too has its number, as LIST_SHORT; others begin at SET_BAD_KEY. */
+ptrdiff_t bitpacking_set_open(const uint8_t *bytes, size_t bytes_len, bitpacking_set *view);
+
+/* Opens bytes that bitpacking_set_open accepted before, and that did not change since. It does not test them again. With other bytes this
+ * call or a later one may read or write outside its buffers. */
+void bitpacking_set_open_tested(const uint8_t *bytes, size_t bytes_len, bitpacking_set *view);
+
+/* Returns how many ids an opened set has. */
+size_t bitpacking_set_len(const bitpacking_set *view);
+
+/* Unpacks all ids, and returns their number. Those in the buffer after them are unchanged.
+ * SHORT: ids_len is below the number of ids. */
+ptrdiff_t bitpacking_set_unpack(const bitpacking_set *view, uint32_t *ids, size_t ids_len);
+
+/* Returns 1 if the set has this id, and else 0. */
+int32_t bitpacking_set_contains(const bitpacking_set *view, uint32_t id);
+
+/* Writes the id at a position, from 0 on, and returns 1. If there is no such position it returns 0 and writes nothing. */
+int32_t bitpacking_set_get(const bitpacking_set *view, size_t position, uint32_t *id);
+
+/* Searches for the first id that is at least target. Writes its position and the id, and returns 1. If every id is below the target it
+ * returns 0 and writes nothing. */
+int32_t bitpacking_set_seek(const bitpacking_set *view, uint32_t target, size_t *position, uint32_t *id);
 
 #ifdef __cplusplus
 }

@@ -1,9 +1,9 @@
 #!/usr/bin/env python3
 """Compares the types and the names of what the functions for C take: those of crates/bitpacking_c with those that include/bitpacking.h
 declares, and with those by which rust/src/calls.rs and rust/src/calls/by_name.rs call them. A slice `x` is a pointer `x` and a length
-`x_len`. The fields of `bitpacking_list`, `bitpacking_list_outline`, `bitpacking_cursor` and `bitpacking_list_builder` are compared with
-`ListView`, `ListOutline`, `ListCursor` and `ListBuilder` too, and the limits of blocks with those of crates/bitpacking. The header is read
-as it is written: it has to name each function in a prototype, which no macro makes.
+`x_len`. The fields of `bitpacking_list`, `bitpacking_list_outline`, `bitpacking_cursor`, `bitpacking_list_builder` and `bitpacking_set` are
+compared with `ListView`, `ListOutline`, `ListCursor`, `ListBuilder` and `SetView` too, and the limits of blocks with those of
+crates/bitpacking. The header is read as it is written: it has to name each function in a prototype, which no macro makes.
 
 The header, the archive, the Rust crate and the Python package have the version of CHANGELOG.md.
 
@@ -28,12 +28,14 @@ C_TYPES = {
     "ListView": "bitpacking_list",
     "ListCursor": "bitpacking_cursor",
     "ListBuilder": "bitpacking_list_builder",
+    "SetView": "bitpacking_set",
 }
 STRUCTS = {
     "ListOutline": "crates/bitpack_lists/src/opened/outline.rt",
     "ListView": "crates/bitpacking_c/src/list_view.rt",
     "ListCursor": "crates/bitpacking_c/src/list_cursor.rt",
     "ListBuilder": "crates/bitpacking_c/src/list_builder.rt",
+    "SetView": "crates/bitpacking_c/src/set_view.rt",
 }
 PLACE = "crates/bitpack_lists/src/opened/place.rt"
 HEADER = "include/bitpacking.h"

@@ -265,7 +265,12 @@ static void texts(void)
         {BITPACKING_LIST_BAD_NUMBER, "A varint in the list does not have its only form."},
         {BITPACKING_LIST_PADDING, "A bit after the codes of a group is set."},
         {BITPACKING_LIST_BAD_SIZES, "The ends or the marks of the list do not have the least count of bytes."},
-        {BITPACKING_LIST_BAD_BITS, "A set of bits in the list is not the one of its block."}};
+        {BITPACKING_LIST_BAD_BITS, "A set of bits in the list is not the one of its block."},
+        {BITPACKING_SET_BAD_KEY, "The key of a chunk is not above the one before it."},
+        {BITPACKING_SET_BAD_SUM, "A chunk of the set has a wrong number of ids."},
+        {BITPACKING_SET_BAD_BODY, "The body of a chunk is not one of as many numbers."},
+        {BITPACKING_SET_LOOSE_BODY, "The body of a chunk is not in its shortest form."},
+        {BITPACKING_SET_LOOSE_FORM, "The ids of the set belong in chunks."}};
     enum { COUNT = sizeof errors / sizeof *errors };
     ptrdiff_t number;
     size_t others = 0, i;

@@ -1,10 +1,10 @@
 #!/usr/bin/env python3
 """Compiles and runs the C programs over the archive for all levels of the processor and the archive of each level: those of examples/,
 whose output is worked by hand, scripts/test/calls.c, list_calls.c, cursor.c, columns.c, blocks.c and builder.c, and scripts/test/tables.c,
-queries.c, sets.c and damaged.c over the tables of vectors/. They are compiled as C99 with every warning an error and run with little stack,
+queries.c, sets.c, id_sets.c and damaged.c over the tables of vectors/. They are compiled as C99 with every warning an error and run with little stack,
 and once more with the address sanitizer if the compiler has it. The two programs of calls are also compiled as C++11 and C++17, without a cast
 of C in the header; scripts/test/calls.c also runs over the archive for all levels on a processor of each level that qemu gives. It,
-list_calls.c, blocks.c and builder.c have to name every macro of the header. Over that archive scripts/test/damaged.c opens a million damaged
+list_calls.c, blocks.c, builder.c and id_sets.c have to name every macro of the header. Over that archive scripts/test/damaged.c opens a million damaged
 lists once more.
 
 Then each program has to fail with another output than it has, or, if it prints nothing, with a function that returns one more. The archives
@@ -34,8 +34,11 @@ BLOCKS = "scripts/test/blocks.c"
 BUILDER = "scripts/test/builder.c"
 TABLES = "scripts/test/tables.c"
 SETS = "scripts/test/sets.c"
+ID_SETS = "scripts/test/id_sets.c"
 QUERIES = "scripts/test/queries.c"
 DAMAGED = "scripts/test/damaged.c"
+# Those that name the macros of the header.
+NAMING = [CALLS, LIST_CALLS, BLOCKS, BUILDER, ID_SETS]
 STACK = 256 << 10  # bytes; the sanitizer needs more
 SANITIZED = ["-fsanitize=address,undefined", "-fno-sanitize-recover=all"]
 # The index of the documents 1 to 1000, by hand: 500, 333 and 200 numbers. The codes of the lists are gaps less one: 1 of even (of its
@@ -64,6 +67,10 @@ PROGRAMS = {
     "examples/column.c": "20 of 1000 rows: 3 30 57 84 111 138 165 192 219 246 273 300 787 814 841 868 895 922 949 976\n",
     # The second 10 is refused; the others are those of examples/list.c.
     "examples/builder.c": "10 is out of order\n4 ids in 7 bytes\n",
+    # The ids up to 2997 have 12 high bytes, each with 85 or 86 low ones, which take 32 bytes of bits. The body is a byte, the 12 high bytes, 12
+    # counts and 12 * 32 bytes: 409. Before it are byte 0, 2 bytes for 1000, 1 for one chunk, 1 of sizes, 2 for its key, and 2 each for 409 and
+    # 1000. 600 is the id at position 200.
+    "examples/id_set.c": "1000 ids in 420 bytes\n600: yes, 601: no\nthe first from 601 on is 603, at position 201\n",
     "examples/index.c": INDEX,
     CALLS: "",
     "scripts/test/cursor.c": "",
@@ -83,6 +90,7 @@ PROGRAMS = {
     # Then each with the array of each, by three calls, and with no value and four values, by three and two. And so 27 more lists, but each two of
     # these with six of them.
     SETS: "580 lists, 953215 combined, 640810 counted, 925994 with an array\n",
+    ID_SETS: "360 sets, 2052 refusals\n",
 }
 # For each program that prints nothing, a function of the header that it calls, and that function with a wrong answer.
 CALLED = {
@@ -105,6 +113,7 @@ ONE_MORE = """#include "bitpacking.h"
 """
 VECTORS = {SETS: ["lists2", "lists3"], DAMAGED: ["lists2", "lists3", "lists4", "refused2", "refused3", "refused4"]}
 VECTORS[TABLES] = [*VECTORS[DAMAGED], "upgrade4"]
+VECTORS[ID_SETS] = ["id_sets", "refused_id_sets"]
 VECTORS[QUERIES] = ["seek", "seek3", "seek4", "intersect", "union", "difference", "refused_values"]
 # The same of a million damaged lists.
 MILLION = (
@@ -212,7 +221,7 @@ def on_other_processors():
 
 def macros_not_named():
     """What is wrong with the use of the header's macros, or None. Its guard is its own."""
-    text, used = source("include/bitpacking.h"), set(re.findall(r"\w+", "".join(map(source, [CALLS, LIST_CALLS, BLOCKS, BUILDER]))))
+    text, used = source("include/bitpacking.h"), set(re.findall(r"\w+", "".join(map(source, NAMING))))
     own = set(re.findall(r"^#ifndef (\w+)", text, re.M))
     macros = set(re.findall(r"^#define (\w+)", text, re.M)) - own
     if not macros:
@@ -223,8 +232,11 @@ def macros_not_named():
 def casts_in_the_header():
     """What a C++ compiler says of casts of C in the header and its macros, or None."""
     macros = re.findall(r"^#define (BITPACKING_\w+)(\(\w+\))? ", source("include/bitpacking.h"), re.M)
-    uses = [f"used({name}{'(1)' if given else ''});" for name, given in macros if name != "BITPACKING_LIST_EMPTY"]
+    uses = [
+        f"used({name}{'(1)' if given else ''});" for name, given in macros if name not in ("BITPACKING_LIST_EMPTY", "BITPACKING_SET_EMPTY")
+    ]
     lines = ["template <typename Item> static void used(Item) {}", "int main() { bitpacking_list list = BITPACKING_LIST_EMPTY; used(list);"]
+    lines.append("bitpacking_set set = BITPACKING_SET_EMPTY; used(set);")
     text = "\n".join(['#include "bitpacking.h"', *lines, *uses, "used(bitpacking_list_empty()); }", ""])
     right, said = works(["c++", *STRICT, "-Wold-style-cast", "-x", "c++", "-fsyntax-only", "-"], input=text)
     return None if right else said or "it is refused"
@@ -232,7 +244,7 @@ def casts_in_the_header():
 
 def checks():
     """Each check as a name and what is wrong, or None."""
-    yield f"the macros in {CALLS}, {LIST_CALLS}, {BLOCKS} and {BUILDER}", macros_not_named()
+    yield f"the macros in {', '.join(NAMING)}", macros_not_named()
     sanitizers, in_cpp = has_sanitizers(), shutil.which("c++")
     if not sanitizers:
         leave_out("the C programs under the address sanitizer", "which cc does not have here")

@@ -9,10 +9,10 @@
 #include <stdlib.h>
 #include <string.h>
 
-enum { LINE = 1 << 21, COLUMNS = 5, TABLES = 8 };
+enum { LINE = 1 << 21, COLUMNS = 5, TABLES = 10 };
 
 /* The table of the row that was read last. */
-static enum { LISTS, REFUSED, SEARCHES, INTERSECTIONS, UNIONS, DIFFERENCES, REFUSED_VALUES, UPGRADES } table;
+static enum { LISTS, REFUSED, SEARCHES, INTERSECTIONS, UNIONS, DIFFERENCES, REFUSED_VALUES, UPGRADES, ID_SETS, REFUSED_ID_SETS } table;
 static const char *const heads[TABLES] = {
     "kind\tlanes\tvalues\tbytes",
     "lanes\tnumber\tfault\tbytes\trule",
@@ -21,7 +21,9 @@ static const char *const heads[TABLES] = {
     "lanes\tbytes\tother_lanes\tother_bytes\tunited",
     "lanes\tbytes\tother_lanes\tother_bytes\tleft",
     "version\tkind\tlanes\tvalues\tposition",
-    "lanes\tbytes\tnumber\tfault\tupgraded"};
+    "lanes\tbytes\tnumber\tfault\tupgraded",
+    "ids\tbytes",
+    "number\tfault\tbytes"};
 
 static char line[LINE];
 
@@ -57,7 +59,7 @@ static int next_row(char *column[COLUMNS])
     return 0;
 }
 
-static uint8_t kind_of(const char *name)
+static inline uint8_t kind_of(const char *name)
 {
     return *name == 'p' ? 0 : name[1] == 'o' ? 1 : 2;
 }
@@ -67,24 +69,44 @@ static unsigned digit(char it)
     return (unsigned)(it <= '9' ? it - '0' : it - 'a' + 10);
 }
 
-/* The bytes of hexadecimal digits, or none of "-". */
+/* The bytes of hexadecimal digits, or none of "-". `{ff00*16}` is these two bytes 16 times. */
 static size_t read_bytes(const char *digits, uint8_t *bytes)
 {
-    size_t len = 0;
+    size_t len = 0, start = 0;
 
-    for (; isxdigit((unsigned char)*digits); digits += 2)
-        bytes[len++] = (uint8_t)(16 * digit(digits[0]) + digit(digits[1]));
+    while (isxdigit((unsigned char)*digits) || *digits == '{' || *digits == '*')
+        if (*digits == '{') {
+            start = len;
+            digits++;
+        } else if (*digits == '*') {
+            const size_t part = len - start;
+            char *end;
+            unsigned long times = strtoul(digits + 1, &end, 10);
+
+            for (; times > 1; times--, len += part)
+                memcpy(bytes + len, bytes + start, part);
+            digits = end + 1;
+        } else {
+            bytes[len++] = (uint8_t)(16 * digit(digits[0]) + digit(digits[1]));
+            digits += 2;
+        }
     return len;
 }
 
-/* The values between commas, or none of "-". */
+/* The values between commas, or none of "-". `5-9` is five of them, and `0-8/2` those with steps of 2. */
 static size_t read_values(char *text, uint32_t *values)
 {
     size_t len = 0;
     char *end;
 
-    for (; *text != '-' && *text != 0; text = *end == ',' ? end + 1 : end)
-        values[len++] = (uint32_t)strtoul(text, &end, 10);
+    for (; *text != '-' && *text != 0; text = *end == ',' ? end + 1 : end) {
+        uint64_t value = strtoul(text, &end, 10);
+        const uint64_t last = *end == '-' ? strtoul(end + 1, &end, 10) : value;
+        const uint64_t step = *end == '/' ? strtoul(end + 1, &end, 10) : 1;
+
+        for (; value <= last; value += step)
+            values[len++] = (uint32_t)value;
+    }
     return len;
 }
 

@@ -11,7 +11,7 @@ use crate::few::{
     MOST_FEW, in_few, rank_in_few, select_in_few, unpack_few, unpack_few_bytes, unpack_few_from,
 };
 use crate::ids::Ids;
-use crate::opening::{read_parts, test_text};
+use crate::opening::{Parts, read_parts, test_text};
 use crate::reserved::append_zeros;
 use crate::searching::{in_chunks, rank_in_chunks, select_in_chunks};
 use crate::set_error::SetError;
@@ -66,12 +66,33 @@ impl<'a> IdSet<'a> {
         ensures set { IsSet (ids result) }
         ensures text { text (ids result) ≡ bytes.now }
     {
-        let parts = read_parts(bytes);
+        IdSet::from_parts(bytes, read_parts(bytes))
+    }
+
+    /// The set of these bytes, whose parts were taken from it when they were opened. Reads none of the bytes.
+    pub fn from_parts(bytes: &'a [u8], parts: Parts<'a>) -> IdSet<'a>
+        requires { States bytes.now parts.count parts.chunks parts.rest.now }
+        ensures bytes { text_of result ≡ bytes.now }
+        ensures set { IsSet (ids result) }
+        ensures text { text (ids result) ≡ bytes.now }
+    {
         IdSet {
             bytes,
             count: parts.count,
             chunks: parts.chunks,
             rest: parts.rest,
+        }
+    }
+
+    /// What opening this set found.
+    pub fn parts(&self) -> Parts<'a>
+        ensures states { States (text_of self.now) result.count result.chunks result.rest.now }
+        ensures count { result.count ≡ length (ids self.now) }
+    {
+        Parts {
+            count: self.count,
+            chunks: self.chunks,
+            rest: self.rest,
         }
     }
 

@@ -21,11 +21,16 @@ const MOST_IDS: usize = 1 << 28;
 const MOST_CHUNKS: usize = 1 << 16;
 
 /// What the first bytes of an encoding state, and what is after them.
+///
+/// A caller who stores it beside the bytes has the set again by [`IdSet::from_parts`](crate::IdSet::from_parts).
 #[derive(Clone, Copy)]
-pub(crate) struct Parts<'a> {
-    pub(crate) count: usize,
-    pub(crate) chunks: usize,
-    pub(crate) rest: &'a [u8],
+pub struct Parts<'a> {
+    /// How many ids there are.
+    pub count: usize,
+    /// How many chunks there are, of a set in chunks.
+    pub chunks: usize,
+    /// The bytes after these counts.
+    pub rest: &'a [u8],
 }
 
 /// Tests all bytes.

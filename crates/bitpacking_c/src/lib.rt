@@ -30,6 +30,8 @@ mod list_sorting;
 mod list_view;
 mod list_windows;
 mod no_initial;
+mod set_packing;
+mod set_view;
 mod version;
 mod wide_calls;
 
@@ -37,3 +39,4 @@ pub use call_error::CallError;
 pub use list_builder::ListBuilder;
 pub use list_cursor::ListCursor;
 pub use list_view::ListView;
+pub use set_view::SetView;

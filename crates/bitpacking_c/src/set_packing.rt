@@ -1,0 +1,44 @@
+//! Id sets, written into the caller's buffer.
+
+ghost use Rattle.std.specs.Prelude.{◌≡◌, ◌^◌, ◌<◌, IfOk};
+ghost use Rattle.bitpack_sets.specs.Written.{WritesSet};
+ghost use Rattle.bitpacking_c.specs.IdSets.{PacksSet, number_of_set, position_after_set};
+
+use bitpack_sets::{SetError, encode_to};
+
+/// Writes the id set of these ids at the start of `bytes`, and returns its length. The rest of `bytes` is unchanged. The ids have to
+/// increase, and are at most 268,435,456.
+///
+/// If there is no room it returns -3, and for a fault the number of the first. Then nothing is written but the position of an id that is
+/// not above the one before it.
+#[unsafe(no_mangle)]
+pub extern "C" fn bitpacking_set_pack(ids: &[u32], bytes: &mut [u8], position: &mut usize) -> isize
+    ensures { PacksSet ids.now bytes.old bytes.new position.old position.new result }
+{
+    answer(pack(ids, bytes), position)
+}
+
+/// Writes the id set of these ids.
+fn pack(ids: &[u32], bytes: &mut [u8]) -> Result<usize, SetError>
+    ensures writes { WritesSet ids.now result bytes.old bytes.new }
+    ensures small { IfOk result (λ size. size < 2 ^ 63) }
+{
+    encode_to(ids, bytes)
+}
+
+/// The number for C. The position of an id out of order is written.
+fn answer(found: Result<usize, SetError>, position: &mut usize) -> isize
+    requires { IfOk found (λ size. size < 2 ^ 63) }
+    ensures number { result ≡ number_of_set found }
+    ensures position { position.new ≡ position_after_set position.old found }
+{
+    match found {
+        Ok(size) => size as isize,
+        Err(SetError::Short) => -3,
+        Err(SetError::NotSorted(at)) => {
+            *position = at;
+            -30
+        }
+        Err(fault) => -20 - fault.number() as isize,
+    }
+}

@@ -1,0 +1,163 @@
+//! Id sets, opened without a copy: a view in the caller's memory holds the bytes, and that they are a set.
+
+ghost use Rattle.std.specs.Prelude.{◌≡◌, ◌≢◌, [], length, None};
+ghost use Rattle.bitpack_sets.specs.Faults.{fault};
+ghost use Rattle.bitpack_sets.specs.Reads.{has, ids_in};
+ghost use Rattle.bitpack_sets.specs.Stated.{States};
+ghost use Rattle.bitpacking_c.specs.IdSets.{Encodes, SeeksId, number_of_answer, set_fault_number};
+ghost use Rattle.bitpacking_c.specs.Views.{Gets, UnpacksList};
+
+use bitpack_sets::{IdSet, Parts};
+
+/// An id set that was opened. It borrows its bytes, which do not change while the view is used.
+///
+/// C has to set it before it is opened: to the empty set of the header, or all of it to zero, which is an empty set too.
+#[repr(C)]
+#[derive(Drop)]
+pub struct SetView<'a> {
+    pub(crate) bytes: &'a [u8],
+    count: usize,
+    chunks: usize,
+    // What is after the counts.
+    rest: &'a [u8],
+    // Only a view that was opened has bytes. What opening them found is stored in it.
+    ghost opened: { bytes.now ≢ [] → States bytes.now count chunks rest.now },
+    ghost counted: { count ≡ length (ids_in bytes.now) },
+}
+
+impl<'a> SetView<'a> {
+    ghost use Rattle.std.specs.Prelude.{IfSome};
+    ghost use Rattle.bitpack_sets.specs.Opened.{ids, text_of};
+
+    /// The view of an opened set, which has these bytes.
+    fn of_set(bytes: &'a [u8], set: &IdSet<'a>) -> SetView<'a>
+        requires { text_of set.now ≡ bytes.now }
+        ensures { result.bytes.now ≡ bytes.now }
+    {
+        let parts = set.parts();
+        SetView {
+            bytes,
+            count: parts.count,
+            chunks: parts.chunks,
+            rest: parts.rest,
+        }
+    }
+
+    /// The set, if the view was opened. Reads none of the bytes.
+    fn set(&self) -> Option<IdSet<'a>>
+        ensures some { IfSome result (λ set. ids set ≡ ids_in self.now.bytes.now) }
+        ensures none { result ≡ None → ids_in self.now.bytes.now ≡ [] }
+    {
+        if self.bytes.len() == 0 {
+            return None;
+        }
+        Some(IdSet::from_parts(
+            self.bytes,
+            Parts {
+                count: self.count,
+                chunks: self.chunks,
+                rest: self.rest,
+            },
+        ))
+    }
+}
+
+/// Opens an id set. Tests all bytes. Returns 0, or the number of the first fault.
+#[unsafe(no_mangle)]
+pub extern "C" fn bitpacking_set_open<'a>(bytes: &'a [u8], view: &mut SetView<'a>) -> isize
+    ensures answer { result ≡ set_fault_number (fault bytes.now) }
+    ensures opened { fault bytes.now ≡ None → view.new.bytes.now ≡ bytes.now }
+    ensures set { fault bytes.now ≡ None → Encodes bytes.now (ids_in view.new.bytes.now) }
+    ensures unchanged { fault bytes.now ≢ None → view.new ≡ view.old }
+{
+    match IdSet::open(bytes) {
+        Ok(set) => {
+            *view = SetView::of_set(bytes, &set);
+            0
+        }
+        Err(fault) => -20 - fault.number() as isize,
+    }
+}
+
+/// Sets a view to bytes that `bitpacking_set_open` accepted before, and does not test them again.
+#[unsafe(no_mangle)]
+pub extern "C" fn bitpacking_set_open_tested<'a>(bytes: &'a [u8], view: &mut SetView<'a>)
+    requires tested { fault bytes.now ≡ None }
+    ensures opened { view.new.bytes.now ≡ bytes.now }
+    ensures set { Encodes bytes.now (ids_in view.new.bytes.now) }
+{
+    *view = SetView::of_set(bytes, &IdSet::of_tested(bytes));
+}
+
+/// How many ids the set has.
+#[unsafe(no_mangle)]
+pub extern "C" fn bitpacking_set_len(view: &SetView<'_>) -> usize
+    ensures { result ≡ length (ids_in view.now.bytes.now) }
+{
+    view.count
+}
+
+/// Returns 1 if the set has this id, and else 0.
+#[unsafe(no_mangle)]
+pub extern "C" fn bitpacking_set_contains(view: &SetView<'_>, id: u32) -> i32
+    ensures { result ≡ number_of_answer (has id (ids_in view.now.bytes.now)) }
+{
+    let Some(set) = view.set() else {
+        return 0;
+    };
+    if set.contains(id) { 1 } else { 0 }
+}
+
+/// Writes all ids to the front of `ids`, and returns their number. If there is no room for them it returns -3 and writes nothing. The
+/// rest of `ids` is unchanged.
+#[unsafe(no_mangle)]
+pub extern "C" fn bitpacking_set_unpack(view: &SetView<'_>, ids: &mut [u32]) -> isize
+    ensures { UnpacksList (ids_in view.now.bytes.now) ids.old ids.new result }
+{
+    let Some(set) = view.set() else {
+        return 0;
+    };
+    if ids.len() < set.len() {
+        return -3;
+    }
+    set.copy_to(ids) as isize
+}
+
+/// Writes the id at a position and returns 1. From the number of ids on it returns 0 and writes nothing.
+#[unsafe(no_mangle)]
+pub extern "C" fn bitpacking_set_get(view: &SetView<'_>, position: usize, id: &mut u32) -> i32
+    ensures { Gets (ids_in view.now.bytes.now) position id.old id.new result }
+{
+    let Some(set) = view.set() else {
+        return 0;
+    };
+    match set.select(position) {
+        Some(found) => {
+            *id = found;
+            1
+        }
+        None => 0,
+    }
+}
+
+/// Writes the position of the first id that is at least the target, and the id, and returns 1. If every id is below the target it returns 0
+/// and writes nothing.
+#[unsafe(no_mangle)]
+pub extern "C" fn bitpacking_set_seek(
+    view: &SetView<'_>,
+    target: u32,
+    position: &mut usize,
+    id: &mut u32,
+) -> i32
+    ensures { SeeksId (ids_in view.now.bytes.now) target (position.old, id.old) (position.new, id.new) result }
+{
+    let Some(set) = view.set() else {
+        return 0;
+    };
+    let Some((at, found)) = set.seek(target) else {
+        return 0;
+    };
+    *position = at;
+    *id = found;
+    1
+}
