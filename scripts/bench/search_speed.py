@@ -49,6 +49,7 @@ LEAST = {"bytes": 200_000_000, "paragraphs": 500_000}
 WAYS = {
     "lists": (3, 99, 1),
     "lists3": (3, 99, 1),
+    "sets": (3, 99, 1),
     "arrays": (3, 99, 1),
     "roaring": (3, 99, 1),
     "roaring_here": (3, 99, 1),
@@ -123,6 +124,8 @@ def commands(folder, ways, roaring, archive, level):
             both = [headers, f"-I{ROOT}/examples/search"]
             yield f"{way}.best", ["cc", "-std=c99", *flags, *both, "-c", f"{ROOT}/examples/search/best.c"]
             yield way, [*cpp, *both, f"{HERE}/{way}.cpp", f"{folder}/{way}.best", *([archive] if way == "lists" else [])]
+    if "sets" in ways:
+        yield "sets", [*cpp, include, f"{HERE}/sets.cpp", archive]
     if "roaring" in ways:
         yield "roaring", [*cpp, f"{HERE}/roaring.cpp", "-lroaring"]
     if "roaring_here" in ways:
@@ -338,7 +341,7 @@ def main():
 
 def chosen_ways(given):
     """The ways that the arguments name, in the order of the table."""
-    named = given.ways.split(",") if given.ways else [way for way in WAYS if way != "lists3"]
+    named = given.ways.split(",") if given.ways else [way for way in WAYS if way not in ("lists3", "sets")]
     if set(named) - set(WAYS):
         sys.exit(f"there is no way {' and no '.join(sorted(set(named) - set(WAYS)))}")
     named = [way for way in named if way != "roaring_here" or given.roaring]
