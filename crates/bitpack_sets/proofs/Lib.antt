@@ -1,5 +1,6 @@
 -- The lemmas of this crate.
 mod ArrayLaws
+mod BitmapLaws
 mod BlockReads
 mod BlocksLaws
 mod BodyFaults
@@ -43,6 +44,7 @@ mod SliceLaws
 mod TestLaws
 mod TextLaws
 mod ToldLaws
+mod UnpackLaws
 mod Words
 mod WorkedProofs
 mod WriteLaws

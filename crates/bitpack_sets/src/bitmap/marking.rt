@@ -1,6 +1,6 @@
 //! Tests and sets bits.
 
-ghost use Rattle.std.specs.Prelude.{◌≡◌, ◌×◌, ℕ, ◌*◌, ◌<◌, ◌≤◌, ◌||◌, ◌==◌, length};
+ghost use Rattle.std.specs.Prelude.{◌≡◌, ℕ, ◌*◌, ◌<◌, ◌≤◌, ◌||◌, ◌==◌, length};
 ghost use Rattle.bitpack_sets.specs.Bitmaps.{has_bit};
 ghost use Rattle.bitpack_sets.specs.Operations.{those};
 ghost use Rattle.bitpack_sets.specs.Reads.{has};
@@ -28,8 +28,9 @@ pub(crate) fn set_bit(words: &mut [u64], i: usize)
 
 /// How many of 256 bits before this one are 1.
 #[inline(always)]
-pub(crate) fn rank_of_bit(words: &[u64; 4], i: usize) -> usize
-    requires { i < 256 }
+pub(crate) fn rank_of_bit(words: &[u64], i: usize) -> usize
+    requires size { length words.now ≡ 4 }
+    requires within { i < 256 }
     ensures { result ≡ length (those i (has_bit words.now)) }
 {
     let below = words[i / 64] & ((1 << (i % 64)) - 1);
