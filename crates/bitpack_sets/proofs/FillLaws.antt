@@ -4,7 +4,7 @@ use borrow.Rule.Slice.PartMut.{put_mid}
 use Rattle.std.proofs.lemmas.List.{length-take-le, take_all, take_more_set}
 use Rattle.std.proofs.lemmas.Slice.{take-put_mid}
 
-length-written : (a k : ℕ) (out new : List ℕ) → a ≤ length out → length new ≡ k → a + k ≤ length out → length (put_mid a k out new) ≡ length out
+pub length-written : (a k : ℕ) (out new : List ℕ) → a ≤ length out → length new ≡ k → a + k ≤ length out → length (put_mid a k out new) ≡ length out
 length-written a k out new le long room =
     let rest : List ℕ = drop k (drop a out) in
     omega (arith, length-append (take a out) (new ++ rest), length-append new rest, length-take-le a out le, length-drop k (drop a out), length-drop a out)

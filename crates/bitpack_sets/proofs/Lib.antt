@@ -27,6 +27,7 @@ mod HalfLaws
 mod IntegerLaws
 mod JoinLaws
 mod JoinReads
+mod LoadLaws
 mod LongFilled
 mod LongLaws
 mod MeasureLaws

@@ -3,9 +3,9 @@ use Rattle.std.proofs.Common.{◌≡◌, ◌≢◌, ℕ, zero, suc, ◌+◌, ◌
 use mir.Val.{bool_byte}
 use Rattle.std.specs.Int.{bit_at}
 use Rattle.std.specs.Int.RustNames.{count_ones}
-use Rattle.std.specs.List.{range_with_len}
-use Rattle.std.proofs.lemmas.Bool.{cases_lt, cond_above, cond_below, ne_eqb, lt-ltb, le-ltb, or_parts, true≢false}
-use Rattle.std.proofs.lemmas.List.{drop-drop, drop_all, drop_more, take_more, take_rest, length-take-le}
+use Rattle.std.specs.List.{filter, range_with_len}
+use Rattle.std.proofs.lemmas.Bool.{cases_lt, cond_above, ne_eqb, lt-ltb, le-ltb, or_parts, true≢false}
+use Rattle.std.proofs.lemmas.List.{drop-drop, drop_all, drop_more}
 use Rattle.std.proofs.lemmas.Nat.{and_mask, mod-pow-add, ones_cat}
 use Rattle.std.proofs.lemmas.Nat.Bits.{bit_at_cat_low, bit_at_cat_high}
 use Rattle.bitpack_sets.proofs.OnesLaws.{ones_few}
@@ -15,7 +15,7 @@ use Rattle.bitpack_sets.proofs.SliceLaws.{rising_room}
 use Rattle.bitpack_sets.proofs.Words.{EachByte}
 use Rattle.bitpack_sets.specs.Reads.{has, rank}
 use Rattle.bitpack_sets.specs.Sets.{IsRising}
-use Rattle.bitpack_sets.specs.Slices.{AreSlices, bits_in, block_numbers, number_of, numbers_of, ones_from, slice_len, slice_numbers, slices_len}
+use Rattle.bitpack_sets.specs.Slices.{AreSlices, bits_in, number_of, numbers_of, ones_from, slice_len, slice_numbers, slices_len}
 
 pub bit_le : (b : Bool) → cond b 1 0 ≤ 1
 bit_le true = omega arith
@@ -63,35 +63,37 @@ pub or_false : (b : Bool) → (b || false) ≡ b
 or_false true = refl
 or_false false = refl
 
-has_out : (x n low k : ℕ) → x < low → has x (ones_from n low k) ≡ false
-unfolding ones_from
-has_out x n low zero h = refl
-has_out x n low (suc k) h =
-    has_step (eqb (bit_at n low) 1) x low (ones_from n (low + 1) k)
-    ∙ ap (λ (b : Bool). (eqb (bit_at n low) 1 && b) || has x (ones_from n (low + 1) k)) (ne_eqb low x (λ e. omega arith))
-    ∙ ap (λ (b : Bool). b || has x (ones_from n (low + 1) k)) (and_false (eqb (bit_at n low) 1))
-    ∙ has_out x n (low + 1) k (omega arith)
+has_out : (P : ℕ → Bool) (x low n : ℕ) → x < low → has x (filter P (range_with_len low n)) ≡ false
+has_out P x low zero h = refl
+has_out P x low (suc n) h =
+    has_step (P low) x low (filter P (range_with_len (low + 1) n))
+    ∙ ap (λ (b : Bool). (P low && b) || has x (filter P (range_with_len (low + 1) n))) (ne_eqb low x (λ e. omega arith))
+    ∙ ap (λ (b : Bool). b || has x (filter P (range_with_len (low + 1) n))) (and_false (P low))
+    ∙ has_out P x (low + 1) n (omega arith)
 
-has_first : (x n low k : ℕ) → x ≡ low → has x (ones_from n low (suc k)) ≡ eqb (bit_at n x) 1
-unfolding ones_from
-has_first x n low k h =
-    has_step (eqb (bit_at n low) 1) x low (ones_from n (low + 1) k)
-    ∙ ap (λ (b : Bool). (eqb (bit_at n low) 1 && b) || has x (ones_from n (low + 1) k)) (eq-eqb low x (sym h))
-    ∙ ap (λ (b : Bool). b || has x (ones_from n (low + 1) k)) (and_true (eqb (bit_at n low) 1))
-    ∙ ap (λ (b : Bool). eqb (bit_at n low) 1 || b) (has_out x n (low + 1) k (omega arith))
-    ∙ or_false (eqb (bit_at n low) 1) ∙ ap (λ (i : ℕ). eqb (bit_at n i) 1) (sym h)
+has_first : (P : ℕ → Bool) (x low n : ℕ) → low ≡ x → has x (filter P (range_with_len low (suc n))) ≡ P x
+has_first P x low n h =
+    has_step (P low) x low (filter P (range_with_len (low + 1) n))
+    ∙ ap (λ (b : Bool). (P low && b) || has x (filter P (range_with_len (low + 1) n))) (eq-eqb low x h)
+    ∙ ap (λ (b : Bool). b || has x (filter P (range_with_len (low + 1) n))) (and_true (P low))
+    ∙ ap (λ (b : Bool). P low || b) (has_out P x (low + 1) n (omega arith))
+    ∙ or_false (P low) ∙ ap P h
+
+-- a number of a range is kept if it passes the test
+pub has_kept : (P : ℕ → Bool) (x low n : ℕ) → low ≤ x → x < low + n → has x (filter P (range_with_len low n)) ≡ P x
+has_kept P x low zero h l = absurd (omega arith)
+has_kept P x low (suc n) h l = elim (cases_lt low x) [
+  | inl less ↦
+      has_step (P low) x low (filter P (range_with_len (low + 1) n))
+      ∙ ap (λ (b : Bool). (P low && b) || has x (filter P (range_with_len (low + 1) n))) (ne_eqb low x (λ e. omega arith))
+      ∙ ap (λ (b : Bool). b || has x (filter P (range_with_len (low + 1) n))) (and_false (P low))
+      ∙ has_kept P x (low + 1) n (omega arith) (omega arith)
+  | inr more ↦ has_first P x low n (omega arith)
+]
 
 pub has_ones : (x n low k : ℕ) → low ≤ x → x < low + k → has x (ones_from n low k) ≡ eqb (bit_at n x) 1
 unfolding ones_from
-has_ones x n low zero h l = absurd (omega arith)
-has_ones x n low (suc k) h l = elim (cases_lt low x) [
-  | inl less ↦
-      has_step (eqb (bit_at n low) 1) x low (ones_from n (low + 1) k)
-      ∙ ap (λ (b : Bool). (eqb (bit_at n low) 1 && b) || has x (ones_from n (low + 1) k)) (ne_eqb low x (λ e. omega arith))
-      ∙ ap (λ (b : Bool). b || has x (ones_from n (low + 1) k)) (and_false (eqb (bit_at n low) 1))
-      ∙ has_ones x n (low + 1) k (omega arith) (omega arith)
-  | inr more ↦ has_first x n low k (omega arith)
-]
+has_ones x n low k h l = has_kept (λ i. eqb (bit_at n i) 1) x low k h l
 
 -- the bit of a number stands in its byte
 pub bit_of_bytes : (bytes : List ℕ) (q r : ℕ) → EachByte bytes → q < length bytes → r < 8 → bit_at (number_of bytes) (8 * q + r) ≡ bit_at (get_or bytes q 0) r
@@ -120,12 +122,6 @@ cond_same : (b : Bool) → ◌≡◌ {A = ℕ} (cond b 0 0) 0
 cond_same true = refl
 cond_same false = refl
 
-rest_none : (x low : ℕ) → x ≤ low → x - low ≡ 0
-rest_none x low h = omega arith
-
-rest_more : (x low : ℕ) → low < x → x - low ≡ suc (x - (low + 1))
-rest_more x low h = omega arith
-
 low_only : (byte n r : ℕ) → r < 8 → (byte + 256 * n) % 2 ^ r ≡ byte % 2 ^ r
 low_only byte n zero h = omega arith
 low_only byte n (suc zero) h = omega arith
@@ -141,33 +137,27 @@ length_step : (b : Bool) (low : ℕ) (xs : List ℕ) → length (cond b (low ∷
 length_step true low xs = omega arith
 length_step false low xs = omega arith
 
-rank_more : (x n low k : ℕ) → low < x → rank x (ones_from n (low + 1) k) ≡ length (ones_from n (low + 1) (x - (low + 1)))
-    → rank x (ones_from n low (suc k)) ≡ length (ones_from n low (x - low))
-unfolding ones_from
-rank_more x n low k less ih =
-    let first : ◌≡◌ {A = ℕ} (cond (eqb (bit_at n low) 1) (cond (ltb low x) 1 0) 0) (cond (eqb (bit_at n low) 1) 1 0) = ap (λ (b : Bool). cond (eqb (bit_at n low) 1) (cond b 1 0) 0) (lt-ltb low x less) in
-    let step = rank_step (eqb (bit_at n low) 1) x low (ones_from n (low + 1) k) in
-    let long = length_step (eqb (bit_at n low) 1) low (ones_from n (low + 1) (x - (low + 1))) in
-    step ∙ ap (λ (m : ℕ). m + rank x (ones_from n (low + 1) k)) first ∙ ap (λ (m : ℕ). cond (eqb (bit_at n low) 1) 1 0 + m) ih ∙ sym long
-    ∙ ap (λ (m : ℕ). length (ones_from n low m)) (sym (rest_more x low less))
-
-rank_none : (x n low k : ℕ) → x ≤ low → rank x (ones_from n low k) ≡ 0
-unfolding ones_from
-rank_none x n low zero h = refl
-rank_none x n low (suc k) h =
-    let first : ◌≡◌ {A = ℕ} (cond (eqb (bit_at n low) 1) (cond (ltb low x) 1 0) 0) (cond (eqb (bit_at n low) 1) 0 0) = ap (λ (b : Bool). cond (eqb (bit_at n low) 1) (cond b 1 0) 0) (le-ltb low x h) in
-    let flat : ◌≡◌ {A = ℕ} (cond (eqb (bit_at n low) 1) 0 0) 0 = cond_same (eqb (bit_at n low) 1) in
-    let rest = rank_none x n (low + 1) k (omega arith) in
-    let step = rank_step (eqb (bit_at n low) 1) x low (ones_from n (low + 1) k) in
+rank_out : (P : ℕ → Bool) (x low n : ℕ) → x ≤ low → rank x (filter P (range_with_len low n)) ≡ 0
+rank_out P x low zero h = refl
+rank_out P x low (suc n) h =
+    let step = rank_step (P low) x low (filter P (range_with_len (low + 1) n)) in
+    let flat : ◌≡◌ {A = ℕ} (cond (P low) (cond (ltb low x) 1 0) 0) 0 = ap (λ (b : Bool). cond (P low) (cond b 1 0) 0) (le-ltb low x h) ∙ cond_same (P low) in
+    let rest = rank_out P x (low + 1) n (omega arith) in
     omega arith
+
+-- as many are below a number as are kept before it
+pub rank_kept : (P : ℕ → Bool) (x low n m : ℕ) → low + m ≡ x → m ≤ n → rank x (filter P (range_with_len low n)) ≡ length (filter P (range_with_len low m))
+rank_kept P x low n zero e h = rank_out P x low n (omega arith)
+rank_kept P x low zero (suc m) e h = absurd (omega arith)
+rank_kept P x low (suc n) (suc m) e h =
+    rank_step (P low) x low (filter P (range_with_len (low + 1) n))
+    ∙ ap (λ (b : Bool). cond (P low) (cond b 1 0) 0 + rank x (filter P (range_with_len (low + 1) n))) (lt-ltb low x (omega arith))
+    ∙ ap (λ (k : ℕ). cond (P low) 1 0 + k) (rank_kept P x (low + 1) n m (omega arith) (omega arith))
+    ∙ sym (length_step (P low) low (filter P (range_with_len (low + 1) m)))
 
 pub rank_ones : (x n low k : ℕ) → low ≤ x → x ≤ low + k → rank x (ones_from n low k) ≡ length (ones_from n low (x - low))
 unfolding ones_from
-rank_ones x n low zero h l = sym (ap (λ (m : ℕ). length (ones_from n low m)) (rest_none x low (omega arith)))
-rank_ones x n low (suc k) h l = elim (cases_lt low x) [
-  | inl less ↦ rank_more x n low k less (rank_ones x n (low + 1) k (omega arith) (omega arith))
-  | inr more ↦ rank_none x n low (suc k) (omega arith) ∙ sym (ap (λ (m : ℕ). length (ones_from n low m)) (rest_none x low (omega arith)))
-]
+rank_ones x n low k h l = rank_kept (λ i. eqb (bit_at n i) 1) x low k (x - low) (omega arith) (omega arith)
 
 pub count_low : (bytes : List ℕ) (q r : ℕ) → EachByte bytes → q < length bytes → r < 8
     → count_ones (number_of bytes % 2 ^ (8 * q + r)) ≡ bits_in (take q bytes) + count_ones (get_or bytes q 0 % 2 ^ r)

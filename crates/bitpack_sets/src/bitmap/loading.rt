@@ -1,11 +1,12 @@
 //! Loads the numbers of a chunk into its bitmap.
 
-ghost use Rattle.std.specs.Prelude.{◌≡◌, ◌≢◌, ◌×◌, ◌⊎◌, ℕ, ◌+◌, ◌*◌, ◌/◌, ◌<◌, ◌≤◌, ◌||◌, ◌==◌, true, false, length, slice_index, take};
+ghost use Rattle.std.specs.Prelude.{◌≡◌, ◌⊎◌, ℕ, ◌+◌, ◌*◌, ◌/◌, ◌<◌, ◌≤◌, true, false, length, slice_index, take};
 ghost use Rattle.bitpack_sets.specs.Bitmaps.{Holds, has_bit, has_high};
 ghost use Rattle.bitpack_sets.specs.Chunks.{lows_of};
+ghost use Rattle.bitpack_sets.specs.Operations.{those};
 ghost use Rattle.bitpack_sets.specs.Reads.{has};
 ghost use Rattle.bitpack_sets.specs.Sets.{IsRising};
-ghost use Rattle.bitpack_sets.specs.Slices.{AreSlices, IsBlocks, IsSlice, block_numbers, numbers_of, slice_len, slice_numbers, slices_len};
+ghost use Rattle.bitpack_sets.specs.Slices.{AreSlices, IsBlocks, block_numbers, numbers_of, slices_len};
 
 use crate::bitmap::marking::{rank_of_bit, set_bit, slice_bits, test_bit};
 use crate::slice::byte_len;
@@ -39,7 +40,8 @@ pub(crate) fn load_blocks(body: &[u8], highs: &[u32], words: &mut [u64; 1024])
     }
 }
 
-/// The slice of a high byte, as bits: none, if it does not occur.
+/// The slice of a high byte, as bits: none, if it does not occur. Given are which high bytes occur, and for each of these the count of its
+/// numbers less 1, and where its slice begins.
 #[inline(always)]
 fn bits_at(
     occur: &[u64; 4],
@@ -47,7 +49,14 @@ fn bits_at(
     slices: &[u8],
     starts: &[u16; 257],
     high: usize,
-) -> [u64; 4] {
+) -> [u64; 4]
+    requires high { high < 256 }
+    requires few { length counts.now ≤ 256 }
+    requires highs { length (those 256 (has_bit occur.now)) ≡ length counts.now }
+    requires slices { AreSlices counts.now slices.now }
+    requires starts { (index : ℕ) → index < length counts.now → slice_index starts.now index ≡ slices_len (take index counts.now) }
+    ensures { (i : ℕ) → i < 256 → has_bit result i ≡ has (256 * high + i) (numbers_of (those 256 (has_bit occur.now)) counts.now slices.now) }
+{
     if !test_bit(occur, high) {
         return [0; 4];
     }

@@ -1,0 +1,308 @@
+-- What is loaded into bitmaps.
+use borrow.Rule.Slice.PartMut.{put_mid, post_of}
+use Rattle.std.proofs.Common.{◌≡◌, ◌≢◌, ◌⊎◌, ℕ, zero, suc, ◌+◌, ◌*◌, ◌/◌, ◌%◌, ◌-◌, ◌<◌, ◌≤◌, Bool, true, false, ◌||◌, eqb, List, [], ◌∷◌, ◌++◌, map, take, drop, length, refl, set, sym, ap, ◌∙◌, arith, cond, inl, inr, get_or, subst, replicate, eq-eqb, length-drop}
+use Rattle.std.proofs.Math.Bool.{or_comm, or_self}
+use Rattle.std.specs.Int.{bit_at}
+use Rattle.std.specs.List.{filter, list_any, range_with_len}
+use Rattle.std.proofs.lemmas.Bool.{cases_lt, ne_eqb}
+use Rattle.std.proofs.lemmas.Bool.Decides.{eqb_tells}
+use Rattle.std.proofs.lemmas.List.{get_or_append_left, get_or-append_right, get_or-drop, get_or-map, get_or-replicate, get_or-set_other, get_or-set_same, get_or-take, length-map, length-take-le, take_all}
+use Rattle.std.proofs.lemmas.Nat.Bits.{bit_at-zero}
+use Rattle.std.proofs.lemmas.List.Folds.{list_any-append, list_any_more}
+use Rattle.bitpack_sets.proofs.CutLaws.{counts_cut, counts_len, cut, highs_cut}
+use Rattle.bitpack_sets.proofs.HalfLaws.{pairs_at, pairs_len}
+use Rattle.bitpack_sets.proofs.OnesLaws.{kept_rise}
+use Rattle.bitpack_sets.proofs.ReadLaws.{eqb_same, has_below, has_kept, in_numbers, not_in, or_false, rank_kept, rank_less, slice_at}
+use Rattle.bitpack_sets.proofs.SliceLaws.{rising_room}
+use Rattle.bitpack_sets.proofs.NumberReads.{quads_at, quads_len}
+use Rattle.bitpack_sets.specs.Bitmaps.{has_bit, has_high}
+use Rattle.bitpack_sets.specs.Chunks.{lows_of}
+use Rattle.bitpack_sets.specs.Operations.{those}
+use Rattle.bitpack_sets.specs.Reads.{has, rank}
+use Rattle.bitpack_sets.specs.Sets.{IsRising}
+use Rattle.bitpack_sets.specs.Slices.{AreSlices, IsBlocks, block_numbers, counts_in, high_count, highs_in, numbers_of, quads_of, slice_len, slice_numbers, slices_in, slices_len}
+
+-- ---- the words of one high byte are written
+
+bit_same : (i j r s : ℕ) (xs ys : List ℕ) → get_or xs i 0 ≡ get_or ys j 0 → r ≡ s → eqb (bit_at (get_or xs i 0) r) 1 ≡ eqb (bit_at (get_or ys j 0) s) 1
+bit_same i j r s xs ys e f = ap (λ (n : ℕ). eqb (bit_at n r) 1) e ∙ ap (λ (n : ℕ). eqb (bit_at (get_or ys j 0) n) 1) f
+
+-- a high byte has four words
+pub four_words : (from : ℕ) (words : List ℕ) → from + 4 ≤ length words → length (take (from + 4 - from) (drop from words)) ≡ 4
+four_words from words h =
+    let four : from + 4 - from ≡ 4 = omega arith in
+    length-take-le (from + 4 - from) (drop from words) (omega (arith, length-drop from words)) ∙ four
+
+-- its own bits are those that are written
+pub bit_own : (from k h x : ℕ) (words bits : List ℕ) → from ≡ 4 * h → k ≡ 4 → length bits ≡ 4 → from ≤ length words → x / 256 ≡ h
+    → has_bit (put_mid from k words bits) x ≡ has_bit bits (x % 256)
+unfolding has_bit
+bit_own from k h x words bits e f size room own =
+    let start : length (take from words) ≡ from = length-take-le from words room in
+    let place : x / 64 - from ≡ x % 256 / 64 = omega arith in
+    bit_same (x / 64) (x % 256 / 64) (x % 64) (x % 256 % 64) (put_mid from k words bits) bits
+    (get_or-append_right (take from words) (bits ++ post_of from k words) from (x / 64) 0 start (omega arith)
+    ∙ ap (λ (i : ℕ). get_or (bits ++ post_of from k words) i 0) place
+    ∙ get_or_append_left bits (post_of from k words) 0 (x % 256 / 64) (omega arith))
+    (omega arith)
+
+-- other bits stay
+pub bit_rest : (from k h x : ℕ) (words bits : List ℕ) → from ≡ 4 * h → k ≡ 4 → length bits ≡ 4 → from ≤ length words → x / 256 ≢ h
+    → has_bit (put_mid from k words bits) x ≡ has_bit words x
+unfolding has_bit
+bit_rest from k h x words bits e f size room apart =
+    let start : length (take from words) ≡ from = length-take-le from words room in
+    bit_same (x / 64) (x / 64) (x % 64) (x % 64) (put_mid from k words bits) words
+    (elim (cases_lt (x / 64) from) [
+      | inl below ↦ get_or_append_left (take from words) (bits ++ post_of from k words) 0 (x / 64) (omega arith) ∙ get_or-take from words (x / 64) 0 below
+      | inr more ↦ (
+          let past : 4 ≤ x / 64 - from = elim (cases_lt (x / 64 - from) 4) [ inl few ↦ absurd (apart (omega arith)) | inr many ↦ many ] in
+          let place : from + (k + (x / 64 - from - 4)) ≡ x / 64 = omega arith in
+          get_or-append_right (take from words) (bits ++ post_of from k words) from (x / 64) 0 start more
+          ∙ get_or-append_right bits (post_of from k words) 4 (x / 64 - from) 0 size past
+          ∙ get_or-drop k (drop from words) (x / 64 - from - 4) 0 ∙ get_or-drop from words (k + (x / 64 - from - 4)) 0
+          ∙ ap (λ (i : ℕ). get_or words i 0) place)
+    ])
+    refl
+
+bit_none : (words : List ℕ) (x : ℕ) → get_or words (x / 64) 0 ≡ 0 → has_bit words x ≡ false
+unfolding has_bit
+bit_none words x e = ap (λ (n : ℕ). eqb (bit_at n (x % 64)) 1) e ∙ ap (λ (b : ℕ). eqb b 1) (bit_at-zero (x % 64))
+
+-- four words of 0 have no bit
+pub bit_clear : (x : ℕ) (words : List ℕ) → words ≡ replicate 4 0 → x < 256 → has_bit words x ≡ false
+bit_clear x words e small = bit_none words x (ap (λ (l : List ℕ). get_or l (x / 64) 0) e ∙ get_or-replicate 4 (x / 64) 0 0 (omega arith))
+
+-- ---- one high byte more
+
+eqb_turned : (a b : ℕ) → eqb a b ≡ eqb b a
+eqb_turned a b = eqb_same a b b a sym sym
+
+-- a number that is among the first i + 1 is the last of them, or is among the first i
+pub has_more : (x : ℕ) (xs : List ℕ) (i : ℕ) → i < length xs → has x (take (i + 1) xs) ≡ (eqb (get_or xs i 0) x || has x (take i xs))
+has_more x xs i h = list_any_more (λ y. eqb y x) xs i 0 h ∙ or_comm (has x (take i xs)) (eqb (get_or xs i 0) x)
+
+-- ---- integers of two or four bytes
+
+halves : (a b c d : ℕ) → a < 256 → b < 256 → (a + 256 * b + 65536 * c + 16777216 * d) % 65536 ≡ a + 256 * b
+halves a b c d h k = omega arith
+
+low_pair : (i : ℕ) (bytes : List ℕ) → 2 * i + 2 ≤ length bytes → get_or bytes (2 * i) 0 + 256 * get_or bytes (2 * i + 1) 0 ≡ get_or (lows_of 2 bytes) i 0
+low_pair i bytes h = sym (pairs_at bytes i (omega arith))
+
+low_quad : (i : ℕ) (bytes : List ℕ) → ((k : ℕ) → get_or bytes k 0 < 256) → 4 * i + 4 ≤ length bytes
+    → get_or bytes (4 * i) 0 + 256 * get_or bytes (4 * i + 1) 0 ≡ get_or (lows_of 4 bytes) i 0
+low_quad i bytes are h =
+    let size = quads_len bytes in
+    sym (get_or-map (λ x. x % 65536) (quads_of bytes) i 0 0 (omega arith) ∙ ap (λ (n : ℕ). n % 65536) (quads_at bytes i h)
+    ∙ halves (get_or bytes (4 * i) 0) (get_or bytes (4 * i + 1) 0) (get_or bytes (4 * i + 2) 0) (get_or bytes (4 * i + 3) 0) (are (4 * i)) (are (4 * i + 1)))
+
+-- the low 16 bits of an integer are its first two bytes
+pub low_is : (size i : ℕ) (bytes : List ℕ) → (size ≡ 2) ⊎ (size ≡ 4) → ((k : ℕ) → get_or bytes k 0 < 256) → size * i + size ≤ length bytes
+    → get_or bytes (size * i) 0 + 256 * get_or bytes (size * i + 1) 0 ≡ get_or (lows_of size bytes) i 0
+low_is size i bytes (inl e) are h = subst (λ (s : ℕ). s * i + s ≤ length bytes → get_or bytes (s * i) 0 + 256 * get_or bytes (s * i + 1) 0 ≡ get_or (lows_of s bytes) i 0)
+    (sym e) (low_pair i bytes) h
+low_is size i bytes (inr e) are h = subst (λ (s : ℕ). s * i + s ≤ length bytes → get_or bytes (s * i) 0 + 256 * get_or bytes (s * i + 1) 0 ≡ get_or (lows_of s bytes) i 0)
+    (sym e) (low_quad i bytes are) h
+
+-- the low 16 bits of each are one number
+pub lows_len : (size : ℕ) (bytes : List ℕ) → (size ≡ 2) ⊎ (size ≡ 4) → length (lows_of size bytes) ≡ length bytes / size
+lows_len size bytes (inl e) = subst (λ (s : ℕ). length (lows_of s bytes) ≡ length bytes / s) (sym e) (pairs_len bytes)
+lows_len size bytes (inr e) = subst (λ (s : ℕ). length (lows_of s bytes) ≡ length bytes / s) (sym e) (length-map (quads_of bytes) (λ x. x % 65536) ∙ quads_len bytes)
+
+-- ---- what the loops keep
+
+pub any_done : (p : ℕ → Bool) (n : ℕ) (xs : List ℕ) → length xs ≤ n → list_any p (take n xs) ≡ list_any p xs
+any_done p n xs h = ap (list_any p) (take_all n xs h)
+
+-- an integer more has its bit
+pub one_loaded : (size i x low : ℕ) (bytes words new : List ℕ) → (size ≡ 2) ⊎ (size ≡ 4) → i < length bytes / size → low ≡ get_or (lows_of size bytes) i 0
+    → has_bit new x ≡ (eqb x low || has_bit words x) → has_bit words x ≡ has x (take i (lows_of size bytes)) → has_bit new x ≡ has x (take (i + 1) (lows_of size bytes))
+one_loaded size i x low bytes words new s h e now before =
+    let len = lows_len size bytes s in
+    now ∙ ap (λ (b : Bool). eqb x low || b) before ∙ ap (λ (n : ℕ). eqb x n || has x (take i (lows_of size bytes))) e
+    ∙ ap (λ (b : Bool). b || has x (take i (lows_of size bytes))) (eqb_turned x (get_or (lows_of size bytes) i 0))
+    ∙ sym (has_more x (lows_of size bytes) i (omega arith))
+
+-- an integer more has its high byte
+pub one_found : (size i h low : ℕ) (bytes words new : List ℕ) → (size ≡ 2) ⊎ (size ≡ 4) → i < length bytes / size → low ≡ get_or (lows_of size bytes) i 0
+    → has_bit new h ≡ (eqb h (low / 256) || has_bit words h) → has_bit words h ≡ has_high h (take i (lows_of size bytes)) → has_bit new h ≡ has_high h (take (i + 1) (lows_of size bytes))
+one_found size i h low bytes words new s l e now before =
+    let len = lows_len size bytes s in
+    now ∙ ap (λ (b : Bool). eqb h (low / 256) || b) before ∙ ap (λ (n : ℕ). eqb h (n / 256) || has_high h (take i (lows_of size bytes))) e
+    ∙ ap (λ (b : Bool). b || has_high h (take i (lows_of size bytes))) (eqb_turned h (get_or (lows_of size bytes) i 0 / 256))
+    ∙ or_comm (eqb (get_or (lows_of size bytes) i 0 / 256) h) (has_high h (take i (lows_of size bytes)))
+    ∙ sym (list_any_more (λ x. eqb (x / 256) h) (lows_of size bytes) i 0 (omega arith))
+
+-- the bits of a high byte more are written
+pub high_written : (P : ℕ → Bool) (i from k : ℕ) (highs words bits : List ℕ) → i < length highs → from ≡ 4 * get_or highs i 0 → k ≡ 4 → length bits ≡ 4 → from ≤ length words
+    → ((y : ℕ) → y < 256 → has_bit bits y ≡ P (256 * get_or highs i 0 + y))
+    → ((x : ℕ) → x < 65536 → has (x / 256) (take i highs) ≡ true → has_bit words x ≡ P x)
+    → (x : ℕ) → x < 65536 → has (x / 256) (take (i + 1) highs) ≡ true → has_bit (put_mid from k words bits) x ≡ P x
+high_written P i from k highs words bits h e f size room own before x small is = elim (eqb_tells (get_or highs i 0) (x / 256)) [
+  | inl (here, same) ↦ (
+      let whole : 256 * get_or highs i 0 + x % 256 ≡ x = omega arith in
+      bit_own from k (get_or highs i 0) x words bits e f size room (sym same) ∙ own (x % 256) (omega arith) ∙ ap P whole)
+  | inr (other, apart) ↦ (
+      let among : has (x / 256) (take i highs) ≡ true = sym (ap (λ (b : Bool). b || has (x / 256) (take i highs)) other) ∙ sym (has_more (x / 256) highs i h) ∙ is in
+      bit_rest from k (get_or highs i 0) x words bits e f size room (λ s. apart (sym s)) ∙ before x small among)
+]
+
+-- the start of one slice more is known
+pub one_known : (i start : ℕ) (counts starts : List ℕ) → i < length starts → start ≡ slices_len (take i counts)
+    → ((k : ℕ) → k < i → get_or starts k 0 ≡ slices_len (take k counts)) → (k : ℕ) → k < i + 1 → get_or (set starts i start) k 0 ≡ slices_len (take k counts)
+one_known i start counts starts h e known k lt = elim (eqb_tells i k) [
+  | inl (here, same) ↦ ap (λ (n : ℕ). get_or (set starts i start) n 0) (sym same) ∙ get_or-set_same starts i start 0 h ∙ e ∙ ap (λ (n : ℕ). slices_len (take n counts)) same
+  | inr (other, apart) ↦ get_or-set_other starts i k start 0 (λ s. apart (sym s)) ∙ known k (omega arith)
+]
+
+-- ---- the numbers below a bound that pass a test
+
+-- one of them is among them
+pub has_those : (P : ℕ → Bool) (x bound : ℕ) → x < bound → has x (those bound P) ≡ P x
+unfolding those
+has_those P x bound h = has_kept P x 0 bound (omega arith) (omega arith)
+
+-- as many are below a number as there are below this bound
+pub rank_those : (P : ℕ → Bool) (x bound : ℕ) → x ≤ bound → length (those x P) ≡ rank x (those bound P)
+unfolding those
+rank_those P x bound h = sym (rank_kept P x 0 bound x (omega arith) h)
+
+pub those_rise : (P : ℕ → Bool) (bound : ℕ) → IsRising 0 bound (those bound P)
+unfolding those
+those_rise P bound = kept_rise P 0 bound bound (omega arith)
+
+kept_same : (P Q : ℕ → Bool) (low n : ℕ) → ((i : ℕ) → low ≤ i → i < low + n → P i ≡ Q i) → filter P (range_with_len low n) ≡ filter Q (range_with_len low n)
+kept_same P Q low zero e = refl
+kept_same P Q low (suc n) e =
+    ap (λ (b : Bool). cond b (low ∷ filter P (range_with_len (low + 1) n)) (filter P (range_with_len (low + 1) n))) (e low (omega arith) (omega arith))
+    ∙ ap (λ (l : List ℕ). cond (Q low) (low ∷ l) l) (kept_same P Q (low + 1) n (λ i a b. e i (omega arith) (omega arith)))
+
+kept_all : (low high n : ℕ) (xs : List ℕ) → low + n ≡ high → IsRising low high xs → filter (λ i. has i xs) (range_with_len low n) ≡ xs
+kept_all low high zero [] e r = refl
+kept_all low high zero (y ∷ ys) e (a, r) = let room = rising_room (y + 1) high ys r in absurd (omega arith)
+kept_all low high (suc n) [] e r = kept_all (low + 1) high n [] (omega arith) (omega arith)
+kept_all low high (suc n) (y ∷ ys) e (a, r) = elim (cases_lt low y) [
+  | inl less ↦
+      ap (λ (b : Bool). cond b (low ∷ filter (λ i. has i (y ∷ ys)) (range_with_len (low + 1) n)) (filter (λ i. has i (y ∷ ys)) (range_with_len (low + 1) n)))
+      (has_below low (low + 1) high (y ∷ ys) (omega arith, r) (omega arith))
+      ∙ kept_all (low + 1) high n (y ∷ ys) (omega arith) (omega arith, r)
+  | inr more ↦ (
+      let same : y ≡ low = omega arith in
+      ap (λ (b : Bool). cond (b || has low ys) (low ∷ filter (λ i. has i (y ∷ ys)) (range_with_len (low + 1) n)) (filter (λ i. has i (y ∷ ys)) (range_with_len (low + 1) n))) (eq-eqb y low same)
+      ∙ ap (λ (l : List ℕ). low ∷ l) (kept_same (λ i. has i (y ∷ ys)) (λ i. has i ys) (low + 1) n (λ i b c. ap (λ (d : Bool). d || has i ys) (ne_eqb y i (λ s. omega arith))))
+      ∙ ap (λ (l : List ℕ). low ∷ l) (kept_all (low + 1) high n ys (omega arith) (subst (λ (k : ℕ). IsRising (k + 1) high ys) same r))
+      ∙ ap (λ (k : ℕ). k ∷ ys) (sym same))
+]
+
+-- increasing numbers are those that are among them
+pub those_are : (P : ℕ → Bool) (bound : ℕ) (xs : List ℕ) → IsRising 0 bound xs → ((i : ℕ) → i < bound → P i ≡ has i xs) → those bound P ≡ xs
+unfolding those
+those_are P bound xs r e = kept_same P (λ i. has i xs) 0 bound (λ i a b. e i (omega arith)) ∙ kept_all 0 bound bound xs (omega arith) r
+
+-- ---- the slice of a high byte
+
+high_split : (h i : ℕ) → i < 256 → (256 * h + i) / 256 ≡ h
+high_split h i s = omega arith
+
+low_split : (h i : ℕ) → i < 256 → (256 * h + i) % 256 ≡ i
+low_split h i s = omega arith
+
+-- a high byte that occurs has a place among the counts
+pub index_within : (P : ℕ → Bool) (h index : ℕ) (counts : List ℕ) → length (those 256 P) ≡ length counts → index ≡ length (those h P) → h < 256 → P h ≡ true → index < length counts
+index_within P h index counts size e small is =
+    let less = rank_less h (those 256 P) (has_those P h 256 small ∙ is) in
+    let same = rank_those P h 256 (omega arith) in
+    omega arith
+
+-- no number has a high byte that does not occur
+pub none_there : (P : ℕ → Bool) (h i : ℕ) (counts slices : List ℕ) → h < 256 → i < 256 → P h ≡ false → AreSlices counts slices
+    → has (256 * h + i) (numbers_of (those 256 P) counts slices) ≡ false
+none_there P h i counts slices small less is are =
+    not_in (256 * h + i) (those 256 P) counts slices are (ap (λ (n : ℕ). has n (those 256 P)) (high_split h i less) ∙ has_those P h 256 small ∙ is)
+
+-- the numbers of one that occurs are those of its slice, as the code cuts it
+pub some_there : (P : ℕ → Bool) (h i index start size : ℕ) (counts slices : List ℕ) → h < 256 → i < 256 → P h ≡ true → length (those 256 P) ≡ length counts → AreSlices counts slices
+    → index ≡ length (those h P) → start ≡ slices_len (take index counts) → size ≡ slice_len (get_or counts index 0 + 1)
+    → has i (slice_numbers (get_or counts index 0 + 1) (take (start + size - start) (drop start slices))) ≡ has (256 * h + i) (numbers_of (those 256 P) counts slices)
+some_there P h i index start size counts slices small less is long are e f g =
+    let count : ℕ = get_or counts index 0 + 1 in
+    let cut : start + size - start ≡ slice_len count = omega arith in
+    let high : (256 * h + i) / 256 ≡ h = high_split h i less in
+    let place : index ≡ rank ((256 * h + i) / 256) (those 256 P) = e ∙ rank_those P h 256 (omega arith) ∙ ap (λ (n : ℕ). rank n (those 256 P)) (sym high) in
+    let among : has ((256 * h + i) / 256) (those 256 P) ≡ true = ap (λ (n : ℕ). has n (those 256 P)) high ∙ has_those P h 256 small ∙ is in
+    ap (λ (m : ℕ). has i (slice_numbers count (take m (drop start slices)))) cut
+    ∙ ap (λ (m : ℕ). has i (slice_numbers count (take (slice_len count) (drop m slices)))) f
+    ∙ ap (λ (n : ℕ). has n (slice_at index counts slices)) (sym (low_split h i less))
+    ∙ sym (in_numbers (256 * h + i) 0 index (those 256 P) counts slices place long (those_rise P 256) are among)
+
+-- ---- a body of blocks
+
+high_there : (h high from : ℕ) (xs : List ℕ) → IsRising from 256 xs → 0 < length xs → has_high h (map (λ low. high * 256 + low) xs) ≡ eqb high h
+high_there h high from [] r some = absurd (omega arith)
+high_there h high from (y ∷ []) (a, r) some =
+    let own : (high * 256 + y) / 256 ≡ high = omega arith in
+    or_false (eqb ((high * 256 + y) / 256) h) ∙ ap (λ (n : ℕ). eqb n h) own
+high_there h high from (y ∷ z ∷ zs) (a, r) some =
+    let room = rising_room (y + 1) 256 (z ∷ zs) r in
+    let own : (high * 256 + y) / 256 ≡ high = omega arith in
+    ap (λ (b : Bool). eqb ((high * 256 + y) / 256) h || b) (high_there h high (y + 1) (z ∷ zs) r (omega arith))
+    ∙ ap (λ (n : ℕ). eqb n h || eqb high h) own ∙ or_self (eqb high h)
+
+-- numbers of slices have the high bytes of these
+highs_there : (h : ℕ) (hs counts bytes : List ℕ) → length hs ≡ length counts → AreSlices counts bytes → has_high h (numbers_of hs counts bytes) ≡ has h hs
+unfolding numbers_of
+highs_there h [] counts bytes e are = refl
+highs_there h (high ∷ hs) [] bytes e are = absurd (omega arith)
+highs_there h (high ∷ hs) (less ∷ counts) bytes e (room, is, later) =
+    let own : List ℕ = slice_numbers (less + 1) (take (slice_len (less + 1)) bytes) in
+    let count = is.count_is in
+    let rest : List ℕ = drop (slice_len (less + 1)) bytes in
+    list_any-append (λ x. eqb (x / 256) h) (map (λ low. high * 256 + low) own) (numbers_of hs counts rest)
+    ∙ ap (λ (b : Bool). b || has_high h (numbers_of hs counts rest)) (high_there h high 0 own is.rising (omega arith))
+    ∙ ap (λ (b : Bool). eqb high h || b) (highs_there h hs counts rest (omega arith) later)
+
+-- the high bytes of a body, as the code cuts it
+abbrev pub cut_highs : ℕ → List ℕ → List ℕ
+cut_highs size body = slice_numbers (get_or body 0 0 + 1) (take (1 + size - 1) (drop 1 body))
+
+abbrev pub cut_counts : ℕ → List ℕ → List ℕ
+cut_counts size body = take (1 + size + (get_or body 0 0 + 1) - (1 + size)) (drop (1 + size) body)
+
+abbrev pub cut_slices : ℕ → List ℕ → List ℕ
+cut_slices size body = take (length body - (1 + size + (get_or body 0 0 + 1))) (drop (1 + size + (get_or body 0 0 + 1)) body)
+
+highs_are : (size : ℕ) (body : List ℕ) → size ≡ slice_len (get_or body 0 0 + 1) → cut_highs size body ≡ slice_numbers (get_or body 0 0 + 1) (highs_in body)
+highs_are size body e = ap (slice_numbers (get_or body 0 0 + 1)) (highs_cut size (get_or body 0 0 + 1) body e)
+
+counts_are : (size : ℕ) (body : List ℕ) → size ≡ slice_len (get_or body 0 0 + 1) → 1 + size + (get_or body 0 0 + 1) ≤ length body → length (cut_counts size body) ≡ get_or body 0 0 + 1
+counts_are size body e room =
+    ap length (counts_cut size (get_or body 0 0 + 1) body e) ∙ counts_len (slice_len (get_or body 0 0 + 1)) (get_or body 0 0 + 1) body (omega arith)
+
+-- a body has the high bytes that its first slice says
+pub body_highs : (count size h : ℕ) (body : List ℕ) → IsBlocks count body → size ≡ slice_len (get_or body 0 0 + 1) → has h (cut_highs size body) ≡ has_high h (block_numbers body)
+body_highs count size h body is e =
+    let room = is.room in
+    let many = counts_len (slice_len (get_or body 0 0 + 1)) (get_or body 0 0 + 1) body (omega arith) in
+    ap (has h) (highs_are size body e)
+    ∙ sym (highs_there h (slice_numbers (high_count body) (highs_in body)) (counts_in body) (slices_in body) (is.highs.count_is ∙ sym many) is.slices)
+
+-- as bits
+pub body_those : (count size : ℕ) (body : List ℕ) (P : ℕ → Bool) → IsBlocks count body → size ≡ slice_len (get_or body 0 0 + 1) → ((i : ℕ) → i < 256 → P i ≡ has i (cut_highs size body))
+    → those 256 P ≡ cut_highs size body
+body_those count size body P is e same = those_are P 256 (cut_highs size body) (subst (λ (l : List ℕ). IsRising 0 256 l) (sym (highs_are size body e)) is.highs.rising) same
+
+pub body_counts : (count size : ℕ) (body : List ℕ) (P : ℕ → Bool) → IsBlocks count body → size ≡ slice_len (get_or body 0 0 + 1) → ((i : ℕ) → i < 256 → P i ≡ has i (cut_highs size body))
+    → length (those 256 P) ≡ length (cut_counts size body)
+body_counts count size body P is e same =
+    let room = is.room in
+    ap length (body_those count size body P is e same) ∙ ap length (highs_are size body e) ∙ is.highs.count_is ∙ sym (counts_are size body e (omega arith))
+
+-- a body is read by the bits of its high bytes
+pub body_numbers : (count size : ℕ) (body : List ℕ) (P : ℕ → Bool) → IsBlocks count body → size ≡ slice_len (get_or body 0 0 + 1) → ((i : ℕ) → i < 256 → P i ≡ has i (cut_highs size body))
+    → numbers_of (those 256 P) (cut_counts size body) (cut_slices size body) ≡ block_numbers body
+body_numbers count size body P is e same =
+    let room = is.room in
+    ap (λ (l : List ℕ). numbers_of l (cut_counts size body) (cut_slices size body)) (body_those count size body P is e same)
+    ∙ ap (λ (n : ℕ). numbers_of (slice_numbers n (take (1 + size - 1) (drop 1 body))) (cut_counts size body) (cut_slices size body)) (sym (counts_are size body e (omega arith)))
+    ∙ cut size body e (omega arith)
