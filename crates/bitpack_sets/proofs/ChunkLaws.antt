@@ -44,7 +44,7 @@ module _ (ids chunks : ℕ) (rest : List ℕ) (are : EachByte rest) (is : IsRest
   long : (m : ℕ) → m < chunks → length (body_at chunks rest m) ≡ size_at chunks rest m
   long m lt = body_len ids chunks rest m is.entries fits lt
 
-  key_small : (m : ℕ) → m < chunks → key_at rest m < 65536
+  pub key_small : (m : ℕ) → m < chunks → key_at rest m < 65536
   key_small m lt =
       let room = is.directory.room in
       let e : short_at 2 (drop 1 rest) m ≡ number_of (take 2 (drop (2 * m) (drop 1 rest))) = short_is 2 m (drop 1 rest) (omega (arith, length-drop 1 rest)) in
@@ -52,7 +52,7 @@ module _ (ids chunks : ℕ) (rest : List ℕ) (are : EachByte rest) (is : IsRest
       omega arith
 
   -- they are parts
-  from_chunk : (m k low : ℕ) → m + k ≤ chunks → low ≤ 65536 → (0 < k → low ≤ key_at rest m) → AreParts 65536 low 65536 (map (chunk_at chunks rest) (range_with_len m k))
+  pub from_chunk : (m k low : ℕ) → m + k ≤ chunks → low ≤ 65536 → (0 < k → low ≤ key_at rest m) → AreParts 65536 low 65536 (map (chunk_at chunks rest) (range_with_len m k))
   from_chunk m zero low h top first = top
   from_chunk m (suc k) low h top first =
       let lt : m < chunks = omega arith in

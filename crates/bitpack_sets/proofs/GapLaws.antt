@@ -284,6 +284,11 @@ sound_few more bytes e =
     let (over, after) = or_none _ _ e2 in
     record { number = map_none set_error _ number_none; groups_none = map_none set_error _ groups_none; small = map_none NotSorted _ over }
 
+pub few_below : (count : ℕ) (bytes : List ℕ) → short_fault count bytes ≡ None → Below (2 ^ 32) (few_ids count bytes)
+unfolding short_fault
+few_below zero bytes e = tt
+few_below (suc more) bytes e = over_none 0 (short_ids more bytes) (sound_few more bytes e).small
+
 -- one id and others, by how many they are
 some_more : (m n : ℕ) → n ≡ m + 1 → n ≡ suc m
 some_more m n e = e ∙ add-one m

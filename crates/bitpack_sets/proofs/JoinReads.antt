@@ -19,13 +19,13 @@ raised base h xs = map (λ low. h * base + low) xs
 split_other : (base x h low : ℕ) → low < base → h ≢ x / base → h * base + low ≢ x
 split_other base x h low small ne e = ne (sym (div-mul-add h base low small) ∙ ap (λ (n : ℕ). n / base) e)
 
-has_other : (base x h from : ℕ) (xs : List ℕ) → IsRising from base xs → h ≢ x / base → has x (map (λ low. h * base + low) xs) ≡ false
+pub has_other : (base x h from : ℕ) (xs : List ℕ) → IsRising from base xs → h ≢ x / base → has x (map (λ low. h * base + low) xs) ≡ false
 has_other base x h from [] r ne = refl
 has_other base x h from (y ∷ xs) (a, r) ne =
     let room = rising_room (y + 1) base xs r in
     ap (λ (b : Bool). b || has x (map (λ low. h * base + low) xs)) (ne_eqb (h * base + y) x (split_other base x h y (omega arith) ne)) ∙ has_other base x h (y + 1) xs r ne
 
-has_same : (base x h from : ℕ) (xs : List ℕ) → IsRising from base xs → h ≡ x / base → has x (map (λ low. h * base + low) xs) ≡ has (x % base) xs
+pub has_same : (base x h from : ℕ) (xs : List ℕ) → IsRising from base xs → h ≡ x / base → has x (map (λ low. h * base + low) xs) ≡ has (x % base) xs
 has_same base x h from [] r e = refl
 has_same base x h from (y ∷ xs) (a, r) e =
     let room = rising_room (y + 1) base xs r in

@@ -35,6 +35,7 @@ mod NumberReads
 mod OnesLaws
 mod PartLaws
 mod PartsFilled
+mod PlaceLaws
 mod RaisedLaws
 mod ReadLaws
 mod RefusalLaws
@@ -46,6 +47,7 @@ mod TestLaws
 mod TextLaws
 mod ToldLaws
 mod UnpackLaws
+mod WalkLaws
 mod Words
 mod WorkedProofs
 mod WriteLaws

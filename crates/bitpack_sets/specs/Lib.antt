@@ -7,6 +7,7 @@ pub mod Faults
 pub mod Laws
 pub mod Opened
 pub mod Operations
+pub mod Props
 pub mod Reads
 pub mod Sets
 pub mod Slices

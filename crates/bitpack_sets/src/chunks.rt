@@ -1,7 +1,10 @@
 //! The chunks of a set of any form: a chunk is the ids that share their high 16 bits, its key.
 
-ghost use Rattle.std.specs.Prelude.{◌≡◌, ◌^◌, ◌≤◌, ◌→◌};
+ghost use Rattle.std.specs.Prelude.{◌≡◌, ◌≢◌, ◌^◌, ◌≤◌};
+ghost use Rattle.bitpacking.specs.Bits.{AreBytes};
+ghost use Rattle.bitpack_sets.specs.Props.{rising_prop};
 ghost use Rattle.bitpack_sets.specs.Sets.{IsRising};
+ghost use Rattle.std.proofs.Props.{props};
 ghost use Rattle.bitpack_sets.specs.Slices.{quads_of};
 ghost use Rattle.bitpack_sets.specs.Sound.{IsRest};
 
@@ -24,14 +27,16 @@ pub(crate) struct Chunks<'a> {
     // How many ids a set in chunks has.
     ids: usize,
     ghost few: { count ≤ 65536 },
-    ghost sound: { count ≢ 0 → IsRest ids count rest.now },
-    ghost rising: { count ≡ 0 → IsRising 0 (2 ^ 32) (quads_of rest.now) },
+    ghost are_bytes: { AreBytes rest.now },
+    ghost sound: { count ≢ 0 → IsRest ids count rest.now } by { Prim.hlevel (props, rising_prop) },
+    ghost rising: { count ≡ 0 → IsRising 0 (2 ^ 32) (quads_of rest.now) } by { Prim.hlevel (props, rising_prop) },
 }
 
 impl<'a> Chunks<'a> {
     ghost use Rattle.std.specs.Prelude.{ℕ, ◌+◌, ◌*◌, ◌/◌, ◌%◌, ◌<◌, ◌==◌, false, if◌then◌else◌, length};
     ghost use Rattle.bitpack_sets.specs.Bitmaps.{Holds, has_bit, has_high};
     ghost use Rattle.bitpack_sets.specs.Chunks.{first_key, ids_from, lows_between, places};
+    ghost use Rattle.bitpack_sets.specs.Directory.{chunk_ids, count_at};
     ghost use Rattle.bitpack_sets.specs.Reads.{has};
 
     /// The chunks of a set of `ids` ids in chunks.
@@ -85,6 +90,7 @@ impl<'a> Chunks<'a> {
         requires key { key ≤ NO_KEY }
         ensures within { result ≤ places self.now }
         ensures later { place ≤ result }
+        ensures lower { (p : ℕ) → place ≤ p → p < result → first_key (ids_from self.now p) < key }
         ensures reached { key ≤ first_key (ids_from self.now result) }
         // It passes over ids of lower keys alone.
         ensures ids { (x : ℕ) → key * 65536 ≤ x → has x (ids_from self.now place) ≡ has x (ids_from self.now result) }
@@ -126,7 +132,7 @@ impl<'a> Chunks<'a> {
     /// The high bytes of the low 16 bits of the ids between two places, which share a key.
     pub(crate) fn highs(&self, place: usize, end: usize) -> [u64; 4]
         requires within { (place ≤ end) × (end ≤ places self.now) }
-        requires one { self.count ≢ 0 → end ≤ place + 1 }
+        requires one { self.now.count ≢ 0 → end ≤ place + 1 }
         ensures { (h : ℕ) → h < 256 → has_bit result h ≡ has_high h (lows_between self.now place end) }
     {
         if place == end {
@@ -145,7 +151,7 @@ impl<'a> Chunks<'a> {
     /// Loads the low 16 bits of the ids between two places, which share a key, if they have these high bytes.
     pub(crate) fn load(&self, place: usize, end: usize, highs: &[u32], words: &mut [u64; 1024])
         requires within { (place ≤ end) × (end ≤ places self.now) }
-        requires one { self.count ≢ 0 → end ≤ place + 1 }
+        requires one { self.now.count ≢ 0 → end ≤ place + 1 }
         requires highs { IsRising 0 256 highs.now }
         ensures { Holds highs.now words.new (lows_between self.now place end) }
     {
@@ -160,8 +166,8 @@ impl<'a> Chunks<'a> {
 
     // Loads the body of a chunk.
     fn load_body(&self, chunk: usize, highs: &[u32], words: &mut [u64; 1024])
-        requires chunks { self.count ≢ 0 }
-        requires within { chunk < self.count }
+        requires chunks { self.now.count ≢ 0 }
+        requires within { chunk < self.now.count }
         requires highs { IsRising 0 256 highs.now }
         ensures { Holds highs.now words.new (lows_between self.now chunk (chunk + 1)) }
     {
@@ -174,7 +180,11 @@ impl<'a> Chunks<'a> {
     }
 
     // Whether the body of a chunk is numbers.
-    fn is_numbers(&self, chunk: usize, body: &[u8]) -> bool {
+    fn is_numbers(&self, chunk: usize, body: &[u8]) -> bool
+        requires chunks { self.now.count ≢ 0 }
+        requires within { chunk < self.now.count }
+        ensures { result ≡ (length body.now == 2 * count_at self.now.count self.now.rest.now chunk) }
+    {
         let own = sum_at(self.count, self.rest, chunk) - count_before(self.count, self.rest, chunk);
         body.len() == 2 * own as usize
     }

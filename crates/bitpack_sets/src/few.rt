@@ -1,6 +1,6 @@
 //! Sets of fewer than 128 ids: the first id as a number, and groups of the differences of the others.
 
-ghost use Rattle.std.specs.Prelude.{◌≡◌, ℕ, ◌+◌, ◌^◌, ◌<◌, ◌≤◌, IfOk, OnOk, length, None, Option};
+ghost use Rattle.std.specs.Prelude.{◌≡◌, ℕ, ◌+◌, ◌*◌, ◌^◌, ◌<◌, ◌≤◌, IfOk, OnOk, length, None, Option};
 ghost use Rattle.bitpack_sets.specs.Reads.{few_ids, has, rank};
 ghost use Rattle.bitpack_sets.specs.Errors.{Finds};
 ghost use Rattle.bitpack_sets.specs.Faults.{ids_from, short_fault, some_fault};
@@ -56,12 +56,14 @@ pub(crate) fn unpack_few(bytes: &[u8], out: &mut [u32])
 }
 
 /// Writes the ids of such a set, four bytes for each.
-pub(crate) fn unpack_few_bytes(bytes: &[u8], out: &mut [u8])
-    requires size { (count : ℕ) × (count ≤ MOST_FEW) × (length out.old ≡ 4 * count) × (short_fault count bytes.now ≡ None) }
-    ensures { quads_of out.new ≡ few_ids (length out.old / 4) bytes.now }
+pub(crate) fn unpack_few_bytes(count: usize, bytes: &[u8], out: &mut [u8])
+    requires few { count ≤ MOST_FEW }
+    requires sound { short_fault count bytes.now ≡ None }
+    requires room { length out.old ≡ 4 * count }
+    ensures { quads_of out.new ≡ few_ids count bytes.now }
 {
     let mut ids = [0; MOST_FEW];
-    let ids = &mut ids[..out.len() / 4];
+    let ids = &mut ids[..count];
     unpack_few(bytes, ids);
     write_integers(4, ids, out);
 }

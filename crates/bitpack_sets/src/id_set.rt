@@ -30,6 +30,7 @@ pub struct IdSet<'a> {
 
 impl<'a> IdSet<'a> {
     ghost use Rattle.std.specs.Prelude.{◌↔◌, ◌+◌, ◌<◌, ◌++◌, IsTrue, [], drop, length, take, vec_capacity, vec_len, IfErr, IfOk, None, OnErr, OnOk};
+    ghost use Rattle.bitpack_sets.specs.Chunks.{ids_from};
     ghost use Rattle.bitpack_sets.specs.Errors.{Finds};
     ghost use Rattle.bitpack_sets.specs.Faults.{fault};
     ghost use Rattle.bitpack_sets.specs.Opened.{ids, text_of};
@@ -158,7 +159,7 @@ impl<'a> IdSet<'a> {
             return Chunks::of_array(self.rest);
         }
         let room = &mut room[..4 * self.count];
-        unpack_few_bytes(self.rest, room);
+        unpack_few_bytes(self.count, self.rest, room);
         Chunks::of_array(room)
     }
 
