@@ -1,30 +1,24 @@
 //! Walks through two sets chunk by chunk.
 
-ghost use Rattle.std.specs.Prelude.{◌≡◌, ◌≤◌};
-ghost use Rattle.bitpack_sets.specs.Chunks.{places};
-
-use crate::bitmap::combining::combine;
-use crate::bitmap::unpacking::unpack_bits;
 use crate::chunks::{Chunks, NO_KEY};
 use crate::operation::Operation;
 
 /// What is left of two sets that are combined.
 pub(crate) struct Pair<'a> {
-    operation: Operation,
-    a: Chunks<'a>,
-    b: Chunks<'a>,
+    pub(crate) operation: Operation,
+    pub(crate) a: Chunks<'a>,
+    pub(crate) b: Chunks<'a>,
     // The places of the first ids that are left.
     i: usize,
     j: usize,
-    ghost a_within: { i ≤ places a },
-    ghost b_within: { j ≤ places b },
 }
 
-/// A chunk of the answer: its key, and the high bytes that it can have. Their bits are in the bitmap beside it.
-pub(crate) struct Answer {
+/// The ids of a key in two sets: where they begin and end.
+#[derive(Clone, Copy)]
+pub(crate) struct Meeting {
     pub(crate) key: u32,
-    pub(crate) highs: [u32; 256],
-    pub(crate) high_count: usize,
+    pub(crate) a: (usize, usize),
+    pub(crate) b: (usize, usize),
 }
 
 impl<'a> Pair<'a> {
@@ -38,34 +32,18 @@ impl<'a> Pair<'a> {
         }
     }
 
-    /// The next chunk of the answer, whose bits are left in `words`. None if no id is left.
-    pub(crate) fn next(
-        &mut self,
-        words: &mut [u64; 1024],
-        others: &mut [u64; 1024],
-    ) -> Option<Answer> {
+    /// The next key that the answer can have. None if no id is left.
+    pub(crate) fn next(&mut self) -> Option<Meeting> {
         self.skip();
         let key = self.a.key(self.i).min(self.b.key(self.j));
         if key == NO_KEY {
             return None;
         }
-        let i = self.a.end(self.i, key);
-        let j = self.b.end(self.j, key);
-        let occur = self
-            .operation
-            .highs(&self.a.highs(self.i, i), &self.b.highs(self.j, j));
-        let mut highs = [0; 256];
-        let high_count = unpack_bits(&occur, 0, &mut highs, 0);
-        self.a.load(self.i, i, &highs[..high_count], words);
-        self.b.load(self.j, j, &highs[..high_count], others);
-        combine(self.operation, &highs[..high_count], words, others);
-        self.i = i;
-        self.j = j;
-        Some(Answer {
-            key,
-            highs,
-            high_count,
-        })
+        let a = (self.i, self.a.end(self.i, key));
+        let b = (self.j, self.b.end(self.j, key));
+        self.i = a.1;
+        self.j = b.1;
+        Some(Meeting { key, a, b })
     }
 
     // Passes over chunks of one set alone, if their ids are not in the answer.
