@@ -10,6 +10,7 @@ mod ByteLaws
 mod ChunkLaws
 mod ChunkReads
 mod ChunkTexts
+mod CombineLaws
 mod CountLaws
 mod CutLaws
 mod DecodeLaws

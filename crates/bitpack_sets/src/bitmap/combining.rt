@@ -8,7 +8,7 @@ ghost use Rattle.bitpack_sets.specs.Sets.{IsRising};
 
 use crate::operation::Operation;
 
-/// Combines the bits of these high bytes with those of another bitmap.
+/// Combines another bitmap into this one, in the bits of these high bytes.
 pub(crate) fn combine(
     operation: Operation,
     highs: &[u32],

@@ -1,5 +1,5 @@
 -- The bits of one high byte more are combined.
-use Rattle.bitpack_sets.proofs.BitmapLaws.{more_mixed, none_mixed}
+use Rattle.bitpack_sets.proofs.CombineLaws.{more_mixed, none_mixed}
 use Rattle.bitpack_sets.proofs.DecodeLaws.{rising_top}
 use Rattle.bitpack_sets.proofs.bitmap.combining.combine.Goals as goal
 

@@ -1,6 +1,6 @@
 -- The bits of the high bytes so far are combined.
 use Rattle.std.proofs.Common.{take}
-use Rattle.bitpack_sets.proofs.BitmapLaws.{IsMixed}
+use Rattle.bitpack_sets.proofs.CombineLaws.{IsMixed}
 use Rattle.bitpack_sets.proofs.bitmap.combining.combine.Given as goal
 
 abbrev pub invariant-loop-high : goal.invariant-loop-high

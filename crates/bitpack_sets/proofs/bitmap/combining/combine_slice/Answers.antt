@@ -1,6 +1,6 @@
 -- One word more is combined.
 use Rattle.std.proofs.Common.{◌*◌, arith}
-use Rattle.bitpack_sets.proofs.BitmapLaws.{more_words, no_words}
+use Rattle.bitpack_sets.proofs.CombineLaws.{more_words, no_words}
 use Rattle.bitpack_sets.proofs.bitmap.combining.combine_slice.Goals as goal
 
 pub loop-i-init : goal.loop-i-init

@@ -1,6 +1,6 @@
 -- The words so far are combined.
 use Rattle.std.proofs.Common.{◌*◌}
-use Rattle.bitpack_sets.proofs.BitmapLaws.{IsWordsMixed}
+use Rattle.bitpack_sets.proofs.CombineLaws.{IsWordsMixed}
 use Rattle.bitpack_sets.proofs.bitmap.combining.combine_slice.Given as goal
 
 abbrev pub invariant-loop-i : goal.invariant-loop-i

@@ -1,6 +1,6 @@
 -- A high byte that is left out is in neither, or for `And` not in both.
 use Rattle.std.proofs.Common.{◌∙◌, sym}
-use Rattle.bitpack_sets.proofs.BitmapLaws.{IsLeftOut, four_combined, left_out_and, left_out_or}
+use Rattle.bitpack_sets.proofs.CombineLaws.{IsLeftOut, four_combined, left_out_and, left_out_or}
 use Rattle.bitpack_sets.proofs.operation.Operation.highs.Goals as goal
 use Rattle.bitpack_sets.proofs.operation.Operation.highs.Goals.{in-And, in_default}
 use Rattle.bitpack_sets.specs.Bitmaps.{has_bit}

@@ -1,5 +1,5 @@
 -- Bit by bit.
-use Rattle.bitpack_sets.proofs.BitmapLaws.{word_and, word_and_not, word_or, word_xor}
+use Rattle.bitpack_sets.proofs.CombineLaws.{word_and, word_and_not, word_or, word_xor}
 use Rattle.bitpack_sets.proofs.operation.Operation.word.Goals as goal
 
 pub returns-in-And : goal.returns-in-And
