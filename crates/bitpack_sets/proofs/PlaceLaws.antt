@@ -4,18 +4,19 @@ use Rattle.std.specs.List.{range_with_len}
 use Rattle.std.proofs.lemmas.Bool.{cases_lt, ne_eqb, true≢false}
 use Rattle.std.proofs.lemmas.List.{drop-drop, drop_all, get_or-drop}
 use Rattle.bitpack_sets.proofs.ChunkLaws.{from_chunk, key_small}
+use Rattle.bitpack_sets.proofs.ChunkReads.{blocks_read, numbers_read}
 use Rattle.bitpack_sets.proofs.CountLaws.{bytes_are}
 use Rattle.bitpack_sets.proofs.NumberReads.{quads_len}
 use Rattle.bitpack_sets.proofs.PartLaws.{AreParts, join}
 use Rattle.bitpack_sets.proofs.ReadLaws.{eqb_same, has_append, or_false}
 use Rattle.bitpack_sets.proofs.WalkLaws.{IsWalk, array_key, array_walk, key_under, part_key, part_own, part_pass, part_under, part_up, rising_from, walk_up}
 use Rattle.bitpack_sets.proofs.Words.{EachByte}
-use Rattle.bitpack_sets.specs.Chunks.{first_key, ids_from, lows_between, places}
-use Rattle.bitpack_sets.specs.Directory.{chunk_at, ids_of_chunks, key_at}
+use Rattle.bitpack_sets.specs.Chunks.{first_key, ids_from, lows_between, lows_of, places}
+use Rattle.bitpack_sets.specs.Directory.{body_at, body_numbers_of, chunk_at, count_at, ids_of_chunks, key_at}
 use Rattle.bitpack_sets.specs.Reads.{has}
 use Rattle.bitpack_sets.specs.Sets.{IsRising}
-use Rattle.bitpack_sets.specs.Slices.{quads_of}
-use Rattle.bitpack_sets.specs.Sound.{IsRest}
+use Rattle.bitpack_sets.specs.Slices.{IsBlocks, block_numbers, pairs_of, quads_of}
+use Rattle.bitpack_sets.specs.Sound.{IsBody, IsRest}
 use Rattle.bitpack_sets.specs.declared.chunks.Chunks.{Chunks}
 
 -- ---- chunks from a place on
@@ -170,3 +171,25 @@ quads_cut p end bytes h within =
     let e : 4 * end - 4 * p ≡ 4 * (end - p) = omega arith in
     let long = length-drop (4 * p) bytes in
     ap (λ (n : ℕ). quads_of (take n (drop (4 * p) bytes))) e ∙ quads_take (end - p) (drop (4 * p) bytes) (omega arith) ∙ ap (take (end - p)) (quads_drop p bytes)
+
+pub lows_array : (set : Chunks) (p end : ℕ) → set.count ≡ 0 → p ≤ end → end ≤ places set → lows_of 4 (take (4 * end - 4 * p) (drop (4 * p) set.rest.now)) ≡ lows_between set p end
+lows_array set p end none h within =
+    let all = places_array set none in
+    ap (map (λ x. x % 65536)) (quads_cut p end set.rest.now h (omega arith)) ∙ sym (between_array set p end none)
+
+-- ---- a body
+
+pub numbers_body : (set : Chunks) (m : ℕ) (body : List ℕ) → body ≡ body_at set.count set.rest.now m → eqb (length body) (2 * count_at set.count set.rest.now m) ≡ true
+    → pairs_of body ≡ (chunk_at set.count set.rest.now m).1
+numbers_body set m body e told =
+    let count : ℕ = count_at set.count set.rest.now m in
+    sym (numbers_read count body (eqb-true (length body) (2 * count) told)) ∙ ap (body_numbers_of count) e
+
+pub blocks_body : (set : Chunks) (m : ℕ) (body : List ℕ) → set.count ≢ 0 → m < set.count → body ≡ body_at set.count set.rest.now m → eqb (length body) (2 * count_at set.count set.rest.now m) ≡ false
+    → IsBlocks (length (block_numbers body)) body × (block_numbers body ≡ (chunk_at set.count set.rest.now m).1)
+blocks_body set m body some lt e told =
+    let count : ℕ = count_at set.count set.rest.now m in
+    let is = set.sound some in
+    let (blocks, size, read) = blocks_read count body (is.entries m lt).some (subst (λ (l : List ℕ). IsBody count l (body_numbers_of count l)) (sym e) (is.bodies m lt))
+    (λ h. true≢false (sym (eq-eqb (length body) (2 * count) h) ∙ told)) in
+    (blocks, sym read ∙ ap (body_numbers_of count) e)

@@ -1,12 +1,12 @@
 -- Increasing ids from a place on, place by place.
-use Rattle.std.proofs.Common.{◌≡◌, ℕ, zero, suc, ◌+◌, ◌-◌, ◌*◌, ◌/◌, ◌%◌, ◌^◌, ◌<◌, ◌≤◌, Bool, false, ◌||◌, eqb, List, [], ◌∷◌, map, take, drop, length, get_or, refl, sym, ap, subst, ◌∙◌, arith}
+use Rattle.std.proofs.Common.{◌≡◌, ℕ, zero, suc, ◌+◌, ◌-◌, ◌*◌, ◌/◌, ◌%◌, ◌^◌, ◌<◌, ◌≤◌, Bool, false, ◌||◌, List, [], ◌∷◌, map, drop, length, get_or, refl, ap, subst, ◌∙◌, arith}
 use Rattle.std.proofs.lemmas.Bool.{ne_eqb}
 use Rattle.std.proofs.lemmas.List.{drop_all, drop_more}
 use Rattle.bitpack_sets.proofs.JoinLaws.{join_rises}
 use Rattle.bitpack_sets.proofs.JoinReads.{has_other, has_same}
 use Rattle.bitpack_sets.proofs.OnesLaws.{rising_lower}
 use Rattle.bitpack_sets.proofs.PartLaws.{AreParts, join}
-use Rattle.bitpack_sets.proofs.ReadLaws.{eqb_same, has_append, has_below, lowest, or_false}
+use Rattle.bitpack_sets.proofs.ReadLaws.{has_append, has_below, lowest, or_false}
 use Rattle.bitpack_sets.proofs.SliceLaws.{rising_room}
 use Rattle.bitpack_sets.specs.Chunks.{first_key}
 use Rattle.bitpack_sets.specs.Reads.{has}

@@ -1,23 +1,22 @@
 //! The chunks of a set of any form: a chunk is the ids that share their high 16 bits, its key.
 
 ghost use Rattle.std.specs.Prelude.{◌≡◌, ◌≢◌, ◌^◌, ◌≤◌};
+ghost use Rattle.std.proofs.Props.{props};
 ghost use Rattle.bitpacking.specs.Bits.{AreBytes};
 ghost use Rattle.bitpack_sets.specs.Props.{rising_prop};
 ghost use Rattle.bitpack_sets.specs.Sets.{IsRising};
-ghost use Rattle.std.proofs.Props.{props};
 ghost use Rattle.bitpack_sets.specs.Slices.{quads_of};
 ghost use Rattle.bitpack_sets.specs.Sound.{IsRest};
 
-use crate::array::{id_at, rank_in_array};
+use crate::array::id_at;
 use crate::bitmap::loading::{block_highs, clear, integer_highs, load_blocks, load_integers};
-use crate::chunk::search::{number_at, rank_in_numbers};
 use crate::directory::{count_before, key_at, sum_at};
 use crate::searching::body_of;
 
 /// The key after all keys.
 pub(crate) const NO_KEY: u32 = 65536;
 
-/// The chunks of a set. A place is the index of a chunk, or in an array the position of an id.
+/// The chunks of a set. A position is the index of a chunk, or the index of an id in an array.
 #[derive(Clone, Copy)]
 pub(crate) struct Chunks<'a> {
     // How many chunks a set in chunks has, 0 of an array.
@@ -33,7 +32,7 @@ pub(crate) struct Chunks<'a> {
 }
 
 impl<'a> Chunks<'a> {
-    ghost use Rattle.std.specs.Prelude.{ℕ, ◌+◌, ◌*◌, ◌/◌, ◌%◌, ◌<◌, ◌==◌, false, if◌then◌else◌, length};
+    ghost use Rattle.std.specs.Prelude.{ℕ, ◌+◌, ◌*◌, ◌/◌, ◌%◌, ◌<◌, ◌==◌, length};
     ghost use Rattle.bitpack_sets.specs.Bitmaps.{Holds, has_bit, has_high};
     ghost use Rattle.bitpack_sets.specs.Chunks.{first_key, ids_from, lows_between, places};
     ghost use Rattle.bitpack_sets.specs.Directory.{chunk_ids, count_at};
@@ -60,7 +59,7 @@ impl<'a> Chunks<'a> {
         }
     }
 
-    /// The place after the last.
+    /// The position after the last.
     fn len(&self) -> usize
         ensures { result ≡ places self.now }
     {
@@ -71,7 +70,7 @@ impl<'a> Chunks<'a> {
         }
     }
 
-    /// The key of the first id from a place on, `NO_KEY` if there is none.
+    /// The key of the first id from a position on, `NO_KEY` if there is none.
     pub(crate) fn key(&self, place: usize) -> u32
         ensures { result ≡ first_key (ids_from self.now place) }
     {
@@ -84,7 +83,7 @@ impl<'a> Chunks<'a> {
         }
     }
 
-    /// The first place from one on whose id has this key or a higher one.
+    /// The first position from one on whose id has this key or a higher one, by halves.
     pub(crate) fn seek(&self, place: usize, key: u32) -> usize
         requires within { place ≤ places self.now }
         requires key { key ≤ NO_KEY }
@@ -109,7 +108,7 @@ impl<'a> Chunks<'a> {
         low
     }
 
-    /// Where the ids of a key end that begin at a place: at that place, if it has another key.
+    /// Where the ids of a key end that begin at a position: at that position, if it has another key.
     pub(crate) fn end(&self, place: usize, key: u32) -> usize
         requires within { place ≤ places self.now }
         requires key { key < NO_KEY }
@@ -129,7 +128,7 @@ impl<'a> Chunks<'a> {
         }
     }
 
-    /// The high bytes of the low 16 bits of the ids between two places, which share a key.
+    /// The high bytes of the low 16 bits of the ids between two positions, which share a key.
     pub(crate) fn highs(&self, place: usize, end: usize) -> [u64; 4]
         requires within { (place ≤ end) × (end ≤ places self.now) }
         requires one { self.now.count ≢ 0 → end ≤ place + 1 }
@@ -148,7 +147,7 @@ impl<'a> Chunks<'a> {
         block_highs(body)
     }
 
-    /// Loads the low 16 bits of the ids between two places, which share a key, if they have these high bytes.
+    /// Loads the low 16 bits of the ids between two positions, which share a key, if they have these high bytes.
     pub(crate) fn load(&self, place: usize, end: usize, highs: &[u32], words: &mut [u64; 1024])
         requires within { (place ≤ end) × (end ≤ places self.now) }
         requires one { self.now.count ≢ 0 → end ≤ place + 1 }

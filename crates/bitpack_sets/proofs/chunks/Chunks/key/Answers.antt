@@ -1,5 +1,5 @@
 -- The key of an id, or of a chunk.
-use Rattle.std.proofs.Common.{◌≡◌, ◌∙◌, ◌/◌, ℕ, ap, arith, sym}
+use Rattle.std.proofs.Common.{◌∙◌, ◌/◌, ℕ, ap, arith, sym}
 use Rattle.bitpack_sets.proofs.CountLaws.{bytes_are}
 use Rattle.bitpack_sets.proofs.NumberReads.{quads_len}
 use Rattle.bitpack_sets.proofs.PlaceLaws.{chunk_key, from_array, from_chunks, places_array, places_chunks, walk}

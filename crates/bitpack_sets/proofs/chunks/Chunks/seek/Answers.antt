@@ -1,5 +1,5 @@
 -- The middle place tells which half has the first whose key is not lower.
-use Rattle.std.proofs.Common.{◌-◌, ◌/◌, ◌+◌, ap, arith}
+use Rattle.std.proofs.Common.{◌-◌, ◌/◌, ap, arith}
 use Rattle.bitpack_sets.proofs.PlaceLaws.{walk}
 use Rattle.bitpack_sets.proofs.WalkLaws.{sought_right, sought_start}
 use Rattle.bitpack_sets.proofs.chunks.Chunks.seek.Goals as goal

@@ -1,5 +1,5 @@
 -- Each form of a set has chunks.
-use Rattle.std.proofs.Common.{◌≡◌, ◌^◌, ◌*◌, ◌≤◌, ap, arith, subst, sym, ◌∙◌}
+use Rattle.std.proofs.Common.{◌^◌, arith, subst, sym, ◌∙◌}
 use Rattle.bitpack_sets.specs.Sets.{IsRising}
 use Rattle.bitpack_sets.proofs.FormLaws.{some_bytes, stated_array, stated_chunks, stated_few}
 use Rattle.bitpack_sets.proofs.TextLaws.{ids_are_read}
