@@ -167,6 +167,19 @@ impl<'a> Chunks<'a> {
         }
     }
 
+    /// The body of the ids between two places, if it is one of blocks.
+    pub(crate) fn blocks(&self, (place, end): (usize, usize)) -> Option<&'a [u8]> {
+        if place == end || self.count == 0 {
+            return None;
+        }
+        let body = body_of(self.ids, self.count, self.rest, place);
+        if self.is_numbers(place, body) {
+            None
+        } else {
+            Some(body)
+        }
+    }
+
     // Loads the body of a chunk.
     fn load_body(&self, chunk: usize, highs: &[u32], words: &mut [u64; 1024])
         requires chunks { self.now.count ≢ 0 }

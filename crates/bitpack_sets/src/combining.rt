@@ -4,10 +4,12 @@ ghost use Rattle.std.specs.Prelude.{◌≡◌, ◌+◌, ◌<◌, ◌↔◌, ◌+
 ghost use Rattle.bitpack_sets.specs.Opened.{ids};
 ghost use Rattle.bitpack_sets.specs.Operations.{answer};
 
-use crate::bitmap::unpacking::{count_bitmap, unpack_bitmap};
+use crate::bitmap::combining::combine as combine_bitmaps;
+use crate::bitmap::unpacking::{count_bitmap, unpack_bitmap, unpack_bits};
+use crate::blocks::{Blocks, count_combined, unpack_combined};
 use crate::id_set::{IdSet, ROOM};
 use crate::operation::Operation;
-use crate::pairing::Pair;
+use crate::pairing::{Meeting, Pair};
 use crate::reserved::append_zeros;
 use crate::set_error::SetError;
 
@@ -50,18 +52,13 @@ pub fn combine_to(
     ensures room { OnErr result (length out.old < length (answer operation (ids a.now) (ids b.now))) }
 {
     let mut rooms = ([0; ROOM], [0; ROOM]);
-    let mut words = [0; 1024];
-    let mut others = [0; 1024];
-    let mut highs = [0; 256];
     let mut pair = Pair::new(operation, a.chunks(&mut rooms.0), b.chunks(&mut rooms.1));
     let mut at = 0;
-    while let Some(part) = pair.next(&mut words, &mut others, &mut highs) {
-        let own = &highs[..part.high_count];
-        let left = out.len() - at;
-        if left < 65536 && left < count_bitmap(own, &words) {
+    while let Some(meeting) = pair.next() {
+        let Some(end) = unpack_meeting(&pair, meeting, out, at) else {
             return Err(SetError::Short);
-        }
-        at = unpack_bitmap(own, &words, part.key * 65536, out, at);
+        };
+        at = end;
     }
     Ok(at)
 }
@@ -71,13 +68,10 @@ pub fn combine_count(operation: Operation, a: &IdSet, b: &IdSet) -> usize
     ensures { result ≡ length (answer operation (ids a.now) (ids b.now)) }
 {
     let mut rooms = ([0; ROOM], [0; ROOM]);
-    let mut words = [0; 1024];
-    let mut others = [0; 1024];
-    let mut highs = [0; 256];
     let mut pair = Pair::new(operation, a.chunks(&mut rooms.0), b.chunks(&mut rooms.1));
     let mut count = 0;
-    while let Some(part) = pair.next(&mut words, &mut others, &mut highs) {
-        count += count_bitmap(&highs[..part.high_count], &words);
+    while let Some(meeting) = pair.next() {
+        count += count_meeting(&pair, meeting);
     }
     count
 }
@@ -101,14 +95,63 @@ fn gives_none(operation: Operation, a: &IdSet, b: &IdSet) -> bool
     ensures { IsTrue result ↔ (answer operation (ids a.now) (ids b.now) ≡ []) }
 {
     let mut rooms = ([0; ROOM], [0; ROOM]);
-    let mut words = [0; 1024];
-    let mut others = [0; 1024];
-    let mut highs = [0; 256];
     let mut pair = Pair::new(operation, a.chunks(&mut rooms.0), b.chunks(&mut rooms.1));
-    while let Some(part) = pair.next(&mut words, &mut others, &mut highs) {
-        if count_bitmap(&highs[..part.high_count], &words) > 0 {
+    while let Some(meeting) = pair.next() {
+        if count_meeting(&pair, meeting) > 0 {
             return false;
         }
     }
     true
+}
+
+/// Writes the ids of a key that are in the answer. Returns where they end, or None if there is no room for them.
+fn unpack_meeting(pair: &Pair, meeting: Meeting, out: &mut [u32], at: usize) -> Option<usize> {
+    let base = meeting.key * 65536;
+    let bodies = (pair.a.blocks(meeting.a), pair.b.blocks(meeting.b));
+    if let (Some(a), Some(b)) = bodies {
+        let mut starts = ([0; 257], [0; 257]);
+        let blocks = (Blocks::new(a, &mut starts.0), Blocks::new(b, &mut starts.1));
+        return unpack_combined(pair.operation, &blocks.0, &blocks.1, base, out, at);
+    }
+    let mut words = [0; 1024];
+    let mut highs = [0; 256];
+    let many = load_meeting(pair, meeting, &mut words, &mut highs);
+    if out.len() - at < count_bitmap(&highs[..many], &words) {
+        return None;
+    }
+    Some(unpack_bitmap(&highs[..many], &words, base, out, at))
+}
+
+/// How many ids of a key are in the answer.
+fn count_meeting(pair: &Pair, meeting: Meeting) -> usize {
+    let bodies = (pair.a.blocks(meeting.a), pair.b.blocks(meeting.b));
+    if let (Some(a), Some(b)) = bodies {
+        let mut starts = ([0; 257], [0; 257]);
+        let blocks = (Blocks::new(a, &mut starts.0), Blocks::new(b, &mut starts.1));
+        return count_combined(pair.operation, &blocks.0, &blocks.1);
+    }
+    let mut words = [0; 1024];
+    let mut highs = [0; 256];
+    let many = load_meeting(pair, meeting, &mut words, &mut highs);
+    count_bitmap(&highs[..many], &words)
+}
+
+/// Leaves the bits of a key's answer in a bitmap, and lists the high bytes that it can have. Returns how many these are.
+fn load_meeting(
+    pair: &Pair,
+    meeting: Meeting,
+    words: &mut [u64; 1024],
+    highs: &mut [u32; 256],
+) -> usize {
+    let occur = pair.operation.highs(
+        &pair.a.highs(meeting.a.0, meeting.a.1),
+        &pair.b.highs(meeting.b.0, meeting.b.1),
+    );
+    let many = unpack_bits(&occur, 0, highs, 0);
+    let mut others = [0; 1024];
+    pair.a.load(meeting.a.0, meeting.a.1, &highs[..many], words);
+    pair.b
+        .load(meeting.b.0, meeting.b.1, &highs[..many], &mut others);
+    combine_bitmaps(pair.operation, &highs[..many], words, &others);
+    many
 }

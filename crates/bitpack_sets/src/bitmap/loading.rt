@@ -67,7 +67,7 @@ fn bits_at(
 }
 
 /// Where each slice begins among slices end to end. Each count less 1 is given.
-fn fill_starts(counts: &[u8], starts: &mut [u16; 257])
+pub(crate) fn fill_starts(counts: &[u8], starts: &mut [u16; 257])
     requires few { length counts.now ≤ 256 }
     ensures { (index : ℕ) → index < length counts.now → slice_index starts.new index ≡ slices_len (take index counts.now) }
 {

@@ -116,15 +116,18 @@ pub(crate) fn unpack_ones(word: u64, base: u32, out: &mut [u32], at: usize) -> u
     ensures end { result ≡ at + length (ones_from word 0 64) }
     ensures values { take result out.new ≡ take at out.old ++ map (λ i. base + i) (ones_from word 0 64) }
 {
+    let end = at + word.count_ones() as usize;
     let mut next = at;
     let mut left = word;
     while left != 0 {
-        let place = left.trailing_zeros();
-        out[next] = base + place;
-        next += 1;
-        left -= 1 << place;
+        let four = &mut out[next..next + 4];
+        for i in 0..4 {
+            four[i] = base.wrapping_add(left.trailing_zeros());
+            left &= left.wrapping_sub(1);
+        }
+        next += 4;
     }
-    next
+    end
 }
 
 /// Word i of some bytes.
@@ -133,15 +136,7 @@ pub(crate) fn word_at(bytes: &[u8], i: usize) -> u64
     requires { 8 * i + 8 ≤ length bytes.now }
     ensures { result ≡ number_of (take 8 (drop (8 * i) bytes.now)) }
 {
-    let place = 8 * i;
-    u64::from_le_bytes([
-        bytes[place],
-        bytes[place + 1],
-        bytes[place + 2],
-        bytes[place + 3],
-        bytes[place + 4],
-        bytes[place + 5],
-        bytes[place + 6],
-        bytes[place + 7],
-    ])
+    let mut word = [0; 8];
+    word.copy_from_slice(&bytes[8 * i..8 * i + 8]);
+    u64::from_le_bytes(word)
 }
