@@ -17,7 +17,7 @@ selected (Bytes bytes marks) = marked marks bytes.now
 selected (Bits words) = those 256 (has_bit words)
 
 -- the bytes of the slice of `count` numbers that begins at `start` are there, and are a slice; none if the count is 0
-record pub HasSlice (text : List ℕ) (start count : ℕ) : Type 0 where
+pub record HasSlice (text : List ℕ) (start count : ℕ) : Type 0 where
   pub few : count ≤ 256
   pub room : start + slice_len count ≤ length text
   pub slice : IsSlice count (take (slice_len count) (drop start text))

@@ -9,9 +9,9 @@ use crate::operation::Operation;
 /// What is left of two sets that are combined.
 #[derive(Drop)]
 pub(crate) struct Pair<'a> {
-    operation: Operation,
-    a: Chunks<'a>,
-    b: Chunks<'a>,
+    pub(crate) operation: Operation,
+    pub(crate) a: Chunks<'a>,
+    pub(crate) b: Chunks<'a>,
     // Where the ids that are left begin.
     i: usize,
     j: usize,
@@ -49,8 +49,7 @@ impl<'a> Pair<'a> {
     }
 
     /// The next key that the answer can have. None if no id is left.
-    pub(crate) fn next(&mut self) -> Option<Meeting>
-    {
+    pub(crate) fn next(&mut self) -> Option<Meeting> {
         self.skip();
         let key = self.a.key(self.i).min(self.b.key(self.j));
         if key == NO_KEY {
