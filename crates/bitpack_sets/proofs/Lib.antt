@@ -31,6 +31,7 @@ mod JoinReads
 mod LoadLaws
 mod LongFilled
 mod LongLaws
+mod MarkLaws
 mod MeasureLaws
 mod NumberReads
 mod OnesLaws
