@@ -22,6 +22,7 @@ mod FaultLaws
 mod FewLaws
 mod FillLaws
 mod FormLaws
+mod FourLaws
 mod GapLaws
 mod GroupLaws
 mod HalfLaws
