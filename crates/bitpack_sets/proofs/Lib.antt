@@ -23,6 +23,7 @@ mod FaultLaws
 mod FewLaws
 mod FillLaws
 mod FormLaws
+mod FourLaws
 mod GapLaws
 mod GroupLaws
 mod HalfLaws
@@ -32,6 +33,7 @@ mod JoinReads
 mod LoadLaws
 mod LongFilled
 mod LongLaws
+mod MarkLaws
 mod MeasureLaws
 mod NumberReads
 mod OnesLaws

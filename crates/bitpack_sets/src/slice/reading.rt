@@ -109,6 +109,8 @@ fn unpack_full(base: u32, out: &mut [u32], at: usize) -> usize
 }
 
 /// Writes the numbers of the bits of a word that are 1, in order, each with `base` added. Returns where they end.
+///
+/// Four are written at a time, so up to three after the end change too.
 #[inline(always)]
 pub(crate) fn unpack_ones(word: u64, base: u32, out: &mut [u32], at: usize) -> usize
     requires fits { base + 64 ≤ 2 ^ 32 }
