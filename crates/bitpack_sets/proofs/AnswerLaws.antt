@@ -230,14 +230,13 @@ pub answer_left : (operation : Operation) (xs xs' ys ys' : List ℕ) (more : ℕ
 answer_left operation xs xs' ys ys' more e f same = those_same (2 ^ 32) (λ x. holds operation (has x xs) (has x ys)) more
     (λ x h. each operation (has x xs) (has x xs') (has x ys) (has x ys') (ap (has x) (sym e)) (ap (has x) (sym f)) ∙ sym (same x))
 
-pub part_first : (key : ℕ) (highs words : List ℕ) (before after : ℕ → Bool) → IsPart key highs words before after
-    → those (2 ^ 32) before ≡ map (λ i. key * 65536 + i) (bitmap_numbers highs words) ++ those (2 ^ 32) after
-part_first key highs words before after part =
+pub part_first : (key : ℕ) (test before after : ℕ → Bool) → IsPart key test before after
+    → those (2 ^ 32) before ≡ map (λ i. key * 65536 + i) (those 65536 test) ++ those (2 ^ 32) after
+part_first key test before after part =
     let small : key < 65536 = part.small in
-    those_part (2 ^ 32) (key * 65536) 65536 before (λ x. has (x / 256) highs && has_bit words x) after (omega arith)
+    those_part (2 ^ 32) (key * 65536) 65536 before test after (omega arith)
     (λ x h. part.lower x (omega arith))
-    (λ x h. (let low : (key * 65536 + x) % 65536 ≡ x = omega arith in
-    part.own (key * 65536 + x) (omega arith) ∙ ap (λ (y : ℕ). has (y / 256) highs && has_bit words y) low))
+    (λ x h. (let low : (key * 65536 + x) % 65536 ≡ x = omega arith in part.own (key * 65536 + x) (omega arith) ∙ ap test low))
     (λ x h. part.passed x (omega arith))
     (λ x a b. part.higher x (omega arith))
 
@@ -249,17 +248,17 @@ pub record Written (out : List ℕ) (at : ℕ) (all : List ℕ) (more : ℕ → 
 taken : (n : ℕ) (xs : List ℕ) → length (take n xs) ≡ n → n ≤ length xs
 taken n xs e = let cut = length-take n xs in omega arith
 
-pub written_more : (out out' : List ℕ) (at at' key : ℕ) (all highs words : List ℕ) (before after : ℕ → Bool) → Written out at all before → IsPart key highs words before after
-    → at' ≡ at + length (bitmap_numbers highs words) → take at' out' ≡ take at out ++ map (λ i. key * 65536 + i) (bitmap_numbers highs words) → Written out' at' all after
-written_more out out' at at' key all highs words before after so part end values =
-    let raised : List ℕ = map (λ i. key * 65536 + i) (bitmap_numbers highs words) in
+pub written_more : (out out' : List ℕ) (at at' key : ℕ) (all : List ℕ) (test before after : ℕ → Bool) → Written out at all before → IsPart key test before after
+    → at' ≡ at + length (those 65536 test) → take at' out' ≡ take at out ++ map (λ i. key * 65536 + i) (those 65536 test) → Written out' at' all after
+written_more out out' at at' key all test before after so part end values =
+    let raised : List ℕ = map (λ i. key * 65536 + i) (those 65536 test) in
     record {
       within =
           (let long : length (take at' out') ≡ length (take at out) + length raised = ap length values ∙ length-append (take at out) raised in
           let some : length (take at out) ≡ at = length-take-le at out so.within in
-          let more : length raised ≡ length (bitmap_numbers highs words) = length-map (bitmap_numbers highs words) (λ i. key * 65536 + i) in
+          let more : length raised ≡ length (those 65536 test) = length-map (those 65536 test) (λ i. key * 65536 + i) in
           taken at' out' (omega arith));
-      parts = so.parts ∙ ap (λ (xs : List ℕ). take at out ++ xs) (part_first key highs words before after part)
+      parts = so.parts ∙ ap (λ (xs : List ℕ). take at out ++ xs) (part_first key test before after part)
           ∙ sym (append_assoc (take at out) raised (those (2 ^ 32) after)) ∙ ap (λ (xs : List ℕ). xs ++ those (2 ^ 32) after) (sym values);
     }
 
@@ -273,13 +272,13 @@ length_all out at all more so none = sym (length-take-le at out so.within) ∙ a
 pub record Counted (count : ℕ) (all : List ℕ) (more : ℕ → Bool) : Type 0 where
   pub rest : length all ≡ count + length (those (2 ^ 32) more)
 
-pub counted_more : (count count' key : ℕ) (all highs words : List ℕ) (before after : ℕ → Bool) → Counted count all before → IsPart key highs words before after
-    → count' ≡ count + length (bitmap_numbers highs words) → Counted count' all after
-counted_more count count' key all highs words before after so part e =
+pub counted_more : (count count' key : ℕ) (all : List ℕ) (test before after : ℕ → Bool) → Counted count all before → IsPart key test before after
+    → count' ≡ count + length (those 65536 test) → Counted count' all after
+counted_more count count' key all test before after so part e =
     let rest = so.rest in
-    let cut = ap length (part_first key highs words before after part)
-    ∙ length-append (map (λ i. key * 65536 + i) (bitmap_numbers highs words)) (those (2 ^ 32) after)
-    ∙ ap (λ (n : ℕ). n + length (those (2 ^ 32) after)) (length-map (bitmap_numbers highs words) (λ i. key * 65536 + i)) in
+    let cut = ap length (part_first key test before after part)
+    ∙ length-append (map (λ i. key * 65536 + i) (those 65536 test)) (those (2 ^ 32) after)
+    ∙ ap (λ (n : ℕ). n + length (those (2 ^ 32) after)) (length-map (those 65536 test) (λ i. key * 65536 + i)) in
     record { rest = omega arith }
 
 pub counted_so : (out : List ℕ) (at : ℕ) (all : List ℕ) (more : ℕ → Bool) → Written out at all more → Counted at all more
@@ -295,9 +294,6 @@ counted_all count all more so none =
 
 pub answer_few : (operation : Operation) (xs ys : List ℕ) → length (answer operation xs ys) ≤ 2 ^ 32
 answer_few operation xs ys = those_few (2 ^ 32) (λ x. holds operation (has x xs) (has x ys))
-
-pub numbers_few : (highs words : List ℕ) → length (bitmap_numbers highs words) ≤ 65536
-numbers_few highs words = those_few 65536 (λ x. has (x / 256) highs && has_bit words x)
 
 no_items : (xs : List ℕ) → length xs ≡ 0 → xs ≡ []
 no_items [] e = refl

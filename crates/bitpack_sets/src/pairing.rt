@@ -28,10 +28,10 @@ pub(crate) struct Meeting {
 }
 
 impl<'a> Pair<'a> {
-    ghost use Rattle.std.specs.Prelude.{ℕ, ◌^◌, ◌<◌, IfSome, IfNone, true, false, take};
+    ghost use Rattle.std.specs.Prelude.{ℕ, ◌^◌, ◌<◌, IfSome, IfNone, true, false};
     ghost use Rattle.bitpack_sets.specs.Chunks.{first_key, ids_from};
     ghost use Rattle.bitpack_sets.specs.Operations.{holds};
-    ghost use Rattle.bitpack_sets.specs.Pairs.{IsPart, left, places_left};
+    ghost use Rattle.bitpack_sets.specs.Pairs.{IsMeeting, IsPart, left, meets, places_left};
     ghost use Rattle.bitpack_sets.specs.Reads.{has};
 
     /// All of two sets.
@@ -49,7 +49,13 @@ impl<'a> Pair<'a> {
     }
 
     /// The next key that the answer can have. None if no id is left.
-    pub(crate) fn next(&mut self) -> Option<Meeting> {
+    pub(crate) fn next(&mut self) -> Option<Meeting>
+        ensures none { IfNone result ((x : ℕ) → x < 2 ^ 32 → left self.old x ≡ false) }
+        ensures meeting { IfSome result (λ meeting. IsMeeting self.new meeting) }
+        ensures part { IfSome result (λ meeting. IsPart meeting.key (meets self.new meeting) (left self.old) (left self.new)) }
+        // It goes on.
+        ensures fewer { IfSome result (λ meeting. places_left self.new < places_left self.old) }
+    {
         self.skip();
         let key = self.a.key(self.i).min(self.b.key(self.j));
         if key == NO_KEY {
