@@ -8,12 +8,14 @@ use Rattle.bitpack_sets.proofs.OnesLaws.{rising_lower}
 use Rattle.bitpack_sets.proofs.ReadLaws.{has_below, lowest}
 use Rattle.bitpack_sets.proofs.SliceLaws.{rising_room}
 use Rattle.bitpack_sets.specs.Bitmaps.{bitmap_numbers, has_bit, has_high}
+use Rattle.bitpack_sets.specs.Chunks.{lows_between}
 use Rattle.bitpack_sets.specs.Operations.{answer, holds, those}
-use Rattle.bitpack_sets.specs.Pairs.{IsPart, left, places_left}
+use Rattle.bitpack_sets.specs.Pairs.{IsPart, left, meets, places_left}
 use Rattle.bitpack_sets.specs.Reads.{has}
 use Rattle.bitpack_sets.specs.Sets.{IsRising}
 use Rattle.bitpack_sets.specs.declared.operation.Operation.{Operation}
 use Rattle.bitpack_sets.specs.declared.operation.Operation.TheVariants.{And, Or, AndNot, Xor}
+use Rattle.bitpack_sets.specs.declared.pairing.Meeting.{Meeting}
 use Rattle.bitpack_sets.specs.declared.pairing.Pair.{Pair}
 
 -- ---- the numbers of a range that pass a test
@@ -210,6 +212,13 @@ left_out operation p high true false f g both one other = absurd (true≢false (
 
 pub each : (operation : Operation) (p p' q q' : Bool) → p ≡ p' → q ≡ q' → holds operation p q ≡ holds operation p' q'
 each operation p p' q q' e f = ap (λ (b : Bool). holds operation b q) e ∙ ap (holds operation p') f
+
+-- two bodies that have the numbers of a key tell what the answer has of it
+pub meets_same : (pair : Pair) (meeting : Meeting) (xs ys : List ℕ) → xs ≡ lows_between pair.a meeting.a.0 meeting.a.1 → ys ≡ lows_between pair.b meeting.b.0 meeting.b.1
+    → those 65536 (λ x. holds pair.operation (has x xs) (has x ys)) ≡ those 65536 (meets pair meeting)
+meets_same pair meeting xs ys e f =
+    those_same 65536 (λ x. holds pair.operation (has x xs) (has x ys)) (meets pair meeting)
+    (λ x h. each pair.operation (has x xs) (has x (lows_between pair.a meeting.a.0 meeting.a.1)) (has x ys) (has x (lows_between pair.b meeting.b.0 meeting.b.1)) (ap (has x) e) (ap (has x) f))
 
 pub no_one : (operation : Operation) (p q : Bool) → p ≡ false → q ≡ false → holds operation p q ≡ false
 no_one operation p q e f = each operation p false q false e f ∙ neither operation

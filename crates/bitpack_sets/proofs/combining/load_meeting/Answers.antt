@@ -1,5 +1,5 @@
 -- A number's bit tells whether the answer has it, if the answer can have its high byte.
-use Rattle.std.proofs.Common.{◌≡◌, ◌<◌, ℕ, ◌/◌, ◌∙◌, ◌&&◌, List, arith, false, refl, sym, take}
+use Rattle.std.proofs.Common.{◌<◌, ℕ, ◌/◌, ◌∙◌, ◌&&◌, arith, refl, sym, take}
 use Rattle.bitpack_sets.specs.Bitmaps.{has_bit}
 use Rattle.bitpack_sets.specs.Chunks.{lows_between}
 use Rattle.bitpack_sets.specs.Pairs.{meets}

@@ -1,5 +1,5 @@
 -- A body that is not numbers is blocks.
-use Rattle.std.proofs.Common.{◌≡◌, ◌<◌, ◌∙◌, ℕ, List, arith, length, sym}
+use Rattle.std.proofs.Common.{◌∙◌, arith, sym}
 use Rattle.bitpack_sets.proofs.PlaceLaws.{between_chunk, blocks_body, places_chunks}
 use Rattle.bitpack_sets.proofs.chunks.Chunks.blocks.Goals as goal
 

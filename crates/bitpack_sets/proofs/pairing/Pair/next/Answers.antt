@@ -1,6 +1,6 @@
-use Rattle.std.proofs.Common.{◌≡◌, ◌≤◌, ◌<◌, ℕ, ◌+◌, ◌/◌, ◌%◌, ◌∙◌, false, arith, min}
+use Rattle.std.proofs.Common.{◌%◌, ◌∙◌, arith}
 use Rattle.bitpack_sets.specs.Chunks.{ids_from, lows_between}
-use Rattle.bitpack_sets.specs.Pairs.{IsMeeting, IsPart, IsSpan, left}
+use Rattle.bitpack_sets.specs.Pairs.{left}
 use Rattle.bitpack_sets.specs.Reads.{has}
 use Rattle.bitpack_sets.proofs.AnswerLaws.{each, no_one}
 use Rattle.bitpack_sets.proofs.pairing.Pair.next.Goals as goal
