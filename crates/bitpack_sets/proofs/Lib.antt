@@ -42,6 +42,7 @@ mod ReadLaws
 mod RefusalLaws
 mod RoomLaws
 mod RunLaws
+mod SelectLaws
 mod ShortLaws
 mod SliceLaws
 mod TestLaws

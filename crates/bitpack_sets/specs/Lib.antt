@@ -9,6 +9,7 @@ pub mod Opened
 pub mod Operations
 pub mod Props
 pub mod Reads
+pub mod Selections
 pub mod Sets
 pub mod Slices
 pub mod Sound

@@ -6,7 +6,8 @@ ghost use Rattle.bitpack_sets.specs.Operations.{answer};
 
 use crate::bitmap::combining::combine;
 use crate::bitmap::unpacking::{count_bitmap, unpack_bitmap, unpack_bits};
-use crate::blocks::{Blocks, count_combined, unpack_combined};
+use crate::blocks::Blocks;
+use crate::blocks::combining::{count_combined, unpack_combined};
 use crate::id_set::{IdSet, ROOM};
 use crate::operation::Operation;
 use crate::pairing::{Meeting, Pair};
