@@ -47,6 +47,7 @@ mod RefusalLaws
 mod RoomLaws
 mod RunLaws
 mod SelectLaws
+mod SelectionLaws
 mod ShortLaws
 mod SliceLaws
 mod TestLaws

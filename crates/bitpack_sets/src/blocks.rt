@@ -1,26 +1,43 @@
-//! The slices of a body of blocks, by their high bytes.
+//! Bodies of blocks, whose slices are found by their high bytes.
 
-use crate::bitmap::loading::fill_starts;
+pub(crate) mod combining;
+
+ghost use Rattle.std.specs.Prelude.{◌≡◌, ℕ, ◌<◌, ◌≤◌, length, slice_index, take};
+ghost use Rattle.std.proofs.Props.{props};
+ghost use Rattle.bitpack_sets.specs.Bitmaps.{has_bit};
+ghost use Rattle.bitpack_sets.specs.Operations.{those};
+ghost use Rattle.bitpack_sets.specs.Props.{slices_prop};
+ghost use Rattle.bitpack_sets.specs.Slices.{AreSlices, slices_len};
+
 use crate::bitmap::marking::{rank_of_bit, slice_bits, test_bit};
-use crate::bitmap::unpacking::unpack_bits;
-use crate::operation::Operation;
-use crate::slice::byte_len;
-use crate::slice::selecting::select;
+use crate::slice::{Slice, byte_len};
 
-/// A body of blocks.
+/// The parts of a body of blocks.
 #[derive(Clone, Copy)]
 pub(crate) struct Blocks<'a> {
     // Which high bytes occur.
-    highs: [u64; 4],
+    pub(crate) highs: [u64; 4],
     // For each of these how many numbers have it, less 1, and where its slice begins.
     counts: &'a [u8],
     starts: &'a [u16; 257],
     slices: &'a [u8],
+    ghost few: { length counts.now ≤ 256 },
+    ghost size: { length (those 256 (has_bit highs)) ≡ length counts.now },
+    ghost are: { AreSlices counts.now slices.now } by { Prim.hlevel (props, slices_prop) },
+    ghost passed: { (index : ℕ) → index < length counts.now → slice_index starts.now index ≡ slices_len (take index counts.now) },
 }
 
 impl<'a> Blocks<'a> {
-    /// The parts of a body.
-    pub(crate) fn new(body: &'a [u8], starts: &'a mut [u16; 257]) -> Blocks<'a> {
+    ghost use Rattle.std.specs.Prelude.{◌+◌, ◌*◌};
+    ghost use Rattle.bitpack_sets.specs.Reads.{has};
+    ghost use Rattle.bitpack_sets.specs.Selections.{numbers_at, parts_numbers};
+    ghost use Rattle.bitpack_sets.specs.Slices.{IsBlocks, block_numbers};
+
+    /// The parts of a body. Writes where its slices begin.
+    pub(crate) fn new(body: &'a [u8], starts: &'a mut [u16; 257]) -> Blocks<'a>
+        requires { IsBlocks (length (block_numbers body.now)) body.now }
+        ensures { parts_numbers result ≡ block_numbers body.now }
+    {
         let many = body[0] as usize + 1;
         let size = byte_len(many);
         let counts = &body[1 + size..1 + size + many];
@@ -33,44 +50,36 @@ impl<'a> Blocks<'a> {
         }
     }
 
-    /// Where the slice of a high byte begins, and how many numbers it has: none, if the high byte does not occur.
+    /// The slice of a high byte, which has no numbers if the high byte does not occur.
     #[inline(always)]
-    fn slice(&self, high: usize) -> (&'a [u8], usize, usize) {
+    pub(crate) fn slice(&self, high: usize) -> Slice<'a>
+        requires { high < 256 }
+        ensures { (i : ℕ) → i < 256 → has i (numbers_at result) ≡ has (256 * high + i) (parts_numbers self.now) }
+    {
         if !test_bit(&self.highs, high) {
-            return (self.slices, 0, 0);
+            return Slice {
+                slices: self.slices,
+                start: 0,
+                count: 0,
+            };
         }
         let index = rank_of_bit(&self.highs, high);
-        let count = self.counts[index] as usize + 1;
-        (self.slices, self.starts[index] as usize, count)
+        Slice {
+            slices: self.slices,
+            start: self.starts[index] as usize,
+            count: self.counts[index] as usize + 1,
+        }
     }
 }
 
-/// Writes the numbers that an operation on two bodies gives, each with `base` added. Returns where they end, or None if there is no room.
-pub(crate) fn unpack_combined(
-    operation: Operation,
-    a: &Blocks,
-    b: &Blocks,
-    base: u32,
-    out: &mut [u32],
-    at: usize,
-) -> Option<usize> {
-    let mut highs = [0; 256];
-    let many = unpack_bits(&operation.highs(&a.highs, &b.highs), 0, &mut highs, 0);
-    let mut next = at;
-    for high in &highs[..many] {
-        let selection = select(operation, a.slice(*high as usize), b.slice(*high as usize));
-        next = selection.unpack_within(base + 256 * *high, out, next)?;
+/// Where each slice begins among slices end to end. Each count less 1 is given.
+fn fill_starts(counts: &[u8], starts: &mut [u16; 257])
+    requires few { length counts.now ≤ 256 }
+    ensures { (index : ℕ) → index < length counts.now → slice_index starts.new index ≡ slices_len (take index counts.now) }
+{
+    let mut start = 0;
+    for index in 0..counts.len() {
+        starts[index] = start;
+        start += byte_len(counts[index] as usize + 1) as u16;
     }
-    Some(next)
-}
-
-/// How many numbers an operation on two bodies gives.
-pub(crate) fn count_combined(operation: Operation, a: &Blocks, b: &Blocks) -> usize {
-    let mut highs = [0; 256];
-    let many = unpack_bits(&operation.highs(&a.highs, &b.highs), 0, &mut highs, 0);
-    let mut count = 0;
-    for high in &highs[..many] {
-        count += select(operation, a.slice(*high as usize), b.slice(*high as usize)).count();
-    }
-    count
 }

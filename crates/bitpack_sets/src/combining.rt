@@ -11,7 +11,8 @@ ghost use Rattle.bitpack_sets.specs.Slices.{IsBlocks, block_numbers};
 
 use crate::bitmap::combining::combine as combine_bitmaps;
 use crate::bitmap::unpacking::{count_bitmap, unpack_bitmap, unpack_bits};
-use crate::blocks::{Blocks, count_combined, unpack_combined};
+use crate::blocks::Blocks;
+use crate::blocks::combining::{count_combined, unpack_combined};
 use crate::id_set::{IdSet, ROOM};
 use crate::operation::Operation;
 use crate::pairing::{Meeting, Pair};
