@@ -210,7 +210,7 @@ abbrev pub passes : Operation → Blocks → Blocks → ℕ → Bool
 passes operation a b x = holds operation (has x (parts_numbers a)) (has x (parts_numbers b))
 
 -- a number whose high byte is left out
-out_of : (operation : Operation) (p q x y : Bool) → (p ≡ false → x ≡ false) → (q ≡ false → y ≡ false) → IsLeftOut operation p q → holds operation x y ≡ false
+pub out_of : (operation : Operation) (p q x y : Bool) → (p ≡ false → x ≡ false) → (q ≡ false → y ≡ false) → IsLeftOut operation p q → holds operation x y ≡ false
 out_of operation p q false false f g h = holds_none operation false false refl refl
 out_of operation false q true y f g h = absurd (true≢false (f refl))
 out_of operation p false x true f g h = absurd (true≢false (g refl))
@@ -227,7 +227,7 @@ lows_combined operation high xs ys zs ws left right =
     those_agree (λ x. holds operation (has x xs) (has x ys)) (λ i. holds operation (has (256 * high + i) zs) (has (256 * high + i) ws)) 0 256 (λ i low small.
     ap (λ (b : Bool). holds operation b (has i ys)) (left i small) ∙ ap (holds operation (has (256 * high + i) zs)) (right i small))
 
-map_zero : (xs : List ℕ) → map (λ i. 0 + i) xs ≡ xs
+pub map_zero : (xs : List ℕ) → map (λ i. 0 + i) xs ≡ xs
 map_zero [] = refl
 map_zero (x ∷ xs) = let e : 0 + x ≡ x = omega arith in ap (λ (n : ℕ). n ∷ map (λ i. 0 + i) xs) e ∙ ap (λ (l : List ℕ). x ∷ l) (map_zero xs)
 

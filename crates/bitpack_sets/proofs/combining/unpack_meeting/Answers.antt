@@ -3,7 +3,8 @@ use Rattle.bitpack_sets.specs.Operations.{holds, those}
 use Rattle.bitpack_sets.specs.Pairs.{meets}
 use Rattle.bitpack_sets.specs.Reads.{has}
 use Rattle.bitpack_sets.specs.Slices.{block_numbers}
-use Rattle.bitpack_sets.proofs.AnswerLaws.{meets_same, those_few}
+use Rattle.bitpack_sets.proofs.AnswerLaws.{meets_same}
+use Rattle.bitpack_sets.proofs.BitmapLaws.{those_few}
 use Rattle.bitpack_sets.proofs.combining.unpack_meeting.Goals.{Joined-else-left-lt65536, else-left-lt65536-via-then-left-lt65536+else-left-count_bitmap, else-left-lt65536-via-else-left-lt65536}
 use Rattle.bitpack_sets.proofs.combining.unpack_meeting.Goals as goal
 
