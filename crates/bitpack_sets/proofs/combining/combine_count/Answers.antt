@@ -1,6 +1,5 @@
-use Rattle.std.proofs.Common.{◌≡◌, ◌<◌, ◌≤◌, ℕ, ◌+◌, ◌^◌, ◌∙◌, ap, sym, arith, length, List, take, Fits, w64}
+use Rattle.std.proofs.Common.{ℕ, ◌+◌, ap, arith, length}
 use Rattle.bitpack_sets.specs.Opened.{ids}
-use Rattle.bitpack_sets.specs.Operations.{answer}
 use Rattle.bitpack_sets.specs.Chunks.{ids_from}
 use Rattle.bitpack_sets.specs.Pairs.{left}
 use Rattle.bitpack_sets.proofs.AnswerLaws.{answer_few, answer_left, counted_all, counted_more}

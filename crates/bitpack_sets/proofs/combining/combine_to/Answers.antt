@@ -1,6 +1,6 @@
-use Rattle.std.proofs.Common.{◌≡◌, ◌<◌, ◌≤◌, ℕ, ◌+◌, ◌∙◌, ap, arith, length}
+use Rattle.std.proofs.Common.{◌+◌, arith, length}
 use Rattle.bitpack_sets.specs.Opened.{ids}
-use Rattle.bitpack_sets.specs.Operations.{answer, those}
+use Rattle.bitpack_sets.specs.Operations.{those}
 use Rattle.bitpack_sets.specs.Chunks.{ids_from}
 use Rattle.bitpack_sets.specs.Pairs.{left, meets}
 use Rattle.bitpack_sets.proofs.AnswerLaws.{answer_left, counted_more, counted_so, length_all, written_all, written_more}

@@ -1,8 +1,7 @@
-use Rattle.std.proofs.Common.{◌≡◌, ◌<◌, ℕ, ◌+◌, ◌∙◌, ap, sym, refl, arith, length, true, false}
+use Rattle.std.proofs.Common.{ap, sym, refl, arith, length}
 use Rattle.std.proofs.lemmas.Bool.{true≢false}
 use Rattle.bitpack_sets.specs.Chunks.{ids_from}
 use Rattle.bitpack_sets.specs.Opened.{ids}
-use Rattle.bitpack_sets.specs.Operations.{answer}
 use Rattle.bitpack_sets.specs.Pairs.{left}
 use Rattle.bitpack_sets.proofs.AnswerLaws.{answer_left, counted_more, none_counted, some_counted}
 use Rattle.bitpack_sets.proofs.combining.gives_none.Goals as goal

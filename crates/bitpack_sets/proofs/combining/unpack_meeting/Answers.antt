@@ -1,8 +1,5 @@
-use Rattle.std.proofs.Common.{◌≡◌, ◌≤◌, ◌<◌, ℕ, ◌+◌, ◌*◌, ◌∙◌, ◌++◌, List, IfSome, None, ap, arith, length, map, subst, take}
-use Rattle.bitpack_sets.specs.Operations.{holds, those}
+use Rattle.std.proofs.Common.{◌≡◌, ◌<◌, ℕ, ◌+◌, ◌*◌, ◌∙◌, ◌++◌, List, IfSome, ap, arith, length, map, subst, take}
 use Rattle.bitpack_sets.specs.Pairs.{meets}
-use Rattle.bitpack_sets.specs.Reads.{has}
-use Rattle.bitpack_sets.specs.Slices.{block_numbers}
 use Rattle.bitpack_sets.proofs.AnswerLaws.{meets_same}
 use Rattle.bitpack_sets.proofs.BitmapLaws.{those_few}
 use Rattle.bitpack_sets.proofs.combining.unpack_meeting.Goals.{Joined-else-left-lt65536, else-left-lt65536-via-then-left-lt65536+else-left-count_bitmap, else-left-lt65536-via-else-left-lt65536}
