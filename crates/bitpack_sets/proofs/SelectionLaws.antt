@@ -170,9 +170,6 @@ marks_found marks count bytes own P e size is i h =
 pub mask_is : (count : ℕ) (bytes : List ℕ) → length bytes ≡ count → length bytes < 32 → 1 * 2 ^ count % 2 ^ 32 - 1 ≡ 2 ^ length bytes - 1
 mask_is count bytes size few = ap (λ (n : ℕ). n - 1) (one_shl count 32 (omega arith) ∙ ap (λ (n : ℕ). 2 ^ n) (sym size))
 
-pub mask_few : (count : ℕ) → 2 ^ count - 1 < 2 ^ count
-mask_few count = let some = pow_pos count in omega arith
-
 -- ---- one slice alone
 
 kept : (operation : Operation) (b : Bool) → holds operation true false ≡ true → holds operation b false ≡ b

@@ -1,5 +1,5 @@
 -- The numbers of one high byte more are counted.
-use Rattle.std.proofs.Common.{List, ℕ, ◌∙◌, ap, arith, get_or, length, refl, take}
+use Rattle.std.proofs.Common.{List, ℕ, ◌∙◌, ap, arith, get_or, length, take}
 use Rattle.bitpack_sets.proofs.DecodeLaws.{rising_top}
 use Rattle.bitpack_sets.proofs.SelectionLaws.{listed, lows_combined, passes}
 use Rattle.bitpack_sets.proofs.UnpackLaws.{high_counted, highs_done, numbers_few}

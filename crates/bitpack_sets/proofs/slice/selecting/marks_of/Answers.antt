@@ -1,5 +1,5 @@
 -- All bytes are among all numbers.
-use Rattle.std.proofs.Common.{Bool, List, ℕ, ◌∙◌, ◌&&◌, ap, get_or, ltb, arith, refl}
+use Rattle.std.proofs.Common.{List, ℕ, ◌∙◌, ◌&&◌, ap, get_or, ltb, arith, refl}
 use Rattle.bitpack_sets.proofs.DecodeLaws.{rising_top}
 use Rattle.bitpack_sets.proofs.ReadLaws.{full_numbers, has_all}
 use Rattle.bitpack_sets.proofs.SelectionLaws.{all_marks, few_there, mask_is}

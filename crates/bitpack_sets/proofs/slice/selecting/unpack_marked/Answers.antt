@@ -5,7 +5,6 @@ use Rattle.std.proofs.lemmas.Simd.{map-map}
 use Rattle.bitpack_sets.proofs.OnesLaws.{none_of_zero, one_written, ones_few, word_step}
 use Rattle.bitpack_sets.proofs.SelectionLaws.{ones_longer, place_within}
 use Rattle.bitpack_sets.proofs.slice.selecting.unpack_marked.Goals as goal
-use Rattle.bitpack_sets.specs.Selections.{marked}
 use Rattle.bitpack_sets.specs.Slices.{ones_from}
 
 pub bounds-bytes-place : goal.bounds-bytes-place
