@@ -40,7 +40,7 @@ xor_of (suc zero) (suc zero) h k = refl
 xor_of (suc zero) (suc (suc y)) h k = absurd (omega arith)
 xor_of (suc (suc x)) y h k = absurd (omega arith)
 
-not_of : (y : ℕ) → y < 2 → eqb (1 - y) 1 ≡ not (eqb y 1)
+pub not_of : (y : ℕ) → y < 2 → eqb (1 - y) 1 ≡ not (eqb y 1)
 not_of zero h = refl
 not_of (suc zero) h = refl
 not_of (suc (suc y)) h = absurd (omega arith)

@@ -33,6 +33,7 @@ mod JoinReads
 mod LoadLaws
 mod LongFilled
 mod LongLaws
+mod MarkLaws
 mod MeasureLaws
 mod NumberReads
 mod OnesLaws
@@ -46,6 +47,7 @@ mod RefusalLaws
 mod RoomLaws
 mod RunLaws
 mod SelectLaws
+mod SelectionLaws
 mod ShortLaws
 mod SliceLaws
 mod TestLaws

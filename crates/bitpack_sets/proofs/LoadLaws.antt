@@ -9,18 +9,19 @@ use Rattle.std.proofs.lemmas.Bool.Decides.{eqb_tells}
 use Rattle.std.proofs.lemmas.List.{get_or_append_left, get_or-append_right, get_or-drop, get_or-map, get_or-replicate, get_or-set_other, get_or-set_same, get_or-take, length-map, length-take-le, take_all}
 use Rattle.std.proofs.lemmas.Nat.Bits.{bit_at-zero}
 use Rattle.std.proofs.lemmas.List.Folds.{list_any-append, list_any_more}
-use Rattle.bitpack_sets.proofs.CutLaws.{counts_cut, counts_len, cut, highs_cut}
+use Rattle.bitpack_sets.proofs.BlockReads.{slice_there}
+use Rattle.bitpack_sets.proofs.CutLaws.{counts_cut, counts_len, cut, highs_cut, slices_cut}
 use Rattle.bitpack_sets.proofs.HalfLaws.{pairs_at, pairs_len}
 use Rattle.bitpack_sets.proofs.OnesLaws.{kept_rise}
-use Rattle.bitpack_sets.proofs.ReadLaws.{eqb_same, has_below, has_kept, in_numbers, not_in, or_false, rank_kept, rank_less, slice_at}
+use Rattle.bitpack_sets.proofs.ReadLaws.{eqb_same, has_below, has_kept, in_numbers, not_in, or_false, place_fits, rank_kept, rank_less, slice_at}
 use Rattle.bitpack_sets.proofs.SliceLaws.{rising_room}
 use Rattle.bitpack_sets.proofs.NumberReads.{quads_at, quads_len}
 use Rattle.bitpack_sets.specs.Bitmaps.{has_bit, has_high}
 use Rattle.bitpack_sets.specs.Chunks.{lows_of}
 use Rattle.bitpack_sets.specs.Operations.{those}
 use Rattle.bitpack_sets.specs.Reads.{has, rank}
-use Rattle.bitpack_sets.specs.Sets.{IsRising}
-use Rattle.bitpack_sets.specs.Slices.{AreSlices, IsBlocks, block_numbers, counts_in, high_count, highs_in, numbers_of, quads_of, slice_len, slice_numbers, slices_in, slices_len}
+use Rattle.bitpack_sets.specs.Sets.{IsRising, slice}
+use Rattle.bitpack_sets.specs.Slices.{AreSlices, HasSlice, IsBlocks, IsSlice, block_numbers, counts_in, high_count, highs_in, numbers_of, quads_of, slice_len, slice_numbers, slices_in, slices_len}
 
 -- ---- the words of one high byte are written
 
@@ -221,20 +222,33 @@ pub none_there : (P : ℕ → Bool) (h i : ℕ) (counts slices : List ℕ) → h
 none_there P h i counts slices small less is are =
     not_in (256 * h + i) (those 256 P) counts slices are (ap (λ (n : ℕ). has n (those 256 P)) (high_split h i less) ∙ has_those P h 256 small ∙ is)
 
--- the numbers of one that occurs are those of its slice, as the code cuts it
-pub some_there : (P : ℕ → Bool) (h i index start size : ℕ) (counts slices : List ℕ) → h < 256 → i < 256 → P h ≡ true → length (those 256 P) ≡ length counts → AreSlices counts slices
-    → index ≡ length (those h P) → start ≡ slices_len (take index counts) → size ≡ slice_len (get_or counts index 0 + 1)
-    → has i (slice_numbers (get_or counts index 0 + 1) (take (start + size - start) (drop start slices))) ≡ has (256 * h + i) (numbers_of (those 256 P) counts slices)
-some_there P h i index start size counts slices small less is long are e f g =
+-- the numbers of one that occurs are those of its slice
+pub some_there : (P : ℕ → Bool) (h i index start : ℕ) (counts slices : List ℕ) → h < 256 → i < 256 → P h ≡ true → length (those 256 P) ≡ length counts → AreSlices counts slices
+    → index ≡ length (those h P) → start ≡ slices_len (take index counts)
+    → has i (slice_numbers (get_or counts index 0 + 1) (take (slice_len (get_or counts index 0 + 1)) (drop start slices))) ≡ has (256 * h + i) (numbers_of (those 256 P) counts slices)
+some_there P h i index start counts slices small less is long are e f =
     let count : ℕ = get_or counts index 0 + 1 in
-    let cut : start + size - start ≡ slice_len count = omega arith in
     let high : (256 * h + i) / 256 ≡ h = high_split h i less in
     let place : index ≡ rank ((256 * h + i) / 256) (those 256 P) = e ∙ rank_those P h 256 (omega arith) ∙ ap (λ (n : ℕ). rank n (those 256 P)) (sym high) in
     let among : has ((256 * h + i) / 256) (those 256 P) ≡ true = ap (λ (n : ℕ). has n (those 256 P)) high ∙ has_those P h 256 small ∙ is in
-    ap (λ (m : ℕ). has i (slice_numbers count (take m (drop start slices)))) cut
-    ∙ ap (λ (m : ℕ). has i (slice_numbers count (take (slice_len count) (drop m slices)))) f
+    ap (λ (m : ℕ). has i (slice_numbers count (take (slice_len count) (drop m slices)))) f
     ∙ ap (λ (n : ℕ). has n (slice_at index counts slices)) (sym (low_split h i less))
     ∙ sym (in_numbers (256 * h + i) 0 index (those 256 P) counts slices place long (those_rise P 256) are among)
+
+-- such a slice is there
+pub slice_found : (index start : ℕ) (counts slices : List ℕ) → AreSlices counts slices → index < length counts → start ≡ slices_len (take index counts)
+    → HasSlice slices start (get_or counts index 0 + 1)
+slice_found index start counts slices are less e =
+    let count : ℕ = get_or counts index 0 + 1 in
+    let fits = place_fits index counts slices are less in
+    let is = subst (λ (n : ℕ). IsSlice count (take (slice_len count) (drop n slices))) (sym e) (slice_there index counts slices are less) in
+    let few = rising_room 0 256 (slice_numbers count (take (slice_len count) (drop start slices))) is.rising in
+    let size = is.count_is in
+    record { few = omega arith; room = omega arith; slice = is }
+
+pub none_found : (bytes : List ℕ) → HasSlice bytes 0 0
+unfolding slice
+none_found bytes = record { few = omega arith; room = omega arith; slice = record { rising = omega arith; count_is = refl; text = refl } }
 
 -- ---- a body of blocks
 
@@ -297,6 +311,11 @@ pub body_counts : (count size : ℕ) (body : List ℕ) (P : ℕ → Bool) → Is
 body_counts count size body P is e same =
     let room = is.room in
     ap length (body_those count size body P is e same) ∙ ap length (highs_are size body e) ∙ is.highs.count_is ∙ sym (counts_are size body e (omega arith))
+
+pub body_slices : (count size : ℕ) (body : List ℕ) → IsBlocks count body → size ≡ slice_len (get_or body 0 0 + 1) → AreSlices (cut_counts size body) (cut_slices size body)
+body_slices count size body is e =
+    subst (AreSlices (cut_counts size body)) (sym (slices_cut size (get_or body 0 0 + 1) body e))
+    (subst (λ (l : List ℕ). AreSlices l (slices_in body)) (sym (counts_cut size (get_or body 0 0 + 1) body e)) is.slices)
 
 -- a body is read by the bits of its high bytes
 pub body_numbers : (count size : ℕ) (body : List ℕ) (P : ℕ → Bool) → IsBlocks count body → size ≡ slice_len (get_or body 0 0 + 1) → ((i : ℕ) → i < 256 → P i ≡ has i (cut_highs size body))

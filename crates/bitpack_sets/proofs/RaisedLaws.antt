@@ -38,7 +38,7 @@ rising_raised k low high [] h = omega arith
 rising_raised k low high (x ∷ xs) (a, r) =
     (omega arith, subst (λ (n : ℕ). IsRising n (k + high) (map (λ i. k + i) xs)) (sym (add_assoc k x 1)) (rising_raised k (x + 1) high xs r))
 
-rise_all : (x n : ℕ) → IsRising 0 n (ones_from x 0 n)
+pub rise_all : (x n : ℕ) → IsRising 0 n (ones_from x 0 n)
 rise_all x n = let e : 0 + n ≡ n = omega arith in subst (λ (h : ℕ). IsRising 0 h (ones_from x 0 n)) e (ones_rise x 0 n)
 
 cat_below : (k n a r : ℕ) → r < 2 ^ k → a < 2 ^ n → a * 2 ^ k + r < 2 ^ (k + n)

@@ -10,6 +10,7 @@ pub mod Operations
 pub mod Pairs
 pub mod Props
 pub mod Reads
+pub mod Selections
 pub mod Sets
 pub mod Slices
 pub mod Sound

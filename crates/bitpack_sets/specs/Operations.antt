@@ -16,6 +16,10 @@ holds Xor a b = if a then not b else b
 unfoldable pub those : ℕ → (ℕ → Bool) → List ℕ
 those bound passes = filter passes (range_with_len 0 bound)
 
+-- those that an operation on two sets gives
+abbrev pub combined : ℕ → Operation → List ℕ → List ℕ → List ℕ
+combined bound operation xs ys = those bound (λ x. holds operation (has x xs) (has x ys))
+
 -- the ids of the answer
 abbrev pub answer : Operation → List ℕ → List ℕ → List ℕ
-answer operation xs ys = those (2 ^ 32) (λ x. holds operation (has x xs) (has x ys))
+answer operation xs ys = combined (2 ^ 32) operation xs ys

@@ -1,10 +1,10 @@
--- Two sets that are combined chunk by chunk: what is left of the answer, and a chunk of it.
-use Rattle.std.specs.Prelude.{◌≡◌, ℕ, ◌+◌, ◌-◌, ◌/◌, ◌%◌, ◌<◌, ◌≤◌, ◌&&◌, Bool, false, List}
-use Rattle.bitpack_sets.specs.Bitmaps.{has_bit}
-use Rattle.bitpack_sets.specs.Chunks.{ids_from, places}
+-- Two sets that are combined chunk by chunk: what is left of the answer, and what has the next key.
+use Rattle.std.specs.Prelude.{◌≡◌, ◌≢◌, ℕ, ◌+◌, ◌-◌, ◌/◌, ◌%◌, ◌<◌, ◌≤◌, Bool, false}
+use Rattle.bitpack_sets.specs.Chunks.{ids_from, lows_between, places}
 use Rattle.bitpack_sets.specs.Operations.{holds}
 use Rattle.bitpack_sets.specs.Reads.{has}
-use Rattle.bitpack_sets.specs.Sets.{IsRising}
+use Rattle.bitpack_sets.specs.declared.chunks.Chunks.{Chunks}
+use Rattle.bitpack_sets.specs.declared.pairing.Meeting.{Meeting}
 use Rattle.bitpack_sets.specs.declared.pairing.Pair.{Pair}
 
 -- an id is in the answer of what is left
@@ -15,11 +15,27 @@ left pair x = holds pair.operation (has x (ids_from pair.a pair.i)) (has x (ids_
 abbrev pub places_left : Pair → ℕ
 places_left pair = (places pair.a - pair.i) + (places pair.b - pair.j)
 
--- a chunk of an answer: what has a lower key is not in it, what has its key is told by high bytes and bits, and what is higher comes after it
-pub record IsPart (key : ℕ) (highs words : List ℕ) (before after : ℕ → Bool) : Type 0 where
+-- the positions between which the ids of a key lie
+pub record IsSpan (set : Chunks) (place end : ℕ) : Type 0 where
+  pub later : place ≤ end
+  pub within : end ≤ places set
+  pub one : set.count ≢ 0 → end ≤ place + 1
+
+-- the ids of a key that is one of a u32, in both sets
+pub record IsMeeting (pair : Pair) (meeting : Meeting) : Type 0 where
+  pub small : meeting.key < 65536
+  pub a_span : IsSpan pair.a meeting.a.0 meeting.a.1
+  pub b_span : IsSpan pair.b meeting.b.0 meeting.b.1
+
+-- whether the answer has an id of the key, by its low 16 bits
+abbrev pub meets : Pair → Meeting → ℕ → Bool
+meets pair meeting low =
+    holds pair.operation (has low (lows_between pair.a meeting.a.0 meeting.a.1)) (has low (lows_between pair.b meeting.b.0 meeting.b.1))
+
+-- a key of an answer: what has a lower key is not in it, what has its key is told by its low 16 bits, and what is higher comes after it
+pub record IsPart (key : ℕ) (test before after : ℕ → Bool) : Type 0 where
   pub small : key < 65536
-  pub rising : IsRising 0 256 highs
   pub lower : (x : ℕ) → x / 65536 < key → before x ≡ false
-  pub own : (x : ℕ) → x / 65536 ≡ key → before x ≡ (has (x % 65536 / 256) highs && has_bit words (x % 65536))
+  pub own : (x : ℕ) → x / 65536 ≡ key → before x ≡ test (x % 65536)
   pub passed : (x : ℕ) → x / 65536 ≤ key → after x ≡ false
   pub higher : (x : ℕ) → key < x / 65536 → before x ≡ after x

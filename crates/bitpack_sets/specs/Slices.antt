@@ -113,6 +113,12 @@ pub record IsSlice (count : ℕ) (bytes : List ℕ) : Type 0 where
   pub count_is : length (slice_numbers count bytes) ≡ count
   pub text : slice (slice_numbers count bytes) ≡ bytes
 
+-- the bytes of the slice of `count` numbers that begins at `start` are there, and are a slice
+pub record HasSlice (bytes : List ℕ) (start count : ℕ) : Type 0 where
+  pub few : count ≤ 256
+  pub room : start + slice_len count ≤ length bytes
+  pub slice : IsSlice count (take (slice_len count) (drop start bytes))
+
 -- the bytes are slices end to end
 abbrev pub AreSlices : List ℕ → List ℕ → Type 0
 AreSlices [] bytes = bytes ≡ []

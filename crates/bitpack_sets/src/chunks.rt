@@ -32,11 +32,12 @@ pub(crate) struct Chunks<'a> {
 }
 
 impl<'a> Chunks<'a> {
-    ghost use Rattle.std.specs.Prelude.{ℕ, ◌+◌, ◌*◌, ◌/◌, ◌%◌, ◌<◌, ◌==◌, false, length};
+    ghost use Rattle.std.specs.Prelude.{ℕ, ◌+◌, ◌*◌, ◌/◌, ◌%◌, ◌<◌, ◌==◌, IfSome, false, length};
     ghost use Rattle.bitpack_sets.specs.Bitmaps.{Holds, has_bit, has_high};
     ghost use Rattle.bitpack_sets.specs.Chunks.{first_key, ids_from, lows_between, places};
     ghost use Rattle.bitpack_sets.specs.Directory.{chunk_ids, count_at};
     ghost use Rattle.bitpack_sets.specs.Reads.{has};
+    ghost use Rattle.bitpack_sets.specs.Slices.{IsBlocks, block_numbers};
 
     /// The chunks of a set of `ids` ids in chunks.
     pub(crate) fn new(count: usize, rest: &'a [u8], ids: usize) -> Chunks<'a>
@@ -164,6 +165,24 @@ impl<'a> Chunks<'a> {
             load_integers(4, &self.rest[4 * place..4 * end], highs, words);
         } else {
             self.load_body(place, highs, words);
+        }
+    }
+
+    /// The body of the ids between two positions, which share a key, if it is one of blocks.
+    pub(crate) fn blocks(&self, place: usize, end: usize) -> Option<&'a [u8]>
+        requires within { (place ≤ end) × (end ≤ places self.now) }
+        requires one { self.now.count ≢ 0 → end ≤ place + 1 }
+        ensures blocks { IfSome result (λ body. IsBlocks (length (block_numbers body.now)) body.now) }
+        ensures numbers { IfSome result (λ body. block_numbers body.now ≡ lows_between self.now place end) }
+    {
+        if place == end || self.count == 0 {
+            return None;
+        }
+        let body = body_of(self.ids, self.count, self.rest, place);
+        if self.is_numbers(place, body) {
+            None
+        } else {
+            Some(body)
         }
     }
 

@@ -3,6 +3,7 @@
 
 mod array;
 mod bitmap;
+mod blocks;
 mod chunk;
 mod chunks;
 mod combining;

@@ -3,17 +3,15 @@
 ghost use Rattle.std.specs.Prelude.{◌≡◌, ◌≤◌};
 ghost use Rattle.bitpack_sets.specs.Chunks.{places};
 
-use crate::bitmap::combining::combine;
-use crate::bitmap::unpacking::unpack_bits;
 use crate::chunks::{Chunks, NO_KEY};
 use crate::operation::Operation;
 
 /// What is left of two sets that are combined.
 #[derive(Drop)]
 pub(crate) struct Pair<'a> {
-    operation: Operation,
-    a: Chunks<'a>,
-    b: Chunks<'a>,
+    pub(crate) operation: Operation,
+    pub(crate) a: Chunks<'a>,
+    pub(crate) b: Chunks<'a>,
     // Where the ids that are left begin.
     i: usize,
     j: usize,
@@ -21,18 +19,19 @@ pub(crate) struct Pair<'a> {
     ghost b_within: { j ≤ places b },
 }
 
-/// A chunk of the answer: its key, and how many high bytes it can have.
+/// The ids of a key in two sets: where they begin and end in each.
 #[derive(Clone, Copy)]
-pub(crate) struct Part {
+pub(crate) struct Meeting {
     pub(crate) key: u32,
-    pub(crate) high_count: usize,
+    pub(crate) a: (usize, usize),
+    pub(crate) b: (usize, usize),
 }
 
 impl<'a> Pair<'a> {
-    ghost use Rattle.std.specs.Prelude.{ℕ, ◌^◌, ◌<◌, IfSome, IfNone, true, false, take};
+    ghost use Rattle.std.specs.Prelude.{ℕ, ◌^◌, ◌<◌, IfSome, IfNone, true, false};
     ghost use Rattle.bitpack_sets.specs.Chunks.{first_key, ids_from};
     ghost use Rattle.bitpack_sets.specs.Operations.{holds};
-    ghost use Rattle.bitpack_sets.specs.Pairs.{IsPart, left, places_left};
+    ghost use Rattle.bitpack_sets.specs.Pairs.{IsMeeting, IsPart, left, meets, places_left};
     ghost use Rattle.bitpack_sets.specs.Reads.{has};
 
     /// All of two sets.
@@ -49,36 +48,24 @@ impl<'a> Pair<'a> {
         }
     }
 
-    /// The next chunk of the answer. Its high bytes are left in `highs`, and their bits in `words`. None if no id is left.
-    pub(crate) fn next(
-        &mut self,
-        words: &mut [u64; 1024],
-        others: &mut [u64; 1024],
-        highs: &mut [u32; 256],
-    ) -> Option<Part>
+    /// The next key that the answer can have. None if no id is left.
+    pub(crate) fn next(&mut self) -> Option<Meeting>
         ensures none { IfNone result ((x : ℕ) → x < 2 ^ 32 → left self.old x ≡ false) }
-        ensures count { IfSome result (λ part. part.high_count ≤ 256) }
-        ensures part { IfSome result (λ part. IsPart part.key (take part.high_count highs.new) words.new (left self.old) (left self.new)) }
+        ensures meeting { IfSome result (λ meeting. IsMeeting self.new meeting) }
+        ensures part { IfSome result (λ meeting. IsPart meeting.key (meets self.new meeting) (left self.old) (left self.new)) }
         // It goes on.
-        ensures fewer { IfSome result (λ part. places_left self.new < places_left self.old) }
+        ensures fewer { IfSome result (λ meeting. places_left self.new < places_left self.old) }
     {
         self.skip();
         let key = self.a.key(self.i).min(self.b.key(self.j));
         if key == NO_KEY {
             return None;
         }
-        let i = self.a.end(self.i, key);
-        let j = self.b.end(self.j, key);
-        let occur = self
-            .operation
-            .highs(&self.a.highs(self.i, i), &self.b.highs(self.j, j));
-        let high_count = unpack_bits(&occur, 0, highs, 0);
-        self.a.load(self.i, i, &highs[..high_count], words);
-        self.b.load(self.j, j, &highs[..high_count], others);
-        combine(self.operation, &highs[..high_count], words, others);
-        self.i = i;
-        self.j = j;
-        Some(Part { key, high_count })
+        let a = (self.i, self.a.end(self.i, key));
+        let b = (self.j, self.b.end(self.j, key));
+        self.i = a.1;
+        self.j = b.1;
+        Some(Meeting { key, a, b })
     }
 
     // Passes over chunks of one set alone, if their ids are not in the answer.

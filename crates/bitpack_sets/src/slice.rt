@@ -1,14 +1,21 @@
 //! Slices: some of the numbers 0 to 255, as bytes.
 
+pub(crate) mod marks;
 pub(crate) mod reading;
 pub(crate) mod search;
+pub(crate) mod selecting;
 pub(crate) mod testing;
 pub(crate) mod writing;
 
 ghost use Rattle.std.specs.Prelude.{◌≡◌};
-ghost use Rattle.bitpack_sets.specs.Slices.{slice_len};
+ghost use Rattle.std.proofs.Props.{props};
+ghost use Rattle.bitpack_sets.specs.Props.{rising_prop};
+ghost use Rattle.bitpack_sets.specs.Slices.{HasSlice, slice_len};
+
+use crate::bitmap::marking::slice_bits;
 
 /// How many bytes the slice of `count` numbers has.
+#[inline(always)]
 pub(crate) fn byte_len(count: usize) -> usize
     ensures { result ≡ slice_len count }
 {
@@ -18,5 +25,38 @@ pub(crate) fn byte_len(count: usize) -> usize
         32
     } else {
         0
+    }
+}
+
+/// One of several slices.
+#[derive(Clone, Copy)]
+pub(crate) struct Slice<'a> {
+    // The bytes of all, where this one begins, and how many numbers it has, 0 if there is no such slice.
+    pub(crate) slices: &'a [u8],
+    pub(crate) start: usize,
+    pub(crate) count: usize,
+    ghost there: { HasSlice slices.now start count } by { Prim.hlevel (props, rising_prop) },
+}
+
+impl<'a> Slice<'a> {
+    ghost use Rattle.std.specs.Prelude.{◌≡◌, ℕ, ◌<◌};
+    ghost use Rattle.bitpack_sets.specs.Bitmaps.{has_bit};
+    ghost use Rattle.bitpack_sets.specs.Reads.{has};
+    ghost use Rattle.bitpack_sets.specs.Selections.{bytes_of, numbers_at};
+
+    /// Its bytes.
+    #[inline(always)]
+    fn bytes(self) -> &'a [u8]
+        ensures { result.now ≡ bytes_of self.entry }
+    {
+        &self.slices[self.start..self.start + byte_len(self.count)]
+    }
+
+    /// Its numbers, as bits.
+    #[inline(always)]
+    pub(crate) fn bits(self) -> [u64; 4]
+        ensures { (i : ℕ) → i < 256 → has_bit result i ≡ has i (numbers_at self.entry) }
+    {
+        slice_bits(self.count, self.bytes())
     }
 }

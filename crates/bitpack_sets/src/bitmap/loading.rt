@@ -1,14 +1,14 @@
 //! Loads the numbers of a chunk into its bitmap.
 
-ghost use Rattle.std.specs.Prelude.{◌≡◌, ◌⊎◌, ℕ, ◌+◌, ◌*◌, ◌/◌, ◌<◌, ◌≤◌, true, false, length, slice_index, take};
+ghost use Rattle.std.specs.Prelude.{◌≡◌, ◌⊎◌, ℕ, ◌+◌, ◌*◌, ◌/◌, ◌<◌, ◌≤◌, true, false, length, slice_index};
 ghost use Rattle.bitpack_sets.specs.Bitmaps.{Holds, has_bit, has_high};
 ghost use Rattle.bitpack_sets.specs.Chunks.{lows_of};
-ghost use Rattle.bitpack_sets.specs.Operations.{those};
 ghost use Rattle.bitpack_sets.specs.Reads.{has};
 ghost use Rattle.bitpack_sets.specs.Sets.{IsRising};
-ghost use Rattle.bitpack_sets.specs.Slices.{AreSlices, IsBlocks, block_numbers, numbers_of, slices_len};
+ghost use Rattle.bitpack_sets.specs.Slices.{IsBlocks, block_numbers};
 
-use crate::bitmap::marking::{rank_of_bit, set_bit, slice_bits, test_bit};
+use crate::bitmap::marking::{set_bit, slice_bits};
+use crate::blocks::Blocks;
 use crate::slice::byte_len;
 
 /// The high bytes of a body of blocks, as bits.
@@ -26,55 +26,12 @@ pub(crate) fn load_blocks(body: &[u8], highs: &[u32], words: &mut [u64; 1024])
     requires highs { IsRising 0 256 highs.now }
     ensures { Holds highs.now words.new (block_numbers body.now) }
 {
-    let many = body[0] as usize + 1;
-    let size = byte_len(many);
-    let occur = slice_bits(many, &body[1..1 + size]);
-    let counts = &body[1 + size..1 + size + many];
-    let slices = &body[1 + size + many..];
     let mut starts = [0; 257];
-    fill_starts(counts, &mut starts);
+    let blocks = Blocks::new(body, &mut starts);
     for high in highs {
-        let bits = bits_at(&occur, counts, slices, &starts, *high as usize);
+        let bits = blocks.slice(*high as usize).bits();
         let from = 4 * *high as usize;
         words[from..from + 4].copy_from_slice(&bits);
-    }
-}
-
-/// The slice of a high byte, as bits: none, if it does not occur. Given are which high bytes occur, and for each of these the count of its
-/// numbers less 1, and where its slice begins.
-#[inline(always)]
-fn bits_at(
-    occur: &[u64; 4],
-    counts: &[u8],
-    slices: &[u8],
-    starts: &[u16; 257],
-    high: usize,
-) -> [u64; 4]
-    requires high { high < 256 }
-    requires few { length counts.now ≤ 256 }
-    requires highs { length (those 256 (has_bit occur.now)) ≡ length counts.now }
-    requires slices { AreSlices counts.now slices.now }
-    requires starts { (index : ℕ) → index < length counts.now → slice_index starts.now index ≡ slices_len (take index counts.now) }
-    ensures { (i : ℕ) → i < 256 → has_bit result i ≡ has (256 * high + i) (numbers_of (those 256 (has_bit occur.now)) counts.now slices.now) }
-{
-    if !test_bit(occur, high) {
-        return [0; 4];
-    }
-    let index = rank_of_bit(occur, high);
-    let count = counts[index] as usize + 1;
-    let start = starts[index] as usize;
-    slice_bits(count, &slices[start..start + byte_len(count)])
-}
-
-/// Where each slice begins among slices end to end. Each count less 1 is given.
-fn fill_starts(counts: &[u8], starts: &mut [u16; 257])
-    requires few { length counts.now ≤ 256 }
-    ensures { (index : ℕ) → index < length counts.now → slice_index starts.new index ≡ slices_len (take index counts.now) }
-{
-    let mut start = 0;
-    for index in 0..counts.len() {
-        starts[index] = start;
-        start += byte_len(counts[index] as usize + 1) as u16;
     }
 }
 

@@ -77,7 +77,7 @@ pub(crate) fn count_bitmap(highs: &[u32], words: &[u64; 1024]) -> usize
 
 /// How many of 256 bits are 1.
 #[inline(always)]
-fn count_bits(bits: &[u64]) -> usize
+pub(crate) fn count_bits(bits: &[u64]) -> usize
     requires { length bits.now ≡ 4 }
     ensures { result ≡ length (those 256 (has_bit bits.now)) }
 {

@@ -35,7 +35,8 @@ fn in_bytes(bytes: &[u8], number: u8) -> bool
 }
 
 /// Whether the bit of a number is 1.
-fn in_bits(bytes: &[u8], number: u8) -> bool
+#[inline(always)]
+pub(crate) fn in_bits(bytes: &[u8], number: u8) -> bool
     requires { length bytes.now ≡ 32 }
     ensures { result ≡ has number (ones_from (number_of bytes.now) 0 256) }
 {

@@ -4,8 +4,8 @@ use Rattle.bitpack_sets.specs.Pairs.{left, places_left}
 use Rattle.bitpack_sets.proofs.AnswerLaws.{Written}
 use Rattle.bitpack_sets.proofs.combining.combine_to.Given as goal
 
-abbrev pub invariant-loop-part : goal.invariant-loop-part
-invariant-loop-part l = Written l.out l.at (answer l.fn.operation (ids l.fn.a) (ids l.fn.b)) (left l.pair)
+abbrev pub invariant-loop-meeting : goal.invariant-loop-meeting
+invariant-loop-meeting l = Written l.out l.at (answer l.fn.operation (ids l.fn.a) (ids l.fn.b)) (left l.pair)
 
-abbrev pub decreases-loop-part : goal.decreases-loop-part
-decreases-loop-part l = places_left l.pair
+abbrev pub decreases-loop-meeting : goal.decreases-loop-meeting
+decreases-loop-meeting l = places_left l.pair

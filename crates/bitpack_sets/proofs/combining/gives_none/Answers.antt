@@ -1,29 +1,28 @@
-use Rattle.std.proofs.Common.{◌≡◌, ◌<◌, ℕ, ◌+◌, ◌∙◌, ap, sym, refl, arith, length, true, false}
+use Rattle.std.proofs.Common.{ap, sym, refl, arith, length}
 use Rattle.std.proofs.lemmas.Bool.{true≢false}
 use Rattle.bitpack_sets.specs.Chunks.{ids_from}
 use Rattle.bitpack_sets.specs.Opened.{ids}
-use Rattle.bitpack_sets.specs.Operations.{answer}
 use Rattle.bitpack_sets.specs.Pairs.{left}
 use Rattle.bitpack_sets.proofs.AnswerLaws.{answer_left, counted_more, none_counted, some_counted}
 use Rattle.bitpack_sets.proofs.combining.gives_none.Goals as goal
 
-pub loop-part-init : goal.loop-part-init
-loop-part-init c = record {
+pub loop-meeting-init : goal.loop-meeting-init
+loop-meeting-init c = record {
   rest =
       (let all = ap length (answer_left c.args.operation (ids c.args.a.now) (ids_from c.chunks.result 0) (ids c.args.b.now) (ids_from c.chunks-2.result 0) (left c.new-pair.result) c.chunks.ensures c.chunks-2.ensures c.new-pair.ensures) in
       omega arith);
 }
 
-pub loop-part-preserved : goal.loop-part-preserved
-loop-part-preserved c =
-    let count = c.count_bitmap.ensures in
-    let no = c.if-count_bitmap-gt0.false in
-    counted_more 0 0 c.in-Some.part.key _ _ _ _ _ c.loop-part.invariant c.in-Some.ensures.part (omega arith)
+pub loop-meeting-preserved : goal.loop-meeting-preserved
+loop-meeting-preserved c =
+    let count = c.count_meeting.ensures in
+    let no = c.if-count_meeting-gt0.false in
+    counted_more 0 0 c.in-Some.meeting.key _ _ _ _ c.loop-meeting.invariant c.in-Some.ensures.part (omega arith)
 
-pub returns-then-count_bitmap-gt0 : goal.returns-then-count_bitmap-gt0
-returns-then-count_bitmap-gt0 c =
-    let so = counted_more 0 c.count_bitmap.result c.in-Some.part.key _ _ _ _ _ c.loop-part.invariant c.in-Some.ensures.part (let count = c.count_bitmap.ensures in omega arith) in
-    (λ h. absurd (true≢false (sym h)), λ e. absurd (some_counted c.count_bitmap.result _ _ so c.if-count_bitmap-gt0.true e))
+pub returns-then-count_meeting-gt0 : goal.returns-then-count_meeting-gt0
+returns-then-count_meeting-gt0 c =
+    let so = counted_more 0 c.count_meeting.result c.in-Some.meeting.key _ _ _ _ c.loop-meeting.invariant c.in-Some.ensures.part (let count = c.count_meeting.ensures in omega arith) in
+    (λ h. absurd (true≢false (sym h)), λ e. absurd (some_counted c.count_meeting.result _ _ so c.if-count_meeting-gt0.true e))
 
 pub returns : goal.returns
-returns c = (λ h. none_counted _ _ c.loop-part.invariant c.in_default.ensures.none, λ e. refl)
+returns c = (λ h. none_counted _ _ c.loop-meeting.invariant c.in_default.ensures.none, λ e. refl)

@@ -2,18 +2,14 @@
 use Rattle.std.proofs.Common.{◌≡◌, ◌*◌, ◌+◌, ◌-◌, ◌∙◌, ap, arith, get_or, length, sym, List, ℕ}
 use Rattle.bitpack_sets.proofs.DecodeLaws.{rising_top}
 use Rattle.bitpack_sets.proofs.FillLaws.{length-written}
-use Rattle.bitpack_sets.proofs.LoadLaws.{body_counts, body_numbers, four_words, high_written}
+use Rattle.bitpack_sets.proofs.LoadLaws.{four_words, high_written}
 use Rattle.bitpack_sets.proofs.bitmap.loading.load_blocks.Goals as goal
 use Rattle.bitpack_sets.specs.Bitmaps.{has_bit}
 use Rattle.bitpack_sets.specs.Reads.{has}
 use Rattle.bitpack_sets.specs.Slices.{block_numbers}
 
-pub bits_at-bits-requires-clause-high : goal.bits_at-bits-requires-clause-high
-bits_at-bits-requires-clause-high c = rising_top 0 256 c.loop-high.high-index c.args.highs.now c.requires.highs c.loop-high-test.true
-
-pub bits_at-bits-requires-clause-highs : goal.bits_at-bits-requires-clause-highs
-bits_at-bits-requires-clause-highs c = body_counts (length (block_numbers c.args.body.now)) c.byte_len-size.result c.args.body.now (has_bit c.slice_bits-occur.result)
-    c.requires.blocks c.byte_len-size.ensures c.slice_bits-occur.ensures
+pub slice-requires : goal.slice-requires
+slice-requires c = rising_top 0 256 c.loop-high.high-index c.args.highs.now c.requires.highs c.loop-high-test.true
 
 pub slice_bounds-copy_from_slice-end : goal.slice_bounds-copy_from_slice-end
 slice_bounds-copy_from_slice-end c = let few = rising_top 0 256 c.loop-high.high-index c.args.highs.now c.requires.highs c.loop-high-test.true in omega arith
@@ -25,12 +21,10 @@ loop-high-preserved c =
     let from : ℕ = 4 * get_or c.args.highs.now c.loop-high.high-index 0 in
     let long : from + 4 - from ≡ 4 = omega arith in
     let four : length c.copy_from_slice.new.self ≡ 4 = c.copy_from_slice.ensures.len ∙ four_words from c.loop-high.words (omega arith) in
-    let numbers = body_numbers (length (block_numbers c.args.body.now)) c.byte_len-size.result c.args.body.now (has_bit c.slice_bits-occur.result)
-    c.requires.blocks c.byte_len-size.ensures c.slice_bits-occur.ensures in
     record {
       size = length-written from (from + 4 - from) c.loop-high.words c.copy_from_slice.new.self (omega arith) (four ∙ sym long) (omega arith) ∙ size;
       loaded = high_written (λ x. has x (block_numbers c.args.body.now)) c.loop-high.high-index from (from + 4 - from) c.args.highs.now c.loop-high.words c.copy_from_slice.new.self
           c.loop-high-test.true (omega arith) long four (omega arith)
-          (λ y small. ap (λ (l : List ℕ). has_bit l y) c.copy_from_slice.ensures.after ∙ c.bits_at-bits.ensures y small ∙ ap (has _) numbers)
+          (λ y small. ap (λ (l : List ℕ). has_bit l y) c.copy_from_slice.ensures.after ∙ c.bits-bits.ensures y small ∙ c.slice.ensures y small ∙ ap (has _) c.new-blocks.ensures)
           c.loop-high.invariant.loaded;
     }

@@ -1,7 +1,8 @@
 -- The numbers of the high bytes that are left are still to be counted.
 use Rattle.std.proofs.Common.{◌≡◌, ◌+◌, drop, length}
-use Rattle.bitpack_sets.proofs.UnpackLaws.{numbers_by_high}
+use Rattle.bitpack_sets.proofs.UnpackLaws.{by_high}
 use Rattle.bitpack_sets.proofs.bitmap.unpacking.count_bitmap.Given as goal
+use Rattle.bitpack_sets.specs.Bitmaps.{has_bit}
 
 abbrev pub invariant-loop-high : goal.invariant-loop-high
-invariant-loop-high l = l.count + length (numbers_by_high (drop l.high-index l.highs) l.words) ≡ length (numbers_by_high l.highs l.words)
+invariant-loop-high l = l.count + length (by_high (has_bit l.words) (drop l.high-index l.highs)) ≡ length (by_high (has_bit l.words) l.highs)

@@ -1,10 +1,10 @@
-use Rattle.std.proofs.Common.{◌≡◌, ◌≤◌, ◌<◌, ℕ, ◌+◌, ◌-◌, ◌∙◌, ap, sym, refl, true, false, arith, rules}
+use Rattle.std.proofs.Common.{◌≡◌, ◌≤◌, ◌<◌, ℕ, ◌-◌, ◌∙◌, ap, sym, refl, true, false, arith}
 use Rattle.bitpack_sets.specs.Chunks.{places, first_key, ids_from}
 use Rattle.bitpack_sets.specs.Operations.{holds}
 use Rattle.bitpack_sets.specs.Pairs.{left, places_left}
 use Rattle.bitpack_sets.specs.Reads.{has}
 use Rattle.bitpack_sets.specs.declared.pairing.Pair.{Pair}
-use Rattle.bitpack_sets.proofs.AnswerLaws.{Skips, moves, fewer_of, fewer_after, pass_left, pass_right}
+use Rattle.bitpack_sets.proofs.AnswerLaws.{moves, fewer_of, fewer_after, pass_left, pass_right}
 use Rattle.bitpack_sets.proofs.pairing.Pair.skip.Goals.{else-y-x-via-then-y-x+else-not-keeps_right, else-y-x-via-else-y-x}
 use Rattle.bitpack_sets.proofs.pairing.Pair.skip.Goals as goal
 

@@ -1,5 +1,4 @@
-use Rattle.std.proofs.Common.{◌≡◌, ◌≤◌, ℕ}
-use Rattle.bitpack_sets.specs.Pairs.{left, places_left}
+use Rattle.bitpack_sets.specs.Pairs.{places_left}
 use Rattle.bitpack_sets.proofs.AnswerLaws.{Skips}
 use Rattle.bitpack_sets.proofs.pairing.Pair.skip.Given as goal
 

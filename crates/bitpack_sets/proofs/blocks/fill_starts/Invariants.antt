@@ -1,6 +1,6 @@
 -- The slices so far are passed.
 use Rattle.std.proofs.Common.{◌≡◌, ◌*◌, ◌<◌, ◌≤◌, ℕ, get_or, length, take}
-use Rattle.bitpack_sets.proofs.bitmap.loading.fill_starts.Given as goal
+use Rattle.bitpack_sets.proofs.blocks.fill_starts.Given as goal
 use Rattle.bitpack_sets.specs.Slices.{slices_len}
 
 abbrev pub invariant-loop-index : goal.invariant-loop-index

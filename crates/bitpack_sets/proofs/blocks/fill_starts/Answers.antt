@@ -2,7 +2,7 @@
 use Rattle.std.proofs.Common.{◌+◌, ◌∙◌, arith, get_or, length-set, sym}
 use Rattle.bitpack_sets.proofs.CutLaws.{len_few, lens_more, lens_none}
 use Rattle.bitpack_sets.proofs.LoadLaws.{one_known}
-use Rattle.bitpack_sets.proofs.bitmap.loading.fill_starts.Goals as goal
+use Rattle.bitpack_sets.proofs.blocks.fill_starts.Goals as goal
 
 pub loop-index-init : goal.loop-index-init
 loop-index-init c = record { size = omega arith; few = omega arith; passed = sym (lens_none c.args.counts.now); known = λ k lt. absurd (omega arith) }

@@ -1,0 +1,266 @@
+-- The numbers of a slice that are selected.
+use Rattle.std.proofs.Common.{take, pow_pos, ◌≡◌, ℕ, zero, suc, ◌+◌, ◌*◌, ◌/◌, ◌%◌, ◌^◌, ◌-◌, ◌<◌, ◌≤◌, Bool, true, false, ◌||◌, ◌&&◌, not, eqb, ltb, List, [], ◌∷◌, ◌++◌, map, drop, length, refl, sym, ap, ◌∙◌, arith, cond, inl, inr, get_or, bit_and, eqb-true, append-nil, subst, lit<, w32}
+use Rattle.std.specs.Int.{bit_at}
+use Rattle.std.specs.List.{filter, range_with_len}
+use Rattle.std.proofs.Math.Bool.{and_comm}
+use Rattle.std.proofs.Math.Nat.{pow-le-pow_right}
+use Rattle.std.proofs.lemmas.Bool.{cases_lt, le-ltb, lt-ltb, true≢false}
+use Rattle.std.proofs.lemmas.List.{drop_all, drop_more}
+use Rattle.std.proofs.lemmas.Map.Views.{any-filter_same}
+use Rattle.std.proofs.lemmas.Nat.Bits.{bit_at-lt, bit_at_above, bit_at_not, bit_at_ones, bit_at_ones_above}
+use Rattle.std.proofs.lemmas.Nat.{one_shl}
+use Rattle.bitpack_sets.proofs.BitmapLaws.{those_agree, those_none, those_split}
+use Rattle.bitpack_sets.proofs.CombineLaws.{IsLeftOut, holds_none, not_of, word_and}
+use Rattle.bitpack_sets.proofs.CountLaws.{few_numbers}
+use Rattle.bitpack_sets.proofs.LoadLaws.{has_those, none_there, those_are, those_rise}
+use Rattle.bitpack_sets.proofs.OnesLaws.{ones_all, rising_lower}
+use Rattle.bitpack_sets.proofs.RaisedLaws.{rise_all}
+use Rattle.bitpack_sets.proofs.SliceLaws.{bits_room}
+use Rattle.bitpack_sets.proofs.UnpackLaws.{by_high, lows, those_by_high}
+use Rattle.bitpack_sets.specs.Bitmaps.{has_bit}
+use Rattle.bitpack_sets.specs.Operations.{combined, holds, those}
+use Rattle.bitpack_sets.specs.Reads.{has}
+use Rattle.bitpack_sets.specs.Selections.{marked, parts_numbers}
+use Rattle.bitpack_sets.specs.Sets.{IsRising, bits}
+use Rattle.bitpack_sets.specs.Slices.{HasSlice, ones_from, slice_len, slice_numbers}
+use Rattle.bitpack_sets.specs.declared.blocks.Blocks.{Blocks}
+use Rattle.bitpack_sets.specs.declared.operation.Operation.{Operation}
+
+-- ---- bits from a place on are 0
+
+pub ones_cut : (x c n : ℕ) → c ≤ n → ((i : ℕ) → c ≤ i → i < n → eqb (bit_at x i) 1 ≡ false) → ones_from x 0 n ≡ ones_from x 0 c
+unfolding ones_from
+ones_cut x c n h none =
+    let p : ℕ → Bool = λ i. eqb (bit_at x i) 1 in
+    let e : n ≡ c + (n - c) = omega arith in
+    let start : 0 + c ≡ c = omega arith in
+    ap (λ (k : ℕ). filter p (range_with_len 0 k)) e ∙ those_split p 0 c (n - c)
+    ∙ ap (λ (k : ℕ). filter p (range_with_len 0 c) ++ filter p (range_with_len k (n - c))) start
+    ∙ ap (λ (l : List ℕ). filter p (range_with_len 0 c) ++ l) (those_none p c (n - c) (λ i a b. none i a (omega arith))) ∙ append-nil (filter p (range_with_len 0 c))
+
+pub ones_below : (x c n : ℕ) → x < 2 ^ n → c ≤ n → ((i : ℕ) → c ≤ i → i < n → eqb (bit_at x i) 1 ≡ false) → x < 2 ^ c
+ones_below x c n small h none =
+    let all = ones_all x n small in
+    let same = ap bits (ones_cut x c n h none) in
+    let room = bits_room 0 c (ones_from x 0 c) (rise_all x c) in
+    omega arith
+
+-- more places than a number has bits
+pub ones_longer : (x c n : ℕ) → x < 2 ^ c → c ≤ n → ones_from x 0 n ≡ ones_from x 0 c
+ones_longer x c n small h = ones_cut x c n h (λ i a b. ap (λ (k : ℕ). eqb k 1) (bit_at_above x c i small a))
+
+-- ---- the elements of a list that pass a test
+
+one_passed : (b : Bool) (f : ℕ → ℕ) (k : ℕ) (xs ys : List ℕ) → map f xs ≡ ys → map f (cond b (k ∷ xs) xs) ≡ cond b (f k ∷ ys) ys
+one_passed true f k xs ys e = ap (λ (l : List ℕ). f k ∷ l) e
+one_passed false f k xs ys e = e
+
+passed_from : (P : ℕ → Bool) (xs : List ℕ) (k n : ℕ) → k + n ≡ length xs
+    → map (λ i. get_or xs i 0) (filter (λ i. P (get_or xs i 0)) (range_with_len k n)) ≡ filter P (drop k xs)
+passed_from P xs k zero e = sym (ap (filter P) (drop_all k xs (omega arith)))
+passed_from P xs k (suc n) e =
+    one_passed (P (get_or xs k 0)) (λ i. get_or xs i 0) k (filter (λ i. P (get_or xs i 0)) (range_with_len (k + 1) n)) (filter P (drop (k + 1) xs)) (passed_from P xs (k + 1) n (omega arith))
+    ∙ sym (ap (filter P) (drop_more xs k 0 (omega arith)))
+
+-- marks say which bytes pass a test
+abbrev pub Marks : ℕ → List ℕ → (ℕ → Bool) → Type 0
+Marks marks bytes P = (i : ℕ) → i < 32 → eqb (bit_at marks i) 1 ≡ (ltb i (length bytes) && P (get_or bytes i 0))
+
+and_true : (b c : Bool) → b ≡ true → (b && c) ≡ c
+and_true b c e = ap (λ (d : Bool). d && c) e
+
+and_false : (b c : Bool) → b ≡ false → (b && c) ≡ false
+and_false b c e = ap (λ (d : Bool). d && c) e
+
+past : (marks : ℕ) (bytes : List ℕ) (P : ℕ → Bool) → Marks marks bytes P → (i : ℕ) → length bytes ≤ i → i < 32 → eqb (bit_at marks i) 1 ≡ false
+past marks bytes P is i a b = is i b ∙ and_false (ltb i (length bytes)) (P (get_or bytes i 0)) (le-ltb i (length bytes) a)
+
+pub marks_few : (marks : ℕ) (bytes : List ℕ) (P : ℕ → Bool) → marks < 2 ^ 32 → length bytes < 32 → Marks marks bytes P → marks < 2 ^ length bytes
+marks_few marks bytes P small few is = ones_below marks (length bytes) 32 small (omega arith) (past marks bytes P is)
+
+marked_pass : (marks : ℕ) (bytes : List ℕ) (P : ℕ → Bool) → length bytes < 32 → Marks marks bytes P → marked marks bytes ≡ filter P bytes
+unfolding ones_from
+marked_pass marks bytes P few is =
+    ap (map (λ i. get_or bytes i 0)) (ones_cut marks (length bytes) 32 (omega arith) (past marks bytes P is)
+    ∙ those_agree (λ i. eqb (bit_at marks i) 1) (λ i. P (get_or bytes i 0)) 0 (length bytes) (λ i a b.
+    is i (omega arith) ∙ and_true (ltb i (length bytes)) (P (get_or bytes i 0)) (lt-ltb i (length bytes) (omega arith))))
+    ∙ passed_from P bytes 0 (length bytes) (omega arith)
+
+some_rise : (b : Bool) (low high x : ℕ) (xs : List ℕ) → low ≤ x → IsRising (x + 1) high xs → IsRising low high (cond b (x ∷ xs) xs)
+some_rise true low high x xs h r = (h, r)
+some_rise false low high x xs h r = rising_lower (x + 1) low high xs (omega arith) r
+
+passed_rise : (P : ℕ → Bool) (low high : ℕ) (xs : List ℕ) → IsRising low high xs → IsRising low high (filter P xs)
+passed_rise P low high [] r = r
+passed_rise P low high (x ∷ xs) (a, r) = some_rise (P x) low high x (filter P xs) a (passed_rise P (x + 1) high xs r)
+
+has_passed : (P : ℕ → Bool) (x : ℕ) (xs : List ℕ) → has x (filter P xs) ≡ (has x xs && P x)
+has_passed P x xs = any-filter_same (λ y. eqb y x) P (P x) (λ y e. ap P (eqb-true y x e)) xs ∙ and_comm (P x) (has x xs)
+
+all_pass : (xs : List ℕ) → filter (λ x. true) xs ≡ xs
+all_pass [] = refl
+all_pass (x ∷ xs) = ap (λ (l : List ℕ). x ∷ l) (all_pass xs)
+
+-- the bytes whose mark is 1 are the numbers of the slice that pass
+pub marked_those : (marks : ℕ) (bytes : List ℕ) (P : ℕ → Bool) → length bytes < 32 → IsRising 0 256 bytes → Marks marks bytes P
+    → marked marks bytes ≡ those 256 (λ x. has x bytes && P x)
+marked_those marks bytes P few rise is =
+    marked_pass marks bytes P few is
+    ∙ sym (those_are (λ x. has x bytes && P x) 256 (filter P bytes) (passed_rise P 0 256 bytes rise) (λ x small. sym (has_passed P x bytes)))
+
+-- ---- marks by masks
+
+-- a mark for each byte
+mask_bit : (c i : ℕ) → eqb (bit_at (2 ^ c - 1) i) 1 ≡ ltb i c
+mask_bit c i = elim (cases_lt i c) [
+  | inl less ↦ ap (λ (n : ℕ). eqb n 1) (bit_at_ones c i less) ∙ sym (lt-ltb i c less)
+  | inr more ↦ ap (λ (n : ℕ). eqb n 1) (bit_at_ones_above c i more) ∙ sym (le-ltb i c more)
+]
+
+true_or : (b c : Bool) → c ≡ true → b ≡ (b && c)
+true_or true true e = refl
+true_or true false e = absurd (true≢false (sym e))
+true_or false c e = refl
+
+pub all_marks : (marks : ℕ) (bytes : List ℕ) (P : ℕ → Bool) → marks ≡ 2 ^ length bytes - 1 → ((i : ℕ) → i < length bytes → P (get_or bytes i 0) ≡ true) → Marks marks bytes P
+all_marks marks bytes P e all i h = elim (cases_lt i (length bytes)) [
+  | inl less ↦ ap (λ (m : ℕ). eqb (bit_at m i) 1) e ∙ mask_bit (length bytes) i ∙ true_or (ltb i (length bytes)) (P (get_or bytes i 0)) (all i less)
+  | inr more ↦ ap (λ (m : ℕ). eqb (bit_at m i) 1) e ∙ mask_bit (length bytes) i ∙ le-ltb i (length bytes) more
+      ∙ sym (and_false (ltb i (length bytes)) (P (get_or bytes i 0)) (le-ltb i (length bytes) more))
+]
+
+pub all_marked : (marks : ℕ) (bytes : List ℕ) → length bytes < 32 → marks ≡ 2 ^ length bytes - 1 → marked marks bytes ≡ bytes
+all_marked marks bytes few e = marked_pass marks bytes (λ x. true) few (all_marks marks bytes (λ x. true) e (λ i h. refl)) ∙ all_pass bytes
+
+-- the marks of the others
+not_marked : (b c : Bool) → (b && not (b && c)) ≡ (b && not c)
+not_marked true c = refl
+not_marked false c = refl
+
+pub other_marks : (marks others : ℕ) (bytes : List ℕ) (P : ℕ → Bool) → others < 2 ^ 32 → Marks others bytes P
+    → marks ≡ bit_and (2 ^ length bytes - 1) (2 ^ 32 - 1 - others) → Marks marks bytes (λ x. not (P x))
+other_marks marks others bytes P small is e i h =
+    ap (λ (m : ℕ). eqb (bit_at m i) 1) e ∙ word_and (2 ^ length bytes - 1) (2 ^ 32 - 1 - others) i
+    ∙ ap (λ (b : Bool). b && eqb (bit_at (2 ^ 32 - 1 - others) i) 1) (mask_bit (length bytes) i)
+    ∙ ap (λ (b : Bool). ltb i (length bytes) && b)
+    (ap (λ (n : ℕ). eqb n 1) (bit_at_not w32 others i small h) ∙ not_of (bit_at others i) (bit_at-lt others i) ∙ ap not (is i h))
+    ∙ not_marked (ltb i (length bytes)) (P (get_or bytes i 0))
+
+-- ---- a slice of fewer than 32 numbers
+
+pub record IsFew (count : ℕ) (own bytes : List ℕ) : Type 0 where
+  pub size : length bytes ≡ count
+  pub few : length bytes < 32
+  pub numbers : slice_numbers count own ≡ bytes
+  pub rising : IsRising 0 256 bytes
+
+pub few_there : (slices : List ℕ) (start count : ℕ) (bytes : List ℕ) → HasSlice slices start count → count < 32 → bytes ≡ take (slice_len count) (drop start slices)
+    → IsFew count (take (slice_len count) (drop start slices)) bytes
+few_there slices start count bytes there few e =
+    let numbers : slice_numbers count (take (slice_len count) (drop start slices)) ≡ bytes = few_numbers count (take (slice_len count) (drop start slices)) few ∙ sym e in
+    let size : length bytes ≡ count = sym (ap length numbers) ∙ there.slice.count_is in
+    record { size = size; few = omega arith; numbers = numbers; rising = subst (IsRising 0 256) numbers there.slice.rising }
+
+-- marks of its bytes, as they are found
+pub marks_found : (marks count : ℕ) (bytes own : List ℕ) (P : ℕ → Bool) → bytes ≡ own → length bytes ≡ count
+    → ((i : ℕ) → i < 32 → eqb (bit_at marks i) 1 ≡ (ltb i count && P (get_or own i 0))) → Marks marks bytes P
+marks_found marks count bytes own P e size is i h =
+    is i h ∙ ap (λ (n : ℕ). ltb i n && P (get_or own i 0)) (sym size) ∙ ap (λ (l : List ℕ). ltb i (length bytes) && P (get_or l i 0)) (sym e)
+
+pub mask_is : (count : ℕ) (bytes : List ℕ) → length bytes ≡ count → length bytes < 32 → 1 * 2 ^ count % 2 ^ 32 - 1 ≡ 2 ^ length bytes - 1
+mask_is count bytes size few = ap (λ (n : ℕ). n - 1) (one_shl count 32 (omega arith) ∙ ap (λ (n : ℕ). 2 ^ n) (sym size))
+
+-- ---- one slice alone
+
+kept : (operation : Operation) (b : Bool) → holds operation true false ≡ true → holds operation b false ≡ b
+kept operation true e = e
+kept operation false e = holds_none operation false false refl refl
+
+kept_right : (operation : Operation) (b : Bool) → holds operation false true ≡ true → holds operation false b ≡ b
+kept_right operation true e = e
+kept_right operation false e = holds_none operation false false refl refl
+
+pub only_left : (operation : Operation) (xs ys : List ℕ) → IsRising 0 256 xs → ys ≡ [] → holds operation true false ≡ true → xs ≡ combined 256 operation xs ys
+only_left operation xs ys rise none keeps =
+    sym (those_are (λ x. holds operation (has x xs) (has x ys)) 256 xs rise (λ i small. ap (λ (l : List ℕ). holds operation (has i xs) (has i l)) none ∙ kept operation (has i xs) keeps))
+
+pub only_right : (operation : Operation) (xs ys : List ℕ) → IsRising 0 256 ys → xs ≡ [] → holds operation false true ≡ true → ys ≡ combined 256 operation xs ys
+only_right operation xs ys rise none keeps =
+    sym (those_are (λ x. holds operation (has x xs) (has x ys)) 256 ys rise (λ i small. ap (λ (l : List ℕ). holds operation (has i l) (has i ys)) none ∙ kept_right operation (has i ys) keeps))
+
+pub no_numbers : (slices : List ℕ) (start count : ℕ) → count ≡ 0 → slice_numbers count (take (slice_len count) (drop start slices)) ≡ []
+no_numbers slices start count e = ap (λ (n : ℕ). slice_numbers n (take (slice_len n) (drop start slices))) e
+
+-- ---- marked bytes are written
+
+-- a bit that is left is the mark of a byte
+pub place_within : (x t len : ℕ) → t < 64 → 1 * 2 ^ t % 2 ^ 64 ≤ x → x < 2 ^ len → t < len
+place_within x t len few part small = elim (cases_lt t len) [
+  | inl less ↦ less
+  | inr more ↦ (let shift = one_shl t 64 few in let up : 2 ^ len ≤ 2 ^ t = pow-le-pow_right (lit< tt) more in absurd (omega arith))
+]
+
+-- ---- two bodies of blocks
+
+-- whether an operation on two bodies gives a number
+abbrev pub passes : Operation → Blocks → Blocks → ℕ → Bool
+passes operation a b x = holds operation (has x (parts_numbers a)) (has x (parts_numbers b))
+
+-- a number whose high byte is left out
+pub out_of : (operation : Operation) (p q x y : Bool) → (p ≡ false → x ≡ false) → (q ≡ false → y ≡ false) → IsLeftOut operation p q → holds operation x y ≡ false
+out_of operation p q false false f g h = holds_none operation false false refl refl
+out_of operation false q true y f g h = absurd (true≢false (f refl))
+out_of operation p false x true f g h = absurd (true≢false (g refl))
+out_of operation true q true false f g h = h.1
+out_of operation p true false true f g h = h.2
+out_of operation true true true true f g h = h.0
+
+-- the numbers of one high byte
+pub lows_combined : (operation : Operation) (high : ℕ) (xs ys zs ws : List ℕ) → ((i : ℕ) → i < 256 → has i xs ≡ has (256 * high + i) zs)
+    → ((i : ℕ) → i < 256 → has i ys ≡ has (256 * high + i) ws)
+    → combined 256 operation xs ys ≡ lows (λ x. holds operation (has x zs) (has x ws)) high
+unfolding those
+lows_combined operation high xs ys zs ws left right =
+    those_agree (λ x. holds operation (has x xs) (has x ys)) (λ i. holds operation (has (256 * high + i) zs) (has (256 * high + i) ws)) 0 256 (λ i low small.
+    ap (λ (b : Bool). holds operation b (has i ys)) (left i small) ∙ ap (holds operation (has (256 * high + i) zs)) (right i small))
+
+pub map_zero : (xs : List ℕ) → map (λ i. 0 + i) xs ≡ xs
+map_zero [] = refl
+map_zero (x ∷ xs) = let e : 0 + x ≡ x = omega arith in ap (λ (n : ℕ). n ∷ map (λ i. 0 + i) xs) e ∙ ap (λ (l : List ℕ). x ∷ l) (map_zero xs)
+
+no_part : (parts : Blocks) (x : ℕ) → x < 65536 → has_bit parts.highs (x / 256) ≡ false → has x (parts_numbers parts) ≡ false
+no_part parts x small none =
+    let whole : 256 * (x / 256) + x % 256 ≡ x = omega arith in
+    sym (ap (λ (n : ℕ). has n (parts_numbers parts)) whole)
+    ∙ none_there (has_bit parts.highs) (x / 256) (x % 256) parts.counts.now parts.slices.now (omega arith) (omega arith) none parts.are
+
+both_or_none : (b c : Bool) → (b ≡ false → c ≡ false) → c ≡ (b && c)
+both_or_none true c f = refl
+both_or_none false c f = f refl
+
+-- the high bytes that the answer can have are listed
+pub record IsListed (operation : Operation) (a b : Blocks) (highs : List ℕ) : Type 0 where
+  pub rising : IsRising 0 256 highs
+  pub all : combined 65536 operation (parts_numbers a) (parts_numbers b) ≡ by_high (passes operation a b) highs
+
+pub listed : (operation : Operation) (a b : Blocks) (bits highs : List ℕ)
+    → ((h : ℕ) → h < 256 → has_bit bits h ≡ false → holds operation (has_bit a.highs h) (has_bit b.highs h) ≡ false)
+    → ((h : ℕ) → h < 256 → has_bit bits h ≡ false → holds operation (has_bit a.highs h) false ≡ false)
+    → ((h : ℕ) → h < 256 → has_bit bits h ≡ false → holds operation false (has_bit b.highs h) ≡ false)
+    → highs ≡ map (λ i. 0 + i) (those 256 (has_bit bits)) → IsListed operation a b highs
+unfolding those
+listed operation a b bits highs both left right e =
+    let same : highs ≡ those 256 (has_bit bits) = e ∙ map_zero (those 256 (has_bit bits)) in
+    let rising : IsRising 0 256 highs = subst (IsRising 0 256) (sym same) (those_rise (has_bit bits) 256) in
+    let P : ℕ → Bool = passes operation a b in
+    record {
+      rising = rising;
+      all = those_agree P (λ x. has (x / 256) highs && P x) 0 65536 (λ x low small.
+          let h : ℕ = x / 256 in
+          let few : x / 256 < 256 = omega arith in
+          both_or_none (has h highs) (P x) (λ none.
+          let out : has_bit bits h ≡ false = sym (ap (has h) same ∙ has_those (has_bit bits) h 256 few) ∙ none in
+          out_of operation (has_bit a.highs h) (has_bit b.highs h) (has x (parts_numbers a)) (has x (parts_numbers b)) (no_part a x small) (no_part b x small)
+          (both h few out, left h few out, right h few out)))
+          ∙ those_by_high P highs rising;
+    }

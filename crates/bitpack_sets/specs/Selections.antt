@@ -1,0 +1,34 @@
+-- Slices of a body, and some numbers of a slice: bytes with a mark for each, or bits.
+use Rattle.std.specs.Prelude.{ℕ, ◌^◌, ◌<◌, List, drop, length, map, slice_index, take}
+use Rattle.bitpack_sets.specs.Bitmaps.{has_bit}
+use Rattle.bitpack_sets.specs.Operations.{those}
+use Rattle.bitpack_sets.specs.Slices.{numbers_of, ones_from, slice_len, slice_numbers}
+use Rattle.bitpack_sets.specs.declared.blocks.Blocks.{Blocks}
+use Rattle.bitpack_sets.specs.declared.slice.selecting.Selection.{Selection}
+use Rattle.bitpack_sets.specs.declared.slice.selecting.Selection.TheVariants.{Bits, Bytes}
+use Rattle.bitpack_sets.specs.declared.slice.Slice.{Slice}
+
+-- the bytes and the numbers of a slice
+abbrev pub bytes_of : Slice → List ℕ
+bytes_of slice = take (slice_len slice.count) (drop slice.start slice.slices.now)
+
+abbrev pub numbers_at : Slice → List ℕ
+numbers_at slice = slice_numbers slice.count (bytes_of slice)
+
+-- the bytes whose mark is 1
+abbrev pub marked : ℕ → List ℕ → List ℕ
+marked marks bytes = map (slice_index bytes) (ones_from marks 0 32)
+
+-- each mark is one of a byte
+abbrev pub AreMarks : Selection → Type 0
+AreMarks (Bytes bytes marks) = marks < 2 ^ length bytes.now
+AreMarks (Bits words) = Unit {0}
+
+-- the numbers that are selected
+abbrev pub selected : Selection → List ℕ
+selected (Bytes bytes marks) = marked marks bytes.now
+selected (Bits words) = those 256 (has_bit words)
+
+-- the numbers of the parts of a body
+abbrev pub parts_numbers : Blocks → List ℕ
+parts_numbers parts = numbers_of (those 256 (has_bit parts.highs)) parts.counts.now parts.slices.now

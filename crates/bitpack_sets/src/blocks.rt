@@ -1,0 +1,85 @@
+//! Bodies of blocks, whose slices are found by their high bytes.
+
+pub(crate) mod combining;
+
+ghost use Rattle.std.specs.Prelude.{◌≡◌, ℕ, ◌<◌, ◌≤◌, length, slice_index, take};
+ghost use Rattle.std.proofs.Props.{props};
+ghost use Rattle.bitpack_sets.specs.Bitmaps.{has_bit};
+ghost use Rattle.bitpack_sets.specs.Operations.{those};
+ghost use Rattle.bitpack_sets.specs.Props.{slices_prop};
+ghost use Rattle.bitpack_sets.specs.Slices.{AreSlices, slices_len};
+
+use crate::bitmap::marking::{rank_of_bit, slice_bits, test_bit};
+use crate::slice::{Slice, byte_len};
+
+/// The parts of a body of blocks.
+#[derive(Clone, Copy)]
+pub(crate) struct Blocks<'a> {
+    // Which high bytes occur.
+    pub(crate) highs: [u64; 4],
+    // For each of these how many numbers have it, less 1, and where its slice begins.
+    counts: &'a [u8],
+    starts: &'a [u16; 257],
+    slices: &'a [u8],
+    ghost few: { length counts.now ≤ 256 },
+    ghost size: { length (those 256 (has_bit highs)) ≡ length counts.now },
+    ghost are: { AreSlices counts.now slices.now } by { Prim.hlevel (props, slices_prop) },
+    ghost passed: { (index : ℕ) → index < length counts.now → slice_index starts.now index ≡ slices_len (take index counts.now) },
+}
+
+impl<'a> Blocks<'a> {
+    ghost use Rattle.std.specs.Prelude.{◌+◌, ◌*◌};
+    ghost use Rattle.bitpack_sets.specs.Reads.{has};
+    ghost use Rattle.bitpack_sets.specs.Selections.{numbers_at, parts_numbers};
+    ghost use Rattle.bitpack_sets.specs.Slices.{IsBlocks, block_numbers};
+
+    /// The parts of a body. Writes where its slices begin.
+    pub(crate) fn new(body: &'a [u8], starts: &'a mut [u16; 257]) -> Blocks<'a>
+        requires { IsBlocks (length (block_numbers body.now)) body.now }
+        ensures { parts_numbers result ≡ block_numbers body.now }
+    {
+        let many = body[0] as usize + 1;
+        let size = byte_len(many);
+        let counts = &body[1 + size..1 + size + many];
+        fill_starts(counts, starts);
+        Blocks {
+            highs: slice_bits(many, &body[1..1 + size]),
+            counts,
+            starts,
+            slices: &body[1 + size + many..],
+        }
+    }
+
+    /// The slice of a high byte, which has no numbers if the high byte does not occur.
+    #[inline(always)]
+    pub(crate) fn slice(&self, high: usize) -> Slice<'a>
+        requires { high < 256 }
+        ensures { (i : ℕ) → i < 256 → has i (numbers_at result) ≡ has (256 * high + i) (parts_numbers self.now) }
+    {
+        if !test_bit(&self.highs, high) {
+            return Slice {
+                slices: self.slices,
+                start: 0,
+                count: 0,
+            };
+        }
+        let index = rank_of_bit(&self.highs, high);
+        Slice {
+            slices: self.slices,
+            start: self.starts[index] as usize,
+            count: self.counts[index] as usize + 1,
+        }
+    }
+}
+
+/// Where each slice begins among slices end to end. Each count less 1 is given.
+fn fill_starts(counts: &[u8], starts: &mut [u16; 257])
+    requires few { length counts.now ≤ 256 }
+    ensures { (index : ℕ) → index < length counts.now → slice_index starts.new index ≡ slices_len (take index counts.now) }
+{
+    let mut start = 0;
+    for index in 0..counts.len() {
+        starts[index] = start;
+        start += byte_len(counts[index] as usize + 1) as u16;
+    }
+}

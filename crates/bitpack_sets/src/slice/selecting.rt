@@ -1,0 +1,184 @@
+//! Combines slices.
+
+ghost use Rattle.std.specs.Prelude.{◌≡◌, ℕ, None, ◌+◌, ◌^◌, ◌<◌, ◌≤◌, ◌&&◌, ◌==◌, ◌++◌, IfSome, List, not, length, map, nat_lt, slice_index, take};
+ghost use Rattle.std.specs.Int.{bit_at};
+ghost use Rattle.bitpack_sets.specs.Operations.{combined, those};
+ghost use Rattle.bitpack_sets.specs.Reads.{has};
+ghost use Rattle.bitpack_sets.specs.Selections.{AreMarks, bytes_of, marked, numbers_at, selected};
+
+use crate::bitmap::unpacking::{count_bits, unpack_bits};
+use crate::operation::Operation;
+use crate::slice::Slice;
+use crate::slice::marks::{bytes_from, marks_among, marks_in_bits};
+
+/// Some numbers of a slice.
+#[derive(Clone, Copy)]
+pub(crate) enum Selection<'a> {
+    /// Those bytes whose mark is 1: fewer than 32 bytes, a bit for each.
+    Bytes(&'a [u8], u32),
+    /// Those whose bit is 1.
+    Bits([u64; 4]),
+}
+
+/// The numbers that an operation on two slices gives.
+#[inline(always)]
+pub(crate) fn select<'a>(operation: Operation, a: Slice<'a>, b: Slice<'a>) -> Selection<'a>
+    ensures marks { AreMarks result }
+    ensures numbers { selected result ≡ combined 256 operation (numbers_at a.entry) (numbers_at b.entry) }
+{
+    if b.count == 0 && operation.keeps_left() {
+        return select_all(a);
+    }
+    if a.count == 0 && operation.keeps_right() {
+        return select_all(b);
+    }
+    match operation {
+        Operation::And if a.count <= b.count && a.count < 32 => select_common(a, b),
+        Operation::And if b.count < 32 => select_common(b, a),
+        Operation::AndNot if a.count < 32 => select_alone(a, b),
+        _ => select_bits(operation, a, b),
+    }
+}
+
+/// All numbers of a slice.
+#[inline(always)]
+fn select_all<'a>(slice: Slice<'a>) -> Selection<'a>
+    ensures marks { AreMarks result }
+    ensures numbers { selected result ≡ numbers_at slice.entry }
+{
+    if slice.count < 32 {
+        return Selection::Bytes(slice.bytes(), (1 << slice.count) - 1);
+    }
+    Selection::Bits(slice.bits())
+}
+
+/// The marks of the bytes of a slice that another slice has.
+#[inline(always)]
+fn marks_of(a: Slice, b: Slice) -> u32
+    requires { a.count < 32 }
+    ensures { (i : ℕ) → i < 32 → (bit_at result i == 1) ≡ (nat_lt i a.entry.count && has (slice_index (bytes_of a.entry) i) (numbers_at b.entry)) }
+{
+    let others = b.bytes();
+    if b.count < 32 {
+        marks_among(bytes_from(a.slices, a.start), a.count, others)
+    } else if b.count < 256 {
+        marks_in_bits(a.bytes(), others)
+    } else {
+        (1 << a.count) - 1
+    }
+}
+
+/// The bytes of a slice that another slice has.
+#[inline(always)]
+fn select_common<'a>(a: Slice<'a>, b: Slice<'a>) -> Selection<'a>
+    requires { a.count < 32 }
+    ensures marks { AreMarks result }
+    ensures numbers { selected result ≡ those 256 (λ i. has i (numbers_at a.entry) && has i (numbers_at b.entry)) }
+{
+    Selection::Bytes(a.bytes(), marks_of(a, b))
+}
+
+/// The bytes of a slice that another slice lacks.
+#[inline(always)]
+fn select_alone<'a>(a: Slice<'a>, b: Slice<'a>) -> Selection<'a>
+    requires { a.count < 32 }
+    ensures marks { AreMarks result }
+    ensures numbers { selected result ≡ those 256 (λ i. has i (numbers_at a.entry) && not (has i (numbers_at b.entry))) }
+{
+    Selection::Bytes(a.bytes(), ((1 << a.count) - 1) & !marks_of(a, b))
+}
+
+/// Combines the bits of two slices.
+#[inline(always)]
+fn select_bits<'a>(operation: Operation, a: Slice<'a>, b: Slice<'a>) -> Selection<'a>
+    ensures marks { AreMarks result }
+    ensures numbers { selected result ≡ combined 256 operation (numbers_at a.entry) (numbers_at b.entry) }
+{
+    let x = a.bits();
+    let y = b.bits();
+    Selection::Bits([
+        operation.word(x[0], y[0]),
+        operation.word(x[1], y[1]),
+        operation.word(x[2], y[2]),
+        operation.word(x[3], y[3]),
+    ])
+}
+
+impl<'a> Selection<'a> {
+    /// Writes the numbers, each with `base` added. Returns where they end.
+    #[inline(always)]
+    fn unpack(self, base: u32, out: &mut [u32], at: usize) -> usize
+        requires marks { AreMarks self }
+        requires fits { base + 256 ≤ 2 ^ 32 }
+        requires room { at + 256 ≤ length out.old }
+        ensures end { result ≡ at + length (selected self.entry) }
+        ensures values { take result out.new ≡ take at out.old ++ map (λ i. base + i) (selected self.entry) }
+    {
+        match self {
+            Selection::Bytes(bytes, marks) => unpack_marked(bytes, marks, base, out, at),
+            Selection::Bits(words) => unpack_bits(&words, base, out, at),
+        }
+    }
+
+    /// Writes them if there is room for them.
+    #[inline(always)]
+    pub(crate) fn unpack_within(self, base: u32, out: &mut [u32], at: usize) -> Option<usize>
+        requires marks { AreMarks self }
+        requires fits { base + 256 ≤ 2 ^ 32 }
+        requires start { at ≤ length out.old }
+        ensures room { IfSome result (λ end. end ≤ length out.old) }
+        ensures end { IfSome result (λ end. end ≡ at + length (selected self.entry)) }
+        ensures values { IfSome result (λ end. take end out.new ≡ take at out.old ++ map (λ i. base + i) (selected self.entry)) }
+        ensures none { result ≡ None → length out.old < at + length (selected self.entry) }
+    {
+        if out.len() - at >= 256 {
+            return Some(self.unpack(base, out, at));
+        }
+        let mut numbers = [0; 256];
+        let count = self.unpack(base, &mut numbers, 0);
+        if out.len() - at < count {
+            return None;
+        }
+        out[at..at + count].copy_from_slice(&numbers[..count]);
+        Some(at + count)
+    }
+
+    /// How many there are.
+    #[inline(always)]
+    pub(crate) fn count(self) -> usize
+        ensures { result ≡ length (selected self.entry) }
+    {
+        match self {
+            Selection::Bytes(_, marks) => count_marks(marks),
+            Selection::Bits(words) => count_bits(&words),
+        }
+    }
+}
+
+/// Writes the bytes whose mark is 1, each with `base` added. Returns where they end.
+#[inline(always)]
+fn unpack_marked(bytes: &[u8], marks: u32, base: u32, out: &mut [u32], at: usize) -> usize
+    requires marks { marks < 2 ^ length bytes.now }
+    requires fits { base + 256 ≤ 2 ^ 32 }
+    requires room { at + 32 ≤ length out.old }
+    ensures end { result ≡ at + length (marked marks bytes.now) }
+    ensures values { take result out.new ≡ take at out.old ++ map (λ i. base + i) (marked marks bytes.now) }
+{
+    let mut next = at;
+    let mut left = marks as u64;
+    while left != 0 {
+        let place = left.trailing_zeros();
+        out[next] = base + bytes[place as usize] as u32;
+        next += 1;
+        left -= 1 << place;
+    }
+    next
+}
+
+/// How many marks are 1.
+#[inline(always)]
+fn count_marks(marks: u32) -> usize
+    ensures { (bytes : List ℕ) → result ≡ length (marked marks bytes) }
+{
+    marks.count_ones() as usize
+}
