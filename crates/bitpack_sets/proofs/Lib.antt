@@ -8,6 +8,7 @@ mod BodyFaults
 mod BodyFilled
 mod BodyLaws
 mod ByteLaws
+mod BytesWritten
 mod ChunkLaws
 mod ChunkReads
 mod ChunkTexts

@@ -9,6 +9,7 @@ ghost use Rattle.std.specs.Prelude.{◌≡◌};
 ghost use Rattle.bitpack_sets.specs.Slices.{slice_len};
 
 /// How many bytes the slice of `count` numbers has.
+#[inline(always)]
 pub(crate) fn byte_len(count: usize) -> usize
     ensures { result ≡ slice_len count }
 {

@@ -5,7 +5,7 @@ ghost use Rattle.bitpack_sets.specs.Slices.{AreSlices, IsBlocks, IsSlice, block_
 
 use crate::chunk::search::{number_at, place_of_slice, slice_of};
 use crate::slice::byte_len;
-use crate::slice::reading::{unpack_slice, unpack_slice_from, unpack_within};
+use crate::slice::reading::{unpack_from, unpack_slice, unpack_slice_from};
 use crate::slice::search::select_in_slice;
 
 /// Writes the numbers of a body of blocks, each with `base` added. Returns where they end.
@@ -52,7 +52,7 @@ fn unpack_parts(
         let count = counts[i] as usize + 1;
         let size = byte_len(count);
         let first = base + 256 * firsts[i];
-        next = unpack_within(count, &slices[place..place + size], first, out, next);
+        next = unpack_from(count, slices, place, first, out, next);
         place += size;
     }
     next
