@@ -28,6 +28,7 @@ mod FourLaws
 mod GapLaws
 mod GroupLaws
 mod HalfLaws
+mod IncreaseLaws
 mod IntegerLaws
 mod JoinLaws
 mod JoinReads

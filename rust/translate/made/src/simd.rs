@@ -85,6 +85,17 @@ impl u32x1 {
     }
 }
 
+/// Whether each of at most 32 lanes passed a test.
+#[derive(Clone, Copy)]
+pub(crate) struct Mask(u32);
+
+impl Mask {
+    #[inline(always)]
+    pub(crate) fn to_bitmask(self) -> u64 {
+        self.0.into()
+    }
+}
+
 /// The operators of a vector, by functions of a module.
 macro_rules! operators {
     ($name:ident, $of:ident) => {
@@ -159,6 +170,26 @@ macro_rules! vector {
             #[inline(always)]
             pub(crate) fn copy_to_slice(self, bytes: &mut [u8]) {
                 $of::store_bytes(self.0, bytes.first_chunk_mut().unwrap())
+            }
+
+            #[inline(always)]
+            pub(crate) fn from_array(bytes: [u8; $size]) -> Self {
+                $bytes($of::load_bytes(&bytes))
+            }
+
+            #[inline(always)]
+            pub(crate) fn splat(byte: u8) -> Self {
+                $bytes($of::splat(u32::from_le_bytes([byte; 4])))
+            }
+
+            #[inline(always)]
+            pub(crate) fn simd_eq(self, other: Self) -> Mask {
+                Mask($of::high_bits($of::equal_bytes(self.0, other.0)))
+            }
+
+            #[inline(always)]
+            pub(crate) fn simd_le(self, other: Self) -> Mask {
+                Mask($of::high_bits($of::equal_bytes($of::least_bytes(self.0, other.0), self.0)))
             }
         }
 

@@ -103,3 +103,21 @@ pub(super) fn shuffle_0_1_2_3_11_11_11_11(a: Words, b: Words) -> Words {
 pub(super) fn swizzle_7_7_7_7_7_7_7_7(a: Words) -> Words {
     unsafe { _mm256_permutevar8x32_epi32(a, _mm256_set1_epi32(7)) }
 }
+
+/// All bits of the bytes that are equal.
+#[inline(always)]
+pub(super) fn equal_bytes(a: Words, b: Words) -> Words {
+    unsafe { _mm256_cmpeq_epi8(a, b) }
+}
+
+/// The least of two bytes, for each.
+#[inline(always)]
+pub(super) fn least_bytes(a: Words, b: Words) -> Words {
+    unsafe { _mm256_min_epu8(a, b) }
+}
+
+/// The highest bit of each byte.
+#[inline(always)]
+pub(super) fn high_bits(a: Words) -> u32 {
+    unsafe { _mm256_movemask_epi8(a) as u32 }
+}

@@ -114,3 +114,21 @@ pub(super) fn shuffle_0_1_2_3_11_11_11_11(a: Words, b: Words) -> Words {
 pub(super) fn swizzle_7_7_7_7_7_7_7_7(a: Words) -> Words {
     (four::swizzle_3_3_3_3(a.1), four::swizzle_3_3_3_3(a.1))
 }
+
+/// All bits of the bytes that are equal.
+#[inline(always)]
+pub(super) fn equal_bytes(a: Words, b: Words) -> Words {
+    (four::equal_bytes(a.0, b.0), four::equal_bytes(a.1, b.1))
+}
+
+/// The least of two bytes, for each.
+#[inline(always)]
+pub(super) fn least_bytes(a: Words, b: Words) -> Words {
+    (four::least_bytes(a.0, b.0), four::least_bytes(a.1, b.1))
+}
+
+/// The highest bit of each byte.
+#[inline(always)]
+pub(super) fn high_bits(a: Words) -> u32 {
+    four::high_bits(a.0) | four::high_bits(a.1) << 16
+}

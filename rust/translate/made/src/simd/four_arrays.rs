@@ -103,3 +103,29 @@ pub(super) fn shuffle_0_1_4_5(a: Words, b: Words) -> Words {
 pub(super) fn swizzle_3_3_3_3(a: Words) -> Words {
     [a[3]; 4]
 }
+
+/// All bits of the bytes that are equal.
+#[inline(always)]
+pub(super) fn equal_bytes(a: Words, b: Words) -> Words {
+    of(|n| {
+        let (x, y) = (a[n].to_le_bytes(), b[n].to_le_bytes());
+        u32::from_le_bytes([0, 1, 2, 3].map(|at: usize| if x[at] == y[at] { 255 } else { 0 }))
+    })
+}
+
+/// The least of two bytes, for each.
+#[inline(always)]
+pub(super) fn least_bytes(a: Words, b: Words) -> Words {
+    of(|n| {
+        let (x, y) = (a[n].to_le_bytes(), b[n].to_le_bytes());
+        u32::from_le_bytes([0, 1, 2, 3].map(|at: usize| x[at].min(y[at])))
+    })
+}
+
+/// The highest bit of each byte.
+#[inline(always)]
+pub(super) fn high_bits(a: Words) -> u32 {
+    let mut bytes = [0; 16];
+    store_bytes(a, &mut bytes);
+    (0..16).map(|n| u32::from(bytes[n] >> 7) << n).sum()
+}

@@ -101,3 +101,23 @@ pub(super) fn shuffle_0_1_4_5(a: Words, b: Words) -> Words {
 pub(super) fn swizzle_3_3_3_3(a: Words) -> Words {
     unsafe { vdupq_laneq_u32::<3>(a) }
 }
+
+/// All bits of the bytes that are equal.
+#[inline(always)]
+pub(super) fn equal_bytes(a: Words, b: Words) -> Words {
+    unsafe { vreinterpretq_u32_u8(vceqq_u8(vreinterpretq_u8_u32(a), vreinterpretq_u8_u32(b))) }
+}
+
+/// The least of two bytes, for each.
+#[inline(always)]
+pub(super) fn least_bytes(a: Words, b: Words) -> Words {
+    unsafe { vreinterpretq_u32_u8(vminq_u8(vreinterpretq_u8_u32(a), vreinterpretq_u8_u32(b))) }
+}
+
+/// The highest bit of each byte.
+#[inline(always)]
+pub(super) fn high_bits(a: Words) -> u32 {
+    let mut bytes = [0; 16];
+    store_bytes(a, &mut bytes);
+    (0..16).map(|n| u32::from(bytes[n] >> 7) << n).sum()
+}

@@ -113,3 +113,21 @@ pub(super) fn shuffle_0_1_4_5(a: Words, b: Words) -> Words {
 pub(super) fn swizzle_3_3_3_3(a: Words) -> Words {
     unsafe { _mm_shuffle_epi32::<0xff>(a) }
 }
+
+/// All bits of the bytes that are equal.
+#[inline(always)]
+pub(super) fn equal_bytes(a: Words, b: Words) -> Words {
+    unsafe { _mm_cmpeq_epi8(a, b) }
+}
+
+/// The least of two bytes, for each.
+#[inline(always)]
+pub(super) fn least_bytes(a: Words, b: Words) -> Words {
+    unsafe { _mm_min_epu8(a, b) }
+}
+
+/// The highest bit of each byte.
+#[inline(always)]
+pub(super) fn high_bits(a: Words) -> u32 {
+    unsafe { _mm_movemask_epi8(a) as u32 }
+}

@@ -100,3 +100,21 @@ pub(super) fn shuffle_0_1_4_5(a: Words, b: Words) -> Words {
 pub(super) fn swizzle_3_3_3_3(a: Words) -> Words {
     u32x4_shuffle::<3, 3, 3, 3>(a, a)
 }
+
+/// All bits of the bytes that are equal.
+#[inline(always)]
+pub(super) fn equal_bytes(a: Words, b: Words) -> Words {
+    u8x16_eq(a, b)
+}
+
+/// The least of two bytes, for each.
+#[inline(always)]
+pub(super) fn least_bytes(a: Words, b: Words) -> Words {
+    u8x16_min(a, b)
+}
+
+/// The highest bit of each byte.
+#[inline(always)]
+pub(super) fn high_bits(a: Words) -> u32 {
+    u8x16_bitmask(a) as u32
+}
