@@ -112,12 +112,12 @@ rises_tested start count xs some few room =
     ap (λ (k : ℕ). bit_and (marked start xs) (k - 1)) (one_shl (count - 1) 32 (omega arith)) ∙ and_mask (marked start xs) (count - 1)
     ∙ ap (λ (k : ℕ). k % 2 ^ (count - 1)) (marked_is start xs room) in (
       λ e k less.
-        let zero = sym cut ∙ eqb-true _ 0 e in
-        let none = none_of (count - 1) bs zero k (omega arith) in
-        let up = above (get_or xs (start + k) 0) (get_or xs (start + (k + 1)) 0) (sym (fall_at start xs k room (omega arith)) ∙ none) in
-        let this = at k (omega arith) in
-        let next = at (k + 1) (omega arith) in
-        omega arith,
+          let zero = sym cut ∙ eqb-true _ 0 e in
+          let none = none_of (count - 1) bs zero k (omega arith) in
+          let up = above (get_or xs (start + k) 0) (get_or xs (start + (k + 1)) 0) (sym (fall_at start xs k room (omega arith)) ∙ none) in
+          let this = at k (omega arith) in
+          let next = at (k + 1) (omega arith) in
+          omega arith,
       λ rise. eq-eqb _ 0 (cut ∙ all_none (count - 1) bs (λ i h.
           let up = rise i (omega arith) in
           let this = at i (omega arith) in

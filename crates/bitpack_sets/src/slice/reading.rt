@@ -179,7 +179,8 @@ pub(crate) fn word_at(bytes: &[u8], i: usize) -> u64
     requires { 8 * i + 8 ≤ length bytes.now }
     ensures { result ≡ number_of (take 8 (drop (8 * i) bytes.now)) }
 {
-    let mut word = [0; 8];
-    word.copy_from_slice(&bytes[8 * i..8 * i + 8]);
-    u64::from_le_bytes(word)
+    let word = &bytes[8 * i..8 * i + 8];
+    u64::from_le_bytes([
+        word[0], word[1], word[2], word[3], word[4], word[5], word[6], word[7],
+    ])
 }
