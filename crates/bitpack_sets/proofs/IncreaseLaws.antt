@@ -6,8 +6,8 @@ use Rattle.std.specs.Bool.{Decides}
 use Rattle.std.specs.Int.RustNames.{count_ones}
 use Rattle.std.specs.List.Sorted.{IsStrictlyIncreasing}
 use Rattle.std.proofs.lemmas.Bool.{cases_lt, cond_below, lt-leb, le-leb, true≢false}
-use Rattle.std.proofs.lemmas.List.{drop-drop}
-use Rattle.std.proofs.lemmas.Nat.{and_mask, mod-pow-add, one_shl}
+use Rattle.std.proofs.lemmas.List.{drop-drop, get_or-drop}
+use Rattle.std.proofs.lemmas.Nat.{and_mask, mod-pow-add, one_shl, shr-shr}
 use Rattle.std.proofs.lemmas.Simd.{get_or-chunk, get_or-zip2, length-chunk, length-zip2, mask_l-lt, mask_l-mod, tops_compared}
 use Rattle.bitpack_sets.proofs.ByteLaws.{byte_of}
 use Rattle.bitpack_sets.proofs.CountLaws.{bits_counted, bytes_are, decide_few}
@@ -55,11 +55,6 @@ marked_is start xs h =
     ap (λ (ms : List Bool). mask_l ms % 2 ^ 64) (tops_compared w8 leb (chunk (start + 1) 32 xs) (chunk start 32 xs))
     ∙ mask_l-mod (falls start xs) 64 (let size = falls_long start xs h in omega arith)
 
-pub marked_few : (start : ℕ) (xs : List ℕ) → start + 33 ≤ length xs → marked start xs < 2 ^ 32
-marked_few start xs h =
-    let few : mask_l (falls start xs) < 2 ^ 32 = subst (λ (n : ℕ). mask_l (falls start xs) < 2 ^ n) (falls_long start xs h) (mask_l-lt (falls start xs)) in
-    subst (λ (n : ℕ). n < 2 ^ 32) (sym (marked_is start xs h)) few
-
 fall_at : (start : ℕ) (xs : List ℕ) (i : ℕ) → start + 33 ≤ length xs → i < 32
     → get_or (falls start xs) i false ≡ leb (get_or xs (start + (i + 1)) 0) (get_or xs (start + i) 0)
 fall_at start xs i h small =
@@ -74,6 +69,10 @@ above : (x y : ℕ) → leb y x ≡ false → x < y
 above x y e = elim (cases_lt x y) [ inl less ↦ less | inr more ↦ absurd (true≢false (sym (le-leb y x more) ∙ e)) ]
 
 -- ---- the first n bits are 0
+
+bit_small : (b : Bool) → cond b 1 0 < 2
+bit_small true = lit< tt
+bit_small false = lit< tt
 
 low_next : (n b m : ℕ) → b < 2 → (b + 2 * m) % 2 ^ suc n ≡ b + 2 * (m % 2 ^ n)
 low_next n b m small =
@@ -100,21 +99,36 @@ all_none (suc n) (false ∷ bs) h =
     let next = low_next n 0 (mask_l bs) (lit< tt) in
     omega arith
 
+-- a shift drops the first
+mask_drop : (n : ℕ) (bs : List Bool) → mask_l bs / 2 ^ n ≡ mask_l (drop n bs)
+mask_drop zero bs = let one : mask_l bs / 1 ≡ mask_l bs = omega arith in one
+mask_drop (suc n) [] = omega arith
+mask_drop (suc n) (b ∷ bs) =
+    let same : suc n ≡ 1 + n = omega arith in
+    let small : cond b 1 0 < 2 = bit_small b in
+    let half : (cond b 1 0 + 2 * mask_l bs) / 2 ^ 1 ≡ mask_l bs = omega arith in
+    ap (λ (k : ℕ). (cond b 1 0 + 2 * mask_l bs) / 2 ^ k) same ∙ sym (shr-shr (cond b 1 0 + 2 * mask_l bs) 1 n) ∙ ap (λ (m : ℕ). m / 2 ^ n) half ∙ mask_drop n bs
+
 -- ---- the test of up to 31 bytes
 
-pub rises_tested : (start count : ℕ) (xs : List ℕ) → 1 ≤ count → count < 32 → start + 33 ≤ length xs
-    → Decides (eqb (bit_and (marked start xs) (1 * 2 ^ (count - 1) % 2 ^ 32 - 1)) 0) (IsStrictlyIncreasing (take count (drop start xs)))
-rises_tested start count xs some few room =
-    let bs : List Bool = falls start xs in
+pub rises_tested : (from start count : ℕ) (xs : List ℕ) → 1 ≤ count → count < 32 → from + 33 ≤ length xs → from ≤ start → start + count ≤ from + 33
+    → Decides (eqb (bit_and (marked from xs / 2 ^ (start - from)) (1 * 2 ^ (count - 1) % 2 ^ 64 - 1)) 0) (IsStrictlyIncreasing (take count (drop start xs)))
+rises_tested from start count xs some few room before within =
+    let s : ℕ = start - from in
+    let bs : List Bool = drop s (falls from xs) in
     let long = length-chunk start count xs (omega arith) in
     let at : (k : ℕ) → k < count → get_or (take count (drop start xs)) k 0 ≡ get_or xs (start + k) 0 = λ k h. get_or-chunk start count xs k 0 h in
-    let cut : bit_and (marked start xs) (1 * 2 ^ (count - 1) % 2 ^ 32 - 1) ≡ mask_l bs % 2 ^ (count - 1) =
-    ap (λ (k : ℕ). bit_and (marked start xs) (k - 1)) (one_shl (count - 1) 32 (omega arith)) ∙ and_mask (marked start xs) (count - 1)
-    ∙ ap (λ (k : ℕ). k % 2 ^ (count - 1)) (marked_is start xs room) in (
+    let fall : (k : ℕ) → k < count - 1 → get_or bs k false ≡ leb (get_or xs (start + (k + 1)) 0) (get_or xs (start + k) 0) = λ k h.
+    let same : from + (s + k) ≡ start + k = omega arith in
+    let next : from + (s + k + 1) ≡ start + (k + 1) = omega arith in
+    get_or-drop s (falls from xs) k false ∙ fall_at from xs (s + k) room (omega arith)
+    ∙ ap (λ (n : ℕ). leb (get_or xs n 0) (get_or xs (from + (s + k)) 0)) next ∙ ap (λ (n : ℕ). leb (get_or xs (start + (k + 1)) 0) (get_or xs n 0)) same in
+    let cut : bit_and (marked from xs / 2 ^ s) (1 * 2 ^ (count - 1) % 2 ^ 64 - 1) ≡ mask_l bs % 2 ^ (count - 1) =
+    ap (λ (k : ℕ). bit_and (marked from xs / 2 ^ s) (k - 1)) (one_shl (count - 1) 64 (omega arith)) ∙ and_mask (marked from xs / 2 ^ s) (count - 1)
+    ∙ ap (λ (k : ℕ). k / 2 ^ s % 2 ^ (count - 1)) (marked_is from xs room) ∙ ap (λ (k : ℕ). k % 2 ^ (count - 1)) (mask_drop s (falls from xs)) in (
       λ e k less.
-          let zero = sym cut ∙ eqb-true _ 0 e in
-          let none = none_of (count - 1) bs zero k (omega arith) in
-          let up = above (get_or xs (start + k) 0) (get_or xs (start + (k + 1)) 0) (sym (fall_at start xs k room (omega arith)) ∙ none) in
+          let none = none_of (count - 1) bs (sym cut ∙ eqb-true _ 0 e) k (omega arith) in
+          let up = above (get_or xs (start + k) 0) (get_or xs (start + (k + 1)) 0) (sym (fall k (omega arith)) ∙ none) in
           let this = at k (omega arith) in
           let next = at (k + 1) (omega arith) in
           omega arith,
@@ -122,7 +136,7 @@ rises_tested start count xs some few room =
           let up = rise i (omega arith) in
           let this = at i (omega arith) in
           let next = at (i + 1) (omega arith) in
-          fall_at start xs i room (omega arith) ∙ lt-leb (get_or xs (start + (i + 1)) 0) (get_or xs (start + i) 0) (omega arith))),
+          fall i h ∙ lt-leb (get_or xs (start + (i + 1)) 0) (get_or xs (start + i) 0) (omega arith))),
     )
 
 -- they are a slice

@@ -51,24 +51,26 @@ fn is_slice_from(count: usize, bytes: &[u8], start: usize) -> bool
     requires size { start + slice_len count ≤ length bytes.now }
     ensures { Decides result (IsSlice count (take (slice_len count) (drop start bytes.now))) }
 {
-    if count < 32 && bytes.len() - start > 32 {
+    if count < 32 && bytes.len() > 32 {
         return is_increasing_from(count, bytes, start);
     }
     is_slice(count, &bytes[start..start + byte_len(count)])
 }
 
-/// Whether `count` bytes from `start` on increase. It compares 32 bytes and the 32 that begin one later.
+/// Whether `count` bytes from `start` on increase. It compares 32 bytes and the 32 that begin one later, or the last ones there are.
 #[inline(always)]
 fn is_increasing_from(count: usize, bytes: &[u8], start: usize) -> bool
     requires some { 1 ≤ count }
     requires count { count < 32 }
-    requires size { start + 33 ≤ length bytes.now }
+    requires size { start + count ≤ length bytes.now }
+    requires room { 33 ≤ length bytes.now }
     ensures { Decides result (IsStrictlyIncreasing (take count (drop start bytes.now))) }
 {
-    let these = u8x32::from_slice(&bytes[start..]);
-    let next = u8x32::from_slice(&bytes[start + 1..]);
-    let falls = next.simd_le(these).to_bitmask() as u32;
-    falls & ((1 << (count - 1)) - 1) == 0
+    let from = start.min(bytes.len() - 33);
+    let these = u8x32::from_slice(&bytes[from..]);
+    let next = u8x32::from_slice(&bytes[from + 1..]);
+    let falls = next.simd_le(these).to_bitmask();
+    falls >> (start - from) & ((1 << (count - 1)) - 1) == 0
 }
 
 /// How many bits of 32 bytes are 1, by words.
