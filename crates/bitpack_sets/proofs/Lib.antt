@@ -40,6 +40,7 @@ mod NumberReads
 mod OnesLaws
 mod PartLaws
 mod PartsFilled
+mod PastLaws
 mod PlaceLaws
 mod RaisedLaws
 mod RangeLaws
