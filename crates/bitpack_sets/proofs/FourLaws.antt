@@ -138,7 +138,7 @@ four_long next out four room e =
     let size = length-take-le (next + 4 - next) (drop next out) (omega (arith, length-drop next out)) in
     omega arith
 
-take_past : (a j : ℕ) (p q : List ℕ) → length p ≡ a → take (a + j) (p ++ q) ≡ p ++ take j q
+pub take_past : (a j : ℕ) (p q : List ℕ) → length p ≡ a → take (a + j) (p ++ q) ≡ p ++ take j q
 take_past zero j [] q e = let f : zero + j ≡ j = omega arith in ap (λ (n : ℕ). take n q) f
 take_past zero j (x ∷ p) q e = absurd (omega arith)
 take_past (suc a) j [] q e = absurd (omega arith)

@@ -8,6 +8,7 @@ mod BodyFaults
 mod BodyFilled
 mod BodyLaws
 mod ByteLaws
+mod BytesWritten
 mod ChunkLaws
 mod ChunkReads
 mod ChunkTexts
@@ -27,6 +28,7 @@ mod FourLaws
 mod GapLaws
 mod GroupLaws
 mod HalfLaws
+mod IncreaseLaws
 mod IntegerLaws
 mod JoinLaws
 mod JoinReads
@@ -39,6 +41,7 @@ mod NumberReads
 mod OnesLaws
 mod PartLaws
 mod PartsFilled
+mod PastLaws
 mod PlaceLaws
 mod RaisedLaws
 mod RangeLaws

@@ -115,5 +115,5 @@ fn unpack_chunk(
     if body.len() == 2 * own {
         return unpack_numbers(body, base, out, at);
     }
-    unpack_blocks(body, base, out, at)
+    unpack_blocks(body, &rest[start + begin..], base, out, at)
 }

@@ -1,16 +1,24 @@
 //! Unpacks the numbers of bodies, in order.
 
 ghost use Rattle.std.specs.Prelude.{◌≡◌, ◌+◌, ◌*◌, ◌/◌, ◌^◌, ◌<◌, ◌≤◌, ◌++◌, drop, length, map, slice_index, take};
-ghost use Rattle.bitpack_sets.specs.Slices.{AreSlices, IsBlocks, IsSlice, block_numbers, numbers_in, numbers_of, pairs_of, slice_len, slice_numbers};
+ghost use Rattle.bitpack_sets.specs.Slices.{AreSlices, IsBlocks, IsSlice, block_numbers, numbers_in, numbers_of, pairs_of, slice_len, slice_numbers, slices_len};
 
 use crate::chunk::search::{number_at, place_of_slice, slice_of};
 use crate::slice::byte_len;
-use crate::slice::reading::{unpack_slice, unpack_slice_from, unpack_within};
+use crate::slice::reading::{unpack_from, unpack_slice, unpack_slice_from};
 use crate::slice::search::select_in_slice;
 
-/// Writes the numbers of a body of blocks, each with `base` added. Returns where they end.
-pub(crate) fn unpack_blocks(body: &[u8], base: u32, out: &mut [u32], at: usize) -> usize
+/// Writes the numbers of a body of blocks, each with `base` added. Returns where they end. `rest` begins with the body, and may go on: its
+/// bytes after the body are read, and have no effect.
+pub(crate) fn unpack_blocks(
+    body: &[u8],
+    rest: &[u8],
+    base: u32,
+    out: &mut [u32],
+    at: usize,
+) -> usize
     requires blocks { IsBlocks (length (block_numbers body.now)) body.now }
+    requires front { take (length body.now) rest.now ≡ body.now }
     requires fits { base + 65536 ≤ 2 ^ 32 }
     requires room { at + length (block_numbers body.now) ≤ length out.old }
     ensures end { result ≡ at + length (block_numbers body.now) }
@@ -20,16 +28,15 @@ pub(crate) fn unpack_blocks(body: &[u8], base: u32, out: &mut [u32], at: usize) 
     let size = byte_len(many);
     let highs = &body[1..1 + size];
     let counts = &body[1 + size..1 + size + many];
-    let slices = &body[1 + size + many..];
-    unpack_parts(highs, counts, slices, base, out, at)
+    unpack_parts(highs, counts, &rest[1 + size + many..], base, out, at)
 }
 
-/// Writes the numbers of slices end to end, each with `base` added: their high bytes, of each the count less 1, and the slices. Returns where
-/// they end.
+/// Writes the numbers of slices end to end, each with `base` added: their high bytes, of each the count less 1, and bytes that begin with the
+/// slices. Returns where they end.
 fn unpack_parts(
     highs: &[u8],
     counts: &[u8],
-    slices: &[u8],
+    rest: &[u8],
     base: u32,
     out: &mut [u32],
     at: usize,
@@ -37,12 +44,13 @@ fn unpack_parts(
     requires few { length counts.now ≤ 256 }
     requires size { length highs.now ≡ slice_len (length counts.now) }
     requires highs { IsSlice (length counts.now) highs.now }
-    requires slices { AreSlices counts.now slices.now }
+    requires slices { AreSlices counts.now (take (slices_len counts.now) rest.now) }
     requires fits { base + 65536 ≤ 2 ^ 32 }
     requires room { at + numbers_in counts.now ≤ length out.old }
     ensures end { result ≡ at + numbers_in counts.now }
     ensures values { take result out.new
-        ≡ take at out.old ++ map (λ i. base + i) (numbers_of (slice_numbers (length counts.now) highs.now) counts.now slices.now) }
+        ≡ take at out.old ++ map (λ i. base + i)
+        (numbers_of (slice_numbers (length counts.now) highs.now) counts.now (take (slices_len counts.now) rest.now)) }
 {
     let mut firsts = [0; 256];
     unpack_slice(counts.len(), highs, 0, &mut firsts, 0);
@@ -50,10 +58,9 @@ fn unpack_parts(
     let mut place = 0;
     for i in 0..counts.len() {
         let count = counts[i] as usize + 1;
-        let size = byte_len(count);
         let first = base + 256 * firsts[i];
-        next = unpack_within(count, &slices[place..place + size], first, out, next);
-        place += size;
+        next = unpack_from(count, rest, place, first, out, next);
+        place += byte_len(count);
     }
     next
 }

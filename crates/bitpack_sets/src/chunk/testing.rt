@@ -101,7 +101,7 @@ fn blocks_len(body: &[u8]) -> usize
     1 + byte_len(run.slices) + run.slices + run.size + byte_len(run.count)
 }
 
-/// A number more, with this high byte.
+/// A number more, with this high byte, without a branch.
 #[inline(always)]
 fn with_high(run: Run, high: u16) -> Run
     requires count { run.count ≤ 65536 }
@@ -111,19 +111,12 @@ fn with_high(run: Run, high: u16) -> Run
     ensures other { run.high ≢ high → result
         ≡ record { high = high; count = 1; slices = run.slices + 1; size = run.size + Rattle.bitpack_sets.specs.Slices.slice_len run.count } }
 {
-    if run.high == high {
-        return Run {
-            high: run.high,
-            count: run.count + 1,
-            slices: run.slices,
-            size: run.size,
-        };
-    }
+    let same = (run.high == high) as usize;
     Run {
         high,
-        count: 1,
-        slices: run.slices + 1,
-        size: run.size + byte_len(run.count),
+        count: run.count * same + 1,
+        slices: run.slices + 1 - same,
+        size: run.size + byte_len(run.count) * (1 - same),
     }
 }
 

@@ -4,6 +4,42 @@ ghost use Rattle.std.specs.Prelude.{◌≡◌, ◌+◌, ◌*◌, ◌/◌, ◌^�
 ghost use Rattle.std.specs.List.{range_with_len};
 ghost use Rattle.bitpack_sets.specs.Slices.{IsSlice, number_of, ones_from, slice_len, slice_numbers};
 
+use crate::slice::byte_len;
+
+/// Writes the numbers of the slice of `count` that begins at `start`, each with `base` added. Returns where they end.
+///
+/// A short slice is read as 32 bytes if there are as many, without a branch: up to 31 numbers after the end change too.
+#[inline(always)]
+pub(crate) fn unpack_from(
+    count: usize,
+    slices: &[u8],
+    start: usize,
+    base: u32,
+    out: &mut [u32],
+    at: usize,
+) -> usize
+    requires count { count ≤ 256 }
+    requires size { start + slice_len count ≤ length slices.now }
+    requires slice { IsSlice count (take (slice_len count) (drop start slices.now)) }
+    requires fits { base + 256 ≤ 2 ^ 32 }
+    requires room { at + count ≤ length out.old }
+    ensures end { result ≡ at + count }
+    ensures values { take result out.new
+        ≡ take at out.old ++ map (λ i. base + i) (slice_numbers count (take (slice_len count) (drop start slices.now))) }
+{
+    if count < 32 && slices.len() - start >= 32 && out.len() - at >= 32 {
+        unpack_bytes(&slices[start..start + 32], base, out, at);
+        return at + count;
+    }
+    unpack_within(
+        count,
+        &slices[start..start + byte_len(count)],
+        base,
+        out,
+        at,
+    )
+}
+
 /// Writes the numbers of a slice of `count`, each with `base` added, also if there is only room for them. Returns where they end.
 pub(crate) fn unpack_within(
     count: usize,
@@ -20,6 +56,9 @@ pub(crate) fn unpack_within(
     ensures end { result ≡ at + count }
     ensures values { take result out.new ≡ take at out.old ++ map (λ i. base + i) (slice_numbers count bytes.now) }
 {
+    if count < 32 {
+        return unpack_bytes(bytes, base, out, at);
+    }
     if out.len() - at >= 256 {
         return unpack_slice(count, bytes, base, out, at);
     }
@@ -68,14 +107,16 @@ pub(crate) fn unpack_slice(
 }
 
 /// Writes bytes, each with `base` added. Returns where they end.
+#[inline(always)]
 fn unpack_bytes(bytes: &[u8], base: u32, out: &mut [u32], at: usize) -> usize
     requires fits { base + 256 ≤ 2 ^ 32 }
     requires room { at + length bytes.now ≤ length out.old }
     ensures end { result ≡ at + length bytes.now }
     ensures values { take result out.new ≡ take at out.old ++ map (λ i. base + i) bytes.now }
 {
+    let places = &mut out[at..at + bytes.len()];
     for i in 0..bytes.len() {
-        out[at + i] = base + bytes[i] as u32;
+        places[i] = base + bytes[i] as u32;
     }
     at + bytes.len()
 }
@@ -138,7 +179,8 @@ pub(crate) fn word_at(bytes: &[u8], i: usize) -> u64
     requires { 8 * i + 8 ≤ length bytes.now }
     ensures { result ≡ number_of (take 8 (drop (8 * i) bytes.now)) }
 {
-    let mut word = [0; 8];
-    word.copy_from_slice(&bytes[8 * i..8 * i + 8]);
-    u64::from_le_bytes(word)
+    let word = &bytes[8 * i..8 * i + 8];
+    u64::from_le_bytes([
+        word[0], word[1], word[2], word[3], word[4], word[5], word[6], word[7],
+    ])
 }

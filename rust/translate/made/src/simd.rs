@@ -186,6 +186,11 @@ macro_rules! vector {
             pub(crate) fn simd_eq(self, other: Self) -> Mask {
                 Mask($of::high_bits($of::equal_bytes(self.0, other.0)))
             }
+
+            #[inline(always)]
+            pub(crate) fn simd_le(self, other: Self) -> Mask {
+                Mask($of::high_bits($of::equal_bytes($of::least_bytes(self.0, other.0), self.0)))
+            }
         }
 
         #[derive(Clone, Copy)]

@@ -110,6 +110,12 @@ pub(super) fn equal_bytes(a: Words, b: Words) -> Words {
     unsafe { _mm256_cmpeq_epi8(a, b) }
 }
 
+/// The least of two bytes, for each.
+#[inline(always)]
+pub(super) fn least_bytes(a: Words, b: Words) -> Words {
+    unsafe { _mm256_min_epu8(a, b) }
+}
+
 /// The highest bit of each byte.
 #[inline(always)]
 pub(super) fn high_bits(a: Words) -> u32 {

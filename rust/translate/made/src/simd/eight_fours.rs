@@ -121,6 +121,12 @@ pub(super) fn equal_bytes(a: Words, b: Words) -> Words {
     (four::equal_bytes(a.0, b.0), four::equal_bytes(a.1, b.1))
 }
 
+/// The least of two bytes, for each.
+#[inline(always)]
+pub(super) fn least_bytes(a: Words, b: Words) -> Words {
+    (four::least_bytes(a.0, b.0), four::least_bytes(a.1, b.1))
+}
+
 /// The highest bit of each byte.
 #[inline(always)]
 pub(super) fn high_bits(a: Words) -> u32 {

@@ -113,6 +113,15 @@ pub(super) fn equal_bytes(a: Words, b: Words) -> Words {
     })
 }
 
+/// The least of two bytes, for each.
+#[inline(always)]
+pub(super) fn least_bytes(a: Words, b: Words) -> Words {
+    of(|n| {
+        let (x, y) = (a[n].to_le_bytes(), b[n].to_le_bytes());
+        u32::from_le_bytes([0, 1, 2, 3].map(|at: usize| x[at].min(y[at])))
+    })
+}
+
 /// The highest bit of each byte.
 #[inline(always)]
 pub(super) fn high_bits(a: Words) -> u32 {

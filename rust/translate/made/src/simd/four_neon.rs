@@ -108,6 +108,12 @@ pub(super) fn equal_bytes(a: Words, b: Words) -> Words {
     unsafe { vreinterpretq_u32_u8(vceqq_u8(vreinterpretq_u8_u32(a), vreinterpretq_u8_u32(b))) }
 }
 
+/// The least of two bytes, for each.
+#[inline(always)]
+pub(super) fn least_bytes(a: Words, b: Words) -> Words {
+    unsafe { vreinterpretq_u32_u8(vminq_u8(vreinterpretq_u8_u32(a), vreinterpretq_u8_u32(b))) }
+}
+
 /// The highest bit of each byte.
 #[inline(always)]
 pub(super) fn high_bits(a: Words) -> u32 {

@@ -107,6 +107,12 @@ pub(super) fn equal_bytes(a: Words, b: Words) -> Words {
     u8x16_eq(a, b)
 }
 
+/// The least of two bytes, for each.
+#[inline(always)]
+pub(super) fn least_bytes(a: Words, b: Words) -> Words {
+    u8x16_min(a, b)
+}
+
 /// The highest bit of each byte.
 #[inline(always)]
 pub(super) fn high_bits(a: Words) -> u32 {

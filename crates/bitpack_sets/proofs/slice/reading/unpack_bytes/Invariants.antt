@@ -1,9 +1,9 @@
 -- The bytes so far are written.
-use Rattle.std.proofs.Common.{◌≡◌, ◌+◌, ◌++◌, length, map, take}
+use Rattle.std.proofs.Common.{◌≡◌, ◌+◌, length, map, take}
 use Rattle.bitpack_sets.proofs.slice.reading.unpack_bytes.Given as goal
 
 abbrev pub invariant-loop-i : goal.invariant-loop-i
 invariant-loop-i l = record {
-  size : length l.out ≡ length l.fn.out;
-  values : take (l.at + l.i) l.out ≡ take l.at l.fn.out ++ map (λ i. l.base + i) (take l.i l.bytes);
+  size : length l.places ≡ length l.bytes;
+  values : take l.i l.places ≡ map (λ i. l.base + i) (take l.i l.bytes);
 }

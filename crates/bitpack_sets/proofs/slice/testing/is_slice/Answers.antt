@@ -8,7 +8,7 @@ returns-then-count-lt32 c =
 
 pub returns-then-count-lt256 : goal.returns-then-count-lt256
 returns-then-count-lt256 c =
-    decide_some c.args.count c.count_bits.result c.args.bytes.now c.if-count-lt32.false c.if-count-lt256.true c.requires.size (λ k. (c.type_inv.bytes k).fits) c.count_bits.ensures
+    decide_some c.args.count c.count_in_words.result c.args.bytes.now c.if-count-lt32.false c.if-count-lt256.true c.requires.size (λ k. (c.type_inv.bytes k).fits) c.count_in_words.ensures
 
 pub returns-else-count-lt256 : goal.returns-else-count-lt256
 returns-else-count-lt256 c = decide_full c.args.count c.args.bytes.now c.if-count-lt256.false c.requires.count c.requires.size

@@ -1,0 +1,16 @@
+-- Of 32 bytes the first few are the numbers.
+use Rattle.std.proofs.Common.{ℕ, ◌≡◌, ◌+◌, ◌-◌, ◌++◌, take, drop, map, ap, ◌∙◌, arith}
+use Rattle.bitpack_sets.proofs.BytesWritten.{first_few}
+use Rattle.bitpack_sets.proofs.slice.reading.unpack_from.Goals as goal
+use Rattle.bitpack_sets.specs.Slices.{slice_len, slice_numbers}
+
+pub returns-then-out-at-ge32-clause-values : goal.returns-then-out-at-ge32-clause-values
+returns-then-out-at-ge32-clause-values c =
+    first_few c.args.base c.args.count c.args.start c.args.at c.unpack_bytes.result c.args.out.now c.args.slices.now c.unpack_bytes.new.out c.if-count-lt32.true (omega arith)
+    c.unpack_bytes.ensures.end (omega arith) c.unpack_bytes.ensures.values
+
+pub returns-clause-values : goal.returns-clause-values
+returns-clause-values c =
+    let cut : c.args.start + c.byte_len.result - c.args.start ≡ slice_len c.args.count = omega (arith, c.byte_len.ensures) in
+    c.unpack_within.ensures.values
+    ∙ ap (λ (s : ℕ). take c.args.at c.args.out.now ++ map (λ i. c.args.base + i) (slice_numbers c.args.count (take s (drop c.args.start c.args.slices.now)))) cut
