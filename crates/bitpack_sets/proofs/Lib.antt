@@ -17,6 +17,7 @@ mod CountedRuns
 mod CutLaws
 mod DecodeLaws
 mod EncodeLaws
+mod EndsFilled
 mod EntriesFilled
 mod EntryLaws
 mod FallLaws

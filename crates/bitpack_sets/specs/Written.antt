@@ -39,6 +39,10 @@ counts ps = map (λ part. length part.1 - 1) ps
 abbrev pub slices : List (ℕ × List ℕ) → List ℕ
 slices ps = flat_map (λ part. slice part.1) ps
 
+-- where the slices of a chunk end among its ids
+abbrev pub slice_ends : List ℕ → List ℕ
+slice_ends ids = sums 0 (map (λ part. length part.1) (parts 256 (lows ids)))
+
 -- how many numbers the parts have, if each counts at most as many as this
 unfoldable pub capped : ℕ → List (ℕ × List ℕ) → ℕ
 capped most [] = 0

@@ -6,9 +6,6 @@ ghost use Rattle.bitpack_sets.specs.Written.{IsRun};
 /// Ids are in one chunk if they are the same without their 16 lowest bits.
 pub(crate) const CHUNK_BITS: u32 = 16;
 
-/// Ids are in one slice if they are the same without their 8 lowest bits.
-pub(crate) const SLICE_BITS: u32 = 8;
-
 /// How many ids at the front are the same as the first one without their `bits` lowest bits.
 #[inline(always)]
 pub(crate) fn run_len(bits: u32, ids: &[u32]) -> usize
