@@ -1,9 +1,11 @@
 -- Slices are measured by ids that are as far apart as slices are long.
-use Rattle.std.proofs.Common.{◌≡◌, ◌≢◌, ℕ, zero, suc, ◌+◌, ◌-◌, ◌*◌, ◌/◌, ◌%◌, ◌^◌, ◌<◌, ◌≤◌, Bool, true, false, not, eqb, ltb, List, [], ◌∷◌, map, length, get_or, take, drop, min, refl, sym, ap, ◌∙◌, arith, cond, inl, inr, length-drop, length-append}
+use Rattle.std.proofs.Common.{◌≡◌, ◌≢◌, ℕ, zero, suc, ◌+◌, ◌-◌, ◌*◌, ◌/◌, ◌%◌, ◌^◌, ◌<◌, ◌≤◌, Bool, true, false, not, eqb, ltb, List, [], ◌∷◌, map, length, get_or, take, drop, min, refl, sym, ap, ◌∙◌, arith, cond, inl, inr, le_trans, length-drop, length-append}
 use mir.Val.{bool_byte}
 use Rattle.std.proofs.lemmas.Bool.{cases_eq, cases_lt, cond_above, cond_below}
 use Rattle.std.proofs.lemmas.Bool.Decides.{eqb_tells}
 use Rattle.std.proofs.lemmas.List.{drop_more, length-map, length-take-le}
+use Rattle.std.proofs.Math.Nat.{div-mul-le_self}
+use Rattle.std.proofs.lemmas.Nat.{le-div}
 use Rattle.bitpack_sets.proofs.PartLaws.{AreParts}
 use Rattle.bitpack_sets.proofs.RunLaws.{chunk_few, chunk_rest, get_drop, slice_part, slices_are}
 use Rattle.bitpack_sets.proofs.SliceLaws.{rising_room}
@@ -25,6 +27,31 @@ rising_le low high zero zero (x ∷ xs) r le lt = omega arith
 rising_le low high zero (suc j) (x ∷ xs) (a, r) le lt = let up = rising_above (x + 1) high j xs r (omega arith) in omega arith
 rising_le low high (suc i) zero (x ∷ xs) r le lt = absurd (omega arith)
 rising_le low high (suc i) (suc j) (x ∷ xs) (a, r) le lt = rising_le (x + 1) high i j xs r (omega arith) (omega arith)
+
+div_le : (m n base : ℕ) → 0 < base → m ≤ n → m / base ≤ n / base
+div_le m n base pos le = le-div (m / base) n base pos (le_trans (div-mul-le_self m base) le)
+
+-- the last number known to be of the first run is at `low`, and none is from `high` on
+pub record RunEnds (base : ℕ) (xs : List ℕ) (low high : ℕ) : Type 0 where
+  pub below : low < high
+  pub within : high ≤ length xs
+  pub shared : get_or xs low 0 / base ≡ get_or xs 0 0 / base
+  pub apart : high < length xs → get_or xs high 0 / base ≢ get_or xs 0 0 / base
+
+pub run_found : (base low high : ℕ) (xs : List ℕ) → 0 < base → IsRising 0 (2 ^ 32) xs → RunEnds base xs low high → high ≤ low + 1 → IsRun base xs high
+run_found base low high xs pos r ends near =
+    let below = ends.below in
+    let within = ends.within in
+    record {
+      some = omega arith;
+      within = ends.within;
+      shared = λ k lt.
+          let a = div_le (get_or xs 0 0) (get_or xs k 0) base pos (rising_le 0 (2 ^ 32) 0 k xs r (omega arith) (omega arith)) in
+          let b = div_le (get_or xs k 0) (get_or xs low 0) base pos (rising_le 0 (2 ^ 32) k low xs r (omega arith) (omega arith)) in
+          let c = ends.shared in
+          omega arith;
+      apart = ends.apart;
+    }
 
 one_same : (base x : ℕ) (xs : List ℕ) (k : ℕ) → k < 1 → get_or (x ∷ xs) k 0 / base ≡ x / base
 one_same base x xs zero lt = refl

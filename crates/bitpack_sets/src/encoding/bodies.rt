@@ -48,8 +48,7 @@ fn write_blocks(ids: &[u32], count: usize, out: &mut [u8])
     head[0] = (count - 1) as u8;
 }
 
-/// Fills in where the slices of a chunk end. No branch depends on an id: the end so far is written for each id, and kept at the last one
-/// of a slice.
+/// Fills in where the slices of a chunk end. No branch depends on an id: an end is written at each id, over the one before in its slice.
 fn fill_ends(ids: &[u32], ends: &mut [u32])
     requires chunk { IsChunk ids.now }
     requires some { 0 < length ids.now }

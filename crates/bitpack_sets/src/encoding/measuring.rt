@@ -43,7 +43,7 @@ pub(crate) fn measure_slices(ids: &[u32]) -> (usize, usize)
     (count, short - 32 * full)
 }
 
-/// How many ids a chunk has, if each slice counts at most `most`. The last `most` of a slice have no id of their slice `most` places on.
+/// How many ids a chunk has, if each slice counts at most `most`. They are the ids with no id of their slice `most` ids later.
 ///
 /// No branch depends on an id, so that the compiler compares several at once.
 #[inline(always)]

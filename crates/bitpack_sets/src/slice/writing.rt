@@ -1,6 +1,6 @@
 //! Writes slices.
 
-ghost use Rattle.std.specs.Prelude.{◌≡◌, ◌+◌, ◌*◌, ◌/◌, ◌%◌, ◌^◌, ◌<◌, ◌≤◌, ◌++◌, drop, length, map, slice_index, take};
+ghost use Rattle.std.specs.Prelude.{◌≡◌, ◌%◌, ◌<◌, ◌≤◌, length, map};
 ghost use Rattle.bitpack_sets.specs.Sets.{IsRising, slice};
 ghost use Rattle.bitpack_sets.specs.Slices.{slice_len};
 
