@@ -7,10 +7,8 @@ ghost use Rattle.bitpack_sets.specs.Written.{IsRun};
 /// Ids are in one chunk if they are the same without their 16 lowest bits.
 pub(crate) const CHUNK_BITS: u32 = 16;
 
-/// The longest step, in ids.
-const LONGEST_STEP: usize = 64;
-
-/// How many ids at the front are the same as the first one without their `bits` lowest bits. It goes on in steps, and then by halves.
+/// How many ids at the front are the same as the first one without their `bits` lowest bits. It goes on in steps that double, and then
+/// by halves.
 pub(crate) fn run_len(bits: u32, ids: &[u32]) -> usize
     requires rising { IsRising 0 (2 ^ 32) ids.now }
     requires some { 0 < length ids.now }
@@ -22,7 +20,7 @@ pub(crate) fn run_len(bits: u32, ids: &[u32]) -> usize
     let mut high = ids.len();
     while high - low > 1 {
         let half = (high - low) / 2;
-        let middle = low + half.min(LONGEST_STEP);
+        let middle = low + half.min(low + 2);
         if ids[middle] >> bits == shared {
             low = middle;
         } else {
