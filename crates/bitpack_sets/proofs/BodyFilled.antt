@@ -1,5 +1,5 @@
 -- The parts of a body together.
-use Rattle.std.proofs.Common.{◌≡◌, ℕ, zero, suc, ◌+◌, ◌-◌, ◌*◌, ◌/◌, ◌%◌, ◌^◌, ◌<◌, ◌≤◌, List, [], ◌∷◌, ◌++◌, map, length, get_or, set, take, drop, refl, sym, ap, ◌∙◌, arith, subst, append_assoc, length-append, inl, inr}
+use Rattle.std.proofs.Common.{◌≡◌, ℕ, ◌+◌, ◌-◌, ◌*◌, ◌/◌, ◌%◌, ◌<◌, ◌≤◌, List, [], ◌∷◌, ◌++◌, map, length, set, refl, sym, ap, ◌∙◌, arith, append_assoc, inl, inr}
 use Rattle.std.specs.List.{flat_map}
 use Rattle.std.proofs.lemmas.Bool.{cases_lt}
 use Rattle.std.proofs.lemmas.List.{length-map}
@@ -7,7 +7,6 @@ use Rattle.bitpack_sets.proofs.BodyLaws.{body_blocks, body_numbers, numbers_len}
 use Rattle.bitpack_sets.proofs.PartLaws.{AreParts}
 use Rattle.bitpack_sets.proofs.RunLaws.{blocks_len, slices_are}
 use Rattle.bitpack_sets.proofs.SliceLaws.{rising_room}
-use Rattle.bitpack_sets.proofs.TestLaws.{slice_size}
 use Rattle.bitpack_sets.specs.Sets.{IsRising, blocks, blocks_of, body, le_bytes, numbers, parts, slice}
 use Rattle.bitpack_sets.specs.Slices.{slice_len}
 use Rattle.bitpack_sets.specs.Written.{IsChunk, counts, highs, lows, slices}
@@ -18,6 +17,17 @@ highs_rise low high (part ∷ ps) (a, some, r, later) = (a, highs_rise (part.0 +
 
 pub high_bytes : (ids : List ℕ) → IsChunk ids → IsRising 0 256 (highs (parts 256 (lows ids)))
 high_bytes ids chunk = highs_rise 0 256 (parts 256 (lows ids)) (slices_are ids chunk)
+
+bytes_stay : (low : ℕ) (xs : List ℕ) → IsRising low 256 xs → map (λ x. x % 256) xs ≡ xs
+bytes_stay low [] r = refl
+bytes_stay low (x ∷ xs) (a, r) =
+    let room = rising_room (x + 1) 256 xs r in
+    let same : x % 256 ≡ x = omega arith in
+    ap (λ n. n ∷ map (λ y. y % 256) xs) same ∙ ap (λ (l : List ℕ). x ∷ l) (bytes_stay (x + 1) xs r)
+
+-- the high bytes are their lowest bytes
+pub high_lows : (ids firsts : List ℕ) → IsChunk ids → firsts ≡ highs (parts 256 (lows ids)) → map (λ x. x % 256) firsts ≡ highs (parts 256 (lows ids))
+high_lows ids firsts chunk e = ap (map (λ x. x % 256)) e ∙ bytes_stay 0 (highs (parts 256 (lows ids))) (high_bytes ids chunk)
 
 pub parts_few : (ids : List ℕ) → IsChunk ids → length (parts 256 (lows ids)) ≤ 256
 parts_few ids chunk =

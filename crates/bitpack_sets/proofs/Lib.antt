@@ -14,9 +14,11 @@ mod ChunkReads
 mod ChunkTexts
 mod CombineLaws
 mod CountLaws
+mod CountedRuns
 mod CutLaws
 mod DecodeLaws
 mod EncodeLaws
+mod EndsFilled
 mod EntriesFilled
 mod EntryLaws
 mod FallLaws

@@ -1,55 +1,15 @@
--- Slices and chunks that are measured one after the other.
+-- Chunks that are measured one after the other.
 use Rattle.std.proofs.Common.{◌≡◌, ℕ, ◌+◌, ◌-◌, ◌*◌, ◌^◌, ◌<◌, ◌≤◌, List, [], ◌∷◌, length, take, drop, refl, sym, ap, ◌∙◌, arith, subst, length-drop}
 use Rattle.std.specs.List.{concat}
 use Rattle.bitpack_sets.proofs.BodyLaws.{body_blocks, body_numbers, numbers_len}
-use Rattle.bitpack_sets.proofs.RunLaws.{blocks_len, body_sizes, chunk_counts, chunk_rest, rest_is, rising_rest, slice_counts, slice_len_few, slice_sizes}
+use Rattle.bitpack_sets.proofs.RunLaws.{blocks_len, body_sizes, chunk_counts, rest_is, rising_rest}
 use Rattle.bitpack_sets.specs.Sets.{IsRising, blocks, body, numbers, parts}
 use Rattle.bitpack_sets.specs.Slices.{slice_len}
-use Rattle.bitpack_sets.specs.Written.{IsChunk, IsRun, bodies, lows, slices}
-
--- the slices of what is left of a chunk are still to be measured
-pub record SlicesLeft (ids left : List ℕ) (count size : ℕ) : Type 0 where
-  pub chunk : IsChunk left
-  pub counted : count + length (parts 256 (lows left)) ≡ length (parts 256 (lows ids))
-  pub sized : size + length (slices (parts 256 (lows left))) ≡ length (slices (parts 256 (lows ids)))
-  pub few : count + length left ≤ length ids
-  pub small : size + length left ≤ length ids
-
-pub slices_more : (ids left : List ℕ) (count size run added : ℕ) → SlicesLeft ids left count size → IsRun 256 left run → added ≡ slice_len run
-    → SlicesLeft ids (take (length left - run) (drop run left)) (count + 1) (size + added)
-slices_more ids left count size run added before is long =
-    let e = slice_counts run left before.chunk is in
-    let f = slice_sizes run left before.chunk is in
-    let g = slice_len_few run in
-    let h = length-drop run left in
-    let some = is.some in
-    let within = is.within in
-    let counted = before.counted in
-    let sized = before.sized in
-    let few = before.few in
-    let small = before.small in
-    subst (λ (rest : List ℕ). SlicesLeft ids rest (count + 1) (size + added)) (sym (rest_is run left))
-    record {
-      chunk = chunk_rest run left before.chunk;
-      counted = omega arith;
-      sized = omega arith;
-      few = omega arith;
-      small = omega arith;
-    }
+use Rattle.bitpack_sets.specs.Written.{IsRun, bodies, lows, slices}
 
 no_parts : (base : ℕ) → parts base [] ≡ []
 unfolding parts
 no_parts base = refl
-
-pub slices_end : (ids left : List ℕ) (count size : ℕ) → SlicesLeft ids left count size → length left ≡ 0
-    → (count ≡ length (parts 256 (lows ids))) × (size ≡ length (slices (parts 256 (lows ids))))
-slices_end ids [] count size before none =
-    let e = ap length (no_parts 256) in
-    let f = ap (λ (ps : List (ℕ × List ℕ)). length (slices ps)) (no_parts 256) in
-    let counted = before.counted in
-    let sized = before.sized in
-    (omega arith, omega arith)
-slices_end ids (x ∷ left) count size before none = absurd (omega arith)
 
 -- the chunks of what is left are still to be measured
 pub record ChunksLeft (ids left : List ℕ) (chunks bytes : ℕ) : Type 0 where

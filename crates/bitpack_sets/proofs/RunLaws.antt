@@ -98,7 +98,7 @@ get_take (suc n) i [] h = absurd (omega arith)
 get_take (suc n) zero (x ∷ xs) h = refl
 get_take (suc n) (suc i) (x ∷ xs) h = get_take n i xs (omega arith)
 
-get_drop : (n i : ℕ) (xs : List ℕ) → get_or (drop n xs) i 0 ≡ get_or xs (n + i) 0
+pub get_drop : (n i : ℕ) (xs : List ℕ) → get_or (drop n xs) i 0 ≡ get_or xs (n + i) 0
 get_drop zero i xs = let e : zero + i ≡ i = omega arith in sym (ap (λ k. get_or xs k 0) e)
 get_drop (suc n) i [] = refl
 get_drop (suc n) i (x ∷ xs) = let e : suc n + i ≡ suc (n + i) = omega arith in get_drop n i xs ∙ sym (ap (λ k. get_or (x ∷ xs) k 0) e)
@@ -246,31 +246,11 @@ chunk_few ids chunk =
     let size = length-map ids (λ id. id % 65536) in
     omega arith
 
-pub slice_counts : (count : ℕ) (ids : List ℕ) → IsChunk ids → IsRun 256 ids count → length (parts 256 (lows ids)) ≡ 1 + length (parts 256 (lows (drop count ids)))
-slice_counts count ids chunk run = let e = ap length (slice_part count ids chunk run) in omega arith
-
 run_bytes : (count : ℕ) (ids : List ℕ) → count ≤ length ids → length (map (λ id. id % 256) (take count ids)) ≡ count
 run_bytes count ids h = length-map (take count ids) (λ id. id % 256) ∙ length-take-le count ids h
 
 pub slice_bytes : (count : ℕ) (ids : List ℕ) → IsRun 256 ids count → length (slice (map (λ id. id % 256) (take count ids))) ≡ slice_len count
 slice_bytes count ids run = slice_size (map (λ id. id % 256) (take count ids)) ∙ ap slice_len (run_bytes count ids run.within)
-
-pub slice_sizes : (count : ℕ) (ids : List ℕ) → IsChunk ids → IsRun 256 ids count
-    → length (slices (parts 256 (lows ids))) ≡ slice_len count + length (slices (parts 256 (lows (drop count ids))))
-slice_sizes count ids chunk run =
-    let own : List ℕ = slice (map (λ id. id % 256) (take count ids)) in
-    let rest : List ℕ = slices (parts 256 (lows (drop count ids))) in
-    ap (λ (ps : List (ℕ × List ℕ)). length (slices ps)) (slice_part count ids chunk run) ∙ length-append own rest
-    ∙ ap (λ n. n + length rest) (slice_bytes count ids run)
-
-pub slice_len_few : (count : ℕ) → slice_len count ≤ count
-slice_len_few count = elim (cases_lt count 32) [
-  | inl few ↦ (let e = cond_below count 32 count (cond (ltb count 256) 32 0) few in omega arith)
-  | inr more ↦ elim (cases_lt count 256) [
-    | inl some ↦ (let e = cond_above count 32 count (cond (ltb count 256) 32 0) 32 more (cond_below count 256 32 0 some) in omega arith)
-    | inr many ↦ (let e = cond_above count 32 count (cond (ltb count 256) 32 0) 0 more (cond_above count 256 32 0 0 many refl) in omega arith)
-  ]
-]
 
 pub chunk_counts : (count : ℕ) (ids : List ℕ) → IsRun 65536 ids count → length (parts 65536 ids) ≡ 1 + length (parts 65536 (drop count ids))
 chunk_counts count ids run = let e = ap length (run_part 65536 count ids run) in omega arith

@@ -1,5 +1,5 @@
 -- What a writer of sets refuses, what it measures, and what it leaves.
-use Rattle.std.specs.Prelude.{◌≡◌, ◌≢◌, ℕ, ◌+◌, ◌-◌, ◌*◌, ◌/◌, ◌%◌, ◌^◌, ◌<◌, ◌≤◌, ◌++◌, nat_lt, if◌then◌else◌, List, drop, length, map, slice_index, Option, Some, None, Result, Err, IfErr, IfOk, IsOk, MatchOption, OnErr, OnOk, vec_len, vec_capacity}
+use Rattle.std.specs.Prelude.{◌≡◌, ◌≢◌, ℕ, ◌+◌, ◌-◌, ◌*◌, ◌/◌, ◌%◌, ◌^◌, ◌<◌, ◌≤◌, ◌++◌, min, nat_lt, if◌then◌else◌, List, [], ◌∷◌, drop, length, map, slice_index, Option, Some, None, Result, Err, IfErr, IfOk, IsOk, MatchOption, OnErr, OnOk, vec_len, vec_capacity}
 use Rattle.std.specs.List.{concat, flat_map}
 use Rattle.std.specs.Option.{option_map}
 use Rattle.std.specs.declared.vec.Vec.{Vec}
@@ -38,6 +38,15 @@ counts ps = map (λ part. length part.1 - 1) ps
 
 abbrev pub slices : List (ℕ × List ℕ) → List ℕ
 slices ps = flat_map (λ part. slice part.1) ps
+
+-- where the slices of a chunk end among its ids
+abbrev pub slice_ends : List ℕ → List ℕ
+slice_ends ids = sums 0 (map (λ part. length part.1) (parts 256 (lows ids)))
+
+-- how many numbers the parts have, if each counts at most as many as this
+unfoldable pub capped : ℕ → List (ℕ × List ℕ) → ℕ
+capped most [] = 0
+capped most (part ∷ ps) = min most (length part.1) + capped most ps
 
 -- the bodies of a set in chunks
 abbrev pub bodies : List ℕ → List (List ℕ)

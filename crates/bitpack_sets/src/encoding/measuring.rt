@@ -3,9 +3,9 @@
 ghost use Rattle.std.specs.Prelude.{◌≡◌, ℕ, List, ◌+◌, ◌*◌, ◌^◌, ◌<◌, ◌≤◌, length, map};
 ghost use Rattle.std.specs.List.{concat, flat_map};
 ghost use Rattle.bitpack_sets.specs.Sets.{IsSet, body, parts, slice};
-ghost use Rattle.bitpack_sets.specs.Written.{IsChunk, bodies, lows, slices};
+ghost use Rattle.bitpack_sets.specs.Written.{IsChunk, bodies, capped, lows, slices};
 
-use crate::encoding::runs::{CHUNK_BITS, SLICE_BITS, run_len};
+use crate::encoding::runs::{CHUNK_BITS, run_len};
 use crate::slice::byte_len;
 
 /// How many chunks a set has, and how many bytes their bodies.
@@ -29,7 +29,7 @@ pub(crate) fn measure_chunks(ids: &[u32]) -> (usize, usize)
     (chunks, bodies)
 }
 
-/// How many slices a chunk has, and how many bytes they.
+/// How many slices a chunk has, and how many bytes they. A slice has a byte for each id, at most 32, and none for 256 ids.
 pub(crate) fn measure_slices(ids: &[u32]) -> (usize, usize)
     requires { IsChunk ids.now }
     ensures count { result.0 ≡ length (parts 256 (lows ids.now)) }
@@ -37,16 +37,30 @@ pub(crate) fn measure_slices(ids: &[u32]) -> (usize, usize)
     ensures few { result.0 ≤ length ids.now }
     ensures small { result.1 ≤ length ids.now }
 {
-    let mut left = ids;
-    let mut count = 0;
-    let mut size = 0;
-    while !left.is_empty() {
-        let run = run_len(SLICE_BITS, left);
-        size += byte_len(run);
-        count += 1;
-        left = &left[run..];
+    let count = count_within(1, ids);
+    let short = count_within(32, ids);
+    let full = ids.len() - count_within(255, ids);
+    (count, short - 32 * full)
+}
+
+/// How many ids a chunk has, if each slice counts at most `most`. They are the ids with no id of their slice `most` ids later.
+///
+/// No branch depends on an id, so that the compiler compares several at once.
+#[inline(always)]
+fn count_within(most: usize, ids: &[u32]) -> usize
+    requires chunk { IsChunk ids.now }
+    requires some { 0 < most }
+    ensures { result ≡ capped most (parts 256 (lows ids.now)) }
+{
+    if ids.len() <= most {
+        return ids.len();
     }
-    (count, size)
+    let later = &ids[most..];
+    let mut count: u32 = 0;
+    for index in 0..later.len() {
+        count += (later[index] / 256 != ids[index] / 256) as u32;
+    }
+    most + count as usize
 }
 
 /// How many bytes the body of a chunk of `len` ids has, whose slices are `count`, of `size` bytes.

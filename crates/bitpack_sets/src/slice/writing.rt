@@ -1,32 +1,43 @@
 //! Writes slices.
 
-ghost use Rattle.std.specs.Prelude.{◌≡◌, ◌+◌, ◌*◌, ◌/◌, ◌^◌, ◌<◌, ◌≤◌, ◌++◌, drop, length, map, slice_index, take};
+ghost use Rattle.std.specs.Prelude.{◌≡◌, ◌%◌, ◌<◌, ◌≤◌, length, map};
 ghost use Rattle.bitpack_sets.specs.Sets.{IsRising, slice};
 ghost use Rattle.bitpack_sets.specs.Slices.{slice_len};
 
-/// Writes the slice of some increasing numbers.
-pub(crate) fn write_slice(numbers: &[u8], out: &mut [u8])
-    requires rising { IsRising 0 256 numbers.now }
-    requires size { length out.old ≡ slice_len (length numbers.now) }
-    ensures { out.new ≡ slice numbers.now }
+/// Writes the slice of the lowest bytes of ids, which increase.
+pub(crate) fn write_slice(ids: &[u32], out: &mut [u8])
+    requires rising { IsRising 0 256 (map (λ id. id % 256) ids.now) }
+    requires size { length out.old ≡ slice_len (length ids.now) }
+    ensures { out.new ≡ slice (map (λ id. id % 256) ids.now) }
 {
-    if numbers.len() < 32 {
-        out.copy_from_slice(numbers);
-    } else if numbers.len() < 256 {
-        set_bits(numbers, out);
+    if ids.len() < 32 {
+        copy_lows(ids, out);
+    } else if ids.len() < 256 {
+        set_bits(ids, out);
     }
 }
 
-/// Sets the bits of some increasing numbers.
-fn set_bits(numbers: &[u8], out: &mut [u8])
-    requires rising { IsRising 0 256 numbers.now }
-    requires count { (32 ≤ length numbers.now) × (length numbers.now < 256) }
+/// Copies the lowest byte of each id.
+#[inline(always)]
+pub(crate) fn copy_lows(ids: &[u32], out: &mut [u8])
+    requires { length out.old ≡ length ids.now }
+    ensures { out.new ≡ map (λ id. id % 256) ids.now }
+{
+    for index in 0..ids.len() {
+        out[index] = (ids[index] % 256) as u8;
+    }
+}
+
+/// Sets the bits of the lowest bytes of ids, which increase.
+fn set_bits(ids: &[u32], out: &mut [u8])
+    requires rising { IsRising 0 256 (map (λ id. id % 256) ids.now) }
+    requires count { (32 ≤ length ids.now) × (length ids.now < 256) }
     requires size { length out.old ≡ 32 }
-    ensures { out.new ≡ slice numbers.now }
+    ensures { out.new ≡ slice (map (λ id. id % 256) ids.now) }
 {
     out.fill(0);
-    for index in 0..numbers.len() {
-        let number = numbers[index];
+    for index in 0..ids.len() {
+        let number = (ids[index] % 256) as u8;
         out[(number / 8) as usize] += 1 << (number % 8);
     }
 }

@@ -1,9 +1,7 @@
 -- The length says which form the body has.
-use Rattle.std.proofs.Common.{◌≡◌, ◌*◌, ◌<◌, ◌≤◌, ap, length, sym, arith, ◌∙◌}
+use Rattle.std.proofs.Common.{ap, length, sym, arith, ◌∙◌}
 use Rattle.bitpack_sets.proofs.BodyFilled.{is_blocks, is_numbers, numbers_size, pairs_are}
 use Rattle.bitpack_sets.proofs.encoding.bodies.write_body.Goals as goal
-use Rattle.bitpack_sets.specs.Sets.{body}
-use Rattle.bitpack_sets.specs.Written.{lows}
 
 pub write_blocks-requires-clause-size : goal.write_blocks-requires-clause-size
 write_blocks-requires-clause-size c =

@@ -1,22 +1,48 @@
--- One slice more is measured.
-use Rattle.std.proofs.Common.{◌≡◌, length, arith, rules}
-use Rattle.bitpack_sets.proofs.MeasureLaws.{slices_end, slices_more}
+-- The slices are measured by what is counted.
+use Rattle.std.proofs.Common.{arith}
+use Rattle.bitpack_sets.proofs.CountedRuns.{are_measured}
 use Rattle.bitpack_sets.proofs.encoding.measuring.measure_slices.Goals as goal
 
-pub loop-left-init : goal.loop-left-init
-loop-left-init c = record { chunk = c.requires; counted = omega arith; sized = omega arith; few = omega arith; small = omega arith }
+pub overflow_sub-full : goal.overflow_sub-full
+overflow_sub-full c =
+    (are_measured c.args.ids.now c.count_within-count.result c.count_within-short.result c.count_within.result c.requires c.count_within-count.ensures c.count_within-short.ensures
+    c.count_within.ensures).within
 
-pub loop-left-preserved : goal.loop-left-preserved
-loop-left-preserved c =
-    slices_more c.args.ids.now c.loop-left.left.now c.loop-left.count c.loop-left.size c.run_len-run.result c.byte_len-size.result c.loop-left.invariant c.run_len-run.ensures
-    c.byte_len-size.ensures
+pub overflow_mul-result : goal.overflow_mul-result
+overflow_mul-result c =
+    let are = are_measured c.args.ids.now c.count_within-count.result c.count_within-short.result c.count_within.result c.requires c.count_within-count.ensures c.count_within-short.ensures
+    c.count_within.ensures in
+    let a = are.sized in
+    let b = are.small in
+    omega arith
+
+pub overflow_sub-result : goal.overflow_sub-result
+overflow_sub-result c =
+    let are = are_measured c.args.ids.now c.count_within-count.result c.count_within-short.result c.count_within.result c.requires c.count_within-count.ensures c.count_within-short.ensures
+    c.count_within.ensures in
+    let a = are.sized in
+    omega arith
 
 pub returns-clause-count : goal.returns-clause-count
 returns-clause-count c =
-    let none : length c.loop-left.left.now ≡ 0 = search rules in
-    (slices_end c.args.ids.now c.loop-left.left.now c.loop-left.count c.loop-left.size c.loop-left.invariant none).0
+    (are_measured c.args.ids.now c.count_within-count.result c.count_within-short.result c.count_within.result c.requires c.count_within-count.ensures c.count_within-short.ensures
+    c.count_within.ensures).counted
 
 pub returns-clause-size : goal.returns-clause-size
 returns-clause-size c =
-    let none : length c.loop-left.left.now ≡ 0 = search rules in
-    (slices_end c.args.ids.now c.loop-left.left.now c.loop-left.count c.loop-left.size c.loop-left.invariant none).1
+    let are = are_measured c.args.ids.now c.count_within-count.result c.count_within-short.result c.count_within.result c.requires c.count_within-count.ensures c.count_within-short.ensures
+    c.count_within.ensures in
+    let a = are.sized in
+    omega arith
+
+pub returns-clause-few : goal.returns-clause-few
+returns-clause-few c =
+    (are_measured c.args.ids.now c.count_within-count.result c.count_within-short.result c.count_within.result c.requires c.count_within-count.ensures c.count_within-short.ensures
+    c.count_within.ensures).few
+
+pub returns-clause-small : goal.returns-clause-small
+returns-clause-small c =
+    let are = are_measured c.args.ids.now c.count_within-count.result c.count_within-short.result c.count_within.result c.requires c.count_within-count.ensures c.count_within-short.ensures
+    c.count_within.ensures in
+    let a = are.small in
+    omega arith

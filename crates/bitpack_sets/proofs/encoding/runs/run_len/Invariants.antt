@@ -1,6 +1,10 @@
--- The ids so far have the quotient of the first one.
-use Rattle.std.proofs.Common.{ℕ, ◌≡◌, ◌/◌, ◌^◌, ◌<◌, get_or}
+-- The run ends between two places.
+use Rattle.std.proofs.Common.{◌-◌, ◌^◌}
+use Rattle.bitpack_sets.proofs.CountedRuns.{RunEnds}
 use Rattle.bitpack_sets.proofs.encoding.runs.run_len.Given as goal
 
-abbrev pub invariant-loop-index : goal.invariant-loop-index
-invariant-loop-index l = (k : ℕ) → k < l.index → get_or l.ids k 0 / 2 ^ l.bits ≡ get_or l.ids 0 0 / 2 ^ l.bits
+abbrev pub invariant-loop-high : goal.invariant-loop-high
+invariant-loop-high l = RunEnds (2 ^ l.bits) l.ids l.low l.high
+
+abbrev pub decreases-loop-high : goal.decreases-loop-high
+decreases-loop-high l = l.high - l.low

@@ -1,7 +1,7 @@
 -- The bits of the numbers so far are set.
-use Rattle.std.proofs.Common.{◌≡◌, length, take}
-use Rattle.bitpack_sets.proofs.slice.writing.set_bits.Given as goal
+use Rattle.std.proofs.Common.{◌≡◌, ◌%◌, length, map, take}
 use Rattle.bitpack_sets.proofs.Words.{EachByte}
+use Rattle.bitpack_sets.proofs.slice.writing.set_bits.Given as goal
 use Rattle.bitpack_sets.specs.Sets.{bits}
 use Rattle.bitpack_sets.specs.Slices.{number_of}
 
@@ -9,5 +9,5 @@ abbrev pub invariant-loop-index : goal.invariant-loop-index
 invariant-loop-index l = record {
   size : length l.out ≡ 32;
   bytes : EachByte l.out;
-  set : number_of l.out ≡ bits (take l.index l.numbers);
+  set : number_of l.out ≡ bits (take l.index (map (λ id. id % 256) l.ids));
 }
