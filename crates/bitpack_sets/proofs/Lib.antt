@@ -38,6 +38,7 @@ mod OnesLaws
 mod PartLaws
 mod PartsFilled
 mod PlaceLaws
+mod PlacedLaws
 mod RaisedLaws
 mod RangeLaws
 mod ReadLaws

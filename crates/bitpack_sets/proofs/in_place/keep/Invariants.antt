@@ -1,0 +1,7 @@
+use Rattle.bitpack_sets.specs.Opened.{ids}
+use Rattle.bitpack_sets.specs.Reads.{has}
+use Rattle.bitpack_sets.proofs.PlacedLaws.{IsKept, keeps}
+use Rattle.bitpack_sets.proofs.in_place.keep.Given as goal
+
+abbrev pub invariant-loop-index : goal.invariant-loop-index
+invariant-loop-index l = IsKept (keeps l.there (ids l.set)) l.initial.values l.values l.kept l.index
