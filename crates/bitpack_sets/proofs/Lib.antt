@@ -48,9 +48,11 @@ mod RunLaws
 mod SelectLaws
 mod ShortLaws
 mod SliceLaws
+mod StepLaws
 mod TestLaws
 mod TextLaws
 mod ToldLaws
+mod UnitedLaws
 mod UnpackLaws
 mod WalkLaws
 mod Words

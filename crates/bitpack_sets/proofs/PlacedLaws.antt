@@ -1,9 +1,9 @@
 -- What is kept of the ids of an array, and its union with a set, in its place.
-use Rattle.std.proofs.Common.{◌≡◌, ℕ, ◌+◌, ◌<◌, ◌≤◌, Bool, true, false, not, cond, List, [], ◌∷◌, ◌++◌, length, take, drop, set, get_or, refl, sym, ap, ◌∙◌, arith, append-nil}
+use Rattle.std.proofs.Common.{◌≡◌, ℕ, ◌+◌, ◌<◌, ◌≤◌, Bool, true, false, not, cond, List, [], ◌∷◌, ◌++◌, length, take, drop, set, get_or, refl, sym, ap, ◌∙◌, arith, append-nil, append_assoc, below_more}
 use Rattle.std.specs.List.{filter}
 use mathlib.Core.Bool.{beq}
 use mir.Val.{bool_byte}
-use Rattle.std.proofs.lemmas.List.{drop-drop, drop-set-lt, get_or-drop, length-set, take_more, take_more_set, take-set}
+use Rattle.std.proofs.lemmas.List.{drop-drop, drop-set-lt, get_or-drop, length-drop, length-set, take_more, take_more_set, take-set}
 use Rattle.std.proofs.lemmas.List.Elements.{filter-append}
 use Rattle.bitpack_sets.specs.Reads.{has}
 
@@ -67,3 +67,49 @@ pub keep_more : (there b : Bool) (xs old new : List ℕ) (kept index : ℕ) → 
     → IsKept (keeps there xs) old (set new kept (get_or new index 0)) (kept + bool_byte (beq b there)) (index + 1)
 keep_more there b xs old new kept index so h e =
     keep_one (keeps there xs) (beq b there) old new kept index (get_or new index 0) so h refl (told there b ∙ ap (λ (c : Bool). cond there c (not c)) e)
+
+-- ---- the ids below another are moved
+
+-- some ids from an index on are moved to those written; they are below an id
+pub record IsMoved (id written from : ℕ) (old new : List ℕ) (moved : ℕ) : Type 0 where
+  pub front : take (written + moved) new ≡ take written old ++ take moved (drop from old)
+  pub rest : drop (from + moved) new ≡ drop (from + moved) old
+  pub below : (k : ℕ) → k < moved → get_or old (from + k) 0 < id
+  pub within : from + moved ≤ length old
+  pub long : length new ≡ length old
+
+-- none is moved
+pub none_moved : (id written from : ℕ) (old : List ℕ) → from ≤ length old → IsMoved id written from old old 0
+none_moved id written from old h = record {
+  front = (let e : written + 0 ≡ written = omega arith in ap (λ (k : ℕ). take k old) e ∙ sym (append-nil (take written old)));
+  rest = refl;
+  below = λ k lt. absurd (omega arith);
+  within = omega arith;
+  long = refl;
+}
+
+-- one more is moved
+pub one_moved : (id written from : ℕ) (old new : List ℕ) (moved : ℕ) → IsMoved id written from old new moved → written ≤ from → from + moved < length new
+    → get_or new (from + moved) 0 < id → IsMoved id written from old (set new (written + moved) (get_or new (from + moved) 0)) (moved + 1)
+one_moved id written from old new moved so behind h less =
+    let long = so.long in
+    let same = same_at old new (from + moved) so.rest in
+    let next : (from + moved) + 1 ≡ from + (moved + 1) = omega arith in
+    let place : (written + moved) + 1 ≡ written + (moved + 1) = omega arith in
+    record {
+      front =
+          ap (λ (k : ℕ). take k (set new (written + moved) (get_or new (from + moved) 0))) (sym place)
+          ∙ take_more_set new (written + moved) (get_or new (from + moved) 0) (omega arith)
+          ∙ ap (λ (xs : List ℕ). xs ++ (get_or new (from + moved) 0 ∷ [])) so.front
+          ∙ append_assoc (take written old) (take moved (drop from old)) (get_or new (from + moved) 0 ∷ [])
+          ∙ ap (λ (xs : List ℕ). take written old ++ xs)
+          (ap (λ (x : ℕ). take moved (drop from old) ++ (x ∷ [])) (same ∙ sym (get_or-drop from old moved 0))
+          ∙ sym (take_more (drop from old) moved 0 (let cut = length-drop from old in omega arith)));
+      rest =
+          ap (λ (k : ℕ). drop k (set new (written + moved) (get_or new (from + moved) 0))) (sym next)
+          ∙ drop-set-lt ((from + moved) + 1) new (written + moved) (get_or new (from + moved) 0) (omega arith)
+          ∙ next_same old new (from + moved) so.rest ∙ ap (λ (k : ℕ). drop k old) next;
+      below = below_more (λ (k : ℕ). get_or old (from + k) 0 < id) moved so.below (omega (arith, same));
+      within = omega arith;
+      long = length-set new (written + moved) (get_or new (from + moved) 0) ∙ long;
+    }

@@ -28,7 +28,7 @@ pub use combining::{combine, combine_count, combine_to, is_disjoint, is_subset};
 pub use encoding::{encode, encode_to, encoded_len};
 pub use id_set::IdSet;
 pub use ids::Ids;
-pub use in_place::{remove, retain};
+pub use in_place::{add, remove, retain};
 pub use opening::Parts;
 pub use operation::Operation;
 pub use set_error::SetError;

@@ -1,5 +1,4 @@
 use Rattle.bitpack_sets.specs.Opened.{ids}
-use Rattle.bitpack_sets.specs.Reads.{has}
 use Rattle.bitpack_sets.proofs.PlacedLaws.{IsKept, keeps}
 use Rattle.bitpack_sets.proofs.in_place.keep.Given as goal
 
