@@ -9,7 +9,8 @@ ghost use Rattle.bitpack_sets.specs.Sets.{IsRising};
 ghost use Rattle.bitpack_sets.specs.Slices.{first_fall};
 
 use crate::encoding::order::first_unsorted;
-use crate::id_set::IdSet;
+use crate::finding::{find_first, find_next};
+use crate::id_set::{IdSet, ROOM};
 use crate::reserved::append_zeros;
 use crate::set_error::SetError;
 
@@ -66,9 +67,13 @@ fn count_more(values: &[u32], set: &IdSet) -> Result<usize, SetError>
 fn count_shared(values: &[u32], set: &IdSet) -> usize
     ensures { result ≡ length (filter (λ x. has x (ids set.now)) values.now) }
 {
+    let mut room = [0; ROOM];
+    let chunks = set.chunks(&mut room);
+    let mut found = find_first(&chunks);
     let mut count = 0;
     for id in values {
-        count += set.contains(*id) as usize;
+        found = find_next(&chunks, found, *id >> 16);
+        count += chunks.has_between(found.place, found.end, *id) as usize;
     }
     count
 }
@@ -135,11 +140,15 @@ fn keep(values: &mut [u32], set: &IdSet, there: bool) -> usize
     ensures within { result ≤ length values.new }
     ensures kept { take result values.new ≡ filter (λ x. if there then has x (ids set.now) else not (has x (ids set.now))) values.old }
 {
+    let mut room = [0; ROOM];
+    let chunks = set.chunks(&mut room);
+    let mut found = find_first(&chunks);
     let mut kept = 0;
     for index in 0..values.len() {
         let id = values[index];
+        found = find_next(&chunks, found, id >> 16);
         values[kept] = id;
-        kept += (set.contains(id) == there) as usize;
+        kept += (chunks.has_between(found.place, found.end, id) == there) as usize;
     }
     kept
 }

@@ -10,6 +10,7 @@ mod decoding;
 mod directory;
 mod encoding;
 mod few;
+mod finding;
 mod id_set;
 mod ids;
 mod in_place;
