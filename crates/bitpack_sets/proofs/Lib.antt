@@ -45,6 +45,7 @@ mod PartLaws
 mod PartsFilled
 mod PastLaws
 mod PlaceLaws
+mod PlacedLaws
 mod RaisedLaws
 mod RangeLaws
 mod ReadLaws
@@ -55,9 +56,11 @@ mod SelectLaws
 mod SelectionLaws
 mod ShortLaws
 mod SliceLaws
+mod StepLaws
 mod TestLaws
 mod TextLaws
 mod ToldLaws
+mod UnitedLaws
 mod UnpackLaws
 mod WalkLaws
 mod Words

@@ -28,7 +28,7 @@ bits_raised k (x ∷ xs) =
     let all : 2 ^ k * 2 ^ x + bits xs * 2 ^ k ≡ (2 ^ x + bits xs) * 2 ^ k = ring (2 ^ k) (2 ^ x) (bits xs) in
     omega arith
 
-rising_append : (low mid high : ℕ) (xs ys : List ℕ) → IsRising low mid xs → IsRising mid high ys → IsRising low high (xs ++ ys)
+pub rising_append : (low mid high : ℕ) (xs ys : List ℕ) → IsRising low mid xs → IsRising mid high ys → IsRising low high (xs ++ ys)
 rising_append low mid high [] [] h k = omega arith
 rising_append low mid high [] (y ∷ ys) h (a, r) = (omega arith, r)
 rising_append low mid high (x ∷ xs) ys (a, r) k = (a, rising_append (x + 1) mid high xs ys r k)

@@ -55,7 +55,7 @@ too_long ids h = sym (cond_below (2 ^ 28) (length ids) (Some (TooLong (length id
 pub short_enough : (ids : List ℕ) → length ids ≤ 2 ^ 28 → refusal ids ≡ option_map NotSorted (first_fall 0 ids)
 short_enough ids h = sym (cond_above (2 ^ 28) (length ids) (Some (TooLong (length ids))) (option_map NotSorted (first_fall 0 ids)) (option_map NotSorted (first_fall 0 ids)) h refl)
 
-each_below : (ids : List ℕ) → ((k : ℕ) → get_or ids k 0 < 2 ^ 32) → Below (2 ^ 32) ids
+pub each_below : (ids : List ℕ) → ((k : ℕ) → get_or ids k 0 < 2 ^ 32) → Below (2 ^ 32) ids
 each_below [] h = tt
 each_below (x ∷ ids) h = (h 0, each_below ids (λ k. h (suc k)))
 

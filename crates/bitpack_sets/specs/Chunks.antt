@@ -1,7 +1,8 @@
 -- The chunks of a set of any form. A position is the index of a chunk, or the index of an id in an array.
-use Rattle.std.specs.Prelude.{ℕ, ◌-◌, ◌/◌, ◌%◌, ◌==◌, if◌then◌else◌, List, [], ◌∷◌, map, length, take, drop}
+use Rattle.std.specs.Prelude.{◌≡◌, ◌≢◌, ℕ, ◌+◌, ◌-◌, ◌*◌, ◌≤◌, false, ◌/◌, ◌%◌, ◌==◌, if◌then◌else◌, List, [], ◌∷◌, map, length, take, drop}
 use Rattle.std.specs.List.{range_with_len}
 use Rattle.bitpack_sets.specs.Directory.{chunk_at, ids_of_chunks}
+use Rattle.bitpack_sets.specs.Reads.{has}
 use Rattle.bitpack_sets.specs.Slices.{pairs_of, quads_of}
 use Rattle.bitpack_sets.specs.declared.chunks.Chunks.{Chunks}
 
@@ -29,3 +30,12 @@ first_key (x ∷ xs) = x / 65536
 -- the position after the last
 abbrev pub places : Chunks → ℕ
 places set = if set.count == 0 then length set.rest.now / 4 else set.count
+
+-- the ids of a key are between two positions, and those of lower keys are before these
+pub record AreBetween (set : Chunks) (key place end : ℕ) : Type 0 where
+  pub later : place ≤ end
+  pub within : end ≤ places set
+  pub one : set.count ≢ 0 → end ≤ place + 1
+  pub passed : (x : ℕ) → key * 65536 ≤ x → has x (ids_from set 0) ≡ has x (ids_from set place)
+  pub own : (x : ℕ) → x / 65536 ≡ key → has x (ids_from set place) ≡ has (x % 65536) (lows_between set place end)
+  pub none : (x : ℕ) → x / 65536 ≡ key → has x (ids_from set end) ≡ false

@@ -8,10 +8,10 @@ ghost use Rattle.bitpack_sets.specs.Sets.{IsRising};
 ghost use Rattle.bitpack_sets.specs.Slices.{quads_of};
 ghost use Rattle.bitpack_sets.specs.Sound.{IsRest};
 
-use crate::array::id_at;
+use crate::array::{id_at, in_array};
 use crate::bitmap::loading::{block_highs, clear, integer_highs, load_blocks, load_integers};
 use crate::directory::{count_before, key_at, sum_at};
-use crate::searching::body_of;
+use crate::searching::{body_of, in_chunk};
 
 /// The key after all keys.
 pub(crate) const NO_KEY: u32 = 65536;
@@ -34,7 +34,7 @@ pub(crate) struct Chunks<'a> {
 impl<'a> Chunks<'a> {
     ghost use Rattle.std.specs.Prelude.{ℕ, ◌+◌, ◌*◌, ◌/◌, ◌%◌, ◌<◌, ◌==◌, IfSome, false, length};
     ghost use Rattle.bitpack_sets.specs.Bitmaps.{Holds, has_bit, has_high};
-    ghost use Rattle.bitpack_sets.specs.Chunks.{first_key, ids_from, lows_between, places};
+    ghost use Rattle.bitpack_sets.specs.Chunks.{AreBetween, first_key, ids_from, lows_between, places};
     ghost use Rattle.bitpack_sets.specs.Directory.{chunk_ids, count_at};
     ghost use Rattle.bitpack_sets.specs.Reads.{has};
     ghost use Rattle.bitpack_sets.specs.Slices.{IsBlocks, block_numbers};
@@ -131,6 +131,20 @@ impl<'a> Chunks<'a> {
         } else {
             place + 1
         }
+    }
+
+    /// Whether the set has an id, if the ids of its key are between two positions.
+    pub(crate) fn has_between(&self, place: usize, end: usize, id: u32) -> bool
+        requires { AreBetween self.now (id / 65536) place end }
+        ensures { result ≡ has id (ids_from self.now 0) }
+    {
+        if place == end {
+            return false;
+        }
+        if self.count == 0 {
+            return in_array(&self.rest[4 * place..4 * end], id);
+        }
+        in_chunk(self.ids, self.count, self.rest, place, (id % 65536) as u16)
     }
 
     /// The high bytes of the low 16 bits of the ids between two positions, which share a key.

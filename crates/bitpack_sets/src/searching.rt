@@ -114,7 +114,7 @@ fn rank_in_chunk(count: usize, chunks: usize, rest: &[u8], chunk: usize, number:
 }
 
 /// Whether a chunk has this number.
-fn in_chunk(count: usize, chunks: usize, rest: &[u8], chunk: usize, number: u16) -> bool
+pub(crate) fn in_chunk(count: usize, chunks: usize, rest: &[u8], chunk: usize, number: u16) -> bool
     requires few { chunks ≤ 65536 }
     requires rest { IsRest count chunks rest.now }
     requires within { chunk < chunks }

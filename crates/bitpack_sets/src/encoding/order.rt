@@ -26,7 +26,7 @@ pub(crate) fn test_ids(ids: &[u32]) -> Result<(), SetError>
 }
 
 /// The first position whose id is not above the one before it. Most ids increase, so that no position is looked for.
-fn first_unsorted(ids: &[u32]) -> Option<usize>
+pub(crate) fn first_unsorted(ids: &[u32]) -> Option<usize>
     ensures { result ≡ first_fall 0 ids.now }
 {
     if !falls(ids) {

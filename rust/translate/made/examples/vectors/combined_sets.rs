@@ -2,7 +2,7 @@
 
 use std::collections::BTreeSet;
 
-use bitpacking_source::sets::{IdSet, Operation, SetError, combine_count, combine_to, encode};
+use bitpacking_source::sets::{IdSet, Operation, SetError, add, combine_count, combine_to, encode, remove, retain};
 
 use crate::report::Report;
 use crate::rows::Row;
@@ -12,8 +12,8 @@ pub fn combined(row: &Row, report: &mut Report) {
     let less = |ids: &[u32]| ids.iter().copied().filter(|it| both.binary_search(it).is_err()).collect::<BTreeSet<u32>>();
     let (alone, other) = (less(&ids), less(&others));
     let (one, shared) = (&alone | &other, both.iter().copied().collect());
-    for (a, b, first_alone) in [(&ids, &others, &alone), (&others, &ids, &other)] {
-        let (a, b) = (encoded(a), encoded(b));
+    for (own, others, first_alone) in [(&ids, &others, &alone), (&others, &ids, &other)] {
+        let (a, b) = (encoded(own), encoded(others));
         let (a, b) = (IdSet::open(&a).expect("a set"), IdSet::open(&b).expect("a set"));
         for (name, operation, answer) in [
             ("and", Operation::And, &shared),
@@ -23,6 +23,8 @@ pub fn combined(row: &Row, report: &mut Report) {
         ] {
             written(name, operation, (&a, &b), &answer.iter().copied().collect::<Vec<u32>>(), row, report);
         }
+        let answers = [shared.clone(), first_alone.clone(), &one | &shared].map(|it| it.into_iter().collect::<Vec<u32>>());
+        in_place(own, &b, &answers, row, report);
     }
 }
 
@@ -41,5 +43,25 @@ fn written(name: &str, operation: Operation, (a, b): (&IdSet<'_>, &IdSet<'_>), a
     if let Some(less) = answer.len().checked_sub(1) {
         let refused = combine_to(operation, a, b, &mut found[..less]);
         report.check(&row.name, &format!("{name} without room"), refused, Err(SetError::Short));
+    }
+}
+
+/// The ids of a vector with a set: in their order, and in the opposite order too.
+fn in_place(ids: &[u32], set: &IdSet<'_>, [shared, alone, all]: &[Vec<u32>; 3], row: &Row, report: &mut Report) {
+    let reversed = |ids: &[u32]| ids.iter().rev().copied().collect::<Vec<u32>>();
+    for (name, call, answer) in [("retained", retain as fn(&mut Vec<u32>, &IdSet<'_>), shared), ("removed", remove, alone)] {
+        let (mut own, mut back) = (ids.to_vec(), reversed(ids));
+        call(&mut own, set);
+        call(&mut back, set);
+        report.check(&row.name, name, own == *answer, true);
+        report.check(&row.name, &format!("{name} of ids that fall"), back == reversed(answer), true);
+    }
+    let mut own = ids.to_vec();
+    report.check(&row.name, "added", add(&mut own, set), Ok(()));
+    report.check(&row.name, "added, ids", own == *all, true);
+    if ids.len() > 1 {
+        let mut back = reversed(ids);
+        report.check(&row.name, "added to ids that fall", add(&mut back, set), Err(SetError::NotSorted(1)));
+        report.check(&row.name, "added to ids that fall, ids", back == reversed(ids), true);
     }
 }

@@ -1,0 +1,70 @@
+-- The ids between two positions are those of a chunk, or some of an array.
+use Rattle.std.proofs.Common.{◌≡◌, ◌∙◌, ◌+◌, ◌-◌, ◌%◌, ◌^◌, ◌||◌, Bool, ℕ, List, [], take, drop, ap, arith, refl, subst, sym, true, false}
+use Rattle.std.proofs.lemmas.List.{drop-drop, take-append-drop}
+use Rattle.bitpack_sets.proofs.PlaceLaws.{between_chunk, between_none, from_array, places_array, places_chunks, quads_cut}
+use Rattle.bitpack_sets.proofs.ReadLaws.{has_append}
+use Rattle.bitpack_sets.proofs.RunLaws.{rising_front, rising_rest}
+use Rattle.bitpack_sets.proofs.chunks.Chunks.has_between.Goals as goal
+use Rattle.bitpack_sets.specs.Chunks.{lows_between}
+use Rattle.bitpack_sets.specs.Reads.{has}
+use Rattle.bitpack_sets.specs.Sets.{IsRising}
+use Rattle.bitpack_sets.specs.Slices.{quads_of}
+
+pub returns-then-place-end : goal.returns-then-place-end
+returns-then-place-end c =
+    let set = c.args.self.now in
+    let x = c.args.id in
+    let are = c.requires in
+    let none : lows_between set c.args.place c.args.end ≡ [] = ap (lows_between set c.args.place) (sym c.if-place-end.true) ∙ between_none set c.args.place in
+    sym (are.passed x (omega arith) ∙ are.own x refl ∙ ap (has (x % 65536)) none)
+
+pub in_array-requires : goal.in_array-requires
+in_array-requires c =
+    let set = c.args.self.now in
+    let none = c.if-self-eq0.true in
+    let all = places_array set none in
+    let are = c.requires in
+    let within = are.within in
+    let cut = quads_cut c.args.place c.args.end set.rest.now are.later (omega arith) in
+    subst (IsRising 0 (2 ^ 32)) (sym cut)
+    (rising_front 0 (2 ^ 32) (c.args.end - c.args.place) (drop c.args.place (quads_of set.rest.now)) (rising_rest 0 (2 ^ 32) c.args.place (quads_of set.rest.now) (set.rising none)))
+
+or_false : (t : Bool) → (t || false) ≡ t
+or_false true = refl
+or_false false = refl
+
+pub returns-then-self-eq0 : goal.returns-then-self-eq0
+returns-then-self-eq0 c =
+    let set = c.args.self.now in
+    let x = c.args.id in
+    let none = c.if-self-eq0.true in
+    let all = places_array set none in
+    let are = c.requires in
+    let within = are.within in
+    let later = are.later in
+    let xs : List ℕ = quads_of set.rest.now in
+    let some : List ℕ = take (c.args.end - c.args.place) (drop c.args.place xs) in
+    let rest : List ℕ = drop (c.args.end - c.args.place) (drop c.args.place xs) in
+    let cut = quads_cut c.args.place c.args.end set.rest.now are.later (omega arith) in
+    let end : c.args.place + (c.args.end - c.args.place) ≡ c.args.end = omega arith in
+    let past : has x rest ≡ false =
+    ap (has x) (drop-drop (c.args.end - c.args.place) c.args.place xs ∙ ap (λ (k : ℕ). drop k xs) end ∙ sym (from_array set c.args.end none)) ∙ are.none x refl in
+    let parts : has x (drop c.args.place xs) ≡ has x some =
+    ap (has x) (sym (take-append-drop (c.args.end - c.args.place) (drop c.args.place xs))) ∙ has_append x some rest ∙ ap (λ (b : Bool). has x some || b) past ∙ or_false (has x some) in
+    c.in_array.ensures ∙ ap (has x) cut ∙ sym parts ∙ sym (ap (has x) (from_array set c.args.place none)) ∙ sym (are.passed x (omega arith))
+
+pub in_chunk-requires-clause-within : goal.in_chunk-requires-clause-within
+in_chunk-requires-clause-within c =
+    let set = c.args.self.now in
+    let all = places_chunks set c.if-self-eq0.false in
+    let ne = c.if-place-end.false in
+    let within = c.requires.within in
+    let later = c.requires.later in
+    omega arith
+
+pub returns : goal.returns
+returns c =
+    let set = c.args.self.now in
+    let x = c.args.id in
+    let are = c.requires in
+    c.in_chunk.ensures ∙ sym (ap (has (x % 65536)) (between_chunk set c.args.place c.args.end c.if-self-eq0.false c.if-place-end.false)) ∙ sym (are.own x refl) ∙ sym (are.passed x (omega arith))

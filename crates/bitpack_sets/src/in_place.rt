@@ -1,0 +1,154 @@
+//! Ids of a vector that a set has or lacks, and the union of both, in the vector.
+
+ghost use Rattle.std.specs.Prelude.{◌≡◌, ℕ, ◌+◌, ◌^◌, ◌<◌, ◌≤◌, ◌≢◌, ◌||◌, ◌++◌, true, false, Err, None, if◌then◌else◌, IfErr, IfOk, IsOk, MatchOption, OnErr, OnOk, drop, length, not, slice_index, take, vec_capacity};
+ghost use Rattle.std.specs.List.{filter};
+ghost use Rattle.bitpack_sets.specs.Opened.{ids};
+ghost use Rattle.bitpack_sets.specs.Operations.{those};
+ghost use Rattle.bitpack_sets.specs.Reads.{has};
+ghost use Rattle.bitpack_sets.specs.Sets.{IsRising};
+ghost use Rattle.bitpack_sets.specs.Slices.{first_fall};
+
+use crate::encoding::order::first_unsorted;
+use crate::finding::{find_first, find_next};
+use crate::id_set::{IdSet, ROOM};
+use crate::reserved::append_zeros;
+use crate::set_error::SetError;
+
+/// Keeps the ids that a set has, in their order. They need not increase. Allocates nothing.
+pub fn retain(values: &mut Vec<u32>, set: &IdSet)
+    ensures { values.new.items ≡ filter (λ x. has x (ids set.now)) values.old.items }
+{
+    let kept = keep(values.slice_mut(..), set, true);
+    values.truncate(kept);
+}
+
+/// Keeps the ids that a set lacks, in their order. They need not increase. Allocates nothing.
+pub fn remove(values: &mut Vec<u32>, set: &IdSet)
+    ensures { values.new.items ≡ filter (λ x. not (has x (ids set.now))) values.old.items }
+{
+    let kept = keep(values.slice_mut(..), set, false);
+    values.truncate(kept);
+}
+
+/// Adds the ids of a set to ids that increase, so that these are all ids of both, in increasing order and each once.
+///
+/// Fails with `NotSorted` for the first id that is not above the one before it, then with `Memory` only if the vector has no room for the
+/// union and cannot grow. If it fails, the vector is unchanged.
+pub fn add(values: &mut Vec<u32>, set: &IdSet) -> Result<(), SetError>
+    ensures fault { MatchOption (first_fall 0 values.old.items) (IfErr result (λ e. e ≡ SetError.Memory)) (λ position. result ≡ Err (SetError.NotSorted position)) }
+    ensures ok { OnOk result (values.new.items ≡ those (2 ^ 32) (λ x. has x values.old.items || has x (ids set.now))) }
+    ensures room { first_fall 0 values.old.items ≡ None → OnErr result (vec_capacity values.old < length (those (2 ^ 32) (λ x. has x values.old.items || has x (ids set.now)))) }
+    ensures unchanged { OnErr result (values.new.items ≡ values.old.items) }
+    ensures capacity { OnErr result (vec_capacity values.new ≡ vec_capacity values.old) }
+{
+    let more = count_more(values, set)?;
+    let count = values.len();
+    if values.reserve(more).is_err() {
+        return Err(SetError::Memory);
+    }
+    append_zeros(values, more);
+    unite_first(values.slice_mut(..), count, set);
+    Ok(())
+}
+
+/// How many ids a set adds to ids that increase.
+fn count_more(values: &[u32], set: &IdSet) -> Result<usize, SetError>
+    ensures fault { MatchOption (first_fall 0 values.now) (IsOk result) (λ position. result ≡ Err (SetError.NotSorted position)) }
+    ensures increasing { OnOk result (IsRising 0 (2 ^ 32) values.now) }
+    ensures more { IfOk result (λ more. length values.now + more ≡ length (those (2 ^ 32) (λ x. has x values.now || has x (ids set.now)))) }
+{
+    match first_unsorted(values) {
+        Some(position) => Err(SetError::NotSorted(position)),
+        None => Ok(set.len() - count_shared(values, set)),
+    }
+}
+
+/// How many ids a set has.
+fn count_shared(values: &[u32], set: &IdSet) -> usize
+    ensures { result ≡ length (filter (λ x. has x (ids set.now)) values.now) }
+{
+    let mut room = [0; ROOM];
+    let chunks = set.chunks(&mut room);
+    let mut found = find_first(&chunks);
+    let mut count = 0;
+    for id in values {
+        found = find_next(&chunks, found, *id >> 16);
+        count += chunks.has_between(found.place, found.end, *id) as usize;
+    }
+    count
+}
+
+/// Unites the first `count` ids with a set. There is room for the union alone.
+fn unite_first(values: &mut [u32], count: usize, set: &IdSet)
+    requires increasing { IsRising 0 (2 ^ 32) (take count values.old) }
+    requires room { length values.old ≡ length (those (2 ^ 32) (λ x. has x (take count values.old) || has x (ids set.now))) }
+    requires within { count ≤ length values.old }
+    ensures { values.new ≡ those (2 ^ 32) (λ x. has x (take count values.old) || has x (ids set.now)) }
+{
+    let start = values.len() - count;
+    values.copy_within(0..count, start);
+    unite(values, start, set);
+}
+
+/// Unites the ids from an index on with a set. As many ids of the set as are before it are not among them.
+fn unite(values: &mut [u32], start: usize, set: &IdSet)
+    requires increasing { IsRising 0 (2 ^ 32) (drop start values.old) }
+    requires room { length (ids set.now) ≡ start + length (filter (λ x. has x (ids set.now)) (drop start values.old)) }
+    requires within { start ≤ length values.old }
+    ensures { values.new ≡ those (2 ^ 32) (λ x. has x (drop start values.old) || has x (ids set.now)) }
+{
+    let mut written = 0;
+    let mut from = start;
+    let mut left = set.iter();
+    while let Some(id) = left.next() {
+        let moved = move_below(values, written, from, id);
+        written += moved;
+        from += moved;
+        from += is_at(values, from, id) as usize;
+        values[written] = id;
+        written += 1;
+    }
+}
+
+/// Moves the ids from an index on that are below another to those written. Returns how many these are.
+fn move_below(values: &mut [u32], written: usize, from: usize, id: u32) -> usize
+    requires { (written ≤ from) × (from ≤ length values.old) }
+    ensures within { from + result ≤ length values.new }
+    ensures moved { take (written + result) values.new ≡ take written values.old ++ take result (drop from values.old) }
+    ensures rest { drop (from + result) values.new ≡ drop (from + result) values.old }
+    ensures below { (k : ℕ) → k < result → slice_index values.old (from + k) < id }
+    ensures reached { from + result < length values.old → id ≤ slice_index values.old (from + result) }
+{
+    let mut moved = 0;
+    while from + moved < values.len() && values[from + moved] < id {
+        values[written + moved] = values[from + moved];
+        moved += 1;
+    }
+    moved
+}
+
+/// Whether an id is at an index.
+fn is_at(values: &[u32], index: usize, id: u32) -> bool
+    ensures there { result ≡ true → (index < length values.now) × (slice_index values.now index ≡ id) }
+    ensures lacking { result ≡ false → index < length values.now → slice_index values.now index ≢ id }
+{
+    index < values.len() && values[index] == id
+}
+
+/// Moves the ids that a set has, or those that it lacks, to the front, in their order. Returns how many these are.
+fn keep(values: &mut [u32], set: &IdSet, there: bool) -> usize
+    ensures within { result ≤ length values.new }
+    ensures kept { take result values.new ≡ filter (λ x. if there then has x (ids set.now) else not (has x (ids set.now))) values.old }
+{
+    let mut room = [0; ROOM];
+    let chunks = set.chunks(&mut room);
+    let mut found = find_first(&chunks);
+    let mut kept = 0;
+    for index in 0..values.len() {
+        let id = values[index];
+        found = find_next(&chunks, found, id >> 16);
+        values[kept] = id;
+        kept += (chunks.has_between(found.place, found.end, id) == there) as usize;
+    }
+    kept
+}
