@@ -68,16 +68,16 @@ rows_right rows count tested = record {
 
 -- ---- a row of eight, added to a number and written
 
-module _ (values row ones : List ℕ) (next base : ℕ) (long : length row ≡ 8) (room : next + 8 ≤ length values) (fits : base + 8 ≤ 2 ^ 32)
+module _ (values row lanes ones : List ℕ) (next base : ℕ) (same : lanes ≡ replicate 8 base) (long : length row ≡ 8) (room : next + 8 ≤ length values) (fits : base + 8 ≤ 2 ^ 32)
     (few : length ones ≤ 8) (small : (k : ℕ) → k < 8 → get_or row k 0 < 8) (places : take (length ones) row ≡ ones) where
   abbrev pub sums : List ℕ
-  sums = zip2 (λ a b. (a + b) % 2 ^ 32) (map (λ x. x) row) (replicate 8 base)
+  sums = zip2 (λ a b. (a + b) % 2 ^ 32) (map (λ x. x) row) lanes
 
   abbrev f : ℕ → ℕ
   f x = (x + base) % 2 ^ 32
 
   sums_are : sums ≡ map f row
-  sums_are = zip2_splat (λ a b. (a + b) % 2 ^ 32) (map (λ x. x) row) 8 base (length-map row (λ x. x) ∙ long) ∙ map-map f (λ x. x) row
+  sums_are = ap (zip2 (λ a b. (a + b) % 2 ^ 32) (map (λ x. x) row)) same ∙ zip2_splat (λ a b. (a + b) % 2 ^ 32) (map (λ x. x) row) 8 base (length-map row (λ x. x) ∙ long) ∙ map-map f (λ x. x) row
 
   eight : length sums ≡ 8
   eight = ap length sums_are ∙ length-map row f ∙ long
@@ -148,3 +148,14 @@ bytes_counted i word =
     let byte : List ℕ = ones_from (bit_and (word / 2 ^ (8 * i)) 255) 0 8 in
     ap (λ (n : ℕ). length (ones_from word 0 n)) e ∙ ap length (byte_more word (8 * i))
     ∙ length-append (ones_from word 0 (8 * i)) (map (λ j. 8 * i + j) byte) ∙ ap (λ (n : ℕ). length (ones_from word 0 (8 * i)) + n) (length-map byte (λ j. 8 * i + j))
+
+-- ---- lanes that go on by 8
+
+pub lanes_more : (base i : ℕ) (lanes : List ℕ) → lanes ≡ replicate 8 ((base + 8 * i) % 2 ^ 32)
+    → zip2 (λ a b. (a + b) % 2 ^ 32) lanes (replicate 8 8) ≡ replicate 8 ((base + 8 * (i + 1)) % 2 ^ 32)
+lanes_more base i lanes same =
+    let e : ((base + 8 * i) % 2 ^ 32 + 8) % 2 ^ 32 ≡ (base + 8 * (i + 1)) % 2 ^ 32 = omega arith in
+    ap (λ (l : List ℕ). zip2 (λ a b. (a + b) % 2 ^ 32) l (replicate 8 8)) same ∙ ap (replicate 8) e
+
+pub lanes_first : (base i : ℕ) (lanes : List ℕ) → lanes ≡ replicate 8 ((base + 8 * i) % 2 ^ 32) → base + 64 ≤ 2 ^ 32 → i < 8 → get_or lanes 0 0 ≡ base + 8 * i
+lanes_first base i lanes same fits lt = let e : (base + 8 * i) % 2 ^ 32 ≡ base + 8 * i = omega (arith, fits, lt) in ap (λ (l : List ℕ). get_or l 0 0) same ∙ e

@@ -135,7 +135,7 @@ pub record IsBlocks (count : ℕ) (body : List ℕ) : Type 0 where
 
 -- ---- a table
 
--- the row of each byte has eight places of bits, and begins with the places of the bits that are 1
+-- the row of each byte has eight numbers of bits, and begins with the numbers of the bits that are 1
 pub record AreRows (rows : List (List ℕ)) : Type 0 where
   pub count : length rows ≡ 256
   pub small : (byte k : ℕ) (none : List ℕ) → byte < 256 → k < 8 → slice_index (slice_index_or rows byte none) k < 8

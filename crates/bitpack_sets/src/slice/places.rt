@@ -1,11 +1,11 @@
 //! Numbers by the bytes of their bits, with a table.
 
-ghost use Rattle.std.specs.Prelude.{◌≡◌, ℕ, ◌+◌, ◌^◌, ◌<◌, ◌≤◌, ◌++◌, length, map, slice_index, take};
+ghost use Rattle.std.specs.Prelude.{◌≡◌, ℕ, ◌+◌, ◌^◌, ◌<◌, ◌≤◌, ◌++◌, length, map, replicate, slice_index, take};
 ghost use Rattle.bitpack_sets.specs.Slices.{AreRows, ones_from};
 
 use std::simd::prelude::*;
 
-/// The places of the bits of a byte that are 1, the lowest first, and then 7.
+/// The numbers of the bits of a byte that are 1, the lowest first, and then 7.
 #[inline(always)]
 pub(crate) fn places_in(byte: u8) -> [u8; 8]
     ensures small { (k : ℕ) → k < 8 → slice_index result k < 8 }
@@ -14,19 +14,19 @@ pub(crate) fn places_in(byte: u8) -> [u8; 8]
     rows()[byte as usize]
 }
 
-/// Writes the places of the bits of a byte that are 1, each with `base` added. Returns where they end.
+/// Writes the numbers of the bits of a byte that are 1, in order. Each lane of `base` is the number of bit 0. Returns where they end.
 ///
 /// Eight are written, so up to eight after the end change too.
 #[inline(always)]
-fn unpack_byte(byte: u8, base: u32, out: &mut [u32], at: usize) -> usize
-    requires fits { base + 8 ≤ 2 ^ 32 }
+fn unpack_byte(byte: u8, base: u32x8, out: &mut [u32], at: usize) -> usize
+    requires base { base ≡ replicate 8 (slice_index base 0) }
+    requires fits { slice_index base 0 + 8 ≤ 2 ^ 32 }
     requires room { at + 8 ≤ length out.old }
     ensures end { result ≡ at + length (ones_from byte 0 8) }
-    ensures values { take result out.new ≡ take at out.old ++ map (λ i. base + i) (ones_from byte 0 8) }
+    ensures values { take result out.new ≡ take at out.old ++ map (λ i. slice_index base 0 + i) (ones_from byte 0 8) }
 {
     let places: u32x8 = u8x8::from_array(places_in(byte)).cast();
-    let numbers = places + u32x8::splat(base);
-    numbers.copy_to_slice(&mut out[at..]);
+    (places + base).copy_to_slice(&mut out[at..]);
     at + byte.count_ones() as usize
 }
 
@@ -41,20 +41,23 @@ pub(crate) fn unpack_bytes_of(word: u64, base: u32, out: &mut [u32], at: usize) 
     ensures values { take result out.new ≡ take at out.old ++ map (λ i. base + i) (ones_from word 0 64) }
 {
     let mut next = at;
-    for i in 0..8 {
+    let mut lanes = u32x8::splat(base);
+    for i in 0..8u32 {
         let byte = (word >> (8 * i) & 255) as u8;
-        next = unpack_byte(byte, base + 8 * i, out, next);
+        next = unpack_byte(byte, lanes, out, next);
+        lanes = lanes + u32x8::splat(8);
     }
     next
 }
 
+#[inline(always)]
 fn rows() -> &'static [[u8; 8]; 256]
     ensures { AreRows result.now }
 {
     &ROWS
 }
 
-/// For each byte the places of its bits that are 1, the lowest first, and 7 after them.
+/// For each byte the numbers of its bits that are 1, the lowest first, and 7 after them.
 static ROWS: [[u8; 8]; 256] = [
     [7, 7, 7, 7, 7, 7, 7, 7],
     [0, 7, 7, 7, 7, 7, 7, 7],
