@@ -263,3 +263,15 @@ has_above x low high (y ∷ xs) (a, r) h =
 
 pub next_apart : (low high i : ℕ) (xs : List ℕ) → IsRising low high xs → i < length xs → has (get_or xs i 0) (take i xs) ≡ false
 next_apart low high i xs r h = has_above (get_or xs i 0) low (get_or xs i 0) (take i xs) (rising_take low high xs i r h) (omega arith)
+
+-- how many bits are before each of four words, if they are counted word by word
+pub counted_before : (words : List ℕ) (one two three : ℕ) → ((k : ℕ) → get_or words k 0 < 2 ^ 64)
+    → one ≡ count_ones (get_or words 0 0) → two ≡ one + count_ones (get_or words 1 0) → three ≡ two + count_ones (get_or words 2 0)
+    → (k : ℕ) → k < 4 → get_or (0 ∷ one ∷ two ∷ three ∷ []) k 0 ≡ length (those (64 * k) (has_bit words))
+unfolding those
+counted_before words one two three small a b c zero h = refl
+counted_before words one two three small a b c (suc zero) h = let p = word_counted words 0 (small 0) in omega arith
+counted_before words one two three small a b c (suc (suc zero)) h = let p = word_counted words 0 (small 0) in let q = word_counted words 1 (small 1) in omega arith
+counted_before words one two three small a b c (suc (suc (suc zero))) h =
+    let p = word_counted words 0 (small 0) in let q = word_counted words 1 (small 1) in let r = word_counted words 2 (small 2) in omega arith
+counted_before words one two three small a b c (suc (suc (suc (suc k)))) h = absurd (omega arith)

@@ -51,6 +51,7 @@ mod RangeLaws
 mod ReadLaws
 mod RefusalLaws
 mod RoomLaws
+mod RowLaws
 mod RunLaws
 mod SelectLaws
 mod SelectionLaws

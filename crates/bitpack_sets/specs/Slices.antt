@@ -1,5 +1,5 @@
 -- What a reader finds in slices and bodies.
-use Rattle.std.specs.Prelude.{◌≡◌, ℕ, ◌+◌, ◌*◌, ◌<◌, ◌≤◌, ◌&&◌, ◌==◌, true, Bool, is_none, nat_lt, nat_le, if◌then◌else◌, take, drop, List, [], ◌∷◌, ◌++◌, map, length, slice_index, Option, Some, None}
+use Rattle.std.specs.Prelude.{◌≡◌, ℕ, ◌+◌, ◌*◌, ◌<◌, ◌≤◌, ◌&&◌, ◌==◌, true, Bool, is_none, nat_lt, nat_le, if◌then◌else◌, take, drop, List, [], ◌∷◌, ◌++◌, map, length, slice_index, slice_index_or, Option, Some, None}
 use Rattle.std.specs.Int.{bit_at}
 use Rattle.std.specs.Int.RustNames.{count_ones}
 use Rattle.std.specs.List.{filter, range_with_len}
@@ -132,3 +132,11 @@ pub record IsBlocks (count : ℕ) (body : List ℕ) : Type 0 where
   pub highs : IsSlice (high_count body) (highs_in body)
   pub count_is : numbers_in (counts_in body) ≡ count
   pub slices : AreSlices (counts_in body) (slices_in body)
+
+-- ---- a table
+
+-- the row of each byte has eight numbers of bits, and begins with the numbers of the bits that are 1
+pub record AreRows (rows : List (List ℕ)) : Type 0 where
+  pub count : length rows ≡ 256
+  pub small : (byte k : ℕ) (none : List ℕ) → byte < 256 → k < 8 → slice_index (slice_index_or rows byte none) k < 8
+  pub places : (byte : ℕ) (none : List ℕ) → byte < 256 → take (length (ones_from byte 0 8)) (slice_index_or rows byte none) ≡ ones_from byte 0 8

@@ -2,14 +2,14 @@
 
 pub(crate) mod combining;
 
-ghost use Rattle.std.specs.Prelude.{◌≡◌, ℕ, ◌<◌, ◌≤◌, length, slice_index, take};
+ghost use Rattle.std.specs.Prelude.{◌≡◌, ℕ, ◌*◌, ◌<◌, ◌≤◌, length, slice_index, take};
 ghost use Rattle.std.proofs.Props.{props};
 ghost use Rattle.bitpack_sets.specs.Bitmaps.{has_bit};
 ghost use Rattle.bitpack_sets.specs.Operations.{those};
 ghost use Rattle.bitpack_sets.specs.Props.{slices_prop};
 ghost use Rattle.bitpack_sets.specs.Slices.{AreSlices, slices_len};
 
-use crate::bitmap::marking::{rank_of_bit, slice_bits, test_bit};
+use crate::bitmap::marking::{counts_before, rank_of_bit, slice_bits, test_bit};
 use crate::slice::{Slice, byte_len};
 
 /// The parts of a body of blocks.
@@ -17,10 +17,13 @@ use crate::slice::{Slice, byte_len};
 pub(crate) struct Blocks<'a> {
     // Which high bytes occur.
     pub(crate) highs: [u64; 4],
+    // How many occur that are below 0, 64, 128 and 192.
+    before: [usize; 4],
     // For each of these how many numbers have it, less 1, and where its slice begins.
     counts: &'a [u8],
     starts: &'a [u16; 257],
     slices: &'a [u8],
+    ghost ranks: { (word : ℕ) → word < 4 → slice_index before word ≡ length (those (64 * word) (has_bit highs)) },
     ghost few: { length counts.now ≤ 256 },
     ghost size: { length (those 256 (has_bit highs)) ≡ length counts.now },
     ghost are: { AreSlices counts.now slices.now } by { Prim.hlevel (props, slices_prop) },
@@ -42,8 +45,10 @@ impl<'a> Blocks<'a> {
         let size = byte_len(many);
         let counts = &body[1 + size..1 + size + many];
         fill_starts(counts, starts);
+        let highs = slice_bits(many, &body[1..1 + size]);
         Blocks {
-            highs: slice_bits(many, &body[1..1 + size]),
+            highs,
+            before: counts_before(&highs),
             counts,
             starts,
             slices: &body[1 + size + many..],
@@ -63,7 +68,7 @@ impl<'a> Blocks<'a> {
                 count: 0,
             };
         }
-        let index = rank_of_bit(&self.highs, high);
+        let index = rank_of_bit(&self.highs, &self.before, high);
         Slice {
             slices: self.slices,
             start: self.starts[index] as usize,

@@ -34,6 +34,7 @@ impl Operation {
     }
 
     /// Whether the answer has ids that are in the first set alone.
+    #[inline(always)]
     pub(crate) fn keeps_left(self) -> bool
         ensures { result ≡ holds self true false }
     {
@@ -44,6 +45,7 @@ impl Operation {
     }
 
     /// Whether the answer has ids that are in the second set alone.
+    #[inline(always)]
     pub(crate) fn keeps_right(self) -> bool
         ensures { result ≡ holds self false true }
     {
@@ -55,6 +57,7 @@ impl Operation {
     }
 
     /// The high bytes that the answer can have, by the high bytes of two chunks.
+    #[inline(always)]
     pub(crate) fn highs(self, a: &[u64; 4], b: &[u64; 4]) -> [u64; 4]
         // What it leaves out, the answer has not.
         ensures both { (h : ℕ) → h < 256 → has_bit result h ≡ false → holds self (has_bit a.now h) (has_bit b.now h) ≡ false }

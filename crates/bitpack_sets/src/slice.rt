@@ -1,6 +1,7 @@
 //! Slices: some of the numbers 0 to 255, as bytes.
 
 pub(crate) mod marks;
+pub(crate) mod places;
 pub(crate) mod reading;
 pub(crate) mod search;
 pub(crate) mod selecting;

@@ -1,6 +1,6 @@
 //! Tests and sets bits.
 
-ghost use Rattle.std.specs.Prelude.{◌≡◌, ℕ, ◌*◌, ◌<◌, ◌≤◌, ◌||◌, ◌==◌, length};
+ghost use Rattle.std.specs.Prelude.{◌≡◌, ℕ, ◌*◌, ◌<◌, ◌≤◌, ◌||◌, ◌==◌, length, slice_index};
 ghost use Rattle.bitpack_sets.specs.Bitmaps.{has_bit};
 ghost use Rattle.bitpack_sets.specs.Operations.{those};
 ghost use Rattle.bitpack_sets.specs.Reads.{has};
@@ -26,19 +26,28 @@ pub(crate) fn set_bit(words: &mut [u64], i: usize)
     words[i / 64] |= 1 << (i % 64);
 }
 
-/// How many of 256 bits before this one are 1.
+/// How many of 256 bits before each word are 1.
 #[inline(always)]
-pub(crate) fn rank_of_bit(words: &[u64], i: usize) -> usize
+pub(crate) fn counts_before(words: &[u64]) -> [usize; 4]
+    requires { length words.now ≡ 4 }
+    ensures { (word : ℕ) → word < 4 → slice_index result word ≡ length (those (64 * word) (has_bit words.now)) }
+{
+    let one = words[0].count_ones() as usize;
+    let two = one + words[1].count_ones() as usize;
+    let three = two + words[2].count_ones() as usize;
+    [0, one, two, three]
+}
+
+/// How many of 256 bits before this one are 1, by how many are before each word.
+#[inline(always)]
+pub(crate) fn rank_of_bit(words: &[u64], before: &[usize; 4], i: usize) -> usize
     requires size { length words.now ≡ 4 }
     requires within { i < 256 }
+    requires before { (word : ℕ) → word < 4 → slice_index before.now word ≡ length (those (64 * word) (has_bit words.now)) }
     ensures { result ≡ length (those i (has_bit words.now)) }
 {
     let below = words[i / 64] & ((1 << (i % 64)) - 1);
-    let mut rank = below.count_ones() as usize;
-    for word in 0..i / 64 {
-        rank += words[word].count_ones() as usize;
-    }
-    rank
+    before[i / 64] + below.count_ones() as usize
 }
 
 /// The numbers of a slice of `count`, as bits.

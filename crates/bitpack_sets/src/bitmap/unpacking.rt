@@ -5,6 +5,7 @@ ghost use Rattle.bitpack_sets.specs.Bitmaps.{bitmap_numbers, has_bit};
 ghost use Rattle.bitpack_sets.specs.Operations.{those};
 ghost use Rattle.bitpack_sets.specs.Sets.{IsRising};
 
+use crate::slice::places::unpack_bytes_of;
 use crate::slice::reading::unpack_ones;
 
 /// Writes the numbers of bits that are 1, of 256, each with `base` added. Returns where they end.
@@ -16,9 +17,41 @@ pub(crate) fn unpack_bits(bits: &[u64], base: u32, out: &mut [u32], at: usize) -
     ensures end { result ≡ at + length (those 256 (has_bit bits.now)) }
     ensures values { take result out.new ≡ take at out.old ++ map (λ i. base + i) (those 256 (has_bit bits.now)) }
 {
+    if count_bits(bits) > 16 {
+        unpack_many(bits, base, out, at)
+    } else {
+        unpack_few(bits, base, out, at)
+    }
+}
+
+/// Writes them word by word, one number after the other.
+#[inline(always)]
+fn unpack_few(bits: &[u64], base: u32, out: &mut [u32], at: usize) -> usize
+    requires size { length bits.now ≡ 4 }
+    requires fits { base + 256 ≤ 2 ^ 32 }
+    requires room { at + 256 ≤ length out.old }
+    ensures end { result ≡ at + length (those 256 (has_bit bits.now)) }
+    ensures values { take result out.new ≡ take at out.old ++ map (λ i. base + i) (those 256 (has_bit bits.now)) }
+{
     let mut next = at;
     for i in 0..4 {
         next = unpack_ones(bits[i], base + 64 * i as u32, out, next);
+    }
+    next
+}
+
+/// Writes them byte by byte.
+#[inline(always)]
+fn unpack_many(bits: &[u64], base: u32, out: &mut [u32], at: usize) -> usize
+    requires size { length bits.now ≡ 4 }
+    requires fits { base + 256 ≤ 2 ^ 32 }
+    requires room { at + 256 ≤ length out.old }
+    ensures end { result ≡ at + length (those 256 (has_bit bits.now)) }
+    ensures values { take result out.new ≡ take at out.old ++ map (λ i. base + i) (those 256 (has_bit bits.now)) }
+{
+    let mut next = at;
+    for i in 0..4 {
+        next = unpack_bytes_of(bits[i], base + 64 * i as u32, out, next);
     }
     next
 }

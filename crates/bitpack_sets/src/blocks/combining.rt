@@ -25,6 +25,31 @@ pub(crate) fn unpack_combined(
     ensures room { IfSome result (λ end. end ≤ length out.old) }
     ensures none { result ≡ None → length out.old < at + length (combined 65536 operation (parts_numbers a.now) (parts_numbers b.now)) }
 {
+    match operation {
+        Operation::And => unpack_each(Operation::And, a, b, base, out, at),
+        Operation::Or => unpack_each(Operation::Or, a, b, base, out, at),
+        Operation::AndNot => unpack_each(Operation::AndNot, a, b, base, out, at),
+        Operation::Xor => unpack_each(Operation::Xor, a, b, base, out, at),
+    }
+}
+
+/// Writes them for an operation that the caller names, so that each operation has a loop of its own.
+#[inline(always)]
+fn unpack_each(
+    operation: Operation,
+    a: &Blocks,
+    b: &Blocks,
+    base: u32,
+    out: &mut [u32],
+    at: usize,
+) -> Option<usize>
+    requires fits { base + 65536 ≤ 2 ^ 32 }
+    requires start { at ≤ length out.old }
+    ensures end { IfSome result (λ end. end ≡ at + length (combined 65536 operation (parts_numbers a.now) (parts_numbers b.now))) }
+    ensures values { IfSome result (λ end. take end out.new ≡ take at out.old ++ map (λ i. base + i) (combined 65536 operation (parts_numbers a.now) (parts_numbers b.now))) }
+    ensures room { IfSome result (λ end. end ≤ length out.old) }
+    ensures none { result ≡ None → length out.old < at + length (combined 65536 operation (parts_numbers a.now) (parts_numbers b.now)) }
+{
     let mut highs = [0; 256];
     let many = unpack_bits(&operation.highs(&a.highs, &b.highs), 0, &mut highs, 0);
     let mut next = at;
@@ -37,6 +62,19 @@ pub(crate) fn unpack_combined(
 
 /// How many numbers an operation on two bodies gives.
 pub(crate) fn count_combined(operation: Operation, a: &Blocks, b: &Blocks) -> usize
+    ensures { result ≡ length (combined 65536 operation (parts_numbers a.now) (parts_numbers b.now)) }
+{
+    match operation {
+        Operation::And => count_each(Operation::And, a, b),
+        Operation::Or => count_each(Operation::Or, a, b),
+        Operation::AndNot => count_each(Operation::AndNot, a, b),
+        Operation::Xor => count_each(Operation::Xor, a, b),
+    }
+}
+
+/// Counts them for an operation that the caller names.
+#[inline(always)]
+fn count_each(operation: Operation, a: &Blocks, b: &Blocks) -> usize
     ensures { result ≡ length (combined 65536 operation (parts_numbers a.now) (parts_numbers b.now)) }
 {
     let mut highs = [0; 256];

@@ -1,6 +1,6 @@
 -- The numbers of the words so far are written.
 use Rattle.std.proofs.Common.{◌≡◌, ◌+◌, ◌*◌, ◌++◌, length, map, take}
-use Rattle.bitpack_sets.proofs.bitmap.unpacking.unpack_bits.Given as goal
+use Rattle.bitpack_sets.proofs.bitmap.unpacking.unpack_many.Given as goal
 use Rattle.bitpack_sets.specs.Bitmaps.{has_bit}
 use Rattle.bitpack_sets.specs.Operations.{those}
 

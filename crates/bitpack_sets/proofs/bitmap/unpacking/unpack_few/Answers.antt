@@ -2,7 +2,7 @@
 use Rattle.std.proofs.Common.{ℕ, ◌+◌, ◌*◌, ◌++◌, map, take, ap, sym, ◌∙◌, arith, List, append_assoc, append-nil, get_or}
 use Rattle.bitpack_sets.proofs.BitmapLaws.{ones_counted_more, those_few}
 use Rattle.bitpack_sets.proofs.UnpackLaws.{bits_more}
-use Rattle.bitpack_sets.proofs.bitmap.unpacking.unpack_bits.Goals as goal
+use Rattle.bitpack_sets.proofs.bitmap.unpacking.unpack_few.Goals as goal
 use Rattle.bitpack_sets.specs.Bitmaps.{has_bit}
 use Rattle.bitpack_sets.specs.Operations.{those}
 use Rattle.bitpack_sets.specs.Slices.{ones_from}

@@ -2,7 +2,7 @@
 use Rattle.std.proofs.Common.{◌≡◌, ◌+◌, ◌≤◌, ◌++◌, drop, length, map, take}
 use Rattle.bitpack_sets.proofs.SelectionLaws.{IsListed, passes}
 use Rattle.bitpack_sets.proofs.UnpackLaws.{by_high}
-use Rattle.bitpack_sets.proofs.blocks.combining.unpack_combined.Given as goal
+use Rattle.bitpack_sets.proofs.blocks.combining.unpack_each.Given as goal
 
 abbrev pub invariant-loop-high : goal.invariant-loop-high
 invariant-loop-high l = record {

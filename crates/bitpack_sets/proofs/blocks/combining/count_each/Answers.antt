@@ -3,7 +3,7 @@ use Rattle.std.proofs.Common.{List, ℕ, ◌∙◌, ap, arith, get_or, length, t
 use Rattle.bitpack_sets.proofs.DecodeLaws.{rising_top}
 use Rattle.bitpack_sets.proofs.SelectionLaws.{listed, lows_combined, passes}
 use Rattle.bitpack_sets.proofs.UnpackLaws.{high_counted, highs_done, numbers_few}
-use Rattle.bitpack_sets.proofs.blocks.combining.count_combined.Goals as goal
+use Rattle.bitpack_sets.proofs.blocks.combining.count_each.Goals as goal
 use Rattle.bitpack_sets.specs.Selections.{numbers_at, parts_numbers}
 
 pub loop-high-init : goal.loop-high-init

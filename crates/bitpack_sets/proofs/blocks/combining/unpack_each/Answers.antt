@@ -3,7 +3,7 @@ use Rattle.std.proofs.Common.{List, ℕ, ◌+◌, ◌*◌, ◌++◌, ◌∙◌, 
 use Rattle.bitpack_sets.proofs.DecodeLaws.{rising_top}
 use Rattle.bitpack_sets.proofs.SelectionLaws.{listed, lows_combined, passes}
 use Rattle.bitpack_sets.proofs.UnpackLaws.{by_high, high_counted, high_more, highs_done, lows}
-use Rattle.bitpack_sets.proofs.blocks.combining.unpack_combined.Goals as goal
+use Rattle.bitpack_sets.proofs.blocks.combining.unpack_each.Goals as goal
 use Rattle.bitpack_sets.specs.Selections.{numbers_at, parts_numbers}
 
 pub loop-high-init : goal.loop-high-init

@@ -1,0 +1,161 @@
+-- A table of the places of the bits of each byte, tested by computing.
+use Rattle.std.proofs.Common.{◌≡◌, ℕ, zero, suc, ◌+◌, ◌*◌, ◌/◌, ◌%◌, ◌^◌, ◌<◌, ◌≤◌, ◌++◌, Bool, true, false, ◌&&◌, List, [], ◌∷◌, length, length-append, get_or, map, replicate, take, refl, sym, ◌∙◌, ap, arith, eqb, ltb, min, bit_and}
+use Rattle.std.specs.Int.{bit_at}
+use Rattle.std.specs.List.{filter, range_with_len}
+use Rattle.std.specs.Simd.Lanes.{put_chunk, zip2}
+use Rattle.std.proofs.Math.Seq.{take-append-add}
+use Rattle.std.proofs.lemmas.Bool.{and_parts, eqb-true, ltb-true}
+use Rattle.std.proofs.lemmas.List.{ext_get_or, get_or-map, get_or-take, length-map, length-take-le, map-append, take-take}
+use Rattle.std.proofs.lemmas.Nat.Bits.{bit_at-lt, bit_at_and, bit_at_ones}
+use Rattle.std.proofs.lemmas.Nat.{shr-shr}
+use Rattle.std.proofs.lemmas.Simd.{map-map, take_more_put_chunk, zip2_splat}
+use Rattle.bitpack_sets.proofs.BitmapLaws.{those_agree, those_raised, those_split}
+use Rattle.bitpack_sets.proofs.RaisedLaws.{map_raised}
+use Rattle.bitpack_sets.specs.Slices.{AreRows, ones_from}
+
+-- a list begins with these numbers
+abbrev pub begins : List ℕ → List ℕ → Bool
+begins [] row = true
+begins (x ∷ xs) [] = false
+begins (x ∷ xs) (y ∷ row) = eqb y x && begins xs row
+
+begins-take : (xs row : List ℕ) → begins xs row ≡ true → take (length xs) row ≡ xs
+begins-take [] row tested = refl
+begins-take (x ∷ xs) [] tested = absurd cc
+begins-take (x ∷ xs) (y ∷ row) tested =
+    ap (λ (z : ℕ). z ∷ take (length xs) row) (eqb-true y x (and_parts _ _ tested).0) ∙ ap (λ (l : List ℕ). x ∷ l) (begins-take xs row (and_parts _ _ tested).1)
+
+-- it has a count of numbers that are below 8
+abbrev pub below_eight : ℕ → List ℕ → Bool
+below_eight zero row = true
+below_eight (suc n) [] = false
+below_eight (suc n) (y ∷ row) = ltb y 8 && below_eight n row
+
+below_at : (n : ℕ) (row : List ℕ) → below_eight n row ≡ true → (k : ℕ) → k < n → get_or row k 0 < 8
+below_at zero row tested k lt = absurd (omega arith)
+below_at (suc n) [] tested k lt = absurd cc
+below_at (suc n) (y ∷ row) tested zero lt = ltb-true y 8 (and_parts _ _ tested).0
+below_at (suc n) (y ∷ row) tested (suc k) lt = below_at n row (and_parts _ _ tested).1 k (omega arith)
+
+abbrev pub is_row : ℕ → List ℕ → Bool
+is_row byte row = begins (ones_from byte 0 8) row && below_eight 8 row
+
+-- each row is that of its byte
+abbrev pub are_rows : ℕ → List (List ℕ) → Bool
+are_rows byte [] = true
+are_rows byte (row ∷ rows) = is_row byte row && are_rows (byte + 1) rows
+
+row_at : (byte : ℕ) (rows : List (List ℕ)) (i : ℕ) (none : List ℕ) → i < length rows → are_rows byte rows ≡ true → is_row (byte + i) (get_or rows i none) ≡ true
+row_at byte [] i none lt tested = absurd (omega arith)
+row_at byte (row ∷ rows) zero none lt tested =
+    let e : byte + 0 ≡ byte = omega arith in
+    rw e (and_parts (is_row byte row) (are_rows (byte + 1) rows) tested).0
+row_at byte (row ∷ rows) (suc i) none lt tested =
+    let e : byte + suc i ≡ byte + 1 + i = omega arith in
+    rw e (row_at (byte + 1) rows i none (omega arith) (and_parts (is_row byte row) (are_rows (byte + 1) rows) tested).1)
+
+first_row : (rows : List (List ℕ)) (byte : ℕ) (none : List ℕ) → length rows ≡ 256 → byte < 256 → are_rows 0 rows ≡ true → is_row byte (get_or rows byte none) ≡ true
+first_row rows byte none count lt tested =
+    let e : 0 + byte ≡ byte = omega arith in
+    rw e at (row_at 0 rows byte none (omega (arith, lt, count)) tested)
+
+pub rows_right : (rows : List (List ℕ)) → length rows ≡ 256 → are_rows 0 rows ≡ true → AreRows rows
+rows_right rows count tested = record {
+  count = count;
+  small = λ byte k none lt within. below_at 8 (get_or rows byte none) (and_parts _ _ (first_row rows byte none count lt tested)).1 k within;
+  places = λ byte none lt. begins-take (ones_from byte 0 8) (get_or rows byte none) (and_parts _ _ (first_row rows byte none count lt tested)).0;
+}
+
+-- ---- a row of eight, added to a number and written
+
+module _ (values row lanes ones : List ℕ) (next base : ℕ) (same : lanes ≡ replicate 8 base) (long : length row ≡ 8) (room : next + 8 ≤ length values) (fits : base + 8 ≤ 2 ^ 32)
+    (few : length ones ≤ 8) (small : (k : ℕ) → k < 8 → get_or row k 0 < 8) (places : take (length ones) row ≡ ones) where
+  abbrev pub sums : List ℕ
+  sums = zip2 (λ a b. (a + b) % 2 ^ 32) (map (λ x. x) row) lanes
+
+  abbrev f : ℕ → ℕ
+  f x = (x + base) % 2 ^ 32
+
+  sums_are : sums ≡ map f row
+  sums_are = ap (zip2 (λ a b. (a + b) % 2 ^ 32) (map (λ x. x) row)) same ∙ zip2_splat (λ a b. (a + b) % 2 ^ 32) (map (λ x. x) row) 8 base (length-map row (λ x. x) ∙ long) ∙ map-map f (λ x. x) row
+
+  eight : length sums ≡ 8
+  eight = ap length sums_are ∙ length-map row f ∙ long
+
+  front : take (length ones) sums ≡ map (λ i. base + i) ones
+  front = ext_get_or 0 _ _ (count ∙ sym (length-map ones (λ i. base + i))) (λ k lt.
+      let within : k < length ones = omega (arith, lt, count) in
+      let one : get_or row k 0 ≡ get_or ones k 0 = sym (get_or-take (length ones) row k 0 within) ∙ ap (λ (l : List ℕ). get_or l k 0) places in
+      let less : get_or row k 0 < 8 = small k (omega (arith, within, few)) in
+      let sum : (get_or row k 0 + base) % 2 ^ 32 ≡ base + get_or row k 0 = omega (arith, less, fits) in
+      get_or-take (length ones) sums k 0 within ∙ ap (λ (l : List ℕ). get_or l k 0) sums_are
+      ∙ get_or-map f row k 0 0 (omega (arith, within, few, long)) ∙ sum ∙ ap (λ (n : ℕ). base + n) one
+      ∙ sym (get_or-map (λ i. base + i) ones k 0 0 within))
+    where
+      count : length (take (length ones) sums) ≡ length ones
+      count = length-take-le (length ones) sums (omega (arith, few, eight))
+
+  row_whole : take (next + length ones) (put_chunk next values sums) ≡ take next values ++ map (λ i. base + i) ones
+  row_whole =
+      let n : ℕ = length ones in
+      let before : length (take next values) ≡ next = length-take-le next values (omega (arith, room)) in
+      sym (take-take (next + n) (next + 8) (put_chunk next values sums) (omega (arith, few)))
+      ∙ ap (take (next + n)) (take_more_put_chunk next values sums (next + 8) (omega (arith, eight)) (omega (arith, room)))
+      ∙ ap (λ i. take (i + n) (take next values ++ sums)) (sym before)
+      ∙ take-append-add (take next values) sums n
+      ∙ ap (λ xs. take next values ++ xs) front
+
+  pub row_written : (n : ℕ) → length ones ≡ n → take (next + n) (put_chunk next values sums) ≡ take next values ++ map (λ i. base + i) ones
+  row_written n count = ap (λ (k : ℕ). take (next + k) (put_chunk next values sums)) (sym count) ∙ row_whole
+
+-- ---- the bits of a word, byte by byte
+
+kept : (b : ℕ) → b < 2 → min b 1 ≡ b
+kept zero h = refl
+kept (suc zero) h = refl
+kept (suc (suc b)) h = absurd (omega arith)
+
+byte_bit : (word k i : ℕ) → i < 8 → bit_at word (k + i) ≡ bit_at (bit_and (word / 2 ^ k) 255) i
+byte_bit word k i lt =
+    ap (λ (n : ℕ). n % 2) (sym (shr-shr word k i)) ∙ sym (kept (bit_at (word / 2 ^ k) i) (bit_at-lt (word / 2 ^ k) i))
+    ∙ ap (min (bit_at (word / 2 ^ k) i)) (sym (bit_at_ones 8 i lt)) ∙ sym (bit_at_and (word / 2 ^ k) 255 i)
+
+byte_more : (word k : ℕ) → ones_from word 0 (k + 8) ≡ ones_from word 0 k ++ map (λ j. k + j) (ones_from (bit_and (word / 2 ^ k) 255) 0 8)
+unfolding ones_from
+byte_more word k =
+    let P : ℕ → Bool = λ i. eqb (bit_at word i) 1 in
+    let Q : ℕ → Bool = λ i. eqb (bit_at (bit_and (word / 2 ^ k) 255) i) 1 in
+    let place : 0 + k ≡ k + 0 = omega arith in
+    those_split P 0 k 8
+    ∙ ap (λ (l : List ℕ). filter P (range_with_len 0 k) ++ l)
+    (ap (λ (a : ℕ). filter P (range_with_len a 8)) place ∙ those_raised P k 0 8
+    ∙ ap (map (λ j. k + j)) (those_agree (λ i. P (k + i)) Q 0 8 (λ i a b. ap (λ (n : ℕ). eqb n 1) (byte_bit word k i (omega arith)))))
+
+pub bytes_more : (base i word : ℕ)
+    → map (λ j. base + j) (ones_from word 0 (8 * (i + 1)))
+    ≡ map (λ j. base + j) (ones_from word 0 (8 * i)) ++ map (λ j. base + 8 * i + j) (ones_from (bit_and (word / 2 ^ (8 * i)) 255) 0 8)
+bytes_more base i word =
+    let e : 8 * (i + 1) ≡ 8 * i + 8 = omega arith in
+    let byte : List ℕ = ones_from (bit_and (word / 2 ^ (8 * i)) 255) 0 8 in
+    ap (λ (n : ℕ). map (λ j. base + j) (ones_from word 0 n)) e ∙ ap (map (λ j. base + j)) (byte_more word (8 * i))
+    ∙ map-append (λ j. base + j) (ones_from word 0 (8 * i)) (map (λ j. 8 * i + j) byte)
+    ∙ ap (λ (l : List ℕ). map (λ j. base + j) (ones_from word 0 (8 * i)) ++ l) (map_raised base (8 * i) byte)
+
+pub bytes_counted : (i word : ℕ)
+    → length (ones_from word 0 (8 * (i + 1))) ≡ length (ones_from word 0 (8 * i)) + length (ones_from (bit_and (word / 2 ^ (8 * i)) 255) 0 8)
+bytes_counted i word =
+    let e : 8 * (i + 1) ≡ 8 * i + 8 = omega arith in
+    let byte : List ℕ = ones_from (bit_and (word / 2 ^ (8 * i)) 255) 0 8 in
+    ap (λ (n : ℕ). length (ones_from word 0 n)) e ∙ ap length (byte_more word (8 * i))
+    ∙ length-append (ones_from word 0 (8 * i)) (map (λ j. 8 * i + j) byte) ∙ ap (λ (n : ℕ). length (ones_from word 0 (8 * i)) + n) (length-map byte (λ j. 8 * i + j))
+
+-- ---- lanes that go on by 8
+
+pub lanes_more : (base i : ℕ) (lanes : List ℕ) → lanes ≡ replicate 8 ((base + 8 * i) % 2 ^ 32)
+    → zip2 (λ a b. (a + b) % 2 ^ 32) lanes (replicate 8 8) ≡ replicate 8 ((base + 8 * (i + 1)) % 2 ^ 32)
+lanes_more base i lanes same =
+    let e : ((base + 8 * i) % 2 ^ 32 + 8) % 2 ^ 32 ≡ (base + 8 * (i + 1)) % 2 ^ 32 = omega arith in
+    ap (λ (l : List ℕ). zip2 (λ a b. (a + b) % 2 ^ 32) l (replicate 8 8)) same ∙ ap (replicate 8) e
+
+pub lanes_first : (base i : ℕ) (lanes : List ℕ) → lanes ≡ replicate 8 ((base + 8 * i) % 2 ^ 32) → base + 64 ≤ 2 ^ 32 → i < 8 → get_or lanes 0 0 ≡ base + 8 * i
+lanes_first base i lanes same fits lt = let e : (base + 8 * i) % 2 ^ 32 ≡ base + 8 * i = omega (arith, fits, lt) in ap (λ (l : List ℕ). get_or l 0 0) same ∙ e
