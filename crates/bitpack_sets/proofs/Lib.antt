@@ -33,6 +33,7 @@ mod LoadLaws
 mod LongFilled
 mod LongLaws
 mod MeasureLaws
+mod MoreLaws
 mod NumberReads
 mod OnesLaws
 mod PartLaws

@@ -1,5 +1,6 @@
 -- The definitions of this crate.
 pub mod Bitmaps
+pub mod Builders
 pub mod Chunks
 pub mod Directory
 pub mod Errors

@@ -12,6 +12,11 @@ use Rattle.bitpack_sets.specs.Slices.{first_fall}
 abbrev pub refusal : List ℕ → Option SetError
 refusal ids = if nat_lt (2 ^ 28) (length ids) then Some (TooLong (length ids)) else option_map NotSorted (first_fall 0 ids)
 
+-- the ids are as many, and the last of them is this one
+pub record EndsWith (ids : List ℕ) (count last : ℕ) : Type 0 where
+  pub count_is : length ids ≡ count
+  pub last_is : 0 < count → slice_index ids (count - 1) ≡ last
+
 -- ---- ids in one chunk, or in one slice
 
 -- the first `count` numbers have one quotient, and the next one has another

@@ -1,6 +1,6 @@
 //! From ids to bytes: the encoding of a set is measured, and then written.
 
-ghost use Rattle.std.specs.Prelude.{◌≡◌, ◌+◌, ◌≤◌, ◌++◌, length, replicate, vec_len, vec_capacity};
+ghost use Rattle.std.specs.Prelude.{◌≡◌, ◌+◌, ◌<◌, ◌≤◌, ◌++◌, IfErr, OnErr, OnOk, length, replicate, vec_len, vec_capacity};
 ghost use Rattle.bitpack_sets.specs.Sets.{IsSet, text};
 ghost use Rattle.bitpack_sets.specs.Written.{AppendsSet, IsMeasured, MeasuresSet, WritesSet};
 
@@ -9,7 +9,7 @@ mod chunks;
 mod few;
 pub(crate) mod integers;
 mod measuring;
-mod order;
+pub(crate) mod order;
 mod runs;
 
 use crate::encoding::chunks::{array_len, chunks_len, write_array, write_chunks};
@@ -58,6 +58,18 @@ pub fn encode(ids: &[u32], out: &mut Vec<u8>) -> Result<(), SetError>
     ensures { AppendsSet ids.now result out.old out.new }
 {
     test_ids(ids)?;
+    append_set(ids, out)
+}
+
+/// Appends the encoding of a set. The vector grows at most once.
+pub(crate) fn append_set(ids: &[u32], out: &mut Vec<u8>) -> Result<(), SetError>
+    requires { IsSet ids.now }
+    ensures ok { OnOk result (out.new.items ≡ out.old.items ++ text ids.now) }
+    ensures memory { IfErr result (λ e. e ≡ SetError.Memory) }
+    ensures room { OnErr result (vec_capacity out.old < vec_len out.old + length (text ids.now)) }
+    ensures unchanged { OnErr result (out.new.items ≡ out.old.items) }
+    ensures kept { OnErr result (vec_capacity out.new ≡ vec_capacity out.old) }
+{
     let measured = measure(ids);
     let len = measured.len;
     if out.reserve(len).is_err() {

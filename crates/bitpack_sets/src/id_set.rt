@@ -169,6 +169,17 @@ impl<'a> IdSet<'a> {
         Ids::new(*self)
     }
 
+    /// The last id, or 0 if there is none.
+    pub(crate) fn last(&self) -> u32
+        ensures set { IsSet (ids self.now) }
+        ensures last { 0 < length (ids self.now) → slice_index (ids self.now) (length (ids self.now) - 1) ≡ result }
+    {
+        if self.count == 0 {
+            return 0;
+        }
+        self.at(self.count - 1)
+    }
+
     fn at(&self, position: usize) -> u32
         requires { position < length (ids self.now) }
         ensures { result ≡ slice_index (ids self.now) position }

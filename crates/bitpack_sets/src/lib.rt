@@ -1,6 +1,7 @@
 //! Id sets: increasing `u32` ids in fewer bytes than packed differences take.
 #![tactic(auto)]
 
+mod appending;
 mod array;
 mod bitmap;
 mod chunk;
@@ -18,15 +19,18 @@ mod operation;
 mod pairing;
 mod reserved;
 mod searching;
+mod set_builder;
 mod set_error;
 mod slice;
 mod varints;
 mod worked_sets;
 
+pub use appending::append;
 pub use combining::{combine, combine_count, combine_to, is_disjoint, is_subset};
 pub use encoding::{encode, encode_to, encoded_len};
 pub use id_set::IdSet;
 pub use ids::Ids;
 pub use opening::Parts;
 pub use operation::Operation;
+pub use set_builder::SetBuilder;
 pub use set_error::SetError;
