@@ -23,6 +23,7 @@ mod FaultLaws
 mod FewLaws
 mod FillLaws
 mod FormLaws
+mod FrontLaws
 mod GapLaws
 mod GroupLaws
 mod HalfLaws

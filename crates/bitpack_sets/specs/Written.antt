@@ -1,5 +1,5 @@
 -- What a writer of sets refuses, what it measures, and what it leaves.
-use Rattle.std.specs.Prelude.{◌≡◌, ◌≢◌, ℕ, ◌+◌, ◌-◌, ◌*◌, ◌/◌, ◌%◌, ◌^◌, ◌<◌, ◌≤◌, ◌++◌, nat_lt, if◌then◌else◌, List, drop, length, map, slice_index, Option, Some, None, Result, Err, IfErr, IfOk, IsOk, MatchOption, OnErr, OnOk, vec_len, vec_capacity}
+use Rattle.std.specs.Prelude.{◌≡◌, ◌≢◌, ℕ, ◌+◌, ◌-◌, ◌*◌, ◌/◌, ◌%◌, ◌^◌, ◌<◌, ◌≤◌, ◌++◌, nat_lt, if◌then◌else◌, List, [], ◌∷◌, drop, length, map, slice_index, Option, Some, None, Result, Err, IfErr, IfOk, IsOk, MatchOption, OnErr, OnOk, vec_len, vec_capacity}
 use Rattle.std.specs.List.{concat, flat_map}
 use Rattle.std.specs.Option.{option_map}
 use Rattle.std.specs.declared.vec.Vec.{Vec}
@@ -7,6 +7,7 @@ use Rattle.bitpack_sets.specs.declared.set_error.SetError.{SetError}
 use Rattle.bitpack_sets.specs.declared.set_error.SetError.TheVariants.{Memory, NotSorted, Short, TooLong}
 use Rattle.bitpack_sets.specs.Sets.{IsRising, IsSet, body, le_bytes, parts, slice, sums, text}
 use Rattle.bitpack_sets.specs.Slices.{first_fall}
+use Rattle.bitpack_sets.specs.Varints.{number}
 
 -- why a writer refuses ids: they are too many, or one is not above the one before
 abbrev pub refusal : List ℕ → Option SetError
@@ -58,6 +59,10 @@ ends_text size start ids = flat_map (le_bytes size) (sums start (map length (bod
 
 abbrev pub sums_text : ℕ → ℕ → List ℕ → List ℕ
 sums_text size before ids = flat_map (le_bytes size) (sums before (map (λ chunk. length chunk.1) (parts (2 ^ 16) ids)))
+
+-- what is before the directory of a set in chunks
+abbrev pub head : ℕ → ℕ → ℕ → ℕ → List ℕ
+head count chunks end_size sum_size = 5 ∷ number count ++ (number chunks ++ (end_size + 16 * sum_size) ∷ [])
 
 -- the directory and the bodies
 abbrev pub directory : ℕ → ℕ → List ℕ → List ℕ
