@@ -1,18 +1,20 @@
 -- The first chunks of a set in chunks, and ids that follow them.
 use Rattle.std.proofs.Common.{◌≡◌, ℕ, zero, suc, ◌+◌, ◌-◌, ◌*◌, ◌^◌, ◌<◌, ◌≤◌, List, [], ◌∷◌, ◌++◌, map, take, drop, length, refl, sym, ap, ◌∙◌, arith, subst, length-drop, length-append, append_assoc}
 use Rattle.std.specs.List.{concat, flat_map, range_with_len}
-use Rattle.std.proofs.lemmas.List.{drop_at, length-map, length-take-le, take_at}
+use Rattle.std.proofs.lemmas.List.{drop_at, length-map, length-take-le, map-append, take_at}
 use Rattle.std.proofs.lemmas.List.FromFn.{length-map-range_with_len}
 use Rattle.bitpack_sets.proofs.ChunkLaws.{from_chunk, shorts_all}
+use Rattle.bitpack_sets.proofs.ChunkReads.{sum_all}
 use Rattle.bitpack_sets.proofs.DecodeLaws.{bytes_dropped}
 use Rattle.bitpack_sets.proofs.EntryLaws.{body_len, ends_grow, grown_to, sums_grow}
 use Rattle.bitpack_sets.proofs.JoinLaws.{join_rises, parts_join}
-use Rattle.bitpack_sets.proofs.LongLaws.{counts, join_len, keys, total}
+use Rattle.bitpack_sets.proofs.LongLaws.{bodies_len, concat_len, counts, join_len, keys, total}
 use Rattle.bitpack_sets.proofs.LongLaws as texts
 use Rattle.bitpack_sets.proofs.PartLaws.{AreParts, join, join_parts, parts_are}
 use Rattle.bitpack_sets.proofs.ShortLaws.{Grows, map_map, map_same, before_next, step_of, steps_summed, steps_taken, steps_total}
 use Rattle.bitpack_sets.proofs.Words.{EachByte}
 use Rattle.bitpack_sets.specs.Directory.{before, bodies_end, bodies_start, body_at, body_numbers_of, chunk_at, chunk_ids, count_at, end_at, end_size, ids_of_chunks, key_at, size_at, sum_at, sum_size}
+use Rattle.bitpack_sets.specs.Fronts.{IsNext}
 use Rattle.bitpack_sets.specs.Sets.{IsRising, IsSet, body, le_bytes, parts, sums}
 use Rattle.bitpack_sets.specs.Sound.{IsEntry, IsRest}
 use Rattle.bitpack_sets.specs.Written.{bodies, keys_text}
@@ -29,13 +31,7 @@ join_append base [] qs = refl
 join_append base (p ∷ ps) qs =
     ap (λ (l : List ℕ). map (λ low. p.0 * base + low) p.1 ++ l) (join_append base ps qs) ∙ sym (append_assoc (map (λ low. p.0 * base + low) p.1) (join base ps) (join base qs))
 
--- no chunk has ids of both
-pub record IsCut (first later : List ℕ) : Type 0 where
-  pub key : ℕ
-  pub front : IsRising 0 (key * 65536) first
-  pub back : IsRising (key * 65536) (2 ^ 32) later
-
-pub parts_cut : (first later : List ℕ) → IsCut first later → parts 65536 (first ++ later) ≡ parts 65536 first ++ parts 65536 later
+pub parts_cut : (first later : List ℕ) → IsNext first later → parts 65536 (first ++ later) ≡ parts 65536 first ++ parts 65536 later
 parts_cut first later cut =
     let ps : List (ℕ × List ℕ) = parts 65536 first in
     let qs : List (ℕ × List ℕ) = parts 65536 later in
@@ -44,6 +40,16 @@ parts_cut first later cut =
     let all : join 65536 (ps ++ qs) ≡ first ++ later =
     join_append 65536 ps qs ∙ ap (λ (l : List ℕ). l ++ join 65536 qs) (join_parts 65536 first) ∙ ap (λ (l : List ℕ). first ++ l) (join_parts 65536 later) in
     ap (parts 65536) (sym all) ∙ parts_join 65536 0 65536 (ps ++ qs) (parts_append 65536 0 cut.key 65536 ps qs front back)
+
+-- bodies have at most two bytes for each id
+pub bodies_small : (xs : List ℕ) → length (concat (bodies xs)) ≤ 2 * length xs
+bodies_small xs =
+    let ps : List (ℕ × List ℕ) = parts 65536 xs in
+    let a = concat_len (bodies xs) in
+    let b = bodies_len ps in
+    let c = join_len ps in
+    let d = ap length (join_parts 65536 xs) in
+    omega arith
 
 -- ---- the first chunks of a set
 
@@ -56,10 +62,6 @@ range_split m (suc k) n =
     let e : suc k + n ≡ suc (k + n) = omega arith in
     let f : m + 1 + k ≡ m + suc k = omega arith in
     ap (range_with_len m) e ∙ ap (λ (l : List ℕ). m ∷ l) (range_split (m + 1) k n) ∙ ap (λ (i : ℕ). m ∷ (range_with_len (m + 1) k ++ range_with_len i n)) f
-
-map_append : {A B : Type 0} (f : A → B) (xs ys : List A) → map f (xs ++ ys) ≡ map f xs ++ map f ys
-map_append f [] ys = refl
-map_append f (x ∷ xs) ys = ap (λ (l : _). f x ∷ l) (map_append f xs ys)
 
 module _ (ids chunks : ℕ) (rest : List ℕ) (are : EachByte rest) (is : IsRest ids chunks rest) (k : ℕ) (lt : k < chunks) where
   abbrev pub front : List (ℕ × List ℕ)
@@ -169,6 +171,14 @@ module _ (ids chunks : ℕ) (rest : List ℕ) (are : EachByte rest) (is : IsRest
       let g = ap total front_counts in
       omega arith
 
+  pub front_few : length first ≤ ids
+  front_few =
+      let own = (is.entries k lt).some in
+      let top = grown_to (sum_at chunks rest) k chunks (sums_grow ids chunks rest is.entries) lt in
+      let all = sum_all ids chunks chunks rest is refl in
+      let long = front_len in
+      omega arith
+
   -- ---- all ids
 
   pub all_is : chunk_ids chunks rest ≡ first ++ ids_of_chunks back
@@ -176,7 +186,7 @@ module _ (ids chunks : ℕ) (rest : List ℕ) (are : EachByte rest) (is : IsRest
       let whole : chunks ≡ k + (chunks - k) = omega arith in
       ap (λ (n : ℕ). ids_of_chunks (map (chunk_at chunks rest) (range_with_len 0 n))) whole
       ∙ ap (λ (l : List ℕ). ids_of_chunks (map (chunk_at chunks rest) l)) (range_split 0 k (chunks - k))
-      ∙ ap ids_of_chunks (map_append (chunk_at chunks rest) (range_with_len 0 k) (range_with_len (0 + k) (chunks - k)))
+      ∙ ap ids_of_chunks (map-append (chunk_at chunks rest) (range_with_len 0 k) (range_with_len (0 + k) (chunks - k)))
       ∙ join_append 65536 front (map (chunk_at chunks rest) (range_with_len (0 + k) (chunks - k)))
       ∙ ap (λ (n : ℕ). first ++ ids_of_chunks (map (chunk_at chunks rest) (range_with_len n (chunks - k)))) (zero_plus k)
 
@@ -210,7 +220,7 @@ module _ (ids chunks : ℕ) (rest : List ℕ) (are : EachByte rest) (is : IsRest
       let size = length-map (body_numbers_of (count_at chunks rest k) (body_at chunks rest k)) (λ low. key_at rest k * 65536 + low) in
       omega arith
 
-  pub cut_is : (more : List ℕ) → IsSet (chunk_ids chunks rest ++ more) → IsCut first (ids_of_chunks back ++ more)
+  pub cut_is : (more : List ℕ) → IsSet (chunk_ids chunks rest ++ more) → IsNext first (ids_of_chunks back ++ more)
   cut_is more set = record {
     key = key_at rest k;
     front = front_rises;

@@ -12,6 +12,7 @@ mod ChunkLaws
 mod ChunkReads
 mod ChunkTexts
 mod CombineLaws
+mod CopyLaws
 mod CountLaws
 mod CutLaws
 mod DecodeLaws
@@ -24,6 +25,7 @@ mod FewLaws
 mod FillLaws
 mod FormLaws
 mod FrontLaws
+mod FrontTexts
 mod GapLaws
 mod GroupLaws
 mod HalfLaws

@@ -5,6 +5,7 @@ pub mod Chunks
 pub mod Directory
 pub mod Errors
 pub mod Faults
+pub mod Fronts
 pub mod Laws
 pub mod Opened
 pub mod Operations

@@ -6,6 +6,7 @@ ghost use Rattle.bitpack_sets.specs.Written.{AppendsSet, IsMeasured, MeasuresSet
 
 mod bodies;
 mod chunks;
+pub(crate) mod copying;
 mod few;
 pub(crate) mod integers;
 mod measuring;
