@@ -1,21 +1,24 @@
 -- The first chunks of a set in chunks, and ids that follow them.
-use Rattle.std.proofs.Common.{◌≡◌, ℕ, zero, suc, ◌+◌, ◌-◌, ◌*◌, ◌^◌, ◌<◌, ◌≤◌, List, [], ◌∷◌, ◌++◌, map, take, drop, length, refl, sym, ap, ◌∙◌, arith, subst, length-drop, length-append, append_assoc}
+use Rattle.std.proofs.Common.{◌≡◌, ℕ, zero, suc, ◌+◌, ◌-◌, ◌*◌, ◌^◌, ◌<◌, ◌≤◌, List, [], ◌∷◌, ◌++◌, map, take, drop, length, refl, sym, ap, ◌∙◌, arith, subst, get_or, inl, inr, take-append-drop, length-drop, length-append, append_assoc}
 use Rattle.std.specs.List.{concat, flat_map, range_with_len}
-use Rattle.std.proofs.lemmas.List.{drop_at, length-map, length-take-le, map-append, take_at}
+use Rattle.std.proofs.lemmas.Bool.{cases_lt}
+use Rattle.std.proofs.lemmas.List.{drop-append-le, drop_at, length-map, length-take-le, map-append, take_at}
 use Rattle.std.proofs.lemmas.List.FromFn.{length-map-range_with_len}
 use Rattle.bitpack_sets.proofs.ChunkLaws.{from_chunk, shorts_all}
 use Rattle.bitpack_sets.proofs.ChunkReads.{sum_all}
 use Rattle.bitpack_sets.proofs.DecodeLaws.{bytes_dropped}
+use Rattle.bitpack_sets.proofs.EncodeLaws.{few_is}
 use Rattle.bitpack_sets.proofs.EntryLaws.{body_len, ends_grow, grown_to, sums_grow}
 use Rattle.bitpack_sets.proofs.JoinLaws.{join_rises, parts_join}
 use Rattle.bitpack_sets.proofs.LongLaws.{bodies_len, concat_len, counts, join_len, keys, total}
 use Rattle.bitpack_sets.proofs.LongLaws as texts
 use Rattle.bitpack_sets.proofs.PartLaws.{AreParts, join, join_parts, parts_are}
+use Rattle.bitpack_sets.proofs.RunLaws.{rising_rest}
 use Rattle.bitpack_sets.proofs.ShortLaws.{Grows, map_map, map_same, before_next, step_of, steps_summed, steps_taken, steps_total}
 use Rattle.bitpack_sets.proofs.Words.{EachByte}
 use Rattle.bitpack_sets.specs.Directory.{before, bodies_end, bodies_start, body_at, body_numbers_of, chunk_at, chunk_ids, count_at, end_at, end_size, ids_of_chunks, key_at, size_at, sum_at, sum_size}
-use Rattle.bitpack_sets.specs.Fronts.{IsNext}
-use Rattle.bitpack_sets.specs.Sets.{IsRising, IsSet, body, le_bytes, parts, sums}
+use Rattle.bitpack_sets.specs.Fronts.{IsFront, IsNext}
+use Rattle.bitpack_sets.specs.Sets.{IsRising, IsSet, body, le_bytes, parts, short, sums, text}
 use Rattle.bitpack_sets.specs.Sound.{IsEntry, IsRest}
 use Rattle.bitpack_sets.specs.Written.{bodies, keys_text}
 
@@ -235,3 +238,42 @@ module _ (ids chunks : ℕ) (rest : List ℕ) (are : EachByte rest) (is : IsRest
       later : (low : ℕ) (xs ys : List ℕ) → 0 < length xs → IsRising low (2 ^ 32) xs → (from : ℕ) × IsRising from (2 ^ 32) (xs ++ ys) → IsRising low (2 ^ 32) (xs ++ ys)
       later low [] ys some r all = absurd (omega arith)
       later low (x ∷ xs) ys some (a, r) (from, (b, all)) = (a, all)
+
+  pub is_front : 128 ≤ length (chunk_ids chunks rest) → IsFront first (chunk_ids chunks rest)
+  is_front many = record {
+    many = many;
+    front = ap (λ (n : ℕ). take n (chunk_ids chunks rest)) front_len ∙ front_is;
+    next = λ more set. subst (λ (l : List ℕ). IsNext first (l ++ more)) (sym (ap (λ (n : ℕ). drop n (chunk_ids chunks rest)) front_len ∙ back_is)) (cut_is more set);
+  }
+
+-- a set whose bytes begin as those in chunks has at least 128 ids
+short_first : (ids : List ℕ) → 128 ≤ get_or (short ids) 0 0
+unfolding short
+short_first [] = omega arith
+short_first (x ∷ ids) = omega arith
+
+pub many_ids : (ids : List ℕ) → get_or (text ids) 0 0 ≡ 5 → 128 ≤ length ids
+many_ids ids five = elim (cases_lt (length ids) 128) [
+  | inl few ↦ (let e = ap (λ (l : List ℕ). get_or l 0 0) (few_is ids (omega arith)) in let high = short_first ids in absurd (omega arith))
+  | inr many ↦ many
+]
+
+-- ---- ids after the first chunks
+
+module _ (first ids more : List ℕ) (is : IsFront first ids) where
+  whole : first ++ drop (length first) ids ≡ ids
+  whole = ap (λ (l : List ℕ). l ++ drop (length first) ids) (sym is.front) ∙ take-append-drop (length first) ids
+
+  pub all_ids : first ++ (drop (length first) ids ++ more) ≡ ids ++ more
+  all_ids = sym (append_assoc first (drop (length first) ids) more) ∙ ap (λ (l : List ℕ). l ++ more) whole
+
+  pub front_most : length first ≤ length ids
+  front_most = let e = ap length whole in let f = length-append first (drop (length first) ids) in omega arith
+
+  pub later_set : IsSet (ids ++ more) → IsSet (drop (length first) ids ++ more)
+  later_set set =
+      let e : drop (length first) (ids ++ more) ≡ drop (length first) ids ++ more = drop-append-le (length first) ids more front_most in
+      let long = ap length e in
+      let size = length-drop (length first) (ids ++ more) in
+      let few = set.few in
+      record { few = omega arith; rising = subst (IsRising 0 (2 ^ 32)) e (rising_rest 0 (2 ^ 32) (length first) (ids ++ more) set.rising) }

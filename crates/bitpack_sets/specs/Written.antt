@@ -101,3 +101,10 @@ pub record AppendsSet {A : Type 0} (ids : List ℕ) (result : Result (Unit {0}) 
   pub room : refusal ids ≡ None → OnErr result (vec_capacity old < vec_len old + length (text ids))
   pub unchanged : OnErr result (new.items ≡ old.items)
   pub kept : OnErr result (vec_capacity new ≡ vec_capacity old)
+
+-- bytes are appended; or memory runs out, and nothing changed
+pub record Appends {A : Type 0} (bytes : List ℕ) (result : Result (Unit {0}) SetError) (old new : Vec ℕ A) : Type 0 where
+  pub ok : OnOk result (new.items ≡ old.items ++ bytes)
+  pub memory : IfErr result (λ e. e ≡ Memory)
+  pub unchanged : OnErr result (new.items ≡ old.items)
+  pub kept : OnErr result (vec_capacity new ≡ vec_capacity old)

@@ -5,7 +5,7 @@ ghost use Rattle.bitpack_sets.specs.Sets.{IsSet, text};
 ghost use Rattle.bitpack_sets.specs.Written.{AppendsSet, IsMeasured, MeasuresSet, WritesSet};
 
 mod bodies;
-mod chunks;
+pub(crate) mod chunks;
 pub(crate) mod copying;
 mod few;
 pub(crate) mod integers;
@@ -84,7 +84,7 @@ pub(crate) fn append_set(ids: &[u32], out: &mut Vec<u8>) -> Result<(), SetError>
 }
 
 /// Appends `count` zeros to a vector that has the room.
-fn append_zeros(out: &mut Vec<u8>, count: usize)
+pub(crate) fn append_zeros(out: &mut Vec<u8>, count: usize)
     requires room { vec_len out.old + count ≤ vec_capacity out.old }
     ensures items { out.new.items ≡ out.old.items ++ replicate count 0 }
     ensures len { vec_len out.new ≡ vec_len out.old + count }

@@ -159,9 +159,7 @@ impl<'a> Front<'a> {
         let (own_ends, later_ends) = ends.split_at_mut(end_size * count);
         let (own_sums, later_sums) = sums.split_at_mut(sum_size * count);
         let (own_bodies, later_bodies) = out.split_at_mut(size);
-        self.copy(
-            end_size, sum_size, own_keys, own_ends, own_sums, own_bodies,
-        );
+        self.copy(end_size, sum_size, own_keys, own_ends, own_sums, own_bodies);
         write_entries(
             ids,
             size,
