@@ -24,7 +24,7 @@ cut n from to bytes e =
     ∙ take-append-drop n (drop from bytes)
 
 -- integers from the first on
-shorts_all : (size k : ℕ) (bytes : List ℕ) → EachByte bytes → size * k ≤ length bytes → flat_map (le_bytes size) (map (short_at size bytes) (range_with_len 0 k)) ≡ take (size * k) bytes
+pub shorts_all : (size k : ℕ) (bytes : List ℕ) → EachByte bytes → size * k ≤ length bytes → flat_map (le_bytes size) (map (short_at size bytes) (range_with_len 0 k)) ≡ take (size * k) bytes
 shorts_all size k bytes are h =
     let none : size * 0 ≡ 0 = omega arith in
     shorts_back size 0 k bytes are (omega arith) ∙ ap (λ (n : ℕ). take (size * k) (drop n bytes)) none

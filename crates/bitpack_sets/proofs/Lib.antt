@@ -13,6 +13,7 @@ mod ChunkLaws
 mod ChunkReads
 mod ChunkTexts
 mod CombineLaws
+mod CopyLaws
 mod CountLaws
 mod CountedRuns
 mod CutLaws
@@ -27,6 +28,8 @@ mod FewLaws
 mod FillLaws
 mod FormLaws
 mod FourLaws
+mod FrontLaws
+mod FrontTexts
 mod GapLaws
 mod GroupLaws
 mod HalfLaws
@@ -39,6 +42,7 @@ mod LongFilled
 mod LongLaws
 mod MarkLaws
 mod MeasureLaws
+mod MoreLaws
 mod NumberReads
 mod OnesLaws
 mod PartLaws

@@ -1,5 +1,5 @@
 -- The parts of the encoding of 128 ids or more together.
-use Rattle.std.proofs.Common.{◌≡◌, ℕ, zero, suc, ◌+◌, ◌-◌, ◌*◌, ◌^◌, ◌<◌, ◌≤◌, List, [], ◌∷◌, ◌++◌, map, length, set, take, refl, sym, ap, ◌∙◌, arith, subst, length-append, add-mul}
+use Rattle.std.proofs.Common.{◌≡◌, ℕ, zero, suc, ◌+◌, ◌-◌, ◌*◌, ◌^◌, ◌<◌, ◌≤◌, List, [], ◌∷◌, ◌++◌, map, length, set, take, refl, sym, ap, ◌∙◌, arith, subst, append_assoc, length-append, add-mul}
 use Rattle.std.specs.List.{concat, flat_map}
 use Rattle.std.proofs.Math.Nat.{mul-le-mul_right}
 use Rattle.std.proofs.lemmas.List.{length-map}
@@ -7,7 +7,7 @@ use Rattle.bitpack_sets.proofs.FewLaws.{one_set}
 use Rattle.bitpack_sets.proofs.LongLaws.{array_parts, flat_len, long_parts, sums_len}
 use Rattle.bitpack_sets.specs.Sets.{array, body, in_chunks, le_bytes, parts, sums}
 use Rattle.bitpack_sets.specs.Varints.{byte_count, number}
-use Rattle.bitpack_sets.specs.Written.{bodies, directory, ends_text, keys_text, sums_text}
+use Rattle.bitpack_sets.specs.Written.{bodies, directory, ends_text, head, keys_text, sums_text}
 
 pub array_size : (ids : List ℕ) → length (array ids) ≡ 1 + length (number (length ids)) + 4 * length ids
 array_size ids =
@@ -78,19 +78,25 @@ chunks_length ids count size a b =
     let three = product_sum (byte_count size) (byte_count (length ids)) count in
     omega arith
 
-pub chunks_joined : (ids head first second sizes rest : List ℕ) (count size e z : ℕ) → count ≡ length (parts 65536 ids) → size ≡ length (concat (bodies ids))
-    → e ≡ byte_count size → z ≡ byte_count (length ids) → length head ≡ 1 → length sizes ≡ 1 → first ≡ number (length ids) → second ≡ number count
-    → rest ≡ directory e z ids → set head 0 5 ++ (first ++ (second ++ (set sizes 0 (e + 16 * z) ++ rest))) ≡ in_chunks ids
-chunks_joined ids head first second sizes rest count size e z a b e_is z_is one one' f s r =
+pub head_joined : (count chunks s : ℕ) (form first second sizes : List ℕ) → length form ≡ 1 → length sizes ≡ 1 → first ≡ number count → second ≡ number chunks
+    → set form 0 5 ++ (first ++ (second ++ set sizes 0 s)) ≡ 5 ∷ (number count ++ (number chunks ++ (s ∷ [])))
+head_joined count chunks s form first second sizes one one' f g =
+    ap (λ (l : List ℕ). l ++ (first ++ (second ++ set sizes 0 s))) (one_set form 5 one) ∙ ap (λ (l : List ℕ). 5 ∷ (l ++ (second ++ set sizes 0 s))) f
+    ∙ ap (λ (l : List ℕ). 5 ∷ (number count ++ (l ++ set sizes 0 s))) g ∙ ap (λ (l : List ℕ). 5 ∷ (number count ++ (number chunks ++ l))) (one_set sizes s one')
+
+pub chunks_joined : (ids front rest : List ℕ) (count chunks size e z : ℕ) → count ≡ length ids → chunks ≡ length (parts 65536 ids) → size ≡ length (concat (bodies ids))
+    → e ≡ byte_count size → z ≡ byte_count count → front ≡ head count chunks e z → rest ≡ directory e z ids → front ++ rest ≡ in_chunks ids
+chunks_joined ids front rest count chunks size e z n a b e_is z_is f r =
     let e_same : e ≡ byte_count (length (concat (bodies ids))) = e_is ∙ ap byte_count b in
-    ap (λ (l : List ℕ). l ++ (first ++ (second ++ (set sizes 0 (e + 16 * z) ++ rest)))) (one_set head 5 one)
-    ∙ ap (λ (l : List ℕ). 5 ∷ (l ++ (second ++ (set sizes 0 (e + 16 * z) ++ rest)))) f
-    ∙ ap (λ (l : List ℕ). 5 ∷ (number (length ids) ++ (l ++ (set sizes 0 (e + 16 * z) ++ rest)))) (s ∙ ap number a)
-    ∙ ap (λ (l : List ℕ). 5 ∷ (number (length ids) ++ (number (length (parts 65536 ids)) ++ (l ++ rest)))) (one_set sizes (e + 16 * z) one')
-    ∙ ap (λ (l : List ℕ). 5 ∷ (number (length ids) ++ (number (length (parts 65536 ids)) ++ ((e + 16 * z) ∷ l)))) r
-    ∙ ap (λ n. 5 ∷ (number (length ids) ++ (number (length (parts 65536 ids)) ++ ((n + 16 * z) ∷ directory n z ids)))) e_same
-    ∙ ap (λ n. 5 ∷ (number (length ids) ++ (number (length (parts 65536 ids)) ++ ((byte_count (length (concat (bodies ids))) + 16 * n)
-    ∷ directory (byte_count (length (concat (bodies ids)))) n ids)))) z_is
+    let z_same : z ≡ byte_count (length ids) = z_is ∙ ap byte_count n in
+    let s : ℕ = e + 16 * z in
+    ap (λ (l : List ℕ). l ++ rest) f ∙ ap (λ (l : List ℕ). 5 ∷ l) (append_assoc (number count) (number chunks ++ (s ∷ [])) rest)
+    ∙ ap (λ (l : List ℕ). 5 ∷ (number count ++ l)) (append_assoc (number chunks) (s ∷ []) rest)
+    ∙ ap (λ m. 5 ∷ (number m ++ (number chunks ++ (s ∷ rest)))) n ∙ ap (λ m. 5 ∷ (number (length ids) ++ (number m ++ (s ∷ rest)))) a
+    ∙ ap (λ (l : List ℕ). 5 ∷ (number (length ids) ++ (number (length (parts 65536 ids)) ++ (s ∷ l)))) r
+    ∙ ap (λ m. 5 ∷ (number (length ids) ++ (number (length (parts 65536 ids)) ++ ((m + 16 * z) ∷ directory m z ids)))) e_same
+    ∙ ap (λ m. 5 ∷ (number (length ids) ++ (number (length (parts 65536 ids)) ++ ((byte_count (length (concat (bodies ids))) + 16 * m)
+    ∷ directory (byte_count (length (concat (bodies ids)))) m ids)))) z_same
     ∙ sym (chunks_text ids)
 
 pub few_times : (e most count : ℕ) → e ≤ most → e * count ≤ most * count

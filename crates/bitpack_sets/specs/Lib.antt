@@ -1,9 +1,11 @@
 -- The definitions of this crate.
 pub mod Bitmaps
+pub mod Builders
 pub mod Chunks
 pub mod Directory
 pub mod Errors
 pub mod Faults
+pub mod Fronts
 pub mod Laws
 pub mod Opened
 pub mod Operations

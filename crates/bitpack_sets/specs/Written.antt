@@ -7,10 +7,16 @@ use Rattle.bitpack_sets.specs.declared.set_error.SetError.{SetError}
 use Rattle.bitpack_sets.specs.declared.set_error.SetError.TheVariants.{Memory, NotSorted, Short, TooLong}
 use Rattle.bitpack_sets.specs.Sets.{IsRising, IsSet, body, le_bytes, parts, slice, sums, text}
 use Rattle.bitpack_sets.specs.Slices.{first_fall}
+use Rattle.bitpack_sets.specs.Varints.{number}
 
 -- why a writer refuses ids: they are too many, or one is not above the one before
 abbrev pub refusal : List ℕ → Option SetError
 refusal ids = if nat_lt (2 ^ 28) (length ids) then Some (TooLong (length ids)) else option_map NotSorted (first_fall 0 ids)
+
+-- the ids are as many, and the last of them is this one
+pub record EndsWith (ids : List ℕ) (count last : ℕ) : Type 0 where
+  pub count_is : length ids ≡ count
+  pub last_is : 0 < count → slice_index ids (count - 1) ≡ last
 
 -- ---- ids in one chunk, or in one slice
 
@@ -63,6 +69,10 @@ ends_text size start ids = flat_map (le_bytes size) (sums start (map length (bod
 abbrev pub sums_text : ℕ → ℕ → List ℕ → List ℕ
 sums_text size before ids = flat_map (le_bytes size) (sums before (map (λ chunk. length chunk.1) (parts (2 ^ 16) ids)))
 
+-- what is before the directory of a set in chunks
+abbrev pub head : ℕ → ℕ → ℕ → ℕ → List ℕ
+head count chunks end_size sum_size = 5 ∷ number count ++ (number chunks ++ (end_size + 16 * sum_size) ∷ [])
+
 -- the directory and the bodies
 abbrev pub directory : ℕ → ℕ → List ℕ → List ℕ
 directory end_size sum_size ids = keys_text ids ++ (ends_text end_size 0 ids ++ (sums_text sum_size 0 ids ++ concat (bodies ids)))
@@ -98,5 +108,12 @@ pub record AppendsSet {A : Type 0} (ids : List ℕ) (result : Result (Unit {0}) 
   pub ok : OnOk result (new.items ≡ old.items ++ text ids)
   pub fault : MatchOption (refusal ids) (IfErr result (λ e. e ≡ Memory)) (λ fault. result ≡ Err fault)
   pub room : refusal ids ≡ None → OnErr result (vec_capacity old < vec_len old + length (text ids))
+  pub unchanged : OnErr result (new.items ≡ old.items)
+  pub kept : OnErr result (vec_capacity new ≡ vec_capacity old)
+
+-- bytes are appended; or memory runs out, and nothing changed
+pub record Appends {A : Type 0} (bytes : List ℕ) (result : Result (Unit {0}) SetError) (old new : Vec ℕ A) : Type 0 where
+  pub ok : OnOk result (new.items ≡ old.items ++ bytes)
+  pub memory : IfErr result (λ e. e ≡ Memory)
   pub unchanged : OnErr result (new.items ≡ old.items)
   pub kept : OnErr result (vec_capacity new ≡ vec_capacity old)

@@ -1,11 +1,12 @@
 //! From ids to bytes: the encoding of a set is measured, and then written.
 
-ghost use Rattle.std.specs.Prelude.{◌≡◌, ◌+◌, ◌≤◌, ◌++◌, length, replicate, vec_len, vec_capacity};
+ghost use Rattle.std.specs.Prelude.{◌≡◌, ◌+◌, ◌<◌, ◌≤◌, ◌++◌, IfErr, OnErr, OnOk, length, replicate, vec_len, vec_capacity};
 ghost use Rattle.bitpack_sets.specs.Sets.{IsSet, text};
 ghost use Rattle.bitpack_sets.specs.Written.{AppendsSet, IsMeasured, MeasuresSet, WritesSet};
 
 mod bodies;
-mod chunks;
+pub(crate) mod chunks;
+pub(crate) mod copying;
 mod few;
 pub(crate) mod integers;
 mod measuring;
@@ -58,6 +59,18 @@ pub fn encode(ids: &[u32], out: &mut Vec<u8>) -> Result<(), SetError>
     ensures { AppendsSet ids.now result out.old out.new }
 {
     test_ids(ids)?;
+    append_set(ids, out)
+}
+
+/// Appends the encoding of a set. The vector grows at most once.
+pub(crate) fn append_set(ids: &[u32], out: &mut Vec<u8>) -> Result<(), SetError>
+    requires { IsSet ids.now }
+    ensures ok { OnOk result (out.new.items ≡ out.old.items ++ text ids.now) }
+    ensures memory { IfErr result (λ e. e ≡ SetError.Memory) }
+    ensures room { OnErr result (vec_capacity out.old < vec_len out.old + length (text ids.now)) }
+    ensures unchanged { OnErr result (out.new.items ≡ out.old.items) }
+    ensures kept { OnErr result (vec_capacity out.new ≡ vec_capacity out.old) }
+{
     let measured = measure(ids);
     let len = measured.len;
     if out.reserve(len).is_err() {
@@ -71,7 +84,7 @@ pub fn encode(ids: &[u32], out: &mut Vec<u8>) -> Result<(), SetError>
 }
 
 /// Appends `count` zeros to a vector that has the room.
-fn append_zeros(out: &mut Vec<u8>, count: usize)
+pub(crate) fn append_zeros(out: &mut Vec<u8>, count: usize)
     requires room { vec_len out.old + count ≤ vec_capacity out.old }
     ensures items { out.new.items ≡ out.old.items ++ replicate count 0 }
     ensures len { vec_len out.new ≡ vec_len out.old + count }

@@ -7,6 +7,7 @@ ghost use Rattle.bitpack_sets.specs.Stated.{States};
 use crate::array::{id_at, in_array, rank_in_array, unpack_array};
 use crate::chunks::Chunks;
 use crate::decoding::{unpack_chunks, unpack_chunks_from};
+use crate::encoding::copying::Front;
 use crate::few::{
     MOST_FEW, in_few, rank_in_few, select_in_few, unpack_few, unpack_few_bytes, unpack_few_from,
 };
@@ -36,6 +37,7 @@ impl<'a> IdSet<'a> {
     ghost use Rattle.bitpack_sets.specs.Chunks.{ids_from};
     ghost use Rattle.bitpack_sets.specs.Errors.{Finds};
     ghost use Rattle.bitpack_sets.specs.Faults.{fault};
+    ghost use Rattle.bitpack_sets.specs.Fronts.{IsFront, front_ids};
     ghost use Rattle.bitpack_sets.specs.Opened.{ids, text_of};
     ghost use Rattle.bitpack_sets.specs.Reads.{has, rank};
     ghost use Rattle.bitpack_sets.specs.Sets.{IsSet, text};
@@ -167,6 +169,27 @@ impl<'a> IdSet<'a> {
         ensures { drop result.next (ids result.set) ≡ ids self.now }
     {
         Ids::new(*self)
+    }
+
+    /// The last id, or 0 if there is none.
+    pub(crate) fn last(&self) -> u32
+        ensures set { IsSet (ids self.now) }
+        ensures last { 0 < length (ids self.now) → slice_index (ids self.now) (length (ids self.now) - 1) ≡ result }
+    {
+        if self.count == 0 {
+            return 0;
+        }
+        self.at(self.count - 1)
+    }
+
+    /// The chunks that are copied if ids follow. It is `None` if the set is not in chunks.
+    pub(crate) fn front(&self) -> Option<Front<'a>>
+        ensures { IfSome result (λ front. IsFront (front_ids front) (ids self.now)) }
+    {
+        if self.bytes[0] != 5 {
+            return None;
+        }
+        Some(Front::new(self.count, self.chunks, self.rest))
     }
 
     fn at(&self, position: usize) -> u32

@@ -1,6 +1,7 @@
 //! Id sets: increasing `u32` ids in fewer bytes than packed differences take.
 #![tactic(auto)]
 
+mod appending;
 mod array;
 mod bitmap;
 mod blocks;
@@ -21,11 +22,13 @@ mod operation;
 mod pairing;
 mod reserved;
 mod searching;
+mod set_builder;
 mod set_error;
 mod slice;
 mod varints;
 mod worked_sets;
 
+pub use appending::append;
 pub use combining::{combine, combine_count, combine_to, is_disjoint, is_subset};
 pub use encoding::{encode, encode_to, encoded_len};
 pub use id_set::IdSet;
@@ -33,4 +36,5 @@ pub use ids::Ids;
 pub use in_place::{add, remove, retain};
 pub use opening::Parts;
 pub use operation::Operation;
+pub use set_builder::SetBuilder;
 pub use set_error::SetError;

@@ -96,6 +96,9 @@ fn models<'a>(tokens: &[Token<'a>], at: usize) -> Change<'a> {
 
 /// A parameter for the allocator, of which Rust has one.
 fn allocators<'a>(tokens: &[Token<'a>], at: usize) -> Change<'a> {
+    if phrase(tokens, at, "alloc : Global )").is_some() {
+        return Ok(phrase(tokens, at, "alloc : Global").map(|it| (vec![], it)));
+    }
     let end = phrase(tokens, at, "alloc : Global ,");
     Ok(end.map(|it| (vec![], after_space(tokens, it))))
 }

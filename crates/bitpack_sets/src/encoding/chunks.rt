@@ -5,7 +5,7 @@ ghost use Rattle.std.specs.List.{concat};
 ghost use Rattle.bitpack_sets.specs.Sets.{IsRising, IsSet, array, in_chunks, parts};
 ghost use Rattle.bitpack_sets.specs.Varints as varints;
 ghost use Rattle.bitpack_sets.specs.Varints.{number};
-ghost use Rattle.bitpack_sets.specs.Written.{bodies, directory, ends_text, keys_text, sums_text};
+ghost use Rattle.bitpack_sets.specs.Written.{bodies, directory, ends_text, head, keys_text, sums_text};
 
 use crate::encoding::bodies::write_body;
 use crate::encoding::integers::{byte_count, write_at, write_integers};
@@ -30,7 +30,7 @@ pub(crate) fn chunks_len(count: usize, chunks: usize, size: usize) -> usize
         + (2 + varints.byte_count size + varints.byte_count count) * chunks + size }
 {
     let entry = 2 + byte_count(size) + byte_count(count);
-    2 + number_len(count as u32) + number_len(chunks as u32) + entry * chunks + size
+    head_len(count, chunks) + entry * chunks + size
 }
 
 /// Writes the array of ids.
@@ -59,18 +59,43 @@ pub(crate) fn write_chunks(ids: &[u32], chunks: usize, size: usize, out: &mut [u
 {
     let end_size = byte_count(size);
     let sum_size = byte_count(ids.len());
-    let count = ids.len() as u32;
-    let count_size = number_len(count);
-    let chunks_size = number_len(chunks as u32);
-    let (head, rest) = out.split_at_mut(1);
-    let (first, others) = rest.split_at_mut(count_size);
-    let (second, after) = others.split_at_mut(chunks_size);
-    let (sizes, last) = after.split_at_mut(1);
-    head[0] = 5;
-    write_number(count, first);
+    let len = head_len(ids.len(), chunks);
+    let (head, rest) = out.split_at_mut(len);
+    write_head(ids.len(), chunks, end_size, sum_size, head);
+    write_directory(ids, chunks, end_size, sum_size, rest);
+}
+
+/// How many bytes are before the directory of a set of `count` ids in chunks.
+pub(crate) fn head_len(count: usize, chunks: usize) -> usize
+    requires few { (count ≤ 2 ^ 28) × (chunks ≤ 2 ^ 28) }
+    ensures len { result ≡ 2 + length (number count) + length (number chunks) }
+    ensures few { result ≤ 12 }
+{
+    2 + number_len(count as u32) + number_len(chunks as u32)
+}
+
+/// Writes what is before the directory of a set of `count` ids in chunks, with ends and sums of these sizes.
+pub(crate) fn write_head(
+    count: usize,
+    chunks: usize,
+    end_size: usize,
+    sum_size: usize,
+    out: &mut [u8],
+)
+    requires few { (count ≤ 2 ^ 28) × (chunks ≤ 2 ^ 28) }
+    requires sizes { (end_size ≤ 4) × (sum_size ≤ 4) }
+    requires size { length out.old ≡ 2 + length (number count) + length (number chunks) }
+    ensures { out.new ≡ head count chunks end_size sum_size }
+{
+    let first_len = number_len(count as u32);
+    let second_len = number_len(chunks as u32);
+    let (form, others) = out.split_at_mut(1);
+    let (first, after) = others.split_at_mut(first_len);
+    let (second, sizes) = after.split_at_mut(second_len);
+    form[0] = 5;
+    write_number(count as u32, first);
     write_number(chunks as u32, second);
     sizes[0] = (end_size + 16 * sum_size) as u8;
-    write_directory(ids, chunks, end_size, sum_size, last);
 }
 
 /// Writes the directory of a set, with ends and sums of these sizes, and its bodies.
@@ -85,12 +110,14 @@ fn write_directory(ids: &[u32], chunks: usize, end_size: usize, sum_size: usize,
     let (keys, others) = out.split_at_mut(2 * chunks);
     let (ends, after) = others.split_at_mut(end_size * chunks);
     let (sums, last) = after.split_at_mut(sum_size * chunks);
-    write_entries(ids, end_size, sum_size, keys, ends, sums, last);
+    write_entries(ids, 0, 0, end_size, sum_size, keys, ends, sums, last);
 }
 
-/// Writes the key, the end, the sum and the body of each chunk.
-fn write_entries(
+/// Writes the key, the end, the sum and the body of each chunk. The bodies begin at `start` among all, after chunks of `before` ids.
+pub(crate) fn write_entries(
     ids: &[u32],
+    start: usize,
+    before: usize,
     end_size: usize,
     sum_size: usize,
     keys: &mut [u8],
@@ -100,12 +127,13 @@ fn write_entries(
 )
     requires set { IsSet ids.now }
     requires keys { length keys.old ≡ length (keys_text ids.now) }
-    requires ends { length ends.old ≡ length (ends_text end_size 0 ids.now) }
-    requires sums { length sums.old ≡ length (sums_text sum_size 0 ids.now) }
+    requires ends { length ends.old ≡ length (ends_text end_size start ids.now) }
+    requires sums { length sums.old ≡ length (sums_text sum_size before ids.now) }
     requires bodies { length out.old ≡ length (concat (bodies ids.now)) }
+    requires few { (start ≤ 2 ^ 29) × (before ≤ 2 ^ 28) }
     ensures keys { keys.new ≡ keys_text ids.now }
-    ensures ends { ends.new ≡ ends_text end_size 0 ids.now }
-    ensures sums { sums.new ≡ sums_text sum_size 0 ids.now }
+    ensures ends { ends.new ≡ ends_text end_size start ids.now }
+    ensures sums { sums.new ≡ sums_text sum_size before ids.now }
     ensures bodies { out.new ≡ concat (bodies ids.now) }
 {
     let mut left = ids;
@@ -121,8 +149,8 @@ fn write_entries(
         end += size;
         sum += run;
         write_at(index, 2, left[0] >> CHUNK_BITS, keys);
-        write_at(index, end_size, end as u32, ends);
-        write_at(index, sum_size, sum as u32, sums);
+        write_at(index, end_size, (start + end) as u32, ends);
+        write_at(index, sum_size, (before + sum) as u32, sums);
         index += 1;
         left = &left[run..];
     }

@@ -74,6 +74,8 @@ fn vectors_that_grow() {
     becomes("fn one() {\n    a.push_reserved(1);\n}\n\nfn push() {}\n", "fn one() {\n    a.push(1);\n}\n\nfn push() {}\n");
     let made = "use alloc::vec::Vec;\n\nfn one(\n    a: u8,\n) {\n    let b = Vec::new();\n}\n";
     becomes("fn one(\n    alloc: Global,\n    a: u8,\n) {\n    let b = Vec::new(alloc);\n}\n", made);
+    let made = "use alloc::vec::Vec;\n\nfn one() {\n    let b = Vec::new();\n}\n";
+    becomes("fn one(alloc: Global) {\n    let b = Vec::new(alloc);\n}\n", made);
     refused("fn one(alloc: Global, a: u8) {\n    two(alloc, a);\n}\n", 2, "'alloc' here");
     refused("fn one() {\n    Vec::with_capacity(1);\n}\n", 2, "a vector of another form");
     refused("fn one() {\n    a.to_vec();\n}\n", 2, "the call 'to_vec()'");

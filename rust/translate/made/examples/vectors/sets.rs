@@ -1,6 +1,6 @@
 //! Id sets: what their bytes say, and which bytes are refused.
 
-use bitpacking_source::sets::{IdSet, SetError, encode, encode_to, encoded_len};
+use bitpacking_source::sets::{IdSet, SetBuilder, SetError, append, encode, encode_to, encoded_len};
 
 use crate::report::Report;
 use crate::rows::Row;
@@ -30,6 +30,8 @@ pub fn opened(row: &Row, report: &mut Report) {
     selected(&set, &ids, row, report);
     copied_from(&set, &ids, row, report);
     written(&ids, &bytes, row, report);
+    pushed(&ids, &bytes, row, report);
+    appended_at_cuts(&ids, &bytes, row, report);
 }
 
 /// By each call that writes: into a vector, into a slice with room, and into one that lacks a byte.
@@ -51,6 +53,54 @@ fn written(ids: &[u32], bytes: &[u8], row: &Row, report: &mut Report) {
         report.check(&row.name, "encode the last id twice", encode(&twice, &mut appended), Err(SetError::NotSorted(ids.len())));
     }
     report.check(&row.name, "bytes after a refusal", appended.len(), bytes.len() + MORE);
+}
+
+/// Pushed one at a time, and in two runs. Ids that are refused leave the builder as it was.
+fn pushed(ids: &[u32], bytes: &[u8], row: &Row, report: &mut Report) {
+    let (mut single, mut runs) = (SetBuilder::new(), SetBuilder::new());
+    let (first, second) = ids.split_at(ids.len() / 2);
+    report.check(&row.name, "push", ids.iter().find_map(|it| single.push(*it).err()), None);
+    report.check(&row.name, "push_all", (runs.push_all(first), runs.push_all(second)), (Ok(()), Ok(())));
+    let right = [&[0xA5; MORE], bytes].concat();
+    for mut builder in [single, runs] {
+        if let Some(last) = ids.last() {
+            let refused = Err(SetError::NotSorted(ids.len()));
+            report.check(&row.name, "push the last id again", builder.push(*last), refused);
+            report.check(&row.name, "push_all from the last id on", builder.push_all(&[*last, u32::MAX]), refused);
+        }
+        if let Some(next) = ids.last().map_or(Some(0), |it| it.checked_add(1)) {
+            let refused = Err(SetError::NotSorted(ids.len() + 1));
+            report.check(&row.name, "push_all of an id twice", builder.push_all(&[next, next]), refused);
+        }
+        let found = (builder.len(), builder.is_empty(), builder.last(), builder.ids() == ids);
+        report.check(&row.name, "what a builder has", found, (ids.len(), ids.is_empty(), ids.last().copied(), true));
+        let mut out = vec![0xA5; MORE];
+        report.check(&row.name, "encode of a builder", builder.encode(&mut out), Ok(()));
+        report.check(&row.name, "bytes of a builder", out == right, true);
+    }
+}
+
+/// Ids that follow the set of those before some cuts: at the ends, in the middle, and at the edges of the first chunk and the last one.
+fn appended_at_cuts(ids: &[u32], bytes: &[u8], row: &Row, report: &mut Report) {
+    let keys = ids.first().zip(ids.last()).map(|(first, last)| (first >> 16, last >> 16)).unwrap_or((0, 0));
+    let edges = (ids.partition_point(|it| it >> 16 <= keys.0), ids.partition_point(|it| it >> 16 < keys.1));
+    let cuts = [0, 1, ids.len() / 2, edges.0, edges.1, edges.1 + 1, ids.len().saturating_sub(1), ids.len()];
+    let right = [&[0xA5; MORE], bytes].concat();
+    let refused = |set: &IdSet<'_>, more: &[u32], out: &mut Vec<u8>, position: usize| {
+        let len = out.len();
+        append(set, more, out) == Err(SetError::NotSorted(position)) && out.len() == len
+    };
+    let is_right = |cut: &usize| {
+        let ((before, after), mut first, mut out) = (ids.split_at(*cut), vec![], vec![0xA5; MORE]);
+        let set = encode(before, &mut first).and_then(|_| IdSet::open(&first)).unwrap();
+        let twice = after.last().map(|last| [after, &[*last]].concat());
+        append(&set, after, &mut out) == Ok(())
+            && out == right
+            && before.last().is_none_or(|last| refused(&set, &[*last], &mut out, before.len()))
+            && twice.is_none_or(|more| refused(&set, &more, &mut out, ids.len()))
+    };
+    let wrong: Vec<usize> = cuts.into_iter().filter(|it| *it <= ids.len() && !is_right(it)).collect();
+    report.check(&row.name, "cuts whose append is wrong", wrong, vec![]);
 }
 
 /// Each id, the numbers beside it, those with one other bit in each half, and the least and greatest number.

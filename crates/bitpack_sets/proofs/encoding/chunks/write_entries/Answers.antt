@@ -10,7 +10,7 @@ use Rattle.bitpack_sets.specs.Written.{IsChunk, lows}
 
 pub loop-left-init : goal.loop-left-init
 loop-left-init c =
-    entries_start c.args.ids.now c.args.end_size c.args.sum_size c.args.keys.now c.args.ends.now c.args.sums.now c.args.out.now c.requires.set c.requires.keys c.requires.ends
+    entries_start c.args.ids.now c.args.start c.args.before c.args.end_size c.args.sum_size c.args.keys.now c.args.ends.now c.args.sums.now c.args.out.now c.requires.set c.requires.keys c.requires.ends
     c.requires.sums c.requires.bodies
 
 pub measure_slices-count-requires : goal.measure_slices-count-requires
@@ -33,7 +33,7 @@ slice_bounds-write_body-end c =
     let long : c.body_len-size.result ≡ length (body (lows (take run left))) =
     c.body_len-size.ensures.len (lows (take run left)) many (sym c.measure_slices-count.ensures.count) (sym c.measure_slices-count.ensures.size) in
     let room : c.loop-left.end + c.body_len-size.result ≤ length c.loop-left.out =
-    body_room c.args.ids.now c.loop-left.left.now c.loop-left.index c.loop-left.end c.loop-left.sum c.args.end_size c.args.sum_size c.run_len-run.result c.loop-left.keys
+    body_room c.args.ids.now c.loop-left.left.now c.args.start c.args.before c.loop-left.index c.loop-left.end c.loop-left.sum c.args.end_size c.args.sum_size c.run_len-run.result c.loop-left.keys
     c.loop-left.ends c.loop-left.sums c.loop-left.out c.loop-left.invariant c.run_len-run.ensures
     c.body_len-size.result long in
     search rules
@@ -49,14 +49,14 @@ write_body-requires-clause-size c =
     let long : c.body_len-size.result ≡ length (body (lows (take run left))) =
     c.body_len-size.ensures.len (lows (take run left)) many (sym c.measure_slices-count.ensures.count) (sym c.measure_slices-count.ensures.size) in
     let room : c.loop-left.end + c.body_len-size.result ≤ length c.loop-left.out =
-    body_room c.args.ids.now c.loop-left.left.now c.loop-left.index c.loop-left.end c.loop-left.sum c.args.end_size c.args.sum_size c.run_len-run.result c.loop-left.keys
+    body_room c.args.ids.now c.loop-left.left.now c.args.start c.args.before c.loop-left.index c.loop-left.end c.loop-left.sum c.args.end_size c.args.sum_size c.run_len-run.result c.loop-left.keys
     c.loop-left.ends c.loop-left.sums c.loop-left.out c.loop-left.invariant c.run_len-run.ensures
     c.body_len-size.result long in
     lent_len c.loop-left.end c.body_len-size.result c.loop-left.out room ∙ long
 
 pub write_at-requires : goal.write_at-requires
 write_at-requires c =
-    key_room c.args.ids.now c.loop-left.left.now c.loop-left.index c.loop-left.end c.loop-left.sum c.args.end_size c.args.sum_size c.run_len-run.result c.loop-left.keys
+    key_room c.args.ids.now c.loop-left.left.now c.args.start c.args.before c.loop-left.index c.loop-left.end c.loop-left.sum c.args.end_size c.args.sum_size c.run_len-run.result c.loop-left.keys
     c.loop-left.ends c.loop-left.sums c.loop-left.out c.loop-left.invariant c.run_len-run.ensures
 
 pub write_at-requires-in-loop-left : goal.write_at-requires-in-loop-left
@@ -66,13 +66,13 @@ write_at-requires-in-loop-left c =
     let many : length (lows (take run left)) ≡ run = length-map (take run left) (λ id. id % 65536) ∙ length-take-le run left c.run_len-run.ensures.within in
     let long : c.body_len-size.result ≡ length (body (lows (take run left))) =
     c.body_len-size.ensures.len (lows (take run left)) many (sym c.measure_slices-count.ensures.count) (sym c.measure_slices-count.ensures.size) in
-    end_room c.args.ids.now c.loop-left.left.now c.loop-left.index c.loop-left.end c.loop-left.sum c.args.end_size c.args.sum_size c.run_len-run.result c.loop-left.keys
+    end_room c.args.ids.now c.loop-left.left.now c.args.start c.args.before c.loop-left.index c.loop-left.end c.loop-left.sum c.args.end_size c.args.sum_size c.run_len-run.result c.loop-left.keys
     c.loop-left.ends c.loop-left.sums c.loop-left.out c.loop-left.invariant c.run_len-run.ensures
     c.body_len-size.result long
 
 pub write_at-requires-in-loop-left-2 : goal.write_at-requires-in-loop-left-2
 write_at-requires-in-loop-left-2 c =
-    sum_room c.args.ids.now c.loop-left.left.now c.loop-left.index c.loop-left.end c.loop-left.sum c.args.end_size c.args.sum_size c.run_len-run.result c.loop-left.keys
+    sum_room c.args.ids.now c.loop-left.left.now c.args.start c.args.before c.loop-left.index c.loop-left.end c.loop-left.sum c.args.end_size c.args.sum_size c.run_len-run.result c.loop-left.keys
     c.loop-left.ends c.loop-left.sums c.loop-left.out c.loop-left.invariant c.run_len-run.ensures
 
 pub loop-left-preserved : goal.loop-left-preserved
@@ -82,7 +82,7 @@ loop-left-preserved c =
     let many : length (lows (take run left)) ≡ run = length-map (take run left) (λ id. id % 65536) ∙ length-take-le run left c.run_len-run.ensures.within in
     let long : c.body_len-size.result ≡ length (body (lows (take run left))) =
     c.body_len-size.ensures.len (lows (take run left)) many (sym c.measure_slices-count.ensures.count) (sym c.measure_slices-count.ensures.size) in
-    entries_more c.args.ids.now c.loop-left.left.now c.loop-left.index c.loop-left.end c.loop-left.sum c.args.end_size c.args.sum_size c.run_len-run.result c.loop-left.keys
+    entries_more c.args.ids.now c.loop-left.left.now c.args.start c.args.before c.loop-left.index c.loop-left.end c.loop-left.sum c.args.end_size c.args.sum_size c.run_len-run.result c.loop-left.keys
     c.loop-left.ends c.loop-left.sums c.loop-left.out c.loop-left.invariant c.run_len-run.ensures
     c.body_len-size.result c.write_at.new.out c.write_at-in-loop-left.new.out c.write_at-in-loop-left-2.new.out c.write_body.new.out long c.body_len-size.ensures.few
     c.write_at.auto.out c.write_at.ensures c.write_at-in-loop-left.auto.out c.write_at-in-loop-left.ensures c.write_at-in-loop-left-2.auto.out
@@ -91,23 +91,23 @@ loop-left-preserved c =
 pub returns-clause-keys : goal.returns-clause-keys
 returns-clause-keys c =
     let none : length c.loop-left.left.now ≡ 0 = search rules in
-    (entries_end c.args.ids.now c.loop-left.left.now c.loop-left.index c.loop-left.end c.loop-left.sum c.args.end_size c.args.sum_size c.loop-left.keys c.loop-left.ends
+    (entries_end c.args.ids.now c.loop-left.left.now c.args.start c.args.before c.loop-left.index c.loop-left.end c.loop-left.sum c.args.end_size c.args.sum_size c.loop-left.keys c.loop-left.ends
     c.loop-left.sums c.loop-left.out c.loop-left.invariant none).0
 
 pub returns-clause-ends : goal.returns-clause-ends
 returns-clause-ends c =
     let none : length c.loop-left.left.now ≡ 0 = search rules in
-    (entries_end c.args.ids.now c.loop-left.left.now c.loop-left.index c.loop-left.end c.loop-left.sum c.args.end_size c.args.sum_size c.loop-left.keys c.loop-left.ends
+    (entries_end c.args.ids.now c.loop-left.left.now c.args.start c.args.before c.loop-left.index c.loop-left.end c.loop-left.sum c.args.end_size c.args.sum_size c.loop-left.keys c.loop-left.ends
     c.loop-left.sums c.loop-left.out c.loop-left.invariant none).1
 
 pub returns-clause-sums : goal.returns-clause-sums
 returns-clause-sums c =
     let none : length c.loop-left.left.now ≡ 0 = search rules in
-    (entries_end c.args.ids.now c.loop-left.left.now c.loop-left.index c.loop-left.end c.loop-left.sum c.args.end_size c.args.sum_size c.loop-left.keys c.loop-left.ends
+    (entries_end c.args.ids.now c.loop-left.left.now c.args.start c.args.before c.loop-left.index c.loop-left.end c.loop-left.sum c.args.end_size c.args.sum_size c.loop-left.keys c.loop-left.ends
     c.loop-left.sums c.loop-left.out c.loop-left.invariant none).2
 
 pub returns-clause-bodies : goal.returns-clause-bodies
 returns-clause-bodies c =
     let none : length c.loop-left.left.now ≡ 0 = search rules in
-    (entries_end c.args.ids.now c.loop-left.left.now c.loop-left.index c.loop-left.end c.loop-left.sum c.args.end_size c.args.sum_size c.loop-left.keys c.loop-left.ends
+    (entries_end c.args.ids.now c.loop-left.left.now c.args.start c.args.before c.loop-left.index c.loop-left.end c.loop-left.sum c.args.end_size c.args.sum_size c.loop-left.keys c.loop-left.ends
     c.loop-left.sums c.loop-left.out c.loop-left.invariant none).3

@@ -3,11 +3,11 @@ use Rattle.std.proofs.Common.{◌≡◌, false, sym, rules, arith}
 use Rattle.bitpack_sets.proofs.RefusalLaws.{fall_none, found_at}
 use Rattle.bitpack_sets.proofs.encoding.order.first_unsorted.Goals as goal
 
-pub returns-then-not-falls : goal.returns-then-not-falls
-returns-then-not-falls c = let none : c.falls.result ≡ false = search rules in sym (fall_none 0 c.args.ids.now (c.falls.ensures none))
+pub returns-then-not-falls-clause-found : goal.returns-then-not-falls-clause-found
+returns-then-not-falls-clause-found c = let none : c.falls.result ≡ false = search rules in sym (fall_none 0 c.args.ids.now (c.falls.ensures none))
 
-pub returns-then-ids-index : goal.returns-then-ids-index
-returns-then-ids-index c = found_at c.args.ids.now c.loop-index.index (omega arith) c.loop-index.invariant c.loop-index-test.true c.if-ids-index.true
+pub returns-then-ids-index-clause-found : goal.returns-then-ids-index-clause-found
+returns-then-ids-index-clause-found c = found_at c.args.ids.now c.loop-index.index (omega arith) c.loop-index.invariant c.loop-index-test.true c.if-ids-index.true
 
-pub returns : goal.returns
-returns c = sym (fall_none 0 c.args.ids.now (λ k lt. c.loop-index.invariant k (omega arith)))
+pub returns-clause-found : goal.returns-clause-found
+returns-clause-found c = sym (fall_none 0 c.args.ids.now (λ k lt. c.loop-index.invariant k (omega arith)))

@@ -1,0 +1,12 @@
+-- The ids of all chunks but the last.
+use Rattle.std.proofs.Common.{◌≡◌, ◌-◌, ◌*◌, ◌<◌, ◌≤◌, ℕ, List, length, arith, ap, sym, ◌∙◌}
+use Rattle.bitpack_sets.proofs.CountLaws.{bytes_are}
+use Rattle.bitpack_sets.proofs.FrontLaws.{bodies_small, front_count, front_few, front_len, front_size}
+use Rattle.bitpack_sets.proofs.encoding.copying.Front.len.Goals as goal
+use Rattle.bitpack_sets.specs.Fronts.{front_ids}
+
+pub returns-clause-len : goal.returns-clause-len
+returns-clause-len c =
+    let front = c.args.self.now in
+    let some = front.sound.some in
+    c.count_before.ensures ∙ sym (front_len front.ids front.chunks front.rest.now (bytes_are front.rest.now front.are_bytes) front.sound (front.chunks - 1) (omega arith))

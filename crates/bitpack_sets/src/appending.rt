@@ -1,0 +1,154 @@
+//! The ids of a set and more ids after them, written as one set.
+
+ghost use Rattle.std.specs.Prelude.{◌≡◌, ◌+◌, ◌-◌, ◌*◌, ◌^◌, ◌≤◌, ◌++◌, [], Err, IfErr, MatchOption, OnErr, OnOk, drop, length, vec_capacity, vec_len};
+ghost use Rattle.std.specs.List.{concat};
+ghost use Rattle.bitpack_sets.specs.Errors.{Finds};
+ghost use Rattle.bitpack_sets.specs.Fronts.{IsFront, IsNext, front_ids};
+ghost use Rattle.bitpack_sets.specs.Opened.{ids};
+ghost use Rattle.bitpack_sets.specs.Sets.{IsSet, in_chunks, parts, text};
+ghost use Rattle.bitpack_sets.specs.Written.{Appends, bodies, refusal};
+
+use crate::encoding::chunks::chunks_len;
+use crate::encoding::copying::Front;
+use crate::encoding::order::test_more;
+use crate::encoding::{append_set, append_zeros};
+use crate::id_set::IdSet;
+use crate::reserved;
+use crate::set_error::SetError;
+use std::alloc::Global;
+
+/// Appends the set of the ids of a set and of more ids after them.
+///
+/// All these ids have to increase, and are at most 268,435,456. Fails with `TooLong`, then with `NotSorted` and the position in the whole set
+/// of the first id that is not above the one before it, or with `Memory`. If both sets are in chunks, all bodies but the last are copied.
+/// It allocates for the ids that are not, and the vector grows at most once.
+pub fn append(alloc: Global, set: &IdSet, more: &[u32], out: &mut Vec<u8>) -> Result<(), SetError>
+    ensures set { OnOk result (IsSet (ids set.now ++ more.now)) }
+    ensures ok { OnOk result (out.new.items ≡ out.old.items ++ text (ids set.now ++ more.now)) }
+    ensures fault { MatchOption (refusal (ids set.now ++ more.now)) (IfErr result (λ e. e ≡ SetError.Memory))
+        (λ fault. result ≡ Err fault) }
+    ensures unchanged { OnErr result (out.new.items ≡ out.old.items) }
+    ensures kept { OnErr result (vec_capacity out.new ≡ vec_capacity out.old) }
+{
+    test_after(set, more)?;
+    let mut room = Vec::new(alloc);
+    append_ids(set, more, &mut room, out)
+}
+
+/// Tests that ids can follow the ids of a set.
+fn test_after(set: &IdSet, more: &[u32]) -> Result<(), SetError>
+    ensures fault { Finds result (refusal (ids set.now ++ more.now)) }
+    ensures set { OnOk result (IsSet (ids set.now ++ more.now)) }
+{
+    test_more(set.len(), set.last(), more)
+}
+
+/// Appends the set of these ids. It unpacks into the room.
+fn append_ids(
+    set: &IdSet,
+    more: &[u32],
+    room: &mut Vec<u32>,
+    out: &mut Vec<u8>,
+) -> Result<(), SetError>
+    requires set { IsSet (ids set.now ++ more.now) }
+    requires room { room.old.items ≡ [] }
+    ensures { Appends (text (ids set.now ++ more.now)) result out.old out.new }
+{
+    match set.front() {
+        Some(front) => append_after(&front, set, more, room, out),
+        None => append_unpacked(set, more, room, out),
+    }
+}
+
+/// Appends the set of all ids. If it is in chunks, the bodies of the first ones are copied.
+fn append_after(
+    front: &Front,
+    set: &IdSet,
+    more: &[u32],
+    room: &mut Vec<u32>,
+    out: &mut Vec<u8>,
+) -> Result<(), SetError>
+    requires set { IsSet (ids set.now ++ more.now) }
+    requires front { IsFront (front_ids front.now) (ids set.now) }
+    requires room { room.old.items ≡ [] }
+    ensures { Appends (text (ids set.now ++ more.now)) result out.old out.new }
+{
+    unpack_with(set, front.len(), more, room)?;
+    let (chunks, size) = front.measure(room.as_slice());
+    if set.len() + more.len() < 4 * chunks {
+        room.clear();
+        return append_unpacked(set, more, room, out);
+    }
+    append_copied(front, room.as_slice(), chunks, size, out)
+}
+
+/// Appends the set of all ids, after it unpacked them.
+fn append_unpacked(
+    set: &IdSet,
+    more: &[u32],
+    room: &mut Vec<u32>,
+    out: &mut Vec<u8>,
+) -> Result<(), SetError>
+    requires set { IsSet (ids set.now ++ more.now) }
+    requires room { room.old.items ≡ [] }
+    ensures { Appends (text (ids set.now ++ more.now)) result out.old out.new }
+{
+    unpack_with(set, 0, more, room)?;
+    append_set(room.as_slice(), out)
+}
+
+/// Appends the encoding of the ids of chunks, which are copied, and of ids after them.
+fn append_copied(
+    front: &Front,
+    ids: &[u32],
+    chunks: usize,
+    size: usize,
+    out: &mut Vec<u8>,
+) -> Result<(), SetError>
+    requires set { IsSet ids.now }
+    requires next { IsNext (front_ids front.now) ids.now }
+    requires most { length (front_ids front.now ++ ids.now) ≤ 2 ^ 28 }
+    requires chunks { chunks ≡ length (parts 65536 (front_ids front.now ++ ids.now)) }
+    requires few { chunks ≤ length (front_ids front.now ++ ids.now) }
+    requires size { size ≡ length (concat (bodies (front_ids front.now ++ ids.now))) }
+    requires small { size ≤ 2 * length (front_ids front.now ++ ids.now) }
+    ensures { Appends (in_chunks (front_ids front.now ++ ids.now)) result out.old out.new }
+{
+    let len = chunks_len(front.len() + ids.len(), chunks, size);
+    if out.reserve(len).is_err() {
+        return Err(SetError::Memory);
+    }
+    let start = out.len();
+    append_zeros(out, len);
+    front.write(ids, chunks, size, out.slice_mut(start..));
+    Ok(())
+}
+
+/// Appends the ids of a set from a position on, and more ids.
+fn unpack_with(set: &IdSet, from: usize, more: &[u32], out: &mut Vec<u32>) -> Result<(), SetError>
+    requires from { from ≤ length (ids set.now) }
+    requires few { length (ids set.now) + length more.now ≤ 2 ^ 28 }
+    ensures ok { OnOk result (out.new.items ≡ out.old.items ++ (drop from (ids set.now) ++ more.now)) }
+    ensures memory { IfErr result (λ e. e ≡ SetError.Memory) }
+{
+    let count = set.len() - from;
+    if out.reserve(count + more.len()).is_err() {
+        return Err(SetError::Memory);
+    }
+    append_range(set, from, count, out);
+    match out.extend_from_slice(more) {
+        Ok(()) => Ok(()),
+        Err(_) => Err(SetError::Memory),
+    }
+}
+
+/// Appends the `count` ids of a set from a position on to a vector that has the room.
+fn append_range(set: &IdSet, from: usize, count: usize, out: &mut Vec<u32>)
+    requires count { from + count ≡ length (ids set.now) }
+    requires room { vec_len out.old + count ≤ vec_capacity out.old }
+    ensures { out.new.items ≡ out.old.items ++ drop from (ids set.now) }
+{
+    let start = out.len();
+    reserved::append_zeros(out, count);
+    set.copy_range(from, out.slice_mut(start..));
+}

@@ -1,0 +1,218 @@
+//! Writes a set whose first chunks are copied from another set.
+
+ghost use Rattle.std.specs.Prelude.{◌≡◌, ◌^◌, ◌≤◌};
+ghost use Rattle.std.proofs.Props.{props};
+ghost use Rattle.bitpacking.specs.Bits.{AreBytes};
+ghost use Rattle.bitpack_sets.specs.Props.{rising_prop};
+ghost use Rattle.bitpack_sets.specs.Sound.{IsRest};
+
+use crate::directory::{begin_at, bodies_start, count_before, end_at, sum_at};
+use crate::encoding::chunks::{head_len, write_entries, write_head};
+use crate::encoding::integers::{byte_count, write_at};
+use crate::encoding::measuring::measure_chunks;
+
+/// The chunks of a set in chunks that are copied if ids follow: all but the last.
+#[derive(Clone, Copy)]
+pub(crate) struct Front<'a> {
+    // The counts of the set, and what is after these.
+    ids: usize,
+    chunks: usize,
+    rest: &'a [u8],
+    ghost few: { chunks ≤ 65536 },
+    ghost most: { ids ≤ 2 ^ 28 },
+    ghost are_bytes: { AreBytes rest.now },
+    ghost sound: { IsRest ids chunks rest.now } by { Prim.hlevel (props, rising_prop) },
+}
+
+impl<'a> Front<'a> {
+    ghost use Rattle.std.specs.Prelude.{◌+◌, ◌-◌, ◌*◌, ◌<◌, ◌++◌, length, map, take};
+    ghost use Rattle.std.specs.List.{concat};
+    ghost use Rattle.bitpack_sets.specs.Fronts.{IsNext, front_ids};
+    ghost use Rattle.bitpack_sets.specs.Sets.{IsRising, IsSet, parts};
+    ghost use Rattle.bitpack_sets.specs.Varints as varints;
+    ghost use Rattle.bitpack_sets.specs.Varints.{number};
+    ghost use Rattle.bitpack_sets.specs.Sets.{in_chunks};
+    ghost use Rattle.bitpack_sets.specs.Written.{bodies, directory, ends_text, keys_text, sums_text};
+
+    /// The chunks of a set with these counts, and these bytes after them.
+    pub(crate) fn new(ids: usize, chunks: usize, rest: &'a [u8]) -> Front<'a>
+        requires few { chunks ≤ 65536 }
+        requires most { ids ≤ 2 ^ 28 }
+        requires rest { IsRest ids chunks rest.now }
+        ensures chunks { result.chunks ≡ chunks }
+        ensures rest { result.rest.now ≡ rest.now }
+    {
+        Front { ids, chunks, rest }
+    }
+
+    /// How many chunks these are.
+    fn count(&self) -> usize
+        ensures count { result ≡ length (parts 65536 (front_ids self.now)) }
+        ensures chunks { result ≡ self.now.chunks - 1 }
+    {
+        self.chunks - 1
+    }
+
+    /// How many ids they have.
+    pub(crate) fn len(&self) -> usize
+        ensures len { result ≡ length (front_ids self.now) }
+        ensures few { result ≤ 2 ^ 28 }
+    {
+        count_before(self.chunks, self.rest, self.chunks - 1) as usize
+    }
+
+    /// How many bytes their bodies have.
+    fn size(&self) -> usize
+        ensures size { result ≡ length (concat (bodies (front_ids self.now))) }
+        ensures few { result ≤ 2 ^ 29 }
+    {
+        begin_at(self.chunks, self.rest, self.chunks - 1) as usize
+    }
+
+    /// Writes the ends of their bodies, each of `size` bytes.
+    fn copy_ends(&self, size: usize, out: &mut [u8])
+        requires { length out.old ≡ length (ends_text size 0 (front_ids self.now)) }
+        ensures { out.new ≡ ends_text size 0 (front_ids self.now) }
+    {
+        for chunk in 0..self.chunks - 1 {
+            write_at(chunk, size, end_at(self.chunks, self.rest, chunk), out);
+        }
+    }
+
+    /// Writes their sums, each of `size` bytes.
+    fn copy_sums(&self, size: usize, out: &mut [u8])
+        requires { length out.old ≡ length (sums_text size 0 (front_ids self.now)) }
+        ensures { out.new ≡ sums_text size 0 (front_ids self.now) }
+    {
+        for chunk in 0..self.chunks - 1 {
+            write_at(chunk, size, sum_at(self.chunks, self.rest, chunk), out);
+        }
+    }
+
+    /// Writes their keys, ends, sums and bodies.
+    fn copy(
+        &self,
+        end_size: usize,
+        sum_size: usize,
+        keys: &mut [u8],
+        ends: &mut [u8],
+        sums: &mut [u8],
+        out: &mut [u8],
+    )
+        requires keys { length keys.old ≡ length (keys_text (front_ids self.now)) }
+        requires ends { length ends.old ≡ length (ends_text end_size 0 (front_ids self.now)) }
+        requires sums { length sums.old ≡ length (sums_text sum_size 0 (front_ids self.now)) }
+        requires bodies { length out.old ≡ length (concat (bodies (front_ids self.now))) }
+        ensures keys { keys.new ≡ keys_text (front_ids self.now) }
+        ensures ends { ends.new ≡ ends_text end_size 0 (front_ids self.now) }
+        ensures sums { sums.new ≡ sums_text sum_size 0 (front_ids self.now) }
+        ensures bodies { out.new ≡ concat (bodies (front_ids self.now)) }
+    {
+        let count = self.count();
+        let size = self.size();
+        let start = bodies_start(self.chunks, self.rest);
+        keys.copy_from_slice(&self.rest[1..1 + 2 * count]);
+        self.copy_ends(end_size, ends);
+        self.copy_sums(sum_size, sums);
+        out.copy_from_slice(&self.rest[start..start + size]);
+    }
+
+    /// How many chunks these and ids after them have, and how many bytes their bodies.
+    pub(crate) fn measure(&self, ids: &[u32]) -> (usize, usize)
+        requires set { IsSet ids.now }
+        requires next { IsNext (front_ids self.now) ids.now }
+        ensures chunks { result.0 ≡ length (parts 65536 (front_ids self.now ++ ids.now)) }
+        ensures bodies { result.1 ≡ length (concat (bodies (front_ids self.now ++ ids.now))) }
+        ensures few { result.0 ≤ length (front_ids self.now ++ ids.now) }
+        ensures small { result.1 ≤ 2 * length (front_ids self.now ++ ids.now) }
+    {
+        let (chunks, bodies) = measure_chunks(ids);
+        (self.count() + chunks, self.size() + bodies)
+    }
+
+    /// Writes the keys, the ends, the sums and the bodies of these chunks and of ids after them.
+    fn write_entries(
+        &self,
+        ids: &[u32],
+        end_size: usize,
+        sum_size: usize,
+        keys: &mut [u8],
+        ends: &mut [u8],
+        sums: &mut [u8],
+        out: &mut [u8],
+    )
+        requires set { IsSet ids.now }
+        requires next { IsNext (front_ids self.now) ids.now }
+        requires keys { length keys.old ≡ length (keys_text (front_ids self.now ++ ids.now)) }
+        requires sizes { (end_size ≤ 4) × (sum_size ≤ 4) }
+        requires ends { length ends.old ≡ length (ends_text end_size 0 (front_ids self.now ++ ids.now)) }
+        requires sums { length sums.old ≡ length (sums_text sum_size 0 (front_ids self.now ++ ids.now)) }
+        requires bodies { length out.old ≡ length (concat (bodies (front_ids self.now ++ ids.now))) }
+        ensures keys { keys.new ≡ keys_text (front_ids self.now ++ ids.now) }
+        ensures ends { ends.new ≡ ends_text end_size 0 (front_ids self.now ++ ids.now) }
+        ensures sums { sums.new ≡ sums_text sum_size 0 (front_ids self.now ++ ids.now) }
+        ensures bodies { out.new ≡ concat (bodies (front_ids self.now ++ ids.now)) }
+    {
+        let count = self.count();
+        let size = self.size();
+        let (own_keys, later_keys) = keys.split_at_mut(2 * count);
+        let (own_ends, later_ends) = ends.split_at_mut(end_size * count);
+        let (own_sums, later_sums) = sums.split_at_mut(sum_size * count);
+        let (own_bodies, later_bodies) = out.split_at_mut(size);
+        self.copy(end_size, sum_size, own_keys, own_ends, own_sums, own_bodies);
+        write_entries(
+            ids,
+            size,
+            self.len(),
+            end_size,
+            sum_size,
+            later_keys,
+            later_ends,
+            later_sums,
+            later_bodies,
+        );
+    }
+
+    /// Writes the directory of these chunks and of ids after them, with ends and sums of these sizes, and their bodies.
+    fn write_directory(
+        &self,
+        ids: &[u32],
+        chunks: usize,
+        end_size: usize,
+        sum_size: usize,
+        out: &mut [u8],
+    )
+        requires set { IsSet ids.now }
+        requires next { IsNext (front_ids self.now) ids.now }
+        requires chunks { chunks ≡ length (parts 65536 (front_ids self.now ++ ids.now)) }
+        requires few { chunks ≤ 2 ^ 28 }
+        requires sizes { (end_size ≤ 4) × (sum_size ≤ 4) }
+        requires size { length out.old ≡ length (directory end_size sum_size (front_ids self.now ++ ids.now)) }
+        ensures { out.new ≡ directory end_size sum_size (front_ids self.now ++ ids.now) }
+    {
+        let (keys, others) = out.split_at_mut(2 * chunks);
+        let (ends, after) = others.split_at_mut(end_size * chunks);
+        let (sums, last) = after.split_at_mut(sum_size * chunks);
+        self.write_entries(ids, end_size, sum_size, keys, ends, sums, last);
+    }
+
+    /// Writes the set of the ids of these chunks and of ids after them, of `chunks` chunks whose bodies have `size` bytes.
+    pub(crate) fn write(&self, ids: &[u32], chunks: usize, size: usize, out: &mut [u8])
+        requires set { IsSet ids.now }
+        requires next { IsNext (front_ids self.now) ids.now }
+        requires most { length (front_ids self.now ++ ids.now) ≤ 2 ^ 28 }
+        requires chunks { chunks ≡ length (parts 65536 (front_ids self.now ++ ids.now)) }
+        requires few { chunks ≤ length (front_ids self.now ++ ids.now) }
+        requires size { size ≡ length (concat (bodies (front_ids self.now ++ ids.now))) }
+        requires room { length out.old ≡ length (in_chunks (front_ids self.now ++ ids.now)) }
+        ensures { out.new ≡ in_chunks (front_ids self.now ++ ids.now) }
+    {
+        let count = self.len() + ids.len();
+        let end_size = byte_count(size);
+        let sum_size = byte_count(count);
+        let len = head_len(count, chunks);
+        let (head, rest) = out.split_at_mut(len);
+        write_head(count, chunks, end_size, sum_size, head);
+        self.write_directory(ids, chunks, end_size, sum_size, rest);
+    }
+}
