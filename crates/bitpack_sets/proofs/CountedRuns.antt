@@ -1,11 +1,12 @@
 -- Slices are measured by ids that are as far apart as slices are long.
-use Rattle.std.proofs.Common.{◌≡◌, ◌≢◌, ℕ, zero, suc, ◌+◌, ◌-◌, ◌*◌, ◌/◌, ◌%◌, ◌^◌, ◌<◌, ◌≤◌, Bool, true, false, not, eqb, ltb, List, [], ◌∷◌, map, length, get_or, take, drop, min, refl, sym, ap, ◌∙◌, arith, cond, inl, inr, le_trans, length-drop, length-append}
+use Rattle.std.proofs.Common.{◌≡◌, ◌≢◌, ℕ, zero, suc, ◌+◌, ◌-◌, ◌*◌, ◌/◌, ◌%◌, ◌^◌, ◌<◌, ◌≤◌, Bool, true, false, not, eqb, ltb, List, [], ◌∷◌, map, length, get_or, take, drop, min, refl, sym, ap, ◌∙◌, arith, cond, inl, inr, subst, le_trans, length-drop, length-append}
 use mir.Val.{bool_byte}
 use Rattle.std.proofs.lemmas.Bool.{cases_eq, cases_lt, cond_above, cond_below}
 use Rattle.std.proofs.lemmas.Bool.Decides.{eqb_tells}
 use Rattle.std.proofs.lemmas.List.{drop_more, length-map, length-take-le}
 use Rattle.std.proofs.Math.Nat.{div-mul-le_self}
 use Rattle.std.proofs.lemmas.Nat.{le-div}
+use Rattle.bitpack_sets.proofs.FallLaws.{Counted, counted_other, counted_same}
 use Rattle.bitpack_sets.proofs.PartLaws.{AreParts}
 use Rattle.bitpack_sets.proofs.RunLaws.{chunk_few, chunk_rest, get_drop, slice_part, slices_are}
 use Rattle.bitpack_sets.proofs.SliceLaws.{rising_room}
@@ -191,6 +192,20 @@ step_of false = refl
 
 pub step_is : (m n : ℕ) → bool_byte (not (eqb m n)) ≡ cond (eqb m n) 0 1
 step_is m n = step_of (eqb m n)
+
+-- an id more is counted if it has another quotient than the one before
+pub counted_next : (base count i : ℕ) (xs : List ℕ) → 1 ≤ i → i < length xs → Counted base count i xs
+    → Counted base (count + bool_byte (not (eqb (get_or xs i 0 / base) (get_or xs (i - 1) 0 / base)))) (i + 1) xs
+counted_next base count i xs some lt so_far = elim (cases_eq (get_or xs i 0 / base) (get_or xs (i - 1) 0 / base)) [
+  | inl same ↦
+      let e = step_is (get_or xs i 0 / base) (get_or xs (i - 1) 0 / base) ∙ agree _ _ same in
+      let f : count ≡ count + bool_byte (not (eqb (get_or xs i 0 / base) (get_or xs (i - 1) 0 / base))) = omega arith in
+      subst (λ n. Counted base n (i + 1) xs) f (counted_same base count i xs some lt same so_far)
+  | inr other ↦
+      let e = step_is (get_or xs i 0 / base) (get_or xs (i - 1) 0 / base) ∙ differ _ _ other in
+      let f : count + 1 ≡ count + bool_byte (not (eqb (get_or xs i 0 / base) (get_or xs (i - 1) 0 / base))) = omega arith in
+      subst (λ n. Counted base n (i + 1) xs) f (counted_other base count i xs some lt other so_far)
+]
 
 few_of : (b : Bool) → bool_byte (not b) ≤ 1
 few_of true = omega arith

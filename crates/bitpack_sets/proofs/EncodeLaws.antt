@@ -33,19 +33,19 @@ pub few_measured : (ids : List ℕ) (len : ℕ) → length ids ≤ 127 → len �
 few_measured ids len few e = record {
   len_is = e ∙ sym (ap length (few_is ids few));
   chunks_is = λ many. absurd (omega arith);
-  bytes_is = λ many. absurd (omega arith);
+  bytes_is = λ many more. absurd (omega arith);
   few = omega arith;
   small = omega arith;
 }
 
-pub array_measured : (ids : List ℕ) (len chunks size : ℕ) → 127 < length ids → chunks ≡ length (parts 65536 ids) → size ≡ length (concat (bodies ids)) → chunks ≤ length ids
-    → size ≤ 2 * length ids → length ids < 4 * chunks → len ≡ 1 + length (number (length ids)) + 4 * length ids → IsMeasured ids len chunks size
-array_measured ids len chunks size many a b few small less e = record {
+pub array_measured : (ids : List ℕ) (len chunks : ℕ) → 127 < length ids → chunks ≡ length (parts 65536 ids) → chunks ≤ length ids → length ids < 4 * chunks
+    → len ≡ 1 + length (number (length ids)) + 4 * length ids → IsMeasured ids len chunks 0
+array_measured ids len chunks many a few less e = record {
   len_is = e ∙ sym (array_size ids) ∙ sym (ap length (array_is ids chunks many a less));
   chunks_is = λ _. a;
-  bytes_is = λ _. b;
+  bytes_is = λ _ more. absurd (omega arith);
   few = few;
-  small = small;
+  small = omega arith;
 }
 
 pub chunks_measured : (ids : List ℕ) (len chunks size : ℕ) → 127 < length ids → chunks ≡ length (parts 65536 ids) → size ≡ length (concat (bodies ids)) → chunks ≤ length ids
@@ -54,7 +54,7 @@ pub chunks_measured : (ids : List ℕ) (len chunks size : ℕ) → 127 < length 
 chunks_measured ids len chunks size many a b few small more e = record {
   len_is = e ∙ sym (chunks_length ids chunks size a b) ∙ sym (ap length (chunks_is ids chunks many a more));
   chunks_is = λ _. a;
-  bytes_is = λ _. b;
+  bytes_is = λ _ _. b;
   few = few;
   small = small;
 }

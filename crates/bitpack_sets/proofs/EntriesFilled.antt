@@ -13,7 +13,7 @@ use Rattle.bitpack_sets.specs.Written.{IsRun, bodies, ends_text, keys_text, lows
 
 -- the entries and bodies of the chunks that are left are still to be written
 pub record EntriesLeft (ids left : List ℕ) (start before index end sum e z : ℕ) (keys ends sums' bytes : List ℕ) : Type 0 where
-  pub measured : ChunksLeft ids left index end
+  pub measured : ChunksLeft ids left end
   pub counted : sum + length left ≡ length ids
   pub keys_filled : IsFilled keys (2 * index) (keys_text left) (keys_text ids)
   pub ends_filled : IsFilled ends (e * index) (ends_text e (start + end) left) (ends_text e start ids)
@@ -30,7 +30,7 @@ pub entries_start : (ids : List ℕ) (start before e z : ℕ) (keys ends sums' b
     → length ends ≡ length (ends_text e start ids) → length sums' ≡ length (sums_text z before ids) → length bytes ≡ length (concat (bodies ids))
     → EntriesLeft ids ids start before 0 0 0 e z keys ends sums' bytes
 entries_start ids start before e z keys ends sums' bytes set a b d f = record {
-  measured = record { rising = set.rising; counted = omega arith; sized = omega arith; few = omega arith; small = omega arith };
+  measured = record { rising = set.rising; sized = omega arith; small = omega arith };
   counted = omega arith;
   keys_filled = start_at 2 keys _ _ (fill_start keys (keys_text ids) a);
   ends_filled = start_at e ends _ _ (subst (λ n. IsFilled ends 0 (ends_text e n ids) (ends_text e start ids)) (plus_none start) (fill_start ends (ends_text e start ids) b));
@@ -106,10 +106,10 @@ module _ (ids left : List ℕ) (start prior index end sum e z run : ℕ) (keys e
       let cut : end + (end + size - end) ≡ end + size = omega arith in
       let counted = before.counted in
       let within = is.within in
-      let measured' = chunks_more ids left index end run size before.measured is long few in
+      let measured' = chunks_more ids left end run size before.measured is long few in
       subst (λ (rest : List ℕ). EntriesLeft ids rest start prior (index + 1) (end + size) (sum + run) e z keys' ends' sums'' (put_mid end (end + size - end) bytes new)) (sym (rest_is run left))
       record {
-        measured = subst (λ (rest : List ℕ). ChunksLeft ids rest (index + 1) (end + size)) (rest_is run left) measured';
+        measured = subst (λ (rest : List ℕ). ChunksLeft ids rest (end + size)) (rest_is run left) measured';
         counted = omega (arith, length-drop run left);
         keys_filled = filled_more 2 _ keys keys' _ _ next_key a a';
         ends_filled = filled_more e _ ends ends' _ _ (next_end size long) b b';

@@ -2,57 +2,39 @@
 use Rattle.std.proofs.Common.{◌≡◌, ℕ, ◌+◌, ◌-◌, ◌*◌, ◌^◌, ◌<◌, ◌≤◌, List, [], ◌∷◌, length, take, drop, refl, sym, ap, ◌∙◌, arith, subst, length-drop}
 use Rattle.std.specs.List.{concat}
 use Rattle.bitpack_sets.proofs.BodyLaws.{body_blocks, body_numbers, numbers_len}
-use Rattle.bitpack_sets.proofs.RunLaws.{blocks_len, body_sizes, chunk_counts, rest_is, rising_rest}
+use Rattle.bitpack_sets.proofs.RunLaws.{blocks_len, body_sizes, rest_is, rising_rest}
 use Rattle.bitpack_sets.specs.Sets.{IsRising, blocks, body, numbers, parts}
 use Rattle.bitpack_sets.specs.Slices.{slice_len}
 use Rattle.bitpack_sets.specs.Written.{IsRun, bodies, lows, slices}
 
-no_parts : (base : ℕ) → parts base [] ≡ []
-unfolding parts
-no_parts base = refl
-
 -- the chunks of what is left are still to be measured
-pub record ChunksLeft (ids left : List ℕ) (chunks bytes : ℕ) : Type 0 where
+pub record ChunksLeft (ids left : List ℕ) (bytes : ℕ) : Type 0 where
   pub rising : IsRising 0 (2 ^ 32) left
-  pub counted : chunks + length (parts 65536 left) ≡ length (parts 65536 ids)
   pub sized : bytes + length (concat (bodies left)) ≡ length (concat (bodies ids))
-  pub few : chunks + length left ≤ length ids
   pub small : bytes + 2 * length left ≤ 2 * length ids
 
-pub chunks_more : (ids left : List ℕ) (chunks bytes run added : ℕ) → ChunksLeft ids left chunks bytes → IsRun 65536 left run → added ≡ length (body (lows (take run left)))
-    → added ≤ 2 * run → ChunksLeft ids (take (length left - run) (drop run left)) (chunks + 1) (bytes + added)
-chunks_more ids left chunks bytes run added before is long few' =
-    let e = chunk_counts run left is in
+pub chunks_more : (ids left : List ℕ) (bytes run added : ℕ) → ChunksLeft ids left bytes → IsRun 65536 left run → added ≡ length (body (lows (take run left)))
+    → added ≤ 2 * run → ChunksLeft ids (take (length left - run) (drop run left)) (bytes + added)
+chunks_more ids left bytes run added before is long few =
     let f = body_sizes run left is in
     let h = length-drop run left in
     let some = is.some in
     let within = is.within in
-    let counted = before.counted in
     let sized = before.sized in
-    let few = before.few in
     let small = before.small in
-    subst (λ (rest : List ℕ). ChunksLeft ids rest (chunks + 1) (bytes + added)) (sym (rest_is run left))
-    record {
-      rising = rising_rest 0 (2 ^ 32) run left before.rising;
-      counted = omega arith;
-      sized = omega arith;
-      few = omega arith;
-      small = omega arith;
-    }
+    subst (λ (rest : List ℕ). ChunksLeft ids rest (bytes + added)) (sym (rest_is run left))
+    record { rising = rising_rest 0 (2 ^ 32) run left before.rising; sized = omega arith; small = omega arith }
 
 no_bodies : length (concat (bodies [])) ≡ 0
 unfolding parts
 no_bodies = refl
 
-pub chunks_end : (ids left : List ℕ) (chunks bytes : ℕ) → ChunksLeft ids left chunks bytes → length left ≡ 0
-    → (chunks ≡ length (parts 65536 ids)) × (bytes ≡ length (concat (bodies ids)))
-chunks_end ids [] chunks bytes before none =
-    let e = ap length (no_parts 65536) in
+pub chunks_end : (ids left : List ℕ) (bytes : ℕ) → ChunksLeft ids left bytes → length left ≡ 0 → bytes ≡ length (concat (bodies ids))
+chunks_end ids [] bytes before none =
     let f : length (concat (bodies [])) ≡ 0 = no_bodies in
-    let counted = before.counted in
     let sized = before.sized in
-    (omega arith, omega arith)
-chunks_end ids (x ∷ left) chunks bytes before none = absurd (omega arith)
+    omega arith
+chunks_end ids (x ∷ left) bytes before none = absurd (omega arith)
 
 -- ---- bodies
 

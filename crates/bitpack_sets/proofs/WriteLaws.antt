@@ -80,6 +80,10 @@ unfolding number_of
 zero_bytes zero = refl
 zero_bytes (suc n) = let r : number_of (replicate n 0) ≡ 0 = zero_bytes n in omega arith
 
+pub zeros_are : (n : ℕ) → EachByte (replicate n 0)
+zeros_are zero = tt
+zeros_are (suc n) = (lit< tt, zeros_are n)
+
 -- no bit is set yet
 pub none_set : (out xs : List ℕ) → out ≡ replicate 32 0 → number_of out ≡ bits (take 0 xs)
 unfolding bits

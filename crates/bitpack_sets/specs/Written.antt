@@ -79,11 +79,11 @@ directory end_size sum_size ids = keys_text ids ++ (ends_text end_size 0 ids ++ 
 
 -- ---- what is measured, and written
 
--- the length of the encoding of a set, and from 128 ids on how many chunks it has, and how many bytes are bodies
+-- the length of the encoding of a set, from 128 ids on how many chunks it has, and in chunks how many bytes are bodies
 pub record IsMeasured (ids : List ℕ) (len chunks bytes : ℕ) : Type 0 where
   pub len_is : len ≡ length (text ids)
   pub chunks_is : 128 ≤ length ids → chunks ≡ length (parts (2 ^ 16) ids)
-  pub bytes_is : 128 ≤ length ids → bytes ≡ length (concat (bodies ids))
+  pub bytes_is : 128 ≤ length ids → 4 * chunks ≤ length ids → bytes ≡ length (concat (bodies ids))
   pub few : chunks ≤ length ids
   pub small : bytes ≤ 2 * length ids
 

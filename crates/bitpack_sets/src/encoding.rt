@@ -15,7 +15,7 @@ mod runs;
 
 use crate::encoding::chunks::{array_len, chunks_len, write_array, write_chunks};
 use crate::encoding::few::{MOST_FEW, few_len, write_few};
-use crate::encoding::measuring::measure_chunks;
+use crate::encoding::measuring::{count_chunks, measure_bodies};
 use crate::encoding::order::test_ids;
 use crate::set_error::SetError;
 
@@ -107,15 +107,16 @@ fn measure(ids: &[u32]) -> Measured
             bodies: 0,
         };
     }
-    let (chunks, bodies) = measure_chunks(ids);
+    let chunks = count_chunks(ids);
     if count < 4 * chunks {
         let len = array_len(count);
         return Measured {
             len,
             chunks,
-            bodies,
+            bodies: 0,
         };
     }
+    let bodies = measure_bodies(ids);
     let len = chunks_len(count, chunks, bodies);
     Measured {
         len,

@@ -8,25 +8,37 @@ ghost use Rattle.bitpack_sets.specs.Written.{IsChunk, bodies, capped, lows, slic
 use crate::encoding::runs::{CHUNK_BITS, run_len};
 use crate::slice::byte_len;
 
-/// How many chunks a set has, and how many bytes their bodies.
-pub(crate) fn measure_chunks(ids: &[u32]) -> (usize, usize)
+/// How many chunks a set has.
+///
+/// No branch depends on an id, so that the compiler compares several at once.
+pub(crate) fn count_chunks(ids: &[u32]) -> usize
+    requires set { IsSet ids.now }
+    requires some { 0 < length ids.now }
+    ensures count { result ≡ length (parts 65536 ids.now) }
+    ensures few { result ≤ length ids.now }
+{
+    let mut count: u32 = 1;
+    for index in 1..ids.len() {
+        count += (ids[index] / 65536 != ids[index - 1] / 65536) as u32;
+    }
+    count as usize
+}
+
+/// How many bytes the bodies of the chunks of a set have.
+pub(crate) fn measure_bodies(ids: &[u32]) -> usize
     requires { IsSet ids.now }
-    ensures chunks { result.0 ≡ length (parts 65536 ids.now) }
-    ensures bodies { result.1 ≡ length (concat (bodies ids.now)) }
-    ensures few { result.0 ≤ length ids.now }
-    ensures small { result.1 ≤ 2 * length ids.now }
+    ensures size { result ≡ length (concat (bodies ids.now)) }
+    ensures small { result ≤ 2 * length ids.now }
 {
     let mut left = ids;
-    let mut chunks = 0;
     let mut bodies = 0;
     while !left.is_empty() {
         let run = run_len(CHUNK_BITS, left);
         let (count, size) = measure_slices(&left[..run]);
         bodies += body_len(run, count, size);
-        chunks += 1;
         left = &left[run..];
     }
-    (chunks, bodies)
+    bodies
 }
 
 /// How many slices a chunk has, and how many bytes they. A slice has a byte for each id, at most 32, and none for 256 ids.

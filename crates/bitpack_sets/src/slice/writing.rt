@@ -35,9 +35,10 @@ fn set_bits(ids: &[u32], out: &mut [u8])
     requires size { length out.old ≡ 32 }
     ensures { out.new ≡ slice (map (λ id. id % 256) ids.now) }
 {
-    out.fill(0);
+    let mut bytes = [0; 32];
     for index in 0..ids.len() {
         let number = (ids[index] % 256) as u8;
-        out[(number / 8) as usize] += 1 << (number % 8);
+        bytes[(number / 8) as usize] += 1 << (number % 8);
     }
+    out.copy_from_slice(&bytes);
 }

@@ -7,12 +7,11 @@ returns-then-count-le-MOST_FEW c = few_measured c.args.ids.now c.few_len-len.res
 
 pub returns-then-count-chunks : goal.returns-then-count-chunks
 returns-then-count-chunks c =
-    array_measured c.args.ids.now c.array_len-len.result c.measure_chunks-chunks.result.0 c.measure_chunks-chunks.result.1 c.if-count-le-MOST_FEW.false
-    c.measure_chunks-chunks.ensures.chunks c.measure_chunks-chunks.ensures.bodies c.measure_chunks-chunks.ensures.few c.measure_chunks-chunks.ensures.small
+    array_measured c.args.ids.now c.array_len-len.result c.count_chunks-chunks.result c.if-count-le-MOST_FEW.false c.count_chunks-chunks.ensures.count c.count_chunks-chunks.ensures.few
     c.if-count-chunks.true c.array_len-len.ensures
 
 pub returns : goal.returns
 returns c =
-    chunks_measured c.args.ids.now c.chunks_len-len.result c.measure_chunks-chunks.result.0 c.measure_chunks-chunks.result.1 c.if-count-le-MOST_FEW.false
-    c.measure_chunks-chunks.ensures.chunks c.measure_chunks-chunks.ensures.bodies c.measure_chunks-chunks.ensures.few c.measure_chunks-chunks.ensures.small
+    chunks_measured c.args.ids.now c.chunks_len-len.result c.count_chunks-chunks.result c.measure_bodies-bodies.result c.if-count-le-MOST_FEW.false
+    c.count_chunks-chunks.ensures.count c.measure_bodies-bodies.ensures.size c.count_chunks-chunks.ensures.few c.measure_bodies-bodies.ensures.small
     c.if-count-chunks.false c.chunks_len-len.ensures

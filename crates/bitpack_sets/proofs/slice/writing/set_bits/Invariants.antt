@@ -7,7 +7,7 @@ use Rattle.bitpack_sets.specs.Slices.{number_of}
 
 abbrev pub invariant-loop-index : goal.invariant-loop-index
 invariant-loop-index l = record {
-  size : length l.out ≡ 32;
-  bytes : EachByte l.out;
-  set : number_of l.out ≡ bits (take l.index (map (λ id. id % 256) l.ids));
+  size : length l.bytes ≡ 32;
+  bytes : EachByte l.bytes;
+  set : number_of l.bytes ≡ bits (take l.index (map (λ id. id % 256) l.ids));
 }

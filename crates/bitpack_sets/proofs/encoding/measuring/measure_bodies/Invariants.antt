@@ -1,10 +1,10 @@
 -- The chunks of what is left are still to be measured.
 use Rattle.std.proofs.Common.{length}
 use Rattle.bitpack_sets.proofs.MeasureLaws.{ChunksLeft}
-use Rattle.bitpack_sets.proofs.encoding.measuring.measure_chunks.Given as goal
+use Rattle.bitpack_sets.proofs.encoding.measuring.measure_bodies.Given as goal
 
 abbrev pub invariant-loop-left : goal.invariant-loop-left
-invariant-loop-left l = ChunksLeft l.ids l.left l.chunks l.bodies
+invariant-loop-left l = ChunksLeft l.ids l.left l.bodies
 
 abbrev pub decreases-loop-left : goal.decreases-loop-left
 decreases-loop-left l = length l.left
