@@ -1,17 +1,21 @@
 -- A table of the places of the bits of each byte, tested by computing.
-use Rattle.std.proofs.Common.{◌≡◌, ℕ, zero, suc, ◌+◌, ◌*◌, ◌/◌, ◌%◌, ◌^◌, ◌<◌, ◌≤◌, ◌++◌, Bool, true, false, ◌&&◌, List, [], ◌∷◌, length, length-append, get_or, map, replicate, take, refl, sym, ◌∙◌, ap, arith, eqb, ltb, min, bit_and}
+use Rattle.std.proofs.Common.{◌≡◌, ℕ, zero, suc, ◌+◌, ◌*◌, ◌/◌, ◌%◌, ◌^◌, ◌<◌, ◌≤◌, ◌++◌, Bool, true, false, ◌&&◌, List, [], ◌∷◌, length, length-append, get_or, map, replicate, take, refl, sym, ◌∙◌, ap, arith, eqb, ltb, min, bit_and, subst, w8}
 use Rattle.std.specs.Int.{bit_at}
 use Rattle.std.specs.List.{filter, range_with_len}
-use Rattle.std.specs.Simd.Lanes.{put_chunk, zip2}
+use Rattle.std.specs.Simd.Lanes.{Each1, chunk, put_chunk, zip2}
 use Rattle.std.proofs.Math.Seq.{take-append-add}
 use Rattle.std.proofs.lemmas.Bool.{and_parts, eqb-true, ltb-true}
 use Rattle.std.proofs.lemmas.List.{ext_get_or, get_or-map, get_or-take, length-map, length-take-le, map-append, take-take}
 use Rattle.std.proofs.lemmas.Nat.Bits.{bit_at-lt, bit_at_and, bit_at_ones}
 use Rattle.std.proofs.lemmas.Nat.{shr-shr}
-use Rattle.std.proofs.lemmas.Simd.{map-map, take_more_put_chunk, zip2_splat}
+use Rattle.std.proofs.lemmas.Simd.{Each1-from_get_or, Each1-get_or, SwzOk, SwzOk-from_below, get_or-chunk, get_or-swz_l_below, length-swz_l, map-map, swz_l, take_more_put_chunk, zip2_splat}
 use Rattle.bitpack_sets.proofs.BitmapLaws.{those_agree, those_raised, those_split}
+use Rattle.bitpack_sets.proofs.DecodeLaws.{rising_top}
+use Rattle.bitpack_sets.proofs.OnesLaws.{ones_rise}
 use Rattle.bitpack_sets.proofs.RaisedLaws.{map_raised}
+use Rattle.bitpack_sets.specs.Sets.{IsRising}
 use Rattle.bitpack_sets.specs.Slices.{AreRows, ones_from}
+use mir.Val.{Fits}
 
 -- a list begins with these numbers
 abbrev pub begins : List ℕ → List ℕ → Bool
@@ -68,8 +72,8 @@ rows_right rows count tested = record {
 
 -- ---- a row of eight, added to a number and written
 
-module _ (values row lanes ones : List ℕ) (next base : ℕ) (same : lanes ≡ replicate 8 base) (long : length row ≡ 8) (room : next + 8 ≤ length values) (fits : base + 8 ≤ 2 ^ 32)
-    (few : length ones ≤ 8) (small : (k : ℕ) → k < 8 → get_or row k 0 < 8) (places : take (length ones) row ≡ ones) where
+module _ (values row lanes ones : List ℕ) (next base top : ℕ) (same : lanes ≡ replicate 8 base) (long : length row ≡ 8) (room : next + 8 ≤ length values) (fits : base + top ≤ 2 ^ 32)
+    (few : length ones ≤ 8) (small : (k : ℕ) → k < 8 → get_or row k 0 < top) (places : take (length ones) row ≡ ones) where
   abbrev pub sums : List ℕ
   sums = zip2 (λ a b. (a + b) % 2 ^ 32) (map (λ x. x) row) lanes
 
@@ -86,7 +90,7 @@ module _ (values row lanes ones : List ℕ) (next base : ℕ) (same : lanes ≡ 
   front = ext_get_or 0 _ _ (count ∙ sym (length-map ones (λ i. base + i))) (λ k lt.
       let within : k < length ones = omega (arith, lt, count) in
       let one : get_or row k 0 ≡ get_or ones k 0 = sym (get_or-take (length ones) row k 0 within) ∙ ap (λ (l : List ℕ). get_or l k 0) places in
-      let less : get_or row k 0 < 8 = small k (omega (arith, within, few)) in
+      let less : get_or row k 0 < top = small k (omega (arith, within, few)) in
       let sum : (get_or row k 0 + base) % 2 ^ 32 ≡ base + get_or row k 0 = omega (arith, less, fits) in
       get_or-take (length ones) sums k 0 within ∙ ap (λ (l : List ℕ). get_or l k 0) sums_are
       ∙ get_or-map f row k 0 0 (omega (arith, within, few, long)) ∙ sum ∙ ap (λ (n : ℕ). base + n) one
@@ -159,3 +163,67 @@ lanes_more base i lanes same =
 
 pub lanes_first : (base i : ℕ) (lanes : List ℕ) → lanes ≡ replicate 8 ((base + 8 * i) % 2 ^ 32) → base + 64 ≤ 2 ^ 32 → i < 8 → get_or lanes 0 0 ≡ base + 8 * i
 lanes_first base i lanes same fits lt = let e : (base + 8 * i) % 2 ^ 32 ≡ base + 8 * i = omega (arith, fits, lt) in ap (λ (l : List ℕ). get_or l 0 0) same ∙ e
+
+-- ---- eight bytes at the numbers of a row
+
+module _ (bytes row ones : List ℕ) (size : length bytes ≡ 8) (fit : Each1 (Fits w8) bytes) (long : length row ≡ 8) (few : length ones ≤ 8)
+    (small : (k : ℕ) → k < 8 → get_or row k 0 < 8) (places : take (length ones) row ≡ ones) where
+  abbrev pub taken : List ℕ
+  taken = swz_l w8 8 bytes 0 row
+
+  pub taken_long : length taken ≡ 8
+  taken_long = length-swz_l w8 8 bytes 0 row ∙ long
+
+  pub within : SwzOk w8 8 8 0 row
+  within = SwzOk-from_below w8 8 1 8 0 row refl (omega (arith, long)) (Each1-from_get_or (λ j. j < 8) row 0 (λ i lt. small i (omega (arith, lt, long))))
+
+  taken_at : (k : ℕ) → k < 8 → get_or taken k 0 ≡ get_or bytes (get_or row k 0) 0
+  taken_at k lt =
+      let e : 8 * ((0 + k) / 8) + get_or row k 0 ≡ get_or row k 0 = omega (arith, lt) in
+      get_or-swz_l_below w8 8 bytes 0 row k (omega (arith, lt, long)) (small k lt) ∙ ap (λ (j : ℕ). get_or bytes j 0) e
+
+  pub taken_small : (k : ℕ) → k < 8 → get_or taken k 0 < 256
+  taken_small k lt =
+      let f : Fits w8 (get_or bytes (get_or row k 0) 0) = Each1-get_or (Fits w8) bytes (get_or row k 0) 0 (omega (arith, small k lt, size)) fit in
+      subst (λ (n : ℕ). n < 256) (sym (taken_at k lt)) f.fits
+
+  pub taken_few : length (map (λ i. get_or bytes i 0) ones) ≤ 8
+  taken_few = omega (arith, few, length-map ones (λ i. get_or bytes i 0))
+
+  pub taken_front : take (length (map (λ i. get_or bytes i 0) ones)) taken ≡ map (λ i. get_or bytes i 0) ones
+  taken_front = ext_get_or 0 _ _ count (λ k lt.
+      let less : k < length ones = omega (arith, lt, count, same) in
+      let one : get_or row k 0 ≡ get_or ones k 0 = sym (get_or-take (length ones) row k 0 less) ∙ ap (λ (l : List ℕ). get_or l k 0) places in
+      get_or-take (length (map (λ i. get_or bytes i 0) ones)) taken k 0 (omega (arith, less, same)) ∙ taken_at k (omega (arith, less, few))
+      ∙ ap (λ (j : ℕ). get_or bytes j 0) one ∙ sym (get_or-map (λ i. get_or bytes i 0) ones k 0 0 less))
+    where
+      same : length (map (λ i. get_or bytes i 0) ones) ≡ length ones
+      same = length-map ones (λ i. get_or bytes i 0)
+
+      count : length (take (length (map (λ i. get_or bytes i 0) ones)) taken) ≡ length (map (λ i. get_or bytes i 0) ones)
+      count = length-take-le (length (map (λ i. get_or bytes i 0) ones)) taken (omega (arith, taken_few, taken_long))
+
+-- ---- the bytes whose mark is 1, eight by eight
+
+-- the elements at numbers that rise agree, if they do below the top
+pub rising_agree : (top : ℕ) (xs : List ℕ) (f g : ℕ → ℕ) → IsRising 0 top xs → ((i : ℕ) → i < top → f i ≡ g i) → map f xs ≡ map g xs
+rising_agree top xs f g rise same =
+    ext_get_or 0 _ _ (length-map xs f ∙ sym (length-map xs g)) (λ k lt.
+    let less : k < length xs = omega (arith, lt, length-map xs f) in
+    get_or-map f xs k 0 0 less ∙ same (get_or xs k 0) (rising_top 0 top k xs rise less) ∙ sym (get_or-map g xs k 0 0 less))
+
+pub chosen_more : (base i marks : ℕ) (bytes : List ℕ)
+    → map (λ j. base + j) (map (λ j. get_or bytes j 0) (ones_from marks 0 (8 * (i + 1))))
+    ≡ map (λ j. base + j) (map (λ j. get_or bytes j 0) (ones_from marks 0 (8 * i)))
+    ++ map (λ j. base + j) (map (λ j. get_or (chunk (8 * i) 8 bytes) j 0) (ones_from (bit_and (marks / 2 ^ (8 * i)) 255) 0 8))
+chosen_more base i marks bytes =
+    let e : 8 * (i + 1) ≡ 8 * i + 8 = omega arith in
+    let g : ℕ → ℕ = λ j. get_or bytes j 0 in
+    let byte : List ℕ = ones_from (bit_and (marks / 2 ^ (8 * i)) 255) 0 8 in
+    let some : List ℕ = ones_from marks 0 (8 * i) in
+    ap (λ (n : ℕ). map (λ j. base + j) (map g (ones_from marks 0 n))) e ∙ ap (λ (l : List ℕ). map (λ j. base + j) (map g l)) (byte_more marks (8 * i))
+    ∙ ap (map (λ j. base + j)) (map-append g some (map (λ j. 8 * i + j) byte)
+    ∙ ap (λ (l : List ℕ). map g some ++ l) (map-map g (λ j. 8 * i + j) byte
+    ∙ rising_agree 8 byte (λ j. g (8 * i + j)) (λ j. get_or (chunk (8 * i) 8 bytes) j 0) (ones_rise (bit_and (marks / 2 ^ (8 * i)) 255) 0 8)
+    (λ j lt. sym (get_or-chunk (8 * i) 8 bytes j 0 lt))))
+    ∙ map-append (λ j. base + j) (map g some) (map (λ j. get_or (chunk (8 * i) 8 bytes) j 0) byte)

@@ -4,8 +4,8 @@ use Rattle.std.specs.Int.{bit_at}
 use Rattle.std.specs.List.{filter, range_with_len}
 use Rattle.std.proofs.Math.Bool.{and_comm}
 use Rattle.std.proofs.Math.Nat.{pow-le-pow_right}
-use Rattle.std.proofs.lemmas.Bool.{cases_lt, le-ltb, lt-ltb, true≢false}
-use Rattle.std.proofs.lemmas.List.{drop_all, drop_more}
+use Rattle.std.proofs.lemmas.Bool.{cases_lt, cond_below, le-ltb, lt-ltb, true≢false}
+use Rattle.std.proofs.lemmas.List.{drop_all, drop_more, get_or-drop, get_or-take}
 use Rattle.std.proofs.lemmas.Map.Views.{any-filter_same}
 use Rattle.std.proofs.lemmas.Nat.Bits.{bit_at-lt, bit_at_above, bit_at_not, bit_at_ones, bit_at_ones_above}
 use Rattle.std.proofs.lemmas.Nat.{one_shl}
@@ -15,6 +15,7 @@ use Rattle.bitpack_sets.proofs.CountLaws.{few_numbers}
 use Rattle.bitpack_sets.proofs.LoadLaws.{has_those, none_there, those_are, those_rise}
 use Rattle.bitpack_sets.proofs.OnesLaws.{ones_all, rising_lower}
 use Rattle.bitpack_sets.proofs.RaisedLaws.{rise_all}
+use Rattle.bitpack_sets.proofs.RowLaws.{rising_agree}
 use Rattle.bitpack_sets.proofs.SliceLaws.{bits_room}
 use Rattle.bitpack_sets.proofs.UnpackLaws.{by_high, lows, those_by_high}
 use Rattle.bitpack_sets.specs.Bitmaps.{has_bit}
@@ -264,3 +265,37 @@ listed operation a b bits highs both left right e =
           (both h few out, left h few out, right h few out)))
           ∙ those_by_high P highs rising;
     }
+
+-- ---- the bytes of a slice, and others after them
+
+marked_same : (marks : ℕ) (bytes own : List ℕ) → length own < 32 → marks < 2 ^ length own
+    → ((i : ℕ) → i < length own → get_or bytes i 0 ≡ get_or own i 0) → marked marks bytes ≡ marked marks own
+marked_same marks bytes own few small same =
+    let n : ℕ = length own in
+    let all : ones_from marks 0 32 ≡ ones_from marks 0 n = ones_longer marks n 32 small (omega arith) in
+    ap (map (λ i. get_or bytes i 0)) all
+    ∙ rising_agree n (ones_from marks 0 n) (λ i. get_or bytes i 0) (λ i. get_or own i 0) (rise_all marks n) same
+    ∙ ap (map (λ i. get_or own i 0)) (sym all)
+
+first_bytes : (slices : List ℕ) (start count : ℕ) (bytes : List ℕ) → HasSlice slices start count → count < 32
+    → ((i : ℕ) → i < 32 → start + i < length slices → get_or bytes i 0 ≡ get_or slices (start + i) 0)
+    → (i : ℕ) → i < length (take (slice_len count) (drop start slices)) → get_or bytes i 0 ≡ get_or (take (slice_len count) (drop start slices)) i 0
+first_bytes slices start count bytes there few loaded i lt =
+    let own = few_there slices start count (take (slice_len count) (drop start slices)) there few refl in
+    let size : slice_len count ≡ count = sym (cond_below count 32 count _ few) in
+    loaded i (omega (arith, lt, own.few)) (omega (arith, lt, own.size, there.room, size))
+    ∙ sym (get_or-take (slice_len count) (drop start slices) i 0 (omega (arith, lt, own.size, size)) ∙ get_or-drop start slices i 0)
+
+pub marked_first : (slices : List ℕ) (start count marks : ℕ) (bytes : List ℕ) → HasSlice slices start count → count < 32
+    → marks < 2 ^ length (take (slice_len count) (drop start slices))
+    → ((i : ℕ) → i < 32 → start + i < length slices → get_or bytes i 0 ≡ get_or slices (start + i) 0)
+    → marked marks bytes ≡ marked marks (take (slice_len count) (drop start slices))
+marked_first slices start count marks bytes there few small loaded =
+    let own : List ℕ = take (slice_len count) (drop start slices) in
+    let is = few_there slices start count own there few refl in
+    marked_same marks bytes own is.few small (first_bytes slices start count bytes there few loaded)
+
+-- ---- a mark for each byte
+
+pub mask_small : (mask n : ℕ) → mask ≡ 2 ^ n - 1 → mask < 2 ^ n
+mask_small mask n e = omega (arith, e, pow_pos n)

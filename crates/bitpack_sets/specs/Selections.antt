@@ -19,14 +19,14 @@ numbers_at slice = slice_numbers slice.count (bytes_of slice)
 abbrev pub marked : ℕ → List ℕ → List ℕ
 marked marks bytes = map (slice_index bytes) (ones_from marks 0 32)
 
--- each mark is one of a byte
+-- the bytes are few, and each mark is one of a byte
 abbrev pub AreMarks : Selection → Type 0
-AreMarks (Bytes bytes marks) = marks < 2 ^ length bytes.now
+AreMarks (Bytes slice marks) = (slice.count < 32) × (marks < 2 ^ length (bytes_of slice))
 AreMarks (Bits words) = Unit {0}
 
 -- the numbers that are selected
 abbrev pub selected : Selection → List ℕ
-selected (Bytes bytes marks) = marked marks bytes.now
+selected (Bytes slice marks) = marked marks (bytes_of slice)
 selected (Bits words) = those 256 (has_bit words)
 
 -- the numbers of the parts of a body

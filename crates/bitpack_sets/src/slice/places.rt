@@ -1,6 +1,7 @@
 //! Numbers by the bytes of their bits, with a table.
 
 ghost use Rattle.std.specs.Prelude.{◌≡◌, ℕ, ◌+◌, ◌^◌, ◌<◌, ◌≤◌, ◌++◌, length, map, replicate, slice_index, take};
+ghost use Rattle.bitpack_sets.specs.Selections.{marked};
 ghost use Rattle.bitpack_sets.specs.Slices.{AreRows, ones_from};
 
 use std::simd::prelude::*;
@@ -46,6 +47,48 @@ pub(crate) fn unpack_bytes_of(word: u64, base: u32, out: &mut [u32], at: usize) 
         let byte = (word >> (8 * i) & 255) as u8;
         next = unpack_byte(byte, lanes, out, next);
         lanes = lanes + u32x8::splat(8);
+    }
+    next
+}
+
+/// Writes the bytes whose mark is 1, of eight, in order. Each lane of `base` is added to one. Returns where they end.
+///
+/// Eight are written, so up to eight after the end change too.
+#[inline(always)]
+fn unpack_eight(bytes: u8x8, marks: u8, base: u32x8, out: &mut [u32], at: usize) -> usize
+    requires base { base ≡ replicate 8 (slice_index base 0) }
+    requires fits { slice_index base 0 + 256 ≤ 2 ^ 32 }
+    requires room { at + 8 ≤ length out.old }
+    ensures end { result ≡ at + length (ones_from marks 0 8) }
+    ensures values { take result out.new ≡ take at out.old ++ map (λ i. slice_index base 0 + i) (map (slice_index bytes) (ones_from marks 0 8)) }
+{
+    let kept: u32x8 = bytes.swizzle_dyn(u8x8::from_array(places_in(marks))).cast();
+    (kept + base).copy_to_slice(&mut out[at..]);
+    at + marks.count_ones() as usize
+}
+
+/// Writes the bytes whose mark is 1, in order, each with `base` added. Returns where they end.
+///
+/// Does so by eight bytes, which takes the same time for any marks.
+#[inline(always)]
+pub(crate) fn unpack_chosen(
+    bytes: &[u8],
+    marks: u32,
+    base: u32,
+    out: &mut [u32],
+    at: usize,
+) -> usize
+    requires size { length bytes.now ≡ 32 }
+    requires fits { base + 256 ≤ 2 ^ 32 }
+    requires room { at + 32 ≤ length out.old }
+    ensures end { result ≡ at + length (marked marks bytes.now) }
+    ensures values { take result out.new ≡ take at out.old ++ map (λ i. base + i) (marked marks bytes.now) }
+{
+    let mut next = at;
+    for i in 0..4 {
+        let some = (marks >> (8 * i) & 255) as u8;
+        let eight = u8x8::from_slice(&bytes[8 * i..]);
+        next = unpack_eight(eight, some, u32x8::splat(base), out, next);
     }
     next
 }

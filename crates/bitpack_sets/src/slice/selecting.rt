@@ -10,12 +10,13 @@ use crate::bitmap::unpacking::{count_bits, unpack_bits};
 use crate::operation::Operation;
 use crate::slice::Slice;
 use crate::slice::marks::{bytes_from, marks_among, marks_in_bits};
+use crate::slice::places::unpack_chosen;
 
 /// Some numbers of a slice.
 #[derive(Clone, Copy)]
 pub(crate) enum Selection<'a> {
-    /// Those bytes whose mark is 1: fewer than 32 bytes, a bit for each.
-    Bytes(&'a [u8], u32),
+    /// Those bytes of a slice whose mark is 1: fewer than 32 bytes, a bit for each.
+    Bytes(Slice<'a>, u32),
     /// Those whose bit is 1.
     Bits([u64; 4]),
 }
@@ -47,7 +48,7 @@ fn select_all<'a>(slice: Slice<'a>) -> Selection<'a>
     ensures numbers { selected result ≡ numbers_at slice.entry }
 {
     if slice.count < 32 {
-        return Selection::Bytes(slice.bytes(), (1 << slice.count) - 1);
+        return Selection::Bytes(slice, (1 << slice.count) - 1);
     }
     Selection::Bits(slice.bits())
 }
@@ -75,7 +76,7 @@ fn select_common<'a>(a: Slice<'a>, b: Slice<'a>) -> Selection<'a>
     ensures marks { AreMarks result }
     ensures numbers { selected result ≡ those 256 (λ i. has i (numbers_at a.entry) && has i (numbers_at b.entry)) }
 {
-    Selection::Bytes(a.bytes(), marks_of(a, b))
+    Selection::Bytes(a, marks_of(a, b))
 }
 
 /// The bytes of a slice that another slice lacks.
@@ -85,7 +86,7 @@ fn select_alone<'a>(a: Slice<'a>, b: Slice<'a>) -> Selection<'a>
     ensures marks { AreMarks result }
     ensures numbers { selected result ≡ those 256 (λ i. has i (numbers_at a.entry) && not (has i (numbers_at b.entry))) }
 {
-    Selection::Bytes(a.bytes(), ((1 << a.count) - 1) & !marks_of(a, b))
+    Selection::Bytes(a, ((1 << a.count) - 1) & !marks_of(a, b))
 }
 
 /// Combines the bits of two slices.
@@ -115,7 +116,7 @@ impl<'a> Selection<'a> {
         ensures values { take result out.new ≡ take at out.old ++ map (λ i. base + i) (selected self.entry) }
     {
         match self {
-            Selection::Bytes(bytes, marks) => unpack_marked(bytes, marks, base, out, at),
+            Selection::Bytes(slice, marks) => unpack_marked(slice, marks, base, out, at),
             Selection::Bits(words) => unpack_bits(&words, base, out, at),
         }
     }
@@ -155,24 +156,18 @@ impl<'a> Selection<'a> {
     }
 }
 
-/// Writes the bytes whose mark is 1, each with `base` added. Returns where they end.
+/// Writes the bytes of a slice whose mark is 1, each with `base` added. Returns where they end.
 #[inline(always)]
-fn unpack_marked(bytes: &[u8], marks: u32, base: u32, out: &mut [u32], at: usize) -> usize
-    requires marks { marks < 2 ^ length bytes.now }
+fn unpack_marked(slice: Slice, marks: u32, base: u32, out: &mut [u32], at: usize) -> usize
+    requires marks { marks < 2 ^ length (bytes_of slice) }
+    requires few { slice.count < 32 }
     requires fits { base + 256 ≤ 2 ^ 32 }
     requires room { at + 32 ≤ length out.old }
-    ensures end { result ≡ at + length (marked marks bytes.now) }
-    ensures values { take result out.new ≡ take at out.old ++ map (λ i. base + i) (marked marks bytes.now) }
+    ensures end { result ≡ at + length (marked marks (bytes_of slice.entry)) }
+    ensures values { take result out.new ≡ take at out.old ++ map (λ i. base + i) (marked marks (bytes_of slice.entry)) }
 {
-    let mut next = at;
-    let mut left = marks as u64;
-    while left != 0 {
-        let place = left.trailing_zeros();
-        out[next] = base + bytes[place as usize] as u32;
-        next += 1;
-        left -= 1 << place;
-    }
-    next
+    let bytes = bytes_from(slice.slices, slice.start).to_array();
+    unpack_chosen(&bytes, marks, base, out, at)
 }
 
 /// How many marks are 1.

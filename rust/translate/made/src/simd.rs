@@ -41,6 +41,17 @@ impl u8x8 {
     pub(crate) fn from_array(bytes: [u8; 8]) -> Self {
         u8x8(bytes)
     }
+
+    #[inline(always)]
+    pub(crate) fn from_slice(bytes: &[u8]) -> Self {
+        u8x8(*bytes.first_chunk().unwrap())
+    }
+
+    /// The bytes at these indices, each below 8.
+    #[inline(always)]
+    pub(crate) fn swizzle_dyn(self, indices: Self) -> Self {
+        u8x8(four::bytes_at(self.0, indices.0))
+    }
 }
 
 /// The bytes of a vector of one word.
@@ -175,6 +186,13 @@ macro_rules! vector {
             #[inline(always)]
             pub(crate) fn from_array(bytes: [u8; $size]) -> Self {
                 $bytes($of::load_bytes(&bytes))
+            }
+
+            #[inline(always)]
+            pub(crate) fn to_array(self) -> [u8; $size] {
+                let mut bytes = [0; $size];
+                $of::store_bytes(self.0, &mut bytes);
+                bytes
             }
 
             #[inline(always)]

@@ -129,3 +129,9 @@ pub(super) fn high_bits(a: Words) -> u32 {
     store_bytes(a, &mut bytes);
     (0..16).map(|n| u32::from(bytes[n] >> 7) << n).sum()
 }
+
+/// The bytes at these indices, each below 8.
+#[inline(always)]
+pub(super) fn bytes_at(bytes: [u8; 8], indices: [u8; 8]) -> [u8; 8] {
+    indices.map(|index| bytes[index as usize & 7])
+}

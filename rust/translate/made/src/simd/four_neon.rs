@@ -121,3 +121,13 @@ pub(super) fn high_bits(a: Words) -> u32 {
     store_bytes(a, &mut bytes);
     (0..16).map(|n| u32::from(bytes[n] >> 7) << n).sum()
 }
+
+/// The bytes at these indices, each below 8.
+#[inline(always)]
+pub(super) fn bytes_at(bytes: [u8; 8], indices: [u8; 8]) -> [u8; 8] {
+    unsafe {
+        let mut taken = [0; 8];
+        vst1_u8(taken.as_mut_ptr(), vtbl1_u8(vld1_u8(bytes.as_ptr()), vld1_u8(indices.as_ptr())));
+        taken
+    }
+}

@@ -131,3 +131,20 @@ pub(super) fn least_bytes(a: Words, b: Words) -> Words {
 pub(super) fn high_bits(a: Words) -> u32 {
     unsafe { _mm_movemask_epi8(a) as u32 }
 }
+
+/// The bytes at these indices, each below 8.
+#[inline(always)]
+#[cfg(target_feature = "ssse3")]
+pub(super) fn bytes_at(bytes: [u8; 8], indices: [u8; 8]) -> [u8; 8] {
+    unsafe {
+        let all = _mm_cvtsi64_si128(i64::from_le_bytes(bytes));
+        _mm_cvtsi128_si64(_mm_shuffle_epi8(all, _mm_cvtsi64_si128(i64::from_le_bytes(indices)))).to_le_bytes()
+    }
+}
+
+/// The bytes at these indices, each below 8.
+#[inline(always)]
+#[cfg(not(target_feature = "ssse3"))]
+pub(super) fn bytes_at(bytes: [u8; 8], indices: [u8; 8]) -> [u8; 8] {
+    indices.map(|index| bytes[index as usize & 7])
+}

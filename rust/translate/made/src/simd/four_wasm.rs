@@ -118,3 +118,10 @@ pub(super) fn least_bytes(a: Words, b: Words) -> Words {
 pub(super) fn high_bits(a: Words) -> u32 {
     u8x16_bitmask(a) as u32
 }
+
+/// The bytes at these indices, each below 8.
+#[inline(always)]
+pub(super) fn bytes_at(bytes: [u8; 8], indices: [u8; 8]) -> [u8; 8] {
+    let all = i8x16_swizzle(i64x2(i64::from_le_bytes(bytes), 0), i64x2(i64::from_le_bytes(indices), 0));
+    i64x2_extract_lane::<0>(all).to_le_bytes()
+}

@@ -11,5 +11,5 @@ returns-clause-end c = ap (λ (n : ℕ). c.args.at + n) (sym (ones_counted c.arg
 
 pub returns-clause-values : goal.returns-clause-values
 returns-clause-values c =
-    row_written c.args.out.now c.places_in.result c.args.base (ones_from c.args.byte 0 8) c.args.at (get_or c.args.base 0 0) c.requires.base (search rules) c.requires.room c.requires.fits
+    row_written c.args.out.now c.places_in.result c.args.base (ones_from c.args.byte 0 8) c.args.at (get_or c.args.base 0 0) 8 c.requires.base (search rules) c.requires.room c.requires.fits
     (ones_few c.args.byte 0 8) c.places_in.ensures.small c.places_in.ensures.places _ (ones_counted c.args.byte 8 c.ranges.byte.fits)
