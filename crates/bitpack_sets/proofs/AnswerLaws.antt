@@ -207,7 +207,7 @@ counted_all count all more so none =
 pub answer_few : (operation : Operation) (xs ys : List ℕ) → length (answer operation xs ys) ≤ 2 ^ 32
 answer_few operation xs ys = those_few (2 ^ 32) (λ x. holds operation (has x xs) (has x ys))
 
-no_items : (xs : List ℕ) → length xs ≡ 0 → xs ≡ []
+pub no_items : (xs : List ℕ) → length xs ≡ 0 → xs ≡ []
 no_items [] e = refl
 no_items (x ∷ xs) e = absurd (omega arith)
 

@@ -9,7 +9,7 @@ ghost use Rattle.bitpack_sets.specs.Sound.{IsRest};
 use crate::directory::{begin_at, bodies_start, count_before, end_at, sum_at};
 use crate::encoding::chunks::{head_len, write_entries, write_head};
 use crate::encoding::integers::{byte_count, write_at};
-use crate::encoding::measuring::measure_chunks;
+use crate::encoding::measuring::{count_chunks, measure_bodies};
 
 /// The chunks of a set in chunks that are copied if ids follow: all but the last.
 #[derive(Clone, Copy)]
@@ -126,8 +126,9 @@ impl<'a> Front<'a> {
         ensures few { result.0 ≤ length (front_ids self.now ++ ids.now) }
         ensures small { result.1 ≤ 2 * length (front_ids self.now ++ ids.now) }
     {
-        let (chunks, bodies) = measure_chunks(ids);
-        (self.count() + chunks, self.size() + bodies)
+        let chunks = self.count() + count_chunks(ids);
+        let bodies = self.size() + measure_bodies(ids);
+        (chunks, bodies)
     }
 
     /// Writes the keys, the ends, the sums and the bodies of these chunks and of ids after them.

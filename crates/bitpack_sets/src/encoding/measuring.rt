@@ -12,11 +12,13 @@ use crate::slice::byte_len;
 ///
 /// No branch depends on an id, so that the compiler compares several at once.
 pub(crate) fn count_chunks(ids: &[u32]) -> usize
-    requires set { IsSet ids.now }
-    requires some { 0 < length ids.now }
+    requires { IsSet ids.now }
     ensures count { result ≡ length (parts 65536 ids.now) }
     ensures few { result ≤ length ids.now }
 {
+    if ids.len() == 0 {
+        return 0;
+    }
     let mut count: u32 = 1;
     for index in 1..ids.len() {
         count += (ids[index] / 65536 != ids[index - 1] / 65536) as u32;

@@ -1,5 +1,7 @@
 -- One id more.
-use Rattle.std.proofs.Common.{◌-◌, ◌/◌, get_or, arith}
+use Rattle.std.proofs.Common.{◌≡◌, ◌-◌, ◌/◌, ℕ, List, [], ap, refl, ◌∙◌, get_or, length, arith, sym}
+use Rattle.bitpack_sets.specs.Sets.{parts}
+use Rattle.bitpack_sets.proofs.AnswerLaws.{no_items}
 use Rattle.bitpack_sets.proofs.CountedRuns.{counted_next, step_few}
 use Rattle.bitpack_sets.proofs.FallLaws.{counted_done, counted_start}
 use Rattle.bitpack_sets.proofs.encoding.measuring.count_chunks.Goals as goal
@@ -10,7 +12,7 @@ loop-index-init c = record { few = omega arith; counted = counted_start 65536 c.
 pub overflow_add-count : goal.overflow_add-count
 overflow_add-count c =
     let one = step_few (get_or c.args.ids.now c.loop-index.index 0 / 65536) (get_or c.args.ids.now (c.loop-index.index - 1) 0 / 65536) in
-    let few = c.requires.set.few in
+    let few = c.requires.few in
     omega arith
 
 pub loop-index-preserved : goal.loop-index-preserved
@@ -23,4 +25,11 @@ loop-index-preserved c =
 
 pub returns-clause-count : goal.returns-clause-count
 returns-clause-count c =
-    counted_done 65536 c.loop-index.count c.loop-index.index c.args.ids.now c.requires.some (omega arith) c.loop-index.invariant.counted
+    counted_done 65536 c.loop-index.count c.loop-index.index c.args.ids.now (omega arith) (omega arith) c.loop-index.invariant.counted
+
+none_counted : 0 ≡ length (parts 65536 [])
+unfolding parts
+none_counted = refl
+
+pub returns-then-ids-eq0-clause-count : goal.returns-then-ids-eq0-clause-count
+returns-then-ids-eq0-clause-count c = none_counted ∙ sym (ap (λ (l : List ℕ). length (parts 65536 l)) (no_items c.args.ids.now (omega arith)))

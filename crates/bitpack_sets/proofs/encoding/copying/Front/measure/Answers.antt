@@ -11,13 +11,13 @@ use Rattle.bitpack_sets.specs.Written.{bodies}
 pub returns-clause-chunks : goal.returns-clause-chunks
 returns-clause-chunks c =
     let both = count_both (front_ids c.args.self.now) c.args.ids.now c.requires.next in
-    omega (arith, both, c.count.ensures.count, c.measure_chunks-chunks.ensures.chunks)
+    omega (arith, both, c.count.ensures.count, c.count_chunks.ensures.count)
 
 pub returns-clause-bodies : goal.returns-clause-bodies
 returns-clause-bodies c =
     let both = ap length (concat_both (front_ids c.args.self.now) c.args.ids.now c.requires.next) in
     let long = length-append (concat (bodies (front_ids c.args.self.now))) (concat (bodies c.args.ids.now)) in
-    omega (arith, both, long, c.size.ensures.size, c.measure_chunks-chunks.ensures.bodies)
+    omega (arith, both, long, c.size.ensures.size, c.measure_bodies.ensures.size)
 
 pub returns-clause-few : goal.returns-clause-few
 returns-clause-few c =
