@@ -25,12 +25,11 @@ pub(crate) struct Front<'a> {
 }
 
 impl<'a> Front<'a> {
-    ghost use Rattle.std.specs.Prelude.{◌+◌, ◌-◌, ◌*◌, ◌<◌, ◌++◌, length, map, take};
+    ghost use Rattle.std.specs.Prelude.{◌+◌, ◌-◌, ◌*◌, ◌<◌, ◌++◌, length};
     ghost use Rattle.std.specs.List.{concat};
     ghost use Rattle.bitpack_sets.specs.Fronts.{IsNext, front_ids};
-    ghost use Rattle.bitpack_sets.specs.Sets.{IsRising, IsSet, parts};
+    ghost use Rattle.bitpack_sets.specs.Sets.{IsSet, parts};
     ghost use Rattle.bitpack_sets.specs.Varints as varints;
-    ghost use Rattle.bitpack_sets.specs.Varints.{number};
     ghost use Rattle.bitpack_sets.specs.Sets.{in_chunks};
     ghost use Rattle.bitpack_sets.specs.Written.{bodies, directory, ends_text, keys_text, sums_text};
 

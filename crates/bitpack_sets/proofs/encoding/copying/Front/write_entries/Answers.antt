@@ -1,10 +1,10 @@
 -- Each part of the directory begins with that of the chunks that are copied.
-use Rattle.std.proofs.Common.{◌≡◌, ◌+◌, ◌*◌, ◌≤◌, ◌++◌, ℕ, List, length, arith, ap, sym, ◌∙◌, refl, length-append}
+use Rattle.std.proofs.Common.{◌≡◌, ◌+◌, ◌++◌, ℕ, List, length, arith, ap, sym, ◌∙◌, refl, length-append}
 use Rattle.std.specs.List.{concat}
 use Rattle.bitpack_sets.proofs.FrontTexts.{concat_both, ends_split, keys_split, sums_split}
 use Rattle.bitpack_sets.proofs.encoding.copying.Front.write_entries.Goals as goal
 use Rattle.bitpack_sets.specs.Fronts.{front_ids}
-use Rattle.bitpack_sets.specs.Written.{bodies, ends_text, keys_text, sums_text}
+use Rattle.bitpack_sets.specs.Written.{bodies}
 
 pub split_at_mut-own_keys-requires : goal.split_at_mut-own_keys-requires
 split_at_mut-own_keys-requires c =
