@@ -157,8 +157,8 @@ impl<'a> Front<'a> {
         let (own_keys, later_keys) = keys.split_at_mut(2 * count);
         let (own_ends, later_ends) = ends.split_at_mut(end_size * count);
         let (own_sums, later_sums) = sums.split_at_mut(sum_size * count);
-        let (own_bodies, later_bodies) = out.split_at_mut(size);
-        self.copy(end_size, sum_size, own_keys, own_ends, own_sums, own_bodies);
+        let (own_out, later_out) = out.split_at_mut(size);
+        self.copy(end_size, sum_size, own_keys, own_ends, own_sums, own_out);
         write_entries(
             ids,
             size,
@@ -168,7 +168,7 @@ impl<'a> Front<'a> {
             later_keys,
             later_ends,
             later_sums,
-            later_bodies,
+            later_out,
         );
     }
 
