@@ -152,8 +152,7 @@ impl<'a> Front<'a> {
         ensures sums { sums.new ≡ sums_text sum_size 0 (front_ids self.now ++ ids.now) }
         ensures bodies { out.new ≡ concat (bodies (front_ids self.now ++ ids.now)) }
     {
-        let count = self.count();
-        let size = self.size();
+        let (count, size) = (self.count(), self.size());
         let (own_keys, later_keys) = keys.split_at_mut(2 * count);
         let (own_ends, later_ends) = ends.split_at_mut(end_size * count);
         let (own_sums, later_sums) = sums.split_at_mut(sum_size * count);
