@@ -1,20 +1,20 @@
 -- A set in chunks without a fault is the encoding of the ids that are read from it.
-use Rattle.std.proofs.Common.{◌≡◌, ℕ, zero, suc, ◌+◌, ◌-◌, ◌*◌, ◌/◌, ◌%◌, ◌^◌, ◌<◌, ◌≤◌, List, [], ◌∷◌, ◌++◌, map, take, drop, length, get_or, refl, sym, ap, ◌∙◌, arith, subst, length-drop, take-append-drop}
+use Rattle.std.proofs.Common.{◌≡◌, ℕ, zero, suc, ◌+◌, ◌-◌, ◌*◌, ◌^◌, ◌<◌, ◌≤◌, List, ◌∷◌, ◌++◌, map, take, drop, length, get_or, refl, sym, ap, ◌∙◌, arith, length-drop, take-append-drop}
 use Rattle.std.specs.List.{concat, flat_map, range_with_len}
-use Rattle.std.proofs.lemmas.List.{drop-drop, drop_all, drop_more, length-map, take_all}
+use Rattle.std.proofs.lemmas.List.{drop-drop, drop_more, take_all}
 use Rattle.std.proofs.lemmas.List.FromFn.{length-map-range_with_len}
 use Rattle.bitpack_sets.proofs.DecodeLaws.{bytes_dropped, number_bits}
 use Rattle.bitpack_sets.proofs.EntryLaws.{body_len, ends_grow, sums_grow}
 use Rattle.bitpack_sets.proofs.JoinLaws.{join_rises, parts_join}
-use Rattle.bitpack_sets.proofs.LongLaws.{after_counts, bodies, concat_len, counts, ends, join_len, keys, long_chunks, long_parts, total}
+use Rattle.bitpack_sets.proofs.LongLaws.{after_counts, bodies, counts, ends, join_len, keys, long_parts, total}
 use Rattle.bitpack_sets.proofs.LongLaws as texts
-use Rattle.bitpack_sets.proofs.PartLaws.{AreParts, join}
+use Rattle.bitpack_sets.proofs.PartLaws.{AreParts}
 use Rattle.bitpack_sets.proofs.ShortLaws.{Grows, before_next, map_map, map_same, short_is, shorts_back, step_of, steps_summed, steps_taken, steps_total}
 use Rattle.bitpack_sets.proofs.Words.{EachByte}
 use Rattle.bitpack_sets.specs.Directory.{before, bodies_end, bodies_start, body_at, body_numbers_of, chunk_at, chunk_ids, count_at, end_at, end_size, key_at, size_at, sum_at, sum_size}
 use Rattle.bitpack_sets.specs.Sets.{IsRising, body, in_chunks, le_bytes, parts, sums}
 use Rattle.bitpack_sets.specs.Slices.{number_of}
-use Rattle.bitpack_sets.specs.Sound.{IsEntry, IsRest}
+use Rattle.bitpack_sets.specs.Sound.{IsRest}
 use Rattle.bitpack_sets.specs.Varints.{byte_count, number, short_at}
 
 -- a part of bytes and what is after it

@@ -1,5 +1,5 @@
 -- Integers that are copied one after the other.
-use Rattle.std.proofs.Common.{◌≡◌, ℕ, zero, suc, ◌+◌, ◌-◌, ◌*◌, ◌<◌, ◌≤◌, List, [], ◌∷◌, ◌++◌, map, take, length, refl, sym, ap, ◌∙◌, arith, subst}
+use Rattle.std.proofs.Common.{◌≡◌, ℕ, suc, ◌+◌, ◌-◌, ◌*◌, ◌<◌, ◌≤◌, List, ◌++◌, map, take, length, ap, ◌∙◌, arith, subst}
 use Rattle.std.specs.List.{flat_map, range_with_len}
 use Rattle.bitpack_sets.proofs.BodyLaws.{little_len}
 use Rattle.bitpack_sets.proofs.FillLaws.{IsFilled, fill_done, fill_more, fill_room, fill_start}

@@ -1,10 +1,10 @@
 -- Chunks that are written one after the other.
-use Rattle.std.proofs.Common.{◌≡◌, ℕ, zero, suc, ◌+◌, ◌-◌, ◌*◌, ◌/◌, ◌%◌, ◌^◌, ◌<◌, ◌≤◌, List, [], ◌∷◌, ◌++◌, map, length, get_or, take, drop, refl, sym, ap, ◌∙◌, arith, subst, length-drop}
+use Rattle.std.proofs.Common.{◌≡◌, ℕ, ◌+◌, ◌-◌, ◌*◌, ◌/◌, ◌%◌, ◌≤◌, List, [], ◌∷◌, ◌++◌, map, length, get_or, take, drop, refl, sym, ◌∙◌, arith, subst, length-drop}
 use Rattle.std.specs.List.{concat, flat_map}
 use borrow.Rule.Slice.PartMut.{put_mid}
 use Rattle.std.proofs.lemmas.List.{length-map, length-take-le}
 use Rattle.bitpack_sets.proofs.BodyLaws.{little_len}
-use Rattle.bitpack_sets.proofs.FillLaws.{IsFilled, fill_done, fill_left, fill_more, fill_part, fill_room, fill_start}
+use Rattle.bitpack_sets.proofs.FillLaws.{IsFilled, fill_done, fill_more, fill_part, fill_room, fill_start}
 use Rattle.bitpack_sets.proofs.IntegerLaws.{product_more}
 use Rattle.bitpack_sets.proofs.MeasureLaws.{ChunksLeft, chunks_more}
 use Rattle.bitpack_sets.proofs.RunLaws.{rest_is, run_part}

@@ -16,10 +16,10 @@ use Rattle.bitpack_sets.proofs.PartLaws.{AreParts, join, join_parts, parts_are}
 use Rattle.bitpack_sets.proofs.RunLaws.{rising_rest}
 use Rattle.bitpack_sets.proofs.ShortLaws.{Grows, map_map, map_same, before_next, step_of, steps_summed, steps_taken, steps_total}
 use Rattle.bitpack_sets.proofs.Words.{EachByte}
-use Rattle.bitpack_sets.specs.Directory.{before, bodies_end, bodies_start, body_at, body_numbers_of, chunk_at, chunk_ids, count_at, end_at, end_size, ids_of_chunks, key_at, size_at, sum_at, sum_size}
+use Rattle.bitpack_sets.specs.Directory.{before, bodies_end, bodies_start, body_at, body_numbers_of, chunk_at, chunk_ids, count_at, end_at, ids_of_chunks, key_at, sum_at}
 use Rattle.bitpack_sets.specs.Fronts.{IsFront, IsNext}
 use Rattle.bitpack_sets.specs.Sets.{IsRising, IsSet, body, le_bytes, parts, short, sums, text}
-use Rattle.bitpack_sets.specs.Sound.{IsEntry, IsRest}
+use Rattle.bitpack_sets.specs.Sound.{IsRest}
 use Rattle.bitpack_sets.specs.Written.{bodies, keys_text}
 
 -- ---- parts of lists that follow each other

@@ -1,6 +1,6 @@
 //! An id set, read without decoding all of it. It is zero-copy: it borrows its bytes.
 
-ghost use Rattle.std.specs.Prelude.{◌≡◌, ◌^◌, ◌≤◌};
+ghost use Rattle.std.specs.Prelude.{◌≡◌, ◌≤◌};
 ghost use Rattle.bitpacking.specs.Bits.{AreBytes};
 ghost use Rattle.bitpack_sets.specs.Stated.{States};
 

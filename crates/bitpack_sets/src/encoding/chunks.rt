@@ -1,8 +1,8 @@
 //! The encoding of a set of 128 ids or more: in chunks, or an array.
 
-ghost use Rattle.std.specs.Prelude.{◌≡◌, ◌+◌, ◌*◌, ◌^◌, ◌<◌, ◌≤◌, length};
+ghost use Rattle.std.specs.Prelude.{◌≡◌, ◌+◌, ◌*◌, ◌^◌, ◌≤◌, length};
 ghost use Rattle.std.specs.List.{concat};
-ghost use Rattle.bitpack_sets.specs.Sets.{IsRising, IsSet, array, in_chunks, parts};
+ghost use Rattle.bitpack_sets.specs.Sets.{IsSet, array, in_chunks, parts};
 ghost use Rattle.bitpack_sets.specs.Varints as varints;
 ghost use Rattle.bitpack_sets.specs.Varints.{number};
 ghost use Rattle.bitpack_sets.specs.Written.{bodies, directory, ends_text, head, keys_text, sums_text};

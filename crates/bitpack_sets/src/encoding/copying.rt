@@ -25,12 +25,11 @@ pub(crate) struct Front<'a> {
 }
 
 impl<'a> Front<'a> {
-    ghost use Rattle.std.specs.Prelude.{◌+◌, ◌-◌, ◌*◌, ◌<◌, ◌++◌, length, map, take};
+    ghost use Rattle.std.specs.Prelude.{◌+◌, ◌-◌, ◌*◌, ◌<◌, ◌++◌, length};
     ghost use Rattle.std.specs.List.{concat};
     ghost use Rattle.bitpack_sets.specs.Fronts.{IsNext, front_ids};
-    ghost use Rattle.bitpack_sets.specs.Sets.{IsRising, IsSet, parts};
+    ghost use Rattle.bitpack_sets.specs.Sets.{IsSet, parts};
     ghost use Rattle.bitpack_sets.specs.Varints as varints;
-    ghost use Rattle.bitpack_sets.specs.Varints.{number};
     ghost use Rattle.bitpack_sets.specs.Sets.{in_chunks};
     ghost use Rattle.bitpack_sets.specs.Written.{bodies, directory, ends_text, keys_text, sums_text};
 
@@ -154,13 +153,12 @@ impl<'a> Front<'a> {
         ensures sums { sums.new ≡ sums_text sum_size 0 (front_ids self.now ++ ids.now) }
         ensures bodies { out.new ≡ concat (bodies (front_ids self.now ++ ids.now)) }
     {
-        let count = self.count();
-        let size = self.size();
+        let (count, size) = (self.count(), self.size());
         let (own_keys, later_keys) = keys.split_at_mut(2 * count);
         let (own_ends, later_ends) = ends.split_at_mut(end_size * count);
         let (own_sums, later_sums) = sums.split_at_mut(sum_size * count);
-        let (own_bodies, later_bodies) = out.split_at_mut(size);
-        self.copy(end_size, sum_size, own_keys, own_ends, own_sums, own_bodies);
+        let (own_out, later_out) = out.split_at_mut(size);
+        self.copy(end_size, sum_size, own_keys, own_ends, own_sums, own_out);
         write_entries(
             ids,
             size,
@@ -170,7 +168,7 @@ impl<'a> Front<'a> {
             later_keys,
             later_ends,
             later_sums,
-            later_bodies,
+            later_out,
         );
     }
 

@@ -1,9 +1,8 @@
 -- The zeros in the room that is reserved become the encoding.
-use Rattle.std.proofs.Common.{◌≡◌, ◌++◌, ◌+◌, ◌<◌, ◌≤◌, ℕ, List, drop, length, replicate, ap, sym, ◌∙◌, arith, refl, rules}
+use Rattle.std.proofs.Common.{◌≡◌, ◌++◌, ◌+◌, ℕ, List, length, replicate, ap, sym, ◌∙◌, arith}
 use Rattle.std.proofs.lemmas.List.{length-replicate}
 use Rattle.bitpack_sets.proofs.EncodeLaws.{on_err, written_over}
 use Rattle.bitpack_sets.proofs.encoding.append_set.Goals as goal
-use Rattle.bitpack_sets.specs.Sets.{text}
 
 pub returns-then-is_err-clause-room : goal.returns-then-is_err-clause-room
 returns-then-is_err-clause-room c =

@@ -101,6 +101,18 @@ fn appended_at_cuts(ids: &[u32], bytes: &[u8], row: &Row, report: &mut Report) {
     };
     let wrong: Vec<usize> = cuts.into_iter().filter(|it| *it <= ids.len() && !is_right(it)).collect();
     report.check(&row.name, "cuts whose append is wrong", wrong, vec![]);
+    appended_far_apart(ids, bytes, row, report);
+}
+
+/// As many ids follow, each in a chunk of its own, so that a set in chunks may become an array.
+fn appended_far_apart(ids: &[u32], bytes: &[u8], row: &Row, report: &mut Report) {
+    let last = ids.last().copied().unwrap_or(0) as u64;
+    let far = (1..=ids.len() as u64).map(|it| last + (it << 16));
+    let more: Vec<u32> = far.map_while(|it| u32::try_from(it).ok()).collect();
+    let (mut appended, mut right) = (vec![0xA5; MORE], vec![0xA5; MORE]);
+    let found = append(&IdSet::open(bytes).unwrap(), &more, &mut appended);
+    report.check(&row.name, "append of ids far apart", (found, encode(&[ids, &more].concat(), &mut right)), (Ok(()), Ok(())));
+    report.check(&row.name, "bytes with ids far apart", appended == right, true);
 }
 
 /// Each id, the numbers beside it, those with one other bit in each half, and the least and greatest number.

@@ -1,8 +1,8 @@
 -- The parts of the encoding have their places.
-use Rattle.std.proofs.Common.{◌≡◌, ℕ, ◌+◌, ◌*◌, ◌≤◌, List, length, ap, sym, arith, ◌∙◌, refl}
+use Rattle.std.proofs.Common.{◌≡◌, length, ap, arith, ◌∙◌, refl}
 use Rattle.bitpack_sets.proofs.LongFilled.{chunks_joined, chunks_size}
 use Rattle.bitpack_sets.proofs.encoding.chunks.write_chunks.Goals as goal
-use Rattle.bitpack_sets.specs.Varints.{byte_count, number}
+use Rattle.bitpack_sets.specs.Varints.{byte_count}
 use Rattle.bitpack_sets.specs.Written.{directory}
 
 pub split_at_mut-head-requires : goal.split_at_mut-head-requires

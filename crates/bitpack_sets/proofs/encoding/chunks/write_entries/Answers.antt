@@ -1,5 +1,5 @@
 -- The entry and the body of one chunk more are written.
-use Rattle.std.proofs.Common.{◌≡◌, ℕ, ◌+◌, ◌*◌, ◌%◌, ◌≤◌, List, length, take, ap, sym, arith, rules, ◌∙◌}
+use Rattle.std.proofs.Common.{◌≡◌, ℕ, ◌+◌, ◌%◌, ◌≤◌, List, length, take, sym, arith, rules, ◌∙◌}
 use Rattle.std.proofs.lemmas.List.{length-map, length-take-le}
 use Rattle.bitpack_sets.proofs.EntriesFilled.{body_room, end_room, entries_end, entries_more, entries_start, key_room, sum_room}
 use Rattle.bitpack_sets.proofs.IntegerLaws.{lent_len}

@@ -1,5 +1,5 @@
 -- The parts of the head have their places.
-use Rattle.std.proofs.Common.{◌≡◌, ◌+◌, ◌*◌, length, arith}
+use Rattle.std.proofs.Common.{◌+◌, ◌*◌, arith}
 use Rattle.bitpack_sets.proofs.FewLaws.{all_of}
 use Rattle.bitpack_sets.proofs.LongFilled.{head_joined}
 use Rattle.bitpack_sets.proofs.encoding.chunks.write_head.Goals as goal

@@ -1,11 +1,9 @@
 -- Ids are refused as those of the set before them and they.
-use Rattle.std.proofs.Common.{◌≡◌, ◌+◌, ◌<◌, ◌≤◌, ◌^◌, ◌++◌, List, ℕ, length, get_or, Option, Some, None, sym, ap, ◌∙◌, arith, rules}
+use Rattle.std.proofs.Common.{◌+◌, ◌<◌, ℕ, get_or, Option, sym, ap, ◌∙◌, arith, rules}
 use Rattle.std.specs.Option.{option_map}
 use Rattle.bitpack_sets.proofs.MoreLaws.{first_refused, later_refused, more_is, none_refused}
 use Rattle.bitpack_sets.proofs.encoding.order.test_more.Goals as goal
 use Rattle.bitpack_sets.proofs.encoding.order.test_more.Goals.{else-count-gt0-via-then-count-gt0+else-more-last, else-count-gt0-via-else-count-gt0}
-use Rattle.bitpack_sets.specs.Slices.{first_fall}
-use Rattle.bitpack_sets.specs.Written.{refusal}
 use Rattle.bitpack_sets.specs.declared.set_error.SetError.TheVariants.{NotSorted}
 
 pub returns-then-is_empty-clause-fault : goal.returns-then-is_empty-clause-fault

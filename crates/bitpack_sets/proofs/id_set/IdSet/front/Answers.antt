@@ -1,5 +1,5 @@
 -- A set in chunks has a last chunk.
-use Rattle.std.proofs.Common.{◌≡◌, ◌-◌, ◌*◌, ◌<◌, ◌≤◌, ◌^◌, ℕ, List, ap, arith, get_or, length, map, subst, sym, ◌∙◌, rules}
+use Rattle.std.proofs.Common.{◌≡◌, ◌-◌, ◌≤◌, ℕ, List, ap, arith, get_or, length, subst, sym, ◌∙◌, rules}
 use Rattle.bitpack_sets.proofs.CountLaws.{bytes_are}
 use Rattle.bitpack_sets.proofs.FormLaws.{some_bytes, stated_chunks}
 use Rattle.bitpack_sets.proofs.FrontLaws.{is_front, many_ids}

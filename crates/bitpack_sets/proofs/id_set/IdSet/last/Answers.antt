@@ -1,5 +1,5 @@
 -- The ids are a set, and the last is at the last position.
-use Rattle.std.proofs.Common.{◌≡◌, ◌-◌, ℕ, List, arith, ap, get_or, length, ◌∙◌, sym}
+use Rattle.std.proofs.Common.{◌≡◌, ◌-◌, ℕ, arith, ap, get_or, length, ◌∙◌, sym}
 use Rattle.bitpack_sets.specs.Opened.{ids}
 use Rattle.bitpack_sets.proofs.TextLaws.{count_stated, ids_are_read}
 use Rattle.bitpack_sets.proofs.id_set.IdSet.last.Goals as goal

@@ -1,13 +1,9 @@
 -- Keys and bodies are copied as bytes.
-use Rattle.std.proofs.Common.{◌≡◌, ◌+◌, ◌-◌, ◌*◌, ◌<◌, ◌≤◌, ◌++◌, ℕ, List, drop, length, take, arith, ap, sym, ◌∙◌, length-append, length-drop}
-use Rattle.std.specs.List.{concat}
-use Rattle.std.proofs.lemmas.List.{length-take-le}
+use Rattle.std.proofs.Common.{◌≡◌, ◌+◌, ◌-◌, ◌*◌, ℕ, drop, length, take, arith, ap, sym, ◌∙◌}
 use Rattle.bitpack_sets.proofs.CountLaws.{bytes_are}
-use Rattle.bitpack_sets.proofs.FrontLaws.{front_bodies, front_count, front_keys, front_room, front_size}
+use Rattle.bitpack_sets.proofs.FrontLaws.{front_bodies, front_keys, front_room, front_size}
 use Rattle.bitpack_sets.proofs.encoding.copying.Front.copy.Goals as goal
-use Rattle.bitpack_sets.specs.Directory.{before, bodies_start, end_at}
-use Rattle.bitpack_sets.specs.Fronts.{front_ids}
-use Rattle.bitpack_sets.specs.Written.{bodies, keys_text}
+use Rattle.bitpack_sets.specs.Directory.{before, end_at}
 
 pub slice_bounds-copy_from_slice-end : goal.slice_bounds-copy_from_slice-end
 slice_bounds-copy_from_slice-end c =

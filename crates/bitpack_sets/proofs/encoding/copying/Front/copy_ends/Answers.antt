@@ -1,12 +1,12 @@
 -- One end more is written.
-use Rattle.std.proofs.Common.{◌≡◌, ◌-◌, ◌*◌, ◌<◌, ◌≤◌, ℕ, List, length, map, arith, ap, sym, ◌∙◌}
+use Rattle.std.proofs.Common.{◌-◌, length, map, arith}
 use Rattle.bitpack_sets.proofs.CopyLaws.{copied_done, copied_more, copied_room, copied_start}
 use Rattle.bitpack_sets.proofs.CountLaws.{bytes_are}
 use Rattle.bitpack_sets.proofs.FrontLaws.{front_ends}
 use Rattle.bitpack_sets.proofs.encoding.copying.Front.copy_ends.Goals as goal
 use Rattle.bitpack_sets.specs.Directory.{end_at}
 use Rattle.bitpack_sets.specs.Fronts.{front_ids}
-use Rattle.bitpack_sets.specs.Sets.{parts, sums}
+use Rattle.bitpack_sets.specs.Sets.{sums}
 use Rattle.bitpack_sets.specs.Written.{bodies, ends_text}
 
 pub loop-chunk-init : goal.loop-chunk-init

@@ -1,5 +1,5 @@
 -- One sum more is written.
-use Rattle.std.proofs.Common.{◌≡◌, ◌-◌, ◌*◌, ◌<◌, ◌≤◌, ℕ, List, length, map, arith, ap, sym, ◌∙◌}
+use Rattle.std.proofs.Common.{◌-◌, length, map, arith}
 use Rattle.bitpack_sets.proofs.CopyLaws.{copied_done, copied_more, copied_room, copied_start}
 use Rattle.bitpack_sets.proofs.CountLaws.{bytes_are}
 use Rattle.bitpack_sets.proofs.FrontLaws.{front_sums}
@@ -7,7 +7,7 @@ use Rattle.bitpack_sets.proofs.encoding.copying.Front.copy_sums.Goals as goal
 use Rattle.bitpack_sets.specs.Directory.{sum_at}
 use Rattle.bitpack_sets.specs.Fronts.{front_ids}
 use Rattle.bitpack_sets.specs.Sets.{parts, sums}
-use Rattle.bitpack_sets.specs.Written.{bodies, sums_text}
+use Rattle.bitpack_sets.specs.Written.{sums_text}
 
 pub loop-chunk-init : goal.loop-chunk-init
 loop-chunk-init c =

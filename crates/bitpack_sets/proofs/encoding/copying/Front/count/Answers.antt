@@ -1,9 +1,8 @@
 -- All chunks but the last.
-use Rattle.std.proofs.Common.{◌≡◌, ◌-◌, ◌*◌, ◌<◌, ◌≤◌, ℕ, List, length, arith, ap, sym, ◌∙◌}
+use Rattle.std.proofs.Common.{◌-◌, arith, sym}
 use Rattle.bitpack_sets.proofs.CountLaws.{bytes_are}
-use Rattle.bitpack_sets.proofs.FrontLaws.{bodies_small, front_count, front_few, front_len, front_size}
+use Rattle.bitpack_sets.proofs.FrontLaws.{front_count}
 use Rattle.bitpack_sets.proofs.encoding.copying.Front.count.Goals as goal
-use Rattle.bitpack_sets.specs.Fronts.{front_ids}
 
 pub returns-clause-count : goal.returns-clause-count
 returns-clause-count c =

@@ -1,11 +1,10 @@
 -- No chunk has ids of both.
-use Rattle.std.proofs.Common.{◌≡◌, ◌+◌, ◌-◌, ◌*◌, ◌<◌, ◌≤◌, ◌++◌, ℕ, List, drop, length, take, arith, ap, sym, ◌∙◌, length-append, length-drop}
+use Rattle.std.proofs.Common.{◌+◌, ◌-◌, ◌++◌, ℕ, List, length, arith, ap, length-append}
 use Rattle.std.specs.List.{concat}
 use Rattle.bitpack_sets.proofs.FrontLaws.{bodies_small}
 use Rattle.bitpack_sets.proofs.FrontTexts.{concat_both, count_both, parts_most}
 use Rattle.bitpack_sets.proofs.encoding.copying.Front.measure.Goals as goal
 use Rattle.bitpack_sets.specs.Fronts.{front_ids}
-use Rattle.bitpack_sets.specs.Sets.{parts}
 use Rattle.bitpack_sets.specs.Written.{bodies}
 
 pub returns-clause-chunks : goal.returns-clause-chunks

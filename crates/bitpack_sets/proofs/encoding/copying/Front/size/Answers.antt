@@ -1,7 +1,7 @@
 -- The bodies of all chunks but the last.
-use Rattle.std.proofs.Common.{◌≡◌, ◌-◌, ◌*◌, ◌<◌, ◌≤◌, ℕ, List, length, arith, ap, sym, ◌∙◌}
+use Rattle.std.proofs.Common.{◌-◌, arith, sym, ◌∙◌}
 use Rattle.bitpack_sets.proofs.CountLaws.{bytes_are}
-use Rattle.bitpack_sets.proofs.FrontLaws.{bodies_small, front_count, front_few, front_len, front_size}
+use Rattle.bitpack_sets.proofs.FrontLaws.{bodies_small, front_few, front_size}
 use Rattle.bitpack_sets.proofs.encoding.copying.Front.size.Goals as goal
 use Rattle.bitpack_sets.specs.Fronts.{front_ids}
 

@@ -1,5 +1,5 @@
 -- The parts of the encoding have their places.
-use Rattle.std.proofs.Common.{◌≡◌, ℕ, ◌+◌, ◌*◌, ◌≤◌, ◌++◌, List, length, ap, sym, arith, ◌∙◌, length-append}
+use Rattle.std.proofs.Common.{◌≡◌, ℕ, ◌+◌, ◌++◌, List, length, ap, sym, arith, ◌∙◌, length-append}
 use Rattle.bitpack_sets.proofs.LongFilled.{chunks_joined, chunks_size}
 use Rattle.bitpack_sets.proofs.encoding.copying.Front.write.Goals as goal
 use Rattle.bitpack_sets.specs.Fronts.{front_ids}

@@ -1,10 +1,10 @@
 -- Each part of the directory begins with that of the chunks that are copied.
-use Rattle.std.proofs.Common.{◌≡◌, ◌+◌, ◌*◌, ◌≤◌, ◌++◌, ℕ, List, length, arith, ap, sym, ◌∙◌, refl, length-append}
+use Rattle.std.proofs.Common.{◌≡◌, ◌+◌, ◌++◌, ℕ, List, length, arith, ap, sym, ◌∙◌, refl, length-append}
 use Rattle.std.specs.List.{concat}
 use Rattle.bitpack_sets.proofs.FrontTexts.{concat_both, ends_split, keys_split, sums_split}
 use Rattle.bitpack_sets.proofs.encoding.copying.Front.write_entries.Goals as goal
 use Rattle.bitpack_sets.specs.Fronts.{front_ids}
-use Rattle.bitpack_sets.specs.Written.{bodies, ends_text, keys_text, sums_text}
+use Rattle.bitpack_sets.specs.Written.{bodies}
 
 pub split_at_mut-own_keys-requires : goal.split_at_mut-own_keys-requires
 split_at_mut-own_keys-requires c =
@@ -21,8 +21,8 @@ split_at_mut-own_sums-requires c =
     let split = sums_split (front_ids c.args.self.now) c.args.ids.now c.requires.next c.count-count.result c.count-count.ensures.count c.args.sum_size (length (front_ids c.args.self.now)) refl in
     omega (arith, split.all_len, c.requires.sums)
 
-pub split_at_mut-own_bodies-requires : goal.split_at_mut-own_bodies-requires
-split_at_mut-own_bodies-requires c =
+pub split_at_mut-own_out-requires : goal.split_at_mut-own_out-requires
+split_at_mut-own_out-requires c =
     let both = ap length (concat_both (front_ids c.args.self.now) c.args.ids.now c.requires.next) in
     let long = length-append (concat (bodies (front_ids c.args.self.now))) (concat (bodies c.args.ids.now)) in
     omega (arith, both, long, c.requires.bodies, c.size-size.ensures.size)
@@ -61,7 +61,7 @@ pub write_entries-requires-clause-bodies : goal.write_entries-requires-clause-bo
 write_entries-requires-clause-bodies c =
     let both = ap length (concat_both (front_ids c.args.self.now) c.args.ids.now c.requires.next) in
     let long = length-append (concat (bodies (front_ids c.args.self.now))) (concat (bodies c.args.ids.now)) in
-    omega (arith, both, long, c.requires.bodies, c.size-size.ensures.size, c.split_at_mut-own_bodies.ensures.back_len)
+    omega (arith, both, long, c.requires.bodies, c.size-size.ensures.size, c.split_at_mut-own_out.ensures.back_len)
 
 joined : (all a b a' b' : List ℕ) → a ≡ a' → b ≡ b' → all ≡ a' ++ b' → a ++ b ≡ all
 joined all a b a' b' e f g = ap (λ (l : List ℕ). l ++ b) e ∙ ap (λ (l : List ℕ). a' ++ l) f ∙ sym g
