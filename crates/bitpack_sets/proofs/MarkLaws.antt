@@ -1,13 +1,15 @@
 -- The marks of bytes that are among others.
-use Rattle.std.proofs.Common.{◌≡◌, ◌≢◌, ℕ, zero, suc, ◌+◌, ◌*◌, ◌%◌, ◌^◌, ◌-◌, ◌<◌, Bool, true, false, ◌||◌, ◌&&◌, eqb, ltb, List, map, take, length, refl, sym, ap, ◌∙◌, arith, cond, inl, inr, subst, get_or, bit_and, bit_or, min, max}
-use lib.Lanes.{mask_l}
+use Rattle.std.proofs.Common.{◌≡◌, ◌≢◌, ℕ, zero, suc, ◌+◌, ◌*◌, ◌%◌, ◌^◌, ◌-◌, ◌<◌, ◌≤◌, Bool, true, false, ◌||◌, ◌&&◌, eqb, ltb, List, ◌++◌, length-append, drop, map, take, length, refl, sym, ap, ◌∙◌, arith, cond, inl, inr, subst, get_or, bit_and, bit_or, min, max, eq-eqb, pow_pos, w8}
+use lib.Lanes.{chunk, mask_l, pick_l, top, zip2}
 use mir.Val.{bool_byte}
 use Rattle.std.specs.Int.{bit_at}
-use Rattle.std.proofs.lemmas.Bool.{cases_eq, cases_lt, le-ltb, lt-ltb}
-use Rattle.std.proofs.lemmas.List.{get_or-map, length-map}
-use Rattle.std.proofs.lemmas.Nat.Bits.{bit_at-lt, bit_at-pow_other, bit_at-pow_same, bit_at-zero, bit_at_and, bit_at_ones, bit_at_ones_above, bit_at_or}
+use Rattle.std.specs.List.{range_with_len}
+use Rattle.std.proofs.lemmas.Bool.{cases_eq, cases_lt, le-ltb, lt-ltb, ne_eqb}
+use Rattle.std.proofs.lemmas.List.{append-nil, drop_all, get_or_append_left, get_or-map, length-map}
+use Rattle.std.proofs.lemmas.Nat.Bits.{and_pow, bit_at-lt, bit_at-pow_other, bit_at-pow_same, bit_at-zero, bit_at_and, bit_at_cat_high, bit_at_cat_low, bit_at_ones, bit_at_ones_above, bit_at_or}
 use Rattle.std.proofs.lemmas.Nat.{one_shl, or_lt}
-use Rattle.std.proofs.lemmas.Simd.{bit_mask_l, mask_l-lt}
+use Rattle.std.specs.Int.Bits.{or_shifted_r}
+use Rattle.std.proofs.lemmas.Simd.{bit_mask_l, chunk-drop, get_or-chunk, pick_l-range_with_len, get_or-zip2, length-zip2, mask_l-lt, mask_l-mod, tops_compared}
 use Rattle.bitpack_sets.proofs.BitmapLaws.{has_more}
 use Rattle.bitpack_sets.specs.Reads.{has}
 
@@ -69,38 +71,78 @@ marks_first marks count i b few e =
           ∙ sym (ap (λ (c : Bool). c && b) (le-ltb i count more))
     ]
 
--- ---- marks of tests, one after the other
+-- ---- marks of 16 bytes by the bytes that have their bits
 
-moved_same : (b : Bool) (i : ℕ) → i < 32 → bit_at (bool_byte b * 2 ^ i % 2 ^ 32) i ≡ cond b 1 0
-moved_same true i h = ap (λ (n : ℕ). bit_at n i) (one_shl i 32 h) ∙ bit_at-pow_same i
-moved_same false i h = let e : 0 * 2 ^ i % 2 ^ 32 ≡ 0 = omega arith in ap (λ (n : ℕ). bit_at n i) e ∙ bit_at-zero i
+one_of : (b p : ℕ) → b < 2 → 0 < p → eqb (b * p) p ≡ eqb b 1
+one_of zero p h some = ne_eqb (0 * p) p (λ e. absurd (omega (arith, e, some)))
+one_of (suc zero) p h some = eq-eqb (1 * p) p (omega arith)
+one_of (suc (suc b)) p h some = absurd (omega arith)
 
-moved_other : (b : Bool) (i k : ℕ) → i < 32 → k ≢ i → bit_at (bool_byte b * 2 ^ i % 2 ^ 32) k ≡ 0
-moved_other true i k h ne = ap (λ (n : ℕ). bit_at n k) (one_shl i 32 h) ∙ bit_at-pow_other i k ne
-moved_other false i k h ne = let e : 0 * 2 ^ i % 2 ^ 32 ≡ 0 = omega arith in ap (λ (n : ℕ). bit_at n k) e ∙ bit_at-zero k
+one_there : (n k : ℕ) → eqb (bit_and n (2 ^ k)) (2 ^ k) ≡ eqb (bit_at n k) 1
+one_there n k = ap (λ (m : ℕ). eqb m (2 ^ k)) (and_pow n k) ∙ one_of (bit_at n k) (2 ^ k) (bit_at-lt n k) (pow_pos k)
 
-or_none : (b : Bool) → (b || false) ≡ b
-or_none true = refl
-or_none false = refl
+mark_of : (b : Bool) → eqb (cond b 1 0) 1 ≡ b
+mark_of true = refl
+mark_of false = refl
 
-further : (k i : ℕ) → k ≢ i → ltb k i ≡ ltb k (i + 1)
-further k i ne = elim (cases_lt k i) [
-  | inl less ↦ lt-ltb k i less ∙ sym (lt-ltb k (i + 1) (omega arith))
-  | inr more ↦ le-ltb k i more ∙ sym (le-ltb k (i + 1) (omega arith))
+module _ (found ones : List ℕ) (long : length found ≡ 16) (long' : length ones ≡ 16) where
+  abbrev both : List ℕ
+  both = zip2 bit_and found ones
+
+  both_long : length both ≡ 16
+  both_long = length-zip2 bit_and found ones (long ∙ sym long') ∙ long
+
+  tests_long : length (zip2 eqb both ones) ≡ 16
+  tests_long = length-zip2 eqb both ones (both_long ∙ sym long') ∙ both_long
+
+  abbrev pub half : ℕ
+  half = mask_l (map (top 7) (zip2 (λ a b. cond (eqb a b) 255 0) both ones)) % 2 ^ 64
+
+  half_is : half ≡ mask_l (zip2 eqb both ones)
+  half_is = ap (λ (ms : List Bool). mask_l ms % 2 ^ 64) (tops_compared w8 eqb both ones) ∙ mask_l-mod (zip2 eqb both ones) 64 (omega (arith, tests_long))
+
+  pub half_small : half < 2 ^ 16
+  half_small = subst (λ (n : ℕ). n < 2 ^ 16) (sym half_is) (subst (λ (n : ℕ). mask_l (zip2 eqb both ones) < 2 ^ n) tests_long (mask_l-lt (zip2 eqb both ones)))
+
+  pub half_at : (i byte r : ℕ) → i < 16 → get_or found i 0 ≡ byte → get_or ones i 0 ≡ 2 ^ r → eqb (bit_at half i) 1 ≡ eqb (bit_at byte r) 1
+  half_at i byte r lt e f =
+      ap (λ (n : ℕ). eqb (bit_at n i) 1) half_is ∙ ap (λ (n : ℕ). eqb n 1) (bit_mask_l (zip2 eqb both ones) i)
+      ∙ mark_of (get_or (zip2 eqb both ones) i false)
+      ∙ get_or-zip2 eqb both ones i 0 0 false (omega (arith, lt, both_long)) (omega (arith, lt, long'))
+      ∙ ap (λ (n : ℕ). eqb n (get_or ones i 0)) (get_or-zip2 bit_and found ones i 0 0 0 (omega (arith, lt, long)) (omega (arith, lt, long')))
+      ∙ ap (λ (n : ℕ). eqb (bit_and n (get_or ones i 0)) (get_or ones i 0)) e
+      ∙ ap (λ (n : ℕ). eqb (bit_and byte n) n) f ∙ one_there byte r
+
+pub halves_join : (bits : List ℕ) → length bits ≡ 32 → chunk 0 16 bits ++ chunk 16 16 bits ≡ bits
+halves_join bits size =
+    let last : drop 16 bits ≡ chunk 16 16 bits = chunk-drop 16 16 bits ∙ ap (λ (l : List ℕ). chunk 16 16 bits ++ l) (drop_all 32 bits (omega (arith, size))) ∙ append-nil (chunk 16 16 bits) in
+    ap (λ (l : List ℕ). chunk 0 16 bits ++ l) (sym last) ∙ sym (chunk-drop 0 16 bits)
+
+-- the marks of 16 bytes, and those of 16 more
+two_halves : (first last : ℕ) → first < 2 ^ 16 → last < 2 ^ 16 → bit_or first (last * 2 ^ 16 % 2 ^ 64) ≡ last * 2 ^ 16 + first
+two_halves first last a b = let e : last * 2 ^ 16 % 2 ^ 64 ≡ last * 2 ^ 16 = omega arith in ap (bit_or first) e ∙ or_shifted_r last 16 first a
+
+first_half : (first last i : ℕ) → first < 2 ^ 16 → last < 2 ^ 16 → i < 16 → bit_at (bit_or first (last * 2 ^ 16 % 2 ^ 64)) i ≡ bit_at first i
+first_half first last i a b lt = ap (λ (n : ℕ). bit_at n i) (two_halves first last a b) ∙ bit_at_cat_low last 16 first i lt
+
+last_half : (first last i : ℕ) → first < 2 ^ 16 → last < 2 ^ 16 → 16 ≤ i → bit_at (bit_or first (last * 2 ^ 16 % 2 ^ 64)) i ≡ bit_at last (i - 16)
+last_half first last i a b le = ap (λ (n : ℕ). bit_at n i) (two_halves first last a b) ∙ bit_at_cat_high last 16 first i a le
+
+-- 16 of 32 lanes
+pub picked : (bytes : List ℕ) (a i : ℕ) → length bytes ≡ 32 → a + 16 ≤ 32 → i < 16 → get_or (pick_l 0 (bytes ++ bytes) (range_with_len a 16)) i 0 ≡ get_or bytes (a + i) 0
+picked bytes a i size room lt =
+    ap (λ (l : List ℕ). get_or l i 0) (pick_l-range_with_len 0 (bytes ++ bytes) a 16 (omega (arith, size, room, length-append bytes bytes)))
+    ∙ get_or-chunk a 16 (bytes ++ bytes) i 0 lt ∙ get_or_append_left bytes bytes 0 (a + i) (omega (arith, size, room, lt))
+
+pub halves_marked : (first last i : ℕ) (bytes : List ℕ) (P : ℕ → Bool) → length bytes ≡ 32 → first < 2 ^ 16 → last < 2 ^ 16 → i < 32
+    → ((k : ℕ) → k < 16 → eqb (bit_at first k) 1 ≡ P (get_or (pick_l 0 (bytes ++ bytes) (range_with_len 0 16)) k 0))
+    → ((k : ℕ) → k < 16 → eqb (bit_at last k) 1 ≡ P (get_or (pick_l 0 (bytes ++ bytes) (range_with_len 16 16)) k 0))
+    → eqb (bit_at (bit_or first (last * 2 ^ 16 % 2 ^ 64)) i) 1 ≡ P (get_or bytes i 0)
+halves_marked first last i bytes P size a b small f l = elim (cases_lt i 16) [
+  | inl less ↦
+      ap (λ (n : ℕ). eqb n 1) (first_half first last i a b less) ∙ f i less
+      ∙ ap P (picked bytes 0 i size (omega arith) less ∙ ap (λ (k : ℕ). get_or bytes k 0) (omega arith))
+  | inr more ↦
+      ap (λ (n : ℕ). eqb n 1) (last_half first last i a b more) ∙ l (i - 16) (omega (arith, small, more))
+      ∙ ap P (picked bytes 16 (i - 16) size (omega arith) (omega (arith, small, more)) ∙ ap (λ (k : ℕ). get_or bytes k 0) (omega (arith, more)))
 ]
-
--- one test more
-pub mark_more : (passes : ℕ → Bool) (marks i : ℕ) (b : Bool) → i < 32 → b ≡ passes i
-    → ((k : ℕ) → k < 32 → eqb (bit_at marks k) 1 ≡ (ltb k i && passes k))
-    → (k : ℕ) → k < 32 → eqb (bit_at (bit_or marks (bool_byte b * 2 ^ i % 2 ^ 32)) k) 1 ≡ (ltb k (i + 1) && passes k)
-mark_more passes marks i b h e before k small =
-    ap (λ (n : ℕ). eqb n 1) (bit_at_or marks (bool_byte b * 2 ^ i % 2 ^ 32) k) ∙ elim (cases_eq k i) [
-      | inl same ↦
-          ap (λ (n : ℕ). eqb (max (bit_at marks k) (bit_at (bool_byte b * 2 ^ i % 2 ^ 32) n)) 1) same
-          ∙ ap (λ (n : ℕ). eqb (max (bit_at marks k) n) 1) (moved_same b i h) ∙ or_bit (bit_at marks k) b (bit_at-lt marks k)
-          ∙ ap (λ (c : Bool). b || c) (before k small ∙ ap (λ (c : Bool). c && passes k) (le-ltb k i (omega arith)))
-          ∙ or_none b ∙ e ∙ ap passes (sym same) ∙ sym (ap (λ (c : Bool). c && passes k) (lt-ltb k (i + 1) (omega arith)))
-      | inr other ↦
-          ap (λ (n : ℕ). eqb (max (bit_at marks k) n) 1) (moved_other b i k h other) ∙ or_bit (bit_at marks k) false (bit_at-lt marks k)
-          ∙ before k small ∙ ap (λ (c : Bool). c && passes k) (further k i other)
-    ]

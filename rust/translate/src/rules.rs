@@ -161,7 +161,7 @@ fn shifts<'a>(tokens: &[Token<'a>], at: usize) -> Change<'a> {
     if !tokens[at].is("<") && !tokens[at].is(">") {
         return Ok(None);
     }
-    for (vector, shift) in [("< < u32x4", "<< "), ("> > u32x4", ">> "), ("< < u32x8", "<< "), ("> > u32x8", ">> ")] {
+    for (vector, shift) in [("< < u32x4", "<< "), ("> > u32x4", ">> "), ("< < u32x8", "<< "), ("> > u32x8", ">> "), ("> > u8x16", ">> ")] {
         let Some(name) = phrase(tokens, at, &format!("{vector} : : splat (")) else {
             continue;
         };

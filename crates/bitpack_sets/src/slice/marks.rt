@@ -1,11 +1,10 @@
 //! Which bytes of a slice another slice has: a mark for each, which is a bit.
 
-ghost use Rattle.std.specs.Prelude.{◌≡◌, ℕ, ◌+◌, ◌<◌, ◌≤◌, ◌&&◌, ◌==◌, length, nat_lt, slice_index};
+ghost use Rattle.std.specs.Prelude.{◌≡◌, ℕ, ◌+◌, ◌/◌, ◌%◌, ◌^◌, ◌<◌, ◌≤◌, ◌&&◌, ◌==◌, ◌++◌, length, nat_lt, slice_index};
 ghost use Rattle.std.specs.Int.{bit_at};
 ghost use Rattle.bitpack_sets.specs.Reads.{has};
 ghost use Rattle.bitpack_sets.specs.Slices.{number_of, ones_from};
 
-use crate::slice::search::in_bits;
 use std::simd::prelude::*;
 
 /// The 32 bytes from an index on, zeros after the last.
@@ -47,17 +46,50 @@ pub(crate) fn marks_among(bytes: u8x32, count: usize, others: &[u8]) -> u32
     marks as u32 & ((1 << count) - 1)
 }
 
-/// Marks the bytes whose bits are 1.
+/// Marks the bytes whose bits are 1, of the first `count`.
 #[inline(always)]
-pub(crate) fn marks_in_bits(bytes: &[u8], bits: &[u8]) -> u32
-    requires count { length bytes.now < 32 }
+pub(crate) fn marks_in_bits(bytes: u8x32, count: usize, bits: &[u8]) -> u32
+    requires length { length bytes ≡ 32 }
+    requires count { count < 32 }
     requires bits { length bits.now ≡ 32 }
-    ensures { (i : ℕ) → i < 32
-        → (bit_at result i == 1) ≡ (nat_lt i (length bytes.now) && has (slice_index bytes.now i) (ones_from (number_of bits.now) 0 256)) }
+    ensures { (i : ℕ) → i < 32 → (bit_at result i == 1) ≡ (nat_lt i count && has (slice_index bytes i) (ones_from (number_of bits.now) 0 256)) }
 {
-    let mut marks = 0;
-    for i in 0..bytes.len() {
-        marks |= (in_bits(bits, bytes[i]) as u32) << i;
-    }
-    marks
+    let first = half_in_bits(bytes.extract::<0, 16>(), bits);
+    let last = half_in_bits(bytes.extract::<16, 16>(), bits);
+    (first | last << 16) as u32 & ((1 << count) - 1)
+}
+
+/// Marks the bytes whose bits are 1, of 16.
+#[inline(always)]
+fn half_in_bits(bytes: u8x16, bits: &[u8]) -> u64
+    requires { length bits.now ≡ 32 }
+    ensures few { result < 2 ^ 16 }
+    ensures marks { (i : ℕ) → i < 16 → (bit_at result i == 1) ≡ has (slice_index bytes i) (ones_from (number_of bits.now) 0 256) }
+{
+    let low = u8x16::from_slice(bits);
+    let high = u8x16::from_slice(&bits[16..]);
+    let ones = ones_of(bytes);
+    (bytes_with(low, high, bytes) & ones)
+        .simd_eq(ones)
+        .to_bitmask()
+}
+
+/// The byte of 32 that the bit of each number is in.
+#[inline(always)]
+fn bytes_with(low: u8x16, high: u8x16, numbers: u8x16) -> u8x16
+    ensures { (i : ℕ) → i < 16 → slice_index result i ≡ slice_index (low ++ high) (slice_index numbers i / 8) }
+{
+    let index = numbers >> u8x16::splat(3) & u8x16::splat(15);
+    let in_low = low.swizzle_dyn(index);
+    let in_high = high.swizzle_dyn(index);
+    numbers.simd_lt(u8x16::splat(128)).select(in_low, in_high)
+}
+
+/// The bit of each number in its byte.
+#[inline(always)]
+fn ones_of(numbers: u8x16) -> u8x16
+    ensures { (i : ℕ) → i < 16 → slice_index result i ≡ 2 ^ (slice_index numbers i % 8) }
+{
+    let ones = u8x16::from_array([1, 2, 4, 8, 16, 32, 64, 128, 1, 2, 4, 8, 16, 32, 64, 128]);
+    ones.swizzle_dyn(numbers & u8x16::splat(7))
 }

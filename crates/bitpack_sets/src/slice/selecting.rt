@@ -63,7 +63,7 @@ fn marks_of(a: Slice, b: Slice) -> u32
     if b.count < 32 {
         marks_among(bytes_from(a.slices, a.start), a.count, others)
     } else if b.count < 256 {
-        marks_in_bits(a.bytes(), others)
+        marks_in_bits(bytes_from(a.slices, a.start), a.count, others)
     } else {
         (1 << a.count) - 1
     }

@@ -96,17 +96,6 @@ impl u32x1 {
     }
 }
 
-/// Whether each of at most 32 lanes passed a test.
-#[derive(Clone, Copy)]
-pub(crate) struct Mask(u32);
-
-impl Mask {
-    #[inline(always)]
-    pub(crate) fn to_bitmask(self) -> u64 {
-        self.0.into()
-    }
-}
-
 /// The operators of a vector, by functions of a module.
 macro_rules! operators {
     ($name:ident, $of:ident) => {
@@ -168,9 +157,43 @@ macro_rules! operators {
 
 /// A vector of words and the one of its little-endian bytes, by functions of a module.
 macro_rules! vector {
-    ($name:ident, $bytes:ident, $lanes:literal, $size:literal, $of:ident) => {
+    ($name:ident, $bytes:ident, $mask:ident, $lanes:literal, $size:literal, $of:ident) => {
         #[derive(Clone, Copy)]
         pub(crate) struct $bytes($of::Words);
+
+        /// All bits of the bytes that passed a test.
+        #[derive(Clone, Copy)]
+        pub(crate) struct $mask($of::Words);
+
+        impl $mask {
+            #[inline(always)]
+            pub(crate) fn to_bitmask(self) -> u64 {
+                $of::high_bits(self.0).into()
+            }
+
+            #[inline(always)]
+            pub(crate) fn select(self, passed: $bytes, failed: $bytes) -> $bytes {
+                $bytes($of::select(self.0, passed.0, failed.0))
+            }
+        }
+
+        impl BitAnd for $bytes {
+            type Output = Self;
+
+            #[inline(always)]
+            fn bitand(self, other: Self) -> Self {
+                $bytes($of::and(self.0, other.0))
+            }
+        }
+
+        impl Shr<u32> for $bytes {
+            type Output = Self;
+
+            #[inline(always)]
+            fn shr(self, shift: u32) -> Self {
+                $bytes($of::shr(self.0, shift)) & $bytes::splat(255 >> shift)
+            }
+        }
 
         impl $bytes {
             #[inline(always)]
@@ -201,8 +224,13 @@ macro_rules! vector {
             }
 
             #[inline(always)]
-            pub(crate) fn simd_eq(self, other: Self) -> Mask {
-                Mask($of::high_bits($of::equal_bytes(self.0, other.0)))
+            pub(crate) fn simd_eq(self, other: Self) -> $mask {
+                $mask($of::equal_bytes(self.0, other.0))
+            }
+
+            #[inline(always)]
+            pub(crate) fn simd_lt(self, other: Self) -> $mask {
+                $mask($of::less_bytes(self.0, other.0))
             }
 
             #[inline(always)]
@@ -262,8 +290,25 @@ macro_rules! vector {
     };
 }
 
-vector!(u32x4, u8x16, 4, 16, four);
-vector!(u32x8, u8x32, 8, 32, eight);
+vector!(u32x4, u8x16, Mask16, 4, 16, four);
+vector!(u32x8, u8x32, Mask32, 8, 32, eight);
+
+impl u8x16 {
+    /// The bytes at these indices, each below 16.
+    #[inline(always)]
+    pub(crate) fn swizzle_dyn(self, indices: Self) -> Self {
+        u8x16(four::bytes_at_16(self.0, indices.0))
+    }
+}
+
+impl u8x32 {
+    /// The 16 bytes from `START` on, which is 0 or 16.
+    #[inline(always)]
+    pub(crate) fn extract<const START: usize, const LEN: usize>(self) -> u8x16 {
+        let (low, high) = eight::halves_of(self.0);
+        u8x16(if START == 0 { low } else { high })
+    }
+}
 
 impl u32x8 {
     #[inline(always)]

@@ -94,6 +94,7 @@ fn a_part_of_a_vector() {
 #[test]
 fn vectors_of_lanes() {
     becomes("fn one() {\n    self << u32x4::splat(shift) >> u32x8::splat(by)\n}\n", "fn one() {\n    self << shift >> by\n}\n");
+    becomes("fn one() {\n    bytes >> u8x16::splat(3) & some\n}\n", "fn one() {\n    bytes >> 3 & some\n}\n");
     becomes(
         "fn one() {\n    a.shuffle::<4>(b, [3, 4, 5, 6]) + c.swizzle::<2>([1, 0])\n}\n",
         "fn one() {\n    a.shuffle_3_4_5_6(b) + c.swizzle_1_0()\n}\n",

@@ -121,3 +121,24 @@ pub(super) fn least_bytes(a: Words, b: Words) -> Words {
 pub(super) fn high_bits(a: Words) -> u32 {
     unsafe { _mm256_movemask_epi8(a) as u32 }
 }
+
+/// All bits of the bytes that are less.
+#[inline(always)]
+pub(super) fn less_bytes(a: Words, b: Words) -> Words {
+    unsafe {
+        let sign = _mm256_set1_epi8(i8::MIN);
+        _mm256_cmpgt_epi8(_mm256_xor_si256(b, sign), _mm256_xor_si256(a, sign))
+    }
+}
+
+/// The bytes of `a` whose mask has all bits, and else those of `b`.
+#[inline(always)]
+pub(super) fn select(mask: Words, a: Words, b: Words) -> Words {
+    unsafe { _mm256_blendv_epi8(b, a, mask) }
+}
+
+/// The first four words, and the others.
+#[inline(always)]
+pub(super) fn halves_of(a: Words) -> (__m128i, __m128i) {
+    unsafe { (_mm256_castsi256_si128(a), _mm256_extracti128_si256::<1>(a)) }
+}

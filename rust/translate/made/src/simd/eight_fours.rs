@@ -132,3 +132,21 @@ pub(super) fn least_bytes(a: Words, b: Words) -> Words {
 pub(super) fn high_bits(a: Words) -> u32 {
     four::high_bits(a.0) | four::high_bits(a.1) << 16
 }
+
+/// All bits of the bytes that are less.
+#[inline(always)]
+pub(super) fn less_bytes(a: Words, b: Words) -> Words {
+    (four::less_bytes(a.0, b.0), four::less_bytes(a.1, b.1))
+}
+
+/// The bytes of `a` whose mask has all bits, and else those of `b`.
+#[inline(always)]
+pub(super) fn select(mask: Words, a: Words, b: Words) -> Words {
+    (four::select(mask.0, a.0, b.0), four::select(mask.1, a.1, b.1))
+}
+
+/// The first four words, and the others.
+#[inline(always)]
+pub(super) fn halves_of(a: Words) -> (four::Words, four::Words) {
+    a
+}

@@ -135,3 +135,30 @@ pub(super) fn high_bits(a: Words) -> u32 {
 pub(super) fn bytes_at(bytes: [u8; 8], indices: [u8; 8]) -> [u8; 8] {
     indices.map(|index| bytes[index as usize & 7])
 }
+
+/// All bits of the bytes that are less.
+#[inline(always)]
+pub(super) fn less_bytes(a: Words, b: Words) -> Words {
+    of(|n| {
+        let (x, y) = (a[n].to_le_bytes(), b[n].to_le_bytes());
+        u32::from_le_bytes([0, 1, 2, 3].map(|at: usize| if x[at] < y[at] { 255 } else { 0 }))
+    })
+}
+
+/// The bytes of `a` whose mask has all bits, and else those of `b`.
+#[inline(always)]
+pub(super) fn select(mask: Words, a: Words, b: Words) -> Words {
+    of(|n| mask[n] & a[n] | !mask[n] & b[n])
+}
+
+/// The bytes at these indices, each below 16.
+#[inline(always)]
+pub(super) fn bytes_at_16(a: Words, indices: Words) -> Words {
+    let (mut bytes, mut places, mut taken) = ([0; 16], [0; 16], [0; 16]);
+    store_bytes(a, &mut bytes);
+    store_bytes(indices, &mut places);
+    for n in 0..16 {
+        taken[n] = bytes[places[n] as usize & 15];
+    }
+    load_bytes(&taken)
+}

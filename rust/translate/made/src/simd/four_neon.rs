@@ -131,3 +131,21 @@ pub(super) fn bytes_at(bytes: [u8; 8], indices: [u8; 8]) -> [u8; 8] {
         taken
     }
 }
+
+/// All bits of the bytes that are less.
+#[inline(always)]
+pub(super) fn less_bytes(a: Words, b: Words) -> Words {
+    unsafe { vreinterpretq_u32_u8(vcltq_u8(vreinterpretq_u8_u32(a), vreinterpretq_u8_u32(b))) }
+}
+
+/// The bytes of `a` whose mask has all bits, and else those of `b`.
+#[inline(always)]
+pub(super) fn select(mask: Words, a: Words, b: Words) -> Words {
+    unsafe { vbslq_u32(mask, a, b) }
+}
+
+/// The bytes at these indices, each below 16.
+#[inline(always)]
+pub(super) fn bytes_at_16(a: Words, indices: Words) -> Words {
+    unsafe { vreinterpretq_u32_u8(vqtbl1q_u8(vreinterpretq_u8_u32(a), vreinterpretq_u8_u32(indices))) }
+}

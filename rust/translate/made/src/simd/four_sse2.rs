@@ -148,3 +148,38 @@ pub(super) fn bytes_at(bytes: [u8; 8], indices: [u8; 8]) -> [u8; 8] {
 pub(super) fn bytes_at(bytes: [u8; 8], indices: [u8; 8]) -> [u8; 8] {
     indices.map(|index| bytes[index as usize & 7])
 }
+
+/// All bits of the bytes that are less.
+#[inline(always)]
+pub(super) fn less_bytes(a: Words, b: Words) -> Words {
+    unsafe {
+        let sign = _mm_set1_epi8(i8::MIN);
+        _mm_cmplt_epi8(_mm_xor_si128(a, sign), _mm_xor_si128(b, sign))
+    }
+}
+
+/// The bytes of `a` whose mask has all bits, and else those of `b`.
+#[inline(always)]
+pub(super) fn select(mask: Words, a: Words, b: Words) -> Words {
+    unsafe { _mm_or_si128(_mm_and_si128(mask, a), _mm_andnot_si128(mask, b)) }
+}
+
+/// The bytes at these indices, each below 16.
+#[inline(always)]
+#[cfg(target_feature = "ssse3")]
+pub(super) fn bytes_at_16(a: Words, indices: Words) -> Words {
+    unsafe { _mm_shuffle_epi8(a, indices) }
+}
+
+/// The bytes at these indices, each below 16.
+#[inline(always)]
+#[cfg(not(target_feature = "ssse3"))]
+pub(super) fn bytes_at_16(a: Words, indices: Words) -> Words {
+    let (mut bytes, mut places, mut taken) = ([0; 16], [0; 16], [0; 16]);
+    store_bytes(a, &mut bytes);
+    store_bytes(indices, &mut places);
+    for n in 0..16 {
+        taken[n] = bytes[places[n] as usize & 15];
+    }
+    load_bytes(&taken)
+}

@@ -125,3 +125,21 @@ pub(super) fn bytes_at(bytes: [u8; 8], indices: [u8; 8]) -> [u8; 8] {
     let all = i8x16_swizzle(i64x2(i64::from_le_bytes(bytes), 0), i64x2(i64::from_le_bytes(indices), 0));
     i64x2_extract_lane::<0>(all).to_le_bytes()
 }
+
+/// All bits of the bytes that are less.
+#[inline(always)]
+pub(super) fn less_bytes(a: Words, b: Words) -> Words {
+    u8x16_lt(a, b)
+}
+
+/// The bytes of `a` whose mask has all bits, and else those of `b`.
+#[inline(always)]
+pub(super) fn select(mask: Words, a: Words, b: Words) -> Words {
+    v128_bitselect(a, b, mask)
+}
+
+/// The bytes at these indices, each below 16.
+#[inline(always)]
+pub(super) fn bytes_at_16(a: Words, indices: Words) -> Words {
+    i8x16_swizzle(a, indices)
+}
