@@ -13,6 +13,7 @@ mod ChunkReads
 mod ChunkTexts
 mod CombineLaws
 mod CountLaws
+mod CursorLaws
 mod CutLaws
 mod DecodeLaws
 mod EncodeLaws

@@ -1,6 +1,7 @@
 -- The definitions of this crate.
 pub mod Bitmaps
 pub mod Chunks
+pub mod Cursors
 pub mod Directory
 pub mod Errors
 pub mod Faults

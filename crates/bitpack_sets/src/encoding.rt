@@ -9,7 +9,7 @@ mod chunks;
 mod few;
 pub(crate) mod integers;
 mod measuring;
-mod order;
+pub(crate) mod order;
 mod runs;
 
 use crate::encoding::chunks::{array_len, chunks_len, write_array, write_chunks};

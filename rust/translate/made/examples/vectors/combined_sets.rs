@@ -2,7 +2,7 @@
 
 use std::collections::BTreeSet;
 
-use bitpacking_source::sets::{IdSet, Operation, SetError, combine_count, combine_to, encode};
+use bitpacking_source::sets::{IdSet, Operation, SetError, combine_count, combine_set, combine_to, encode};
 
 use crate::report::Report;
 use crate::rows::Row;
@@ -32,7 +32,7 @@ fn encoded(ids: &[u32]) -> Vec<u8> {
     bytes
 }
 
-/// Into a slice with room, and into one that lacks the last id.
+/// Into a slice with room, into one that lacks the last id, and into a set.
 fn written(name: &str, operation: Operation, (a, b): (&IdSet<'_>, &IdSet<'_>), answer: &[u32], row: &Row, report: &mut Report) {
     report.check(&row.name, &format!("{name}, counted"), combine_count(operation, a, b), answer.len());
     let mut found = vec![u32::MAX; answer.len() + 1];
@@ -42,4 +42,7 @@ fn written(name: &str, operation: Operation, (a, b): (&IdSet<'_>, &IdSet<'_>), a
         let refused = combine_to(operation, a, b, &mut found[..less]);
         report.check(&row.name, &format!("{name} without room"), refused, Err(SetError::Short));
     }
+    let mut bytes = vec![0xA5];
+    report.check(&row.name, &format!("{name}, as a set"), combine_set(operation, a, b, &mut bytes), Ok(()));
+    report.check(&row.name, &format!("{name}, bytes"), bytes[0] == 0xA5 && bytes[1..] == encoded(answer), true);
 }
