@@ -8,7 +8,7 @@ use Rattle.bitpack_sets.specs.declared.slice_cursor.SliceCursor.{SliceCursor}
 abbrev pub all_of : SliceCursor → List ℕ
 all_of cursor = ids cursor.later.set
 
--- the ids that are left: those of its slice and of later ones
+-- the ids that are left, from its slice on
 abbrev pub left_of : SliceCursor → List ℕ
 left_of cursor = drop cursor.position (all_of cursor)
 

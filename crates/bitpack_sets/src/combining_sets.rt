@@ -28,7 +28,7 @@ pub fn combine_set(
     ensures set { OnOk result (IsSet (answer operation (ids a.now) (ids b.now))) }
     ensures ok { OnOk result (out.new.items ≡ out.old.items ++ text (answer operation (ids a.now) (ids b.now))) }
     ensures fault { MatchOption (refusal (answer operation (ids a.now) (ids b.now))) (IfErr result (λ e. e ≡ SetError.Memory)) (λ fault. result ≡ Err fault) }
-    // An answer of no ids takes no memory beside the vector.
+    // For an answer of no ids only the vector needs memory.
     ensures room { answer operation (ids a.now) (ids b.now) ≡ [] → OnErr result (vec_capacity out.old < vec_len out.old + 1) }
     ensures unchanged { OnErr result (out.new.items ≡ out.old.items) }
     ensures kept { OnErr result (vec_capacity out.new ≡ vec_capacity out.old) }
