@@ -175,6 +175,10 @@ pub none_first : (xs : List ℕ) (slice : ℕ) → IsRising 0 (2 ^ 32) xs → sl
 none_first [] slice r e end = refl
 none_first (x ∷ xs) slice (a, r) e end = let room = rising_room (x + 1) (2 ^ 32) xs r in absurd (omega arith)
 
+pub small_first : (xs : List ℕ) (slice : ℕ) → IsRising 0 (2 ^ 32) xs → slice ≡ slice_or_end xs → slice ≢ 2 ^ 24 → slice < 2 ^ 24
+small_first [] slice r e some = absurd (some e)
+small_first (x ∷ xs) slice (a, r) e some = let room = rising_room (x + 1) (2 ^ 32) xs r in omega arith
+
 pub none_left : (p : ℕ) (xs : List ℕ) → drop p xs ≡ [] → length xs ≤ p
 none_left p xs e = let none : length (drop p xs) ≡ 0 = ap length e in let all = length-drop p xs in omega arith
 
@@ -220,6 +224,17 @@ stands set old slice position next words same first before after bits = record {
 
 pub start : (xs : List ℕ) → IsRising 0 (2 ^ 32) xs → 0 ≡ rank (256 * 0) xs
 start xs r = sym (rank_below (256 * 0) 0 (2 ^ 32) xs r (omega arith))
+
+-- past a slice with ids fewer are left
+pub fewer_after : (slice p p' : ℕ) (xs : List ℕ) → IsRising 0 (2 ^ 32) xs → slice ≡ slice_or_end (drop p xs) → p' ≡ rank (256 * slice + 256) xs
+    → IfSome (first_slice (drop p xs)) (λ _. length (drop p' xs) < length (drop p xs))
+fewer_after slice p p' xs r first after = elim (cases_lt p (length xs)) [
+  | inl lt ↦ (
+      let is = slice_at p xs lt in
+      let past = rank_above (256 * slice + 256) 0 (2 ^ 32) p xs r lt (omega arith) in
+      with_first (λ _. length (drop p' xs) < length (drop p xs)) (drop p xs) slice first (omega (arith, length-drop p xs, length-drop p' xs)))
+  | inr past ↦ subst (λ (ys : List ℕ). IfSome (first_slice ys) (λ _. length (drop p' xs) < length (drop p xs))) (sym (drop_all p xs past)) tt
+]
 
 -- past the slices that are before none is left either
 pub none_after : (slice p p' : ℕ) (xs : List ℕ) → p ≡ rank (256 * slice) xs → p' ≡ rank (256 * slice + 256) xs → drop p xs ≡ [] → drop p' xs ≡ []

@@ -1,6 +1,6 @@
 //! A cursor over the slices of a set: the ids that share their high 24 bits.
 
-ghost use Rattle.std.specs.Prelude.{◌≡◌, ℕ, ◌+◌, ◌*◌, ◌/◌, ◌<◌, ◌≤◌, drop};
+ghost use Rattle.std.specs.Prelude.{◌≡◌, ℕ, ◌+◌, ◌*◌, ◌<◌, drop};
 ghost use Rattle.bitpack_sets.specs.Bitmaps.{has_bit};
 ghost use Rattle.bitpack_sets.specs.Opened.{ids};
 ghost use Rattle.bitpack_sets.specs.Reads.{has, rank, slice_or_end};
@@ -29,7 +29,7 @@ pub struct SliceCursor<'a> {
 }
 
 impl<'a> SliceCursor<'a> {
-    ghost use Rattle.std.specs.Prelude.{[], IfSome, false, length};
+    ghost use Rattle.std.specs.Prelude.{◌/◌, ◌^◌, ◌≤◌, [], IfSome, false, length};
     ghost use Rattle.bitpack_sets.specs.Cursors.{all_of, first_slice, from_slice, left_of};
 
     /// The cursor at the first slice of a set.
@@ -49,7 +49,8 @@ impl<'a> SliceCursor<'a> {
 
     /// The high 24 bits of the ids of the slice. It is `None` exactly at the end.
     pub fn slice(&self) -> Option<u32>
-        ensures { result ≡ first_slice (left_of self.now) }
+        ensures small { IfSome result (λ slice. slice < 2 ^ 24) }
+        ensures first { result ≡ first_slice (left_of self.now) }
     {
         if self.slice == NO_SLICE {
             return None;
@@ -68,6 +69,7 @@ impl<'a> SliceCursor<'a> {
 
     /// How many ids are before the slice. At the end these are all ids.
     pub fn position(&self) -> usize
+        ensures within { result ≤ length (all_of self.now) }
         ensures before { IfSome (first_slice (left_of self.now)) (λ slice. result ≡ rank (256 * slice) (all_of self.now)) }
         ensures end { left_of self.now ≡ [] → result ≡ length (all_of self.now) }
         ensures left { drop result (all_of self.now) ≡ left_of self.now }
@@ -80,6 +82,7 @@ impl<'a> SliceCursor<'a> {
         ensures set { all_of self.new ≡ all_of self.old }
         ensures left { IfSome (first_slice (left_of self.old)) (λ slice. left_of self.new ≡ from_slice (slice + 1) (left_of self.old)) }
         ensures end { left_of self.old ≡ [] → left_of self.new ≡ [] }
+        ensures fewer { IfSome (first_slice (left_of self.old)) (λ slice. length (left_of self.new) < length (left_of self.old)) }
     {
         self.position = self.later.next;
         let (slice, words) = take_slice(&mut self.later);

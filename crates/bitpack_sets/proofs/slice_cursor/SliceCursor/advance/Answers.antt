@@ -1,11 +1,11 @@
 -- The ids after a slice are those from the next one on.
-use Rattle.std.proofs.Common.{◌≡◌, ◌+◌, ◌*◌, ◌^◌, ◌∙◌, ℕ, ap, arith, drop}
+use Rattle.std.proofs.Common.{◌≡◌, ◌+◌, ◌*◌, ◌^◌, ◌<◌, ◌∙◌, ℕ, IfSome, ap, arith, drop, length, subst, sym}
 use Rattle.bitpack_sets.specs.declared.id_set.IdSet.{IdSet}
 use Rattle.bitpack_sets.specs.declared.slice_cursor.SliceCursor.{SliceCursor}
-use Rattle.bitpack_sets.specs.Cursors.{from_slice, left_of}
+use Rattle.bitpack_sets.specs.Cursors.{first_slice, from_slice, left_of}
 use Rattle.bitpack_sets.specs.Opened.{ids}
 use Rattle.bitpack_sets.specs.Reads.{rank, slice_or_end}
-use Rattle.bitpack_sets.proofs.CursorLaws.{moved, none_after, seam, stands, with_first}
+use Rattle.bitpack_sets.proofs.CursorLaws.{fewer_after, moved, none_after, seam, stands, with_first}
 use Rattle.bitpack_sets.proofs.TextLaws.{ids_are_read}
 use Rattle.bitpack_sets.proofs.slice_cursor.SliceCursor.advance.Goals as goal
 
@@ -42,3 +42,10 @@ returns-clause-end c none =
     let cursor = c.args.self.now in
     ap (λ (s : IdSet). drop cursor.later.next (ids s)) c.take_slice-slice.ensures.set
     ∙ none_after cursor.slice cursor.position cursor.later.next (ids cursor.later.set) cursor.before cursor.after none
+
+pub returns-clause-fewer : goal.returns-clause-fewer
+returns-clause-fewer c =
+    let cursor = c.args.self.now in
+    let set = cursor.later.set in
+    subst (λ (s : IdSet). IfSome (first_slice (left_of cursor)) (λ slice. length (drop cursor.later.next (ids s)) < length (left_of cursor))) (sym c.take_slice-slice.ensures.set)
+    (fewer_after cursor.slice cursor.position cursor.later.next (ids set) (ids_are_read set.bytes.now set.are_bytes set.states.none).0.rising cursor.first cursor.after)

@@ -12,3 +12,9 @@ returns-clause-end c none =
     let past = none_left cursor.position xs none in
     let most = rank_most (256 * cursor.slice) xs in
     omega (arith, cursor.before)
+
+pub returns-clause-within : goal.returns-clause-within
+returns-clause-within c =
+    let cursor = c.args.self.now in
+    let most = rank_most (256 * cursor.slice) (ids cursor.later.set) in
+    omega (arith, cursor.before)
