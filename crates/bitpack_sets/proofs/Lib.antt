@@ -16,6 +16,7 @@ mod CombineLaws
 mod CopyLaws
 mod CountLaws
 mod CountedRuns
+mod CursorLaws
 mod CutLaws
 mod DecodeLaws
 mod EncodeLaws

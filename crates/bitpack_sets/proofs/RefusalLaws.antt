@@ -2,10 +2,10 @@
 use Rattle.std.proofs.Common.{◌≡◌, ℕ, zero, suc, ◌+◌, ◌-◌, ◌^◌, ◌<◌, ◌≤◌, Bool, List, [], ◌∷◌, length, get_or, Option, Some, None, refl, sym, ap, ◌∙◌, arith, cond, inl, inr, subst}
 use Rattle.std.specs.Option.{option_map}
 use Rattle.std.proofs.lemmas.Bool.{cases_lt, cond_above, cond_below, le-leb, lt-leb}
-use Rattle.bitpack_sets.proofs.ArrayLaws.{rises_from}
+use Rattle.bitpack_sets.proofs.ArrayLaws.{no_fall, rises_from}
 use Rattle.bitpack_sets.proofs.LongLaws.{Below}
 use Rattle.bitpack_sets.specs.declared.set_error.SetError.TheVariants.{NotSorted, TooLong}
-use Rattle.bitpack_sets.specs.Sets.{IsSet}
+use Rattle.bitpack_sets.specs.Sets.{IsRising, IsSet}
 use Rattle.bitpack_sets.specs.Slices.{first_fall}
 use Rattle.bitpack_sets.specs.Written.{refusal}
 
@@ -69,3 +69,7 @@ set_is ids words none = elim (cases_lt (2 ^ 28) (length ids)) [
   | inl long ↦ (let e : Some (TooLong (length ids)) ≡ None = sym (too_long ids long) ∙ none in cc)
   | inr few ↦ record { few = few; rising = rises_from 0 (2 ^ 32) ids (each_below ids words) (some_refused (first_fall 0 ids) (sym (short_enough ids few) ∙ none)) }
 ]
+
+-- a set is not refused
+pub none_refused : (ids : List ℕ) → length ids ≤ 2 ^ 28 → IsRising 0 (2 ^ 32) ids → refusal ids ≡ None
+none_refused ids few rising = short_enough ids few ∙ ap (option_map NotSorted) (no_fall 0 0 (2 ^ 32) ids rising)

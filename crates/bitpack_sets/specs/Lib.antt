@@ -2,6 +2,7 @@
 pub mod Bitmaps
 pub mod Builders
 pub mod Chunks
+pub mod Cursors
 pub mod Directory
 pub mod Errors
 pub mod Faults

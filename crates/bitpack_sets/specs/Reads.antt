@@ -1,5 +1,5 @@
 -- The ids that a reader finds in encoded bytes, and what is looked up among them.
-use Rattle.std.specs.Prelude.{ℕ, zero, suc, ◌+◌, ◌-◌, ◌==◌, Bool, nat_lt, if◌then◌else◌, drop, List, [], ◌∷◌}
+use Rattle.std.specs.Prelude.{ℕ, zero, suc, ◌+◌, ◌-◌, ◌/◌, ◌^◌, ◌==◌, Bool, nat_lt, if◌then◌else◌, drop, List, [], ◌∷◌}
 use Rattle.std.specs.List.{list_any}
 use Rattle.bitpack_sets.specs.Directory.{chunk_ids}
 use Rattle.bitpack_sets.specs.Faults.{short_ids}
@@ -33,3 +33,8 @@ has x xs = list_any (λ y. y == x) xs
 abbrev pub rank : ℕ → List ℕ → ℕ
 rank x [] = 0
 rank x (y ∷ ys) = (if nat_lt y x then 1 else 0) + rank x ys
+
+-- the high 24 bits of the first of these, 2 ^ 24 if there is none
+abbrev pub slice_or_end : List ℕ → ℕ
+slice_or_end [] = 2 ^ 24
+slice_or_end (x ∷ xs) = x / 256

@@ -33,8 +33,25 @@ pub fn combine(
     ensures room { OnErr result (vec_capacity out.old < vec_len out.old + length (answer operation (ids a.now) (ids b.now))) }
     ensures unchanged { OnErr result (out.new.items ≡ out.old.items) }
 {
-    let from = out.len();
     let count = combine_count(operation, a, b);
+    append_combined(operation, a, b, count, out)
+}
+
+/// Appends the ids that an operation on two sets gives, when they were counted.
+pub(crate) fn append_combined(
+    operation: Operation,
+    a: &IdSet,
+    b: &IdSet,
+    count: usize,
+    out: &mut Vec<u32>,
+) -> Result<(), SetError>
+    requires { count ≡ length (answer operation (ids a.now) (ids b.now)) }
+    ensures ok { OnOk result (out.new.items ≡ out.old.items ++ answer operation (ids a.now) (ids b.now)) }
+    ensures memory { IfErr result (λ e. e ≡ SetError.Memory) }
+    ensures room { OnErr result (vec_capacity out.old < vec_len out.old + length (answer operation (ids a.now) (ids b.now))) }
+    ensures unchanged { OnErr result (out.new.items ≡ out.old.items) }
+{
+    let from = out.len();
     if out.reserve(count).is_err() {
         return Err(SetError::Memory);
     }

@@ -1,6 +1,6 @@
 //! The ids of a set, one after the other.
 
-ghost use Rattle.std.specs.Prelude.{◌≡◌, ◌+◌, ◌-◌, ◌≤◌, drop, length, take};
+ghost use Rattle.std.specs.Prelude.{◌≡◌, ◌+◌, ◌-◌, ◌<◌, ◌≤◌, IfSome, None, drop, length, slice_index, take};
 ghost use Rattle.bitpack_sets.specs.Opened.{ids};
 
 use crate::id_set::IdSet;
@@ -11,9 +11,9 @@ const MOST_UNPACKED: usize = 256;
 /// An iterator over the ids of a set, in increasing order. It unpacks up to 256 at once, and so takes about 1 KB.
 #[derive(Drop)]
 pub struct Ids<'a> {
-    set: IdSet<'a>,
+    pub(crate) set: IdSet<'a>,
     // The position of the next id, and where the ids begin and end that are unpacked.
-    next: usize,
+    pub(crate) next: usize,
     begin: usize,
     end: usize,
     unpacked: [u32; MOST_UNPACKED],
@@ -27,7 +27,8 @@ pub struct Ids<'a> {
 impl<'a> Ids<'a> {
     /// All ids of a set.
     pub(crate) fn new(set: IdSet<'a>) -> Ids<'a>
-        ensures { drop result.next (ids result.set) ≡ ids set.entry }
+        ensures set { result.set ≡ set.entry }
+        ensures next { result.next ≡ 0 }
     {
         Ids {
             set,
@@ -36,6 +37,46 @@ impl<'a> Ids<'a> {
             end: 0,
             unpacked: [0; MOST_UNPACKED],
         }
+    }
+
+    /// The next id, which stays the next.
+    #[inline(always)]
+    pub(crate) fn peek(&mut self) -> Option<u32>
+        ensures set { self.new.set ≡ self.old.set }
+        ensures next { self.new.next ≡ self.old.next }
+        ensures id { IfSome result (λ id. id ≡ slice_index (ids self.new.set) self.new.next) }
+        ensures some { IfSome result (λ id. self.new.next < self.new.end) }
+        ensures none { result ≡ None → length (ids self.new.set) ≤ self.new.next }
+    {
+        self.refill();
+        if self.next >= self.end {
+            return None;
+        }
+        Some(self.unpacked[self.next - self.begin])
+    }
+
+    /// Passes over the next id, which was unpacked.
+    #[inline(always)]
+    pub(crate) fn skip(&mut self)
+        requires { self.old.next < self.old.end }
+        ensures set { self.new.set ≡ self.old.set }
+        ensures next { self.new.next ≡ self.old.next + 1 }
+    {
+        self.next += 1;
+    }
+
+    /// Passes over the ids before a position.
+    pub(crate) fn skip_to(&mut self, position: usize)
+        requires later { self.old.next ≤ position }
+        requires within { position ≤ length (ids self.old.set) }
+        ensures set { self.new.set ≡ self.old.set }
+        ensures next { self.new.next ≡ position }
+    {
+        if position > self.end {
+            self.begin = position;
+            self.end = position;
+        }
+        self.next = position;
     }
 
     // If all that are unpacked came, unpacks the next.
@@ -74,12 +115,8 @@ impl<'a> Iterator for Ids<'a> {
 
     #[inline(always)]
     fn next(&mut self) -> Option<u32> {
-        self.refill();
-        if self.next >= self.end {
-            return None;
-        }
-        let id = self.unpacked[self.next - self.begin];
-        self.next += 1;
+        let id = self.peek()?;
+        self.skip();
         Some(id)
     }
 

@@ -31,6 +31,7 @@ const MADE: &[(&str, &str)] = made![
     "examples/vectors/report.rs",
     "examples/vectors/rows.rs",
     "examples/vectors/sets.rs",
+    "examples/vectors/slice_cursors.rs",
     "src/c_slices.rs",
     "src/growing.rs",
     "src/lib.rs",

@@ -9,7 +9,7 @@ ghost use Rattle.bitpack_sets.specs.Written.{EndsWith, refusal};
 use crate::set_error::SetError;
 
 /// The most ids of a set.
-const LONGEST_SET: usize = 1 << 28;
+pub(crate) const LONGEST_SET: usize = 1 << 28;
 
 /// Tests that ids are a set: not too many, and each above the one before it.
 pub(crate) fn test_ids(ids: &[u32]) -> Result<(), SetError>

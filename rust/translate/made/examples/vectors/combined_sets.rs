@@ -2,7 +2,7 @@
 
 use std::collections::BTreeSet;
 
-use bitpacking_source::sets::{IdSet, Operation, SetError, add, combine_count, combine_to, encode, remove, retain};
+use bitpacking_source::sets::{IdSet, Operation, SetError, add, combine_count, combine_to, encode, remove, retain, combine_set};
 
 use crate::report::Report;
 use crate::rows::Row;
@@ -34,7 +34,7 @@ fn encoded(ids: &[u32]) -> Vec<u8> {
     bytes
 }
 
-/// Into a slice with room, and into one that lacks the last id.
+/// Into a slice with room, into one that lacks the last id, and into a set.
 fn written(name: &str, operation: Operation, (a, b): (&IdSet<'_>, &IdSet<'_>), answer: &[u32], row: &Row, report: &mut Report) {
     report.check(&row.name, &format!("{name}, counted"), combine_count(operation, a, b), answer.len());
     let mut found = vec![u32::MAX; answer.len() + 1];
@@ -44,6 +44,9 @@ fn written(name: &str, operation: Operation, (a, b): (&IdSet<'_>, &IdSet<'_>), a
         let refused = combine_to(operation, a, b, &mut found[..less]);
         report.check(&row.name, &format!("{name} without room"), refused, Err(SetError::Short));
     }
+    let mut bytes = vec![0xA5];
+    report.check(&row.name, &format!("{name}, as a set"), combine_set(operation, a, b, &mut bytes), Ok(()));
+    report.check(&row.name, &format!("{name}, bytes"), bytes[0] == 0xA5 && bytes[1..] == encoded(answer), true);
 }
 
 /// The ids of a vector with a set: in their order, and in the opposite order too.

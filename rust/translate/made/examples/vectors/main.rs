@@ -8,6 +8,7 @@ mod queries;
 mod report;
 mod rows;
 mod sets;
+mod slice_cursors;
 
 use std::env;
 use std::process::ExitCode;

@@ -4,6 +4,7 @@ use bitpacking_source::sets::{IdSet, SetBuilder, SetError, append, encode, encod
 
 use crate::report::Report;
 use crate::rows::Row;
+use crate::slice_cursors::walked;
 
 /// How many values are around those that a set writes.
 const MORE: usize = 3;
@@ -29,6 +30,7 @@ pub fn opened(row: &Row, report: &mut Report) {
     contained(&set, &ids, row, report);
     selected(&set, &ids, row, report);
     copied_from(&set, &ids, row, report);
+    walked(&set, &ids, row, report);
     written(&ids, &bytes, row, report);
     pushed(&ids, &bytes, row, report);
     appended_at_cuts(&ids, &bytes, row, report);
