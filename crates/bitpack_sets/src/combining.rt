@@ -5,9 +5,9 @@ ghost use Rattle.bitpack_sets.specs.Opened.{ids};
 ghost use Rattle.bitpack_sets.specs.Operations.{answer};
 
 use crate::bitmap::unpacking::{count_bitmap, unpack_bitmap};
+use crate::folding::next_part;
 use crate::id_set::{IdSet, ROOM};
 use crate::operation::Operation;
-use crate::pairing::Pair;
 use crate::set_error::SetError;
 
 /// Writes the ids that an operation on two sets gives at the start of the slice, and returns their number. Allocates nothing.
@@ -27,9 +27,10 @@ pub fn combine_to(
     let mut rooms = ([0; ROOM], [0; ROOM]);
     let mut words = [0; 1024];
     let mut others = [0; 1024];
-    let mut pair = Pair::new(operation, a.chunks(&mut rooms.0), b.chunks(&mut rooms.1));
+    let sets = [a.chunks(&mut rooms.0), b.chunks(&mut rooms.1)];
+    let mut places = [0; 2];
     let mut at = 0;
-    while let Some(part) = pair.next(&mut words, &mut others) {
+    while let Some(part) = next_part(operation, &sets, &mut places, &mut words, &mut others) {
         let highs = &part.highs[..part.high_count];
         let left = out.len() - at;
         if left < 65536 && left < count_bitmap(highs, &words) {
@@ -47,9 +48,10 @@ pub fn combine_count(operation: Operation, a: &IdSet, b: &IdSet) -> usize
     let mut rooms = ([0; ROOM], [0; ROOM]);
     let mut words = [0; 1024];
     let mut others = [0; 1024];
-    let mut pair = Pair::new(operation, a.chunks(&mut rooms.0), b.chunks(&mut rooms.1));
+    let sets = [a.chunks(&mut rooms.0), b.chunks(&mut rooms.1)];
+    let mut places = [0; 2];
     let mut count = 0;
-    while let Some(part) = pair.next(&mut words, &mut others) {
+    while let Some(part) = next_part(operation, &sets, &mut places, &mut words, &mut others) {
         count += count_bitmap(&part.highs[..part.high_count], &words);
     }
     count
