@@ -19,6 +19,7 @@ mod FallLaws
 mod FaultLaws
 mod FewLaws
 mod FillLaws
+mod FoldLaws
 mod FormLaws
 mod GapLaws
 mod GroupLaws

@@ -1,5 +1,5 @@
 -- The chunks of a set of any form. A place is the index of a chunk, or in an array the position of an id.
-use Rattle.std.specs.Prelude.{ℕ, ◌-◌, ◌/◌, ◌%◌, ◌==◌, Bool, if◌then◌else◌, List, [], ◌∷◌, map, take, drop}
+use Rattle.std.specs.Prelude.{ℕ, ◌-◌, ◌/◌, ◌%◌, ◌==◌, Bool, if◌then◌else◌, List, [], ◌∷◌, map, length, take, drop}
 use Rattle.std.specs.List.{range_with_len}
 use Rattle.bitpack_sets.specs.Directory.{chunk_at, ids_of_chunks}
 use Rattle.bitpack_sets.specs.Slices.{pairs_of, quads_of}

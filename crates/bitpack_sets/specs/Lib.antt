@@ -4,9 +4,11 @@ pub mod Chunks
 pub mod Directory
 pub mod Errors
 pub mod Faults
+pub mod Folds
 pub mod Laws
 pub mod Opened
 pub mod Operations
+pub mod Props
 pub mod Reads
 pub mod Sets
 pub mod Slices

@@ -1,6 +1,8 @@
 //! The chunks of a set of any form: a chunk is the ids that share their high 16 bits, its key.
 
-ghost use Rattle.std.specs.Prelude.{◌≡◌, ◌^◌, ◌≤◌, ◌→◌};
+ghost use Rattle.std.specs.Prelude.{◌≡◌, ◌≢◌, ◌^◌, ◌≤◌};
+ghost use Rattle.std.proofs.Props.{props};
+ghost use Rattle.bitpack_sets.specs.Props.{rising_prop};
 ghost use Rattle.bitpack_sets.specs.Sets.{IsRising};
 ghost use Rattle.bitpack_sets.specs.Slices.{quads_of};
 ghost use Rattle.bitpack_sets.specs.Sound.{IsRest};
@@ -24,8 +26,8 @@ pub(crate) struct Chunks<'a> {
     // How many ids a set in chunks has.
     ids: usize,
     ghost few: { count ≤ 65536 },
-    ghost sound: { count ≢ 0 → IsRest ids count rest.now },
-    ghost rising: { count ≡ 0 → IsRising 0 (2 ^ 32) (quads_of rest.now) },
+    ghost sound: { count ≢ 0 → IsRest ids count rest.now } by { Prim.hlevel (props, rising_prop) },
+    ghost rising: { count ≡ 0 → IsRising 0 (2 ^ 32) (quads_of rest.now) } by { Prim.hlevel (props, rising_prop) },
 }
 
 impl<'a> Chunks<'a> {
@@ -68,7 +70,9 @@ impl<'a> Chunks<'a> {
 
     /// The key of the first id from a place on, `NO_KEY` if there is none.
     pub(crate) fn key(&self, place: usize) -> u32
-        ensures { result ≡ first_key (ids_from self.now place) }
+        ensures first { result ≡ first_key (ids_from self.now place) }
+        ensures most { result ≤ NO_KEY }
+        ensures none { (x : ℕ) → x / 65536 < result → has x (ids_from self.now place) ≡ false }
     {
         if place >= self.len() {
             NO_KEY
@@ -110,7 +114,9 @@ impl<'a> Chunks<'a> {
         requires least { key ≤ first_key (ids_from self.now place) }
         ensures within { result ≤ places self.now }
         ensures later { place ≤ result }
+        ensures one { self.now.count ≢ 0 → result ≤ place + 1 }
         ensures passed { key < first_key (ids_from self.now result) }
+        ensures none { (x : ℕ) → x / 65536 ≤ key → has x (ids_from self.now result) ≡ false }
         ensures own { (x : ℕ) → x / 65536 ≡ key → has x (ids_from self.now place) ≡ has (x % 65536) (lows_between self.now place result) }
         ensures others { (x : ℕ) → key < x / 65536 → has x (ids_from self.now place) ≡ has x (ids_from self.now result) }
     {
@@ -126,7 +132,7 @@ impl<'a> Chunks<'a> {
     /// The high bytes of the low 16 bits of the ids between two places, which share a key.
     pub(crate) fn highs(&self, place: usize, end: usize) -> [u64; 4]
         requires within { (place ≤ end) × (end ≤ places self.now) }
-        requires one { self.count ≢ 0 → end ≤ place + 1 }
+        requires one { self.now.count ≢ 0 → end ≤ place + 1 }
         ensures { (h : ℕ) → h < 256 → has_bit result h ≡ has_high h (lows_between self.now place end) }
     {
         if place == end {
@@ -145,7 +151,7 @@ impl<'a> Chunks<'a> {
     /// Loads the low 16 bits of the ids between two places, which share a key, if they have these high bytes.
     pub(crate) fn load(&self, place: usize, end: usize, highs: &[u32], words: &mut [u64; 1024])
         requires within { (place ≤ end) × (end ≤ places self.now) }
-        requires one { self.count ≢ 0 → end ≤ place + 1 }
+        requires one { self.now.count ≢ 0 → end ≤ place + 1 }
         requires highs { IsRising 0 256 highs.now }
         ensures { Holds highs.now words.new (lows_between self.now place end) }
     {
@@ -160,8 +166,8 @@ impl<'a> Chunks<'a> {
 
     // Loads the body of a chunk.
     fn load_body(&self, chunk: usize, highs: &[u32], words: &mut [u64; 1024])
-        requires chunks { self.count ≢ 0 }
-        requires within { chunk < self.count }
+        requires chunks { self.now.count ≢ 0 }
+        requires within { chunk < self.now.count }
         requires highs { IsRising 0 256 highs.now }
         ensures { Holds highs.now words.new (lows_between self.now chunk (chunk + 1)) }
     {

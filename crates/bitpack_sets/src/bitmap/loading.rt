@@ -1,6 +1,6 @@
 //! Loads the numbers of a chunk into its bitmap.
 
-ghost use Rattle.std.specs.Prelude.{◌≡◌, ◌≢◌, ◌×◌, ◌⊎◌, ℕ, ◌+◌, ◌*◌, ◌/◌, ◌<◌, ◌≤◌, ◌||◌, ◌==◌, true, false, length, slice_index, take};
+ghost use Rattle.std.specs.Prelude.{◌≡◌, ◌≢◌, ◌⊎◌, ℕ, ◌+◌, ◌*◌, ◌/◌, ◌<◌, ◌≤◌, ◌||◌, ◌==◌, true, false, length, slice_index, take};
 ghost use Rattle.bitpack_sets.specs.Bitmaps.{Holds, has_bit, has_high};
 ghost use Rattle.bitpack_sets.specs.Chunks.{lows_of};
 ghost use Rattle.bitpack_sets.specs.Reads.{has};

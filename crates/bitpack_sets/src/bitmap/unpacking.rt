@@ -1,6 +1,6 @@
 //! Unpacks and counts the numbers of bitmaps.
 
-ghost use Rattle.std.specs.Prelude.{◌≡◌, ◌×◌, ◌+◌, ◌*◌, ◌^◌, ◌<◌, ◌≤◌, ◌++◌, length, map, take};
+ghost use Rattle.std.specs.Prelude.{◌≡◌, ◌+◌, ◌*◌, ◌^◌, ◌<◌, ◌≤◌, ◌++◌, length, map, take};
 ghost use Rattle.bitpack_sets.specs.Bitmaps.{bitmap_numbers, has_bit};
 ghost use Rattle.bitpack_sets.specs.Operations.{those};
 ghost use Rattle.bitpack_sets.specs.Sets.{IsRising};

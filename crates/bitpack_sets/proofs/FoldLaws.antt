@@ -1,0 +1,194 @@
+-- Sets that are combined from the first to the last.
+use Rattle.std.proofs.Common.{◌≡◌, ℕ, zero, suc, ◌+◌, ◌-◌, ◌*◌, ◌/◌, ◌%◌, ◌<◌, ◌≤◌, Bool, true, false, List, [], ◌∷◌, length, get_or, set, take, drop, length-set, get_or-set_same, refl, sym, ap, ◌∙◌, subst, arith, add-one}
+use Rattle.std.specs.List.{All, AllZip, fold}
+use Rattle.std.specs.Simd.Lanes.{zip2}
+use Rattle.std.proofs.lemmas.List.{set-get_or, get_or_default, take-set, take_more_set}
+use Rattle.std.proofs.lemmas.List.Elements.{All-get_or, All-set, All-more, AllZip-get_or}
+use Rattle.std.proofs.lemmas.List.Sums.{fold_more}
+use Rattle.std.proofs.lemmas.Simd.{get_or-zip2, length-zip2}
+use Rattle.bitpack_sets.specs.Chunks.{first_key, ids_from, places}
+use Rattle.bitpack_sets.specs.Folds.{AreWithin, combined, first_keys, having, left, places_left}
+use Rattle.bitpack_sets.specs.Operations.{holds}
+use Rattle.bitpack_sets.specs.Reads.{has}
+use Rattle.bitpack_sets.specs.declared.chunks.Chunks.{Chunks}
+use Rattle.bitpack_sets.specs.declared.operation.Operation.{Operation}
+use Rattle.bitpack_sets.specs.declared.operation.Operation.TheVariants.{And, Or, AndNot, Xor}
+
+-- ---- two lists side by side
+
+zip2_set : {A B : Type 0} (f : A → ℕ → B) (xs : List A) (ys : List ℕ) (i v : ℕ) (x : A) → zip2 f xs (set ys i v) ≡ set (zip2 f xs ys) i (f (get_or xs i x) v)
+zip2_set f [] ys i v a = refl
+zip2_set f (x ∷ xs) [] i v a = refl
+zip2_set f (x ∷ xs) (y ∷ ys) zero v a = refl
+zip2_set f (x ∷ xs) (y ∷ ys) (suc i) v a = ap (λ zs. f x y ∷ zs) (zip2_set f xs ys i v a)
+
+zip2_at : {A B : Type 0} (f : A → ℕ → B) (xs : List A) (ys : List ℕ) (i : ℕ) (x : A) (z : B) → length xs ≡ length ys → i < length xs → x ≡ get_or xs i x → get_or (zip2 f xs ys) i z ≡ f x (get_or ys i 0)
+zip2_at f xs ys i x z n h e = get_or-zip2 f xs ys i x 0 z h (omega arith) ∙ ap (λ y. f y (get_or ys i 0)) (sym e)
+
+zip2_set_at : {A B : Type 0} (f : A → ℕ → B) (xs : List A) (ys : List ℕ) (i v : ℕ) (x : A) → x ≡ get_or xs i x → zip2 f xs (set ys i v) ≡ set (zip2 f xs ys) i (f x v)
+zip2_set_at f xs ys i v x e = zip2_set f xs ys i v x ∙ ap (λ y. set (zip2 f xs ys) i (f y v)) (sym e)
+
+zip2_kept : {A B : Type 0} (f : A → ℕ → B) (xs : List A) (ys : List ℕ) (i v : ℕ) (x : A) → length xs ≡ length ys → i < length xs → x ≡ get_or xs i x → f x v ≡ f x (get_or ys i 0) → zip2 f xs (set ys i v) ≡ zip2 f xs ys
+zip2_kept f xs ys i v x n h e same =
+    zip2_set_at f xs ys i v x e ∙ ap (set (zip2 f xs ys) i) (same ∙ sym (zip2_at f xs ys i x (f x v) n h e)) ∙ set-get_or (zip2 f xs ys) i (f x v)
+
+AllZip_set : {A : Type 0} (R : A → ℕ → Type 0) (xs : List A) (ys : List ℕ) (i v : ℕ) (x : A) → R (get_or xs i x) v → AllZip R xs ys → AllZip R xs (set ys i v)
+AllZip_set R [] [] i v a r h = h
+AllZip_set R [] (y ∷ ys) i v a r h = absurd h
+AllZip_set R (x ∷ xs) [] i v a r h = absurd h
+AllZip_set R (x ∷ xs) (y ∷ ys) zero v a r h = (r, h.1)
+AllZip_set R (x ∷ xs) (y ∷ ys) (suc i) v a r h = (h.0, AllZip_set R xs ys i v a r h.1)
+
+AllZip_length : {A : Type 0} (R : A → ℕ → Type 0) (xs : List A) (ys : List ℕ) → AllZip R xs ys → length xs ≡ length ys
+AllZip_length R [] [] h = refl
+AllZip_length R [] (y ∷ ys) h = absurd h
+AllZip_length R (x ∷ xs) [] h = absurd h
+AllZip_length R (x ∷ xs) (y ∷ ys) h = ap suc (AllZip_length R xs ys h.1)
+
+AllZip_at : {A : Type 0} (R : A → ℕ → Type 0) (xs : List A) (ys : List ℕ) (i : ℕ) (x : A) → AllZip R xs ys → i < length xs → R (get_or xs i x) (get_or ys i 0)
+AllZip_at R [] [] i a h l = absurd (omega arith)
+AllZip_at R [] (y ∷ ys) i a h l = absurd h
+AllZip_at R (x ∷ xs) [] i a h l = absurd h
+AllZip_at R (x ∷ xs) (y ∷ ys) zero a h l = h.0
+AllZip_at R (x ∷ xs) (y ∷ ys) (suc i) a h l = AllZip_at R xs ys i a h.1 (omega arith)
+
+-- ---- sets and their places
+
+pub within_length : (sets : List Chunks) (starts : List ℕ) → AreWithin sets starts → length sets ≡ length starts
+unfolding AreWithin
+within_length sets starts h = AllZip_length (λ (s : Chunks) (p : ℕ). p ≤ places s) sets starts h
+
+pub within_at : (sets : List Chunks) (starts : List ℕ) (i : ℕ) (s : Chunks) → AreWithin sets starts → i < length sets → s ≡ get_or sets i s → get_or starts i 0 ≤ places s
+unfolding AreWithin
+within_at sets starts i s h l e = subst (λ (t : Chunks). get_or starts i 0 ≤ places t) (sym e) (AllZip_at (λ (t : Chunks) (p : ℕ). p ≤ places t) sets starts i s h l)
+
+pub within_set : (sets : List Chunks) (starts : List ℕ) (i v : ℕ) (s : Chunks) → AreWithin sets starts → s ≡ get_or sets i s → v ≤ places s → AreWithin sets (set starts i v)
+unfolding AreWithin
+within_set sets starts i v s h e m = AllZip_set (λ (t : Chunks) (p : ℕ). p ≤ places t) sets starts i v s (subst (λ (t : Chunks). v ≤ places t) e m) h
+
+pub having_length : (sets : List Chunks) (starts : List ℕ) (x : ℕ) → AreWithin sets starts → length (having sets starts x) ≡ length sets
+unfolding having
+having_length sets starts x h = length-zip2 (λ (s : Chunks) (p : ℕ). has x (ids_from s p)) sets starts (within_length sets starts h)
+
+pub having_at : (sets : List Chunks) (starts : List ℕ) (i x : ℕ) (s : Chunks) (z : Bool) → AreWithin sets starts → i < length sets → s ≡ get_or sets i s
+    → get_or (having sets starts x) i z ≡ has x (ids_from s (get_or starts i 0))
+unfolding having
+having_at sets starts i x s z h l e = zip2_at (λ (t : Chunks) (p : ℕ). has x (ids_from t p)) sets starts i s z (within_length sets starts h) l e
+
+pub having_kept : (sets : List Chunks) (starts : List ℕ) (i v x : ℕ) (s : Chunks) → AreWithin sets starts → i < length sets → s ≡ get_or sets i s
+    → has x (ids_from s v) ≡ has x (ids_from s (get_or starts i 0)) → having sets (set starts i v) x ≡ having sets starts x
+unfolding having
+having_kept sets starts i v x s h l e same = zip2_kept (λ (t : Chunks) (p : ℕ). has x (ids_from t p)) sets starts i v s (within_length sets starts h) l e same
+
+having_set : (sets : List Chunks) (starts : List ℕ) (i v x : ℕ) (s : Chunks) → s ≡ get_or sets i s → having sets (set starts i v) x ≡ set (having sets starts x) i (has x (ids_from s v))
+unfolding having
+having_set sets starts i v x s e = zip2_set_at (λ (t : Chunks) (p : ℕ). has x (ids_from t p)) sets starts i v s e
+
+pub keys_length : (sets : List Chunks) (starts : List ℕ) → AreWithin sets starts → length (first_keys sets starts) ≡ length sets
+unfolding first_keys
+keys_length sets starts h = length-zip2 (λ (s : Chunks) (p : ℕ). first_key (ids_from s p)) sets starts (within_length sets starts h)
+
+pub keys_at : (sets : List Chunks) (starts : List ℕ) (i : ℕ) (s : Chunks) (z : ℕ) → AreWithin sets starts → i < length sets → s ≡ get_or sets i s
+    → get_or (first_keys sets starts) i z ≡ first_key (ids_from s (get_or starts i 0))
+unfolding first_keys
+keys_at sets starts i s z h l e = zip2_at (λ (t : Chunks) (p : ℕ). first_key (ids_from t p)) sets starts i s z (within_length sets starts h) l e
+
+keys_set : (sets : List Chunks) (starts : List ℕ) (i v : ℕ) (s : Chunks) → s ≡ get_or sets i s → first_keys sets (set starts i v) ≡ set (first_keys sets starts) i (first_key (ids_from s v))
+unfolding first_keys
+keys_set sets starts i v s e = zip2_set_at (λ (t : Chunks) (p : ℕ). first_key (ids_from t p)) sets starts i v s e
+
+-- ---- a set's place is moved
+
+-- of each of the first keys
+pub keys_all_set : (P : ℕ → Type 0) (sets : List Chunks) (starts : List ℕ) (i v : ℕ) (s : Chunks) → s ≡ get_or sets i s → P (first_key (ids_from s v)) → All P (first_keys sets starts) → All P (first_keys sets (set starts i v))
+keys_all_set P sets starts i v s e p h = subst (All P) (sym (keys_set sets starts i v s e)) (All-set P (first_keys sets starts) i _ p h)
+
+taken_set : {B : Type 0} (P : B → Type 0) (xs ys : List B) (i : ℕ) (b : B) → i < length xs → ys ≡ set xs i b → P b → All P (take i xs) → All P (take (i + 1) ys)
+taken_set P xs ys i b l e p h =
+    subst (λ zs. All P (take (i + 1) zs)) (sym e) (All-more P (set xs i b) i b (omega (arith, length-set xs i b)) (subst (All P) (sym (take-set xs i b)) h) (subst P (sym (get_or-set_same xs i b b l)) p))
+
+pub keys_more : (P : ℕ → Type 0) (sets : List Chunks) (starts : List ℕ) (i v : ℕ) (s : Chunks) → AreWithin sets starts → i < length sets → s ≡ get_or sets i s → P (first_key (ids_from s v))
+    → All P (take i (first_keys sets starts)) → All P (take (i + 1) (first_keys sets (set starts i v)))
+keys_more P sets starts i v s w l e p h = taken_set P (first_keys sets starts) _ i _ (omega (arith, keys_length sets starts w)) (keys_set sets starts i v s e) p h
+
+pub having_more : (P : Bool → Type 0) (sets : List Chunks) (starts : List ℕ) (i v x : ℕ) (s : Chunks) → AreWithin sets starts → i < length sets → s ≡ get_or sets i s → P (has x (ids_from s v))
+    → All P (take i (having sets starts x)) → All P (take (i + 1) (having sets (set starts i v) x))
+having_more P sets starts i v x s w l e p h = taken_set P (having sets starts x) _ i _ (omega (arith, having_length sets starts x w)) (having_set sets starts i v x s e) p h
+
+-- places that do not go back
+pub later_set : (olds starts : List ℕ) (i v : ℕ) → AllZip (λ a b. a ≤ b) olds starts → i < length olds → get_or starts i 0 ≤ v → AllZip (λ a b. a ≤ b) olds (set starts i v)
+later_set olds starts i v h l m =
+    let at : get_or olds i 0 ≤ get_or starts i 0 = AllZip-get_or (λ (a b : ℕ). a ≤ b) olds starts i 0 0 h l in
+    let n : get_or olds i 0 ≤ v = omega arith in
+    AllZip_set (λ (a b : ℕ). a ≤ b) olds starts i v 0 n h
+
+pub later_same : (starts : List ℕ) → AllZip (λ a b. a ≤ b) starts starts
+later_same [] = tt
+later_same (p ∷ ps) = (omega arith, later_same ps)
+
+-- ---- the answer set by set
+
+combined_more : (operation : Operation) (bs : List Bool) (i : ℕ) (z : Bool) → 0 < i → i < length bs → combined operation (take (i + 1) bs) ≡ holds operation (combined operation (take i bs)) (get_or bs i z)
+combined_more operation [] i z p l = absurd (omega arith)
+combined_more operation (b ∷ bs) zero z p l = absurd (omega arith)
+combined_more operation (b ∷ bs) (suc i) z p l =
+    let e : suc i + 1 ≡ suc (i + 1) = omega arith in
+    ap (λ n. combined operation (take n (b ∷ bs))) e ∙ fold_more (holds operation) b bs i z (omega arith)
+
+combined_first : (operation : Operation) (bs : List Bool) (z : Bool) → 0 < length bs → combined operation (take 1 bs) ≡ get_or bs 0 z
+combined_first operation [] z l = absurd (omega arith)
+combined_first operation (b ∷ bs) z l = refl
+
+pub left_first : (operation : Operation) (sets : List Chunks) (starts : List ℕ) (x : ℕ) (s : Chunks) → AreWithin sets starts → 0 < length sets → s ≡ get_or sets 0 s
+    → combined operation (take 1 (having sets starts x)) ≡ has x (ids_from s (get_or starts 0 0))
+left_first operation sets starts x s w l e = combined_first operation (having sets starts x) false (omega (arith, having_length sets starts x w)) ∙ having_at sets starts 0 x s false w l e
+
+pub left_more : (operation : Operation) (sets : List Chunks) (starts : List ℕ) (i x : ℕ) (s : Chunks) → AreWithin sets starts → 0 < i → i < length sets → s ≡ get_or sets i s
+    → combined operation (take (i + 1) (having sets starts x)) ≡ holds operation (combined operation (take i (having sets starts x))) (has x (ids_from s (get_or starts i 0)))
+left_more operation sets starts i x s w p l e =
+    combined_more operation (having sets starts x) i false p (omega (arith, having_length sets starts x w)) ∙ ap (holds operation (combined operation (take i (having sets starts x)))) (having_at sets starts i x s false w l e)
+
+pub left_all : (operation : Operation) (sets : List Chunks) (starts : List ℕ) (i x : ℕ) → AreWithin sets starts → length sets ≤ i → left operation sets starts x ≡ combined operation (take i (having sets starts x))
+unfolding left
+left_all operation sets starts i x w l = ap (combined operation) (sym (take_all i (having sets starts x) (omega (arith, having_length sets starts x w))))
+
+-- ---- an operation on what is false
+
+neither : (operation : Operation) → holds operation false false ≡ false
+neither And = refl
+neither Or = refl
+neither AndNot = refl
+neither Xor = refl
+
+right_dropped : (operation : Operation) (b : Bool) → holds operation false true ≡ false → holds operation false b ≡ false
+right_dropped operation true h = h
+right_dropped operation false h = neither operation
+
+left_dropped : (operation : Operation) (a : Bool) → holds operation true false ≡ false → holds operation a false ≡ false
+left_dropped operation true h = h
+left_dropped operation false h = neither operation
+
+pub none_of_two : (operation : Operation) (a b : Bool) → a ≡ false → b ≡ false → holds operation a b ≡ false
+none_of_two operation a b p q = ap (λ c. holds operation c b) p ∙ ap (holds operation false) q ∙ neither operation
+
+pub none_of_left : (operation : Operation) (a b : Bool) → holds operation false true ≡ false → a ≡ false → holds operation a b ≡ false
+none_of_left operation a b h p = ap (λ c. holds operation c b) p ∙ right_dropped operation b h
+
+pub none_of_right : (operation : Operation) (a b : Bool) → holds operation true false ≡ false → b ≡ false → holds operation a b ≡ false
+none_of_right operation a b h q = ap (holds operation a) q ∙ left_dropped operation a h
+
+pub left_kept : (operation : Operation) (a : Bool) → holds operation true false ≡ true → holds operation a false ≡ a
+left_kept operation true h = h
+left_kept operation false h = neither operation
+
+-- ---- the keys
+
+has_at : (ks : List ℕ) (i z : ℕ) → i < length ks → has (get_or ks i z) ks ≡ true
+has_at [] i z l = absurd (omega arith)
+has_at (k ∷ ks) zero z l = ap (λ b. b || list_any (λ y. y == k) ks) (eq-eqb k k refl)
+has_at (k ∷ ks) (suc i) z l = ap (λ b. (k == get_or ks i z) || b) (has_at ks i z (omega arith)) ∙ or-true (k == get_or ks i z)
+
+pub has_key : (sets : List Chunks) (starts : List ℕ) (i k : ℕ) (s : Chunks) → AreWithin sets starts → i < length sets → s ≡ get_or sets i s → k ≡ first_key (ids_from s (get_or starts i 0)) → has k (first_keys sets starts) ≡ true
+has_key sets starts i k s w l e q =
+    let at : get_or (first_keys sets starts) i 0 ≡ k = keys_at sets starts i s 0 w l e ∙ sym q in
+    subst (λ n. has n (first_keys sets starts) ≡ true) at (has_at (first_keys sets starts) i 0 (omega (arith, keys_length sets starts w)))
