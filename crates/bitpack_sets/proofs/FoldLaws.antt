@@ -1,8 +1,10 @@
 -- Sets that are combined from the first to the last.
-use Rattle.std.proofs.Common.{◌≡◌, ℕ, zero, suc, ◌+◌, ◌-◌, ◌*◌, ◌/◌, ◌%◌, ◌<◌, ◌≤◌, Bool, true, false, List, [], ◌∷◌, length, get_or, set, take, drop, length-set, get_or-set_same, refl, sym, ap, ◌∙◌, subst, arith, add-one}
-use Rattle.std.specs.List.{All, AllZip, fold}
+use Rattle.std.proofs.Common.{◌≡◌, ℕ, zero, suc, ◌+◌, ◌-◌, ◌*◌, ◌/◌, ◌%◌, ◌<◌, ◌≤◌, ◌==◌, ◌||◌, ◌⊎◌, inl, inr, min, max, Bool, true, false, List, [], ◌∷◌, length, get_or, set, take, drop, length-set, get_or-set_same, eq-eqb, refl, sym, ap, ◌∙◌, subst, arith, add-one}
+use Rattle.std.specs.List.{All, AllZip, fold, list_any}
 use Rattle.std.specs.Simd.Lanes.{zip2}
-use Rattle.std.proofs.lemmas.List.{set-get_or, get_or_default, take-set, take_more_set}
+use Rattle.std.proofs.Math.Bool.{or-true}
+use Rattle.std.proofs.lemmas.Bool.{cases_lt}
+use Rattle.std.proofs.lemmas.List.{set-get_or, take-set, take_all}
 use Rattle.std.proofs.lemmas.List.Elements.{All-get_or, All-set, All-more, AllZip-get_or}
 use Rattle.std.proofs.lemmas.List.Sums.{fold_more}
 use Rattle.std.proofs.lemmas.Simd.{get_or-zip2, length-zip2}
@@ -192,3 +194,13 @@ pub has_key : (sets : List Chunks) (starts : List ℕ) (i k : ℕ) (s : Chunks) 
 has_key sets starts i k s w l e q =
     let at : get_or (first_keys sets starts) i 0 ≡ k = keys_at sets starts i s 0 w l e ∙ sym q in
     subst (λ n. has n (first_keys sets starts) ≡ true) at (has_at (first_keys sets starts) i 0 (omega (arith, keys_length sets starts w)))
+
+pub has_either : (ks : List ℕ) (a b k : ℕ) → has a ks ≡ true → has b ks ≡ true → (k ≡ a) ⊎ (k ≡ b) → has k ks ≡ true
+has_either ks a b k p q (inl e) = ap (λ n. has n ks) e ∙ p
+has_either ks a b k p q (inr e) = ap (λ n. has n ks) e ∙ q
+
+pub is_min : (k a b : ℕ) → k ≡ min a b → (k ≡ a) ⊎ (k ≡ b)
+is_min k a b e = elim (cases_lt a b) [ inl h ↦ inl (omega arith) | inr h ↦ inr (omega arith) ]
+
+pub is_max : (k a b : ℕ) → k ≡ max a b → (k ≡ a) ⊎ (k ≡ b)
+is_max k a b e = elim (cases_lt a b) [ inl h ↦ inr (omega arith) | inr h ↦ inl (omega arith) ]
