@@ -3,11 +3,13 @@ use Rattle.std.proofs.Common.{◌≡◌, ℕ, zero, suc, ◌+◌, ◌-◌, ◌*�
 use Rattle.std.specs.List.{All, AllZip, fold, list_any}
 use Rattle.std.specs.Simd.Lanes.{zip2}
 use Rattle.std.proofs.Math.Bool.{or-true}
-use Rattle.std.proofs.lemmas.Bool.{cases_lt}
+use Rattle.std.proofs.lemmas.Bool.{cases_lt, false≢true}
+use Rattle.std.proofs.lemmas.Bool.Decides.{nat_tests}
 use Rattle.std.proofs.lemmas.List.{set-get_or, take-set, take_all}
 use Rattle.std.proofs.lemmas.List.Elements.{All-get_or, All-set, All-more, AllZip-get_or}
 use Rattle.std.proofs.lemmas.List.Sums.{fold_more}
 use Rattle.std.proofs.lemmas.Simd.{get_or-zip2, length-zip2}
+use Rattle.bitpack_sets.specs.Bitmaps.{has_high}
 use Rattle.bitpack_sets.specs.Chunks.{first_key, ids_from, places}
 use Rattle.bitpack_sets.specs.Folds.{AreWithin, combined, first_keys, having, left, places_left}
 use Rattle.bitpack_sets.specs.Operations.{holds}
@@ -204,3 +206,25 @@ is_min k a b e = elim (cases_lt a b) [ inl h ↦ inl (omega arith) | inr h ↦ i
 
 pub is_max : (k a b : ℕ) → k ≡ max a b → (k ≡ a) ⊎ (k ≡ b)
 is_max k a b e = elim (cases_lt a b) [ inl h ↦ inr (omega arith) | inr h ↦ inl (omega arith) ]
+
+-- ---- high bytes
+
+no_high_step : (x y : ℕ) (a b : Bool) → ((y / 256 == x / 256) || a) ≡ false → (a ≡ false → b ≡ false) → ((y == x) || b) ≡ false
+no_high_step x y a b h later = grind (arith, nat_tests)
+
+pub no_high : (x : ℕ) (xs : List ℕ) → has_high (x / 256) xs ≡ false → has x xs ≡ false
+no_high x [] h = refl
+no_high x (y ∷ ys) h = no_high_step x y (has_high (x / 256) ys) (has x ys) h (no_high x ys)
+
+-- what high bytes rule out
+pub none_of_highs : (operation : Operation) (p q a b : Bool) → (p ≡ false → a ≡ false) → (q ≡ false → b ≡ false) → holds operation p q ≡ false → holds operation p false ≡ false → holds operation false q ≡ false → holds operation a b ≡ false
+none_of_highs operation p q false false f g both left right = neither operation
+none_of_highs operation true true true true f g both left right = both
+none_of_highs operation true q true false f g both left right = left
+none_of_highs operation p true false true f g both left right = right
+none_of_highs operation false q true b f g both left right = absurd (false≢true (sym (f refl)))
+none_of_highs operation p false a true f g both left right = absurd (false≢true (sym (g refl)))
+
+pub start_least : (sets : List Chunks) (starts : List ℕ) (i k : ℕ) (s : Chunks) → AreWithin sets starts → i < length sets → s ≡ get_or sets i s → All (λ n. k ≤ n) (first_keys sets starts) → k ≤ first_key (ids_from s (get_or starts i 0))
+start_least sets starts i k s w l e h =
+    subst (λ n. k ≤ n) (keys_at sets starts i s 0 w l e) (All-get_or (λ n. k ≤ n) (first_keys sets starts) i 0 (omega (arith, keys_length sets starts w)) h)

@@ -1,6 +1,6 @@
 //! Walks through sets chunk by chunk, and combines them from the first to the last.
 
-ghost use Rattle.std.specs.Prelude.{◌≡◌, ℕ, ◌*◌, ◌/◌, ◌%◌, ◌^◌, ◌<◌, ◌≤◌, IfNone, IfSome, true, false, length, take};
+ghost use Rattle.std.specs.Prelude.{◌≡◌, ◌≢◌, ℕ, ◌+◌, ◌/◌, ◌%◌, ◌^◌, ◌<◌, ◌≤◌, IfNone, IfSome, true, false, length, take};
 ghost use Rattle.std.specs.List.{All, AllZip};
 ghost use Rattle.bitpack_sets.specs.Bitmaps.{has_bit};
 ghost use Rattle.bitpack_sets.specs.Chunks.{lows_between, places};
@@ -99,10 +99,14 @@ fn all_highs(operation: Operation, sets: &[Chunks], starts: &[usize], key: u32) 
     // What it leaves out, the answer does not have.
     ensures { (x : ℕ) → x / 65536 ≡ key → has_bit result (x % 65536 / 256) ≡ false → left operation sets.now starts.now x ≡ false }
 {
-    let mut occur = sets[0].highs(starts[0], sets[0].end(starts[0], key));
+    let first = &sets[0];
+    let start = starts[0];
+    let mut occur = first.highs(start, first.end(start, key));
     for i in 1..sets.len() {
-        let end = sets[i].end(starts[i], key);
-        occur = operation.highs(&occur, &sets[i].highs(starts[i], end));
+        let set = &sets[i];
+        let place = starts[i];
+        let own = set.highs(place, set.end(place, key));
+        occur = operation.highs(&occur, &own);
     }
     occur
 }
@@ -131,12 +135,16 @@ fn combine_key(
     ensures none { (x : ℕ) → x / 65536 ≤ key → left operation sets.now starts.new x ≡ false }
     ensures others { (x : ℕ) → key < x / 65536 → having sets.now starts.new x ≡ having sets.now starts.old x }
 {
-    let end = sets[0].end(starts[0], key);
-    sets[0].load(starts[0], end, highs, words);
-    starts[0] = end;
+    let first = &sets[0];
+    let start = starts[0];
+    let next = first.end(start, key);
+    first.load(start, next, highs, words);
+    starts[0] = next;
     for i in 1..sets.len() {
-        let end = sets[i].end(starts[i], key);
-        add_set(operation, &sets[i], starts[i], end, occur, words, others);
+        let set = &sets[i];
+        let place = starts[i];
+        let end = set.end(place, key);
+        add_set(operation, set, place, end, occur, words, others);
         starts[i] = end;
     }
 }

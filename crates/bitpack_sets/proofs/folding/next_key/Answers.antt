@@ -16,7 +16,7 @@ pub loop-i-init : goal.loop-i-init
 loop-i-init c = record {
   most = c.key-key.ensures.most;
   first = has_key _ _ _ _ _ c.requires.within c.requires.some c.index-sets-0.is c.key-key.ensures.first;
-  lower = λ x h. left_first _ _ _ x _ c.requires.within c.requires.some c.index-sets-0.is ∙ c.key-key.ensures.none x h
+  lower = λ x h. left_first _ _ _ x _ c.requires.within c.requires.some c.index-sets-0.is ∙ c.key-key.ensures.none x h;
 }
 
 pub loop-i-preserved : goal.loop-i-preserved
@@ -26,33 +26,35 @@ loop-i-preserved c =
     let is = c.index-sets-i.is in
     let other = has_key _ _ _ _ _ within inside is c.key-other.ensures.first in
     elim c.if-keeps_right.branch [
-      then-keeps_right w ↦ record {
+      | then-keeps_right w ↦ record {
         most = omega arith;
         first = has_either _ _ _ _ c.loop-i.invariant.first other (is_min _ _ _ (w.key-is ∙ w.min-key.ensures));
         lower = λ x h.
             left_more _ _ _ _ x _ within (omega arith) inside is
-            ∙ none_of_two c.args.operation _ _ (c.loop-i.invariant.lower x (omega arith)) (c.key-other.ensures.none x (omega arith))
+            ∙ none_of_two c.args.operation _ _ (c.loop-i.invariant.lower x (omega arith)) (c.key-other.ensures.none x (omega arith));
       }
-    | else-keeps_right+then-not-keeps_left w ↦ record {
+      | else-keeps_right+then-not-keeps_left w ↦ record {
         most = omega arith;
         first = has_either _ _ _ _ c.loop-i.invariant.first other (is_max _ _ _ (w.key-is ∙ w.max-key.ensures));
         lower = λ x h.
             left_more _ _ _ _ x _ within (omega arith) inside is
             ∙ elim (cases_lt (x / 65536) c.loop-i.key) [
-                inl k ↦ none_of_left c.args.operation _ _ (sym c.keeps_right.ensures ∙ w.if-keeps_right.false) (c.loop-i.invariant.lower x k)
-              | inr k ↦ none_of_right c.args.operation _ _ (sym w.keeps_left.ensures ∙ w.if-not-keeps_left.true) (c.key-other.ensures.none x (omega arith)) ]
+              | inl k ↦ none_of_left c.args.operation _ _ (sym c.keeps_right.ensures ∙ w.if-keeps_right.false) (c.loop-i.invariant.lower x k)
+              | inr k ↦ none_of_right c.args.operation _ _ (sym w.keeps_left.ensures ∙ w.if-not-keeps_left.true) (c.key-other.ensures.none x (omega arith))
+            ];
       }
-    | else-keeps_right+else-not-keeps_left w ↦ record {
+      | else-keeps_right+else-not-keeps_left w ↦ record {
         most = omega arith;
         first = rw w.key-is c.loop-i.invariant.first;
         lower = λ x h.
             left_more _ _ _ _ x _ within (omega arith) inside is
-            ∙ none_of_left c.args.operation _ _ (sym c.keeps_right.ensures ∙ w.if-keeps_right.false) (c.loop-i.invariant.lower x (omega arith))
-      } ]
+            ∙ none_of_left c.args.operation _ _ (sym c.keeps_right.ensures ∙ w.if-keeps_right.false) (c.loop-i.invariant.lower x (omega arith));
+      }
+    ]
 
 pub returns : goal.returns
 returns c = record {
   most = c.loop-i.invariant.most;
   first = c.loop-i.invariant.first;
-  lower = λ x h. left_all _ _ _ c.loop-i.i x c.requires.within (omega arith) ∙ c.loop-i.invariant.lower x h
+  lower = λ x h. left_all _ _ _ c.loop-i.i x c.requires.within (omega arith) ∙ c.loop-i.invariant.lower x h;
 }

@@ -7,5 +7,5 @@ abbrev pub invariant-loop-i : goal.invariant-loop-i
 invariant-loop-i l = record {
   most : l.key ≤ 65536;
   first : has l.key (first_keys l.sets l.starts) ≡ true;
-  lower : (x : ℕ) → x / 65536 < l.key → combined l.operation (take l.i (having l.sets l.starts x)) ≡ false
+  lower : (x : ℕ) → x / 65536 < l.key → combined l.operation (take l.i (having l.sets l.starts x)) ≡ false;
 }

@@ -14,7 +14,7 @@ bounds-starts-i-in-loop-i c = omega (arith, within_length _ _ c.loop-i.invariant
 pub seek-requires : goal.seek-requires
 seek-requires c = record {
   within = within_at _ _ _ _ c.loop-i.invariant.within c.loop-i-test.true c.index-sets-i.is;
-  key = c.requires.key
+  key = c.requires.key;
 }
 
 pub loop-i-init : goal.loop-i-init
@@ -22,7 +22,7 @@ loop-i-init c = record {
   within = c.requires.within;
   later = later_same _;
   least = λ k d h. absurd (omega arith);
-  ids = λ x h. refl
+  ids = λ x h. refl;
 }
 
 pub loop-i-preserved : goal.loop-i-preserved
@@ -35,7 +35,7 @@ loop-i-preserved c =
       within = within_set _ _ _ _ _ w e c.seek.ensures.within;
       later = later_set _ _ _ _ c.loop-i.invariant.later (omega arith) c.seek.ensures.later;
       least = keys_more (λ k. c.args.key ≤ k) _ _ _ _ _ w l e c.seek.ensures.reached c.loop-i.invariant.least;
-      ids = λ x h. having_kept _ _ _ _ x _ w l e (sym (c.seek.ensures.ids x (omega arith))) ∙ c.loop-i.invariant.ids x h
+      ids = λ x h. having_kept _ _ _ _ x _ w l e (sym (c.seek.ensures.ids x (omega arith))) ∙ c.loop-i.invariant.ids x h;
     }
 
 pub returns : goal.returns
@@ -46,5 +46,5 @@ returns c =
       within = w;
       later = c.loop-i.invariant.later;
       least = subst (All (λ k. c.args.key ≤ k)) (take_all _ _ n) c.loop-i.invariant.least;
-      ids = c.loop-i.invariant.ids
+      ids = c.loop-i.invariant.ids;
     }

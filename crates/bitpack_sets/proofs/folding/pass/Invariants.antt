@@ -8,5 +8,5 @@ invariant-loop-i l = record {
   within : AreWithin l.sets l.starts;
   later : AllZip (λ a b. a ≤ b) l.fn.starts l.starts;
   least : All (λ k. l.key ≤ k) (take l.i (first_keys l.sets l.starts));
-  ids : (x : ℕ) → l.key ≤ x / 65536 → having l.sets l.starts x ≡ having l.sets l.fn.starts x
+  ids : (x : ℕ) → l.key ≤ x / 65536 → having l.sets l.starts x ≡ having l.sets l.fn.starts x;
 }

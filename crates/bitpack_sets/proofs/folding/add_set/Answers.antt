@@ -1,0 +1,1 @@
+use Rattle.bitpack_sets.proofs.folding.add_set.Goals as goal
