@@ -1,19 +1,22 @@
 -- Sets that are combined from the first to the last.
-use Rattle.std.proofs.Common.{◌≡◌, ℕ, zero, suc, ◌+◌, ◌-◌, ◌*◌, ◌/◌, ◌%◌, ◌<◌, ◌≤◌, ◌==◌, ◌||◌, ◌⊎◌, inl, inr, min, max, Bool, true, false, List, [], ◌∷◌, length, get_or, set, take, drop, length-set, get_or-set_same, eq-eqb, refl, sym, ap, ◌∙◌, subst, arith, add-one}
-use Rattle.std.specs.List.{All, AllZip, fold, list_any}
+use Rattle.std.proofs.Common.{◌≡◌, ℕ, zero, suc, ◌+◌, ◌-◌, ◌*◌, ◌/◌, ◌%◌, ◌<◌, ◌≤◌, ◌≢◌, ◌==◌, ◌||◌, ◌⊎◌, inl, inr, min, max, Bool, true, false, cond, List, [], ◌∷◌, map, length, get_or, set, take, drop, length-set, get_or-set_same, eq-eqb, refl, sym, ap, ◌∙◌, subst, arith, add-one}
+use Rattle.std.specs.List.{All, AllZip, filter, fold, list_any, range_with_len}
 use Rattle.std.specs.Simd.Lanes.{zip2}
 use Rattle.std.proofs.Math.Bool.{or-true}
-use Rattle.std.proofs.lemmas.Bool.{cases_lt, false≢true}
+use Rattle.std.proofs.lemmas.Bool.{cases_lt, false≢true, ne_eqb}
 use Rattle.std.proofs.lemmas.Bool.Decides.{nat_tests}
-use Rattle.std.proofs.lemmas.List.{set-get_or, take-set, take_all}
-use Rattle.std.proofs.lemmas.List.Elements.{All-get_or, All-set, All-more, AllZip-get_or}
+use Rattle.std.proofs.lemmas.List.{drop-drop, drop-set-lt, get_or-drop, set-get_or, take-set, take_all}
+use Rattle.std.proofs.lemmas.List.Elements.{All-get_or, All-head, All-set, All-more, All-tail, AllZip-get_or}
 use Rattle.std.proofs.lemmas.List.Sums.{fold_more}
 use Rattle.std.proofs.lemmas.Simd.{get_or-zip2, length-zip2}
-use Rattle.bitpack_sets.specs.Bitmaps.{has_high}
+use Rattle.bitpack_sets.proofs.OnesLaws.{rising_lower}
+use Rattle.bitpack_sets.proofs.ReadLaws.{has_below}
+use Rattle.bitpack_sets.specs.Bitmaps.{has_bit, has_high}
 use Rattle.bitpack_sets.specs.Chunks.{first_key, ids_from, places}
 use Rattle.bitpack_sets.specs.Folds.{AreWithin, combined, first_keys, having, left, places_left}
-use Rattle.bitpack_sets.specs.Operations.{holds}
+use Rattle.bitpack_sets.specs.Operations.{holds, those}
 use Rattle.bitpack_sets.specs.Reads.{has}
+use Rattle.bitpack_sets.specs.Sets.{IsRising}
 use Rattle.bitpack_sets.specs.declared.chunks.Chunks.{Chunks}
 use Rattle.bitpack_sets.specs.declared.operation.Operation.{Operation}
 use Rattle.bitpack_sets.specs.declared.operation.Operation.TheVariants.{And, Or, AndNot, Xor}
@@ -228,3 +231,96 @@ none_of_highs operation p false a true f g both left right = absurd (false≢tru
 pub start_least : (sets : List Chunks) (starts : List ℕ) (i k : ℕ) (s : Chunks) → AreWithin sets starts → i < length sets → s ≡ get_or sets i s → All (λ n. k ≤ n) (first_keys sets starts) → k ≤ first_key (ids_from s (get_or starts i 0))
 start_least sets starts i k s w l e h =
     subst (λ n. k ≤ n) (keys_at sets starts i s 0 w l e) (All-get_or (λ n. k ≤ n) (first_keys sets starts) i 0 (omega (arith, keys_length sets starts w)) h)
+
+-- ---- the numbers below a bound that pass a test
+
+chosen_rise : (b : Bool) (low high : ℕ) (xs : List ℕ) → IsRising (low + 1) high xs → IsRising low high (cond b (low ∷ xs) xs)
+chosen_rise true low high xs r = (omega arith, r)
+chosen_rise false low high xs r = rising_lower (low + 1) low high xs (omega arith) r
+
+kept_rise : (P : ℕ → Bool) (low high n : ℕ) → low + n ≡ high → IsRising low high (filter P (range_with_len low n))
+kept_rise P low high zero e = omega arith
+kept_rise P low high (suc n) e = chosen_rise (P low) low high (filter P (range_with_len (low + 1) n)) (kept_rise P (low + 1) high n (omega arith))
+
+has_later : (b : Bool) (x low : ℕ) (xs : List ℕ) → low ≢ x → has x (cond b (low ∷ xs) xs) ≡ has x xs
+has_later true x low xs h = ap (λ t. t || has x xs) (ne_eqb low x h)
+has_later false x low xs h = refl
+
+has_first : (b : Bool) (x low : ℕ) (xs : List ℕ) → low ≡ x → has x xs ≡ false → has x (cond b (low ∷ xs) xs) ≡ b
+has_first true x low xs e h = ap (λ t. t || has x xs) (eq-eqb low x e)
+has_first false x low xs e h = h
+
+has_kept : (P : ℕ → Bool) (x low n : ℕ) → low ≤ x → x < low + n → has x (filter P (range_with_len low n)) ≡ P x
+has_kept P x low zero a b = absurd (omega arith)
+has_kept P x low (suc n) a b = elim (cases_lt low x) [
+  | inl less ↦ has_later (P low) x low (filter P (range_with_len (low + 1) n)) (λ e. omega arith) ∙ has_kept P x (low + 1) n (omega arith) (omega arith)
+  | inr more ↦ (
+      let e : low ≡ x = omega arith in
+      let none : has x (filter P (range_with_len (low + 1) n)) ≡ false = has_below x (low + 1) (low + 1 + n) (filter P (range_with_len (low + 1) n)) (kept_rise P (low + 1) (low + 1 + n) n refl) (omega arith) in
+      has_first (P low) x low (filter P (range_with_len (low + 1) n)) e none ∙ ap P e)
+]
+
+pub has_those : (P : ℕ → Bool) (x bound : ℕ) → x < bound → has x (those bound P) ≡ P x
+unfolding those
+has_those P x bound h = has_kept P x 0 bound (omega arith) (omega arith)
+
+pub those_rise : (P : ℕ → Bool) (bound : ℕ) → IsRising 0 bound (those bound P)
+unfolding those
+those_rise P bound = kept_rise P 0 bound bound (omega arith)
+
+raised_not : (xs : List ℕ) → map (λ i. 0 + i) xs ≡ xs
+raised_not [] = refl
+raised_not (x ∷ xs) = let e : 0 + x ≡ x = omega arith in ap (λ y. y ∷ map (λ i. 0 + i) xs) e ∙ ap (λ ys. x ∷ ys) (raised_not xs)
+
+-- the high bytes that are written at the start
+pub listed : (out xs : List ℕ) (n : ℕ) → take n out ≡ map (λ i. 0 + i) xs → take n out ≡ xs
+listed out xs n e = e ∙ raised_not xs
+
+-- ---- a set's own ids are combined
+
+own_or_kept : (operation : Operation) (among new old other low own : Bool) → among ≡ own → (among ≡ true → new ≡ holds operation old other) → (among ≡ true → other ≡ low)
+    → (among ≡ false → new ≡ old) → (own ≡ false → holds operation old low ≡ old) → new ≡ holds operation old low
+own_or_kept operation true new old other low own e combined' loaded same kept = combined' refl ∙ ap (holds operation old) (loaded refl)
+own_or_kept operation false new old other low own e combined' loaded same kept = same refl ∙ sym (kept (sym e))
+
+pub other_false : (a b : Bool) → a ≡ true → holds And a b ≡ false → b ≡ false
+other_false true b t h = h
+other_false false b t h = absurd (false≢true t)
+
+-- what is not in the set stays, if the answer has ids of the left alone
+pub kept_without : (operation : Operation) (a b : Bool) → holds operation true false ≡ true → b ≡ false → holds operation a b ≡ a
+kept_without operation a b k e = ap (holds operation a) e ∙ left_kept operation a k
+
+pub set_added : (operation : Operation) (x : ℕ) (own highs old new others lows : List ℕ) → x < 65536 → highs ≡ those 256 (has_bit own)
+    → (has (x / 256) highs ≡ true → has_bit new x ≡ holds operation (has_bit old x) (has_bit others x)) → (has (x / 256) highs ≡ true → has_bit others x ≡ has x lows)
+    → (has (x / 256) highs ≡ false → has_bit new x ≡ has_bit old x) → (has_bit own (x / 256) ≡ false → holds operation (has_bit old x) (has x lows) ≡ has_bit old x)
+    → has_bit new x ≡ holds operation (has_bit old x) (has x lows)
+set_added operation x own highs old new others lows small are combined' loaded same kept =
+    own_or_kept operation (has (x / 256) highs) (has_bit new x) (has_bit old x) (has_bit others x) (has x lows) (has_bit own (x / 256))
+        (ap (has (x / 256)) are ∙ has_those (has_bit own) (x / 256) 256 (omega arith)) combined' loaded same kept
+
+-- ---- a set more is combined
+
+pub more_combined : (operation : Operation) (sets : List Chunks) (starts : List ℕ) (i x : ℕ) (s : Chunks) (new old low : Bool) → AreWithin sets starts → 0 < i → i < length sets → s ≡ get_or sets i s
+    → old ≡ combined operation (take i (having sets starts x)) → low ≡ has x (ids_from s (get_or starts i 0)) → new ≡ holds operation old low → new ≡ combined operation (take (i + 1) (having sets starts x))
+more_combined operation sets starts i x s new old low w p l e before own now =
+    now ∙ ap (λ a. holds operation a low) before ∙ ap (holds operation (combined operation (take i (having sets starts x)))) own ∙ sym (left_more operation sets starts i x s w p l e)
+
+pub rest_at : (starts olds : List ℕ) (i : ℕ) → drop i starts ≡ drop i olds → get_or starts i 0 ≡ get_or olds i 0
+rest_at starts olds i h =
+    let e : i + 0 ≡ i = omega arith in
+    ap (λ n. get_or starts n 0) (sym e) ∙ sym (get_or-drop i starts 0 0) ∙ ap (λ ys. get_or ys 0 0) h ∙ get_or-drop i olds 0 0 ∙ ap (λ n. get_or olds n 0) e
+
+pub rest_more : (starts olds : List ℕ) (i v : ℕ) → drop i starts ≡ drop i olds → drop (i + 1) (set starts i v) ≡ drop (i + 1) olds
+rest_more starts olds i v h = drop-set-lt (i + 1) starts i v (omega arith) ∙ sym (drop-drop 1 i starts) ∙ ap (drop 1) h ∙ drop-drop 1 i olds
+
+fold_none : (operation : Operation) (a : Bool) (bs : List Bool) → a ≡ false → All (λ b. b ≡ false) bs → fold (holds operation) a bs ≡ false
+fold_none operation a [] e h = e
+fold_none operation a (b ∷ bs) e h = fold_none operation (holds operation a b) bs (none_of_two operation a b e (All-head (λ c. c ≡ false) b bs h)) (All-tail (λ c. c ≡ false) b bs h)
+
+combined_none : (operation : Operation) (bs : List Bool) → All (λ b. b ≡ false) bs → combined operation bs ≡ false
+combined_none operation [] h = refl
+combined_none operation (b ∷ bs) h = fold_none operation b bs (All-head (λ c. c ≡ false) b bs h) (All-tail (λ c. c ≡ false) b bs h)
+
+pub left_none : (operation : Operation) (sets : List Chunks) (starts : List ℕ) (i x : ℕ) → AreWithin sets starts → length sets ≤ i → All (λ b. b ≡ false) (take i (having sets starts x)) → left operation sets starts x ≡ false
+left_none operation sets starts i x w l h = left_all operation sets starts i x w l ∙ combined_none operation (take i (having sets starts x)) h
