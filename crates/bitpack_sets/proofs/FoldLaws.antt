@@ -1,13 +1,13 @@
 -- Sets that are combined from the first to the last.
-use Rattle.std.proofs.Common.{◌≡◌, ℕ, zero, suc, ◌+◌, ◌-◌, ◌*◌, ◌/◌, ◌%◌, ◌<◌, ◌≤◌, ◌≢◌, ◌==◌, ◌||◌, ◌⊎◌, inl, inr, min, max, Bool, true, false, cond, List, [], ◌∷◌, map, length, get_or, set, take, drop, length-set, get_or-set_same, eq-eqb, refl, sym, ap, ◌∙◌, subst, arith, add-one}
+use Rattle.std.proofs.Common.{◌≡◌, ℕ, zero, suc, ◌+◌, ◌-◌, ◌*◌, ◌/◌, ◌%◌, ◌<◌, ◌≤◌, ◌≢◌, ◌==◌, ◌&&◌, ◌||◌, ◌⊎◌, inl, inr, sum, min, max, Bool, true, false, cond, List, [], ◌∷◌, map, length, get_or, set, take, drop, length-set, get_or-set_same, eq-eqb, refl, sym, ap, ◌∙◌, subst, arith, add-one}
 use Rattle.std.specs.List.{All, AllZip, filter, fold, list_any, range_with_len}
 use Rattle.std.specs.Simd.Lanes.{zip2}
 use Rattle.std.proofs.Math.Bool.{or-true}
-use Rattle.std.proofs.lemmas.Bool.{cases_lt, false≢true, ne_eqb}
+use Rattle.std.proofs.lemmas.Bool.{cases_eq, cases_lt, false≢true, ne_eqb}
 use Rattle.std.proofs.lemmas.Bool.Decides.{nat_tests}
 use Rattle.std.proofs.lemmas.List.{drop-drop, drop-set-lt, get_or-drop, set-get_or, take-set, take_all}
 use Rattle.std.proofs.lemmas.List.Elements.{All-get_or, All-head, All-set, All-more, All-tail, AllZip-get_or}
-use Rattle.std.proofs.lemmas.List.Sums.{fold_more}
+use Rattle.std.proofs.lemmas.List.Sums.{fold_more, sum_by-cons}
 use Rattle.std.proofs.lemmas.Simd.{get_or-zip2, length-zip2}
 use Rattle.bitpack_sets.proofs.OnesLaws.{rising_lower}
 use Rattle.bitpack_sets.proofs.ReadLaws.{has_below}
@@ -324,3 +324,66 @@ combined_none operation (b ∷ bs) h = fold_none operation b bs (All-head (λ c.
 
 pub left_none : (operation : Operation) (sets : List Chunks) (starts : List ℕ) (i x : ℕ) → AreWithin sets starts → length sets ≤ i → All (λ b. b ≡ false) (take i (having sets starts x)) → left operation sets starts x ≡ false
 left_none operation sets starts i x w l h = left_all operation sets starts i x w l ∙ combined_none operation (take i (having sets starts x)) h
+
+-- ---- the places go on
+
+pub later_twice : (starts middles nexts : List ℕ) → AllZip (λ a b. a ≤ b) starts middles → AllZip (λ a b. a ≤ b) middles nexts → AllZip (λ a b. a ≤ b) starts nexts
+later_twice [] [] [] h k = k
+later_twice [] [] (n ∷ nexts) h k = absurd k
+later_twice [] (m ∷ middles) nexts h k = absurd h
+later_twice (s ∷ starts) [] nexts h k = absurd h
+later_twice (s ∷ starts) (m ∷ middles) [] h k = absurd k
+later_twice (s ∷ starts) (m ∷ middles) (n ∷ nexts) h k = (omega (arith, h.0, k.0), later_twice starts middles nexts h.1 k.1)
+
+added : (a b : ℕ) (xs ys : List ℕ) → a ≤ b → sum xs ≤ sum ys → sum (a ∷ xs) ≤ sum (b ∷ ys)
+added a b xs ys h k = omega (arith, sum_by-cons (λ (x : ℕ). x) a xs, sum_by-cons (λ (x : ℕ). x) b ys)
+
+added_first : (a b : ℕ) (xs ys : List ℕ) → a < b → sum xs ≤ sum ys → sum (a ∷ xs) < sum (b ∷ ys)
+added_first a b xs ys h k = omega (arith, sum_by-cons (λ (x : ℕ). x) a xs, sum_by-cons (λ (x : ℕ). x) b ys)
+
+added_rest : (a b : ℕ) (xs ys : List ℕ) → a ≤ b → sum xs < sum ys → sum (a ∷ xs) < sum (b ∷ ys)
+added_rest a b xs ys h k = omega (arith, sum_by-cons (λ (x : ℕ). x) a xs, sum_by-cons (λ (x : ℕ). x) b ys)
+
+not_more : {A : Type 0} (f : A → ℕ) (xs : List A) (starts nexts : List ℕ) → AllZip (λ a b. a ≤ b) starts nexts → sum (zip2 (λ x p. f x - p) xs nexts) ≤ sum (zip2 (λ x p. f x - p) xs starts)
+not_more f [] starts nexts h = omega arith
+not_more f (x ∷ xs) [] [] h = omega arith
+not_more f (x ∷ xs) [] (n ∷ nexts) h = absurd h
+not_more f (x ∷ xs) (s ∷ starts) [] h = absurd h
+not_more f (x ∷ xs) (s ∷ starts) (n ∷ nexts) h = added (f x - n) (f x - s) (zip2 (λ y p. f y - p) xs nexts) (zip2 (λ y p. f y - p) xs starts) (omega (arith, h.0)) (not_more f xs starts nexts h.1)
+
+has_after : (k n : ℕ) (ks : List ℕ) → n ≢ k → has k (n ∷ ks) ≡ true → has k ks ≡ true
+has_after k n ks ne h = sym (ap (λ b. b || has k ks) (ne_eqb n k ne)) ∙ h
+
+moved : {A : Type 0} (g : A → ℕ → ℕ) (k : ℕ) (x : A) (s n : ℕ) → s ≤ n → g x s ≡ k → k < g x n → s < n
+moved g k x s n l e m = elim (cases_lt s n) [
+  | inl less ↦ less
+  | inr more ↦ (let same : n ≡ s = omega arith in absurd (omega (arith, e, m, ap (g x) same)))
+]
+
+fewer : {A : Type 0} (f : A → ℕ) (g : A → ℕ → ℕ) (k : ℕ) (xs : List A) (starts nexts : List ℕ) → AllZip (λ x p. p ≤ f x) xs nexts → AllZip (λ a b. a ≤ b) starts nexts
+    → has k (zip2 g xs starts) ≡ true → All (λ n. k < n) (zip2 g xs nexts) → sum (zip2 (λ x p. f x - p) xs nexts) < sum (zip2 (λ x p. f x - p) xs starts)
+fewer f g k [] starts nexts w l h m = absurd (false≢true h)
+fewer f g k (x ∷ xs) [] nexts w l h m = absurd (false≢true h)
+fewer f g k (x ∷ xs) (s ∷ starts) [] w l h m = absurd l
+fewer f g k (x ∷ xs) (s ∷ starts) (n ∷ nexts) w l h m = elim (cases_eq (g x s) k) [
+  | inl e ↦ (
+      let on : s < n = moved g k x s n l.0 e (All-head (λ i. k < i) (g x n) (zip2 g xs nexts) m) in
+      added_first (f x - n) (f x - s) (zip2 (λ y p. f y - p) xs nexts) (zip2 (λ y p. f y - p) xs starts) (omega (arith, w.0, on)) (not_more f xs starts nexts l.1))
+  | inr ne ↦
+      added_rest (f x - n) (f x - s) (zip2 (λ y p. f y - p) xs nexts) (zip2 (λ y p. f y - p) xs starts) (omega (arith, l.0)) (fewer f g k xs starts nexts w.1 l.1 (has_after k (g x s) (zip2 g xs starts) ne h) (All-tail (λ i. k < i) (g x n) (zip2 g xs nexts) m))
+]
+
+pub fewer_left : (sets : List Chunks) (starts nexts : List ℕ) (k : ℕ) → AreWithin sets nexts → AllZip (λ a b. a ≤ b) starts nexts → has k (first_keys sets starts) ≡ true → All (λ n. k < n) (first_keys sets nexts)
+    → places_left sets nexts < places_left sets starts
+unfolding AreWithin first_keys places_left
+fewer_left sets starts nexts k w l h m = fewer places (λ (s : Chunks) (p : ℕ). first_key (ids_from s p)) k sets starts nexts w l h m
+
+-- ---- a chunk of the answer
+
+pub part_own : (before among bit : Bool) → (among ≡ false → before ≡ false) → (among ≡ true → bit ≡ before) → before ≡ (among && bit)
+part_own before true bit none own = sym (own refl)
+part_own before false bit none own = none refl
+
+pub left_same : (operation : Operation) (sets : List Chunks) (starts others : List ℕ) (x : ℕ) → having sets starts x ≡ having sets others x → left operation sets starts x ≡ left operation sets others x
+unfolding left
+left_same operation sets starts others x h = ap (combined operation) h
