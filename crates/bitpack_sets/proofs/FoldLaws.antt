@@ -1,5 +1,5 @@
 -- Sets that are combined from the first to the last.
-use Rattle.std.proofs.Common.{◌≡◌, ℕ, zero, suc, ◌+◌, ◌-◌, ◌*◌, ◌/◌, ◌%◌, ◌<◌, ◌≤◌, ◌≢◌, ◌==◌, ◌&&◌, ◌||◌, ◌⊎◌, inl, inr, sum, min, max, Bool, true, false, cond, List, [], ◌∷◌, map, length, get_or, set, take, drop, length-set, get_or-set_same, eq-eqb, refl, sym, ap, ◌∙◌, subst, arith, add-one}
+use Rattle.std.proofs.Common.{◌≡◌, ℕ, zero, suc, ◌+◌, ◌-◌, ◌/◌, ◌<◌, ◌≤◌, ◌≢◌, ◌==◌, ◌&&◌, ◌||◌, ◌⊎◌, inl, inr, sum, min, max, Bool, true, false, cond, List, [], ◌∷◌, map, length, get_or, set, take, drop, length-set, get_or-set_same, eq-eqb, refl, sym, ap, ◌∙◌, subst, arith}
 use Rattle.std.specs.List.{All, AllZip, filter, fold, list_any, range_with_len}
 use Rattle.std.specs.Simd.Lanes.{zip2}
 use Rattle.std.proofs.Math.Bool.{or-true}
@@ -297,7 +297,7 @@ pub set_added : (operation : Operation) (x : ℕ) (own highs old new others lows
     → has_bit new x ≡ holds operation (has_bit old x) (has x lows)
 set_added operation x own highs old new others lows small are combined' loaded same kept =
     own_or_kept operation (has (x / 256) highs) (has_bit new x) (has_bit old x) (has_bit others x) (has x lows) (has_bit own (x / 256))
-        (ap (has (x / 256)) are ∙ has_those (has_bit own) (x / 256) 256 (omega arith)) combined' loaded same kept
+    (ap (has (x / 256)) are ∙ has_those (has_bit own) (x / 256) 256 (omega arith)) combined' loaded same kept
 
 -- ---- a set more is combined
 

@@ -1,5 +1,5 @@
 -- Sets that are combined from the first to the last: what is left of the answer, and a chunk of it.
-use Rattle.std.specs.Prelude.{◌≡◌, ℕ, ◌+◌, ◌-◌, ◌/◌, ◌%◌, ◌<◌, ◌≤◌, ◌&&◌, Bool, false, List, [], ◌∷◌, sum}
+use Rattle.std.specs.Prelude.{◌≡◌, ℕ, ◌-◌, ◌/◌, ◌%◌, ◌<◌, ◌≤◌, ◌&&◌, Bool, false, List, [], ◌∷◌, sum}
 use Rattle.std.specs.List.{AllZip, fold}
 use Rattle.std.specs.Simd.Lanes.{zip2}
 use Rattle.bitpack_sets.specs.Bitmaps.{has_bit}

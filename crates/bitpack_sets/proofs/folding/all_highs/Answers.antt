@@ -1,4 +1,4 @@
-use Rattle.std.proofs.Common.{◌≡◌, ℕ, ◌/◌, ◌%◌, ◌<◌, false, sym, ◌∙◌, arith}
+use Rattle.std.proofs.Common.{◌/◌, ◌%◌, ◌<◌, sym, ◌∙◌, arith}
 use Rattle.bitpack_sets.proofs.FoldLaws.{left_all, left_first, left_more, no_high, none_of_highs, start_least, within_at, within_length}
 use Rattle.bitpack_sets.proofs.folding.all_highs.Goals as goal
 
@@ -32,9 +32,9 @@ loop-i-preserved c = λ x h none.
     let rules-out = c.highs-occur-in-loop-i.ensures in
     left_more _ _ _ _ x _ c.requires.within (omega arith) c.loop-i-test.true c.index-sets-i.is
     ∙ none_of_highs c.args.operation _ _ _ _
-        (λ e. c.loop-i.invariant x h e)
-        (λ e. c.end-in-loop-i.ensures.own x h ∙ no_high (x % 65536) _ (sym (c.highs-own.ensures (x % 65536 / 256) small) ∙ e))
-        (rules-out.both _ small none) (rules-out.left _ small none) (rules-out.right _ small none)
+    (λ e. c.loop-i.invariant x h e)
+    (λ e. c.end-in-loop-i.ensures.own x h ∙ no_high (x % 65536) _ (sym (c.highs-own.ensures (x % 65536 / 256) small) ∙ e))
+    (rules-out.both _ small none) (rules-out.left _ small none) (rules-out.right _ small none)
 
 pub returns : goal.returns
 returns c = λ x h none. left_all _ _ _ c.loop-i.i x c.requires.within (omega arith) ∙ c.loop-i.invariant x h none

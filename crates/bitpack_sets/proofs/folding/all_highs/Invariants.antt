@@ -1,4 +1,4 @@
-use Rattle.std.proofs.Common.{◌≡◌, ℕ, ◌/◌, ◌%◌, ◌<◌, ◌≤◌, false, take}
+use Rattle.std.proofs.Common.{◌≡◌, ℕ, ◌/◌, ◌%◌, false, take}
 use Rattle.bitpack_sets.specs.Bitmaps.{has_bit}
 use Rattle.bitpack_sets.specs.Folds.{combined, having}
 use Rattle.bitpack_sets.proofs.folding.all_highs.Given as goal

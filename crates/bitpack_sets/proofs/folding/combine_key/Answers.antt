@@ -1,8 +1,8 @@
-use Rattle.std.proofs.Common.{◌≡◌, ℕ, ◌/◌, ◌%◌, ◌<◌, ◌≤◌, Bool, true, false, List, length, sym, ap, ◌∙◌, subst, arith}
+use Rattle.std.proofs.Common.{◌≡◌, ℕ, ◌/◌, ◌%◌, ◌<◌, ◌≤◌, true, false, length, sym, ap, ◌∙◌, subst, arith}
 use Rattle.std.specs.List.{All}
 use Rattle.std.proofs.lemmas.List.{drop-set-lt, take_all}
 use Rattle.bitpack_sets.specs.Bitmaps.{has_bit}
-use Rattle.bitpack_sets.specs.Chunks.{first_key, ids_from, places}
+use Rattle.bitpack_sets.specs.Chunks.{ids_from}
 use Rattle.bitpack_sets.specs.Folds.{first_keys}
 use Rattle.bitpack_sets.specs.Reads.{has}
 use Rattle.bitpack_sets.specs.Sets.{IsRising}
@@ -51,10 +51,10 @@ loop-i-init c =
       passed = keys_more (λ k. c.args.key < k) _ _ _ _ _ w some is next.passed (λ k d h. absurd (omega arith));
       own = λ x h occurs.
           let among : has (x % 65536 / 256) c.args.highs.now ≡ true =
-              ap (has (x % 65536 / 256)) c.requires.highs ∙ has_those (has_bit c.args.occur.now) (x % 65536 / 256) 256 (omega arith) ∙ occurs in
+          ap (has (x % 65536 / 256)) c.requires.highs ∙ has_those (has_bit c.args.occur.now) (x % 65536 / 256) 256 (omega arith) ∙ occurs in
           c.load.ensures (x % 65536) (omega arith) among ∙ sym (next.own x h) ∙ sym (left_first _ _ _ x _ w some is);
       none = λ x h. having_more (λ b. b ≡ false) _ _ _ _ x _ w some is (next.none x h) (λ k d l. absurd (omega arith));
-      others = λ x h. having_kept _ _ _ _ x _ w some is (sym (next.others x h))
+      others = λ x h. having_kept _ _ _ _ x _ w some is (sym (next.others x h));
     }
 
 pub loop-i-preserved : goal.loop-i-preserved
@@ -72,10 +72,10 @@ loop-i-preserved c =
       passed = keys_more (λ k. c.args.key < k) _ _ _ _ _ w inside is next.passed before.passed;
       own = λ x h occurs.
           more_combined _ _ _ _ x _ _ _ _ c.requires.within (omega arith) inside is (before.own x h occurs)
-              (sym (next.own x h) ∙ ap (λ (p : ℕ). has x (ids_from c.index-sets-i.result p)) (rest_at c.loop-i.starts c.args.starts.now c.loop-i.i before.rest))
-              (c.add_set.ensures (x % 65536) (omega arith) occurs);
+          (sym (next.own x h) ∙ ap (λ (p : ℕ). has x (ids_from c.index-sets-i.result p)) (rest_at c.loop-i.starts c.args.starts.now c.loop-i.i before.rest))
+          (c.add_set.ensures (x % 65536) (omega arith) occurs);
       none = λ x h. having_more (λ b. b ≡ false) _ _ _ _ x _ w inside is (next.none x h) (before.none x h);
-      others = λ x h. having_kept _ _ _ _ x _ w inside is (sym (next.others x h)) ∙ before.others x h
+      others = λ x h. having_kept _ _ _ _ x _ w inside is (sym (next.others x h)) ∙ before.others x h;
     }
 
 pub returns : goal.returns
@@ -89,5 +89,5 @@ returns c =
       passed = subst (All (λ k. c.args.key < k)) (take_all _ _ n) before.passed;
       own = λ x h occurs. before.own x h occurs ∙ sym (left_all _ _ _ c.loop-i.i x c.requires.within (omega arith));
       none = λ x h. left_none _ _ _ c.loop-i.i x w (omega arith) (before.none x h);
-      others = before.others
+      others = before.others;
     }

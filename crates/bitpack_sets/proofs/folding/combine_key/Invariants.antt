@@ -12,5 +12,5 @@ invariant-loop-i l = record {
   passed : All (λ k. l.key < k) (take l.i (first_keys l.sets l.starts));
   own : (x : ℕ) → x / 65536 ≡ l.key → has_bit l.occur (x % 65536 / 256) ≡ true → has_bit l.words (x % 65536) ≡ combined l.operation (take l.i (having l.sets l.fn.starts x));
   none : (x : ℕ) → x / 65536 ≤ l.key → All (λ b. b ≡ false) (take l.i (having l.sets l.starts x));
-  others : (x : ℕ) → l.key < x / 65536 → having l.sets l.starts x ≡ having l.sets l.fn.starts x
+  others : (x : ℕ) → l.key < x / 65536 → having l.sets l.starts x ≡ having l.sets l.fn.starts x;
 }

@@ -1,7 +1,5 @@
-use Rattle.std.proofs.Common.{◌≡◌, ℕ, ◌/◌, ◌<◌, ◌≤◌, ◌⊎◌, inl, inr, true, false, take, sym, ◌∙◌, arith}
+use Rattle.std.proofs.Common.{◌/◌, inl, inr, true, false, sym, ◌∙◌, arith}
 use Rattle.std.proofs.lemmas.Bool.{cases_lt}
-use Rattle.bitpack_sets.specs.Folds.{AreWithin, combined, first_keys, having}
-use Rattle.bitpack_sets.specs.Reads.{has}
 use Rattle.bitpack_sets.proofs.FoldLaws.{has_either, has_key, is_max, is_min, left_all, left_first, left_more, none_of_left, none_of_right, none_of_two, within_length}
 use Rattle.bitpack_sets.proofs.folding.next_key.Goals as goal
 use Rattle.bitpack_sets.proofs.folding.next_key.Goals.{then-keeps_right, else-keeps_right+then-not-keeps_left, else-keeps_right+else-not-keeps_left}

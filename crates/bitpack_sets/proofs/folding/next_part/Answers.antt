@@ -1,6 +1,6 @@
-use Rattle.std.proofs.Common.{◌≡◌, ℕ, ◌/◌, ◌%◌, ◌<◌, ◌≤◌, ◌&&◌, Bool, true, false, List, take, sym, ap, ◌∙◌, subst, arith}
+use Rattle.std.proofs.Common.{◌≡◌, ℕ, ◌/◌, ◌%◌, ◌≤◌, take, sym, ap, ◌∙◌, subst, arith}
 use Rattle.bitpack_sets.specs.Bitmaps.{has_bit}
-use Rattle.bitpack_sets.specs.Folds.{IsPart, combined, having, left}
+use Rattle.bitpack_sets.specs.Folds.{left}
 use Rattle.bitpack_sets.specs.Operations.{those}
 use Rattle.bitpack_sets.specs.Reads.{has}
 use Rattle.bitpack_sets.specs.Sets.{IsRising}
@@ -13,20 +13,20 @@ returns-clause-part c =
     let highs = take c.unpack_bits-high_count.result c.unpack_bits-high_count.new.out in
     let are : highs ≡ those 256 (has_bit c.all_highs-occur.result) = listed _ _ _ c.unpack_bits-high_count.ensures.values in
     let passed : (x : ℕ) → key ≤ x / 65536 → left c.args.operation c.args.sets.now c.pass.new.starts x ≡ left c.args.operation c.args.sets.now c.args.starts.now x =
-        λ x h. left_same _ _ _ _ x (c.pass.ensures.ids x h) in
+    λ x h. left_same _ _ _ _ x (c.pass.ensures.ids x h) in
     record {
       small = omega (arith, c.next_key-key.ensures.most);
       rising = subst (IsRising 0 256) (sym are) (those_rise _ 256);
       lower = c.next_key-key.ensures.lower;
       own = λ x h.
           let occurs : has (x % 65536 / 256) highs ≡ has_bit c.all_highs-occur.result (x % 65536 / 256) =
-              ap (has (x % 65536 / 256)) are ∙ has_those (has_bit c.all_highs-occur.result) (x % 65536 / 256) 256 (omega arith) in
+          ap (has (x % 65536 / 256)) are ∙ has_those (has_bit c.all_highs-occur.result) (x % 65536 / 256) 256 (omega arith) in
           let same = passed x (omega arith) in
           part_own _ (has (x % 65536 / 256) highs) _
-              (λ none. sym same ∙ c.all_highs-occur.ensures x h (sym occurs ∙ none))
-              (λ there. c.combine_key.ensures.own x h (sym occurs ∙ there) ∙ same);
+          (λ none. sym same ∙ c.all_highs-occur.ensures x h (sym occurs ∙ none))
+          (λ there. c.combine_key.ensures.own x h (sym occurs ∙ there) ∙ same);
       passed = c.combine_key.ensures.none;
-      higher = λ x h. sym (left_same _ _ _ _ x (c.combine_key.ensures.others x h ∙ c.pass.ensures.ids x (omega arith)))
+      higher = λ x h. sym (left_same _ _ _ _ x (c.combine_key.ensures.others x h ∙ c.pass.ensures.ids x (omega arith)));
     }
 
 pub returns-clause-fewer : goal.returns-clause-fewer

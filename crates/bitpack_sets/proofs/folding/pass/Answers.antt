@@ -1,7 +1,7 @@
-use Rattle.std.proofs.Common.{◌≡◌, ℕ, ◌*◌, ◌/◌, ◌<◌, ◌≤◌, length, sym, ◌∙◌, subst, refl, arith}
+use Rattle.std.proofs.Common.{◌≡◌, ◌≤◌, length, sym, ◌∙◌, subst, refl, arith}
 use Rattle.std.specs.List.{All}
 use Rattle.std.proofs.lemmas.List.{take_all}
-use Rattle.bitpack_sets.specs.Folds.{AreWithin, first_keys, having}
+use Rattle.bitpack_sets.specs.Folds.{first_keys}
 use Rattle.bitpack_sets.proofs.FoldLaws.{having_kept, keys_length, keys_more, later_same, later_set, within_at, within_length, within_set}
 use Rattle.bitpack_sets.proofs.folding.pass.Goals as goal
 
