@@ -1,10 +1,11 @@
 //! Combines two sets.
 
-ghost use Rattle.std.specs.Prelude.{◌≡◌, ◌+◌, ◌<◌, ◌↔◌, ◌++◌, [], IfErr, IfOk, IsTrue, OnErr, OnOk, drop, length, take, vec_capacity, vec_len};
+ghost use Rattle.std.specs.Prelude.{◌≡◌, ◌+◌, ◌<◌, ◌↔◌, ◌++◌, ◌∷◌, [], IfErr, IfOk, IsTrue, OnErr, OnOk, drop, length, take, vec_capacity, vec_len};
 ghost use Rattle.bitpack_sets.specs.Opened.{ids};
 ghost use Rattle.bitpack_sets.specs.Operations.{answer};
 
 use crate::bitmap::unpacking::{count_bitmap, unpack_bitmap};
+use crate::chunks::Chunks;
 use crate::folding::next_part;
 use crate::id_set::{IdSet, ROOM};
 use crate::operation::Operation;
@@ -24,10 +25,10 @@ pub fn combine_to(
     ensures short { IfErr result (λ e. e ≡ SetError.Short) }
     ensures room { OnErr result (length out.old < length (answer operation (ids a.now) (ids b.now))) }
 {
-    let mut rooms = ([0; ROOM], [0; ROOM]);
+    let (mut room_a, mut room_b) = ([0; ROOM], [0; ROOM]);
     let mut words = [0; 1024];
     let mut others = [0; 1024];
-    let sets = [a.chunks(&mut rooms.0), b.chunks(&mut rooms.1)];
+    let sets = both(a.chunks(&mut room_a), b.chunks(&mut room_b));
     let mut places = [0; 2];
     let mut at = 0;
     while let Some(part) = next_part(operation, &sets, &mut places, &mut words, &mut others) {
@@ -45,14 +46,21 @@ pub fn combine_to(
 pub fn combine_count(operation: Operation, a: &IdSet, b: &IdSet) -> usize
     ensures { result ≡ length (answer operation (ids a.now) (ids b.now)) }
 {
-    let mut rooms = ([0; ROOM], [0; ROOM]);
+    let (mut room_a, mut room_b) = ([0; ROOM], [0; ROOM]);
     let mut words = [0; 1024];
     let mut others = [0; 1024];
-    let sets = [a.chunks(&mut rooms.0), b.chunks(&mut rooms.1)];
+    let sets = both(a.chunks(&mut room_a), b.chunks(&mut room_b));
     let mut places = [0; 2];
     let mut count = 0;
     while let Some(part) = next_part(operation, &sets, &mut places, &mut words, &mut others) {
         count += count_bitmap(&part.highs[..part.high_count], &words);
     }
     count
+}
+
+/// Two sets in an array, which names one lifetime.
+fn both<'a>(a: Chunks<'a>, b: Chunks<'a>) -> [Chunks<'a>; 2]
+    ensures { result ≡ a.entry ∷ b.entry ∷ [] }
+{
+    [a, b]
 }
