@@ -28,16 +28,24 @@ pub fn combine_to(
     let (mut room_a, mut room_b) = ([0; ROOM], [0; ROOM]);
     let mut words = [0; 1024];
     let mut others = [0; 1024];
+    let mut highs = [0; 256];
     let sets = both(a.chunks(&mut room_a), b.chunks(&mut room_b));
-    let mut places = [0; 2];
+    let mut starts = [0; 2];
     let mut at = 0;
-    while let Some(part) = next_part(operation, &sets, &mut places, &mut words, &mut others) {
-        let highs = &part.highs[..part.high_count];
+    while let Some(part) = next_part(
+        operation,
+        &sets,
+        &mut starts,
+        &mut words,
+        &mut others,
+        &mut highs,
+    ) {
+        let own = &highs[..part.high_count];
         let left = out.len() - at;
-        if left < 65536 && left < count_bitmap(highs, &words) {
+        if left < 65536 && left < count_bitmap(own, &words) {
             return Err(SetError::Short);
         }
-        at = unpack_bitmap(highs, &words, part.key * 65536, out, at);
+        at = unpack_bitmap(own, &words, part.key * 65536, out, at);
     }
     Ok(at)
 }
@@ -49,11 +57,19 @@ pub fn combine_count(operation: Operation, a: &IdSet, b: &IdSet) -> usize
     let (mut room_a, mut room_b) = ([0; ROOM], [0; ROOM]);
     let mut words = [0; 1024];
     let mut others = [0; 1024];
+    let mut highs = [0; 256];
     let sets = both(a.chunks(&mut room_a), b.chunks(&mut room_b));
-    let mut places = [0; 2];
+    let mut starts = [0; 2];
     let mut count = 0;
-    while let Some(part) = next_part(operation, &sets, &mut places, &mut words, &mut others) {
-        count += count_bitmap(&part.highs[..part.high_count], &words);
+    while let Some(part) = next_part(
+        operation,
+        &sets,
+        &mut starts,
+        &mut words,
+        &mut others,
+        &mut highs,
+    ) {
+        count += count_bitmap(&highs[..part.high_count], &words);
     }
     count
 }

@@ -13,29 +13,29 @@ use crate::bitmap::unpacking::unpack_bits;
 use crate::chunks::{Chunks, NO_KEY};
 use crate::operation::Operation;
 
-/// A chunk of the answer: its key, and the high bytes that it can have. Their bits are in the bitmap beside it.
-#[derive(Drop)]
+/// A chunk of the answer: its key, and how many high bytes it can have.
+#[derive(Clone, Copy)]
 pub(crate) struct Part {
     pub(crate) key: u32,
-    pub(crate) highs: [u32; 256],
     pub(crate) high_count: usize,
 }
 
-/// The next chunk of the answer of what is left of the sets, from their places on, whose bits are left in `words`. Moves the places after it.
-/// None if no id is left.
+/// The next chunk of the answer of what is left of the sets from where they start. Moves the starts after it. Its high bytes are left in `highs`,
+/// and their bits in `words`. None if no id is left.
 pub(crate) fn next_part(
     operation: Operation,
     sets: &[Chunks],
     starts: &mut [usize],
     words: &mut [u64; 1024],
     others: &mut [u64; 1024],
+    highs: &mut [u32; 256],
 ) -> Option<Part>
     requires some { 0 < length sets.now }
     requires within { AreWithin sets.now starts.old }
     ensures within { AreWithin sets.now starts.new }
     ensures none { IfNone result ((x : ℕ) → x < 2 ^ 32 → left operation sets.now starts.old x ≡ false) }
     ensures count { IfSome result (λ part. part.high_count ≤ 256) }
-    ensures part { IfSome result (λ part. IsPart part.key (take part.high_count part.highs) words.new (left operation sets.now starts.old) (left operation sets.now starts.new)) }
+    ensures part { IfSome result (λ part. IsPart part.key (take part.high_count highs.new) words.new (left operation sets.now starts.old) (left operation sets.now starts.new)) }
     // It goes on.
     ensures fewer { IfSome result (λ part. places_left sets.now starts.new < places_left sets.now starts.old) }
 {
@@ -45,15 +45,10 @@ pub(crate) fn next_part(
     }
     pass(sets, starts, key);
     let occur = all_highs(operation, sets, starts, key);
-    let mut highs = [0; 256];
-    let high_count = unpack_bits(&occur, 0, &mut highs, 0);
-    let some = &highs[..high_count];
-    combine_key(operation, sets, starts, key, &occur, some, words, others);
-    Some(Part {
-        key,
-        highs,
-        high_count,
-    })
+    let high_count = unpack_bits(&occur, 0, highs, 0);
+    let own = &highs[..high_count];
+    combine_key(operation, sets, starts, key, &occur, own, words, others);
+    Some(Part { key, high_count })
 }
 
 /// The next key that the answer can have.
