@@ -22,6 +22,7 @@ mod FallLaws
 mod FaultLaws
 mod FewLaws
 mod FillLaws
+mod FoldLaws
 mod FormLaws
 mod FourLaws
 mod GapLaws

@@ -4,6 +4,7 @@ pub mod Chunks
 pub mod Directory
 pub mod Errors
 pub mod Faults
+pub mod Folds
 pub mod Laws
 pub mod Opened
 pub mod Operations

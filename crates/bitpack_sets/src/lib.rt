@@ -10,6 +10,7 @@ mod decoding;
 mod directory;
 mod encoding;
 mod few;
+mod folding;
 mod id_set;
 mod ids;
 pub mod laws;
