@@ -50,7 +50,7 @@ returns-clause-part c =
           (λ none. high_none low (low / 256) theirs refl (sym (c.highs-2.ensures (low / 256) byte) ∙ none))
           (c.highs-occur.ensures.both (low / 256) byte) (c.highs-occur.ensures.left (low / 256) byte) (c.highs-occur.ensures.right (low / 256) byte)
           (listed_has highs (has_bit c.highs-occur.result) (low / 256) c.unpack_bits-high_count.ensures.values byte)
-          (c.load.ensures low small) (c.load-2.ensures low small) (c.combine.ensures low small);
+          (c.load.ensures low small) (c.load-2.ensures low small) (c.combine.ensures.own low small);
       passed = λ x h. no_one set.operation (has x (ids_from set.a c.end-i.result)) (has x (ids_from set.b c.end-j.result)) (c.end-i.ensures.none x h) (c.end-j.ensures.none x h);
       higher = λ x h. c.skip.ensures.left x
           ∙ each set.operation (has x (ids_from set.a set.i)) (has x (ids_from set.a c.end-i.result)) (has x (ids_from set.b set.j)) (has x (ids_from set.b c.end-j.result)) (c.end-i.ensures.others x h) (c.end-j.ensures.others x h);
