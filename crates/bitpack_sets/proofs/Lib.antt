@@ -34,12 +34,15 @@ mod JoinReads
 mod LoadLaws
 mod LongFilled
 mod LongLaws
+mod LowestLaws
 mod MeasureLaws
 mod NumberReads
 mod OnesLaws
 mod PartLaws
 mod PartsFilled
 mod PlaceLaws
+mod QueryIds
+mod QueryLaws
 mod RaisedLaws
 mod RangeLaws
 mod ReadLaws

@@ -10,6 +10,8 @@ pub mod Opened
 pub mod Operations
 pub mod Pairs
 pub mod Props
+pub mod Queried
+pub mod Queries
 pub mod Reads
 pub mod Sets
 pub mod Slices
