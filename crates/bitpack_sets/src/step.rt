@@ -7,6 +7,6 @@ use crate::operation::Operation;
 pub enum Step {
     /// The set of this index is an operand.
     Set(usize),
-    /// This operation takes the last two operands, of which the earlier is its first, and gives one.
+    /// This operation takes the last two operands, the earlier as its first, and gives one.
     Combine(Operation),
 }
