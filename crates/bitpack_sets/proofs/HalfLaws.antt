@@ -25,7 +25,7 @@ pairs_at (a ∷ b ∷ bytes) (suc i) h =
     let ih = pairs_at bytes i (omega arith) in
     omega arith
 
-rising_at : (low high i : ℕ) (xs : List ℕ) → IsRising low high xs → i < length xs → low ≤ get_or xs i 0
+pub rising_at : (low high i : ℕ) (xs : List ℕ) → IsRising low high xs → i < length xs → low ≤ get_or xs i 0
 rising_at low high i [] r h = absurd (omega arith)
 rising_at low high zero (y ∷ ys) (a, r) h = a
 rising_at low high (suc i) (y ∷ ys) (a, r) h = let ih = rising_at (y + 1) high i ys r (omega arith) in omega arith

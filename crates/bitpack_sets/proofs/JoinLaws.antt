@@ -32,7 +32,7 @@ put_same base h l ls ps small =
     ap (λ (b : Bool). cond b ((h, (h * base + l) % base ∷ ls) ∷ ps) (((h * base + l) / base, (h * base + l) % base ∷ []) ∷ (h, ls) ∷ ps))
     (eq-eqb h ((h * base + l) / base) (sym (div-mul-add h base l small))) ∙ ap (λ (n : ℕ). (h, n ∷ ls) ∷ ps) (mod-mul-add h base l small)
 
-below_top : (low high : ℕ) (xs : List ℕ) → IsRising low high xs → low ≤ high
+pub below_top : (low high : ℕ) (xs : List ℕ) → IsRising low high xs → low ≤ high
 below_top low high [] r = r
 below_top low high (x ∷ xs) (a, r) = let ih = below_top (x + 1) high xs r in omega arith
 

@@ -27,6 +27,7 @@ mod FallLaws
 mod FaultLaws
 mod FewLaws
 mod FillLaws
+mod FoldLaws
 mod FormLaws
 mod FourLaws
 mod FrontLaws
@@ -42,6 +43,7 @@ mod LoadLaws
 mod LongFilled
 mod LongLaws
 mod MarkLaws
+mod LowestLaws
 mod MeasureLaws
 mod MoreLaws
 mod NumberReads
@@ -51,6 +53,8 @@ mod PartsFilled
 mod PastLaws
 mod PlaceLaws
 mod PlacedLaws
+mod QueryIds
+mod QueryLaws
 mod RaisedLaws
 mod RangeLaws
 mod ReadLaws

@@ -33,7 +33,7 @@ rising_append low mid high [] [] h k = omega arith
 rising_append low mid high [] (y ∷ ys) h (a, r) = (omega arith, r)
 rising_append low mid high (x ∷ xs) ys (a, r) k = (a, rising_append (x + 1) mid high xs ys r k)
 
-rising_raised : (k low high : ℕ) (xs : List ℕ) → IsRising low high xs → IsRising (k + low) (k + high) (map (λ i. k + i) xs)
+pub rising_raised : (k low high : ℕ) (xs : List ℕ) → IsRising low high xs → IsRising (k + low) (k + high) (map (λ i. k + i) xs)
 rising_raised k low high [] h = omega arith
 rising_raised k low high (x ∷ xs) (a, r) =
     (omega arith, subst (λ (n : ℕ). IsRising n (k + high) (map (λ i. k + i) xs)) (sym (add_assoc k x 1)) (rising_raised k (x + 1) high xs r))

@@ -6,12 +6,15 @@ pub mod Cursors
 pub mod Directory
 pub mod Errors
 pub mod Faults
+pub mod Folds
 pub mod Fronts
 pub mod Laws
 pub mod Opened
 pub mod Operations
 pub mod Pairs
 pub mod Props
+pub mod Queried
+pub mod Queries
 pub mod Reads
 pub mod Selections
 pub mod Sets

@@ -1,6 +1,6 @@
 //! What two sets are combined by.
 
-ghost use Rattle.std.specs.Prelude.{◌≡◌, ℕ, ◌+◌, ◌<◌, ◌&&◌, ◌||◌, ◌==◌, true, false};
+ghost use Rattle.std.specs.Prelude.{◌≡◌, ℕ, ◌+◌, ◌<◌, ◌&&◌, ◌||◌, ◌⊎◌, ◌==◌, Bool, true, false};
 ghost use Rattle.std.specs.Int.{bit_at};
 ghost use Rattle.bitpack_sets.specs.Bitmaps.{has_bit};
 
@@ -53,6 +53,18 @@ impl Operation {
             Operation::Or => true,
             Operation::Xor => true,
             _ => false,
+        }
+    }
+
+    /// A key below which the answer has no id, if one set has none below `a` and the other none below `b`.
+    pub(crate) fn key(self, a: u32, b: u32) -> u32
+        ensures either { (result ≡ a) ⊎ (result ≡ b) }
+        ensures none { (k : ℕ) (p q : Bool) → k < result → (k < a → p ≡ false) → (k < b → q ≡ false) → holds self p q ≡ false }
+    {
+        match self {
+            Operation::And => a.max(b),
+            Operation::AndNot => a,
+            _ => a.min(b),
         }
     }
 

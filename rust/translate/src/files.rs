@@ -28,6 +28,7 @@ const MADE: &[(&str, &str)] = made![
     "examples/vectors/lists.rs",
     "examples/vectors/main.rs",
     "examples/vectors/queries.rs",
+    "examples/vectors/query_trees.rs",
     "examples/vectors/report.rs",
     "examples/vectors/rows.rs",
     "examples/vectors/sets.rs",

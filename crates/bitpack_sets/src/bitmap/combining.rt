@@ -1,6 +1,6 @@
 //! Combines bitmaps.
 
-ghost use Rattle.std.specs.Prelude.{◌≡◌, ℕ, ◌/◌, ◌<◌, ◌≢◌, true};
+ghost use Rattle.std.specs.Prelude.{◌≡◌, ℕ, ◌/◌, ◌<◌, ◌≢◌, true, false};
 ghost use Rattle.bitpack_sets.specs.Bitmaps.{has_bit};
 ghost use Rattle.bitpack_sets.specs.Operations.{holds};
 ghost use Rattle.bitpack_sets.specs.Reads.{has};
@@ -16,8 +16,9 @@ pub(crate) fn combine(
     others: &[u64; 1024],
 )
     requires { IsRising 0 256 highs.now }
-    ensures { (x : ℕ) → x < 65536 → has (x / 256) highs.now ≡ true
+    ensures own { (x : ℕ) → x < 65536 → has (x / 256) highs.now ≡ true
         → has_bit words.new x ≡ holds operation (has_bit words.old x) (has_bit others.now x) }
+    ensures rest { (x : ℕ) → x < 65536 → has (x / 256) highs.now ≡ false → has_bit words.new x ≡ has_bit words.old x }
 {
     for high in highs {
         combine_slice(operation, *high as usize, words, others);

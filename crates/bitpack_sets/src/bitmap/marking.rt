@@ -1,6 +1,6 @@
 //! Tests and sets bits.
 
-ghost use Rattle.std.specs.Prelude.{◌≡◌, ℕ, ◌*◌, ◌<◌, ◌≤◌, ◌||◌, ◌==◌, length, slice_index};
+ghost use Rattle.std.specs.Prelude.{◌≡◌, ℕ, ◌*◌, ◌<◌, ◌≤◌, ◌||◌, ◌==◌, false, length, slice_index, true};
 ghost use Rattle.bitpack_sets.specs.Bitmaps.{has_bit};
 ghost use Rattle.bitpack_sets.specs.Operations.{those};
 ghost use Rattle.bitpack_sets.specs.Reads.{has};
@@ -24,6 +24,27 @@ pub(crate) fn set_bit(words: &mut [u64], i: usize)
     ensures { (k : ℕ) → has_bit words.new k ≡ (k == i || has_bit words.old k) }
 {
     words[i / 64] |= 1 << (i % 64);
+}
+
+/// The first of 256 bits from one on that is 1, 256 if there is none.
+pub(crate) fn first_bit(words: &[u64], from: usize) -> usize
+    requires size { length words.now ≡ 4 }
+    requires within { from < 256 }
+    ensures later { from ≤ result }
+    ensures within { result ≤ 256 }
+    ensures none { (i : ℕ) → from ≤ i → i < result → has_bit words.now i ≡ false }
+    ensures one { result < 256 → has_bit words.now result ≡ true }
+{
+    let mut at = from;
+    while at < 256 {
+        let word = words[at / 64];
+        let left = word >> (at % 64);
+        if left != 0 {
+            return at + left.trailing_zeros() as usize;
+        }
+        at = at / 64 * 64 + 64;
+    }
+    256
 }
 
 /// How many of 256 bits before each word are 1.

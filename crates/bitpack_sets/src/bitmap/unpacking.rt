@@ -1,8 +1,10 @@
 //! Unpacks and counts the numbers of bitmaps.
 
-ghost use Rattle.std.specs.Prelude.{◌≡◌, ◌+◌, ◌*◌, ◌^◌, ◌<◌, ◌≤◌, ◌++◌, length, map, take};
+ghost use Rattle.std.specs.Prelude.{◌≡◌, ◌+◌, ◌*◌, ◌^◌, ◌<◌, ◌≤◌, ◌++◌, length, map, slice_index, take};
+ghost use Rattle.std.specs.List.{All};
 ghost use Rattle.bitpack_sets.specs.Bitmaps.{bitmap_numbers, has_bit};
 ghost use Rattle.bitpack_sets.specs.Operations.{those};
+ghost use Rattle.bitpack_sets.specs.Queries.{ids_from};
 ghost use Rattle.bitpack_sets.specs.Sets.{IsRising};
 
 use crate::slice::places::unpack_bytes_of;
@@ -71,6 +73,53 @@ fn unpack_bits_within(bits: &[u64], base: u32, out: &mut [u32], at: usize) -> us
     let end = unpack_bits(bits, base, &mut numbers, 0);
     out[at..at + end].copy_from_slice(&numbers[..end]);
     at + end
+}
+
+/// Writes the numbers from `least` on, as many as there is room for. Returns where they end, and from which number on it wrote none.
+pub(crate) fn unpack_bits_from(
+    bits: &[u64],
+    base: u32,
+    least: u32,
+    out: &mut [u32],
+    at: usize,
+) -> (usize, u64)
+    requires size { length bits.now ≡ 4 }
+    requires fits { base + 256 ≤ 2 ^ 32 }
+    requires least { (base ≤ least) × (least < base + 256) }
+    requires room { at < length out.old }
+    ensures room { result.0 ≤ length out.old }
+    ensures later { least < result.1 }
+    ensures within { result.1 ≤ base + 256 }
+    ensures ids { let numbers = map (λ i. base + i) (those 256 (has_bit bits.now)) in
+        take result.0 out.new ++ ids_from result.1 numbers ≡ take at out.old ++ ids_from least numbers }
+{
+    if least == base && out.len() - at >= 256 {
+        return (unpack_bits(bits, base, out, at), base as u64 + 256);
+    }
+    let mut numbers = [0; 256];
+    let count = unpack_bits(bits, base, &mut numbers, 0);
+    let numbers = &numbers[..count];
+    let first = count_below(numbers, least);
+    let written = (count - first).min(out.len() - at);
+    out[at..at + written].copy_from_slice(&numbers[first..first + written]);
+    let end = first + written;
+    if end < count {
+        return (at + written, numbers[end] as u64);
+    }
+    (at + written, base as u64 + 256)
+}
+
+/// How many of increasing numbers are below one.
+fn count_below(numbers: &[u32], bound: u32) -> usize
+    ensures within { result ≤ length numbers.now }
+    ensures below { All (λ x. x < bound) (take result numbers.now) }
+    ensures above { result < length numbers.now → bound ≤ slice_index numbers.now result }
+{
+    let mut count = 0;
+    while count < numbers.len() && numbers[count] < bound {
+        count += 1;
+    }
+    count
 }
 
 /// Writes the numbers of a bitmap that have these high bytes, each with `base` added. Returns where they end.

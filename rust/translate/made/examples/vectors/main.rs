@@ -5,6 +5,7 @@ mod combined_sets;
 mod digests;
 mod lists;
 mod queries;
+mod query_trees;
 mod report;
 mod rows;
 mod sets;
@@ -18,7 +19,7 @@ use report::Report;
 use rows::Row;
 
 /// Each table, and what checks a row of it.
-const TABLES: [(&str, fn(&Row, &mut Report)); 26] = [
+const TABLES: [(&str, fn(&Row, &mut Report)); 27] = [
     ("blocks.tsv", blocks::packed),
     ("single.tsv", blocks::packed),
     ("loose.tsv", blocks::packed),
@@ -45,6 +46,7 @@ const TABLES: [(&str, fn(&Row, &mut Report)); 26] = [
     ("id_sets.tsv", sets::opened),
     ("refused_id_sets.tsv", sets::refused),
     ("combined_id_sets.tsv", combined_sets::combined),
+    ("combined_id_sets.tsv", query_trees::queried),
 ];
 
 fn main() -> ExitCode {

@@ -1,0 +1,11 @@
+use Rattle.std.proofs.Common.{◌/◌, ◌%◌, ap, sym, ◌∙◌, arith}
+use Rattle.bitpack_sets.specs.Reads.{has}
+use Rattle.bitpack_sets.proofs.FoldLaws.{no_high}
+use Rattle.bitpack_sets.proofs.query.members.highs_of.Goals as goal
+
+pub returns : goal.returns
+returns c = λ x h none.
+    sym (ap (has x) c.chunks-chunks.ensures)
+    ∙ c.seek-place.ensures.ids x (omega arith)
+    ∙ c.end.ensures.own x h
+    ∙ no_high (x % 65536) _ (sym (c.highs.ensures (x % 65536 / 256) (omega arith)) ∙ none)

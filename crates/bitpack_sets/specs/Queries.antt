@@ -1,0 +1,62 @@
+-- Queries: trees of operations on sets, in postfix order.
+use Rattle.std.specs.Prelude.{◌≡◌, ℕ, ◌+◌, ◌-◌, ◌/◌, ◌%◌, ◌^◌, ◌<◌, ◌&&◌, ◌==◌, nat_lt, nat_le, if◌then◌else◌, Bool, false, List, [], ◌∷◌, get_or, map, slice_index_or, Option, Some, None, Result, Ok, Err}
+use Rattle.std.specs.List.{filter, fold}
+use Rattle.bitpack_sets.specs.Bitmaps.{has_bit}
+use Rattle.bitpack_sets.specs.Opened.{ids}
+use Rattle.bitpack_sets.specs.Operations.{holds, those}
+use Rattle.bitpack_sets.specs.Reads.{has}
+use Rattle.bitpack_sets.specs.declared.id_set.IdSet.{IdSet}
+use Rattle.bitpack_sets.specs.declared.query_error.QueryError.{QueryError}
+use Rattle.bitpack_sets.specs.declared.query_error.QueryError.TheVariants.{Empty, NoSet, TooDeep, MissingOperand, LeftOver}
+use Rattle.bitpack_sets.specs.declared.step.Step.{Step}
+use Rattle.bitpack_sets.specs.declared.step.Step.TheVariants.{Set, Combine}
+
+-- ---- the steps
+
+-- the first fault of steps from a position on, before which `depth` operands wait: at most `most` may wait
+unfoldable pub fault_from : ℕ → ℕ → ℕ → ℕ → List Step → Option QueryError
+fault_from most sets position depth [] = if depth == 0 then Some Empty else if depth == 1 then None else Some (LeftOver depth)
+fault_from most sets position depth (Set i ∷ steps) =
+    if nat_le sets i then Some (NoSet position)
+    else if depth == most then Some (TooDeep position)
+    else fault_from most sets (position + 1) (depth + 1) steps
+fault_from most sets position depth (Combine operation ∷ steps) =
+    if nat_lt depth 2 then Some (MissingOperand position) else fault_from most sets (position + 1) (depth - 1) steps
+
+-- the first fault is found, or there is none
+abbrev pub FindsFault : {A : Type 0} → Result A QueryError → Option QueryError → Type 0
+FindsFault (Ok _) fault = fault ≡ None
+FindsFault (Err found) fault = fault ≡ Some found
+
+-- the operands that wait after a step, the last first: each says whether it has an id. `member` says whether a set has it.
+abbrev pub waiting_after : (ℕ → Bool) → List Bool → Step → List Bool
+waiting_after member waiting (Set i) = member i ∷ waiting
+waiting_after member [] (Combine operation) = []
+waiting_after member (b ∷ []) (Combine operation) = []
+waiting_after member (b ∷ a ∷ waiting) (Combine operation) = holds operation a b ∷ waiting
+
+abbrev pub evaluate : List Step → (ℕ → Bool) → List Bool
+evaluate steps member = fold (waiting_after member) [] steps
+
+-- ---- the answer
+
+-- set i has this id
+unfoldable pub in_set : List IdSet → ℕ → ℕ → Bool
+in_set sets x i = get_or (map (λ set. has x (ids set)) sets) i false
+
+-- an id is in the answer: the steps leave true
+unfoldable pub is_found : List IdSet → List Step → ℕ → Bool
+is_found sets steps x = get_or (evaluate steps (in_set sets x)) 0 false
+
+-- the ids of the answer
+abbrev pub answer_of : List IdSet → List Step → List ℕ
+answer_of sets steps = those (2 ^ 32) (is_found sets steps)
+
+-- ids that are not below one
+abbrev pub ids_from : ℕ → List ℕ → List ℕ
+ids_from least xs = filter (nat_le least) xs
+
+-- the first bitmap says which ids of a key are in the answer, if they have one of these high bytes, and the answer has no others
+abbrev pub IsLoaded : List IdSet → List Step → ℕ → List ℕ → List (List ℕ) → Type 0
+IsLoaded sets steps key highs bitmaps =
+    (x : ℕ) → x < 2 ^ 32 → x / 65536 ≡ key → is_found sets steps x ≡ (has_bit highs (x % 65536 / 256) && has_bit (slice_index_or bitmaps 0 []) (x % 65536))

@@ -1,0 +1,91 @@
+//! Runs the steps of a query: over keys, over the high bytes of a key, and over bitmaps of its ids.
+
+ghost use Rattle.std.specs.Prelude.{◌≡◌, ℕ, ◌/◌, ◌%◌, ◌<◌, ◌≤◌, None, [], true, false, length, slice_index_or};
+ghost use Rattle.bitpack_sets.specs.Bitmaps.{has_bit};
+ghost use Rattle.bitpack_sets.specs.Queries.{fault_from, is_found};
+ghost use Rattle.bitpack_sets.specs.Reads.{has};
+ghost use Rattle.bitpack_sets.specs.Sets.{IsRising};
+
+use super::members::{highs_of, key_from, load_key};
+use super::testing::MOST_WAITING;
+use crate::bitmap::combining::combine;
+use crate::chunks::NO_KEY;
+use crate::id_set::IdSet;
+use crate::step::Step;
+
+/// The lowest key from one on that the answer can have, `NO_KEY` if there is none.
+pub(crate) fn next_key(sets: &[IdSet], steps: &[Step], from: u32) -> u32
+    requires sound { fault_from 64 (length sets.now) 0 0 steps.now ≡ None }
+    requires from { from ≤ NO_KEY }
+    ensures least { from ≤ result }
+    ensures most { result ≤ NO_KEY }
+    ensures none { (x : ℕ) → from ≤ x / 65536 → x / 65536 < result → is_found sets.now steps.now x ≡ false }
+{
+    let mut keys = [0; MOST_WAITING];
+    let mut depth = 0;
+    for i in 0..steps.len() {
+        match steps[i] {
+            Step::Set(set) => {
+                keys[depth] = key_from(&sets[set], from);
+                depth += 1;
+            }
+            Step::Combine(operation) => {
+                depth -= 1;
+                keys[depth - 1] = operation.key(keys[depth - 1], keys[depth]);
+            }
+        }
+    }
+    keys[0]
+}
+
+/// The high bytes that ids of the answer can have, if they have this key.
+pub(crate) fn all_highs(sets: &[IdSet], steps: &[Step], key: u32) -> [u64; 4]
+    requires sound { fault_from 64 (length sets.now) 0 0 steps.now ≡ None }
+    requires key { key < NO_KEY }
+    ensures { (x : ℕ) → x / 65536 ≡ key → has_bit result (x % 65536 / 256) ≡ false → is_found sets.now steps.now x ≡ false }
+{
+    let mut all = [[0; 4]; MOST_WAITING];
+    let mut depth = 0;
+    for i in 0..steps.len() {
+        match steps[i] {
+            Step::Set(set) => {
+                all[depth] = highs_of(&sets[set], key);
+                depth += 1;
+            }
+            Step::Combine(operation) => {
+                depth -= 1;
+                all[depth - 1] = operation.highs(&all[depth - 1], &all[depth]);
+            }
+        }
+    }
+    all[0]
+}
+
+/// Leaves the ids of the answer that have this key, and one of these high bytes, in the first bitmap. There is one for each operand that waits.
+pub(crate) fn load_answer(
+    sets: &[IdSet],
+    steps: &[Step],
+    key: u32,
+    highs: &[u32],
+    bitmaps: &mut [[u64; 1024]],
+)
+    requires sound { fault_from (length bitmaps.old) (length sets.now) 0 0 steps.now ≡ None }
+    requires key { key < NO_KEY }
+    requires highs { IsRising 0 256 highs.now }
+    ensures { (x : ℕ) → x / 65536 ≡ key → has (x % 65536 / 256) highs.now ≡ true → has_bit (slice_index_or bitmaps.new 0 []) (x % 65536) ≡ is_found sets.now steps.now x }
+{
+    let mut depth = 0;
+    for i in 0..steps.len() {
+        match steps[i] {
+            Step::Set(set) => {
+                load_key(&sets[set], key, highs, &mut bitmaps[depth]);
+                depth += 1;
+            }
+            Step::Combine(operation) => {
+                depth -= 1;
+                let (words, others) = bitmaps.split_at_mut(depth);
+                combine(operation, highs, &mut words[depth - 1], &others[0]);
+            }
+        }
+    }
+}

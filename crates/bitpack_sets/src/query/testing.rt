@@ -1,0 +1,48 @@
+//! Tests the steps of a query.
+
+ghost use Rattle.std.specs.Prelude.{◌≡◌, ◌≤◌, IfOk, None};
+ghost use Rattle.bitpack_sets.specs.Queries.{FindsFault, fault_from};
+
+use crate::query_error::QueryError;
+use crate::step::Step;
+
+/// The most operands that wait at once.
+pub(crate) const MOST_WAITING: usize = 64;
+
+/// Tests the steps of a query over this many sets. Returns how many operands wait at once, at most.
+pub(crate) fn test_steps(steps: &[Step], sets: usize) -> Result<usize, QueryError>
+    ensures fault { FindsFault result (fault_from 64 sets 0 0 steps.now) }
+    ensures most { IfOk result (λ most. most ≤ 64) }
+    // There is no fault either if no more operands may wait.
+    ensures enough { IfOk result (λ most. fault_from most sets 0 0 steps.now ≡ None) }
+{
+    let mut depth = 0;
+    let mut most: usize = 0;
+    for i in 0..steps.len() {
+        match steps[i] {
+            Step::Set(set) => {
+                if set >= sets {
+                    return Err(QueryError::NoSet(i));
+                }
+                if depth == MOST_WAITING {
+                    return Err(QueryError::TooDeep(i));
+                }
+                depth += 1;
+                most = most.max(depth);
+            }
+            Step::Combine(_) => {
+                if depth < 2 {
+                    return Err(QueryError::MissingOperand(i));
+                }
+                depth -= 1;
+            }
+        }
+    }
+    if depth == 0 {
+        return Err(QueryError::Empty);
+    }
+    if depth > 1 {
+        return Err(QueryError::LeftOver(depth));
+    }
+    Ok(most)
+}
