@@ -252,9 +252,6 @@ run_bytes count ids h = length-map (take count ids) (λ id. id % 256) ∙ length
 pub slice_bytes : (count : ℕ) (ids : List ℕ) → IsRun 256 ids count → length (slice (map (λ id. id % 256) (take count ids))) ≡ slice_len count
 slice_bytes count ids run = slice_size (map (λ id. id % 256) (take count ids)) ∙ ap slice_len (run_bytes count ids run.within)
 
-pub chunk_counts : (count : ℕ) (ids : List ℕ) → IsRun 65536 ids count → length (parts 65536 ids) ≡ 1 + length (parts 65536 (drop count ids))
-chunk_counts count ids run = let e = ap length (run_part 65536 count ids run) in omega arith
-
 pub body_sizes : (count : ℕ) (ids : List ℕ) → IsRun 65536 ids count
     → length (concat (bodies ids)) ≡ length (body (lows (take count ids))) + length (concat (bodies (drop count ids)))
 body_sizes count ids run =

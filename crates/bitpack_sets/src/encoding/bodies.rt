@@ -1,7 +1,7 @@
 //! Writes bodies.
 
-ghost use Rattle.std.specs.Prelude.{◌≡◌, ◌+◌, ◌*◌, ◌<◌, ◌≤◌, length};
-ghost use Rattle.bitpack_sets.specs.Sets.{blocks, body, numbers, parts};
+ghost use Rattle.std.specs.Prelude.{◌≡◌, ◌<◌, length};
+ghost use Rattle.bitpack_sets.specs.Sets.{blocks, body, parts};
 ghost use Rattle.bitpack_sets.specs.Written.{IsChunk, counts, highs, lows, slice_ends, slices};
 
 use crate::encoding::integers::write_integers;

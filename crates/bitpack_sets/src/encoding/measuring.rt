@@ -1,8 +1,8 @@
 //! How many bytes the bodies of a set have.
 
-ghost use Rattle.std.specs.Prelude.{◌≡◌, ℕ, List, ◌+◌, ◌*◌, ◌^◌, ◌<◌, ◌≤◌, length, map};
-ghost use Rattle.std.specs.List.{concat, flat_map};
-ghost use Rattle.bitpack_sets.specs.Sets.{IsSet, body, parts, slice};
+ghost use Rattle.std.specs.Prelude.{◌≡◌, ℕ, List, ◌*◌, ◌<◌, ◌≤◌, length};
+ghost use Rattle.std.specs.List.{concat};
+ghost use Rattle.bitpack_sets.specs.Sets.{IsSet, body, parts};
 ghost use Rattle.bitpack_sets.specs.Written.{IsChunk, bodies, capped, lows, slices};
 
 use crate::encoding::runs::{CHUNK_BITS, run_len};
