@@ -35,4 +35,4 @@ returns-clause-numbers c =
     (λ none. high_none x high theirs refl (sym (c.highs-b_highs.ensures high byte) ∙ none))
     (c.highs-occur.ensures.both high byte) (c.highs-occur.ensures.left high byte) (c.highs-occur.ensures.right high byte)
     (listed_has highs (has_bit c.highs-occur.result) high c.unpack_bits-many.ensures.values byte)
-    (c.load.ensures x small) (c.load-2.ensures x small) (c.combine.ensures x small))))
+    (c.load.ensures x small) (c.load-2.ensures x small) (c.combine.ensures.own x small))))
