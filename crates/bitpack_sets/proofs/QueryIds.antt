@@ -6,10 +6,11 @@ use Rattle.std.proofs.lemmas.List.{append-nil, drop_all, length-map, length-take
 use Rattle.std.proofs.lemmas.Slice.{take-put_mid}
 use borrow.Rule.Slice.PartMut.{put_mid}
 use Rattle.std.proofs.lemmas.List.Elements.{All-head, All-tail}
-use Rattle.bitpack_sets.proofs.AnswerLaws.{those_part, those_rise, those_same}
+use Rattle.bitpack_sets.proofs.AnswerLaws.{those_part, those_same}
 use Rattle.bitpack_sets.proofs.BitmapLaws.{has_part}
 use Rattle.bitpack_sets.proofs.HalfLaws.{rising_at}
 use Rattle.bitpack_sets.proofs.JoinLaws.{below_top}
+use Rattle.bitpack_sets.proofs.LoadLaws.{those_rise}
 use Rattle.bitpack_sets.proofs.RaisedLaws.{rising_raised}
 use Rattle.bitpack_sets.specs.Bitmaps.{has_bit}
 use Rattle.bitpack_sets.specs.Operations.{those}
@@ -165,7 +166,7 @@ rising_lt low high zero (suc j) (x ∷ xs) r h l = omega (arith, rising_at (x + 
 rising_lt low high (suc i) (suc j) (x ∷ xs) r h l = rising_lt (x + 1) high i j xs r.1 (omega arith) (omega arith)
 
 pub numbers_rise : (base : ℕ) (p : ℕ → Bool) → IsRising base (base + 256) (map (λ i. base + i) (those 256 p))
-numbers_rise base p = let e : base + 0 ≡ base = omega arith in subst (λ (l : ℕ). IsRising l (base + 256) (map (λ i. base + i) (those 256 p))) e (rising_raised base 0 256 (those 256 p) (those_rise 256 p))
+numbers_rise base p = let e : base + 0 ≡ base = omega arith in subst (λ (l : ℕ). IsRising l (base + 256) (map (λ i. base + i) (those 256 p))) e (rising_raised base 0 256 (those 256 p) (those_rise p 256))
 
 pub numbers_count : (n base count : ℕ) (p : ℕ → Bool) (xs : List ℕ) → xs ≡ map (λ i. base + i) (those 256 p) → count ≡ n + length (those 256 p) → n ≡ 0 → length xs ≡ count
 numbers_count n base count p xs is e z = ap length is ∙ length-map (those 256 p) (λ i. base + i) ∙ omega arith
@@ -219,13 +220,13 @@ pub left_moved : (q : Query) (next : ℕ) → q.next ≤ next → ((x : ℕ) →
 left_moved q next h none = passed_over (2 ^ 32) q.next next (is_found q.sets.now q.steps.now) h none
 
 pub left_none : (q : Query) → 2 ^ 32 ≤ q.next → left q ≡ []
-left_none q h = none_from 0 (2 ^ 32) q.next (answer_of q.sets.now q.steps.now) h (those_rise (2 ^ 32) (is_found q.sets.now q.steps.now))
+left_none q h = none_from 0 (2 ^ 32) q.next (answer_of q.sets.now q.steps.now) h (those_rise (is_found q.sets.now q.steps.now) (2 ^ 32))
 
 pub left_all : (xs : List ℕ) (high : ℕ) → IsRising 0 high xs → ids_from 0 xs ≡ xs
 left_all xs high r = all_from 0 high 0 xs (omega arith) r
 
 pub all_of_answer : (sets : List IdSet) (steps : List Step) → ids_from 0 (answer_of sets steps) ≡ answer_of sets steps
-all_of_answer sets steps = left_all (answer_of sets steps) (2 ^ 32) (those_rise (2 ^ 32) (is_found sets steps))
+all_of_answer sets steps = left_all (answer_of sets steps) (2 ^ 32) (those_rise (is_found sets steps) (2 ^ 32))
 
 -- before the next high byte that occurs there is none
 pub none_before : (q : Query) (high x : ℕ) → q.next / 65536 ≡ q.key → x < 2 ^ 32 → q.next ≤ x → x < q.next - q.next % 65536 + 256 * high → high ≤ 256
