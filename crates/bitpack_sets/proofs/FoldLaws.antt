@@ -13,8 +13,8 @@ use Rattle.bitpack_sets.proofs.OnesLaws.{rising_lower}
 use Rattle.bitpack_sets.proofs.ReadLaws.{has_below}
 use Rattle.bitpack_sets.specs.Bitmaps.{has_bit, has_high}
 use Rattle.bitpack_sets.specs.Chunks.{first_key, ids_from, places}
-use Rattle.bitpack_sets.specs.Folds.{AreWithin, combined, first_keys, having, left, places_left}
-use Rattle.bitpack_sets.specs.Operations.{holds, those}
+use Rattle.bitpack_sets.specs.Folds.{AreWithin, first_keys, having, left, places_left}
+use Rattle.bitpack_sets.specs.Operations.{combined, holds, those}
 use Rattle.bitpack_sets.specs.Reads.{has}
 use Rattle.bitpack_sets.specs.Sets.{IsRising}
 use Rattle.bitpack_sets.specs.declared.chunks.Chunks.{Chunks}

@@ -26,6 +26,7 @@ mod FoldLaws
 mod FormLaws
 mod FourLaws
 mod GapLaws
+mod GatherLaws
 mod GroupLaws
 mod HalfLaws
 mod IntegerLaws

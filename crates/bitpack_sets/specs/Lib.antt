@@ -11,6 +11,7 @@ pub mod Operations
 pub mod Pairs
 pub mod Props
 pub mod Reads
+pub mod Rooms
 pub mod Sets
 pub mod Slices
 pub mod Sound

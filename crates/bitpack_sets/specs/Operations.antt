@@ -1,6 +1,6 @@
--- Operations on two sets: each says of an id whether the answer has it, by whether each set has it.
-use Rattle.std.specs.Prelude.{ℕ, ◌^◌, Bool, not, ◌&&◌, ◌||◌, if◌then◌else◌, List}
-use Rattle.std.specs.List.{filter, range_with_len}
+-- Operations on sets: each says of an id whether the answer has it, by whether each set has it.
+use Rattle.std.specs.Prelude.{ℕ, ◌^◌, Bool, false, not, ◌&&◌, ◌||◌, if◌then◌else◌, List, [], ◌∷◌, map}
+use Rattle.std.specs.List.{filter, fold, range_with_len}
 use Rattle.bitpack_sets.specs.Reads.{has}
 use Rattle.bitpack_sets.specs.declared.operation.Operation.{Operation}
 use Rattle.bitpack_sets.specs.declared.operation.Operation.TheVariants.{And, Or, AndNot, Xor}
@@ -16,6 +16,15 @@ holds Xor a b = if a then not b else b
 unfoldable pub those : ℕ → (ℕ → Bool) → List ℕ
 those bound passes = filter passes (range_with_len 0 bound)
 
--- the ids of the answer
+-- the ids of the answer of two sets
 abbrev pub answer : Operation → List ℕ → List ℕ → List ℕ
 answer operation xs ys = those (2 ^ 32) (λ x. holds operation (has x xs) (has x ys))
+
+-- the first set combined with each other in turn; of none it is false
+abbrev pub combined : Operation → List Bool → Bool
+combined operation [] = false
+combined operation (a ∷ others) = fold (holds operation) a others
+
+-- the ids of the answer of any number of sets
+abbrev pub answer_all : Operation → List (List ℕ) → List ℕ
+answer_all operation sets = those (2 ^ 32) (λ x. combined operation (map (has x) sets))

@@ -12,13 +12,7 @@ use crate::bitmap::combining::combine;
 use crate::bitmap::unpacking::unpack_bits;
 use crate::chunks::{Chunks, NO_KEY};
 use crate::operation::Operation;
-
-/// A chunk of the answer: its key, and how many high bytes it can have.
-#[derive(Clone, Copy)]
-pub(crate) struct Part {
-    pub(crate) key: u32,
-    pub(crate) high_count: usize,
-}
+use crate::pairing::Part;
 
 /// The next chunk of the answer of what is left of the sets from where they start. Moves the starts after it. Its high bytes are left in `highs`,
 /// and their bits in `words`. None if no id is left.

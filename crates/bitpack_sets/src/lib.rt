@@ -6,6 +6,7 @@ mod bitmap;
 mod chunk;
 mod chunks;
 mod combining;
+mod combining_all;
 mod decoding;
 mod directory;
 mod encoding;
@@ -25,6 +26,9 @@ mod varints;
 mod worked_sets;
 
 pub use combining::{combine, combine_count, combine_to, is_disjoint, is_subset};
+pub use combining_all::{
+    MOST_SETS, combine_all_count, combine_all_to, combine_few_count, combine_few_to,
+};
 pub use encoding::{encode, encode_to, encoded_len};
 pub use id_set::IdSet;
 pub use ids::Ids;

@@ -1,6 +1,7 @@
 use Rattle.std.proofs.Common.{◌≡◌, ℕ, ◌/◌, ◌%◌, false, take}
 use Rattle.bitpack_sets.specs.Bitmaps.{has_bit}
-use Rattle.bitpack_sets.specs.Folds.{combined, having}
+use Rattle.bitpack_sets.specs.Folds.{having}
+use Rattle.bitpack_sets.specs.Operations.{combined}
 use Rattle.bitpack_sets.proofs.folding.all_highs.Given as goal
 
 abbrev pub invariant-loop-i : goal.invariant-loop-i

@@ -1,7 +1,8 @@
 use Rattle.std.proofs.Common.{◌≡◌, ℕ, ◌/◌, ◌%◌, ◌<◌, ◌≤◌, true, false, take, drop}
 use Rattle.std.specs.List.{All, AllZip}
 use Rattle.bitpack_sets.specs.Bitmaps.{has_bit}
-use Rattle.bitpack_sets.specs.Folds.{AreWithin, combined, first_keys, having}
+use Rattle.bitpack_sets.specs.Folds.{AreWithin, first_keys, having}
+use Rattle.bitpack_sets.specs.Operations.{combined}
 use Rattle.bitpack_sets.proofs.folding.combine_key.Given as goal
 
 abbrev pub invariant-loop-i : goal.invariant-loop-i

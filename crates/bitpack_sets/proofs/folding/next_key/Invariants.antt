@@ -1,5 +1,6 @@
 use Rattle.std.proofs.Common.{◌≡◌, ℕ, ◌/◌, ◌<◌, ◌≤◌, true, false, take}
-use Rattle.bitpack_sets.specs.Folds.{combined, first_keys, having}
+use Rattle.bitpack_sets.specs.Folds.{first_keys, having}
+use Rattle.bitpack_sets.specs.Operations.{combined}
 use Rattle.bitpack_sets.specs.Reads.{has}
 use Rattle.bitpack_sets.proofs.folding.next_key.Given as goal
 
