@@ -8,6 +8,7 @@ ghost use Rattle.bitpack_sets.specs.Rooms.{AreChunksOf, HoldsFew, all_ids};
 
 use crate::bitmap::unpacking::{count_bitmap, unpack_bitmap};
 use crate::chunks::Chunks;
+use crate::combining::{combine_count, combine_to};
 use crate::folding::next_part;
 use crate::id_set::{IdSet, ROOM};
 use crate::operation::Operation;
@@ -34,6 +35,9 @@ pub fn combine_few_to(
     if sets.is_empty() {
         return Ok(0);
     }
+    if sets.len() == 2 {
+        return combine_to(operation, &sets[0], &sets[1], out);
+    }
     let count = sets.len();
     let mut rooms = [[0; ROOM]; MOST_SETS];
     let mut chunks = [Chunks::of_array(&[]); MOST_SETS];
@@ -50,6 +54,9 @@ pub fn combine_few_count(operation: Operation, sets: &[IdSet]) -> usize
 {
     if sets.is_empty() {
         return 0;
+    }
+    if sets.len() == 2 {
+        return combine_count(operation, &sets[0], &sets[1]);
     }
     let count = sets.len();
     let mut rooms = [[0; ROOM]; MOST_SETS];
