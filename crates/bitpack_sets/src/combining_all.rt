@@ -38,13 +38,7 @@ pub fn combine_few_to(
     if sets.len() == 2 {
         return combine_to(operation, &sets[0], &sets[1], out);
     }
-    let count = sets.len();
-    let mut rooms = [[0; ROOM]; MOST_SETS];
-    let mut chunks = [Chunks::of_array(&[]); MOST_SETS];
-    let mut starts = [0; MOST_SETS];
-    fill(sets, &mut rooms);
-    gather(sets, &rooms, &mut chunks);
-    fold_to(operation, &chunks[..count], &mut starts[..count], out)
+    fold_few_to(operation, sets, out)
 }
 
 /// How many ids the first set gives, combined with each other set in turn, for at most `MOST_SETS` sets. Allocates nothing.
@@ -58,13 +52,7 @@ pub fn combine_few_count(operation: Operation, sets: &[IdSet]) -> usize
     if sets.len() == 2 {
         return combine_count(operation, &sets[0], &sets[1]);
     }
-    let count = sets.len();
-    let mut rooms = [[0; ROOM]; MOST_SETS];
-    let mut chunks = [Chunks::of_array(&[]); MOST_SETS];
-    let mut starts = [0; MOST_SETS];
-    fill(sets, &mut rooms);
-    gather(sets, &rooms, &mut chunks);
-    fold_count(operation, &chunks[..count], &mut starts[..count])
+    fold_few_count(operation, sets)
 }
 
 /// Writes the ids of the first set, combined with each other set in turn, at the start of the slice, and returns their number. No set
@@ -114,6 +102,41 @@ pub fn combine_all_count(
     let chunks = gather_all(sets, rooms.as_slice(), Vec::new(alloc))?;
     let mut starts = all_starts(sets.len(), Vec::new(alloc))?;
     Ok(fold_count(operation, chunks.as_slice(), starts.as_mut_slice()))
+}
+
+/// Writes the ids of a few sets, combined through an array of chunks. Two sets don't need its stack.
+#[inline(never)]
+fn fold_few_to(operation: Operation, sets: &[IdSet], out: &mut [u32]) -> Result<usize, SetError>
+    requires some { 0 < length sets.now }
+    requires few { length sets.now ≤ 64 }
+    ensures len { IfOk result (λ len. len ≡ length (answer_all operation (all_ids sets.now))) }
+    ensures ids { IfOk result (λ len. take len out.new ≡ answer_all operation (all_ids sets.now)) }
+    ensures short { IfErr result (λ e. e ≡ SetError.Short) }
+    ensures room { OnErr result (length out.old < length (answer_all operation (all_ids sets.now))) }
+{
+    let count = sets.len();
+    let mut rooms = [[0; ROOM]; MOST_SETS];
+    let mut chunks = [Chunks::of_array(&[]); MOST_SETS];
+    let mut starts = [0; MOST_SETS];
+    fill(sets, &mut rooms);
+    gather(sets, &rooms, &mut chunks);
+    fold_to(operation, &chunks[..count], &mut starts[..count], out)
+}
+
+/// Counts the ids of a few sets through an array of chunks.
+#[inline(never)]
+fn fold_few_count(operation: Operation, sets: &[IdSet]) -> usize
+    requires some { 0 < length sets.now }
+    requires few { length sets.now ≤ 64 }
+    ensures { result ≡ length (answer_all operation (all_ids sets.now)) }
+{
+    let count = sets.len();
+    let mut rooms = [[0; ROOM]; MOST_SETS];
+    let mut chunks = [Chunks::of_array(&[]); MOST_SETS];
+    let mut starts = [0; MOST_SETS];
+    fill(sets, &mut rooms);
+    gather(sets, &rooms, &mut chunks);
+    fold_count(operation, &chunks[..count], &mut starts[..count])
 }
 
 /// Makes rooms for the sets, with the ids of the sets of few.

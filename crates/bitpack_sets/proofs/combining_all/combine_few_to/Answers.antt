@@ -1,6 +1,5 @@
 use Rattle.std.proofs.Common.{◌≡◌, ◌<◌, IfOk, OnErr, ap, sym, subst, length, take, lit≤, arith, eqb-true, ◌∙◌}
-use Rattle.bitpack_sets.proofs.GatherLaws.{front_left, front_within, none_of_none}
-use Rattle.bitpack_sets.specs.Slices.{quads_of}
+use Rattle.bitpack_sets.proofs.GatherLaws.{none_of_none}
 use Rattle.bitpack_sets.proofs.combining_all.combine_few_to.Goals as goal
 
 pub returns-then-is_empty-clause-len : goal.returns-then-is_empty-clause-len
@@ -8,25 +7,3 @@ returns-then-is_empty-clause-len c = ap length (sym (none_of_none c.args.operati
 
 pub returns-then-is_empty-clause-ids : goal.returns-then-is_empty-clause-ids
 returns-then-is_empty-clause-ids c = sym (none_of_none c.args.operation c.args.sets.now (eqb-true _ _ (sym c.is_empty.ensures ∙ c.if-is_empty.true)))
-
-pub of_array-chunks-requires : goal.of_array-chunks-requires
-unfolding quads_of
-of_array-chunks-requires c = lit≤ tt
-
-pub fold_to-requires-clause-within : goal.fold_to-requires-clause-within
-fold_to-requires-clause-within c = let long = c.gather.auto.chunks in front_within c.gather.new.chunks _ _ (omega arith) c.requires.few
-
-pub returns-clause-len : goal.returns-clause-len
-returns-clause-len c =
-    let long = c.gather.auto.chunks in
-    subst (λ all. IfOk c.fold_to.result (λ len. len ≡ length all)) (front_left c.args.operation c.args.sets.now c.gather.new.chunks _ 64 c.gather.ensures (omega arith) c.requires.few) c.fold_to.ensures.len
-
-pub returns-clause-ids : goal.returns-clause-ids
-returns-clause-ids c =
-    let long = c.gather.auto.chunks in
-    subst (λ all. IfOk c.fold_to.result (λ len. take len c.fold_to.new.out ≡ all)) (front_left c.args.operation c.args.sets.now c.gather.new.chunks _ 64 c.gather.ensures (omega arith) c.requires.few) c.fold_to.ensures.ids
-
-pub returns-clause-room : goal.returns-clause-room
-returns-clause-room c =
-    let long = c.gather.auto.chunks in
-    subst (λ all. OnErr c.fold_to.result (length c.args.out.now < length all)) (front_left c.args.operation c.args.sets.now c.gather.new.chunks _ 64 c.gather.ensures (omega arith) c.requires.few) c.fold_to.ensures.room
