@@ -173,7 +173,7 @@ those_part n low size p q r room before own passed after =
 
 -- ---- a chunk of the answer
 
-map_zero : (xs : List ℕ) → map (λ i. 0 + i) xs ≡ xs
+pub map_zero : (xs : List ℕ) → map (λ i. 0 + i) xs ≡ xs
 map_zero [] = refl
 map_zero (x ∷ xs) = let e : 0 + x ≡ x = omega arith in ap (λ (y : ℕ). y ∷ map (λ i. 0 + i) xs) e ∙ ap (λ (ys : List ℕ). x ∷ ys) (map_zero xs)
 

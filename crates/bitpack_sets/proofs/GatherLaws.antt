@@ -6,7 +6,7 @@ use Rattle.std.proofs.lemmas.List.{get_or-take, length-take-le, take-replicate, 
 use Rattle.std.proofs.Math.Seq.{take-append_seam}
 use Rattle.std.proofs.lemmas.Slice.Zip.{all_zipped_more}
 use Rattle.bitpack_sets.proofs.AnswerLaws.{those_none, those_same}
-use Rattle.bitpack_sets.specs.Chunks.{ids_from, places}
+use Rattle.bitpack_sets.specs.Chunks.{ids_from}
 use Rattle.bitpack_sets.specs.Folds.{AreWithin, having, ids_left, left}
 use Rattle.bitpack_sets.specs.Opened.{ids}
 use Rattle.bitpack_sets.specs.Operations.{answer_all, combined}

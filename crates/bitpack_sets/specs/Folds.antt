@@ -1,5 +1,5 @@
 -- Sets that are combined from the first to the last: what is left of the answer.
-use Rattle.std.specs.Prelude.{◌≡◌, ℕ, ◌-◌, ◌^◌, ◌≤◌, Bool, List, sum}
+use Rattle.std.specs.Prelude.{ℕ, ◌-◌, ◌^◌, ◌≤◌, Bool, List, sum}
 use Rattle.std.specs.List.{AllZip}
 use Rattle.std.specs.Simd.Lanes.{zip2}
 use Rattle.bitpack_sets.specs.Chunks.{first_key, ids_from, places}

@@ -1,4 +1,4 @@
-use Rattle.std.proofs.Common.{◌≡◌, ◌∙◌, ap, sym, subst, length, take}
+use Rattle.std.proofs.Common.{◌∙◌, ap, sym, subst, length, take}
 use Rattle.bitpack_sets.proofs.GatherLaws.{whole_left, whole_within}
 use Rattle.bitpack_sets.specs.Rooms.{AreChunksOf}
 use Rattle.bitpack_sets.proofs.combining_all.combine_all_count.Goals as goal

@@ -1,4 +1,4 @@
-use Rattle.std.proofs.Common.{◌≡◌, ◌<◌, ◌∙◌, IfOk, OnErr, ap, sym, subst, length, take}
+use Rattle.std.proofs.Common.{◌≡◌, ◌<◌, ◌∙◌, IfOk, OnErr, sym, subst, length, take}
 use Rattle.bitpack_sets.proofs.GatherLaws.{whole_left, whole_within}
 use Rattle.bitpack_sets.specs.Folds.{ids_left}
 use Rattle.bitpack_sets.specs.Rooms.{AreChunksOf}

@@ -1,4 +1,4 @@
-use Rattle.std.proofs.Common.{◌≡◌, ◌<◌, IfOk, OnErr, ap, sym, subst, length, take, lit≤, arith, eqb-true, ◌∙◌}
+use Rattle.std.proofs.Common.{ap, sym, length, eqb-true, ◌∙◌}
 use Rattle.bitpack_sets.proofs.GatherLaws.{none_of_none}
 use Rattle.bitpack_sets.proofs.combining_all.combine_few_to.Goals as goal
 

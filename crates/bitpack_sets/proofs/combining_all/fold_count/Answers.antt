@@ -1,5 +1,4 @@
-use Rattle.std.proofs.Common.{◌≡◌, ◌<◌, ◌≤◌, ℕ, ◌+◌, ◌^◌, ◌∙◌, ap, sym, arith, length, List, take, Fits, w64}
-use Rattle.bitpack_sets.specs.Bitmaps.{bitmap_numbers}
+use Rattle.std.proofs.Common.{ℕ, ◌+◌, ◌^◌, ap, arith}
 use Rattle.bitpack_sets.specs.Folds.{left}
 use Rattle.bitpack_sets.proofs.AnswerLaws.{counted_all, counted_more, those_few}
 use Rattle.bitpack_sets.proofs.combining_all.fold_count.Goals as goal

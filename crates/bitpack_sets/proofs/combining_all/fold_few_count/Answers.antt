@@ -1,4 +1,4 @@
-use Rattle.std.proofs.Common.{◌≡◌, ◌∙◌, ap, sym, length, lit≤, arith, eqb-true}
+use Rattle.std.proofs.Common.{◌∙◌, ap, length, lit≤, arith}
 use Rattle.bitpack_sets.proofs.GatherLaws.{front_left, front_within}
 use Rattle.bitpack_sets.specs.Slices.{quads_of}
 use Rattle.bitpack_sets.proofs.combining_all.fold_few_count.Goals as goal

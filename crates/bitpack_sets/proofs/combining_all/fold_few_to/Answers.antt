@@ -1,4 +1,4 @@
-use Rattle.std.proofs.Common.{◌≡◌, ◌<◌, IfOk, OnErr, ap, sym, subst, length, take, lit≤, arith, eqb-true, ◌∙◌}
+use Rattle.std.proofs.Common.{◌≡◌, ◌<◌, IfOk, OnErr, subst, length, take, lit≤, arith}
 use Rattle.bitpack_sets.proofs.GatherLaws.{front_left, front_within}
 use Rattle.bitpack_sets.specs.Slices.{quads_of}
 use Rattle.bitpack_sets.proofs.combining_all.fold_few_to.Goals as goal

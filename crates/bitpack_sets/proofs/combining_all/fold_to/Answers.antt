@@ -1,5 +1,5 @@
-use Rattle.std.proofs.Common.{◌≡◌, ◌<◌, ◌≤◌, ℕ, ◌+◌, ◌∙◌, ap, arith, length, List, take}
-use Rattle.bitpack_sets.specs.Bitmaps.{bitmap_numbers, has_bit}
+use Rattle.std.proofs.Common.{◌+◌, arith, length, take}
+use Rattle.bitpack_sets.specs.Bitmaps.{bitmap_numbers}
 use Rattle.bitpack_sets.proofs.AnswerLaws.{counted_more, counted_so, length_all, numbers_few, written_all, written_more}
 use Rattle.bitpack_sets.proofs.combining_all.fold_to.Goals.{else-left-lt65536-via-then-left-lt65536+else-left-count_bitmap, else-left-lt65536-via-else-left-lt65536}
 use Rattle.bitpack_sets.proofs.combining_all.fold_to.Goals as goal
