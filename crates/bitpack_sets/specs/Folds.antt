@@ -9,19 +9,19 @@ use Rattle.bitpack_sets.specs.declared.chunks.Chunks.{Chunks}
 use Rattle.bitpack_sets.specs.declared.operation.Operation.{Operation}
 pub use Rattle.bitpack_sets.specs.Pairs.{IsPart}
 
--- each set has a place, which is not after its last
+-- each set has a position, which is not after its last
 unfoldable pub AreWithin : List Chunks → List ℕ → Type 0
 AreWithin sets starts = AllZip (λ set start. start ≤ places set) sets starts
 
--- whether each set has an id from its place on
+-- whether each set has an id from its position on
 unfoldable pub having : List Chunks → List ℕ → ℕ → List Bool
 having sets starts x = zip2 (λ set start. has x (ids_from set start)) sets starts
 
--- the key of each set's first id from its place on
+-- the key of each set's first id from its position on
 unfoldable pub first_keys : List Chunks → List ℕ → List ℕ
 first_keys sets starts = zip2 (λ set start. first_key (ids_from set start)) sets starts
 
--- how many places are left
+-- how many positions are left
 unfoldable pub places_left : List Chunks → List ℕ → ℕ
 places_left sets starts = sum (zip2 (λ set start. places set - start) sets starts)
 

@@ -171,7 +171,7 @@ fn gather_all<'a>(
     Ok(chunks)
 }
 
-/// The places where the sets start, in an empty vector of the caller.
+/// Where the sets start, in an empty vector of the caller.
 fn all_starts(count: usize, mut starts: Vec<usize>) -> Result<Vec<usize>, SetError>
     requires empty { starts.items ≡ [] }
     ensures starts { IfOk result (λ starts. starts.items ≡ replicate count 0) }

@@ -100,7 +100,7 @@ fn all_highs(operation: Operation, sets: &[Chunks], starts: &[usize], key: u32) 
     occur
 }
 
-/// Loads the ids of a key that have these high bytes, combined. Moves the places after the key.
+/// Loads the ids of a key that have these high bytes, combined. Moves the starts after the key.
 fn combine_key(
     operation: Operation,
     sets: &[Chunks],
@@ -138,7 +138,7 @@ fn combine_key(
     }
 }
 
-/// Combines the bits of these high bytes with the ids of a set between two places, which share a key.
+/// Combines the bits of these high bytes with the ids of a set between two positions, which share a key.
 fn add_set(
     operation: Operation,
     set: &Chunks,
