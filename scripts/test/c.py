@@ -90,7 +90,7 @@ PROGRAMS = {
     # Then each with the array of each, by three calls, and with no value and four values, by three and two. And so 27 more lists, but each two of
     # these with six of them.
     SETS: "580 lists, 953215 combined, 640810 counted, 925994 with an array\n",
-    ID_SETS: "360 sets, 2052 refusals\n",
+    ID_SETS: "360 sets, 2052 refusals, 102 pairs\n",
 }
 # For each program that prints nothing, a function of the header that it calls, and that function with a wrong answer.
 CALLED = {
@@ -113,7 +113,7 @@ ONE_MORE = """#include "bitpacking.h"
 """
 VECTORS = {SETS: ["lists2", "lists3"], DAMAGED: ["lists2", "lists3", "lists4", "refused2", "refused3", "refused4"]}
 VECTORS[TABLES] = [*VECTORS[DAMAGED], "upgrade4"]
-VECTORS[ID_SETS] = ["id_sets", "refused_id_sets"]
+VECTORS[ID_SETS] = ["id_sets", "refused_id_sets", "combined_id_sets"]
 VECTORS[QUERIES] = ["seek", "seek3", "seek4", "intersect", "union", "difference", "refused_values"]
 # The same of a million damaged lists.
 MILLION = (

@@ -1,6 +1,7 @@
-/* Reads the tables vectors/id_sets.tsv and vectors/refused_id_sets.tsv, one after the other. Packs the ids of each set, which has to give its
-   bytes, opens these, and looks up each id and its neighbours. Each text of the other table is refused for its fault. Prints what is wrong, and
-   last how many sets and refusals it read. It also tests views that were not opened, and calls without ids, room and position. */
+/* Reads the tables vectors/id_sets.tsv, vectors/refused_id_sets.tsv and vectors/combined_id_sets.tsv, one after the other. Packs the ids of each
+   set, which has to give its bytes, opens these, and looks up each id and its neighbours. Each text of the second table is refused for its fault.
+   The sets of each row of the third are combined, two and more. Prints what is wrong, and last how many sets, refusals and pairs it read. It also
+   tests views that were not opened, and calls without ids, views, room and position. */
 #include "bitpacking.h"
 #include "tables.h"
 
@@ -8,6 +9,9 @@ enum { MOST = 270232, MORE = 64, ROOM = BITPACKING_SET_ROOM(MOST + 1) };
 
 static uint8_t bytes[ROOM + MORE], packed[ROOM + MORE];
 static uint32_t ids[MOST + 2], found[MOST + 2];
+
+/* Of two sets: what the second has, and what both, any, the first alone and the second alone have. */
+static uint32_t others[MOST + 2], both[MOST + 2], any[MOST + 2], alone[MOST + 2], other[MOST + 2];
 static int failed;
 
 static void expect(int right, const char *what)
@@ -166,11 +170,113 @@ static void empty(void)
     expect(bitpacking_set_open(NULL, 0, &set) == BITPACKING_LIST_SHORT && set.bytes == NULL, "no bytes are a set");
     expect(bitpacking_set_open(&byte, 1, &set) == 0 && bitpacking_set_unpack(&set, NULL, 0) == 0, "the empty set has ids");
     expect(id == 77 && position == 78, "something is written for no id");
+    expect(bitpacking_set_intersect(NULL, 0, NULL, 0) == 0 && bitpacking_set_unite(NULL, 0, NULL, 0) == 0, "no set has ids");
+    expect(bitpacking_set_subtract(NULL, 0, NULL, 0) == 0 && bitpacking_set_count_common(NULL, 0) == 0, "no set has ids in common");
+    expect(bitpacking_set_count_any(NULL, 0) == 0, "no sets have ids together");
+}
+
+typedef ptrdiff_t (*combine)(const bitpacking_set *, size_t, uint32_t *, size_t);
+
+/* A call writes these ids, and nothing after them. With less room it says so. */
+static void gives(combine call, const bitpacking_set *views, size_t views_len, const uint32_t *right, size_t count, const char *what)
+{
+    memset(found, 0xA5, (count + 1) * sizeof *found);
+    expect(call(views, views_len, found, count) == (ptrdiff_t)count, what);
+    expect(memcmp(found, right, count * sizeof *right) == 0 && found[count] == 0xA5A5A5A5, what);
+    expect(call(views, views_len, found, count + 1) == (ptrdiff_t)count, what);
+    if (count > 0)
+        expect(call(views, views_len, found, count - 1) == BITPACKING_SHORT, "ids are written without room");
+}
+
+/* The sets that the views have in common, and together. */
+static void are(const bitpacking_set *views, size_t views_len, const uint32_t *in_all, size_t all, const uint32_t *in_any, size_t count)
+{
+    gives(bitpacking_set_intersect, views, views_len, in_all, all, "other ids in common");
+    gives(bitpacking_set_unite, views, views_len, in_any, count, "other ids together");
+    expect(bitpacking_set_count_common(views, views_len) == (ptrdiff_t)all, "another number in common");
+    expect(bitpacking_set_count_any(views, views_len) == (ptrdiff_t)count, "another number together");
+}
+
+static bitpacking_set packed_set(const uint32_t *given, size_t count, uint8_t *room)
+{
+    bitpacking_set set = BITPACKING_SET_EMPTY;
+    const ptrdiff_t size = bitpacking_set_pack(given, count, room, ROOM, NULL);
+
+    expect(size > 0 && bitpacking_set_open(room, (size_t)size, &set) == 0, "a set is not packed");
+    return set;
+}
+
+/* The ids of an array that another one does not have. */
+static size_t less(const uint32_t *given, size_t count, const uint32_t *without, size_t without_len, uint32_t *left)
+{
+    size_t i, j = 0, len = 0;
+
+    for (i = 0; i < count; i++) {
+        while (j < without_len && without[j] < given[i])
+            j++;
+        if (j == without_len || without[j] != given[i])
+            left[len++] = given[i];
+    }
+    return len;
+}
+
+/* The ids of two arrays that have none in common. */
+static size_t merged(const uint32_t *one, size_t one_len, const uint32_t *two, size_t two_len, uint32_t *all)
+{
+    size_t i = 0, j = 0;
+
+    while (i < one_len || j < two_len)
+        if (j == two_len || (i < one_len && one[i] < two[j]))
+            all[i + j] = one[i], i++;
+        else
+            all[i + j] = two[j], j++;
+    return i + j;
+}
+
+/* Nothing is read of more views than a call takes, and nothing is written. */
+static void refuses_many(const bitpacking_set *views, size_t views_len)
+{
+    memset(found, 0xA5, 8 * sizeof *found);
+    expect(bitpacking_set_intersect(views, views_len, found, 8) == BITPACKING_TOO_MANY, "more sets in common");
+    expect(bitpacking_set_unite(views, views_len, found, 8) == BITPACKING_TOO_MANY, "more sets together");
+    expect(bitpacking_set_subtract(views, views_len, found, 8) == BITPACKING_TOO_MANY, "a set without more sets");
+    expect(bitpacking_set_count_common(views, views_len) == BITPACKING_TOO_MANY, "more sets counted in common");
+    expect(bitpacking_set_count_any(views, views_len) == BITPACKING_TOO_MANY, "more sets counted together");
+    expect(all_are(found, 8 * sizeof *found, 0xA5), "ids of too many sets are written");
+}
+
+/* Two sets, and three and more: a set that is there twice changes nothing in common or together, and an empty set leaves nothing in common. */
+static void combines(size_t count, size_t others_len, size_t both_len)
+{
+    enum { VIEWS = BITPACKING_SET_MAX_VIEWS + 1 };
+    const size_t alone_len = less(ids, count, both, both_len, alone), other_len = less(others, others_len, both, both_len, other);
+    const size_t any_len = merged(ids, count, other, other_len, any);
+    bitpacking_set views[VIEWS] = {BITPACKING_SET_EMPTY}, swapped[3];
+    size_t i, len;
+
+    views[0] = swapped[1] = packed_set(ids, count, bytes);
+    for (i = 1; i < VIEWS; i++)
+        views[i] = i == 1 ? packed_set(others, others_len, packed) : views[1];
+    swapped[0] = views[1];
+    memset(&swapped[2], 0, sizeof swapped[2]);
+    are(views, 1, ids, count, ids, count);
+    gives(bitpacking_set_subtract, views, 1, ids, count, "other ids of one set");
+    for (len = 2; len < VIEWS; len = len < 4 ? len + 1 : len + 60) {
+        are(views, len, both, both_len, any, any_len);
+        gives(bitpacking_set_subtract, views, len, alone, alone_len, "other ids of the first");
+    }
+    are(swapped, 2, both, both_len, any, any_len);
+    are(swapped, 3, both, 0, any, any_len);
+    gives(bitpacking_set_subtract, swapped, 2, other, other_len, "other ids of the second");
+    gives(bitpacking_set_subtract, swapped, 3, other, other_len, "an empty set takes ids");
+    swapped[2] = swapped[0];
+    gives(bitpacking_set_subtract, swapped, 3, both, 0, "a set has ids that it lacks");
+    refuses_many(views, VIEWS);
 }
 
 int main(void)
 {
-    size_t sets = 0, refusals = 0;
+    size_t sets = 0, refusals = 0, pairs = 0;
     char *column[COLUMNS];
 
     names();
@@ -179,6 +285,11 @@ int main(void)
         if (table == REFUSED_ID_SETS) {
             refuses(atoi(column[0]), read_bytes(column[2], bytes));
             refusals++;
+        } else if (table == COMBINED_ID_SETS) {
+            const size_t count = read_values(column[0], ids), others_len = read_values(column[1], others);
+
+            combines(count, others_len, read_values(column[2], both));
+            pairs++;
         } else {
             const size_t count = read_values(column[0], ids), size = read_bytes(column[1], bytes);
 
@@ -192,6 +303,6 @@ int main(void)
             accepts(count, size);
             sets++;
         }
-    printf("%lu sets, %lu refusals\n", (unsigned long)sets, (unsigned long)refusals);
+    printf("%lu sets, %lu refusals, %lu pairs\n", (unsigned long)sets, (unsigned long)refusals, (unsigned long)pairs);
     return failed;
 }

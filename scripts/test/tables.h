@@ -9,10 +9,22 @@
 #include <stdlib.h>
 #include <string.h>
 
-enum { LINE = 1 << 21, COLUMNS = 5, TABLES = 10 };
+enum { LINE = 1 << 21, COLUMNS = 5, TABLES = 11 };
 
 /* The table of the row that was read last. */
-static enum { LISTS, REFUSED, SEARCHES, INTERSECTIONS, UNIONS, DIFFERENCES, REFUSED_VALUES, UPGRADES, ID_SETS, REFUSED_ID_SETS } table;
+static enum {
+    LISTS,
+    REFUSED,
+    SEARCHES,
+    INTERSECTIONS,
+    UNIONS,
+    DIFFERENCES,
+    REFUSED_VALUES,
+    UPGRADES,
+    ID_SETS,
+    REFUSED_ID_SETS,
+    COMBINED_ID_SETS
+} table;
 static const char *const heads[TABLES] = {
     "kind\tlanes\tvalues\tbytes",
     "lanes\tnumber\tfault\tbytes\trule",
@@ -23,7 +35,8 @@ static const char *const heads[TABLES] = {
     "version\tkind\tlanes\tvalues\tposition",
     "lanes\tbytes\tnumber\tfault\tupgraded",
     "ids\tbytes",
-    "number\tfault\tbytes"};
+    "number\tfault\tbytes",
+    "ids\tothers\tboth"};
 
 static char line[LINE];
 

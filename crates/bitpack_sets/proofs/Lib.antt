@@ -33,6 +33,7 @@ mod FourLaws
 mod FrontLaws
 mod FrontTexts
 mod GapLaws
+mod GatherLaws
 mod GroupLaws
 mod HalfLaws
 mod IncreaseLaws

@@ -16,6 +16,7 @@ pub mod Props
 pub mod Queried
 pub mod Queries
 pub mod Reads
+pub mod Rooms
 pub mod Selections
 pub mod Sets
 pub mod Slices

@@ -1,6 +1,6 @@
--- Operations on two sets: each says of an id whether the answer has it, by whether each set has it.
-use Rattle.std.specs.Prelude.{ℕ, ◌^◌, Bool, not, ◌&&◌, ◌||◌, if◌then◌else◌, List}
-use Rattle.std.specs.List.{filter, range_with_len}
+-- Operations on sets: each says of an id whether the answer has it, by whether each set has it.
+use Rattle.std.specs.Prelude.{ℕ, ◌^◌, Bool, false, not, ◌&&◌, ◌||◌, if◌then◌else◌, List, [], ◌∷◌, map}
+use Rattle.std.specs.List.{filter, fold, range_with_len}
 use Rattle.bitpack_sets.specs.Reads.{has}
 use Rattle.bitpack_sets.specs.declared.operation.Operation.{Operation}
 use Rattle.bitpack_sets.specs.declared.operation.Operation.TheVariants.{And, Or, AndNot, Xor}
@@ -20,6 +20,15 @@ those bound passes = filter passes (range_with_len 0 bound)
 abbrev pub combined : ℕ → Operation → List ℕ → List ℕ → List ℕ
 combined bound operation xs ys = those bound (λ x. holds operation (has x xs) (has x ys))
 
--- the ids of the answer
+-- the ids of the answer of two sets
 abbrev pub answer : Operation → List ℕ → List ℕ → List ℕ
 answer operation xs ys = combined (2 ^ 32) operation xs ys
+
+-- the first set combined with each other in turn; of none it is false
+abbrev pub folded : Operation → List Bool → Bool
+folded operation [] = false
+folded operation (a ∷ others) = fold (holds operation) a others
+
+-- the ids of the answer of any number of sets
+abbrev pub answer_all : Operation → List (List ℕ) → List ℕ
+answer_all operation sets = those (2 ^ 32) (λ x. folded operation (map (has x) sets))

@@ -40,6 +40,7 @@ impl<'a> IdSet<'a> {
     ghost use Rattle.bitpack_sets.specs.Fronts.{IsFront, front_ids};
     ghost use Rattle.bitpack_sets.specs.Opened.{ids, text_of};
     ghost use Rattle.bitpack_sets.specs.Reads.{has, rank};
+    ghost use Rattle.bitpack_sets.specs.Rooms.{HoldsFew};
     ghost use Rattle.bitpack_sets.specs.Sets.{IsSet, text};
 
     /// Opens an encoded set. Tests all bytes, accepts any, and allocates nothing.
@@ -243,6 +244,25 @@ impl<'a> IdSet<'a> {
     pub(crate) fn chunks<'b>(&'b self, room: &'b mut [u8; ROOM]) -> Chunks<'b>
         ensures { ids_from result 0 ≡ ids self.now }
     {
+        self.fill(room);
+        self.filled_chunks(room)
+    }
+
+    /// Writes the ids of a set of few into its room. Other sets need none.
+    pub(crate) fn fill(&self, room: &mut [u8; ROOM])
+        ensures { HoldsFew self.now room.new }
+    {
+        let form = self.bytes[0];
+        if form != 5 && form != 6 {
+            unpack_few_bytes(self.count, self.rest, &mut room[..4 * self.count]);
+        }
+    }
+
+    /// The chunks of the set, whose room was filled before.
+    pub(crate) fn filled_chunks<'b>(&'b self, room: &'b [u8; ROOM]) -> Chunks<'b>
+        requires { HoldsFew self.now room.now }
+        ensures { ids_from result 0 ≡ ids self.now }
+    {
         let form = self.bytes[0];
         if form == 5 {
             return Chunks::new(self.chunks, self.rest, self.count);
@@ -250,9 +270,7 @@ impl<'a> IdSet<'a> {
         if form == 6 {
             return Chunks::of_array(self.rest);
         }
-        let room = &mut room[..4 * self.count];
-        unpack_few_bytes(self.count, self.rest, room);
-        Chunks::of_array(room)
+        Chunks::of_array(&room[..4 * self.count])
     }
 
     /// Writes the ids from a position on at the start of the slice, as many as there are and it has room for, and returns how many it wrote.

@@ -8,6 +8,7 @@ mod blocks;
 mod chunk;
 mod chunks;
 mod combining;
+mod combining_all;
 mod combining_sets;
 mod decoding;
 mod directory;
@@ -36,6 +37,9 @@ mod worked_sets;
 
 pub use appending::append;
 pub use combining::{combine, combine_count, combine_to, is_disjoint, is_subset};
+pub use combining_all::{
+    MOST_SETS, combine_all_count, combine_all_to, combine_few_count, combine_few_to,
+};
 pub use combining_sets::combine_set;
 pub use encoding::{encode, encode_to, encoded_len};
 pub use id_set::IdSet;

@@ -6,6 +6,7 @@ pub mod CountSteps
 pub mod CursorPlaces
 pub mod GatherSteps
 pub mod JoinSteps
+pub mod ManySteps
 pub mod MarkSteps
 pub mod PairSteps
 pub mod SetSteps

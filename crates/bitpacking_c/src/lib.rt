@@ -30,6 +30,7 @@ mod list_sorting;
 mod list_view;
 mod list_windows;
 mod no_initial;
+mod set_combining;
 mod set_packing;
 mod set_view;
 mod version;

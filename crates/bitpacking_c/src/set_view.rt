@@ -2,6 +2,7 @@
 
 ghost use Rattle.std.specs.Prelude.{◌≡◌, ◌≢◌, [], length, None};
 ghost use Rattle.bitpack_sets.specs.Faults.{fault};
+ghost use Rattle.bitpack_sets.specs.Opened.{ids};
 ghost use Rattle.bitpack_sets.specs.Reads.{has, ids_in};
 ghost use Rattle.bitpack_sets.specs.Stated.{States};
 ghost use Rattle.bitpacking_c.specs.IdSets.{Encodes, SeeksId, number_of_answer, set_fault_number};
@@ -27,7 +28,7 @@ pub struct SetView<'a> {
 
 impl<'a> SetView<'a> {
     ghost use Rattle.std.specs.Prelude.{IfSome};
-    ghost use Rattle.bitpack_sets.specs.Opened.{ids, text_of};
+    ghost use Rattle.bitpack_sets.specs.Opened.{text_of};
 
     /// The view of an opened set, which has these bytes.
     fn of_set(bytes: &'a [u8], set: &IdSet<'a>) -> SetView<'a>
@@ -60,6 +61,23 @@ impl<'a> SetView<'a> {
             },
         ))
     }
+
+    /// The set, which is empty if the view was not opened.
+    pub(crate) fn set_or_empty(&self) -> IdSet<'a>
+        ensures { ids result ≡ ids_in self.now.bytes.now }
+    {
+        match self.set() {
+            Some(set) => set,
+            None => no_ids(),
+        }
+    }
+}
+
+/// The empty set.
+pub(crate) fn no_ids<'a>() -> IdSet<'a>
+    ensures { ids result ≡ [] }
+{
+    IdSet::of_tested(&[0x80])
 }
 
 /// Opens an id set. Tests all bytes. Returns 0, or the number of the first fault.

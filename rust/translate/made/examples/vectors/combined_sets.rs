@@ -1,8 +1,8 @@
-//! Operations on two id sets.
+//! Operations on two id sets, and on more.
 
 use std::collections::BTreeSet;
 
-use bitpacking_source::sets::{IdSet, Operation, SetError, add, combine_count, combine_to, encode, remove, retain, combine_set};
+use bitpacking_source::sets::{IdSet, Operation, SetError, add, combine_count, combine_to, encode, remove, retain, combine_set, combine_all_count, combine_all_to};
 
 use crate::report::Report;
 use crate::rows::Row;
@@ -21,7 +21,9 @@ pub fn combined(row: &Row, report: &mut Report) {
             ("and not", Operation::AndNot, first_alone),
             ("xor", Operation::Xor, &one),
         ] {
-            written(name, operation, (&a, &b), &answer.iter().copied().collect::<Vec<u32>>(), row, report);
+            let answer = answer.iter().copied().collect::<Vec<u32>>();
+            written(name, operation, (&a, &b), &answer, row, report);
+            all_written(name, operation, (&a, &b), &answer, row, report);
         }
         let answers = [shared.clone(), first_alone.clone(), &one | &shared].map(|it| it.into_iter().collect::<Vec<u32>>());
         in_place(own, &b, &answers, row, report);
@@ -67,4 +69,27 @@ fn in_place(ids: &[u32], set: &IdSet<'_>, [shared, alone, all]: &[Vec<u32>; 3], 
         report.check(&row.name, "added to ids that fall", add(&mut back, set), Err(SetError::NotSorted(1)));
         report.check(&row.name, "added to ids that fall, ids", back == reversed(ids), true);
     }
+}
+
+/// The first set, and the second an odd number of times, have the answer of both: with an array on the stack, and with memory.
+fn all_written(name: &str, operation: Operation, (a, b): (&IdSet<'_>, &IdSet<'_>), answer: &[u32], row: &Row, report: &mut Report) {
+    for times in [1, 3, 63, 65] {
+        let mut sets = vec![*b; times + 1];
+        sets[0] = *a;
+        let name = format!("{name}, the other {times} times");
+        report.check(&row.name, &format!("{name}, counted"), combine_all_count(operation, &sets), Ok(answer.len()));
+        let mut found = vec![u32::MAX; answer.len()];
+        report.check(&row.name, &name, combine_all_to(operation, &sets, &mut found), Ok(answer.len()));
+        report.check(&row.name, &format!("{name}, ids"), found == answer, true);
+        if let Some(less) = answer.len().checked_sub(1) {
+            let refused = combine_all_to(operation, &sets, &mut found[..less]);
+            report.check(&row.name, &format!("{name} without room"), refused, Err(SetError::Short));
+        }
+    }
+    let alone = [*a];
+    let mut found = vec![u32::MAX; a.len()];
+    report.check(&row.name, "one set", combine_all_to(operation, &alone, &mut found), Ok(a.len()));
+    report.check(&row.name, "one set, ids", found.iter().copied().eq(a.iter()), true);
+    report.check(&row.name, "no set", combine_all_to(operation, &[], &mut []), Ok(0));
+    report.check(&row.name, "no set, counted", combine_all_count(operation, &[]), Ok(0));
 }

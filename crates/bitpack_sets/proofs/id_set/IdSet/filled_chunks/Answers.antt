@@ -3,7 +3,7 @@ use Rattle.std.proofs.Common.{◌^◌, arith, subst, sym, ◌∙◌}
 use Rattle.bitpack_sets.specs.Sets.{IsRising}
 use Rattle.bitpack_sets.proofs.FormLaws.{some_bytes, stated_array, stated_chunks, stated_few}
 use Rattle.bitpack_sets.proofs.TextLaws.{ids_are_read}
-use Rattle.bitpack_sets.proofs.id_set.IdSet.chunks.Goals as goal
+use Rattle.bitpack_sets.proofs.id_set.IdSet.filled_chunks.Goals as goal
 
 pub bounds-self-0 : goal.bounds-self-0
 bounds-self-0 c = let set = c.args.self.now in some_bytes set.bytes.now set.states.none
@@ -30,36 +30,22 @@ returns-then-form-eq6 c =
     let set = c.args.self.now in
     c.of_array.ensures ∙ sym (stated_array set.bytes.now set.rest.now set.count set.chunks set.are_bytes set.states c.if-form-eq6.true).ids_are
 
-pub overflow_mul-room : goal.overflow_mul-room
-overflow_mul-room c =
+pub overflow_mul-self : goal.overflow_mul-self
+overflow_mul-self c =
     let set = c.args.self.now in
     let few = (stated_few set.bytes.now set.rest.now set.count set.chunks set.are_bytes set.states c.if-form-eq5.false c.if-form-eq6.false).few in
     record { fits = omega arith }
 
-pub slice_bounds-room-end : goal.slice_bounds-room-end
-slice_bounds-room-end c =
+pub shared_ref_as_front-of_array : goal.shared_ref_as_front-of_array
+shared_ref_as_front-of_array c =
     let set = c.args.self.now in
     let few = (stated_few set.bytes.now set.rest.now set.count set.chunks set.are_bytes set.states c.if-form-eq5.false c.if-form-eq6.false).few in
     omega arith
 
-pub unpack_few_bytes-requires-clause-few : goal.unpack_few_bytes-requires-clause-few
-unpack_few_bytes-requires-clause-few c =
-    let set = c.args.self.now in
-    (stated_few set.bytes.now set.rest.now set.count set.chunks set.are_bytes set.states c.if-form-eq5.false c.if-form-eq6.false).few
-
-pub unpack_few_bytes-requires-clause-sound : goal.unpack_few_bytes-requires-clause-sound
-unpack_few_bytes-requires-clause-sound c =
-    let set = c.args.self.now in
-    (stated_few set.bytes.now set.rest.now set.count set.chunks set.are_bytes set.states c.if-form-eq5.false c.if-form-eq6.false).sound
-
 pub of_array-requires-2 : goal.of_array-requires-2
 of_array-requires-2 c =
     let set = c.args.self.now in
-    let is = stated_few set.bytes.now set.rest.now set.count set.chunks set.are_bytes set.states c.if-form-eq5.false c.if-form-eq6.false in
-    subst (IsRising 0 (2 ^ 32)) (is.ids_are ∙ sym c.unpack_few_bytes.ensures) (ids_are_read set.bytes.now set.are_bytes set.states.none).0.rising
+    subst (IsRising 0 (2 ^ 32)) (sym (c.requires c.if-form-eq5.false c.if-form-eq6.false)) (ids_are_read set.bytes.now set.are_bytes set.states.none).0.rising
 
 pub returns : goal.returns
-returns c =
-    let set = c.args.self.now in
-    let is = stated_few set.bytes.now set.rest.now set.count set.chunks set.are_bytes set.states c.if-form-eq5.false c.if-form-eq6.false in
-    c.of_array-2.ensures ∙ c.unpack_few_bytes.ensures ∙ sym is.ids_are
+returns c = c.of_array-2.ensures ∙ c.requires c.if-form-eq5.false c.if-form-eq6.false
