@@ -64,7 +64,7 @@ pub those_same : (n : ℕ) (p q : ℕ → Bool) → ((x : ℕ) → x < n → p x
 unfolding those
 those_same n p q same = those_agree p q 0 n (λ x a b. same x (omega arith))
 
-none_pass : (n : ℕ) (p : ℕ → Bool) → ((x : ℕ) → x < n → p x ≡ false) → those n p ≡ []
+pub none_pass : (n : ℕ) (p : ℕ → Bool) → ((x : ℕ) → x < n → p x ≡ false) → those n p ≡ []
 unfolding those
 none_pass n p none = those_none p 0 n (λ x a b. none x (omega arith))
 

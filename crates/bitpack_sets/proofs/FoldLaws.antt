@@ -1,6 +1,6 @@
 -- Sets that are folded from the first to the last.
-use Rattle.std.proofs.Common.{◌≡◌, ℕ, zero, suc, ◌+◌, ◌-◌, ◌/◌, ◌<◌, ◌≤◌, ◌≢◌, ◌==◌, ◌&&◌, ◌||◌, ◌⊎◌, inl, inr, sum, min, max, Bool, true, false, List, [], ◌∷◌, map, length, get_or, set, take, drop, length-set, get_or-set_same, eq-eqb, refl, sym, ap, ◌∙◌, subst, arith}
-use Rattle.std.specs.List.{All, AllZip, fold, list_any}
+use Rattle.std.proofs.Common.{◌≡◌, ℕ, zero, suc, ◌+◌, ◌-◌, ◌/◌, ◌<◌, ◌≤◌, ◌≢◌, ◌==◌, ◌&&◌, ◌||◌, ◌⊎◌, inl, inr, sum, min, max, Bool, true, false, cond, List, [], ◌∷◌, map, length, get_or, set, take, drop, length-set, get_or-set_same, eq-eqb, refl, sym, ap, ◌∙◌, subst, arith}
+use Rattle.std.specs.List.{All, AllZip, filter, fold, list_any, range_with_len}
 use Rattle.std.specs.Simd.Lanes.{zip2}
 use Rattle.std.proofs.Math.Bool.{or-true}
 use Rattle.std.proofs.lemmas.Bool.{cases_eq, cases_lt, false≢true, ne_eqb}
@@ -9,15 +9,17 @@ use Rattle.std.proofs.lemmas.List.{drop-drop, drop-set-lt, get_or-drop, set-get_
 use Rattle.std.proofs.lemmas.List.Elements.{All-get_or, All-head, All-set, All-more, All-tail, AllZip-get_or}
 use Rattle.std.proofs.lemmas.List.Sums.{fold_more, sum_by-cons}
 use Rattle.std.proofs.lemmas.Simd.{get_or-zip2, length-zip2}
-use Rattle.bitpack_sets.proofs.AnswerLaws.{has_those, map_zero, neither, no_one, none_left, none_right}
+use Rattle.bitpack_sets.proofs.OnesLaws.{rising_lower}
+use Rattle.bitpack_sets.proofs.ReadLaws.{has_below}
 use Rattle.bitpack_sets.specs.Bitmaps.{has_bit, has_high}
 use Rattle.bitpack_sets.specs.Chunks.{first_key, ids_from, places}
 use Rattle.bitpack_sets.specs.Folds.{AreWithin, first_keys, having, left, places_left}
 use Rattle.bitpack_sets.specs.Operations.{folded, holds, those}
 use Rattle.bitpack_sets.specs.Reads.{has}
+use Rattle.bitpack_sets.specs.Sets.{IsRising}
 use Rattle.bitpack_sets.specs.declared.chunks.Chunks.{Chunks}
 use Rattle.bitpack_sets.specs.declared.operation.Operation.{Operation}
-use Rattle.bitpack_sets.specs.declared.operation.Operation.TheVariants.{And}
+use Rattle.bitpack_sets.specs.declared.operation.Operation.TheVariants.{And, Or, AndNot, Xor}
 
 -- ---- two lists side by side
 
@@ -159,11 +161,28 @@ left_all operation sets starts i x w l = ap (folded operation) (sym (take_all i 
 
 -- ---- an operation on what is false
 
+neither : (operation : Operation) → holds operation false false ≡ false
+neither And = refl
+neither Or = refl
+neither AndNot = refl
+neither Xor = refl
+
+right_dropped : (operation : Operation) (b : Bool) → holds operation false true ≡ false → holds operation false b ≡ false
+right_dropped operation true h = h
+right_dropped operation false h = neither operation
+
+left_dropped : (operation : Operation) (a : Bool) → holds operation true false ≡ false → holds operation a false ≡ false
+left_dropped operation true h = h
+left_dropped operation false h = neither operation
+
+pub none_of_two : (operation : Operation) (a b : Bool) → a ≡ false → b ≡ false → holds operation a b ≡ false
+none_of_two operation a b p q = ap (λ c. holds operation c b) p ∙ ap (holds operation false) q ∙ neither operation
+
 pub none_of_left : (operation : Operation) (a b : Bool) → holds operation false true ≡ false → a ≡ false → holds operation a b ≡ false
-none_of_left operation a b h p = ap (λ c. holds operation c b) p ∙ none_right operation b h
+none_of_left operation a b h p = ap (λ c. holds operation c b) p ∙ right_dropped operation b h
 
 pub none_of_right : (operation : Operation) (a b : Bool) → holds operation true false ≡ false → b ≡ false → holds operation a b ≡ false
-none_of_right operation a b h q = ap (holds operation a) q ∙ none_left operation a h
+none_of_right operation a b h q = ap (holds operation a) q ∙ left_dropped operation a h
 
 pub left_kept : (operation : Operation) (a : Bool) → holds operation true false ≡ true → holds operation a false ≡ a
 left_kept operation true h = h
@@ -213,11 +232,51 @@ pub start_least : (sets : List Chunks) (starts : List ℕ) (i k : ℕ) (s : Chun
 start_least sets starts i k s w l e h =
     subst (λ n. k ≤ n) (keys_at sets starts i s 0 w l e) (All-get_or (λ n. k ≤ n) (first_keys sets starts) i 0 (omega (arith, keys_length sets starts w)) h)
 
--- ---- a set's own ids are folded
+-- ---- the numbers below a bound that pass a test
+
+chosen_rise : (b : Bool) (low high : ℕ) (xs : List ℕ) → IsRising (low + 1) high xs → IsRising low high (cond b (low ∷ xs) xs)
+chosen_rise true low high xs r = (omega arith, r)
+chosen_rise false low high xs r = rising_lower (low + 1) low high xs (omega arith) r
+
+kept_rise : (P : ℕ → Bool) (low high n : ℕ) → low + n ≡ high → IsRising low high (filter P (range_with_len low n))
+kept_rise P low high zero e = omega arith
+kept_rise P low high (suc n) e = chosen_rise (P low) low high (filter P (range_with_len (low + 1) n)) (kept_rise P (low + 1) high n (omega arith))
+
+has_later : (b : Bool) (x low : ℕ) (xs : List ℕ) → low ≢ x → has x (cond b (low ∷ xs) xs) ≡ has x xs
+has_later true x low xs h = ap (λ t. t || has x xs) (ne_eqb low x h)
+has_later false x low xs h = refl
+
+has_first : (b : Bool) (x low : ℕ) (xs : List ℕ) → low ≡ x → has x xs ≡ false → has x (cond b (low ∷ xs) xs) ≡ b
+has_first true x low xs e h = ap (λ t. t || has x xs) (eq-eqb low x e)
+has_first false x low xs e h = h
+
+has_kept : (P : ℕ → Bool) (x low n : ℕ) → low ≤ x → x < low + n → has x (filter P (range_with_len low n)) ≡ P x
+has_kept P x low zero a b = absurd (omega arith)
+has_kept P x low (suc n) a b = elim (cases_lt low x) [
+  | inl less ↦ has_later (P low) x low (filter P (range_with_len (low + 1) n)) (λ e. omega arith) ∙ has_kept P x (low + 1) n (omega arith) (omega arith)
+  | inr more ↦ (
+      let e : low ≡ x = omega arith in
+      let none : has x (filter P (range_with_len (low + 1) n)) ≡ false = has_below x (low + 1) (low + 1 + n) (filter P (range_with_len (low + 1) n)) (kept_rise P (low + 1) (low + 1 + n) n refl) (omega arith) in
+      has_first (P low) x low (filter P (range_with_len (low + 1) n)) e none ∙ ap P e)
+]
+
+pub has_those : (P : ℕ → Bool) (x bound : ℕ) → x < bound → has x (those bound P) ≡ P x
+unfolding those
+has_those P x bound h = has_kept P x 0 bound (omega arith) (omega arith)
+
+pub those_rise : (P : ℕ → Bool) (bound : ℕ) → IsRising 0 bound (those bound P)
+unfolding those
+those_rise P bound = kept_rise P 0 bound bound (omega arith)
+
+raised_not : (xs : List ℕ) → map (λ i. 0 + i) xs ≡ xs
+raised_not [] = refl
+raised_not (x ∷ xs) = let e : 0 + x ≡ x = omega arith in ap (λ y. y ∷ map (λ i. 0 + i) xs) e ∙ ap (λ ys. x ∷ ys) (raised_not xs)
 
 -- the high bytes that are written at the start
 pub listed : (out xs : List ℕ) (n : ℕ) → take n out ≡ map (λ i. 0 + i) xs → take n out ≡ xs
-listed out xs n e = e ∙ map_zero xs
+listed out xs n e = e ∙ raised_not xs
+
+-- ---- a set's own ids are folded
 
 own_or_kept : (operation : Operation) (among new old other low own : Bool) → among ≡ own → (among ≡ true → new ≡ holds operation old other) → (among ≡ true → other ≡ low)
     → (among ≡ false → new ≡ old) → (own ≡ false → holds operation old low ≡ old) → new ≡ holds operation old low
@@ -238,7 +297,7 @@ pub set_added : (operation : Operation) (x : ℕ) (own highs old new others lows
     → has_bit new x ≡ holds operation (has_bit old x) (has x lows)
 set_added operation x own highs old new others lows small are folded' loaded same kept =
     own_or_kept operation (has (x / 256) highs) (has_bit new x) (has_bit old x) (has_bit others x) (has x lows) (has_bit own (x / 256))
-    (ap (has (x / 256)) are ∙ has_those 256 (has_bit own) (x / 256) (omega arith)) folded' loaded same kept
+    (ap (has (x / 256)) are ∙ has_those (has_bit own) (x / 256) 256 (omega arith)) folded' loaded same kept
 
 -- ---- a set more is folded
 
@@ -257,7 +316,7 @@ rest_more starts olds i v h = drop-set-lt (i + 1) starts i v (omega arith) ∙ s
 
 fold_none : (operation : Operation) (a : Bool) (bs : List Bool) → a ≡ false → All (λ b. b ≡ false) bs → fold (holds operation) a bs ≡ false
 fold_none operation a [] e h = e
-fold_none operation a (b ∷ bs) e h = fold_none operation (holds operation a b) bs (no_one operation a b e (All-head (λ c. c ≡ false) b bs h)) (All-tail (λ c. c ≡ false) b bs h)
+fold_none operation a (b ∷ bs) e h = fold_none operation (holds operation a b) bs (none_of_two operation a b e (All-head (λ c. c ≡ false) b bs h)) (All-tail (λ c. c ≡ false) b bs h)
 
 combined_none : (operation : Operation) (bs : List Bool) → All (λ b. b ≡ false) bs → folded operation bs ≡ false
 combined_none operation [] h = refl

@@ -1,15 +1,18 @@
--- The chunks of each of the sets, and all their ids folded.
-use Rattle.std.proofs.Common.{◌≡◌, ℕ, zero, suc, ◌+◌, ◌^◌, ◌<◌, ◌≤◌, false, List, [], ◌∷◌, ◌++◌, map, length, get_or, set, take, replicate, refl, sym, ap, ◌∙◌, subst, arith}
+-- The chunks of each of the sets, and all their ids combined.
+use Rattle.std.proofs.Common.{◌≡◌, ℕ, zero, suc, ◌+◌, ◌/◌, ◌^◌, ◌<◌, ◌≤◌, ◌&&◌, Bool, false, List, [], ◌∷◌, ◌++◌, map, length, get_or, set, take, replicate, refl, sym, ap, ◌∙◌, subst, arith}
 use Rattle.std.specs.List.{AllZip}
 use Rattle.std.specs.Simd.Lanes.{zip2}
 use Rattle.std.proofs.lemmas.List.{get_or-take, length-take-le, take-replicate, take_all, take_more, take_more_set}
 use Rattle.std.proofs.Math.Seq.{take-append_seam}
 use Rattle.std.proofs.lemmas.Slice.Zip.{all_zipped_more}
-use Rattle.bitpack_sets.proofs.AnswerLaws.{those_none, those_same}
+use Rattle.bitpack_sets.proofs.AnswerLaws.{none_pass, those_same}
+use Rattle.bitpack_sets.specs.Bitmaps.{has_bit}
 use Rattle.bitpack_sets.specs.Chunks.{ids_from}
+use Rattle.bitpack_sets.specs.Folds as folds
 use Rattle.bitpack_sets.specs.Folds.{AreWithin, having, ids_left, left}
 use Rattle.bitpack_sets.specs.Opened.{ids}
 use Rattle.bitpack_sets.specs.Operations.{answer_all, folded}
+use Rattle.bitpack_sets.specs.Pairs.{IsPart}
 use Rattle.bitpack_sets.specs.Reads.{has}
 use Rattle.bitpack_sets.specs.Rooms.{AreChunksOf, HoldsFew, all_ids}
 use Rattle.bitpack_sets.specs.Slices.{quads_of}
@@ -67,7 +70,7 @@ unfolding AreChunksOf having left
 all_left operation sets chunks starts h e = those_same (2 ^ 32) _ _ (λ x small. ap (λ ps. folded operation (zip2 (λ (c : Chunks) (p : ℕ). has x (ids_from c p)) chunks ps)) e ∙ ap (folded operation) (having_all sets chunks x h))
 
 pub none_of_none : (operation : Operation) (sets : List IdSet) → length sets ≡ 0 → answer_all operation (all_ids sets) ≡ []
-none_of_none operation [] e = those_none (2 ^ 32) (λ x. false) (λ x h. refl)
+none_of_none operation [] e = none_pass (2 ^ 32) (λ x. false) (λ x h. refl)
 none_of_none operation (s ∷ sets) e = absurd (omega arith)
 
 -- the first of as many places as there may be
@@ -94,3 +97,8 @@ whole_left operation sets chunks starts n are long e =
 
 pub front_filled : (n : ℕ) (xs ys all : List ℕ) → length xs ≡ n → quads_of xs ≡ all → quads_of (take n (xs ++ ys)) ≡ all
 front_filled n xs ys all long are = ap (λ m. quads_of (take m (xs ++ ys))) (sym long) ∙ ap quads_of (take-append_seam xs ys) ∙ are
+
+-- a chunk of the answer is told by the bits of its numbers
+pub told : (key : ℕ) (highs words : List ℕ) (before after : ℕ → Bool) → folds.IsPart key highs words before after
+    → IsPart key (λ low. has (low / 256) highs && has_bit words low) before after
+told key highs words before after part = record { small = part.small; lower = part.lower; own = part.own; passed = part.passed; higher = part.higher }

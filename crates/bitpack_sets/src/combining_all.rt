@@ -15,7 +15,7 @@ use crate::operation::Operation;
 use crate::set_error::SetError;
 use std::alloc::Global;
 
-/// The most sets that are folded without an allocation.
+/// The most sets that are combined without an allocation.
 pub const MOST_SETS: usize = 64;
 
 /// As `combine_all_to`, for at most `MOST_SETS` sets. Allocates nothing.
@@ -41,7 +41,7 @@ pub fn combine_few_to(
     fold_few_to(operation, sets, out)
 }
 
-/// How many ids the first set gives, folded with each other set in turn, for at most `MOST_SETS` sets. Allocates nothing.
+/// How many ids the first set gives, combined with each other set in turn, for at most `MOST_SETS` sets. Allocates nothing.
 pub fn combine_few_count(operation: Operation, sets: &[IdSet]) -> usize
     requires few { length sets.now ≤ 64 }
     ensures { result ≡ length (answer_all operation (all_ids sets.now)) }
@@ -55,7 +55,7 @@ pub fn combine_few_count(operation: Operation, sets: &[IdSet]) -> usize
     fold_few_count(operation, sets)
 }
 
-/// Writes the ids of the first set, folded with each other set in turn, at the start of the slice, and returns their number. No set
+/// Writes the ids of the first set, combined with each other set in turn, at the start of the slice, and returns their number. No set
 /// gives no id.
 ///
 /// Fails with `Short`, if the slice has no room for them; what it holds then says nothing. Of more than `MOST_SETS` sets it fails with `Memory`
@@ -82,7 +82,7 @@ pub fn combine_all_to(
     fold_to(operation, chunks.as_slice(), starts.as_mut_slice(), out)
 }
 
-/// How many ids the first set gives, folded with each other set in turn.
+/// How many ids the first set gives, combined with each other set in turn.
 ///
 /// Fails only with `Memory`, and only of more than `MOST_SETS` sets: it allocates less than 600 bytes for each.
 pub fn combine_all_count(
@@ -104,7 +104,7 @@ pub fn combine_all_count(
     Ok(fold_count(operation, chunks.as_slice(), starts.as_mut_slice()))
 }
 
-/// Writes the ids of a few sets, folded through an array of chunks. Two sets don't need its stack.
+/// Writes the ids of a few sets, combined through an array of chunks. Two sets don't need its stack.
 #[inline(never)]
 fn fold_few_to(operation: Operation, sets: &[IdSet], out: &mut [u32]) -> Result<usize, SetError>
     requires some { 0 < length sets.now }

@@ -12,7 +12,13 @@ use crate::bitmap::combining::combine;
 use crate::bitmap::unpacking::unpack_bits;
 use crate::chunks::{Chunks, NO_KEY};
 use crate::operation::Operation;
-use crate::pairing::Part;
+
+/// A chunk of the answer: its key, and how many high bytes it can have.
+#[derive(Clone, Copy)]
+pub(crate) struct Part {
+    pub(crate) key: u32,
+    pub(crate) high_count: usize,
+}
 
 /// The next chunk of the answer of what is left of the sets from where they start. Moves the starts after it. Its high bytes are left in `highs`,
 /// and their bits in `words`. None if no id is left.
@@ -100,7 +106,7 @@ fn all_highs(operation: Operation, sets: &[Chunks], starts: &[usize], key: u32) 
     occur
 }
 
-/// Loads the ids of a key that have these high bytes, folded. Moves the starts after the key.
+/// Loads the ids of a key that have these high bytes, combined. Moves the starts after the key.
 fn combine_key(
     operation: Operation,
     sets: &[Chunks],

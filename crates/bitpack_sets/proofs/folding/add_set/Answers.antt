@@ -1,17 +1,16 @@
-use Rattle.std.proofs.Common.{ℕ, ◌/◌, List, sym, ap, ◌∙◌, subst, arith}
+use Rattle.std.proofs.Common.{ℕ, ◌/◌, true, List, sym, ap, ◌∙◌, subst, arith}
 use Rattle.std.proofs.lemmas.Bool.{false≢true}
 use Rattle.bitpack_sets.specs.Bitmaps.{has_bit}
 use Rattle.bitpack_sets.specs.Sets.{IsRising}
-use Rattle.bitpack_sets.proofs.AnswerLaws.{those_rise}
-use Rattle.bitpack_sets.proofs.FoldLaws.{kept_without, listed, no_high, other_false, set_added}
+use Rattle.bitpack_sets.proofs.FoldLaws.{kept_without, listed, no_high, other_false, set_added, those_rise}
 use Rattle.bitpack_sets.proofs.folding.add_set.Goals as goal
 use Rattle.bitpack_sets.proofs.folding.add_set.Goals.{then-keeps_left+else-place-end, else-keeps_left}
 
 pub load-requires-clause-highs : goal.load-requires-clause-highs
-load-requires-clause-highs c = subst (IsRising 0 256) (sym (listed _ _ _ c.unpack_bits-high_count.ensures.values)) (those_rise 256 _)
+load-requires-clause-highs c = subst (IsRising 0 256) (sym (listed _ _ _ c.unpack_bits-high_count.ensures.values)) (those_rise _ 256)
 
 pub combine-requires : goal.combine-requires
-combine-requires c = subst (IsRising 0 256) (sym (listed _ _ _ c.unpack_bits-high_count.ensures.values)) (those_rise 256 _)
+combine-requires c = subst (IsRising 0 256) (sym (listed _ _ _ c.unpack_bits-high_count.ensures.values)) (those_rise _ 256)
 
 pub returns : goal.returns
 returns c = λ x small occurs.

@@ -6,8 +6,7 @@ use Rattle.bitpack_sets.specs.Chunks.{ids_from}
 use Rattle.bitpack_sets.specs.Folds.{first_keys}
 use Rattle.bitpack_sets.specs.Reads.{has}
 use Rattle.bitpack_sets.specs.Sets.{IsRising}
-use Rattle.bitpack_sets.proofs.AnswerLaws.{has_those, those_rise}
-use Rattle.bitpack_sets.proofs.FoldLaws.{having_kept, having_more, keys_length, keys_more, later_same, later_set, left_all, left_first, left_none, more_combined, rest_at, rest_more, start_least, within_at, within_length, within_set}
+use Rattle.bitpack_sets.proofs.FoldLaws.{has_those, having_kept, having_more, keys_length, keys_more, later_same, later_set, left_all, left_first, left_none, more_combined, rest_at, rest_more, start_least, those_rise, within_at, within_length, within_set}
 use Rattle.bitpack_sets.proofs.folding.combine_key.Goals as goal
 
 pub bounds-starts-0 : goal.bounds-starts-0
@@ -29,7 +28,7 @@ pub end-next-requires-clause-least : goal.end-next-requires-clause-least
 end-next-requires-clause-least c = start_least _ _ _ _ _ c.requires.within c.requires.some c.index-sets-0.is c.requires.least
 
 pub load-requires-clause-highs : goal.load-requires-clause-highs
-load-requires-clause-highs c = subst (IsRising 0 256) (sym c.requires.highs) (those_rise 256 _)
+load-requires-clause-highs c = subst (IsRising 0 256) (sym c.requires.highs) (those_rise _ 256)
 
 pub end-end-requires-clause-within : goal.end-end-requires-clause-within
 end-end-requires-clause-within c = within_at _ _ _ _ c.loop-i.invariant.within c.loop-i-test.true c.index-sets-i.is
@@ -52,7 +51,7 @@ loop-i-init c =
       passed = keys_more (λ k. c.args.key < k) _ _ _ _ _ w some is next.passed (λ k d h. absurd (omega arith));
       own = λ x h occurs.
           let among : has (x % 65536 / 256) c.args.highs.now ≡ true =
-          ap (has (x % 65536 / 256)) c.requires.highs ∙ has_those 256 (has_bit c.args.occur.now) (x % 65536 / 256) (omega arith) ∙ occurs in
+          ap (has (x % 65536 / 256)) c.requires.highs ∙ has_those (has_bit c.args.occur.now) (x % 65536 / 256) 256 (omega arith) ∙ occurs in
           c.load.ensures (x % 65536) (omega arith) among ∙ sym (next.own x h) ∙ sym (left_first _ _ _ x _ w some is);
       none = λ x h. having_more (λ b. b ≡ false) _ _ _ _ x _ w some is (next.none x h) (λ k d l. absurd (omega arith));
       others = λ x h. having_kept _ _ _ _ x _ w some is (sym (next.others x h));

@@ -1,7 +1,6 @@
-use Rattle.std.proofs.Common.{◌/◌, inl, inr, sym, ◌∙◌, arith}
+use Rattle.std.proofs.Common.{◌/◌, inl, inr, true, false, sym, ◌∙◌, arith}
 use Rattle.std.proofs.lemmas.Bool.{cases_lt}
-use Rattle.bitpack_sets.proofs.AnswerLaws.{no_one}
-use Rattle.bitpack_sets.proofs.FoldLaws.{has_either, has_key, is_max, is_min, left_all, left_first, left_more, none_of_left, none_of_right, within_length}
+use Rattle.bitpack_sets.proofs.FoldLaws.{has_either, has_key, is_max, is_min, left_all, left_first, left_more, none_of_left, none_of_right, none_of_two, within_length}
 use Rattle.bitpack_sets.proofs.folding.next_key.Goals as goal
 use Rattle.bitpack_sets.proofs.folding.next_key.Goals.{then-keeps_right, else-keeps_right+then-not-keeps_left, else-keeps_right+else-not-keeps_left}
 
@@ -30,7 +29,7 @@ loop-i-preserved c =
         first = has_either _ _ _ _ c.loop-i.invariant.first other (is_min _ _ _ (w.key-is ∙ w.min-key.ensures));
         lower = λ x h.
             left_more _ _ _ _ x _ within (omega arith) inside is
-            ∙ no_one c.args.operation _ _ (c.loop-i.invariant.lower x (omega arith)) (c.key-other.ensures.none x (omega arith));
+            ∙ none_of_two c.args.operation _ _ (c.loop-i.invariant.lower x (omega arith)) (c.key-other.ensures.none x (omega arith));
       }
       | else-keeps_right+then-not-keeps_left w ↦ record {
         most = omega arith;

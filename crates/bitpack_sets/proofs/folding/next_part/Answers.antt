@@ -4,8 +4,7 @@ use Rattle.bitpack_sets.specs.Folds.{left}
 use Rattle.bitpack_sets.specs.Operations.{those}
 use Rattle.bitpack_sets.specs.Reads.{has}
 use Rattle.bitpack_sets.specs.Sets.{IsRising}
-use Rattle.bitpack_sets.proofs.AnswerLaws.{has_those, those_rise}
-use Rattle.bitpack_sets.proofs.FoldLaws.{fewer_left, later_twice, left_same, listed, part_own}
+use Rattle.bitpack_sets.proofs.FoldLaws.{fewer_left, has_those, later_twice, left_same, listed, part_own, those_rise}
 use Rattle.bitpack_sets.proofs.folding.next_part.Goals as goal
 
 pub returns-clause-part : goal.returns-clause-part
@@ -17,11 +16,11 @@ returns-clause-part c =
     λ x h. left_same _ _ _ _ x (c.pass.ensures.ids x h) in
     record {
       small = omega (arith, c.next_key-key.ensures.most);
-      rising = subst (IsRising 0 256) (sym are) (those_rise 256 _);
+      rising = subst (IsRising 0 256) (sym are) (those_rise _ 256);
       lower = c.next_key-key.ensures.lower;
       own = λ x h.
           let occurs : has (x % 65536 / 256) highs ≡ has_bit c.all_highs-occur.result (x % 65536 / 256) =
-          ap (has (x % 65536 / 256)) are ∙ has_those 256 (has_bit c.all_highs-occur.result) (x % 65536 / 256) (omega arith) in
+          ap (has (x % 65536 / 256)) are ∙ has_those (has_bit c.all_highs-occur.result) (x % 65536 / 256) 256 (omega arith) in
           let same = passed x (omega arith) in
           part_own _ (has (x % 65536 / 256) highs) _
           (λ none. sym same ∙ c.all_highs-occur.ensures x h (sym occurs ∙ none))
