@@ -31,7 +31,7 @@ first_key (x ∷ xs) = x / 65536
 abbrev pub places : Chunks → ℕ
 places set = if set.count == 0 then length set.rest.now / 4 else set.count
 
--- the ids of a key are between two positions, and those of lower keys are before these
+-- the ids of a key are between two positions, and no id of this key or a higher one is before them
 pub record AreBetween (set : Chunks) (key place end : ℕ) : Type 0 where
   pub later : place ≤ end
   pub within : end ≤ places set

@@ -1,4 +1,4 @@
-//! Finds the ids of a key in a set, from those of the key before on.
+//! Finds the ids of a key in a set, and looks ids up among these.
 
 ghost use Rattle.std.specs.Prelude.{◌≡◌, ℕ, ◌*◌, ◌<◌, ◌≤◌};
 ghost use Rattle.bitpack_sets.specs.Chunks.{AreBetween, ids_from, places};
