@@ -18,7 +18,7 @@ use Rattle.bitpack_sets.specs.declared.pairing.Pair.{Pair}
 
 -- ---- the numbers of a range that pass a test
 
-range_more : (low m n : ℕ) → range_with_len low (m + n) ≡ range_with_len low m ++ range_with_len (low + m) n
+pub range_more : (low m n : ℕ) → range_with_len low (m + n) ≡ range_with_len low m ++ range_with_len (low + m) n
 range_more low zero n = let a : 0 + n ≡ n = omega arith in let b : low ≡ low + 0 = omega arith in ap (range_with_len low) a ∙ ap (λ (l : ℕ). range_with_len l n) b
 range_more low (suc m) n =
     let a : suc m + n ≡ suc (m + n) = omega arith in
