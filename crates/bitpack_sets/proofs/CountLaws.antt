@@ -135,7 +135,7 @@ all_rise low (suc n) =
     let e : (low + 1) + n ≡ low + suc n = omega arith in
     (omega arith, subst (λ (h : ℕ). IsRising (low + 1) h (range_with_len (low + 1) n)) e (all_rise (low + 1) n))
 
-full_rise : IsRising 0 256 (range_with_len 0 256)
+pub full_rise : IsRising 0 256 (range_with_len 0 256)
 full_rise = all_rise 0 256
 
 -- a full slice has no bytes

@@ -1,10 +1,12 @@
 -- The chunks of a set of any form. A position is the index of a chunk, or the index of an id in an array.
-use Rattle.std.specs.Prelude.{◌≡◌, ◌≢◌, ℕ, ◌+◌, ◌-◌, ◌*◌, ◌≤◌, false, ◌/◌, ◌%◌, ◌==◌, if◌then◌else◌, List, [], ◌∷◌, map, length, take, drop}
+use Rattle.std.specs.Prelude.{◌≡◌, ◌≢◌, ℕ, ◌+◌, ◌-◌, ◌*◌, ◌<◌, ◌≤◌, true, false, ◌/◌, ◌%◌, ◌==◌, if◌then◌else◌, List, [], ◌∷◌, map, length, take, drop}
 use Rattle.std.specs.List.{range_with_len}
 use Rattle.bitpack_sets.specs.Directory.{chunk_at, ids_of_chunks}
 use Rattle.bitpack_sets.specs.Reads.{has}
 use Rattle.bitpack_sets.specs.Slices.{pairs_of, quads_of}
+use Rattle.bitpack_sets.specs.Bitmaps.{has_bit}
 use Rattle.bitpack_sets.specs.declared.chunks.Chunks.{Chunks}
+use Rattle.bitpack_sets.specs.declared.finding.Known.{Known}
 
 -- the low 16 bits of integers of two or of four bytes
 abbrev pub lows_of : ℕ → List ℕ → List ℕ
@@ -31,7 +33,7 @@ first_key (x ∷ xs) = x / 65536
 abbrev pub places : Chunks → ℕ
 places set = if set.count == 0 then length set.rest.now / 4 else set.count
 
--- the ids of a key are between two positions, and those of lower keys are before these
+-- the ids of a key are between two positions, and no id of this key or a higher one is before them
 pub record AreBetween (set : Chunks) (key place end : ℕ) : Type 0 where
   pub later : place ≤ end
   pub within : end ≤ places set
@@ -39,3 +41,8 @@ pub record AreBetween (set : Chunks) (key place end : ℕ) : Type 0 where
   pub passed : (x : ℕ) → key * 65536 ≤ x → has x (ids_from set 0) ≡ has x (ids_from set place)
   pub own : (x : ℕ) → x / 65536 ≡ key → has x (ids_from set place) ≡ has (x % 65536) (lows_between set place end)
   pub none : (x : ℕ) → x / 65536 ≡ key → has x (ids_from set end) ≡ false
+
+-- what is known of a set while ids are looked up: between which positions the ids of a key are, and their bitmap, if it is loaded
+pub record Knows (set : Chunks) (known : Known) : Type 0 where
+  pub between : AreBetween set known.key known.place known.end
+  pub bits : known.loaded ≡ true → (x : ℕ) → x < 65536 → has_bit known.words x ≡ has x (lows_between set known.place known.end)

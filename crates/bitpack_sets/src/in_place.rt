@@ -9,7 +9,7 @@ ghost use Rattle.bitpack_sets.specs.Sets.{IsRising};
 ghost use Rattle.bitpack_sets.specs.Slices.{first_fall};
 
 use crate::encoding::order::first_unsorted;
-use crate::finding::{find_first, find_next};
+use crate::finding::Known;
 use crate::id_set::{IdSet, ROOM};
 use crate::reserved::append_zeros;
 use crate::set_error::SetError;
@@ -69,11 +69,10 @@ fn count_shared(values: &[u32], set: &IdSet) -> usize
 {
     let mut room = [0; ROOM];
     let chunks = set.chunks(&mut room);
-    let mut found = find_first(&chunks);
+    let mut known = Known::new(&chunks);
     let mut count = 0;
-    for id in values {
-        found = find_next(&chunks, found, *id >> 16);
-        count += chunks.has_between(found.place, found.end, *id) as usize;
+    for index in 0..values.len() {
+        count += known.has_at(&chunks, values, index) as usize;
     }
     count
 }
@@ -142,13 +141,12 @@ fn keep(values: &mut [u32], set: &IdSet, there: bool) -> usize
 {
     let mut room = [0; ROOM];
     let chunks = set.chunks(&mut room);
-    let mut found = find_first(&chunks);
+    let mut known = Known::new(&chunks);
     let mut kept = 0;
     for index in 0..values.len() {
-        let id = values[index];
-        found = find_next(&chunks, found, id >> 16);
-        values[kept] = id;
-        kept += (chunks.has_between(found.place, found.end, id) == there) as usize;
+        let has = known.has_at(&chunks, values, index);
+        values[kept] = values[index];
+        kept += (has == there) as usize;
     }
     kept
 }

@@ -1,5 +1,4 @@
-use Rattle.std.proofs.Common.{◌≡◌, ◌<◌, ◌∙◌, ℕ, ap, get_or, length, arith, subst, sym}
-use Rattle.bitpack_sets.specs.Chunks.{AreBetween}
+use Rattle.std.proofs.Common.{◌≡◌, ◌<◌, ◌∙◌, ℕ, ap, get_or, length, arith}
 use Rattle.bitpack_sets.specs.Opened.{ids}
 use Rattle.bitpack_sets.specs.Reads.{has}
 use Rattle.bitpack_sets.proofs.PlacedLaws.{keep_more}
@@ -11,10 +10,8 @@ loop-index-preserved c =
     let test = c.loop-index-test.true in
     let less : c.loop-index.index < length c.args.values.now = omega arith in
     let id : ℕ = get_or c.loop-index.values c.loop-index.index 0 in
-    let told : c.has_between.result ≡ has id (ids c.args.set.now) = c.has_between.ensures ∙ ap (has id) c.chunks-chunks.ensures in
+    let told : c.has_at-has.result ≡ has id (ids c.args.set.now) = c.has_at-has.ensures.has ∙ ap (has id) c.chunks-chunks.ensures in
     record {
-      kept = keep_more c.args.there c.has_between.result (ids c.args.set.now) _ _ _ _ c.loop-index.invariant.kept less told;
-      found =
-          subst (λ (key : ℕ). AreBetween c.chunks-chunks.result key c.find_next-found.result.place c.find_next-found.result.end) (sym c.find_next-found.ensures.key)
-          c.find_next-found.ensures.found;
+      kept = keep_more c.args.there c.has_at-has.result (ids c.args.set.now) _ _ _ _ c.loop-index.invariant.kept less told;
+      knows = c.has_at-has.ensures.known;
     }

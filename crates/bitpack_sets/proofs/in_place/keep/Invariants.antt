@@ -1,4 +1,4 @@
-use Rattle.bitpack_sets.specs.Chunks.{AreBetween}
+use Rattle.bitpack_sets.specs.Chunks.{Knows}
 use Rattle.bitpack_sets.specs.Opened.{ids}
 use Rattle.bitpack_sets.proofs.PlacedLaws.{IsKept, keeps}
 use Rattle.bitpack_sets.proofs.in_place.keep.Given as goal
@@ -6,5 +6,5 @@ use Rattle.bitpack_sets.proofs.in_place.keep.Given as goal
 abbrev pub invariant-loop-index : goal.invariant-loop-index
 invariant-loop-index l = record {
   kept : IsKept (keeps l.there (ids l.fn.set)) l.initial.values l.values l.kept l.index;
-  found : AreBetween l.chunks l.found.key l.found.place l.found.end;
+  knows : Knows l.chunks l.known;
 }
