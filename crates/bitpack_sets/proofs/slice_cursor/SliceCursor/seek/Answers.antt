@@ -13,7 +13,7 @@ pub returns-then-least-self-clause-left : goal.returns-then-least-self-clause-le
 returns-then-least-self-clause-left c =
     let cursor = c.args.self.now in
     let set = cursor.later.set in
-    stayed cursor.slice (c.args.target / 256) cursor.position (ids set) (ids_are_read set.bytes.now set.are_bytes set.states.none).0.rising cursor.before c.if-least-self.true
+    stayed cursor.slice (c.args.target / 256) cursor.position (ids set) (ids_are_read set.bytes.now set.are_bytes set.states.none).0.rising cursor.before (omega (arith, c.if-least-self.true))
 
 pub skip_to-requires-clause-within : goal.skip_to-requires-clause-within
 skip_to-requires-clause-within c =
