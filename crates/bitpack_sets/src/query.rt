@@ -41,17 +41,18 @@ impl<'a> Query<'a> {
     ghost use Rattle.bitpack_sets.specs.Queried.{left};
     ghost use Rattle.bitpack_sets.specs.Queries.{answer_of, ids_from};
 
-    /// A query over sets. Several steps may name one set, and up to 64 operands may wait at once: as many as a tree of 64 sets needs, however it
-    /// is written.
+    /// A query over sets. Several steps may name one set, and up to 64 operands may wait at once: enough for a tree of 64 sets in any form.
     ///
-    /// It tests the steps, and allocates once: 8 KB for each operand that waits at once. Fails with the first fault of the steps, or with `Memory`.
+    /// It tests the steps, and allocates once: 8 KB for each operand that waits at once. Fails with the first fault of the steps, or with
+    /// `Memory`.
     pub fn new(
         alloc: Global,
         sets: &'a [IdSet<'a>],
         steps: &'a [Step],
     ) -> Result<Query<'a>, QueryError>
         // The first fault of the steps, or `Memory` if they have none.
-        ensures err { IfErr result (λ e. MatchOption (fault_from 64 (length sets.now) 0 0 steps.now) (e ≡ QueryError.Memory) (λ fault. e ≡ fault)) }
+        ensures err { IfErr result (λ e. MatchOption (fault_from 64 (length sets.now) 0 0 steps.now)
+            (e ≡ QueryError.Memory) (λ fault. e ≡ fault)) }
         ensures sound { IfOk result (λ _. fault_from 64 (length sets.now) 0 0 steps.now ≡ None) }
         // All ids are left.
         ensures all { IfOk result (λ query. left query ≡ answer_of sets.now steps.now) }
@@ -71,7 +72,7 @@ impl<'a> Query<'a> {
         })
     }
 
-    /// Writes the next ids at the start of the slice, in increasing order, as many as there are and it has room for, and returns how many it
+    /// Writes the next ids at the start of the slice, in increasing order, as many as there are and it has room for. Returns how many it
     /// wrote. What the slice holds after them says nothing.
     pub fn next_ids(&mut self, out: &mut [u32]) -> usize
         ensures len { result ≡ min (length out.old) (length (left self.old)) }
