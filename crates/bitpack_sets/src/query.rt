@@ -18,8 +18,8 @@ use std::alloc::Global;
 /// How many ids there can be.
 const END: u64 = 1 << 32;
 
-/// The ids of a query that did not come yet. It keeps a bitmap of 8 KB for each operand that waits at once, and reads of the sets only chunks
-/// that the answer can have ids of.
+/// The ids that are left of a query. It has a bitmap of 8 KB for each operand that waits at once, and reads the bodies of a key only if the
+/// answer can have ids of it.
 #[derive(Drop)]
 pub struct Query<'a> {
     sets: &'a [IdSet<'a>],
@@ -27,7 +27,7 @@ pub struct Query<'a> {
     bitmaps: Vec<[u64; 1024]>,
     // The least id that can still come.
     next: u64,
-    // Of which key the first bitmap has ids, and of which high bytes.
+    // The key and the high bytes whose ids the first bitmap has.
     key: u32,
     highs: [u64; 4],
     ghost within: { next ≤ 2 ^ 32 },
@@ -41,16 +41,18 @@ impl<'a> Query<'a> {
     ghost use Rattle.bitpack_sets.specs.Queried.{left};
     ghost use Rattle.bitpack_sets.specs.Queries.{answer_of, ids_from};
 
-    /// A query over sets. Its steps are tested, and what it needs is allocated once: 8 KB for each operand that waits at once, 512 KB at most.
+    /// A query over sets. Several steps may name one set, and up to 64 operands may wait at once: enough for a tree of 64 sets in any form.
     ///
-    /// Fails with the first fault of the steps, or with `Memory`.
+    /// It tests the steps, and allocates once: 8 KB for each operand that waits at once. Fails with the first fault of the steps, or with
+    /// `Memory`.
     pub fn new(
         alloc: Global,
         sets: &'a [IdSet<'a>],
         steps: &'a [Step],
     ) -> Result<Query<'a>, QueryError>
         // The first fault of the steps, or `Memory` if they have none.
-        ensures err { IfErr result (λ e. MatchOption (fault_from 64 (length sets.now) 0 0 steps.now) (e ≡ QueryError.Memory) (λ fault. e ≡ fault)) }
+        ensures err { IfErr result (λ e. MatchOption (fault_from 64 (length sets.now) 0 0 steps.now)
+            (e ≡ QueryError.Memory) (λ fault. e ≡ fault)) }
         ensures sound { IfOk result (λ _. fault_from 64 (length sets.now) 0 0 steps.now ≡ None) }
         // All ids are left.
         ensures all { IfOk result (λ query. left query ≡ answer_of sets.now steps.now) }
@@ -70,8 +72,8 @@ impl<'a> Query<'a> {
         })
     }
 
-    /// Writes the next ids at the start of the slice, as many as there are and it has room for, and returns how many it wrote. What the slice
-    /// holds after them says nothing.
+    /// Writes the next ids at the start of the slice, in increasing order, as many as there are and it has room for. Returns how many it
+    /// wrote. What the slice holds after them says nothing.
     pub fn next_ids(&mut self, out: &mut [u32]) -> usize
         ensures len { result ≡ min (length out.old) (length (left self.old)) }
         ensures ids { take result out.new ++ left self.new ≡ left self.old }
@@ -83,7 +85,7 @@ impl<'a> Query<'a> {
         at
     }
 
-    /// Passes over the ids below one.
+    /// Passes over the ids that are left and below `target`. A target that was passed before changes nothing.
     pub fn seek(&mut self, target: u32)
         ensures { left self.new ≡ ids_from target (left self.old) }
     {

@@ -61,7 +61,8 @@ pub(crate) fn all_highs(sets: &[IdSet], steps: &[Step], key: u32) -> [u64; 4]
     all[0]
 }
 
-/// Leaves the ids of the answer that have this key, and one of these high bytes, in the first bitmap. There is one for each operand that waits.
+/// Leaves the ids of the answer that have this key, and one of these high bytes, in the first bitmap. There is one for each operand that
+/// waits.
 pub(crate) fn load_answer(
     sets: &[IdSet],
     steps: &[Step],
@@ -72,7 +73,8 @@ pub(crate) fn load_answer(
     requires sound { fault_from (length bitmaps.old) (length sets.now) 0 0 steps.now ≡ None }
     requires key { key < NO_KEY }
     requires highs { IsRising 0 256 highs.now }
-    ensures { (x : ℕ) → x / 65536 ≡ key → has (x % 65536 / 256) highs.now ≡ true → has_bit (slice_index_or bitmaps.new 0 []) (x % 65536) ≡ is_found sets.now steps.now x }
+    ensures { (x : ℕ) → x / 65536 ≡ key → has (x % 65536 / 256) highs.now ≡ true
+        → has_bit (slice_index_or bitmaps.new 0 []) (x % 65536) ≡ is_found sets.now steps.now x }
 {
     let mut depth = 0;
     for i in 0..steps.len() {
