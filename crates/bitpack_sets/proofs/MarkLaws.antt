@@ -10,6 +10,7 @@ use Rattle.std.proofs.lemmas.Nat.Bits.{and_pow, bit_at-lt, bit_at-pow_other, bit
 use Rattle.std.proofs.lemmas.Nat.{one_shl, or_lt}
 use Rattle.std.specs.Int.Bits.{or_shifted_r}
 use Rattle.std.proofs.lemmas.Simd.{bit_mask_l, chunk-drop, get_or-chunk, pick_l-range_with_len, get_or-zip2, length-zip2, mask_l-lt, mask_l-mod, tops_compared}
+use Rattle.std.proofs.Math.Bool.{or_comm}
 use Rattle.bitpack_sets.proofs.BitmapLaws.{has_more}
 use Rattle.bitpack_sets.proofs.CombineLaws.{word_or}
 use Rattle.bitpack_sets.proofs.ReadLaws.{eqb_same, has_append}
@@ -135,6 +136,33 @@ four_taken x others at j k l lt e f g =
     ap (λ (n : ℕ). ((o at || o n) || o k) || o l) e ∙ ap (λ (n : ℕ). ((o at || o (min (at + 1) (length others - 1))) || o n) || o l) f
     ∙ ap (λ (n : ℕ). ((o at || o (min (at + 1) (length others - 1))) || o (min (at + 2) (length others - 1))) || o n) g ∙ four_marked x others at lt
 
+all_or : (a b c d o : Bool) → (d || (c || (b || (a || o)))) ≡ ((((a || b) || c) || d) || o)
+all_or true true true true o = refl
+all_or true true true false o = refl
+all_or true true false true o = refl
+all_or true true false false o = refl
+all_or true false true true o = refl
+all_or true false true false o = refl
+all_or true false false true o = refl
+all_or true false false false o = refl
+all_or false true true true o = refl
+all_or false true true false o = refl
+all_or false true false true o = refl
+all_or false true false false o = refl
+all_or false false true true o = refl
+all_or false false true false o = refl
+all_or false false false true o = refl
+all_or false false false false o = refl
+
+-- four are added to others
+pub four_added : (x : ℕ) (others : List ℕ) (at j k l : ℕ) (old : Bool) → at < length others
+    → j ≡ min (at + 1) (length others - 1) → k ≡ min (at + 2) (length others - 1) → l ≡ min (at + 3) (length others - 1)
+    → (eqb x (get_or others l 0) || (eqb x (get_or others k 0) || (eqb x (get_or others j 0) || (eqb x (get_or others at 0) || old))))
+    ≡ (old || has x (take 4 (drop at others)))
+four_added x others at j k l old lt e f g =
+    all_or (eqb x (get_or others at 0)) (eqb x (get_or others j 0)) (eqb x (get_or others k 0)) (eqb x (get_or others l 0)) old
+    ∙ ap (λ (b : Bool). b || old) (four_taken x others at j k l lt e f g) ∙ or_comm (has x (take 4 (drop at others))) old
+
 -- the bits of four marks
 pub four_bits : (a b c d i : ℕ) (p q r s : Bool) → eqb (bit_at a i) 1 ≡ p → eqb (bit_at b i) 1 ≡ q → eqb (bit_at c i) 1 ≡ r → eqb (bit_at d i) 1 ≡ s
     → eqb (bit_at (bit_or (bit_or (bit_or a b) c) d) i) 1 ≡ (((p || q) || r) || s)
@@ -242,3 +270,13 @@ halves_marked first last i bytes P size a b small f l = elim (cases_lt i 16) [
       ap (λ (n : ℕ). eqb n 1) (last_half first last i a b more) ∙ l (i - 16) (omega (arith, small, more))
       ∙ ap P (picked bytes 16 (i - 16) size (omega arith) (omega (arith, small, more)) ∙ ap (λ (k : ℕ). get_or bytes k 0) (omega (arith, more)))
 ]
+
+-- ---- bits of four bytes more
+
+pub four_set : (x : ℕ) (bytes : List ℕ) (step : ℕ) (old new : Bool) → new ≡ (old || has x (take 4 (drop (4 * step) bytes))) → old ≡ has x (take (4 * step) bytes)
+    → new ≡ has x (take (4 * (step + 1)) bytes)
+four_set x bytes step old new e before =
+    let next : 4 * step + 4 ≡ 4 * (step + 1) = omega arith in
+    e ∙ ap (λ (b : Bool). b || has x (take 4 (drop (4 * step) bytes))) before
+    ∙ sym (has_append x (take (4 * step) bytes) (take 4 (drop (4 * step) bytes)))
+    ∙ ap (has x) (sym (take-add (4 * step) 4 bytes)) ∙ ap (λ (n : ℕ). has x (take n bytes)) next
