@@ -1,16 +1,19 @@
 -- The marks of bytes that are among others.
-use Rattle.std.proofs.Common.{◌≡◌, ◌≢◌, ℕ, zero, suc, ◌+◌, ◌*◌, ◌%◌, ◌^◌, ◌-◌, ◌<◌, ◌≤◌, Bool, true, false, ◌||◌, ◌&&◌, eqb, ltb, List, ◌++◌, length-append, drop, map, take, length, refl, sym, ap, ◌∙◌, arith, cond, inl, inr, subst, get_or, bit_and, bit_or, min, max, eq-eqb, pow_pos, w8}
+use Rattle.std.proofs.Common.{◌≡◌, ◌≢◌, ℕ, zero, suc, ◌+◌, ◌*◌, ◌%◌, ◌^◌, ◌-◌, ◌<◌, ◌≤◌, Bool, true, false, ◌||◌, ◌&&◌, eqb, ltb, List, [], ◌∷◌, ◌++◌, length-append, length-drop, take-add, drop, map, take, length, refl, sym, ap, ◌∙◌, arith, cond, inl, inr, subst, get_or, bit_and, bit_or, min, max, eq-eqb, pow_pos, w8}
 use lib.Lanes.{chunk, mask_l, pick_l, top, zip2}
 use mir.Val.{bool_byte}
 use Rattle.std.specs.Int.{bit_at}
 use Rattle.std.specs.List.{range_with_len}
 use Rattle.std.proofs.lemmas.Bool.{cases_eq, cases_lt, le-ltb, lt-ltb, ne_eqb}
-use Rattle.std.proofs.lemmas.List.{append-nil, drop_all, get_or_append_left, get_or-map, length-map}
+use Rattle.std.proofs.lemmas.List.{append-nil, drop_all, get_or_append_left, get_or-drop, take_all, get_or-map, length-map}
 use Rattle.std.proofs.lemmas.Nat.Bits.{and_pow, bit_at-lt, bit_at-pow_other, bit_at-pow_same, bit_at-zero, bit_at_and, bit_at_cat_high, bit_at_cat_low, bit_at_ones, bit_at_ones_above, bit_at_or}
 use Rattle.std.proofs.lemmas.Nat.{one_shl, or_lt}
 use Rattle.std.specs.Int.Bits.{or_shifted_r}
 use Rattle.std.proofs.lemmas.Simd.{bit_mask_l, chunk-drop, get_or-chunk, pick_l-range_with_len, get_or-zip2, length-zip2, mask_l-lt, mask_l-mod, tops_compared}
+use Rattle.std.proofs.Math.Bool.{or_comm}
 use Rattle.bitpack_sets.proofs.BitmapLaws.{has_more}
+use Rattle.bitpack_sets.proofs.CombineLaws.{word_or}
+use Rattle.bitpack_sets.proofs.ReadLaws.{eqb_same, has_append}
 use Rattle.bitpack_sets.specs.Reads.{has}
 
 -- ---- bits as tests
@@ -37,25 +40,150 @@ cut_bit (suc (suc a)) h = absurd (omega arith)
 abbrev pub marks_of : ℕ → List ℕ → ℕ
 marks_of y bytes = mask_l (map (λ x. eqb x y) bytes)
 
-pub marks_small : (bytes : List ℕ) (y marks m : ℕ) → length bytes ≡ 32 → m ≡ marks_of y bytes → marks < 2 ^ 32 → bit_or marks m < 2 ^ 32
-marks_small bytes y marks m size e small =
+pub marks_small : (bytes : List ℕ) (y m : ℕ) → length bytes ≡ 32 → m ≡ marks_of y bytes → m < 2 ^ 32
+marks_small bytes y m size e =
     let long : length (map (λ x. eqb x y) bytes) ≡ 32 = length-map bytes (λ x. eqb x y) ∙ size in
     let few : marks_of y bytes < 2 ^ 32 = subst (λ (n : ℕ). marks_of y bytes < 2 ^ n) long (mask_l-lt (map (λ x. eqb x y) bytes)) in
-    or_lt 32 marks m small (subst (λ (n : ℕ). n < 2 ^ 32) (sym e) few)
+    subst (λ (n : ℕ). n < 2 ^ 32) (sym e) few
 
 mark_is : (bytes : List ℕ) (y i : ℕ) → i < length bytes → bit_at (marks_of y bytes) i ≡ cond (eqb (get_or bytes i 0) y) 1 0
 mark_is bytes y i h = bit_mask_l (map (λ x. eqb x y) bytes) i ∙ ap (λ (b : Bool). cond b 1 0) (get_or-map (λ x. eqb x y) bytes i 0 false h)
 
--- one other byte more
-pub marks_more : (bytes others : List ℕ) (n marks m : ℕ) → length bytes ≡ 32 → n < length others → m ≡ marks_of (get_or others n 0) bytes
-    → ((i : ℕ) → i < 32 → eqb (bit_at marks i) 1 ≡ has (get_or bytes i 0) (take n others))
-    → (i : ℕ) → i < 32 → eqb (bit_at (bit_or marks m) i) 1 ≡ has (get_or bytes i 0) (take (n + 1) others)
-marks_more bytes others n marks m size h e before i small =
+mark_of : (b : Bool) → eqb (cond b 1 0) 1 ≡ b
+mark_of true = refl
+mark_of false = refl
+
+pub mark_told : (bytes : List ℕ) (y m i : ℕ) → length bytes ≡ 32 → m ≡ marks_of y bytes → i < 32 → eqb (bit_at m i) 1 ≡ eqb (get_or bytes i 0) y
+mark_told bytes y m i size e lt =
+    ap (λ (k : ℕ). eqb (bit_at k i) 1) e ∙ ap (λ (b : ℕ). eqb b 1) (mark_is bytes y i (omega (arith, lt, size))) ∙ mark_of (eqb (get_or bytes i 0) y)
+
+-- ---- four others, the last again if they are fewer
+
+four_or : (a b c d : Bool) → (((a || b) || c) || d) ≡ (d || (c || (b || (a || false))))
+four_or true true true true = refl
+four_or true true true false = refl
+four_or true true false true = refl
+four_or true true false false = refl
+four_or true false true true = refl
+four_or true false true false = refl
+four_or true false false true = refl
+four_or true false false false = refl
+four_or false true true true = refl
+four_or false true true false = refl
+four_or false true false true = refl
+four_or false true false false = refl
+four_or false false true true = refl
+four_or false false true false = refl
+four_or false false false true = refl
+four_or false false false false = refl
+
+no_more : (e q r : Bool) → (e || r) ≡ r → (e || (q || r)) ≡ (q || r)
+no_more true true r ih = refl
+no_more false true r ih = refl
+no_more e false r ih = ih
+
+again : (q r : Bool) → (q || (q || r)) ≡ (q || r)
+again true r = refl
+again false r = refl
+
+-- an element is there already
+has_one : (x : ℕ) (xs : List ℕ) (i : ℕ) → i < length xs → (eqb x (get_or xs i 0) || has x xs) ≡ has x xs
+has_one x [] i lt = absurd (omega arith)
+has_one x (y ∷ xs) zero lt = ap (λ (b : Bool). b || (eqb y x || has x xs)) (eqb_same x y y x sym sym) ∙ again (eqb y x) (has x xs)
+has_one x (y ∷ xs) (suc i) lt = no_more (eqb x (get_or xs i 0)) (eqb y x) (has x xs) (has_one x xs i (omega arith))
+
+-- one more, or the last again
+one_more : (x : ℕ) (xs : List ℕ) (n : ℕ) → 0 < length xs → (eqb x (get_or xs (min n (length xs - 1)) 0) || has x (take n xs)) ≡ has x (take (n + 1) xs)
+one_more x xs n some = elim (cases_lt n (length xs)) [
+  | inl less ↦ (let e : min n (length xs - 1) ≡ n = omega (arith, less) in
+      ap (λ (k : ℕ). eqb x (get_or xs k 0) || has x (take n xs)) e ∙ has_more x xs n less)
+  | inr more ↦ (let e : min n (length xs - 1) ≡ length xs - 1 = omega (arith, more, some) in
+      ap (λ (k : ℕ). eqb x (get_or xs k 0) || has x (take n xs)) e ∙ ap (λ (l : List ℕ). eqb x (get_or xs (length xs - 1) 0) || has x l) (take_all n xs more)
+      ∙ has_one x xs (length xs - 1) (omega (arith, some)) ∙ ap (has x) (sym (take_all (n + 1) xs (omega (arith, more)))))
+]
+
+one_last : (others : List ℕ) (at k : ℕ) → at < length others → get_or others (min (at + k) (length others - 1)) 0 ≡ get_or (drop at others) (min k (length (drop at others) - 1)) 0
+one_last others at k lt =
+    let size = length-drop at others in
+    let e : min (at + k) (length others - 1) ≡ at + min k (length (drop at others) - 1) = omega (arith, lt, size) in
+    ap (λ (i : ℕ). get_or others i 0) e ∙ sym (get_or-drop at others (min k (length (drop at others) - 1)) 0)
+
+four_marked : (x : ℕ) (others : List ℕ) (at : ℕ) → at < length others
+    → (((eqb x (get_or others at 0) || eqb x (get_or others (min (at + 1) (length others - 1)) 0)) || eqb x (get_or others (min (at + 2) (length others - 1)) 0))
+    || eqb x (get_or others (min (at + 3) (length others - 1)) 0))
+    ≡ has x (take 4 (drop at others))
+four_marked x others at lt =
+    let xs : List ℕ = drop at others in
+    let some : 0 < length xs = omega (arith, lt, length-drop at others) in
+    let p : ℕ → Bool = λ k. eqb x (get_or xs (min k (length xs - 1)) 0) in
+    let first : get_or others at 0 ≡ get_or xs (min 0 (length xs - 1)) 0 =
+    ap (λ (i : ℕ). get_or others i 0) (omega (arith, lt)) ∙ one_last others at 0 lt in
+    ap (λ (n : ℕ). ((eqb x n || eqb x (get_or others (min (at + 1) (length others - 1)) 0)) || eqb x (get_or others (min (at + 2) (length others - 1)) 0)) || eqb x (get_or others (min (at + 3) (length others - 1)) 0)) first
+    ∙ ap (λ (n : ℕ). ((p 0 || eqb x n) || eqb x (get_or others (min (at + 2) (length others - 1)) 0)) || eqb x (get_or others (min (at + 3) (length others - 1)) 0)) (one_last others at 1 lt)
+    ∙ ap (λ (n : ℕ). ((p 0 || p 1) || eqb x n) || eqb x (get_or others (min (at + 3) (length others - 1)) 0)) (one_last others at 2 lt)
+    ∙ ap (λ (n : ℕ). ((p 0 || p 1) || p 2) || eqb x n) (one_last others at 3 lt)
+    ∙ four_or (p 0) (p 1) (p 2) (p 3)
+    ∙ ap (λ (b : Bool). p 3 || (p 2 || (p 1 || b))) (one_more x xs 0 some)
+    ∙ ap (λ (b : Bool). p 3 || (p 2 || b)) (one_more x xs 1 some)
+    ∙ ap (λ (b : Bool). p 3 || b) (one_more x xs 2 some)
+    ∙ one_more x xs 3 some
+
+pub four_taken : (x : ℕ) (others : List ℕ) (at j k l : ℕ) → at < length others
+    → j ≡ min (at + 1) (length others - 1) → k ≡ min (at + 2) (length others - 1) → l ≡ min (at + 3) (length others - 1)
+    → (((eqb x (get_or others at 0) || eqb x (get_or others j 0)) || eqb x (get_or others k 0)) || eqb x (get_or others l 0)) ≡ has x (take 4 (drop at others))
+four_taken x others at j k l lt e f g =
+    let o : ℕ → Bool = λ i. eqb x (get_or others i 0) in
+    ap (λ (n : ℕ). ((o at || o n) || o k) || o l) e ∙ ap (λ (n : ℕ). ((o at || o (min (at + 1) (length others - 1))) || o n) || o l) f
+    ∙ ap (λ (n : ℕ). ((o at || o (min (at + 1) (length others - 1))) || o (min (at + 2) (length others - 1))) || o n) g ∙ four_marked x others at lt
+
+all_or : (a b c d o : Bool) → (d || (c || (b || (a || o)))) ≡ ((((a || b) || c) || d) || o)
+all_or true true true true o = refl
+all_or true true true false o = refl
+all_or true true false true o = refl
+all_or true true false false o = refl
+all_or true false true true o = refl
+all_or true false true false o = refl
+all_or true false false true o = refl
+all_or true false false false o = refl
+all_or false true true true o = refl
+all_or false true true false o = refl
+all_or false true false true o = refl
+all_or false true false false o = refl
+all_or false false true true o = refl
+all_or false false true false o = refl
+all_or false false false true o = refl
+all_or false false false false o = refl
+
+-- four are added to others
+pub four_added : (x : ℕ) (others : List ℕ) (at j k l : ℕ) (old : Bool) → at < length others
+    → j ≡ min (at + 1) (length others - 1) → k ≡ min (at + 2) (length others - 1) → l ≡ min (at + 3) (length others - 1)
+    → (eqb x (get_or others l 0) || (eqb x (get_or others k 0) || (eqb x (get_or others j 0) || (eqb x (get_or others at 0) || old))))
+    ≡ (old || has x (take 4 (drop at others)))
+four_added x others at j k l old lt e f g =
+    all_or (eqb x (get_or others at 0)) (eqb x (get_or others j 0)) (eqb x (get_or others k 0)) (eqb x (get_or others l 0)) old
+    ∙ ap (λ (b : Bool). b || old) (four_taken x others at j k l lt e f g) ∙ or_comm (has x (take 4 (drop at others))) old
+
+-- the bits of four marks
+pub four_bits : (a b c d i : ℕ) (p q r s : Bool) → eqb (bit_at a i) 1 ≡ p → eqb (bit_at b i) 1 ≡ q → eqb (bit_at c i) 1 ≡ r → eqb (bit_at d i) 1 ≡ s
+    → eqb (bit_at (bit_or (bit_or (bit_or a b) c) d) i) 1 ≡ (((p || q) || r) || s)
+four_bits a b c d i p q r s e f g h =
+    word_or (bit_or (bit_or a b) c) d i
+    ∙ ap (λ (t : Bool). t || eqb (bit_at d i) 1) (word_or (bit_or a b) c i ∙ ap (λ (t : Bool). t || eqb (bit_at c i) 1) (word_or a b i))
+    ∙ ap (λ (t : Bool). ((t || eqb (bit_at b i) 1) || eqb (bit_at c i) 1) || eqb (bit_at d i) 1) e
+    ∙ ap (λ (t : Bool). ((p || t) || eqb (bit_at c i) 1) || eqb (bit_at d i) 1) f
+    ∙ ap (λ (t : Bool). ((p || q) || t) || eqb (bit_at d i) 1) g ∙ ap (λ (t : Bool). ((p || q) || r) || t) h
+
+-- four others more
+pub marks_more : (bytes others : List ℕ) (step marks m : ℕ)
+    → ((i : ℕ) → i < 32 → eqb (bit_at m i) 1 ≡ has (get_or bytes i 0) (take 4 (drop (4 * step) others)))
+    → ((i : ℕ) → i < 32 → eqb (bit_at marks i) 1 ≡ has (get_or bytes i 0) (take (4 * step) others))
+    → (i : ℕ) → i < 32 → eqb (bit_at (bit_or marks m) i) 1 ≡ has (get_or bytes i 0) (take (4 * (step + 1)) others)
+marks_more bytes others step marks m four before i small =
     let x = get_or bytes i 0 in
-    let y = get_or others n 0 in
-    ap (λ (b : ℕ). eqb b 1) (bit_at_or marks m i ∙ ap (λ (k : ℕ). max (bit_at marks i) (bit_at k i)) e ∙ ap (max (bit_at marks i)) (mark_is bytes y i (omega arith)))
-    ∙ or_bit (bit_at marks i) (eqb x y) (bit_at-lt marks i)
-    ∙ ap (λ (b : Bool). eqb x y || b) (before i small) ∙ has_more x others n h
+    let e : 4 * step + 4 ≡ 4 * (step + 1) = omega arith in
+    word_or marks m i ∙ ap (λ (b : Bool). b || eqb (bit_at m i) 1) (before i small) ∙ ap (λ (b : Bool). has x (take (4 * step) others) || b) (four i small)
+    ∙ sym (has_append x (take (4 * step) others) (take 4 (drop (4 * step) others)))
+    ∙ ap (has x) (sym (take-add (4 * step) 4 others)) ∙ ap (λ (n : ℕ). has x (take n others)) e
 
 -- only of the first bytes
 pub marks_first : (marks count i : ℕ) (b : Bool) → count < 32 → eqb (bit_at marks i) 1 ≡ b → eqb (bit_at (bit_and marks (1 * 2 ^ count % 2 ^ 32 - 1)) i) 1 ≡ (ltb i count && b)
@@ -80,10 +208,6 @@ one_of (suc (suc b)) p h some = absurd (omega arith)
 
 one_there : (n k : ℕ) → eqb (bit_and n (2 ^ k)) (2 ^ k) ≡ eqb (bit_at n k) 1
 one_there n k = ap (λ (m : ℕ). eqb m (2 ^ k)) (and_pow n k) ∙ one_of (bit_at n k) (2 ^ k) (bit_at-lt n k) (pow_pos k)
-
-mark_of : (b : Bool) → eqb (cond b 1 0) 1 ≡ b
-mark_of true = refl
-mark_of false = refl
 
 module _ (found ones : List ℕ) (long : length found ≡ 16) (long' : length ones ≡ 16) where
   abbrev both : List ℕ
@@ -146,3 +270,13 @@ halves_marked first last i bytes P size a b small f l = elim (cases_lt i 16) [
       ap (λ (n : ℕ). eqb n 1) (last_half first last i a b more) ∙ l (i - 16) (omega (arith, small, more))
       ∙ ap P (picked bytes 16 (i - 16) size (omega arith) (omega (arith, small, more)) ∙ ap (λ (k : ℕ). get_or bytes k 0) (omega (arith, more)))
 ]
+
+-- ---- bits of four bytes more
+
+pub four_set : (x : ℕ) (bytes : List ℕ) (step : ℕ) (old new : Bool) → new ≡ (old || has x (take 4 (drop (4 * step) bytes))) → old ≡ has x (take (4 * step) bytes)
+    → new ≡ has x (take (4 * (step + 1)) bytes)
+four_set x bytes step old new e before =
+    let next : 4 * step + 4 ≡ 4 * (step + 1) = omega arith in
+    e ∙ ap (λ (b : Bool). b || has x (take 4 (drop (4 * step) bytes))) before
+    ∙ sym (has_append x (take (4 * step) bytes) (take 4 (drop (4 * step) bytes)))
+    ∙ ap (has x) (sym (take-add (4 * step) 4 bytes)) ∙ ap (λ (n : ℕ). has x (take n bytes)) next

@@ -5,7 +5,7 @@ use Rattle.std.specs.List.{filter, range_with_len}
 use Rattle.std.specs.Simd.Lanes.{Each1, chunk, put_chunk, zip2}
 use Rattle.std.proofs.Math.Seq.{take-append-add}
 use Rattle.std.proofs.lemmas.Bool.{and_parts, eqb-true, ltb-true}
-use Rattle.std.proofs.lemmas.List.{ext_get_or, get_or-map, get_or-take, length-map, length-take-le, map-append, take-take}
+use Rattle.std.proofs.lemmas.List.{ext_get_or, get_or-map, get_or-take, length-map, length-take-le, map-append, take-append-le, take-take}
 use Rattle.std.proofs.lemmas.Nat.Bits.{bit_at-lt, bit_at_and, bit_at_ones}
 use Rattle.std.proofs.lemmas.Nat.{shr-shr}
 use Rattle.std.proofs.lemmas.Simd.{Each1-from_get_or, Each1-get_or, SwzOk, SwzOk-from_below, get_or-chunk, get_or-swz_l_below, length-swz_l, map-map, swz_l, take_more_put_chunk, zip2_splat}
@@ -16,6 +16,7 @@ use Rattle.bitpack_sets.proofs.RaisedLaws.{map_raised}
 use Rattle.bitpack_sets.specs.Sets.{IsRising}
 use Rattle.bitpack_sets.specs.Slices.{AreRows, ones_from}
 use mir.Val.{Fits}
+use borrow.Rule.Slice.PartMut.{post_of, put_mid}
 
 -- a list begins with these numbers
 abbrev pub begins : List ℕ → List ℕ → Bool
@@ -227,3 +228,11 @@ chosen_more base i marks bytes =
     ∙ rising_agree 8 byte (λ j. g (8 * i + j)) (λ j. get_or (chunk (8 * i) 8 bytes) j 0) (ones_rise (bit_and (marks / 2 ^ (8 * i)) 255) 0 8)
     (λ j lt. sym (get_or-chunk (8 * i) 8 bytes j 0 lt))))
     ∙ map-append (λ j. base + j) (map g some) (map (λ j. get_or (chunk (8 * i) 8 bytes) j 0) byte)
+
+-- ---- a window that is written
+
+pub window_taken : (xs ys : List ℕ) (at k n : ℕ) → at ≤ length xs → n ≤ length ys → take (at + n) (put_mid at k xs ys) ≡ take at xs ++ take n ys
+window_taken xs ys at k n le few =
+    let size : length (take at xs) ≡ at = length-take-le at xs le in
+    ap (λ (m : ℕ). take (m + n) (put_mid at k xs ys)) (sym size) ∙ take-append-add (take at xs) (ys ++ post_of at k xs) n
+    ∙ ap (λ (l : List ℕ). take at xs ++ l) (take-append-le n ys (post_of at k xs) few)

@@ -2,12 +2,12 @@
 
 pub(crate) mod combining;
 
-ghost use Rattle.std.specs.Prelude.{◌≡◌, ℕ, ◌*◌, ◌<◌, ◌≤◌, length, slice_index, take};
+ghost use Rattle.std.specs.Prelude.{◌≡◌, ℕ, ◌+◌, ◌*◌, ◌<◌, ◌≤◌, length, slice_index, take};
 ghost use Rattle.std.proofs.Props.{props};
 ghost use Rattle.bitpack_sets.specs.Bitmaps.{has_bit};
 ghost use Rattle.bitpack_sets.specs.Operations.{those};
 ghost use Rattle.bitpack_sets.specs.Props.{slices_prop};
-ghost use Rattle.bitpack_sets.specs.Slices.{AreSlices, slices_len};
+ghost use Rattle.bitpack_sets.specs.Slices.{AreSlices, slice_len, slices_len};
 
 use crate::bitmap::marking::{counts_before, rank_of_bit, slice_bits, test_bit};
 use crate::slice::{Slice, byte_len};
@@ -82,9 +82,33 @@ fn fill_starts(counts: &[u8], starts: &mut [u16; 257])
     requires few { length counts.now ≤ 256 }
     ensures { (index : ℕ) → index < length counts.now → slice_index starts.new index ≡ slices_len (take index counts.now) }
 {
+    let sizes = sizes_of(counts);
     let mut start = 0;
     for index in 0..counts.len() {
         starts[index] = start;
-        start += byte_len(counts[index] as usize + 1) as u16;
+        start += sizes[index] as u16;
     }
+}
+
+/// How many bytes each slice has. Each count less 1 is given.
+///
+/// Apart from the sums, so that the compiler takes many sizes at a time.
+#[inline(always)]
+fn sizes_of(counts: &[u8]) -> [u8; 256]
+    requires few { length counts.now ≤ 256 }
+    ensures { (index : ℕ) → index < length counts.now → slice_index result index ≡ slice_len (slice_index counts.now index + 1) }
+{
+    let mut sizes = [0; 256];
+    for index in 0..counts.len() {
+        sizes[index] = size_of(counts[index]);
+    }
+    sizes
+}
+
+/// How many bytes a slice has, by its count less 1.
+#[inline(always)]
+fn size_of(less: u8) -> u8
+    ensures { result ≡ slice_len (less + 1) }
+{
+    if less == 255 { 0 } else { less.min(31) + 1 }
 }

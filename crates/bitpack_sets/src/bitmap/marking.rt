@@ -1,6 +1,6 @@
 //! Tests and sets bits.
 
-ghost use Rattle.std.specs.Prelude.{◌≡◌, ℕ, ◌*◌, ◌<◌, ◌≤◌, ◌||◌, ◌==◌, false, length, slice_index, true};
+ghost use Rattle.std.specs.Prelude.{◌≡◌, ℕ, ◌*◌, ◌<◌, ◌≤◌, ◌||◌, ◌==◌, false, length, slice_index, true, drop, take};
 ghost use Rattle.bitpack_sets.specs.Bitmaps.{has_bit};
 ghost use Rattle.bitpack_sets.specs.Operations.{those};
 ghost use Rattle.bitpack_sets.specs.Reads.{has};
@@ -98,8 +98,21 @@ fn byte_bits(bytes: &[u8]) -> [u64; 4]
     ensures { (i : ℕ) → i < 256 → has_bit result i ≡ has i bytes.now }
 {
     let mut bits = [0; 4];
-    for byte in bytes {
-        set_bit(&mut bits, *byte as usize);
+    for step in 0..bytes.len().div_ceil(4) {
+        set_four(&mut bits, bytes, 4 * step);
     }
     bits
+}
+
+/// Sets the bits of four bytes from an index on. If there are fewer than four, the last is taken again.
+#[inline(always)]
+fn set_four(bits: &mut [u64; 4], bytes: &[u8], at: usize)
+    requires { at < length bytes.now }
+    ensures { (i : ℕ) → has_bit bits.new i ≡ (has_bit bits.old i || has i (take 4 (drop at bytes.now))) }
+{
+    let last = bytes.len() - 1;
+    set_bit(bits, bytes[at] as usize);
+    set_bit(bits, bytes[(at + 1).min(last)] as usize);
+    set_bit(bits, bytes[(at + 2).min(last)] as usize);
+    set_bit(bits, bytes[(at + 3).min(last)] as usize);
 }

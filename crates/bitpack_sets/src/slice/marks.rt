@@ -1,6 +1,6 @@
 //! Which bytes of a slice another slice has: a mark for each, which is a bit.
 
-ghost use Rattle.std.specs.Prelude.{◌≡◌, ℕ, ◌+◌, ◌/◌, ◌%◌, ◌^◌, ◌<◌, ◌≤◌, ◌&&◌, ◌==◌, ◌++◌, length, nat_lt, slice_index};
+ghost use Rattle.std.specs.Prelude.{◌≡◌, ℕ, ◌+◌, ◌/◌, ◌%◌, ◌^◌, ◌<◌, ◌≤◌, ◌&&◌, ◌==◌, ◌++◌, drop, length, nat_lt, slice_index, take};
 ghost use Rattle.std.specs.Int.{bit_at};
 ghost use Rattle.bitpack_sets.specs.Reads.{has};
 ghost use Rattle.bitpack_sets.specs.Slices.{number_of, ones_from};
@@ -40,10 +40,36 @@ pub(crate) fn marks_among(bytes: u8x32, count: usize, others: &[u8]) -> u32
     ensures { (i : ℕ) → i < 32 → (bit_at result i == 1) ≡ (nat_lt i count && has (slice_index bytes i) others.now) }
 {
     let mut marks = 0;
-    for other in others {
-        marks |= bytes.simd_eq(u8x32::splat(*other)).to_bitmask();
+    for step in 0..others.len().div_ceil(4) {
+        marks |= marks_of_four(bytes, others, 4 * step);
     }
     marks as u32 & ((1 << count) - 1)
+}
+
+/// Marks the bytes that are among four others from an index on. If there are fewer than four, the last is taken again.
+#[inline(always)]
+fn marks_of_four(bytes: u8x32, others: &[u8], at: usize) -> u64
+    requires length { length bytes ≡ 32 }
+    requires within { at < length others.now }
+    ensures few { result < 2 ^ 32 }
+    ensures marks { (i : ℕ) → i < 32 → (bit_at result i == 1) ≡ has (slice_index bytes i) (take 4 (drop at others.now)) }
+{
+    let last = others.len() - 1;
+    let one = marks_of_one(bytes, others[at]);
+    let two = marks_of_one(bytes, others[(at + 1).min(last)]);
+    let three = marks_of_one(bytes, others[(at + 2).min(last)]);
+    let four = marks_of_one(bytes, others[(at + 3).min(last)]);
+    one | two | three | four
+}
+
+/// Marks the bytes that are another.
+#[inline(always)]
+fn marks_of_one(bytes: u8x32, other: u8) -> u64
+    requires length { length bytes ≡ 32 }
+    ensures few { result < 2 ^ 32 }
+    ensures marks { (i : ℕ) → i < 32 → (bit_at result i == 1) ≡ (slice_index bytes i == other) }
+{
+    bytes.simd_eq(u8x32::splat(other)).to_bitmask()
 }
 
 /// Marks the bytes whose bits are 1, of the first `count`.

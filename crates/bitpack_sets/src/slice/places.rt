@@ -41,11 +41,22 @@ pub(crate) fn unpack_bytes_of(word: u64, base: u32, out: &mut [u32], at: usize) 
     ensures end { result ≡ at + length (ones_from word 0 64) }
     ensures values { take result out.new ≡ take at out.old ++ map (λ i. base + i) (ones_from word 0 64) }
 {
-    let mut next = at;
+    at + unpack_window(word, base, &mut out[at..at + 64])
+}
+
+/// Writes them from the start of 64 items on. Returns how many they are.
+#[inline(always)]
+fn unpack_window(word: u64, base: u32, window: &mut [u32]) -> usize
+    requires fits { base + 64 ≤ 2 ^ 32 }
+    requires room { length window.old ≡ 64 }
+    ensures count { result ≡ length (ones_from word 0 64) }
+    ensures values { take result window.new ≡ map (λ i. base + i) (ones_from word 0 64) }
+{
+    let mut next = 0;
     let mut lanes = u32x8::splat(base);
     for i in 0..8u32 {
         let byte = (word >> (8 * i) & 255) as u8;
-        next = unpack_byte(byte, lanes, out, next);
+        next = unpack_byte(byte, lanes, window, next);
         lanes = lanes + u32x8::splat(8);
     }
     next

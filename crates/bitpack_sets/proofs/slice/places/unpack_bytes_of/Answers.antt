@@ -1,46 +1,12 @@
--- The numbers of one byte more are written.
-use Rattle.std.proofs.Common.{ℕ, ◌+◌, ◌*◌, ◌/◌, ◌%◌, ◌^◌, ◌≡◌, ◌<◌, ◌≤◌, ◌++◌, map, take, ap, sym, ◌∙◌, arith, List, append_assoc, append-nil, bit_and, replicate}
+-- The items from the index on are those of the window.
+use Rattle.std.proofs.Common.{List, ℕ, ◌+◌, ◌++◌, ◌∙◌, ap, arith, take}
 use Rattle.bitpack_sets.proofs.OnesLaws.{ones_few}
-use Rattle.bitpack_sets.proofs.RowLaws.{bytes_counted, bytes_more, lanes_first, lanes_more}
+use Rattle.bitpack_sets.proofs.RowLaws.{window_taken}
 use Rattle.bitpack_sets.proofs.slice.places.unpack_bytes_of.Goals as goal
-use Rattle.bitpack_sets.specs.Slices.{ones_from}
 
-whole : (base i : ℕ) → base + 64 ≤ 2 ^ 32 → i < 8 → (base + 8 * i) % 2 ^ 32 ≡ base + 8 * i
-whole base i fits lt = omega (arith, fits, lt)
-
-first : (base : ℕ) → base < 2 ^ 32 → replicate 8 base ≡ replicate 8 ((base + 8 * 0) % 2 ^ 32)
-first base fits = let e : base ≡ (base + 8 * 0) % 2 ^ 32 = omega (arith, fits) in ap (replicate 8) e
-
-pub loop-i-init : goal.loop-i-init
-unfolding ones_from
-loop-i-init c = record { lanes = first c.args.base c.ranges.base.fits; end = omega arith; values = sym (append-nil (take c.args.at c.args.out.now)) }
-
-pub unpack_byte-next-requires-clause-room : goal.unpack_byte-next-requires-clause-room
-unpack_byte-next-requires-clause-room c = let few = ones_few c.args.word 0 (8 * c.loop-i.i) in omega arith
-
-pub unpack_byte-next-requires-clause-base : goal.unpack_byte-next-requires-clause-base
-unpack_byte-next-requires-clause-base c =
-    let one = lanes_first c.args.base c.loop-i.i c.loop-i.lanes c.loop-i.invariant.lanes c.requires.fits (omega arith) in
-    let all = whole c.args.base c.loop-i.i c.requires.fits (omega arith) in
-    c.loop-i.invariant.lanes ∙ ap (replicate 8) (all ∙ sym one)
-
-pub unpack_byte-next-requires-clause-fits : goal.unpack_byte-next-requires-clause-fits
-unpack_byte-next-requires-clause-fits c =
-    let one = lanes_first c.args.base c.loop-i.i c.loop-i.lanes c.loop-i.invariant.lanes c.requires.fits (omega arith) in
-    omega (arith, c.requires.fits)
-
-pub loop-i-preserved : goal.loop-i-preserved
-loop-i-preserved c =
-    let more = bytes_counted c.loop-i.i c.args.word in
-    let front = take c.args.at c.args.out.now in
-    let some : List ℕ = map (λ i. c.args.base + i) (ones_from c.args.word 0 (8 * c.loop-i.i)) in
-    let byte : List ℕ = map (λ i. c.args.base + 8 * c.loop-i.i + i) (ones_from (bit_and (c.args.word / 2 ^ (8 * c.loop-i.i)) 255) 0 8) in
-    let one = lanes_first c.args.base c.loop-i.i c.loop-i.lanes c.loop-i.invariant.lanes c.requires.fits (omega arith) in
-    record {
-      lanes = lanes_more c.args.base c.loop-i.i c.loop-i.lanes c.loop-i.invariant.lanes;
-      end = omega arith;
-      values = c.unpack_byte-next.ensures.values
-          ∙ ap (λ (n : ℕ). take c.loop-i.next c.loop-i.out ++ map (λ i. n + i) (ones_from (bit_and (c.args.word / 2 ^ (8 * c.loop-i.i)) 255) 0 8)) one
-          ∙ ap (λ (l : List ℕ). l ++ byte) c.loop-i.invariant.values ∙ append_assoc front some byte
-          ∙ ap (λ (l : List ℕ). front ++ l) (sym (bytes_more c.args.base c.loop-i.i c.args.word));
-    }
+pub returns-clause-values : goal.returns-clause-values
+returns-clause-values c =
+    let few = ones_few c.args.word 0 64 in
+    window_taken c.args.out.now c.unpack_window.new.window c.args.at _ c.unpack_window.result (omega (arith, c.requires.room))
+    (omega (arith, few, c.unpack_window.ensures.count, c.unpack_window.auto.window, c.requires.room))
+    ∙ ap (λ (l : List ℕ). take c.args.at c.args.out.now ++ l) c.unpack_window.ensures.values
