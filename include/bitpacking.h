@@ -30,7 +30,8 @@
  *
  * A call that works returns a number of bytes, or a width, from 0 on. A call that fails returns one of the negative numbers
  * below, and writes nothing: the buffers are unchanged. Only list_pack, list_size, list_append, list_join, list_builder_extend and
- * set_pack write at one error, the position of a value that is out of order. Comments name an error without BITPACKING_.
+ * set_pack write at one error, the position of a value that is out of order; and set_intersect, set_unite and set_subtract may write ids
+ * before they find that there is no room for all. Comments name an error without BITPACKING_.
  *
  *     uint32_t values[128], back[128];
  *     uint8_t bytes[BITPACKING_4X_BLOCK_SIZE(BITPACKING_MAX_WIDTH)], width;
@@ -894,7 +895,7 @@ int32_t bitpacking_set_get(const bitpacking_set *view, size_t position, uint32_t
 int32_t bitpacking_set_seek(const bitpacking_set *view, uint32_t target, size_t *position, uint32_t *id);
 
 /* Calls that combine views of sets. They write the ids in increasing order to the front of ids, and return their number; without views it is 0. A
- * view may be there twice, and one that was not opened is the empty set. At the stack two views take about 25 KB, and more about 60 KB.
+ * view may be there twice, and one that was not opened is the empty set. Two views take about 25 KB of stack, and more about 60 KB.
  *
  * TOO_MANY: views_len is above BITPACKING_SET_MAX_VIEWS. Then nothing is written.
  * SHORT: there is no room for the ids. Then, and after the ids, any item of ids may have changed: store nothing else there. */

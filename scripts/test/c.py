@@ -69,8 +69,9 @@ PROGRAMS = {
     "examples/builder.c": "10 is out of order\n4 ids in 7 bytes\n",
     # The ids up to 2997 have 12 high bytes, each with 85 or 86 low ones, which take 32 bytes of bits. The body is a byte, the 12 high bytes, 12
     # counts and 12 * 32 bytes: 409. Before it are byte 0, 2 bytes for 1000, 1 for one chunk, 1 of sizes, 2 for its key, and 2 each for 409 and
-    # 1000. 600 is the id at position 200.
-    "examples/id_set.c": "1000 ids in 420 bytes\n600: yes, 601: no\nthe first from 601 on is 603, at position 201\n",
+    # 1000. 600 is the id at position 200. Both sets have the multiples of 6 up to 1998, which are 334.
+    "examples/id_set.c": "1000 ids in 420 bytes\n600: yes, 601: no\nthe first from 601 on is 603, at position 201\n"
+    "334 ids are in both sets, the last is 1998\n1666 ids are in one or both\n",
     "examples/index.c": INDEX,
     CALLS: "",
     "scripts/test/cursor.c": "",

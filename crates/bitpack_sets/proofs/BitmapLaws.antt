@@ -77,7 +77,7 @@ has_none n k = ap (λ (w : ℕ). eqb (bit_at w (k % 64)) 1) (zero_at n (k / 64))
 
 -- ---- the numbers that pass a test
 
-range_cat : (a n m : ℕ) → range_with_len a (n + m) ≡ range_with_len a n ++ range_with_len (a + n) m
+pub range_cat : (a n m : ℕ) → range_with_len a (n + m) ≡ range_with_len a n ++ range_with_len (a + n) m
 range_cat a zero m =
     let e : zero + m ≡ m = omega arith in
     let f : a ≡ a + zero = omega arith in

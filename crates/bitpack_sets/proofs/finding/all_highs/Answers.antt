@@ -1,7 +1,7 @@
 use Rattle.std.proofs.Common.{◌≡◌, ◌∙◌, ◌+◌, ◌++◌, ℕ, List, [], ◌∷◌, ap, sym, arith, take}
 use Rattle.std.specs.List.{range_with_len}
 use Rattle.std.proofs.lemmas.List.{length-set, take_all, take_more_set}
-use Rattle.bitpack_sets.proofs.AnswerLaws.{range_more}
+use Rattle.bitpack_sets.proofs.BitmapLaws.{range_cat}
 use Rattle.bitpack_sets.proofs.finding.all_highs.Goals as goal
 
 pub loop-high-preserved : goal.loop-high-preserved
@@ -13,7 +13,7 @@ loop-high-preserved c =
       done =
           take_more_set c.loop-high.highs c.loop-high.high c.loop-high.high (omega arith)
           ∙ ap (λ (xs : List ℕ). xs ++ (c.loop-high.high ∷ [])) c.loop-high.invariant.done
-          ∙ ap (λ (n : ℕ). range_with_len 0 c.loop-high.high ++ (n ∷ [])) (sym low) ∙ sym (range_more 0 c.loop-high.high 1);
+          ∙ ap (λ (n : ℕ). range_with_len 0 c.loop-high.high ++ (n ∷ [])) (sym low) ∙ sym (range_cat 0 c.loop-high.high 1);
       long = length-set c.loop-high.highs c.loop-high.high c.loop-high.high ∙ long;
     }
 
