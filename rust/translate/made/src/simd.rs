@@ -234,8 +234,8 @@ macro_rules! vector {
             }
 
             #[inline(always)]
-            pub(crate) fn simd_le(self, other: Self) -> Mask {
-                Mask($of::high_bits($of::equal_bytes($of::least_bytes(self.0, other.0), self.0)))
+            pub(crate) fn simd_le(self, other: Self) -> $mask {
+                $mask($of::equal_bytes($of::least_bytes(self.0, other.0), self.0))
             }
         }
 
