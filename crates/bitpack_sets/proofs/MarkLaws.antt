@@ -1,13 +1,12 @@
 -- The marks of bytes that are among others.
-use Rattle.std.proofs.Common.{◌≡◌, ◌≢◌, ℕ, zero, suc, ◌+◌, ◌*◌, ◌%◌, ◌^◌, ◌-◌, ◌<◌, ◌≤◌, Bool, true, false, ◌||◌, ◌&&◌, eqb, ltb, List, [], ◌∷◌, ◌++◌, length-append, length-drop, take-add, drop, map, take, length, refl, sym, ap, ◌∙◌, arith, cond, inl, inr, subst, get_or, bit_and, bit_or, min, max, eq-eqb, pow_pos, w8}
+use Rattle.std.proofs.Common.{◌≡◌, ℕ, zero, suc, ◌+◌, ◌*◌, ◌%◌, ◌^◌, ◌-◌, ◌<◌, ◌≤◌, Bool, true, false, ◌||◌, ◌&&◌, eqb, ltb, List, [], ◌∷◌, ◌++◌, length-append, length-drop, take-add, drop, map, take, length, refl, sym, ap, ◌∙◌, arith, cond, inl, inr, subst, get_or, bit_and, bit_or, min, max, eq-eqb, pow_pos, w8}
 use lib.Lanes.{chunk, mask_l, pick_l, top, zip2}
-use mir.Val.{bool_byte}
 use Rattle.std.specs.Int.{bit_at}
 use Rattle.std.specs.List.{range_with_len}
-use Rattle.std.proofs.lemmas.Bool.{cases_eq, cases_lt, le-ltb, lt-ltb, ne_eqb}
+use Rattle.std.proofs.lemmas.Bool.{cases_lt, le-ltb, lt-ltb, ne_eqb}
 use Rattle.std.proofs.lemmas.List.{append-nil, drop_all, get_or_append_left, get_or-drop, take_all, get_or-map, length-map}
-use Rattle.std.proofs.lemmas.Nat.Bits.{and_pow, bit_at-lt, bit_at-pow_other, bit_at-pow_same, bit_at-zero, bit_at_and, bit_at_cat_high, bit_at_cat_low, bit_at_ones, bit_at_ones_above, bit_at_or}
-use Rattle.std.proofs.lemmas.Nat.{one_shl, or_lt}
+use Rattle.std.proofs.lemmas.Nat.Bits.{and_pow, bit_at-lt, bit_at_and, bit_at_cat_high, bit_at_cat_low, bit_at_ones, bit_at_ones_above}
+use Rattle.std.proofs.lemmas.Nat.{one_shl}
 use Rattle.std.specs.Int.Bits.{or_shifted_r}
 use Rattle.std.proofs.lemmas.Simd.{bit_mask_l, chunk-drop, get_or-chunk, pick_l-range_with_len, get_or-zip2, length-zip2, mask_l-lt, mask_l-mod, tops_compared}
 use Rattle.std.proofs.Math.Bool.{or_comm}

@@ -1,5 +1,5 @@
 -- The numbers of a slice that are selected.
-use Rattle.std.proofs.Common.{take, pow_pos, ◌≡◌, ℕ, zero, suc, ◌+◌, ◌*◌, ◌/◌, ◌%◌, ◌^◌, ◌-◌, ◌<◌, ◌≤◌, Bool, true, false, ◌||◌, ◌&&◌, not, eqb, ltb, List, [], ◌∷◌, ◌++◌, map, drop, length, refl, sym, ap, ◌∙◌, arith, cond, inl, inr, get_or, bit_and, eqb-true, append-nil, subst, lit<, w32}
+use Rattle.std.proofs.Common.{take, pow_pos, ◌≡◌, ℕ, zero, suc, ◌+◌, ◌*◌, ◌/◌, ◌%◌, ◌^◌, ◌-◌, ◌<◌, ◌≤◌, Bool, true, false, ◌&&◌, not, eqb, ltb, List, [], ◌∷◌, ◌++◌, map, drop, length, refl, sym, ap, ◌∙◌, arith, cond, inl, inr, get_or, bit_and, eqb-true, append-nil, subst, lit<, w32}
 use Rattle.std.specs.Int.{bit_at}
 use Rattle.std.specs.List.{filter, range_with_len}
 use Rattle.std.proofs.Math.Bool.{and_comm}

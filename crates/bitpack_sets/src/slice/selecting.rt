@@ -133,7 +133,7 @@ impl<'a> Selection<'a> {
         ensures none { result ≡ None → length out.old < at + length (selected self.entry) }
     {
         if out.len() - at >= 256 {
-            return Some(self.unpack(base, out, at));
+            return Some(at + self.unpack(base, &mut out[at..at + 256], 0));
         }
         let mut numbers = [0; 256];
         let count = self.unpack(base, &mut numbers, 0);

@@ -1,5 +1,5 @@
 -- The bits of the words before, and the lower ones of the word of the bit.
-use Rattle.std.proofs.Common.{ℕ, ◌/◌, arith}
+use Rattle.std.proofs.Common.{◌/◌, arith}
 use Rattle.bitpack_sets.proofs.BitmapLaws.{bits_counted_below, those_few}
 use Rattle.bitpack_sets.proofs.bitmap.marking.rank_of_bit.Goals as goal
 use Rattle.bitpack_sets.specs.Bitmaps.{has_bit}

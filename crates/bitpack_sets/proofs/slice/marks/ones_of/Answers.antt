@@ -1,5 +1,5 @@
 -- The remainder by 8 is looked up in a table of eight powers, twice.
-use Rattle.std.proofs.Common.{◌≡◌, ℕ, zero, suc, ◌+◌, ◌*◌, ◌/◌, ◌%◌, ◌^◌, ◌<◌, List, [], ◌∷◌, get_or, length, replicate, refl, ap, ◌∙◌, arith, w8}
+use Rattle.std.proofs.Common.{◌≡◌, ℕ, zero, suc, ◌%◌, ◌^◌, ◌<◌, List, [], ◌∷◌, get_or, length, replicate, refl, ap, ◌∙◌, arith, w8}
 use lib.Bits.{bit_and, and_le_r}
 use lib.Lanes.{zip2}
 use Rattle.std.proofs.lemmas.Nat.{and_mask}

@@ -1,5 +1,5 @@
 -- The items from the index on are those of the window.
-use Rattle.std.proofs.Common.{List, ℕ, ◌+◌, ◌++◌, ◌∙◌, ap, arith, take}
+use Rattle.std.proofs.Common.{List, ℕ, ◌++◌, ◌∙◌, ap, arith, take}
 use Rattle.bitpack_sets.proofs.OnesLaws.{ones_few}
 use Rattle.bitpack_sets.proofs.RowLaws.{window_taken}
 use Rattle.bitpack_sets.proofs.slice.places.unpack_bytes_of.Goals as goal

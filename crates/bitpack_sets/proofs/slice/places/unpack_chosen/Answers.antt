@@ -1,6 +1,5 @@
 -- The bytes of eight marks more are written.
 use Rattle.std.proofs.Common.{ℕ, ◌+◌, ◌*◌, ◌/◌, ◌^◌, ◌++◌, get_or, map, take, ap, sym, ◌∙◌, arith, List, append_assoc, append-nil, bit_and}
-use Rattle.std.proofs.lemmas.List.{length-map}
 use Rattle.std.specs.Simd.Lanes.{chunk}
 use Rattle.bitpack_sets.proofs.OnesLaws.{ones_few}
 use Rattle.bitpack_sets.proofs.RowLaws.{bytes_counted, chosen_more}

@@ -1,5 +1,5 @@
 -- The numbers of the bytes so far are written.
-use Rattle.std.proofs.Common.{◌≡◌, ◌+◌, ◌*◌, ◌%◌, ◌^◌, ◌++◌, length, map, replicate, take}
+use Rattle.std.proofs.Common.{◌≡◌, ◌+◌, ◌*◌, ◌%◌, ◌^◌, length, map, replicate, take}
 use Rattle.bitpack_sets.proofs.slice.places.unpack_window.Given as goal
 use Rattle.bitpack_sets.specs.Slices.{ones_from}
 
