@@ -3,7 +3,7 @@ use Rattle.std.proofs.Common.{◌≡◌, ℕ, ◌+◌, ◌^◌, ◌<◌, ◌≤�
 use Rattle.std.specs.List.{filter, range_with_len}
 use Rattle.std.proofs.lemmas.List.Filters.{length-filter_both}
 use Rattle.std.proofs.lemmas.List.FromFn.{length-range_with_len}
-use Rattle.bitpack_sets.specs.Operations.{answer_all, combined, those}
+use Rattle.bitpack_sets.specs.Operations.{answer_all, folded, those}
 use Rattle.bitpack_sets.specs.Reads.{has}
 use Rattle.bitpack_sets.specs.declared.operation.Operation.{Operation}
 
@@ -15,4 +15,4 @@ those_few bound passes =
     omega arith
 
 pub answer_few : (operation : Operation) (sets : List (List ℕ)) → length (answer_all operation sets) ≤ 2 ^ 32
-answer_few operation sets = those_few (2 ^ 32) (λ x. combined operation (map (has x) sets))
+answer_few operation sets = those_few (2 ^ 32) (λ x. folded operation (map (has x) sets))
