@@ -94,12 +94,6 @@ uint32_t bitpacking_version(void);
 /* The greatest base of values: with it, no value passes 64 bits. */
 #define BITPACKING_MAX_BASE (UINT64_MAX - UINT32_MAX)
 
-/* Why a call that combines sets failed. */
-#define BITPACKING_TOO_MANY (-8) /* more views than BITPACKING_SET_MAX_VIEWS */
-
-/* The most views of sets that a call combines. */
-#define BITPACKING_SET_MAX_VIEWS 64
-
 /* Returns BITPACKING_NO_INITIAL, for languages without macros. */
 uint32_t bitpacking_no_initial(void);
 
@@ -726,8 +720,6 @@ static inline const char *bitpacking_error_text(ptrdiff_t number)
         return "The list has no block of this number.";
     case BITPACKING_BAD_BASE:
         return "The base is above 2^64 - 2^32.";
-    case BITPACKING_TOO_MANY:
-        return "A call combines at most 64 sets.";
     case BITPACKING_LIST_SHORT:
         return "Bytes of the list are missing.";
     case BITPACKING_LIST_BAD_VERSION:
@@ -894,10 +886,10 @@ int32_t bitpacking_set_get(const bitpacking_set *view, size_t position, uint32_t
  * returns 0 and writes nothing. */
 int32_t bitpacking_set_seek(const bitpacking_set *view, uint32_t target, size_t *position, uint32_t *id);
 
-/* Calls that combine views of sets. They write the ids in increasing order to the front of ids, and return their number; without views it is 0. A
- * view may be there twice, and one that was not opened is the empty set. Two views take about 25 KB of stack, and more about 60 KB.
+/* Calls that combine any number of views of sets. They write the ids in increasing order to the front of ids, and return their number; without
+ * views it is 0. A view may be there twice, and one that was not opened is the empty set. They take about 25 KB of stack for two views, and
+ * about 80 KB for more.
  *
- * TOO_MANY: views_len is above BITPACKING_SET_MAX_VIEWS. Then nothing is written.
  * SHORT: there is no room for the ids. Then, and after the ids, any item of ids may have changed: store nothing else there. */
 
 /* Writes the ids that all sets have. */
@@ -909,9 +901,7 @@ ptrdiff_t bitpacking_set_unite(const bitpacking_set *views, size_t views_len, ui
 /* Writes the ids of the first set that no other has. */
 ptrdiff_t bitpacking_set_subtract(const bitpacking_set *views, size_t views_len, uint32_t *ids, size_t ids_len);
 
-/* Calls that return how many ids the first two of these calls write for the same views, without room for the ids.
- *
- * TOO_MANY: views_len is above BITPACKING_SET_MAX_VIEWS. */
+/* Calls that return how many ids the first two of these calls write for the same views, without room for the ids. */
 
 /* Returns how many ids all sets have. */
 ptrdiff_t bitpacking_set_count_common(const bitpacking_set *views, size_t views_len);

@@ -1,7 +1,7 @@
 /* Reads the tables vectors/id_sets.tsv, vectors/refused_id_sets.tsv and vectors/combined_id_sets.tsv, one after the other. Packs the ids of each
    set, which has to give its bytes, opens these, and looks up each id and its neighbours. Each text of the second table is refused for its fault.
-   The sets of each row of the third are combined, two and more. Prints what is wrong, and last how many sets, refusals and pairs it read. It also
-   tests views that were not opened, and calls without ids, views, room and position. */
+   The sets of each row of the third are combined, two and more. Up to 10,000 sets that are drawn are combined too. Prints what is wrong, and last
+   how many sets, refusals and pairs it read. It also tests views that were not opened, and calls without ids, views, room and position. */
 #include "bitpacking.h"
 #include "tables.h"
 
@@ -184,6 +184,7 @@ static void gives(combine call, const bitpacking_set *views, size_t views_len, c
     expect(call(views, views_len, found, count) == (ptrdiff_t)count, what);
     expect(memcmp(found, right, count * sizeof *right) == 0 && found[count] == 0xA5A5A5A5, what);
     expect(call(views, views_len, found, count + 1) == (ptrdiff_t)count, what);
+    expect(call(views, views_len, found, MOST) == (ptrdiff_t)count && memcmp(found, right, count * sizeof *right) == 0, what);
     if (count > 0)
         expect(call(views, views_len, found, count - 1) == BITPACKING_SHORT, "ids are written without room");
 }
@@ -233,35 +234,98 @@ static size_t merged(const uint32_t *one, size_t one_len, const uint32_t *two, s
     return i + j;
 }
 
-/* Nothing is read of more views than a call takes, and nothing is written. */
-static void refuses_many(const bitpacking_set *views, size_t views_len)
+/* ---- many views */
+
+enum { VIEWS = 10000, NUMBERS = 1 << 20, IN_ALL = 700000 };
+
+static bitpacking_set many_views[VIEWS];
+static uint8_t pool[(1 << 21) + ROOM];
+/* How many sets have each number. */
+static uint16_t times[NUMBERS];
+
+/* A number that seems random. */
+static uint32_t drawn(void)
 {
-    memset(found, 0xA5, 8 * sizeof *found);
-    expect(bitpacking_set_intersect(views, views_len, found, 8) == BITPACKING_TOO_MANY, "more sets in common");
-    expect(bitpacking_set_unite(views, views_len, found, 8) == BITPACKING_TOO_MANY, "more sets together");
-    expect(bitpacking_set_subtract(views, views_len, found, 8) == BITPACKING_TOO_MANY, "a set without more sets");
-    expect(bitpacking_set_count_common(views, views_len) == BITPACKING_TOO_MANY, "more sets counted in common");
-    expect(bitpacking_set_count_any(views, views_len) == BITPACKING_TOO_MANY, "more sets counted together");
-    expect(all_are(found, 8 * sizeof *found, 0xA5), "ids of too many sets are written");
+    static uint64_t state = 1;
+
+    state = state * 6364136223846793005u + 1442695040888963407u;
+    return (uint32_t)(state >> 40) % NUMBERS;
+}
+
+static int order(const void *one, const void *two)
+{
+    const uint32_t a = *(const uint32_t *)one, b = *(const uint32_t *)two;
+
+    return (a > b) - (a < b);
+}
+
+/* Draws a set of at most these many ids, one of them the id that is in all sets. Returns how many it has. */
+static size_t draw(size_t most, uint32_t *to)
+{
+    size_t i, count = 1;
+
+    to[0] = IN_ALL;
+    for (i = 1; i < most; i++)
+        to[i] = drawn();
+    qsort(to, most, sizeof *to, order);
+    for (i = 1; i < most; i++)
+        if (to[i] != to[count - 1])
+            to[count++] = to[i];
+    return count;
+}
+
+/* The numbers that this many sets have at least, and at most. */
+static size_t those(size_t least, size_t most, uint32_t *to)
+{
+    size_t number, count = 0;
+
+    for (number = 0; number < NUMBERS; number++)
+        if (times[number] >= least && times[number] <= most)
+            to[count++] = (uint32_t)number;
+    return count;
+}
+
+/* Many sets, few of them of many ids, against how many sets have each number. */
+static void combines_many(size_t views_len)
+{
+    size_t i, j, at = 0, first = 0, count, both_len, any_len, alone_len = 0;
+
+    memset(times, 0, sizeof times);
+    for (i = 0; i < views_len; i++) {
+        count = draw(i % 97 == 0 ? 1000 : i % 10 == 3 ? 100 : 1 + i % 7, i == 0 ? ids : others);
+        many_views[i] = packed_set(i == 0 ? ids : others, count, &pool[at]);
+        at += many_views[i].bytes_len;
+        for (j = 0; j < count; j++)
+            times[(i == 0 ? ids : others)[j]]++;
+        if (i == 0)
+            first = count;
+    }
+    both_len = those(views_len, views_len, both);
+    any_len = those(1, views_len, any);
+    for (j = 0; j < first; j++)
+        if (times[ids[j]] == 1)
+            alone[alone_len++] = ids[j];
+    are(many_views, views_len, both, both_len, any, any_len);
+    gives(bitpacking_set_subtract, many_views, views_len, alone, alone_len, "other ids of the first of many");
 }
 
 /* Two sets, and three and more: a set that is there twice changes nothing in common or together, and an empty set leaves nothing in common. */
 static void combines(size_t count, size_t others_len, size_t both_len)
 {
-    enum { VIEWS = BITPACKING_SET_MAX_VIEWS + 1 };
+    enum { SOME = 65 };
     const size_t alone_len = less(ids, count, both, both_len, alone), other_len = less(others, others_len, both, both_len, other);
     const size_t any_len = merged(ids, count, other, other_len, any);
-    bitpacking_set views[VIEWS] = {BITPACKING_SET_EMPTY}, swapped[3];
+    bitpacking_set views[SOME] = {BITPACKING_SET_EMPTY}, swapped[3];
     size_t i, len;
 
     views[0] = swapped[1] = packed_set(ids, count, bytes);
-    for (i = 1; i < VIEWS; i++)
+    for (i = 1; i < SOME; i++)
         views[i] = i == 1 ? packed_set(others, others_len, packed) : views[1];
     swapped[0] = views[1];
     memset(&swapped[2], 0, sizeof swapped[2]);
     are(views, 1, ids, count, ids, count);
     gives(bitpacking_set_subtract, views, 1, ids, count, "other ids of one set");
-    for (len = 2; len < VIEWS; len = len < 4 ? len + 1 : len + 60) {
+    for (len = 2; len < SOME; len += len < 4 ? 1 : 60) {
         are(views, len, both, both_len, any, any_len);
         gives(bitpacking_set_subtract, views, len, alone, alone_len, "other ids of the first");
     }
@@ -271,7 +335,6 @@ static void combines(size_t count, size_t others_len, size_t both_len)
     gives(bitpacking_set_subtract, swapped, 3, other, other_len, "an empty set takes ids");
     swapped[2] = swapped[0];
     gives(bitpacking_set_subtract, swapped, 3, both, 0, "a set has ids that it lacks");
-    refuses_many(views, VIEWS);
 }
 
 int main(void)
@@ -281,6 +344,9 @@ int main(void)
 
     names();
     empty();
+    combines_many(65);
+    combines_many(1000);
+    combines_many(VIEWS);
     while (next_row(column))
         if (table == REFUSED_ID_SETS) {
             refuses(atoi(column[0]), read_bytes(column[2], bytes));

@@ -24,7 +24,7 @@ use Rattle.bitpack_groups.proofs.GroupLemmas.{codes_fit, cut_laid, group_size-le
 -- ---- the cut loses nothing
 
 -- In one lane the bits of the codes follow each other.
-place-one : (width k j : ℕ) → place 1 width k j ≡ k * width + j
+pub place-one : (width k j : ℕ) → place 1 width k j ≡ k * width + j
 unfolding place
 place-one width k j =
     let whole : k / 1 ≡ k = omega arith in

@@ -1,13 +1,18 @@
 -- Lemmas of this crate. Other crates cite those of ForCallers alone.
 mod ByteLemmas
 mod FaultLemmas
+mod FillLaws
 pub mod ForCallers
 mod GroupLaws
 mod GroupLemmas
 mod GroupSteps
 mod GroupsLaws
+mod IntegerLaws
+mod IntegerReads
+mod IntegerTexts
 mod Lengths
 mod NumberLaws
 mod NumberLemmas
+mod PackedLaws
 mod SliceLemmas
 mod WidthLemmas

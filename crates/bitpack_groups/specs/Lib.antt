@@ -3,3 +3,4 @@ pub mod Faults
 pub mod Groups
 pub mod Laws
 pub mod Numbers
+pub mod Packed

@@ -1,6 +1,6 @@
 //! Groups of 1 to 32 codes: a width, and the first bytes of a block of one lane that holds the codes and then zeros.
 
-ghost use Rattle.std.specs.Prelude.{◌≡◌, true, ℕ, List, ◌+◌, ◌*◌, ◌/◌, ◌%◌, ◌^◌, ◌<◌, ◌≤◌, ◌∷◌, IfOk, OnOk, drop, length, slice_index, sum, take};
+ghost use Rattle.std.specs.Prelude.{◌≡◌, true, ℕ, List, ◌+◌, ◌*◌, ◌/◌, ◌^◌, ◌<◌, ◌≤◌, ◌∷◌, IfOk, OnOk, drop, length, slice_index, take};
 ghost use Rattle.bitpacking.specs.Bits.{AreBytes};
 ghost use Rattle.bitpacking.specs.Layout.{codes_of};
 ghost use Rattle.bitpacking.specs.Width.{Fits};
@@ -17,22 +17,21 @@ pub const LONGEST_GROUP: usize = 32;
 /// The most bytes of a body of one lane: 32 codes at 32 bits each.
 const LONGEST_GROUP_BODY: usize = 128;
 
-/// Tests the group of `count` codes at the front of the bytes, which is block number `block`, and returns how many bytes it has, and the
-/// sum of its codes modulo 2 ^ 32. Its codes are the first of `codes`; after a refusal these may be any.
+/// Tests the group of `count` codes at the front of the bytes, which is block number `block`, and returns how many bytes it has. Its codes are
+/// the first of `codes`; after a refusal these may be any.
 pub fn test_group(
     block: usize,
     count: usize,
     bytes: &[u8],
     codes: &mut [u32],
-) -> Result<(usize, u32), GroupError>
+) -> Result<usize, GroupError>
     requires some { 1 ≤ count }
     requires count { count ≤ LONGEST_GROUP }
     requires room { length codes.old ≡ LONGEST_GROUP }
     ensures fault { FindsFault result (group_fault block count bytes.now) }
     ensures codes { OnOk result (take count codes.new ≡ group_codes count bytes.now) }
-    ensures end { IfOk result (λ found. found.0 ≡ group_end count bytes.now) }
-    ensures within { IfOk result (λ found. found.0 ≤ length bytes.now) }
-    ensures sum { IfOk result (λ found. found.1 ≡ sum (group_codes count bytes.now) % 2 ^ 32) }
+    ensures end { IfOk result (λ end. end ≡ group_end count bytes.now) }
+    ensures within { IfOk result (λ end. end ≤ length bytes.now) }
     ensures narrow { OnOk result (slice_index bytes.now 0 ≤ 32) }
     ensures fits { OnOk result (Fits (group_codes count bytes.now) (slice_index bytes.now 0)) }
 {
@@ -54,45 +53,41 @@ pub fn test_group(
     if totals.later > 0 {
         return Err(GroupError::Padding);
     }
-    Ok((end, totals.sum))
+    Ok(end)
 }
 
-/// The codes of a group together: their sum modulo 2 ^ 32, each bit that one of them has, and each bit after them.
+/// The codes of a group together: each bit that one of them has, and each bit after them.
 #[derive(Clone, Copy)]
 struct GroupTotals {
-    sum: u32,
     bits: u32,
     later: u32,
 }
 
 /// The first `count` codes together, and those after them. No branch depends on a code, and the loop always has 32 steps, so that the
-/// compiler adds several at once.
+/// compiler joins several at once.
 #[inline(always)]
 fn add_group(count: usize, codes: &[u32]) -> GroupTotals
     requires count { count ≤ LONGEST_GROUP }
     requires room { length codes.now ≡ LONGEST_GROUP }
-    ensures sum { result.sum ≡ sum (take count codes.now) % 2 ^ 32 }
     ensures above { (width : ℕ) → result.bits < 2 ^ width → Fits (take count codes.now) width }
     ensures below { (width : ℕ) → Fits (take count codes.now) width → result.bits < 2 ^ width }
     ensures zeros { result.later ≡ 0 → are_zeros (drop count codes.now) ≡ true }
     ensures later { are_zeros (drop count codes.now) ≡ true → result.later ≡ 0 }
 {
-    let mut sum: u32 = 0;
     let mut bits = 0;
     let mut later = 0;
     for index in 0..LONGEST_GROUP {
         let code = codes[index];
-        let own = if_below(index, count, code);
-        sum = sum.wrapping_add(own);
+        let own = if_below(index as u32, count as u32, code);
         bits |= own;
         later |= code - own;
     }
-    GroupTotals { sum, bits, later }
+    GroupTotals { bits, later }
 }
 
-/// A code if its index is below a count, else 0.
+/// A code if its index is below a count, else 0. These have as many bits as the code, so that the compiler compares as many at once.
 #[inline(always)]
-fn if_below(index: usize, count: usize, code: u32) -> u32
+fn if_below(index: u32, count: u32, code: u32) -> u32
     ensures below { index < count → result ≡ code }
     ensures above { count ≤ index → result ≡ 0 }
 {

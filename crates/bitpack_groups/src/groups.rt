@@ -43,7 +43,7 @@ pub fn test_groups<'a>(
     for index in 0..(codes.len() + 31) / LONGEST_GROUP {
         let from = LONGEST_GROUP * index;
         let count = next_len(codes.len() - from);
-        let (end, _) = test_group(block + index, count, rest, &mut group)?;
+        let end = test_group(block + index, count, rest, &mut group)?;
         codes[from..from + count].copy_from_slice(&group[..count]);
         rest = &rest[end..];
     }

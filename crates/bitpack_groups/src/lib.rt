@@ -6,6 +6,7 @@
 mod group;
 mod group_error;
 mod groups;
+mod integers;
 pub mod laws;
 mod numbers;
 mod widths;
@@ -13,6 +14,7 @@ mod widths;
 pub use group::{LONGEST_GROUP, group_size, test_group, unpack_group, write_group};
 pub use group_error::GroupError;
 pub use groups::{append_groups, groups_len, next_len, test_groups, unpack_groups, write_groups};
+pub use integers::{byte_count, read_integer, write_at, write_integer};
 pub use numbers::{
     LONGEST_LIST, LONGEST_NUMBER, append_number, number_len, test_count, test_number,
     unpack_number, write_number,

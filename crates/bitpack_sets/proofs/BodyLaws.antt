@@ -3,6 +3,7 @@ use Rattle.std.proofs.Common.{◌≡◌, ℕ, zero, suc, ◌+◌, ◌*◌, ◌/�
 use Rattle.std.proofs.lemmas.List.{length-map}
 use Rattle.std.specs.List.{flat_map}
 use Rattle.std.proofs.lemmas.Bool.{cases_lt, cond_above, cond_below}
+use Rattle.bitpack_groups.proofs.ForCallers.{little_len}
 use Rattle.bitpack_sets.proofs.PartLaws.{AreParts, join, join_parts, parts_are}
 use Rattle.bitpack_sets.proofs.SliceLaws.{one_le_bytes, one_slice, rising_room, slice_few, slice_many, slice_some}
 use Rattle.bitpack_sets.proofs.Words.{OneBody}
@@ -16,11 +17,6 @@ append_same (x ∷ a) (y ∷ a') b b' h e =
     let tail : a ++ b ≡ a' ++ b' = cc in
     let (p, q) = append_same a a' b b' (omega arith) tail in
     (cc, q)
-
-pub little_len : (size x : ℕ) → length (le_bytes size x) ≡ size
-unfolding le_bytes
-little_len zero x = refl
-little_len (suc size) x = ap suc (little_len size (x / 256))
 
 -- a slice's bytes are as many as its count says
 pub slice_len_same : (xs ys : List ℕ) → length xs ≡ length ys → length (slice xs) ≡ length (slice ys)

@@ -3,12 +3,13 @@ use Rattle.std.proofs.Common.{◌≡◌, ℕ, zero, suc, ◌+◌, ◌-◌, ◌*�
 use Rattle.std.specs.List.{concat, flat_map}
 use Rattle.std.proofs.lemmas.Bool.{cases_lt, cond_above, cond_below, le-ltb}
 use Rattle.std.proofs.lemmas.List.{drop-drop, drop_at, length-map, take_at}
+use Rattle.bitpack_groups.proofs.ForCallers.{count_fits}
 use Rattle.bitpack_sets.proofs.BodyFaults.{body_sound}
 use Rattle.bitpack_sets.proofs.BodyLaws.{body_blocks, body_numbers, numbers_len}
 use Rattle.bitpack_sets.proofs.ByteLaws.{each_body}
 use Rattle.bitpack_sets.proofs.EntryLaws.{none_entry, none_first, none_loose, none_sizes}
 use Rattle.bitpack_sets.proofs.FaultLaws.{none_or, some_not}
-use Rattle.bitpack_sets.proofs.LongLaws.{Below, after_counts, bodies, body_len, concat_len, count_fits, counts, counts_len, ends, ends_below, ends_len, flat_len, join_len, keys, keys_below, small, sums_below, sums_len, total}
+use Rattle.bitpack_sets.proofs.LongLaws.{Below, after_counts, bodies, body_len, concat_len, counts, counts_len, ends, ends_below, ends_len, flat_len, join_len, keys, keys_below, small, sums_below, sums_len, total}
 use Rattle.bitpack_sets.proofs.LongLaws as texts
 use Rattle.bitpack_sets.proofs.PartLaws.{AreParts}
 use Rattle.bitpack_sets.proofs.ShortLaws.{short_written}

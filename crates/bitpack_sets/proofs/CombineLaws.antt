@@ -110,6 +110,13 @@ left_out_or self operation x y same e =
     let (none, none') = or_parts x y (sym (ap (λ (o : Operation). holds o x y) same) ∙ e) in
     (holds_none self x y none none', holds_none self x false none refl, holds_none self false y refl none')
 
+-- others give what one has alone
+pub keeps_one : (operation : Operation) → operation ≢ And → operation ≢ AndNot → (holds operation true false ≡ true) × (holds operation false true ≡ true)
+keeps_one And a b = absurd (a refl)
+keeps_one Or a b = (refl, refl)
+keeps_one AndNot a b = absurd (b refl)
+keeps_one Xor a b = (refl, refl)
+
 -- ---- bitmaps
 
 -- the bits of these high bytes are combined, and the others are as they were

@@ -1,9 +1,7 @@
 -- Integers that are copied one after the other.
 use Rattle.std.proofs.Common.{◌≡◌, ℕ, suc, ◌+◌, ◌-◌, ◌*◌, ◌<◌, ◌≤◌, List, ◌++◌, map, take, length, ap, ◌∙◌, arith, subst}
 use Rattle.std.specs.List.{flat_map, range_with_len}
-use Rattle.bitpack_sets.proofs.BodyLaws.{little_len}
-use Rattle.bitpack_sets.proofs.FillLaws.{IsFilled, fill_done, fill_more, fill_room, fill_start}
-use Rattle.bitpack_sets.proofs.IntegerLaws.{product_more}
+use Rattle.bitpack_groups.proofs.ForCallers.{IsFilled, fill_done, fill_more, fill_room, fill_start, little_len, product_more}
 use Rattle.bitpack_sets.specs.Sets.{le_bytes}
 
 -- those from index `k` on are still to be written

@@ -19,7 +19,7 @@ pub lens_none : (counts : List ℕ) → slices_len (take 0 counts) ≡ 0
 unfolding slices_len
 lens_none counts = refl
 
-lens_append : (xs ys : List ℕ) → slices_len (xs ++ ys) ≡ slices_len xs + slices_len ys
+pub lens_append : (xs ys : List ℕ) → slices_len (xs ++ ys) ≡ slices_len xs + slices_len ys
 unfolding slices_len
 lens_append [] ys = omega arith
 lens_append (x ∷ xs) ys = let ih = lens_append xs ys in omega arith

@@ -3,10 +3,10 @@ use Rattle.std.proofs.Common.{◌≡◌, ℕ, zero, suc, ◌+◌, ◌*◌, ◌^�
 use Rattle.std.specs.List.{range_with_len}
 use Rattle.std.proofs.lemmas.List.{drop-drop, drop_all, drop_more, length-map, map-append, take_more, take_more_set, take_all}
 use Rattle.bitpack_sets.proofs.SliceLaws.{rising_room}
-use Rattle.bitpack_sets.proofs.RaisedLaws.{map_raised, ones_split}
+use Rattle.bitpack_sets.proofs.RaisedLaws.{map_raised}
 use Rattle.bitpack_sets.proofs.Words.{EachByte}
 use Rattle.bitpack_sets.specs.Sets.{IsRising}
-use Rattle.bitpack_sets.specs.Slices.{AreSlices, IsSlice, number_of, numbers_of, ones_from, slice_len, slice_numbers}
+use Rattle.bitpack_sets.specs.Slices.{AreSlices, IsSlice, number_of, numbers_of, slice_len, slice_numbers}
 
 -- ---- words
 
@@ -65,28 +65,6 @@ pub bytes_dropped : (n : ℕ) (bytes : List ℕ) → EachByte bytes → EachByte
 bytes_dropped zero bytes h = h
 bytes_dropped (suc n) [] h = h
 bytes_dropped (suc n) (byte ∷ bytes) (a, h) = bytes_dropped n bytes h
-
--- one word more of the bits of bytes
-pub word_more : (bytes : List ℕ) (base n : ℕ) → EachByte bytes → 8 * n ≤ length bytes
-    → map (λ i. base + i) (ones_from (number_of (take (8 * (n + 1)) bytes)) 0 (64 * (n + 1)))
-    ≡ map (λ i. base + i) (ones_from (number_of (take (8 * n) bytes)) 0 (64 * n))
-    ++ map (λ i. base + 64 * n + i) (ones_from (number_of (take 8 (drop (8 * n) bytes))) 0 64)
-word_more bytes base n are h =
-    let f : List ℕ → List ℕ = map (λ i. base + i) in
-    let r : ℕ = number_of (take (8 * n) bytes) in
-    let w : ℕ = number_of (take 8 (drop (8 * n) bytes)) in
-    let e : 8 * (n + 1) ≡ 8 * n + 8 = omega arith in
-    let size : 64 * (n + 1) ≡ 64 * n + 64 = omega arith in
-    let power : 8 * (8 * n) ≡ 64 * n = omega arith in
-    let split : number_of (take (8 * (n + 1)) bytes) ≡ w * 2 ^ (64 * n) + r =
-    ap (λ (m : ℕ). number_of (take m bytes)) e ∙ number_split (8 * n) 8 bytes h ∙ ap (λ (m : ℕ). w * 2 ^ m + r) power in
-    let low : r < 2 ^ (64 * n) = subst (λ (m : ℕ). r < 2 ^ m) power (number_bits (8 * n) bytes are) in
-    let high : w < 2 ^ 64 = number_bits 8 (drop (8 * n) bytes) (bytes_dropped (8 * n) bytes are) in
-    ap (λ (m : ℕ). f (ones_from m 0 (64 * (n + 1)))) split
-    ∙ ap (λ (m : ℕ). f (ones_from (w * 2 ^ (64 * n) + r) 0 m)) size
-    ∙ ap f (ones_split (64 * n) 64 w r low high)
-    ∙ map-append (λ i. base + i) (ones_from r 0 (64 * n)) (map (λ i. 64 * n + i) (ones_from w 0 64))
-    ∙ ap (λ (l : List ℕ). f (ones_from r 0 (64 * n)) ++ l) (map_raised base (64 * n) (ones_from w 0 64))
 
 -- ---- what is written
 

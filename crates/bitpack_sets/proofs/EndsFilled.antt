@@ -3,8 +3,8 @@ use Rattle.std.proofs.Common.{◌≡◌, ◌≢◌, ℕ, ◌+◌, ◌-◌, ◌/�
 use mir.Val.{bool_byte}
 use Rattle.std.proofs.lemmas.Bool.{cases_eq}
 use Rattle.std.proofs.lemmas.List.{drop-drop, drop_more, length-map, length-take-le, take-set-le}
+use Rattle.bitpack_groups.proofs.ForCallers.{IsFilled, fill_done, fill_left, fill_one, fill_start}
 use Rattle.bitpack_sets.proofs.CountedRuns.{agree, differ, first_run, step_is}
-use Rattle.bitpack_sets.proofs.FillLaws.{IsFilled, fill_done, fill_left, fill_one, fill_start}
 use Rattle.bitpack_sets.proofs.LongLaws.{sums_len}
 use Rattle.bitpack_sets.proofs.RunLaws.{chunk_rest, get_drop, parts_some, slice_part}
 use Rattle.bitpack_sets.specs.Sets.{parts, sums}

@@ -3,9 +3,7 @@ use Rattle.std.proofs.Common.{◌≡◌, ℕ, ◌+◌, ◌-◌, ◌*◌, ◌/◌
 use Rattle.std.specs.List.{concat, flat_map}
 use borrow.Rule.Slice.PartMut.{put_mid}
 use Rattle.std.proofs.lemmas.List.{length-map, length-take-le}
-use Rattle.bitpack_sets.proofs.BodyLaws.{little_len}
-use Rattle.bitpack_sets.proofs.FillLaws.{IsFilled, fill_done, fill_more, fill_part, fill_room, fill_start}
-use Rattle.bitpack_sets.proofs.IntegerLaws.{product_more}
+use Rattle.bitpack_groups.proofs.ForCallers.{IsFilled, fill_done, fill_more, fill_part, fill_room, fill_start, little_len, product_more}
 use Rattle.bitpack_sets.proofs.MeasureLaws.{ChunksLeft, chunks_more}
 use Rattle.bitpack_sets.proofs.RunLaws.{rest_is, run_part}
 use Rattle.bitpack_sets.specs.Sets.{IsSet, body, le_bytes, parts, sums}

@@ -1,8 +1,8 @@
 -- The encoding of a set of few ids.
 use Rattle.std.proofs.Common.{◌≡◌, ℕ, zero, suc, ◌+◌, ◌-◌, ◌*◌, ◌^◌, ◌<◌, ◌≤◌, List, [], ◌∷◌, ◌++◌, length, get_or, set, take, drop, refl, sym, ap, ◌∙◌, arith, subst, length-append}
 use Rattle.std.proofs.lemmas.List.{drop_all, drop_more, take_all}
-use Rattle.bitpack_sets.proofs.FillLaws.{IsFilled, fill_one}
-use Rattle.bitpack_sets.proofs.GapLaws.{gaps_below, gaps_len, groups_are, groups_run, short_is}
+use Rattle.bitpack_groups.proofs.ForCallers.{IsFilled, fill_one, groups_are, groups_run}
+use Rattle.bitpack_sets.proofs.GapLaws.{below_words, gaps_below, gaps_len, short_is}
 use Rattle.bitpack_sets.proofs.OnesLaws.{rising_lower}
 use Rattle.bitpack_sets.specs.Sets.{IsRising, IsSet, gaps, groups, short}
 use Rattle.bitpack_sets.specs.Varints.{AreGroups, groups_of, number}
@@ -36,11 +36,11 @@ codes_len (x ∷ xs) h = let e = gaps_len x xs in omega arith
 -- the codes have these groups, and no others
 pub codes_run : (ids : List ℕ) → IsSet ids → 0 < length ids → AreGroups (groups_of (length (codes_of ids))) (codes_of ids) (groups_text ids)
 codes_run [] set some = absurd (omega arith)
-codes_run (x ∷ xs) set some = let (zero', r) = set.rising in (groups_run (gaps x xs) (gaps_below x xs r)).1
+codes_run (x ∷ xs) set some = let (zero', r) = set.rising in (groups_run (gaps x xs) (below_words (gaps x xs) (gaps_below x xs r))).1
 
 pub codes_one : (ids bytes : List ℕ) → IsSet ids → 0 < length ids → AreGroups (groups_of (length (codes_of ids))) (codes_of ids) bytes → bytes ≡ groups_text ids
 codes_one [] bytes set some are = absurd (omega arith)
-codes_one (x ∷ xs) bytes set some are = let (zero', r) = set.rising in groups_are (groups_of (length (gaps x xs))) (gaps x xs) bytes (gaps_below x xs r) are
+codes_one (x ∷ xs) bytes set some are = let (zero', r) = set.rising in groups_are (groups_of (length (gaps x xs))) (gaps x xs) bytes (below_words (gaps x xs) (gaps_below x xs r)) are
 
 next_gap : (before x : ℕ) (xs : List ℕ) → gaps before (x ∷ xs) ≡ (x - before - 1) ∷ gaps x xs
 unfolding gaps

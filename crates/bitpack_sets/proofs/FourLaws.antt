@@ -41,11 +41,13 @@ lowest_cleared (suc t) x one none =
 abbrev pub cleared : ℕ → ℕ
 cleared x = bit_and x ((x + (2 ^ 64 - 1)) % 2 ^ 64)
 
-record IsNext (x : ℕ) : Type 0 where
-  within : trailing_zeros w64 x < 64
-  ones : ones_from x 0 64 ≡ trailing_zeros w64 x ∷ ones_from (cleared x) 0 64
+pub record IsNext (x : ℕ) : Type 0 where
+  pub within : trailing_zeros w64 x < 64
+  pub one : bit_at x (trailing_zeros w64 x) ≡ 1
+  pub less : cleared x < x
+  pub ones : ones_from x 0 64 ≡ trailing_zeros w64 x ∷ ones_from (cleared x) 0 64
 
-next_is : (x : ℕ) → 0 < x → x < 2 ^ 64 → IsNext x
+pub next_is : (x : ℕ) → 0 < x → x < 2 ^ 64 → IsNext x
 next_is x pos small =
     let t = trailing_zeros w64 x in
     let (few, one, none) = bit_at-trailing_zeros w64 x pos small in
@@ -53,7 +55,8 @@ next_is x pos small =
     let clear = lowest_cleared t x one none in
     let moved : cleared x ≡ bit_and x (x - 1) = ap (bit_and x) less in
     let rest : x - 2 ^ t ≡ cleared x = omega arith in
-    record { within = few; ones = lowest_one x t pos small one none ∙ ap (λ (n : ℕ). t ∷ ones_from n 0 64) rest }
+    let some : 0 < 2 ^ t = pow_pos t in
+    record { within = few; one = one; less = omega arith; ones = lowest_one x t pos small one none ∙ ap (λ (n : ℕ). t ∷ ones_from n 0 64) rest }
 
 none_next : (x : ℕ) → x ≡ 0 → ones_from (cleared x) 0 64 ≡ []
 none_next x e =

@@ -5,12 +5,11 @@ use Rattle.std.proofs.lemmas.Bool.{cases_lt, le-leb, le-ltb, lt-leb, true≢fals
 use Rattle.std.proofs.lemmas.List.{append-nil, drop_all, drop_at, drop_more, take_all, take_more_set, get_or-drop, get_or_past}
 use Rattle.bitpack_groups.specs.Groups.{group_end}
 use Rattle.bitpack_groups.specs.declared.group_error.GroupError.{GroupError}
-use Rattle.bitpack_groups.proofs.ForCallers.{fault-here, fault-next, groups_are_read, groups_read_back, number_reads_back, one_number, one_run_of_codes}
+use Rattle.bitpack_groups.proofs.ForCallers.{fault-here, fault-next, groups_are, groups_are_read, groups_read_back, groups_run, number_reads_back, one_number}
 use Rattle.bitpacking.specs.Bits.{AreBytes}
 use Rattle.bitpacking.specs.Codes.{AreWords}
 use Rattle.bitpack_sets.proofs.CountLaws.{bytes_are}
 use Rattle.bitpack_sets.proofs.FaultLaws.{if_some, map_none, none_map, none_or, not_below, or_none, some_not}
-use Rattle.bitpack_sets.proofs.GroupLaws.{group_is}
 use Rattle.bitpack_sets.proofs.LongLaws.{Below, rising_below}
 use Rattle.bitpack_sets.proofs.OnesLaws.{rising_lower}
 use Rattle.bitpack_sets.proofs.SliceLaws.{rising_room}
@@ -23,38 +22,11 @@ use Rattle.bitpack_sets.specs.declared.set_error.SetError.TheVariants.{NotSorted
 
 -- ---- groups
 
-take_few : (n : ℕ) (xs : List ℕ) → length (take n xs) ≤ n
-take_few zero xs = omega arith
-take_few (suc n) [] = omega arith
-take_few (suc n) (x ∷ xs) = let ih = take_few n xs in omega arith
-
 -- each is below 2 ^ 32
 pub below_words : (xs : List ℕ) → Below (2 ^ 32) xs → AreWords xs
 below_words [] h k d lt = absurd (omega arith)
 below_words (x ∷ xs) (a, h) zero d lt = a
 below_words (x ∷ xs) (a, h) (suc k) d lt = below_words xs h k d (omega arith)
-
-words_below : (xs : List ℕ) → AreWords xs → Below (2 ^ 32) xs
-words_below [] h = tt
-words_below (x ∷ xs) h = (h 0 0 (omega arith), words_below xs (λ k d lt. h (suc k) d (omega arith)))
-
-below_take : (n : ℕ) (xs : List ℕ) → Below (2 ^ 32) xs → Below (2 ^ 32) (take n xs)
-below_take zero xs h = tt
-below_take (suc n) [] h = tt
-below_take (suc n) (x ∷ xs) (a, h) = (a, below_take n xs h)
-
-below_drop : (n : ℕ) (xs : List ℕ) → Below (2 ^ 32) xs → Below (2 ^ 32) (drop n xs)
-below_drop zero xs h = h
-below_drop (suc n) [] h = tt
-below_drop (suc n) (x ∷ xs) (a, h) = below_drop n xs h
-
-pub groups_are : (more : ℕ) (codes bytes : List ℕ) → Below (2 ^ 32) codes → AreGroups more codes bytes → bytes ≡ groups more codes
-unfolding groups
-groups_are zero codes bytes h (none, empty) = empty
-groups_are (suc more) codes bytes h (part, rest, e, is, later) =
-    let front : part ≡ group (take 32 codes) = group_is (take 32 codes) part (take_few 32 codes) (below_words (take 32 codes) (below_take 32 codes h)) is in
-    let back : rest ≡ groups more (drop 32 codes) = groups_are more (drop 32 codes) rest (below_drop 32 codes h) later in
-    e ∙ ap (λ (l : List ℕ). l ++ rest) front ∙ ap (λ (l : List ℕ). group (take 32 codes) ++ l) back
 
 -- ---- ids and their gaps
 
@@ -222,7 +194,7 @@ short_none more bytes are e =
     let below : Below (2 ^ 32) (ids_from value codes) = over_none 0 (ids_from value codes) (map_none NotSorted _ over) in
     let end : after_groups (groups_of more) more rest ≡ [] = no_bytes (after_groups (groups_of more) more rest) (not_below 0 (length (after_groups (groups_of more) more rest)) (if_some _ _ _ after).0) in
     let whole : rest ≡ run = split ∙ ap (λ (l : List ℕ). run ++ l) end ∙ append-nil run in
-    let run_text : run ≡ groups (groups_of more) codes = groups_are (groups_of more) codes run (words_below codes words) run_is in
+    let run_text : run ≡ groups (groups_of more) codes = groups_are (groups_of more) codes run words run_is in
     let later : List ℕ = drop 1 (ids_from value codes) in
     let begin : ids_from value codes ≡ value ∷ later = begins value codes in
     let long = from_len value codes in
@@ -238,14 +210,8 @@ short_none more bytes are e =
     )
 
 -- the groups of codes are bytes, and are read
-pub groups_run : (codes : List ℕ) → Below (2 ^ 32) codes → AreBytes (groups (groups_of (length codes)) codes) × AreGroups (groups_of (length codes)) codes (groups (groups_of (length codes)) codes)
-groups_run codes below =
-    let (bytes, are, run, only) = one_run_of_codes codes (below_words codes below) in
-    let e : bytes ≡ groups (groups_of (length codes)) codes = groups_are (groups_of (length codes)) codes bytes below run in
-    (subst AreBytes e are, subst (AreGroups (groups_of (length codes)) codes) e run)
-
 pub later_bytes : (x : ℕ) (xs : List ℕ) → IsRising (x + 1) (2 ^ 32) xs → AreBytes (groups (groups_of (length xs)) (gaps x xs))
-later_bytes x xs r = subst (λ (n : ℕ). AreBytes (groups (groups_of n) (gaps x xs))) (gaps_len x xs) (groups_run (gaps x xs) (gaps_below x xs r)).0
+later_bytes x xs r = subst (λ (n : ℕ). AreBytes (groups (groups_of n) (gaps x xs))) (gaps_len x xs) (groups_run (gaps x xs) (below_words (gaps x xs) (gaps_below x xs r))).0
 
 pub none_short : (x : ℕ) (xs : List ℕ) → IsRising 0 (2 ^ 32) (x ∷ xs) → short_fault (suc (length xs)) (later_text x xs) ≡ None
 unfolding short_fault some_fault
@@ -257,7 +223,7 @@ none_short x xs (zero', r) =
     let run : List ℕ = groups (groups_of more) codes in
     let (sound, value, end) = number_reads_back x run (omega arith) in
     let rest : drop (number_end (number x ++ run)) (number x ++ run) ≡ run = drop_at (number x) run (number_end (number x ++ run)) (sym end) in
-    let run_is : AreGroups (groups_of more) codes run = subst (λ (n : ℕ). AreGroups (groups_of n) codes (groups (groups_of n) codes)) long (groups_run codes (gaps_below x xs r)).1 in
+    let run_is : AreGroups (groups_of more) codes run = subst (λ (n : ℕ). AreGroups (groups_of n) codes (groups (groups_of n) codes)) long (groups_run codes (below_words codes (gaps_below x xs r))).1 in
     let read = groups_read_back (groups_of more) 0 codes run [] (omega arith) (omega arith) (below_words codes (gaps_below x xs r)) run_is in
     let (none, back, after) = subst (λ (n : ℕ). (groups_fault (groups_of more) 0 n (run ++ []) ≡ None) × (groups_codes (groups_of more) n (run ++ []) ≡ codes) × (after_groups (groups_of more) n (run ++ []) ≡ [])) long read in
     let same : drop (number_end (number x ++ run)) (number x ++ run) ≡ run ++ [] = rest ∙ sym (append-nil run) in

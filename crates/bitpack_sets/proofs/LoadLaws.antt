@@ -1,12 +1,12 @@
 -- What is loaded into bitmaps.
 use borrow.Rule.Slice.PartMut.{put_mid, post_of}
-use Rattle.std.proofs.Common.{◌≡◌, ◌≢◌, ◌⊎◌, ℕ, zero, suc, ◌+◌, ◌*◌, ◌/◌, ◌%◌, ◌-◌, ◌<◌, ◌≤◌, Bool, true, false, ◌||◌, eqb, List, [], ◌∷◌, ◌++◌, map, take, drop, length, refl, set, sym, ap, ◌∙◌, arith, cond, inl, inr, get_or, subst, replicate, eq-eqb, length-drop}
+use Rattle.std.proofs.Common.{◌≡◌, ◌≢◌, ◌⊎◌, ℕ, zero, suc, ◌+◌, ◌*◌, ◌/◌, ◌%◌, ◌-◌, ◌<◌, ◌≤◌, Bool, true, false, ◌||◌, eqb, List, [], ◌∷◌, ◌++◌, map, take, drop, length, refl, sym, ap, ◌∙◌, arith, cond, inl, inr, get_or, subst, replicate, eq-eqb, length-drop}
 use Rattle.std.proofs.Math.Bool.{or_comm, or_self}
 use Rattle.std.specs.Int.{bit_at}
 use Rattle.std.specs.List.{filter, list_any, range_with_len}
 use Rattle.std.proofs.lemmas.Bool.{cases_lt, ne_eqb}
 use Rattle.std.proofs.lemmas.Bool.Decides.{eqb_tells}
-use Rattle.std.proofs.lemmas.List.{get_or_append_left, get_or-append_right, get_or-drop, get_or-map, get_or-replicate, get_or-set_other, get_or-set_same, get_or-take, length-map, length-take-le, take_all}
+use Rattle.std.proofs.lemmas.List.{get_or_append_left, get_or-append_right, get_or-drop, get_or-map, get_or-replicate, get_or-take, length-map, length-take-le, take_all}
 use Rattle.std.proofs.lemmas.Nat.Bits.{bit_at-zero}
 use Rattle.std.proofs.lemmas.List.Folds.{list_any-append, list_any_more}
 use Rattle.bitpack_sets.proofs.BlockReads.{slice_there}
@@ -147,14 +147,6 @@ high_written P i from k highs words bits h e f size room own before x small is =
   | inr (other, apart) ↦ (
       let among : has (x / 256) (take i highs) ≡ true = sym (ap (λ (b : Bool). b || has (x / 256) (take i highs)) other) ∙ sym (has_more (x / 256) highs i h) ∙ is in
       bit_rest from k (get_or highs i 0) x words bits e f size room (λ s. apart (sym s)) ∙ before x small among)
-]
-
--- the start of one slice more is known
-pub one_known : (i start : ℕ) (counts starts : List ℕ) → i < length starts → start ≡ slices_len (take i counts)
-    → ((k : ℕ) → k < i → get_or starts k 0 ≡ slices_len (take k counts)) → (k : ℕ) → k < i + 1 → get_or (set starts i start) k 0 ≡ slices_len (take k counts)
-one_known i start counts starts h e known k lt = elim (eqb_tells i k) [
-  | inl (here, same) ↦ ap (λ (n : ℕ). get_or (set starts i start) n 0) (sym same) ∙ get_or-set_same starts i start 0 h ∙ e ∙ ap (λ (n : ℕ). slices_len (take n counts)) same
-  | inr (other, apart) ↦ get_or-set_other starts i k start 0 (λ s. apart (sym s)) ∙ known k (omega arith)
 ]
 
 -- ---- the numbers below a bound that pass a test

@@ -3,9 +3,10 @@ use Rattle.std.proofs.Common.{◌≡◌, ℕ, suc, ◌+◌, ◌*◌, ◌^◌, �
 use Rattle.std.specs.List.{concat, flat_map}
 use Rattle.std.proofs.lemmas.Bool.{cases_lt, cond_above, cond_below}
 use Rattle.std.proofs.lemmas.List.{append_cancel_left, length-map}
+use Rattle.bitpack_groups.proofs.ForCallers.{count_fits, little_len}
 use Rattle.bitpack_sets.proofs.PartLaws.{AreParts, join, join_parts, parts_are}
 use Rattle.bitpack_sets.proofs.SliceLaws.{one_le_bytes, rising_room}
-use Rattle.bitpack_sets.proofs.BodyLaws.{append_same, body_blocks, body_numbers, little_len, numbers_len, one_body}
+use Rattle.bitpack_sets.proofs.BodyLaws.{append_same, body_blocks, body_numbers, numbers_len, one_body}
 use Rattle.bitpack_sets.proofs.Words.{NumbersPart, OneLong}
 use Rattle.bitpack_sets.specs.Sets.{IsRising, array, blocks, body, in_chunks, le_bytes, long, parts, sums}
 use Rattle.bitpack_sets.specs.Varints.{NumberReadsBack, byte_count, number, number_value}
@@ -127,18 +128,6 @@ join_len (p ∷ ps) =
     let b = length-map p.1 (λ low. p.0 * 65536 + low) in
     let c : length (join 65536 ps) ≡ total (counts ps) = join_len ps in
     omega arith
-
-pub count_fits : (x : ℕ) → x < 2 ^ 32 → x < 256 ^ byte_count x
-count_fits x h = elim (cases_lt x (2 ^ 8)) [
-  | inl a ↦ subst (λ (n : ℕ). x < 256 ^ n) (cond_below x (2 ^ 8) 1 _ a) a
-  | inr b ↦ elim (cases_lt x (2 ^ 16)) [
-    | inl a ↦ subst (λ (n : ℕ). x < 256 ^ n) (cond_above x (2 ^ 8) _ _ _ b (cond_below x (2 ^ 16) 2 _ a)) a
-    | inr b' ↦ elim (cases_lt x (2 ^ 24)) [
-      | inl a ↦ subst (λ (n : ℕ). x < 256 ^ n) (cond_above x (2 ^ 8) _ _ _ b (cond_above x (2 ^ 16) _ _ _ b' (cond_below x (2 ^ 24) 3 4 a))) a
-      | inr b'' ↦ subst (λ (n : ℕ). x < 256 ^ n) (cond_above x (2 ^ 8) _ _ _ b (cond_above x (2 ^ 16) _ _ _ b' (cond_above x (2 ^ 24) _ _ _ b'' refl))) h
-    ]
-  ]
-]
 
 flat_keys : (ps : List (ℕ × List ℕ)) → flat_map (λ chunk. le_bytes 2 chunk.0) ps ≡ flat_map (le_bytes 2) (keys ps)
 flat_keys [] = refl

@@ -9,9 +9,7 @@ use Rattle.std.proofs.lemmas.Nat.Bits.{and_pow, bit_at-lt, bit_at_and, bit_at_ca
 use Rattle.std.proofs.lemmas.Nat.{one_shl}
 use Rattle.std.specs.Int.Bits.{or_shifted_r}
 use Rattle.std.proofs.lemmas.Simd.{bit_mask_l, chunk-drop, get_or-chunk, pick_l-range_with_len, get_or-zip2, length-zip2, mask_l-lt, mask_l-mod, tops_compared}
-use Rattle.std.proofs.Math.Bool.{or_comm}
 use Rattle.bitpack_sets.proofs.BitmapLaws.{has_more}
-use Rattle.bitpack_sets.proofs.CombineLaws.{word_or}
 use Rattle.bitpack_sets.proofs.ReadLaws.{eqb_same, has_append}
 use Rattle.bitpack_sets.specs.Reads.{has}
 
@@ -134,55 +132,6 @@ four_taken x others at j k l lt e f g =
     let o : ℕ → Bool = λ i. eqb x (get_or others i 0) in
     ap (λ (n : ℕ). ((o at || o n) || o k) || o l) e ∙ ap (λ (n : ℕ). ((o at || o (min (at + 1) (length others - 1))) || o n) || o l) f
     ∙ ap (λ (n : ℕ). ((o at || o (min (at + 1) (length others - 1))) || o (min (at + 2) (length others - 1))) || o n) g ∙ four_marked x others at lt
-
-all_or : (a b c d o : Bool) → (d || (c || (b || (a || o)))) ≡ ((((a || b) || c) || d) || o)
-all_or true true true true o = refl
-all_or true true true false o = refl
-all_or true true false true o = refl
-all_or true true false false o = refl
-all_or true false true true o = refl
-all_or true false true false o = refl
-all_or true false false true o = refl
-all_or true false false false o = refl
-all_or false true true true o = refl
-all_or false true true false o = refl
-all_or false true false true o = refl
-all_or false true false false o = refl
-all_or false false true true o = refl
-all_or false false true false o = refl
-all_or false false false true o = refl
-all_or false false false false o = refl
-
--- four are added to others
-pub four_added : (x : ℕ) (others : List ℕ) (at j k l : ℕ) (old : Bool) → at < length others
-    → j ≡ min (at + 1) (length others - 1) → k ≡ min (at + 2) (length others - 1) → l ≡ min (at + 3) (length others - 1)
-    → (eqb x (get_or others l 0) || (eqb x (get_or others k 0) || (eqb x (get_or others j 0) || (eqb x (get_or others at 0) || old))))
-    ≡ (old || has x (take 4 (drop at others)))
-four_added x others at j k l old lt e f g =
-    all_or (eqb x (get_or others at 0)) (eqb x (get_or others j 0)) (eqb x (get_or others k 0)) (eqb x (get_or others l 0)) old
-    ∙ ap (λ (b : Bool). b || old) (four_taken x others at j k l lt e f g) ∙ or_comm (has x (take 4 (drop at others))) old
-
--- the bits of four marks
-pub four_bits : (a b c d i : ℕ) (p q r s : Bool) → eqb (bit_at a i) 1 ≡ p → eqb (bit_at b i) 1 ≡ q → eqb (bit_at c i) 1 ≡ r → eqb (bit_at d i) 1 ≡ s
-    → eqb (bit_at (bit_or (bit_or (bit_or a b) c) d) i) 1 ≡ (((p || q) || r) || s)
-four_bits a b c d i p q r s e f g h =
-    word_or (bit_or (bit_or a b) c) d i
-    ∙ ap (λ (t : Bool). t || eqb (bit_at d i) 1) (word_or (bit_or a b) c i ∙ ap (λ (t : Bool). t || eqb (bit_at c i) 1) (word_or a b i))
-    ∙ ap (λ (t : Bool). ((t || eqb (bit_at b i) 1) || eqb (bit_at c i) 1) || eqb (bit_at d i) 1) e
-    ∙ ap (λ (t : Bool). ((p || t) || eqb (bit_at c i) 1) || eqb (bit_at d i) 1) f
-    ∙ ap (λ (t : Bool). ((p || q) || t) || eqb (bit_at d i) 1) g ∙ ap (λ (t : Bool). ((p || q) || r) || t) h
-
--- four others more
-pub marks_more : (bytes others : List ℕ) (step marks m : ℕ)
-    → ((i : ℕ) → i < 32 → eqb (bit_at m i) 1 ≡ has (get_or bytes i 0) (take 4 (drop (4 * step) others)))
-    → ((i : ℕ) → i < 32 → eqb (bit_at marks i) 1 ≡ has (get_or bytes i 0) (take (4 * step) others))
-    → (i : ℕ) → i < 32 → eqb (bit_at (bit_or marks m) i) 1 ≡ has (get_or bytes i 0) (take (4 * (step + 1)) others)
-marks_more bytes others step marks m four before i small =
-    let x = get_or bytes i 0 in
-    let e : 4 * step + 4 ≡ 4 * (step + 1) = omega arith in
-    word_or marks m i ∙ ap (λ (b : Bool). b || eqb (bit_at m i) 1) (before i small) ∙ ap (λ (b : Bool). has x (take (4 * step) others) || b) (four i small)
-    ∙ sym (has_append x (take (4 * step) others) (take 4 (drop (4 * step) others)))
-    ∙ ap (has x) (sym (take-add (4 * step) 4 others)) ∙ ap (λ (n : ℕ). has x (take n others)) e
 
 -- only of the first bytes
 pub marks_first : (marks count i : ℕ) (b : Bool) → count < 32 → eqb (bit_at marks i) 1 ≡ b → eqb (bit_at (bit_and marks (1 * 2 ^ count % 2 ^ 32 - 1)) i) 1 ≡ (ltb i count && b)

@@ -3,8 +3,8 @@ use Rattle.std.proofs.Common.{◌≡◌, ℕ, ◌+◌, ◌-◌, ◌/◌, ◌%◌
 use borrow.Rule.Slice.PartMut.{put_mid}
 use Rattle.std.proofs.Math.Seq.{take-add}
 use Rattle.std.proofs.lemmas.List.{drop-drop, length-map, length-take-le, map-append}
+use Rattle.bitpack_groups.proofs.ForCallers.{IsFilled, fill_done, fill_left, fill_one, fill_part, fill_start}
 use Rattle.bitpack_sets.proofs.EndsFilled.{EndsLeft, IsNext, left_next, left_none, left_start}
-use Rattle.bitpack_sets.proofs.FillLaws.{IsFilled, fill_done, fill_left, fill_one, fill_part, fill_start}
 use Rattle.bitpack_sets.proofs.RunLaws.{get_drop, slice_bytes, slice_part}
 use Rattle.bitpack_sets.proofs.SliceLaws.{slice_few}
 use Rattle.bitpack_sets.specs.Sets.{parts, slice}

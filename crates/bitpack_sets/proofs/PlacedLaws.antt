@@ -7,28 +7,18 @@ use Rattle.std.proofs.lemmas.List.{drop-drop, drop-set-lt, get_or-drop, length-d
 use Rattle.std.proofs.lemmas.List.Elements.{filter-append}
 use Rattle.std.proofs.lemmas.List.Filters.{length-filter_more}
 use Rattle.bitpack_sets.proofs.ReadLaws.{byte_is}
+use Rattle.bitpack_sets.specs.Kept.{IsKept, keeps}
 use Rattle.bitpack_sets.specs.Reads.{has}
 
 -- ---- what is kept
 
--- an id is kept: those that the set has, or those that it lacks
-abbrev pub keeps : Bool → List ℕ → ℕ → Bool
-keeps there xs x = cond there (has x xs) (not (has x xs))
-
--- of the items before an index those that pass a test are in front, and the others are as they were
-pub record IsKept (test : ℕ → Bool) (old new : List ℕ) (kept index : ℕ) : Type 0 where
-  pub front : take kept new ≡ filter test (take index old)
-  pub rest : drop index new ≡ drop index old
-  pub behind : kept ≤ index
-  pub long : length new ≡ length old
-
-same_at : (old new : List ℕ) (index : ℕ) → drop index new ≡ drop index old → get_or new index 0 ≡ get_or old index 0
+pub same_at : (old new : List ℕ) (index : ℕ) → drop index new ≡ drop index old → get_or new index 0 ≡ get_or old index 0
 same_at old new index e =
     let zero_more : index + 0 ≡ index = omega arith in
     ap (λ (k : ℕ). get_or new k 0) (sym zero_more) ∙ sym (get_or-drop index new 0 0) ∙ ap (λ (xs : List ℕ). get_or xs 0 0) e ∙ get_or-drop index old 0 0
     ∙ ap (λ (k : ℕ). get_or old k 0) zero_more
 
-next_same : (old new : List ℕ) (index : ℕ) → drop index new ≡ drop index old → drop (index + 1) new ≡ drop (index + 1) old
+pub next_same : (old new : List ℕ) (index : ℕ) → drop index new ≡ drop index old → drop (index + 1) new ≡ drop (index + 1) old
 next_same old new index e = sym (drop-drop 1 index new) ∙ ap (drop 1) e ∙ drop-drop 1 index old
 
 keep_one : (test : ℕ → Bool) (t : Bool) (old new : List ℕ) (kept index x : ℕ) → IsKept test old new kept index → index < length old → x ≡ get_or new index 0 → t ≡ test x
@@ -59,7 +49,7 @@ keep_one test false old new kept index x so h e t = record {
   long = length-set new kept x ∙ so.long;
 }
 
-told : (there b : Bool) → beq b there ≡ cond there b (not b)
+pub told : (there b : Bool) → beq b there ≡ cond there b (not b)
 told true true = refl
 told true false = refl
 told false true = refl

@@ -45,30 +45,32 @@ below_at (suc n) (y ∷ row) tested (suc k) lt = below_at n row (and_parts _ _ t
 abbrev pub is_row : ℕ → List ℕ → Bool
 is_row byte row = begins (ones_from byte 0 8) row && below_eight 8 row
 
--- each row is that of its byte
-abbrev pub are_rows : ℕ → List (List ℕ) → Bool
-are_rows byte [] = true
-are_rows byte (row ∷ rows) = is_row byte row && are_rows (byte + 1) rows
+-- each row passes the test of its byte
+abbrev pub are_rows : (ℕ → List ℕ → Bool) → ℕ → List (List ℕ) → Bool
+are_rows test byte [] = true
+are_rows test byte (row ∷ rows) = test byte row && are_rows test (byte + 1) rows
 
-row_at : (byte : ℕ) (rows : List (List ℕ)) (i : ℕ) (none : List ℕ) → i < length rows → are_rows byte rows ≡ true → is_row (byte + i) (get_or rows i none) ≡ true
-row_at byte [] i none lt tested = absurd (omega arith)
-row_at byte (row ∷ rows) zero none lt tested =
+row_at : (test : ℕ → List ℕ → Bool) (byte : ℕ) (rows : List (List ℕ)) (i : ℕ) (none : List ℕ) → i < length rows → are_rows test byte rows ≡ true
+    → test (byte + i) (get_or rows i none) ≡ true
+row_at test byte [] i none lt tested = absurd (omega arith)
+row_at test byte (row ∷ rows) zero none lt tested =
     let e : byte + 0 ≡ byte = omega arith in
-    rw e (and_parts (is_row byte row) (are_rows (byte + 1) rows) tested).0
-row_at byte (row ∷ rows) (suc i) none lt tested =
+    rw e (and_parts (test byte row) (are_rows test (byte + 1) rows) tested).0
+row_at test byte (row ∷ rows) (suc i) none lt tested =
     let e : byte + suc i ≡ byte + 1 + i = omega arith in
-    rw e (row_at (byte + 1) rows i none (omega arith) (and_parts (is_row byte row) (are_rows (byte + 1) rows) tested).1)
+    rw e (row_at test (byte + 1) rows i none (omega arith) (and_parts (test byte row) (are_rows test (byte + 1) rows) tested).1)
 
-first_row : (rows : List (List ℕ)) (byte : ℕ) (none : List ℕ) → length rows ≡ 256 → byte < 256 → are_rows 0 rows ≡ true → is_row byte (get_or rows byte none) ≡ true
-first_row rows byte none count lt tested =
+pub first_row : (test : ℕ → List ℕ → Bool) (rows : List (List ℕ)) (byte : ℕ) (none : List ℕ) → length rows ≡ 256 → byte < 256 → are_rows test 0 rows ≡ true
+    → test byte (get_or rows byte none) ≡ true
+first_row test rows byte none count lt tested =
     let e : 0 + byte ≡ byte = omega arith in
-    rw e at (row_at 0 rows byte none (omega (arith, lt, count)) tested)
+    rw e at (row_at test 0 rows byte none (omega (arith, lt, count)) tested)
 
-pub rows_right : (rows : List (List ℕ)) → length rows ≡ 256 → are_rows 0 rows ≡ true → AreRows rows
+pub rows_right : (rows : List (List ℕ)) → length rows ≡ 256 → are_rows is_row 0 rows ≡ true → AreRows rows
 rows_right rows count tested = record {
   count = count;
-  small = λ byte k none lt within. below_at 8 (get_or rows byte none) (and_parts _ _ (first_row rows byte none count lt tested)).1 k within;
-  places = λ byte none lt. begins-take (ones_from byte 0 8) (get_or rows byte none) (and_parts _ _ (first_row rows byte none count lt tested)).0;
+  small = λ byte k none lt within. below_at 8 (get_or rows byte none) (and_parts _ _ (first_row is_row rows byte none count lt tested)).1 k within;
+  places = λ byte none lt. begins-take (ones_from byte 0 8) (get_or rows byte none) (and_parts _ _ (first_row is_row rows byte none count lt tested)).0;
 }
 
 -- ---- a row of eight, added to a number and written

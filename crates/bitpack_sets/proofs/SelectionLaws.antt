@@ -1,5 +1,5 @@
 -- The numbers of a slice that are selected.
-use Rattle.std.proofs.Common.{take, pow_pos, ◌≡◌, ℕ, zero, suc, ◌+◌, ◌*◌, ◌/◌, ◌%◌, ◌^◌, ◌-◌, ◌<◌, ◌≤◌, Bool, true, false, ◌&&◌, not, eqb, ltb, List, [], ◌∷◌, ◌++◌, map, drop, length, refl, sym, ap, ◌∙◌, arith, cond, inl, inr, get_or, bit_and, eqb-true, append-nil, subst, lit<, w32}
+use Rattle.std.proofs.Common.{take, ◌≡◌, ℕ, zero, suc, ◌+◌, ◌*◌, ◌/◌, ◌%◌, ◌^◌, ◌-◌, ◌<◌, ◌≤◌, Bool, true, false, ◌&&◌, not, eqb, ltb, List, [], ◌∷◌, ◌++◌, map, drop, length, refl, sym, ap, ◌∙◌, arith, cond, inl, inr, get_or, bit_and, eqb-true, append-nil, subst, lit<, w32}
 use Rattle.std.specs.Int.{bit_at}
 use Rattle.std.specs.List.{filter, range_with_len}
 use Rattle.std.proofs.Math.Bool.{and_comm}
@@ -98,10 +98,6 @@ passed_rise P low high (x ∷ xs) (a, r) = some_rise (P x) low high x (filter P 
 has_passed : (P : ℕ → Bool) (x : ℕ) (xs : List ℕ) → has x (filter P xs) ≡ (has x xs && P x)
 has_passed P x xs = any-filter_same (λ y. eqb y x) P (P x) (λ y e. ap P (eqb-true y x e)) xs ∙ and_comm (P x) (has x xs)
 
-all_pass : (xs : List ℕ) → filter (λ x. true) xs ≡ xs
-all_pass [] = refl
-all_pass (x ∷ xs) = ap (λ (l : List ℕ). x ∷ l) (all_pass xs)
-
 -- the bytes whose mark is 1 are the numbers of the slice that pass
 pub marked_those : (marks : ℕ) (bytes : List ℕ) (P : ℕ → Bool) → length bytes < 32 → IsRising 0 256 bytes → Marks marks bytes P
     → marked marks bytes ≡ those 256 (λ x. has x bytes && P x)
@@ -129,9 +125,6 @@ all_marks marks bytes P e all i h = elim (cases_lt i (length bytes)) [
   | inr more ↦ ap (λ (m : ℕ). eqb (bit_at m i) 1) e ∙ mask_bit (length bytes) i ∙ le-ltb i (length bytes) more
       ∙ sym (and_false (ltb i (length bytes)) (P (get_or bytes i 0)) (le-ltb i (length bytes) more))
 ]
-
-pub all_marked : (marks : ℕ) (bytes : List ℕ) → length bytes < 32 → marks ≡ 2 ^ length bytes - 1 → marked marks bytes ≡ bytes
-all_marked marks bytes few e = marked_pass marks bytes (λ x. true) few (all_marks marks bytes (λ x. true) e (λ i h. refl)) ∙ all_pass bytes
 
 -- the marks of the others
 not_marked : (b c : Bool) → (b && not (b && c)) ≡ (b && not c)
@@ -239,32 +232,24 @@ both_or_none : (b c : Bool) → (b ≡ false → c ≡ false) → c ≡ (b && c)
 both_or_none true c f = refl
 both_or_none false c f = f refl
 
--- the high bytes that the answer can have are listed
-pub record IsListed (operation : Operation) (a b : Blocks) (highs : List ℕ) : Type 0 where
-  pub rising : IsRising 0 256 highs
-  pub all : combined 65536 operation (parts_numbers a) (parts_numbers b) ≡ by_high (passes operation a b) highs
-
-pub listed : (operation : Operation) (a b : Blocks) (bits highs : List ℕ)
+-- the numbers of the high bytes that the answer can have are all of it
+pub listed : (operation : Operation) (a b : Blocks) (bits : List ℕ)
     → ((h : ℕ) → h < 256 → has_bit bits h ≡ false → holds operation (has_bit a.highs h) (has_bit b.highs h) ≡ false)
     → ((h : ℕ) → h < 256 → has_bit bits h ≡ false → holds operation (has_bit a.highs h) false ≡ false)
     → ((h : ℕ) → h < 256 → has_bit bits h ≡ false → holds operation false (has_bit b.highs h) ≡ false)
-    → highs ≡ map (λ i. 0 + i) (those 256 (has_bit bits)) → IsListed operation a b highs
+    → those 65536 (passes operation a b) ≡ by_high (passes operation a b) (those 256 (has_bit bits))
 unfolding those
-listed operation a b bits highs both left right e =
-    let same : highs ≡ those 256 (has_bit bits) = e ∙ map_zero (those 256 (has_bit bits)) in
-    let rising : IsRising 0 256 highs = subst (IsRising 0 256) (sym same) (those_rise (has_bit bits) 256) in
+listed operation a b bits both left right =
+    let highs : List ℕ = those 256 (has_bit bits) in
     let P : ℕ → Bool = passes operation a b in
-    record {
-      rising = rising;
-      all = those_agree P (λ x. has (x / 256) highs && P x) 0 65536 (λ x low small.
-          let h : ℕ = x / 256 in
-          let few : x / 256 < 256 = omega arith in
-          both_or_none (has h highs) (P x) (λ none.
-          let out : has_bit bits h ≡ false = sym (ap (has h) same ∙ has_those (has_bit bits) h 256 few) ∙ none in
-          out_of operation (has_bit a.highs h) (has_bit b.highs h) (has x (parts_numbers a)) (has x (parts_numbers b)) (no_part a x small) (no_part b x small)
-          (both h few out, left h few out, right h few out)))
-          ∙ those_by_high P highs rising;
-    }
+    those_agree P (λ x. has (x / 256) highs && P x) 0 65536 (λ x low small.
+    let h : ℕ = x / 256 in
+    let few : x / 256 < 256 = omega arith in
+    both_or_none (has h highs) (P x) (λ none.
+    let out : has_bit bits h ≡ false = sym (has_those (has_bit bits) h 256 few) ∙ none in
+    out_of operation (has_bit a.highs h) (has_bit b.highs h) (has x (parts_numbers a)) (has x (parts_numbers b)) (no_part a x small) (no_part b x small)
+    (both h few out, left h few out, right h few out)))
+    ∙ those_by_high P highs (those_rise (has_bit bits) 256)
 
 -- ---- the bytes of a slice, and others after them
 
@@ -277,7 +262,7 @@ marked_same marks bytes own few small same =
     ∙ rising_agree n (ones_from marks 0 n) (λ i. get_or bytes i 0) (λ i. get_or own i 0) (rise_all marks n) same
     ∙ ap (map (λ i. get_or own i 0)) (sym all)
 
-first_bytes : (slices : List ℕ) (start count : ℕ) (bytes : List ℕ) → HasSlice slices start count → count < 32
+pub first_bytes : (slices : List ℕ) (start count : ℕ) (bytes : List ℕ) → HasSlice slices start count → count < 32
     → ((i : ℕ) → i < 32 → start + i < length slices → get_or bytes i 0 ≡ get_or slices (start + i) 0)
     → (i : ℕ) → i < length (take (slice_len count) (drop start slices)) → get_or bytes i 0 ≡ get_or (take (slice_len count) (drop start slices)) i 0
 first_bytes slices start count bytes there few loaded i lt =
@@ -294,8 +279,3 @@ marked_first slices start count marks bytes there few small loaded =
     let own : List ℕ = take (slice_len count) (drop start slices) in
     let is = few_there slices start count own there few refl in
     marked_same marks bytes own is.few small (first_bytes slices start count bytes there few loaded)
-
--- ---- a mark for each byte
-
-pub mask_small : (mask n : ℕ) → mask ≡ 2 ^ n - 1 → mask < 2 ^ n
-mask_small mask n e = omega (arith, e, pow_pos n)

@@ -2,8 +2,8 @@
 use Rattle.std.proofs.Common.{◌≡◌, ℕ, zero, suc, ◌+◌, ◌-◌, ◌*◌, ◌^◌, ◌<◌, ◌≤◌, List, [], ◌∷◌, ◌++◌, map, take, drop, length, get_or, slice_index, refl, sym, ap, ◌∙◌, arith, subst, length-append, length-drop, add-one, append_assoc, pow-add, pow-suc, take-add, mul-suc}
 use Rattle.std.specs.List.{concat, flat_map, range_with_len}
 use Rattle.std.proofs.lemmas.List.{drop-drop, drop_at, drop_more, get_or-drop, take_at, take_more, length-take-le}
+use Rattle.bitpack_groups.proofs.ForCallers.{little_len}
 use Rattle.bitpacking.specs.Words.{joined}
-use Rattle.bitpack_sets.proofs.BodyLaws.{little_len}
 use Rattle.bitpack_sets.proofs.DecodeLaws.{bytes_dropped}
 use Rattle.bitpack_sets.proofs.LongLaws.{Below, total}
 use Rattle.bitpack_sets.proofs.OnesLaws.{little_number, number_little}

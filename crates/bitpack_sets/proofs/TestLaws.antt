@@ -5,8 +5,8 @@ use Rattle.std.specs.List.{flat_map}
 use Rattle.std.specs.Option.{is_none}
 use Rattle.std.proofs.lemmas.Bool.{cases_lt, cond_above, cond_below, lt-ltb, le-ltb, le-leb, lt-leb, true≢false}
 use Rattle.std.proofs.lemmas.List.{drop_at, length-map, take_at}
+use Rattle.bitpack_groups.proofs.ForCallers.{little_len}
 use Rattle.bitpack_sets.proofs.ArrayLaws.{no_fall, rises_from}
-use Rattle.bitpack_sets.proofs.BodyLaws.{little_len}
 use Rattle.bitpack_sets.proofs.CountLaws.{few_numbers, few_slice, full_slice, some_counted, some_slice}
 use Rattle.bitpack_sets.proofs.DecodeLaws.{bytes_dropped}
 use Rattle.bitpack_sets.proofs.FaultLaws.{is_below, not_below}

@@ -5,7 +5,7 @@ use Rattle.std.proofs.lemmas.Bool.Decides.{eqb_tells}
 use Rattle.std.proofs.lemmas.List.{append_cancel_left, drop_at}
 use Rattle.std.specs.List.{concat, flat_map}
 use Rattle.std.specs.Option.{is_some, option_or}
-use Rattle.bitpack_groups.proofs.ForCallers.{AreBytes-append, AreBytes-cons, AreBytes-number_in, groups_read_back, number_reads_back, one_number}
+use Rattle.bitpack_groups.proofs.ForCallers.{AreBytes-append, AreBytes-cons, AreBytes-number_in, groups_read_back, groups_run, number_reads_back, one_number}
 use Rattle.bitpacking.specs.Bits.{AreBytes}
 use Rattle.bitpack_sets.proofs.ArrayLaws.{array_no_fault, no_fault_array}
 use Rattle.bitpack_sets.proofs.ByteLaws.{byte_of, each_append, each_bodies, each_flat}
@@ -15,7 +15,7 @@ use Rattle.bitpack_sets.proofs.CountLaws.{bytes_are}
 use Rattle.bitpack_sets.proofs.DecodeLaws.{bytes_dropped}
 use Rattle.bitpack_sets.proofs.EntryLaws.{neither, not_zero, rest_none}
 use Rattle.bitpack_sets.proofs.FaultLaws.{if_some, map_none, none_map, none_or, not_below, or_none, some_not}
-use Rattle.bitpack_sets.proofs.GapLaws.{are_dropped, gaps_below, gaps_len, groups_run, ids_back, below_words, later_bytes, later_text, none_short, short_is, short_none}
+use Rattle.bitpack_sets.proofs.GapLaws.{are_dropped, gaps_below, gaps_len, ids_back, below_words, later_bytes, later_text, none_short, short_is, short_none}
 use Rattle.bitpack_sets.proofs.LongLaws.{after_counts, bodies, counts, count_room, ends, join_len, keys, key_count, long_array, long_chunks, long_parts, numbers_part, one_long, small, total}
 use Rattle.bitpack_sets.proofs.LongLaws as texts
 use Rattle.bitpack_sets.proofs.PartLaws.{AreParts, join, join_parts, parts_are}
@@ -274,9 +274,9 @@ tails m n xs ys e = cc
 same_codes : (xs ys : List ℕ) → texts.Below (2 ^ 32) xs → texts.Below (2 ^ 32) ys → length xs ≡ length ys → groups (groups_of (length xs)) xs ≡ groups (groups_of (length ys)) ys → xs ≡ ys
 same_codes xs ys h k size e =
     let n : ℕ = length xs in
-    let read = (groups_read_back (groups_of n) 0 xs (groups (groups_of n) xs) [] (omega arith) (omega arith) (below_words xs h) (groups_run xs h).1).1 in
+    let read = (groups_read_back (groups_of n) 0 xs (groups (groups_of n) xs) [] (omega arith) (omega arith) (below_words xs h) (groups_run xs (below_words xs h)).1).1 in
     let m : ℕ = length ys in
-    let read' = (groups_read_back (groups_of m) 0 ys (groups (groups_of m) ys) [] (omega arith) (omega arith) (below_words ys k) (groups_run ys k).1).1 in
+    let read' = (groups_read_back (groups_of m) 0 ys (groups (groups_of m) ys) [] (omega arith) (omega arith) (below_words ys k) (groups_run ys (below_words ys k)).1).1 in
     sym read ∙ ap (λ (l : List ℕ). groups_codes (groups_of n) n (l ++ [])) e ∙ ap (λ (i : ℕ). groups_codes (groups_of i) i (groups (groups_of m) ys ++ [])) size ∙ read'
 
 one_few : (xs ys : List ℕ) → IsRising 0 (2 ^ 32) xs → IsRising 0 (2 ^ 32) ys → length xs < 128 → length ys < 128 → short xs ≡ short ys → xs ≡ ys

@@ -3,10 +3,12 @@ use Rattle.std.specs.Prelude.{◌≡◌, ◌≢◌, ℕ, ◌+◌, ◌-◌, ◌*�
 use Rattle.std.specs.List.{range_with_len}
 use Rattle.bitpack_sets.specs.Directory.{chunk_at, ids_of_chunks}
 use Rattle.bitpack_sets.specs.Reads.{has}
+use Rattle.bitpack_sets.specs.Selections.{parts_numbers}
 use Rattle.bitpack_sets.specs.Slices.{pairs_of, quads_of}
 use Rattle.bitpack_sets.specs.Bitmaps.{has_bit}
 use Rattle.bitpack_sets.specs.declared.chunks.Chunks.{Chunks}
-use Rattle.bitpack_sets.specs.declared.finding.Known.{Known}
+use Rattle.bitpack_sets.specs.declared.finding.Own.{Own}
+use Rattle.bitpack_sets.specs.declared.finding.Own.TheVariants.{Between, Bits, Blocks}
 
 -- the low 16 bits of integers of two or of four bytes
 abbrev pub lows_of : ℕ → List ℕ → List ℕ
@@ -42,7 +44,8 @@ pub record AreBetween (set : Chunks) (key place end : ℕ) : Type 0 where
   pub own : (x : ℕ) → x / 65536 ≡ key → has x (ids_from set place) ≡ has (x % 65536) (lows_between set place end)
   pub none : (x : ℕ) → x / 65536 ≡ key → has x (ids_from set end) ≡ false
 
--- what is known of a set while ids are looked up: between which positions the ids of a key are, and their bitmap, if it is loaded
-pub record Knows (set : Chunks) (known : Known) : Type 0 where
-  pub between : AreBetween set known.key known.place known.end
-  pub bits : known.loaded ≡ true → (x : ℕ) → x < 65536 → has_bit known.words x ≡ has x (lows_between set known.place known.end)
+-- what was found of the ids of a key tells which of them the set has
+abbrev pub Knows : Chunks → ℕ → Own → Type 0
+Knows set key (Between place end) = AreBetween set key place end
+Knows set key (Blocks blocks) = (x : ℕ) → x / 65536 ≡ key → has x (ids_from set 0) ≡ has (x % 65536) (parts_numbers blocks)
+Knows set key (Bits words) = (x : ℕ) → x / 65536 ≡ key → has x (ids_from set 0) ≡ has_bit words.now (x % 65536)

@@ -1,44 +1,30 @@
--- Sets that are combined from the first to the last: what is left of the answer.
-use Rattle.std.specs.Prelude.{◌≡◌, ℕ, ◌-◌, ◌/◌, ◌%◌, ◌^◌, ◌<◌, ◌≤◌, ◌&&◌, Bool, false, List, sum}
-use Rattle.std.specs.List.{AllZip}
-use Rattle.std.specs.Simd.Lanes.{zip2}
+-- Sets that are combined from the first to the last, some keys at a time.
+use Rattle.std.specs.Prelude.{ℕ, ◌+◌, ◌*◌, ◌/◌, ◌%◌, ◌&&◌, ◌||◌, Bool, true, false, List, [], map, set, slice_index_or}
 use Rattle.bitpack_sets.specs.Bitmaps.{has_bit}
-use Rattle.bitpack_sets.specs.Chunks.{first_key, ids_from, places}
-use Rattle.bitpack_sets.specs.Operations.{folded, those}
-use Rattle.bitpack_sets.specs.Reads.{has}
-use Rattle.bitpack_sets.specs.Sets.{IsRising}
-use Rattle.bitpack_sets.specs.declared.chunks.Chunks.{Chunks}
+use Rattle.bitpack_sets.specs.Operations.{holds, those}
 use Rattle.bitpack_sets.specs.declared.operation.Operation.{Operation}
 
--- each set has a position, which is not after its last
-unfoldable pub AreWithin : List Chunks → List ℕ → Type 0
-AreWithin sets starts = AllZip (λ set start. start ≤ places set) sets starts
+-- a number is one of a key's: its high byte occurs, and its bit is 1
+unfoldable pub marked : List ℕ → List ℕ → ℕ → Bool
+marked highs words low = has_bit highs (low / 256) && has_bit words low
 
--- whether each set has an id from its position on
-unfoldable pub having : List Chunks → List ℕ → ℕ → List Bool
-having sets starts x = zip2 (λ set start. has x (ids_from set start)) sets starts
+-- a number is one of several keys': the high bytes and bits of its key, its high 16 bits, tell it
+unfoldable pub found : List (List ℕ) → List (List ℕ) → ℕ → Bool
+found highs words i = marked (slice_index_or highs (i / 65536) []) (slice_index_or words (i / 65536) []) (i % 65536)
 
--- the key of each set's first id from its position on
-unfoldable pub first_keys : List Chunks → List ℕ → List ℕ
-first_keys sets starts = zip2 (λ set start. first_key (ids_from set start)) sets starts
+-- their ids, if the first key is `base`
+abbrev pub ids_of_keys : List (List ℕ) → List (List ℕ) → ℕ → List ℕ
+ids_of_keys highs words base = map (λ i. base * 65536 + i) (those 524288 (found highs words))
 
--- how many positions are left
-unfoldable pub places_left : List Chunks → List ℕ → ℕ
-places_left sets starts = sum (zip2 (λ set start. places set - start) sets starts)
+-- a high byte of the answer is one of both sides, or of one side whose ids the answer has alone
+abbrev pub high_of : Operation → Bool → Bool → Bool
+high_of operation a b = (a && b) || (holds operation true false && a) || (holds operation false true && b)
 
--- an id is in the answer of what is left
-unfoldable pub left : Operation → List Chunks → List ℕ → ℕ → Bool
-left operation sets starts x = folded operation (having sets starts x)
+-- a set is the first, or is combined with those before
+abbrev pub joined : Bool → Operation → Bool → Bool → Bool
+joined true operation a b = b
+joined false operation a b = holds operation a b
 
--- the ids of the answer of what is left
-abbrev pub ids_left : Operation → List Chunks → List ℕ → List ℕ
-ids_left operation sets starts = those (2 ^ 32) (left operation sets starts)
-
--- a chunk of an answer: no id of a lower key is in it, high bytes and bits say which of its key are, and what has a higher key comes after it
-pub record IsPart (key : ℕ) (highs words : List ℕ) (before after : ℕ → Bool) : Type 0 where
-  pub small : key < 65536
-  pub rising : IsRising 0 256 highs
-  pub lower : (x : ℕ) → x / 65536 < key → before x ≡ false
-  pub own : (x : ℕ) → x / 65536 ≡ key → before x ≡ (has (x % 65536 / 256) highs && has_bit words (x % 65536))
-  pub passed : (x : ℕ) → x / 65536 ≤ key → after x ≡ false
-  pub higher : (x : ℕ) → key < x / 65536 → before x ≡ after x
+-- the first and another are exchanged
+unfoldable pub swapped : ℕ → List (List ℕ) → List (List ℕ)
+swapped first sets = set (set sets 0 (slice_index_or sets first [])) first (slice_index_or sets 0 [])

@@ -7,8 +7,11 @@ pub mod Directory
 pub mod Errors
 pub mod Faults
 pub mod Folds
+pub mod Follows
 pub mod Fronts
+pub mod Kept
 pub mod Laws
+pub mod Lists
 pub mod Opened
 pub mod Operations
 pub mod Pairs

@@ -1,8 +1,9 @@
 -- Two sets that are combined chunk by chunk: what is left of the answer, and what has the next key.
-use Rattle.std.specs.Prelude.{◌≡◌, ◌≢◌, ℕ, ◌+◌, ◌-◌, ◌/◌, ◌%◌, ◌<◌, ◌≤◌, Bool, false}
+use Rattle.std.specs.Prelude.{◌≡◌, ◌≢◌, ℕ, ◌+◌, ◌-◌, ◌/◌, ◌%◌, ◌<◌, ◌≤◌, Bool, false, slice_index}
 use Rattle.bitpack_sets.specs.Chunks.{ids_from, lows_between, places}
 use Rattle.bitpack_sets.specs.Operations.{holds}
 use Rattle.bitpack_sets.specs.Reads.{has}
+use Rattle.bitpack_sets.specs.Slices.{quads_of}
 use Rattle.bitpack_sets.specs.declared.chunks.Chunks.{Chunks}
 use Rattle.bitpack_sets.specs.declared.pairing.Meeting.{Meeting}
 use Rattle.bitpack_sets.specs.declared.pairing.Pair.{Pair}
@@ -16,16 +17,17 @@ abbrev pub places_left : Pair → ℕ
 places_left pair = (places pair.a - pair.i) + (places pair.b - pair.j)
 
 -- the positions between which the ids of a key lie
-pub record IsSpan (set : Chunks) (place end : ℕ) : Type 0 where
+pub record IsSpan (set : Chunks) (key place end : ℕ) : Type 0 where
   pub later : place ≤ end
   pub within : end ≤ places set
   pub one : set.count ≢ 0 → end ≤ place + 1
+  pub shared : set.count ≡ 0 → (k : ℕ) → place ≤ k → k < end → slice_index (quads_of set.rest.now) k / 65536 ≡ key
 
 -- the ids of a key that is one of a u32, in both sets
 pub record IsMeeting (pair : Pair) (meeting : Meeting) : Type 0 where
   pub small : meeting.key < 65536
-  pub a_span : IsSpan pair.a meeting.a.0 meeting.a.1
-  pub b_span : IsSpan pair.b meeting.b.0 meeting.b.1
+  pub a_span : IsSpan pair.a meeting.key meeting.a.0 meeting.a.1
+  pub b_span : IsSpan pair.b meeting.key meeting.b.0 meeting.b.1
 
 -- whether the answer has an id of the key, by its low 16 bits
 abbrev pub meets : Pair → Meeting → ℕ → Bool

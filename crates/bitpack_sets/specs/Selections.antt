@@ -1,11 +1,13 @@
--- Slices of a body, and some numbers of a slice: bytes with a mark for each, or bits.
-use Rattle.std.specs.Prelude.{ℕ, ◌^◌, ◌<◌, List, drop, length, map, slice_index, take}
+-- Slices of a body, and some numbers of a slice: bytes with a mark for each, bits, or all.
+use Rattle.std.specs.Prelude.{ℕ, ◌+◌, ◌/◌, ◌^◌, ◌<◌, ◌&&◌, List, drop, length, map, slice_index, take}
 use Rattle.bitpack_sets.specs.Bitmaps.{has_bit}
-use Rattle.bitpack_sets.specs.Operations.{those}
+use Rattle.bitpack_sets.specs.Operations.{holds, those}
+use Rattle.bitpack_sets.specs.Reads.{has}
 use Rattle.bitpack_sets.specs.Slices.{numbers_of, ones_from, slice_len, slice_numbers}
 use Rattle.bitpack_sets.specs.declared.blocks.Blocks.{Blocks}
+use Rattle.bitpack_sets.specs.declared.operation.Operation.{Operation}
 use Rattle.bitpack_sets.specs.declared.slice.selecting.Selection.{Selection}
-use Rattle.bitpack_sets.specs.declared.slice.selecting.Selection.TheVariants.{Bits, Bytes}
+use Rattle.bitpack_sets.specs.declared.slice.selecting.Selection.TheVariants.{All, Bits, Bytes}
 use Rattle.bitpack_sets.specs.declared.slice.Slice.{Slice}
 
 -- the bytes and the numbers of a slice
@@ -23,12 +25,22 @@ marked marks bytes = map (slice_index bytes) (ones_from marks 0 32)
 abbrev pub AreMarks : Selection → Type 0
 AreMarks (Bytes slice marks) = (slice.count < 32) × (marks < 2 ^ length (bytes_of slice))
 AreMarks (Bits words) = Unit {0}
+AreMarks (All slice) = Unit {0}
 
 -- the numbers that are selected
 abbrev pub selected : Selection → List ℕ
 selected (Bytes slice marks) = marked marks (bytes_of slice)
 selected (Bits words) = those 256 (has_bit words)
+selected (All slice) = numbers_at slice
 
 -- the numbers of the parts of a body
 abbrev pub parts_numbers : Blocks → List ℕ
 parts_numbers parts = numbers_of (those 256 (has_bit parts.highs)) parts.counts.now parts.slices.now
+
+-- the high bytes that are bits of a word, whose bit 0 is the first
+abbrev pub word_highs : ℕ → ℕ → List ℕ
+word_highs first word = map (λ i. first + i) (ones_from word 0 64)
+
+-- the numbers of the answer of two bodies that have one of these high bytes
+abbrev pub answer_with : List ℕ → Operation → Blocks → Blocks → List ℕ
+answer_with highs operation a b = those 65536 (λ x. has (x / 256) highs && holds operation (has x (parts_numbers a)) (has x (parts_numbers b)))

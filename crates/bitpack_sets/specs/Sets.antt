@@ -1,6 +1,8 @@
 -- Id sets: the one encoding of a set of ids. A set is the increasing list of its ids.
-use Rattle.std.specs.Prelude.{ℕ, zero, suc, ◌+◌, ◌-◌, ◌*◌, ◌/◌, ◌%◌, ◌^◌, ◌≤◌, ◌==◌, nat_lt, nat_le, if◌then◌else◌, List, [], ◌∷◌, ◌++◌, map, length, take, drop}
-use Rattle.std.specs.List.{concat, flat_map, list_all}
+use Rattle.std.specs.Prelude.{ℕ, zero, suc, ◌+◌, ◌-◌, ◌*◌, ◌/◌, ◌%◌, ◌^◌, ◌≤◌, ◌==◌, nat_lt, if◌then◌else◌, List, [], ◌∷◌, ◌++◌, map, length}
+use Rattle.std.specs.List.{concat, flat_map}
+pub use Rattle.bitpack_groups.specs.Packed.{least_width}
+unfoldable pub use Rattle.bitpack_groups.specs.Packed.{group, groups, le_bytes, packed, width_from}
 use Rattle.bitpack_sets.specs.Varints.{byte_count, groups_of, number}
 
 -- increasing numbers from `low` on, below `high`
@@ -12,11 +14,6 @@ IsRising low high (x ∷ xs) = (low ≤ x) × IsRising (x + 1) high xs
 pub record IsSet (ids : List ℕ) : Type 0 where
   pub few : length ids ≤ 2 ^ 28
   pub rising : IsRising 0 (2 ^ 32) ids
-
--- a number in this many bytes, the lowest first
-unfoldable pub le_bytes : ℕ → ℕ → List ℕ
-le_bytes zero x = []
-le_bytes (suc size) x = x % 256 ∷ le_bytes size (x / 256)
 
 -- the number whose bits of 1 are these
 unfoldable pub bits : List ℕ → ℕ
@@ -81,26 +78,6 @@ long ids = if nat_lt (length ids) (4 * length (parts (2 ^ 16) ids)) then array i
 unfoldable pub gaps : ℕ → List ℕ → List ℕ
 gaps before [] = []
 gaps before (x ∷ xs) = (x - before - 1) ∷ gaps x xs
-
--- the first width from one on that the codes fit, of `more` widths and the one after them
-unfoldable pub width_from : ℕ → ℕ → List ℕ → ℕ
-width_from zero width codes = width
-width_from (suc more) width codes = if list_all (λ code. nat_lt code (2 ^ width)) codes then width else width_from more (width + 1) codes
-
-abbrev pub least_width : List ℕ → ℕ
-least_width codes = width_from 32 0 codes
-
--- the number whose digits of this width are the codes
-unfoldable pub packed : ℕ → List ℕ → ℕ
-packed width [] = 0
-packed width (code ∷ codes) = code + 2 ^ width * packed width codes
-
-unfoldable pub group : List ℕ → List ℕ
-group codes = let width = least_width codes in width ∷ le_bytes ((length codes * width + 7) / 8) (packed width codes)
-
-unfoldable pub groups : ℕ → List ℕ → List ℕ
-groups zero codes = []
-groups (suc more) codes = group (take 32 codes) ++ groups more (drop 32 codes)
 
 unfoldable pub short : List ℕ → List ℕ
 short [] = 128 ∷ []

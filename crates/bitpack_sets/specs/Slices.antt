@@ -105,6 +105,10 @@ quads_of (a ∷ b ∷ []) = []
 quads_of (a ∷ b ∷ c ∷ []) = []
 quads_of (a ∷ b ∷ c ∷ d ∷ bytes) = (a + 256 * b + 65536 * c + 16777216 * d) ∷ quads_of bytes
 
+-- the integers of four or of two bytes
+abbrev pub integers_of : Bool → List ℕ → List ℕ
+integers_of wide bytes = if wide then quads_of bytes else pairs_of bytes
+
 -- ---- what tests of slices and blocks say
 
 -- the bytes are the slice of `count` numbers, which are read from them

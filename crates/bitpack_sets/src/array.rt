@@ -15,8 +15,8 @@ pub(crate) fn id_at(rest: &[u8], position: usize) -> u32
     requires { 4 * position + 4 ≤ length rest.now }
     ensures { result ≡ slice_index (quads_of rest.now) position }
 {
-    let from = 4 * position;
-    u32::from_le_bytes([rest[from], rest[from + 1], rest[from + 2], rest[from + 3]])
+    let bytes = &rest[4 * position..4 * position + 4];
+    u32::from_le_bytes([bytes[0], bytes[1], bytes[2], bytes[3]])
 }
 
 /// Writes all ids of an array.

@@ -3,4 +3,5 @@
 pub(crate) mod combining;
 pub(crate) mod loading;
 pub(crate) mod marking;
+pub(crate) mod ones;
 pub(crate) mod unpacking;

@@ -11,6 +11,8 @@ ghost use Rattle.bitpack_sets.specs.Slices.{AreSlices, slice_len, slices_len};
 
 use crate::bitmap::marking::{counts_before, rank_of_bit, slice_bits, test_bit};
 use crate::slice::{Slice, byte_len};
+use bitpacking_register::Register;
+use std::simd::prelude::*;
 
 /// The parts of a body of blocks.
 #[derive(Clone, Copy)]
@@ -21,7 +23,7 @@ pub(crate) struct Blocks<'a> {
     before: [usize; 4],
     // For each of these how many numbers have it, less 1, and where its slice begins.
     counts: &'a [u8],
-    starts: &'a [u16; 257],
+    starts: &'a [u32; 257],
     slices: &'a [u8],
     ghost ranks: { (word : ℕ) → word < 4 → slice_index before word ≡ length (those (64 * word) (has_bit highs)) },
     ghost few: { length counts.now ≤ 256 },
@@ -31,13 +33,13 @@ pub(crate) struct Blocks<'a> {
 }
 
 impl<'a> Blocks<'a> {
-    ghost use Rattle.std.specs.Prelude.{◌+◌, ◌*◌};
+    ghost use Rattle.std.specs.Prelude.{◌+◌, ◌*◌, true};
     ghost use Rattle.bitpack_sets.specs.Reads.{has};
     ghost use Rattle.bitpack_sets.specs.Selections.{numbers_at, parts_numbers};
     ghost use Rattle.bitpack_sets.specs.Slices.{IsBlocks, block_numbers};
 
     /// The parts of a body. Writes where its slices begin.
-    pub(crate) fn new(body: &'a [u8], starts: &'a mut [u16; 257]) -> Blocks<'a>
+    pub(crate) fn new(body: &'a [u8], starts: &'a mut [u32; 257]) -> Blocks<'a>
         requires { IsBlocks (length (block_numbers body.now)) body.now }
         ensures { parts_numbers result ≡ block_numbers body.now }
     {
@@ -68,6 +70,29 @@ impl<'a> Blocks<'a> {
                 count: 0,
             };
         }
+        self.slice_at(high)
+    }
+
+    /// The slice of a high byte. `occurs` says that the caller knows that the byte occurs.
+    #[inline(always)]
+    pub(crate) fn slice_of(&self, high: usize, occurs: bool) -> Slice<'a>
+        requires within { high < 256 }
+        requires occurs { occurs ≡ true → has_bit self.now.highs high ≡ true }
+        ensures { (i : ℕ) → i < 256 → has i (numbers_at result) ≡ has (256 * high + i) (parts_numbers self.now) }
+    {
+        if occurs {
+            return self.slice_at(high);
+        }
+        self.slice(high)
+    }
+
+    /// The slice of a high byte that occurs.
+    #[inline(always)]
+    fn slice_at(&self, high: usize) -> Slice<'a>
+        requires within { high < 256 }
+        requires occurs { has_bit self.now.highs high ≡ true }
+        ensures { (i : ℕ) → i < 256 → has i (numbers_at result) ≡ has (256 * high + i) (parts_numbers self.now) }
+    {
         let index = rank_of_bit(&self.highs, &self.before, high);
         Slice {
             slices: self.slices,
@@ -78,21 +103,30 @@ impl<'a> Blocks<'a> {
 }
 
 /// Where each slice begins among slices end to end. Each count less 1 is given.
-fn fill_starts(counts: &[u8], starts: &mut [u16; 257])
+fn fill_starts(counts: &[u8], starts: &mut [u32; 257])
     requires few { length counts.now ≤ 256 }
     ensures { (index : ℕ) → index < length counts.now → slice_index starts.new index ≡ slices_len (take index counts.now) }
 {
     let sizes = sizes_of(counts);
-    let mut start = 0;
-    for index in 0..counts.len() {
-        starts[index] = start;
-        start += sizes[index] as u16;
+    starts[0] = 0;
+    let mut ends = u32x8::splat(0);
+    for step in 0..counts.len().div_ceil(8) {
+        let sums = u32x8::integrate(ends, eight_of(&sizes, 8 * step));
+        sums.to_words(&mut starts[8 * step + 1..8 * step + 9]);
+        ends = sums;
     }
 }
 
+/// Eight sizes from an index on.
+#[inline(always)]
+fn eight_of(sizes: &[u8; 256], at: usize) -> u32x8
+    requires { at + 8 ≤ 256 }
+    ensures { (k : ℕ) → k < 8 → slice_index result k ≡ slice_index sizes.now (at + k) }
+{
+    u8x8::from_slice(&sizes[at..]).cast()
+}
+
 /// How many bytes each slice has. Each count less 1 is given.
-///
-/// Apart from the sums, so that the compiler takes many sizes at a time.
 #[inline(always)]
 fn sizes_of(counts: &[u8]) -> [u8; 256]
     requires few { length counts.now ≤ 256 }

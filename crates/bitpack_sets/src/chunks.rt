@@ -5,12 +5,14 @@ ghost use Rattle.std.proofs.Props.{props};
 ghost use Rattle.bitpacking.specs.Bits.{AreBytes};
 ghost use Rattle.bitpack_sets.specs.Props.{rising_prop};
 ghost use Rattle.bitpack_sets.specs.Sets.{IsRising};
-ghost use Rattle.bitpack_sets.specs.Slices.{quads_of};
+ghost use Rattle.bitpack_sets.specs.Slices.{IsBlocks, block_numbers, quads_of};
 ghost use Rattle.bitpack_sets.specs.Sound.{IsRest};
 
 use crate::array::{id_at, in_array};
 use crate::bitmap::loading::{block_highs, clear, integer_highs, load_blocks, load_integers};
+use crate::body::Body;
 use crate::directory::{count_before, key_at, sum_at};
+use crate::listed::Listed;
 use crate::searching::{body_of, in_chunk};
 
 /// The key after all keys.
@@ -32,12 +34,13 @@ pub(crate) struct Chunks<'a> {
 }
 
 impl<'a> Chunks<'a> {
-    ghost use Rattle.std.specs.Prelude.{ℕ, ◌+◌, ◌*◌, ◌/◌, ◌%◌, ◌<◌, ◌==◌, IfSome, false, length};
+    ghost use Rattle.std.specs.Prelude.{ℕ, ◌+◌, ◌*◌, ◌/◌, ◌%◌, ◌<◌, ◌==◌, IfSome, false, length, slice_index};
     ghost use Rattle.bitpack_sets.specs.Bitmaps.{Holds, has_bit, has_high};
     ghost use Rattle.bitpack_sets.specs.Chunks.{AreBetween, first_key, ids_from, lows_between, places};
     ghost use Rattle.bitpack_sets.specs.Directory.{chunk_ids, count_at};
+    ghost use Rattle.bitpack_sets.specs.Lists.{OfKey, body_lows, listed_ids};
+    ghost use Rattle.bitpack_sets.specs.Pairs.{IsSpan};
     ghost use Rattle.bitpack_sets.specs.Reads.{has};
-    ghost use Rattle.bitpack_sets.specs.Slices.{IsBlocks, block_numbers};
 
     /// The chunks of a set of `ids` ids in chunks.
     pub(crate) fn new(count: usize, rest: &'a [u8], ids: usize) -> Chunks<'a>
@@ -61,6 +64,7 @@ impl<'a> Chunks<'a> {
     }
 
     /// The position after the last.
+    #[inline(always)]
     fn len(&self) -> usize
         ensures { result ≡ places self.now }
     {
@@ -72,6 +76,7 @@ impl<'a> Chunks<'a> {
     }
 
     /// The key of the first id from a position on, `NO_KEY` if there is none.
+    #[inline(always)]
     pub(crate) fn key(&self, place: usize) -> u32
         ensures first { result ≡ first_key (ids_from self.now place) }
         ensures most { result ≤ NO_KEY }
@@ -121,6 +126,7 @@ impl<'a> Chunks<'a> {
         ensures one { self.now.count ≢ 0 → result ≤ place + 1 }
         ensures passed { key < first_key (ids_from self.now result) }
         ensures none { (x : ℕ) → x / 65536 ≤ key → has x (ids_from self.now result) ≡ false }
+        ensures shared { self.now.count ≡ 0 → (k : ℕ) → place ≤ k → k < result → slice_index (quads_of self.now.rest.now) k / 65536 ≡ key }
         ensures own { (x : ℕ) → x / 65536 ≡ key → has x (ids_from self.now place) ≡ has (x % 65536) (lows_between self.now place result) }
         ensures others { (x : ℕ) → key < x / 65536 → has x (ids_from self.now place) ≡ has x (ids_from self.now result) }
     {
@@ -182,6 +188,28 @@ impl<'a> Chunks<'a> {
         }
     }
 
+    /// The ids between two positions, which have this key.
+    #[inline(always)]
+    pub(crate) fn body(&self, key: u32, place: usize, end: usize) -> Body<'a>
+        requires key { key < NO_KEY }
+        requires span { IsSpan self.now key place end }
+        ensures key { OfKey key result }
+        ensures lows { body_lows result ≡ lows_between self.now place end }
+    {
+        if place == end {
+            return Body::Ids(Listed::ids(&[]));
+        }
+        if self.count == 0 {
+            return Body::Ids(Listed::ids(&self.rest[4 * place..4 * end]));
+        }
+        let body = body_of(self.ids, self.count, self.rest, place);
+        if self.is_numbers(place, body) {
+            Body::Ids(Listed::numbers(key * 65536, body))
+        } else {
+            Body::Blocks(body)
+        }
+    }
+
     /// The body of the ids between two positions, which share a key, if it is one of blocks.
     pub(crate) fn blocks(&self, place: usize, end: usize) -> Option<&'a [u8]>
         requires within { (place ≤ end) × (end ≤ places self.now) }
@@ -197,6 +225,17 @@ impl<'a> Chunks<'a> {
             None
         } else {
             Some(body)
+        }
+    }
+
+    /// All ids, if the set is not in chunks.
+    pub(crate) fn listed(&self) -> Option<Listed<'a>>
+        ensures { IfSome result (λ list. listed_ids list ≡ ids_from self.now 0) }
+    {
+        if self.count == 0 {
+            Some(Listed::ids(self.rest))
+        } else {
+            None
         }
     }
 
@@ -216,6 +255,7 @@ impl<'a> Chunks<'a> {
     }
 
     // Whether the body of a chunk is numbers.
+    #[inline(always)]
     fn is_numbers(&self, chunk: usize, body: &[u8]) -> bool
         requires chunks { self.now.count ≢ 0 }
         requires within { chunk < self.now.count }

@@ -1,19 +1,14 @@
 //! Combines two sets.
 
-ghost use Rattle.std.specs.Prelude.{◌≡◌, ◌+◌, ◌*◌, ◌<◌, ◌≤◌, ◌↔◌, ◌++◌, [], IfErr, IfOk, IfSome, IsTrue, None, OnErr, OnOk, drop, length, map, take, vec_capacity, vec_len};
-ghost use Rattle.bitpack_sets.specs.Bitmaps.{bitmap_numbers};
-ghost use Rattle.bitpack_sets.specs.Chunks.{lows_between};
+ghost use Rattle.std.specs.Prelude.{◌≡◌, ◌+◌, ◌*◌, ◌^◌, ◌<◌, ◌≤◌, ◌↔◌, ◌++◌, [], IfErr, IfOk, IsTrue, OnErr, OnOk, length, map, take, vec_capacity, vec_len};
+ghost use Rattle.bitpack_sets.specs.Follows.{Follow};
 ghost use Rattle.bitpack_sets.specs.Opened.{ids};
 ghost use Rattle.bitpack_sets.specs.Operations.{answer, those};
-ghost use Rattle.bitpack_sets.specs.Pairs.{IsMeeting, meets};
-ghost use Rattle.bitpack_sets.specs.Sets.{IsRising};
-ghost use Rattle.bitpack_sets.specs.Slices.{IsBlocks, block_numbers};
+ghost use Rattle.bitpack_sets.specs.Pairs.{IsMeeting, left, meets};
 
-use crate::bitmap::combining::combine as combine_bitmaps;
-use crate::bitmap::unpacking::{count_bitmap, unpack_bitmap, unpack_bits};
-use crate::blocks::Blocks;
-use crate::blocks::combining::{count_combined, unpack_combined};
+use crate::body::combine as combine_bodies;
 use crate::id_set::{IdSet, ROOM};
+use crate::listed::merging::merge;
 use crate::operation::Operation;
 use crate::pairing::{Meeting, Pair};
 use crate::reserved::append_zeros;
@@ -63,6 +58,7 @@ pub(crate) fn append_combined(
 /// Writes the ids that an operation on two sets gives at the start of the slice, and returns their number. Allocates nothing.
 ///
 /// Fails only with `Short`, if the slice has no room for them; what it holds then says nothing. Room for the ids of both sets is always enough.
+/// Items after the ids may change.
 pub fn combine_to(
     operation: Operation,
     a: &IdSet,
@@ -74,29 +70,18 @@ pub fn combine_to(
     ensures short { IfErr result (λ e. e ≡ SetError.Short) }
     ensures room { OnErr result (length out.old < length (answer operation (ids a.now) (ids b.now))) }
 {
-    let mut rooms = ([0; ROOM], [0; ROOM]);
-    let mut pair = Pair::new(operation, a.chunks(&mut rooms.0), b.chunks(&mut rooms.1));
-    let mut at = 0;
-    while let Some(meeting) = pair.next() {
-        let Some(end) = unpack_meeting(&pair, meeting, out, at) else {
-            return Err(SetError::Short);
-        };
-        at = end;
+    let count = write(operation, a, b, out);
+    if count > out.len() {
+        return Err(SetError::Short);
     }
-    Ok(at)
+    Ok(count)
 }
 
 /// How many ids an operation on two sets gives. Allocates nothing.
 pub fn combine_count(operation: Operation, a: &IdSet, b: &IdSet) -> usize
     ensures { result ≡ length (answer operation (ids a.now) (ids b.now)) }
 {
-    let mut rooms = ([0; ROOM], [0; ROOM]);
-    let mut pair = Pair::new(operation, a.chunks(&mut rooms.0), b.chunks(&mut rooms.1));
-    let mut count = 0;
-    while let Some(meeting) = pair.next() {
-        count += count_meeting(&pair, meeting);
-    }
-    count
+    write(operation, a, b, &mut [])
 }
 
 /// Whether no id is in both sets. Stops at the first chunk that has such an id, and allocates nothing.
@@ -120,87 +105,46 @@ fn gives_none(operation: Operation, a: &IdSet, b: &IdSet) -> bool
     let mut rooms = ([0; ROOM], [0; ROOM]);
     let mut pair = Pair::new(operation, a.chunks(&mut rooms.0), b.chunks(&mut rooms.1));
     while let Some(meeting) = pair.next() {
-        if count_meeting(&pair, meeting) > 0 {
+        if write_meeting(&pair, meeting, &mut [], 0) > 0 {
             return false;
         }
     }
     true
 }
 
-/// Writes the ids of a key that are in the answer. Returns where they end, or None if there is no room for them.
-fn unpack_meeting(pair: &Pair, meeting: Meeting, out: &mut [u32], at: usize) -> Option<usize>
+/// Writes the ids that an operation on two sets gives, if there is room for all. Returns their number.
+fn write(operation: Operation, a: &IdSet, b: &IdSet, out: &mut [u32]) -> usize
+    ensures { Follow (answer operation (ids a.now) (ids b.now)) out.old out.new 0 result }
+{
+    let mut rooms = ([0; ROOM], [0; ROOM]);
+    let x = a.chunks(&mut rooms.0);
+    let y = b.chunks(&mut rooms.1);
+    if let Some(list) = x.listed() {
+        if let Some(other) = y.listed() {
+            return merge(operation, &list, &other, out, 0);
+        }
+    }
+    write_chunks(Pair::new(operation, x, y), out)
+}
+
+/// Writes them chunk by chunk.
+fn write_chunks(mut pair: Pair, out: &mut [u32]) -> usize
+    ensures { Follow (those (2 ^ 32) (left pair.entry)) out.old out.new 0 result }
+{
+    let mut at = 0;
+    while let Some(meeting) = pair.next() {
+        at = write_meeting(&pair, meeting, out, at);
+    }
+    at
+}
+
+/// Writes the ids of a key that are in the answer, if there is room for all. Returns where they end, which is past the end if not.
+fn write_meeting(pair: &Pair, meeting: Meeting, out: &mut [u32], at: usize) -> usize
     requires meeting { IsMeeting pair.now meeting }
-    requires start { at ≤ length out.old }
-    ensures end { IfSome result (λ end. end ≡ at + length (those 65536 (meets pair.now meeting))) }
-    ensures values { IfSome result (λ end. take end out.new ≡ take at out.old ++ map (λ i. meeting.key * 65536 + i) (those 65536 (meets pair.now meeting))) }
-    ensures room { IfSome result (λ end. end ≤ length out.old) }
-    ensures none { result ≡ None → length out.old < at + length (those 65536 (meets pair.now meeting)) }
+    requires start { at ≤ 2 ^ 32 }
+    ensures { Follow (map (λ i. meeting.key * 65536 + i) (those 65536 (meets pair.now meeting))) out.old out.new at result }
 {
-    let base = meeting.key * 65536;
-    if let Some((a, b)) = both_blocks(pair, meeting) {
-        let mut starts = ([0; 257], [0; 257]);
-        let blocks = (Blocks::new(a, &mut starts.0), Blocks::new(b, &mut starts.1));
-        return unpack_combined(pair.operation, &blocks.0, &blocks.1, base, out, at);
-    }
-    let mut words = [0; 1024];
-    let mut highs = [0; 256];
-    let many = load_meeting(pair, meeting, &mut words, &mut highs);
-    let left = out.len() - at;
-    if left < 65536 && left < count_bitmap(&highs[..many], &words) {
-        return None;
-    }
-    Some(unpack_bitmap(&highs[..many], &words, base, out, at))
-}
-
-/// How many ids of a key are in the answer.
-fn count_meeting(pair: &Pair, meeting: Meeting) -> usize
-    requires { IsMeeting pair.now meeting }
-    ensures { result ≡ length (those 65536 (meets pair.now meeting)) }
-{
-    if let Some((a, b)) = both_blocks(pair, meeting) {
-        let mut starts = ([0; 257], [0; 257]);
-        let blocks = (Blocks::new(a, &mut starts.0), Blocks::new(b, &mut starts.1));
-        return count_combined(pair.operation, &blocks.0, &blocks.1);
-    }
-    let mut words = [0; 1024];
-    let mut highs = [0; 256];
-    let many = load_meeting(pair, meeting, &mut words, &mut highs);
-    count_bitmap(&highs[..many], &words)
-}
-
-/// The bodies of a key, if both are of blocks.
-fn both_blocks<'a>(pair: &Pair<'a>, meeting: Meeting) -> Option<(&'a [u8], &'a [u8])>
-    requires { IsMeeting pair.now meeting }
-    ensures a_blocks { IfSome result (λ bodies. IsBlocks (length (block_numbers bodies.0.now)) bodies.0.now) }
-    ensures b_blocks { IfSome result (λ bodies. IsBlocks (length (block_numbers bodies.1.now)) bodies.1.now) }
-    ensures a_numbers { IfSome result (λ bodies. block_numbers bodies.0.now ≡ lows_between pair.now.a meeting.a.0 meeting.a.1) }
-    ensures b_numbers { IfSome result (λ bodies. block_numbers bodies.1.now ≡ lows_between pair.now.b meeting.b.0 meeting.b.1) }
-{
-    let a = pair.a.blocks(meeting.a.0, meeting.a.1)?;
-    let b = pair.b.blocks(meeting.b.0, meeting.b.1)?;
-    Some((a, b))
-}
-
-/// Leaves the bits of a key's answer in a bitmap, and lists the high bytes that it can have. Returns how many these are.
-fn load_meeting(
-    pair: &Pair,
-    meeting: Meeting,
-    words: &mut [u64; 1024],
-    highs: &mut [u32; 256],
-) -> usize
-    requires { IsMeeting pair.now meeting }
-    ensures few { result ≤ 256 }
-    ensures rising { IsRising 0 256 (take result highs.new) }
-    ensures numbers { bitmap_numbers (take result highs.new) words.new ≡ those 65536 (meets pair.now meeting) }
-{
-    let (i, i_end) = meeting.a;
-    let (j, j_end) = meeting.b;
-    let (a_highs, b_highs) = (pair.a.highs(i, i_end), pair.b.highs(j, j_end));
-    let occur = pair.operation.highs(&a_highs, &b_highs);
-    let many = unpack_bits(&occur, 0, highs, 0);
-    let mut others = [0; 1024];
-    pair.a.load(i, i_end, &highs[..many], words);
-    pair.b.load(j, j_end, &highs[..many], &mut others);
-    combine_bitmaps(pair.operation, &highs[..many], words, &others);
-    many
+    let a = pair.a.body(meeting.key, meeting.a.0, meeting.a.1);
+    let b = pair.b.body(meeting.key, meeting.b.0, meeting.b.1);
+    combine_bodies(pair.operation, meeting.key, a, b, out, at)
 }

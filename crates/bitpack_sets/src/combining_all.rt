@@ -1,251 +1,250 @@
 //! Combines any number of sets, from the first to the last.
 
-ghost use Rattle.std.specs.Prelude.{◌≡◌, ◌⊎◌, ◌<◌, ◌≤◌, IfErr, IfOk, OnErr, OnOk, Err, [], length, replicate, take, vec_len};
-ghost use Rattle.std.specs.List.{AllZip};
-ghost use Rattle.bitpack_sets.specs.Folds.{AreWithin, ids_left};
-ghost use Rattle.bitpack_sets.specs.Operations.{answer_all};
-ghost use Rattle.bitpack_sets.specs.Rooms.{AreChunksOf, HoldsFew, all_ids};
+ghost use Rattle.std.specs.Prelude.{◌≡◌, ◌⊎◌, ◌+◌, ◌<◌, ◌≤◌, ◌++◌, IfErr, IfOk, IfSome, None, OnErr, length, map, take};
+ghost use Rattle.bitpack_sets.specs.Folds.{found, ids_of_keys};
+ghost use Rattle.bitpack_sets.specs.Operations.{answer_all, those};
 
-use crate::bitmap::unpacking::{count_bitmap, unpack_bitmap};
-use crate::chunks::Chunks;
+use crate::as_set::AsSet;
+use crate::bitmap::unpacking::{count_bitmap, unpack_bitmap, unpack_bits};
+use crate::chunks::NO_KEY;
 use crate::combining::{combine_count, combine_to};
-use crate::folding::next_part;
-use crate::id_set::{IdSet, ROOM};
+use crate::folding::{KEYS, combine_keys};
+use crate::id_set::IdSet;
+use crate::in_place::keep;
 use crate::operation::Operation;
 use crate::set_error::SetError;
-use std::alloc::Global;
 
-/// The most sets that are combined without an allocation.
-pub const MOST_SETS: usize = 64;
+/// The most ids that are written to be counted.
+const MOST_WRITTEN: usize = 4096;
 
-/// As `combine_all_to`, for at most `MOST_SETS` sets. Allocates nothing.
+/// Writes the ids of the first set, combined with each other set in turn, at the start of the slice, and returns their number. No set
+/// gives no id. Allocates nothing.
 ///
-/// Fails only with `Short`, if the slice has no room for the ids; what it holds then says nothing.
-pub fn combine_few_to(
+/// Fails only with `Short`, if the slice has no room for them; what it holds then says nothing.
+pub fn combine_all_to<S: AsSet>(
     operation: Operation,
-    sets: &[IdSet],
+    sets: &[S],
     out: &mut [u32],
 ) -> Result<usize, SetError>
-    requires few { length sets.now ≤ 64 }
-    ensures len { IfOk result (λ len. len ≡ length (answer_all operation (all_ids sets.now))) }
-    ensures ids { IfOk result (λ len. take len out.new ≡ answer_all operation (all_ids sets.now)) }
+    ensures len { IfOk result (λ len. len ≡ length (answer_all operation (map S.its_ids sets.now))) }
+    ensures ids { IfOk result (λ len. take len out.new ≡ answer_all operation (map S.its_ids sets.now)) }
     ensures short { IfErr result (λ e. e ≡ SetError.Short) }
-    ensures room { OnErr result (length out.old < length (answer_all operation (all_ids sets.now))) }
+    ensures room { OnErr result (length out.old < length (answer_all operation (map S.its_ids sets.now))) }
 {
     if sets.is_empty() {
         return Ok(0);
     }
     if sets.len() == 2 {
-        return combine_to(operation, &sets[0], &sets[1], out);
+        return combine_to(operation, &sets[0].as_set(), &sets[1].as_set(), out);
     }
-    fold_few_to(operation, sets, out)
+    match combine_ids(operation, sets, out) {
+        Some(count) => Ok(count),
+        None => fold_to(operation, sets, out),
+    }
 }
 
-/// How many ids the first set gives, combined with each other set in turn, for at most `MOST_SETS` sets. Allocates nothing.
-pub fn combine_few_count(operation: Operation, sets: &[IdSet]) -> usize
-    requires few { length sets.now ≤ 64 }
-    ensures { result ≡ length (answer_all operation (all_ids sets.now)) }
+/// How many ids the first set gives, combined with each other set in turn. Allocates nothing.
+pub fn combine_all_count<S: AsSet>(operation: Operation, sets: &[S]) -> usize
+    ensures { result ≡ length (answer_all operation (map S.its_ids sets.now)) }
 {
     if sets.is_empty() {
         return 0;
     }
     if sets.len() == 2 {
-        return combine_count(operation, &sets[0], &sets[1]);
+        return combine_count(operation, &sets[0].as_set(), &sets[1].as_set());
     }
-    fold_few_count(operation, sets)
+    if operation.keeps_right() {
+        return fold_count(operation, sets);
+    }
+    match count_ids(operation, sets) {
+        Some(count) => count,
+        None => fold_count(operation, sets),
+    }
 }
 
-/// Writes the ids of the first set, combined with each other set in turn, at the start of the slice, and returns their number. No set
-/// gives no id.
-///
-/// Fails with `Short`, if the slice has no room for them; what it holds then says nothing. Of more than `MOST_SETS` sets it fails with `Memory`
-/// too: it allocates less than 600 bytes for each set.
-pub fn combine_all_to(
-    alloc: Global,
-    operation: Operation,
-    sets: &[IdSet],
-    out: &mut [u32],
-) -> Result<usize, SetError>
-    ensures len { IfOk result (λ len. len ≡ length (answer_all operation (all_ids sets.now))) }
-    ensures ids { IfOk result (λ len. take len out.new ≡ answer_all operation (all_ids sets.now)) }
-    ensures errors { IfErr result (λ e. (e ≡ SetError.Short) ⊎ (e ≡ SetError.Memory)) }
-    ensures short { result ≡ Err SetError.Short → length out.old < length (answer_all operation (all_ids sets.now)) }
-    ensures memory { result ≡ Err SetError.Memory → 64 < length sets.now }
-{
-    if sets.len() <= MOST_SETS {
-        return combine_few_to(operation, sets, out);
-    }
-    let mut rooms = Vec::new(alloc);
-    fill_all(sets, &mut rooms)?;
-    let chunks = gather_all(sets, rooms.as_slice(), Vec::new(alloc))?;
-    let mut starts = all_starts(sets.len(), Vec::new(alloc))?;
-    fold_to(operation, chunks.as_slice(), starts.as_mut_slice(), out)
-}
-
-/// How many ids the first set gives, combined with each other set in turn.
-///
-/// Fails only with `Memory`, and only of more than `MOST_SETS` sets: it allocates less than 600 bytes for each.
-pub fn combine_all_count(
-    alloc: Global,
-    operation: Operation,
-    sets: &[IdSet],
-) -> Result<usize, SetError>
-    ensures count { IfOk result (λ count. count ≡ length (answer_all operation (all_ids sets.now))) }
-    ensures memory { IfErr result (λ e. e ≡ SetError.Memory) }
-    ensures few { OnErr result (64 < length sets.now) }
-{
-    if sets.len() <= MOST_SETS {
-        return Ok(combine_few_count(operation, sets));
-    }
-    let mut rooms = Vec::new(alloc);
-    fill_all(sets, &mut rooms)?;
-    let chunks = gather_all(sets, rooms.as_slice(), Vec::new(alloc))?;
-    let mut starts = all_starts(sets.len(), Vec::new(alloc))?;
-    Ok(fold_count(operation, chunks.as_slice(), starts.as_mut_slice()))
-}
-
-/// Writes the ids of a few sets, combined through an array of chunks. Two sets don't need its stack.
+/// Counts the ids of the answer as they are written, if there are few. Other calls don't need its stack.
 #[inline(never)]
-fn fold_few_to(operation: Operation, sets: &[IdSet], out: &mut [u32]) -> Result<usize, SetError>
+fn count_ids<S: AsSet>(operation: Operation, sets: &[S]) -> Option<usize>
     requires some { 0 < length sets.now }
-    requires few { length sets.now ≤ 64 }
-    ensures len { IfOk result (λ len. len ≡ length (answer_all operation (all_ids sets.now))) }
-    ensures ids { IfOk result (λ len. take len out.new ≡ answer_all operation (all_ids sets.now)) }
-    ensures short { IfErr result (λ e. e ≡ SetError.Short) }
-    ensures room { OnErr result (length out.old < length (answer_all operation (all_ids sets.now))) }
+    ensures { IfSome result (λ count. count ≡ length (answer_all operation (map S.its_ids sets.now))) }
 {
-    let count = sets.len();
-    let mut rooms = [[0; ROOM]; MOST_SETS];
-    let mut chunks = [Chunks::of_array(&[]); MOST_SETS];
-    let mut starts = [0; MOST_SETS];
-    fill(sets, &mut rooms);
-    gather(sets, &rooms, &mut chunks);
-    fold_to(operation, &chunks[..count], &mut starts[..count], out)
+    let mut ids = [0; MOST_WRITTEN];
+    combine_ids(operation, sets, &mut ids)
 }
 
-/// Counts the ids of a few sets through an array of chunks.
-#[inline(never)]
-fn fold_few_count(operation: Operation, sets: &[IdSet]) -> usize
+/// Writes the ids of the answer, if ids of a first set are looked up in the others, and there is room for these. Returns their number.
+fn combine_ids<S: AsSet>(operation: Operation, sets: &[S], out: &mut [u32]) -> Option<usize>
     requires some { 0 < length sets.now }
-    requires few { length sets.now ≤ 64 }
-    ensures { result ≡ length (answer_all operation (all_ids sets.now)) }
+    ensures len { IfSome result (λ len. len ≡ length (answer_all operation (map S.its_ids sets.now))) }
+    ensures ids { IfSome result (λ len. take len out.new ≡ answer_all operation (map S.its_ids sets.now)) }
 {
-    let count = sets.len();
-    let mut rooms = [[0; ROOM]; MOST_SETS];
-    let mut chunks = [Chunks::of_array(&[]); MOST_SETS];
-    let mut starts = [0; MOST_SETS];
-    fill(sets, &mut rooms);
-    gather(sets, &rooms, &mut chunks);
-    fold_count(operation, &chunks[..count], &mut starts[..count])
-}
-
-/// Makes rooms for the sets, with the ids of the sets of few.
-fn fill_all(sets: &[IdSet], rooms: &mut Vec<[u8; ROOM]>) -> Result<(), SetError>
-    ensures rooms { OnOk result (AllZip HoldsFew sets.now (take (length sets.now) rooms.new.items)) }
-    ensures len { OnOk result (vec_len rooms.new ≡ length sets.now) }
-    ensures memory { IfErr result (λ e. e ≡ SetError.Memory) }
-{
-    if rooms.resize(sets.len(), [0; ROOM]).is_err() {
-        return Err(SetError::Memory);
+    if sets.len() == 1 {
+        return None;
     }
-    fill(sets, rooms.as_mut_slice());
-    Ok(())
-}
-
-/// The chunks of the sets, whose rooms were filled before, in a vector of the caller.
-fn gather_all<'a>(
-    sets: &'a [IdSet<'a>],
-    rooms: &'a [[u8; ROOM]],
-    mut chunks: Vec<Chunks<'a>>,
-) -> Result<Vec<Chunks<'a>>, SetError>
-    requires rooms { AllZip HoldsFew sets.now (take (length sets.now) rooms.now) }
-    requires within { length sets.now ≤ length rooms.now }
-    ensures chunks { IfOk result (λ chunks. AreChunksOf sets.now (take (length sets.now) chunks.items)) }
-    ensures len { IfOk result (λ chunks. vec_len chunks ≡ length sets.now) }
-    ensures memory { IfErr result (λ e. e ≡ SetError.Memory) }
-{
-    if chunks.resize(sets.len(), Chunks::of_array(&[])).is_err() {
-        return Err(SetError::Memory);
-    }
-    gather(sets, rooms, chunks.as_mut_slice());
-    Ok(chunks)
-}
-
-/// Where the sets start, in an empty vector of the caller.
-fn all_starts(count: usize, mut starts: Vec<usize>) -> Result<Vec<usize>, SetError>
-    requires empty { starts.items ≡ [] }
-    ensures starts { IfOk result (λ starts. starts.items ≡ replicate count 0) }
-    ensures memory { IfErr result (λ e. e ≡ SetError.Memory) }
-{
-    if starts.resize(count, 0).is_err() {
-        return Err(SetError::Memory);
-    }
-    Ok(starts)
-}
-
-/// Writes the ids of the sets of few into the rooms of the sets.
-fn fill(sets: &[IdSet], rooms: &mut [[u8; ROOM]])
-    requires { length sets.now ≤ length rooms.old }
-    ensures { AllZip HoldsFew sets.now (take (length sets.now) rooms.new) }
-{
-    for i in 0..sets.len() {
-        sets[i].fill(&mut rooms[i]);
-    }
-}
-
-/// Writes the chunks of the sets, whose rooms were filled before.
-fn gather<'a>(sets: &'a [IdSet<'a>], rooms: &'a [[u8; ROOM]], chunks: &mut [Chunks<'a>])
-    requires rooms { AllZip HoldsFew sets.now (take (length sets.now) rooms.now) }
-    requires within { length sets.now ≤ length rooms.now }
-    requires room { length sets.now ≤ length chunks.old }
-    ensures { AreChunksOf sets.now (take (length sets.now) chunks.new) }
-{
-    for i in 0..sets.len() {
-        chunks[i] = sets[i].filled_chunks(&rooms[i]);
-    }
-}
-
-/// Writes the ids of the answer of what is left of the sets from where they start. Moves the starts.
-fn fold_to(
-    operation: Operation,
-    sets: &[Chunks],
-    starts: &mut [usize],
-    out: &mut [u32],
-) -> Result<usize, SetError>
-    requires some { 0 < length sets.now }
-    requires within { AreWithin sets.now starts.old }
-    ensures len { IfOk result (λ len. len ≡ length (ids_left operation sets.now starts.old)) }
-    ensures ids { IfOk result (λ len. take len out.new ≡ ids_left operation sets.now starts.old) }
-    ensures short { IfErr result (λ e. e ≡ SetError.Short) }
-    ensures room { OnErr result (length out.old < length (ids_left operation sets.now starts.old)) }
-{
-    let mut words = [0; 1024];
-    let mut others = [0; 1024];
-    let mut highs = [0; 256];
-    let mut at = 0;
-    while let Some(part) = next_part(operation, sets, starts, &mut words, &mut others, &mut highs) {
-        let own = &highs[..part.high_count];
-        let left = out.len() - at;
-        if left < 65536 && left < count_bitmap(own, &words) {
-            return Err(SetError::Short);
+    match operation {
+        Operation::And => {
+            let (a, b) = shortest(sets);
+            if sets[a].as_set().len() > out.len() {
+                return None;
+            }
+            intersect_to(sets, a, b, out)
         }
-        at = unpack_bitmap(own, &words, part.key * 65536, out, at);
+        Operation::AndNot if is_sparse(&sets[0].as_set(), out.len()) => subtract_to(sets, out),
+        _ => None,
+    }
+}
+
+/// Whether there is room for the ids of a set, and they are looked up faster than bitmaps of their keys are combined. Only the time depends
+/// on it.
+fn is_sparse(set: &IdSet, room: usize) -> bool {
+    let parts = set.parts();
+    parts.count <= room && parts.count / 1024 <= parts.chunks
+}
+
+/// The indexes of the two shortest sets, or 0 twice if there is one set alone.
+fn shortest<S: AsSet>(sets: &[S]) -> (usize, usize)
+    requires { 0 < length sets.now }
+    ensures within { (result.0 < length sets.now) × (result.1 < length sets.now) }
+{
+    let mut found = (0, 0);
+    let mut lens = (usize::MAX, usize::MAX);
+    for i in 0..sets.len() {
+        let len = sets[i].as_set().len();
+        if len < lens.0 {
+            found = (i, found.0);
+            lens = (len, lens.0);
+        } else if len < lens.1 {
+            found.1 = i;
+            lens.1 = len;
+        }
+    }
+    found
+}
+
+/// Writes the ids that all sets have: those that two have, without those that another lacks. None if there is no room for the first.
+fn intersect_to<S: AsSet>(sets: &[S], a: usize, b: usize, out: &mut [u32]) -> Option<usize>
+    requires within { (a < length sets.now) × (b < length sets.now) }
+    ensures len { IfSome result (λ len. len ≡ length (answer_all Operation.And (map S.its_ids sets.now))) }
+    ensures ids { IfSome result (λ len. take len out.new ≡ answer_all Operation.And (map S.its_ids sets.now)) }
+{
+    let mut count = combine_to(Operation::And, &sets[a].as_set(), &sets[b].as_set(), out).ok()?;
+    for i in 0..sets.len() {
+        if i != a && i != b {
+            count = keep(&mut out[..count], &sets[i].as_set(), true);
+        }
+    }
+    Some(count)
+}
+
+/// Writes the ids that the first set has alone: those that the second lacks, without those that another has. None if there is no room for
+/// the first.
+fn subtract_to<S: AsSet>(sets: &[S], out: &mut [u32]) -> Option<usize>
+    requires some { 2 ≤ length sets.now }
+    ensures len { IfSome result (λ len. len ≡ length (answer_all Operation.AndNot (map S.its_ids sets.now))) }
+    ensures ids { IfSome result (λ len. take len out.new ≡ answer_all Operation.AndNot (map S.its_ids sets.now)) }
+{
+    let first = sets[0].as_set();
+    let mut count = combine_to(Operation::AndNot, &first, &sets[1].as_set(), out).ok()?;
+    for i in 2..sets.len() {
+        count = keep(&mut out[..count], &sets[i].as_set(), false);
+    }
+    Some(count)
+}
+
+/// Which set is taken first: the shortest, if it may be.
+fn first_of<S: AsSet>(operation: Operation, sets: &[S]) -> usize
+    requires { 0 < length sets.now }
+    ensures within { result < length sets.now }
+    ensures may { (result ≡ 0) ⊎ (operation ≡ Operation.And) }
+{
+    match operation {
+        Operation::And => shortest(sets).0,
+        _ => 0,
+    }
+}
+
+/// Writes the ids of the answer, some keys at a time. Two sets don't need its stack.
+#[inline(never)]
+fn fold_to<S: AsSet>(operation: Operation, sets: &[S], out: &mut [u32]) -> Result<usize, SetError>
+    requires some { 0 < length sets.now }
+    ensures len { IfOk result (λ len. len ≡ length (answer_all operation (map S.its_ids sets.now))) }
+    ensures ids { IfOk result (λ len. take len out.new ≡ answer_all operation (map S.its_ids sets.now)) }
+    ensures short { IfErr result (λ e. e ≡ SetError.Short) }
+    ensures room { OnErr result (length out.old < length (answer_all operation (map S.its_ids sets.now))) }
+{
+    let first = first_of(operation, sets);
+    let mut highs = [[0; 4]; KEYS];
+    let mut words = [[0; 1024]; KEYS];
+    let mut base = 0;
+    let mut at = 0;
+    while base < NO_KEY {
+        let next = combine_keys(operation, sets, first, base, &mut highs, &mut words);
+        let Some(end) = unpack_keys(&highs, &words, base, out, at) else {
+            return Err(SetError::Short);
+        };
+        at = end;
+        base = next / 8 * 8;
     }
     Ok(at)
 }
 
-/// How many ids the answer of what is left of the sets has. Moves the starts.
-fn fold_count(operation: Operation, sets: &[Chunks], starts: &mut [usize]) -> usize
-    requires some { 0 < length sets.now }
-    requires within { AreWithin sets.now starts.old }
-    ensures { result ≡ length (ids_left operation sets.now starts.old) }
+/// Writes the ids of several keys from `base` on. Returns where they end, or None if there is no room for them.
+fn unpack_keys(
+    highs: &[[u64; 4]; KEYS],
+    words: &[[u64; 1024]; KEYS],
+    base: u32,
+    out: &mut [u32],
+    at: usize,
+) -> Option<usize>
+    requires base { base + 8 ≤ 65536 }
+    requires start { at ≤ length out.old }
+    ensures end { IfSome result (λ end. end ≡ at + length (those 524288 (found highs.now words.now))) }
+    ensures within { IfSome result (λ end. end ≤ length out.new) }
+    ensures values { IfSome result (λ end. take end out.new ≡ take at out.old ++ ids_of_keys highs.now words.now base) }
+    ensures none { result ≡ None → length out.old < at + length (those 524288 (found highs.now words.now)) }
 {
-    let mut words = [0; 1024];
-    let mut others = [0; 1024];
-    let mut highs = [0; 256];
+    let mut list = [0; 256];
+    let mut at = at;
+    for k in 0..KEYS {
+        let count = unpack_bits(&highs[k], 0, &mut list, 0);
+        let own = &list[..count];
+        let left = out.len() - at;
+        if left < 65536 && left < count_bitmap(own, &words[k]) {
+            return None;
+        }
+        at = unpack_bitmap(own, &words[k], (base + k as u32) * 65536, out, at);
+    }
+    Some(at)
+}
+
+/// How many ids the answer has, some keys at a time.
+#[inline(never)]
+fn fold_count<S: AsSet>(operation: Operation, sets: &[S]) -> usize
+    requires some { 0 < length sets.now }
+    ensures { result ≡ length (answer_all operation (map S.its_ids sets.now)) }
+{
+    let first = first_of(operation, sets);
+    let mut highs = [[0; 4]; KEYS];
+    let mut words = [[0; 1024]; KEYS];
+    let mut base = 0;
     let mut count = 0;
-    while let Some(part) = next_part(operation, sets, starts, &mut words, &mut others, &mut highs) {
-        count += count_bitmap(&highs[..part.high_count], &words);
+    while base < NO_KEY {
+        let next = combine_keys(operation, sets, first, base, &mut highs, &mut words);
+        count += count_keys(&highs, &words);
+        base = next / 8 * 8;
+    }
+    count
+}
+
+/// How many ids several keys have.
+fn count_keys(highs: &[[u64; 4]; KEYS], words: &[[u64; 1024]; KEYS]) -> usize
+    ensures { result ≡ length (those 524288 (found highs.now words.now)) }
+{
+    let mut list = [0; 256];
+    let mut count = 0;
+    for k in 0..KEYS {
+        let many = unpack_bits(&highs[k], 0, &mut list, 0);
+        count += count_bitmap(&list[..many], &words[k]);
     }
     count
 }

@@ -5,56 +5,10 @@ ghost use Rattle.bitpack_sets.specs.Directory.{before};
 ghost use Rattle.bitpack_sets.specs.Errors.{Finds};
 ghost use Rattle.bitpack_sets.specs.Faults.{entry_fault, first_of, loose_sizes_fault, sizes_fault};
 ghost use Rattle.bitpack_sets.specs.Sound.{HasDirectory};
-ghost use Rattle.bitpack_sets.specs.Varints.{byte_count, short_at};
+ghost use Rattle.bitpack_sets.specs.Varints as varints;
 
 use crate::set_error::SetError;
-
-/// Number `index` of those that have `size` bytes each and begin at `start`. If four bytes are there, it reads these at once.
-#[inline(always)]
-fn read_short(size: usize, bytes: &[u8], start: usize, index: usize) -> u32
-    requires size { (1 ≤ size) × (size ≤ 4) }
-    requires within { start + size * index + size ≤ length bytes.now }
-    ensures { result ≡ short_at size (drop start bytes.now) index }
-{
-    let from = start + size * index;
-    if bytes.len() - from < 4 {
-        return read_bytes(size, bytes, start, index);
-    }
-    let word = u32::from_le_bytes([
-        bytes[from],
-        bytes[from + 1],
-        bytes[from + 2],
-        bytes[from + 3],
-    ]);
-    if size == 1 {
-        return word % 256;
-    }
-    if size == 2 {
-        return word % 65536;
-    }
-    if size == 3 {
-        return word % 16777216;
-    }
-    word
-}
-
-/// Such a number of one to three bytes, byte by byte.
-fn read_bytes(size: usize, bytes: &[u8], start: usize, index: usize) -> u32
-    requires size { (1 ≤ size) × (size ≤ 3) }
-    requires within { start + size * index + size ≤ length bytes.now }
-    ensures { result ≡ short_at size (drop start bytes.now) index }
-{
-    let from = start + size * index;
-    let low = bytes[from] as u32;
-    if size == 1 {
-        return low;
-    }
-    let lower = low + bytes[from + 1] as u32 * 256;
-    if size == 2 {
-        return lower;
-    }
-    lower + bytes[from + 2] as u32 * 65536
-}
+use bitpack_groups::{byte_count, read_integer};
 
 /// The key of a chunk.
 #[inline(always)]
@@ -63,8 +17,8 @@ pub(crate) fn key_at(chunks: usize, rest: &[u8], chunk: usize) -> u16
     requires within { chunk < chunks }
     ensures { result ≡ Rattle.bitpack_sets.specs.Directory.key_at rest.now chunk }
 {
-    let from = 1 + 2 * chunk;
-    u16::from_le_bytes([rest[from], rest[from + 1]])
+    let bytes = &rest[1 + 2 * chunk..3 + 2 * chunk];
+    u16::from_le_bytes([bytes[0], bytes[1]])
 }
 
 /// The end of the body of a chunk.
@@ -74,7 +28,7 @@ pub(crate) fn end_at(chunks: usize, rest: &[u8], chunk: usize) -> u32
     requires within { chunk < chunks }
     ensures { result ≡ Rattle.bitpack_sets.specs.Directory.end_at chunks rest.now chunk }
 {
-    read_short((rest[0] % 16) as usize, rest, 1 + 2 * chunks, chunk)
+    read_integer((rest[0] % 16) as usize, rest, 1 + 2 * chunks, chunk)
 }
 
 /// How many ids a chunk and those before it have.
@@ -85,7 +39,7 @@ pub(crate) fn sum_at(chunks: usize, rest: &[u8], chunk: usize) -> u32
     ensures { result ≡ Rattle.bitpack_sets.specs.Directory.sum_at chunks rest.now chunk }
 {
     let start = 1 + (2 + (rest[0] % 16) as usize) * chunks;
-    read_short((rest[0] / 16) as usize, rest, start, chunk)
+    read_integer((rest[0] / 16) as usize, rest, start, chunk)
 }
 
 /// Where the body of a chunk begins among the bodies.
@@ -157,21 +111,6 @@ fn are_sizes(end_size: u8, sum_size: u8) -> bool
     sum_size <= 4
 }
 
-/// The least count of bytes that hold a number.
-fn least_size(number: u32) -> u8
-    ensures { result ≡ byte_count number }
-{
-    if number < 1 << 8 {
-        1
-    } else if number < 1 << 16 {
-        2
-    } else if number < 1 << 24 {
-        3
-    } else {
-        4
-    }
-}
-
 /// Tests whether the sizes are the least.
 #[tactic(auto, unfolding(crate::specs::Faults::loose_sizes_fault))]
 pub(crate) fn test_least(count: usize, chunks: usize, rest: &[u8]) -> Result<(), SetError>
@@ -189,12 +128,12 @@ pub(crate) fn test_least(count: usize, chunks: usize, rest: &[u8]) -> Result<(),
 
 /// The sizes are the least for the last end and the count.
 fn are_least(sizes: u8, end: u32, count: u32) -> bool
-    ensures { result ≡ ((sizes % 16 == byte_count end) && (sizes / 16 == byte_count count)) }
+    ensures { result ≡ ((sizes % 16 == varints.byte_count end) && (sizes / 16 == varints.byte_count count)) }
 {
-    if sizes % 16 != least_size(end) {
+    if (sizes % 16) as usize != byte_count(end) {
         return false;
     }
-    sizes / 16 == least_size(count)
+    (sizes / 16) as usize == byte_count(count)
 }
 
 /// Tests the key, the sum and the end of each chunk.

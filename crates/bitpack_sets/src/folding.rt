@@ -1,176 +1,259 @@
-//! Walks through sets chunk by chunk, and combines them from the first to the last.
+//! Combines sets from the first to the last, some keys at a time.
 
-ghost use Rattle.std.specs.Prelude.{◌≡◌, ◌≢◌, ℕ, ◌+◌, ◌/◌, ◌%◌, ◌^◌, ◌<◌, ◌≤◌, IfNone, IfSome, true, false, length, take};
-ghost use Rattle.std.specs.List.{All, AllZip};
+ghost use Rattle.std.specs.Prelude.{◌≡◌, ◌≢◌, ℕ, ◌+◌, ◌*◌, ◌/◌, ◌%◌, ◌<◌, ◌≤◌, ◌&&◌, ◌||◌, ◌==◌, false, true, length, map};
 ghost use Rattle.bitpack_sets.specs.Bitmaps.{has_bit};
 ghost use Rattle.bitpack_sets.specs.Chunks.{lows_between, places};
-ghost use Rattle.bitpack_sets.specs.Folds.{AreWithin, IsPart, first_keys, having, left, places_left};
-ghost use Rattle.bitpack_sets.specs.Operations.{holds, those};
+ghost use Rattle.bitpack_sets.specs.Folds.{found, high_of, joined, marked, swapped};
+ghost use Rattle.bitpack_sets.specs.Opened.{ids};
+ghost use Rattle.bitpack_sets.specs.Operations.{folded, holds};
 ghost use Rattle.bitpack_sets.specs.Reads.{has};
+ghost use Rattle.bitpack_sets.specs.Sets.{IsRising};
 
+use crate::as_set::AsSet;
 use crate::bitmap::combining::combine;
+use crate::bitmap::loading::clear;
+use crate::bitmap::marking::{set_bit, test_bit};
 use crate::bitmap::unpacking::unpack_bits;
 use crate::chunks::{Chunks, NO_KEY};
+use crate::few::MOST_FEW;
+use crate::id_set::{IdSet, ROOM};
 use crate::operation::Operation;
 
-/// A chunk of the answer: its key, and how many high bytes it can have.
-#[derive(Clone, Copy)]
-pub(crate) struct Part {
-    pub(crate) key: u32,
-    pub(crate) high_count: usize,
-}
+/// How many keys are combined at a time, from a multiple of it on.
+pub(crate) const KEYS: usize = 8;
 
-/// The next chunk of the answer of what is left of the sets from where they start. Moves the starts after it. Its high bytes are left in `highs`,
-/// and their bits in `words`. None if no id is left.
-pub(crate) fn next_part(
+/// Leaves the ids of the answer that have one of the keys from `base` on: for each key high bytes, and a bit for each id that has one of
+/// these. The first set and another are exchanged. Returns a key after these, `NO_KEY` at most, below which the answer has no other id.
+pub(crate) fn combine_keys<S: AsSet>(
     operation: Operation,
-    sets: &[Chunks],
-    starts: &mut [usize],
-    words: &mut [u64; 1024],
-    others: &mut [u64; 1024],
-    highs: &mut [u32; 256],
-) -> Option<Part>
-    requires some { 0 < length sets.now }
-    requires within { AreWithin sets.now starts.old }
-    ensures within { AreWithin sets.now starts.new }
-    ensures none { IfNone result ((x : ℕ) → x < 2 ^ 32 → left operation sets.now starts.old x ≡ false) }
-    ensures count { IfSome result (λ part. part.high_count ≤ 256) }
-    ensures part { IfSome result (λ part. IsPart part.key (take part.high_count highs.new) words.new (left operation sets.now starts.old) (left operation sets.now starts.new)) }
-    // It goes on.
-    ensures fewer { IfSome result (λ part. places_left sets.now starts.new < places_left sets.now starts.old) }
+    sets: &[S],
+    first: usize,
+    base: u32,
+    highs: &mut [[u64; 4]; KEYS],
+    words: &mut [[u64; 1024]; KEYS],
+) -> u32
+    requires first { first < length sets.now }
+    requires base { base + 8 ≤ 65536 }
+    ensures later { base + 8 ≤ result }
+    ensures most { result ≤ 65536 }
+    ensures own { (i : ℕ) → i < 524288 → found highs.new words.new i
+        ≡ folded operation (map (has (base * 65536 + i)) (swapped first (map S.its_ids sets.now))) }
+    ensures none { (x : ℕ) → base + 8 ≤ x / 65536 → x / 65536 < result
+        → folded operation (map (has x) (swapped first (map S.its_ids sets.now))) ≡ false }
 {
-    let key = next_key(operation, sets, starts);
-    if key == NO_KEY {
-        return None;
+    let mut others = [0; 1024];
+    let start = &sets[first].as_set();
+    let mut next = add_chunks(operation, true, start, base, highs, words, &mut others);
+    for i in 1..sets.len() {
+        let index = if i == first { 0 } else { i };
+        let set = &sets[index].as_set();
+        let own = add(operation, set, base, highs, words, &mut others);
+        next = operation.key(next, own);
     }
-    pass(sets, starts, key);
-    let occur = all_highs(operation, sets, starts, key);
-    let high_count = unpack_bits(&occur, 0, highs, 0);
-    let own = &highs[..high_count];
-    combine_key(operation, sets, starts, key, &occur, own, words, others);
-    Some(Part { key, high_count })
+    next
 }
 
-/// The next key that the answer can have.
-fn next_key(operation: Operation, sets: &[Chunks], starts: &[usize]) -> u32
-    requires some { 0 < length sets.now }
-    requires within { AreWithin sets.now starts.now }
-    ensures most { result ≤ NO_KEY }
-    ensures first { has result (first_keys sets.now starts.now) ≡ true }
-    ensures lower { (x : ℕ) → x / 65536 < result → left operation sets.now starts.now x ≡ false }
+/// Combines the ids of a set that have one of the keys from `base` on. Returns the next key of the set.
+fn add(
+    operation: Operation,
+    set: &IdSet,
+    base: u32,
+    highs: &mut [[u64; 4]; KEYS],
+    words: &mut [[u64; 1024]; KEYS],
+    others: &mut [u64; 1024],
+) -> u32
+    requires base { base + 8 ≤ 65536 }
+    ensures later { base + 8 ≤ result }
+    ensures most { result ≤ 65536 }
+    ensures own { (i : ℕ) → i < 524288 → found highs.new words.new i ≡ holds operation (found highs.old words.old i) (has (base * 65536 + i) (ids set.now)) }
+    ensures none { (x : ℕ) → base + 8 ≤ x / 65536 → x / 65536 < result → has x (ids set.now) ≡ false }
 {
-    let mut key = sets[0].key(starts[0]);
-    for i in 1..sets.len() {
-        let other = sets[i].key(starts[i]);
-        if operation.keeps_right() {
-            key = key.min(other);
-        } else if !operation.keeps_left() {
-            key = key.max(other);
+    match operation {
+        Operation::Or if set.len() <= MOST_FEW => mark_few(set, base, highs, words, others),
+        _ => add_chunks(operation, false, set, base, highs, words, others),
+    }
+}
+
+/// Adds the ids of a set of few ids that have one of the keys from `base` on. Returns the next key of the set.
+fn mark_few(
+    set: &IdSet,
+    base: u32,
+    highs: &mut [[u64; 4]; KEYS],
+    words: &mut [[u64; 1024]; KEYS],
+    others: &mut [u64; 1024],
+) -> u32
+    requires few { length (ids set.now) ≤ 127 }
+    requires base { base + 8 ≤ 65536 }
+    ensures later { base + 8 ≤ result }
+    ensures most { result ≤ 65536 }
+    ensures own { (i : ℕ) → i < 524288 → found highs.new words.new i ≡ (found highs.old words.old i || has (base * 65536 + i) (ids set.now)) }
+    ensures none { (x : ℕ) → base + 8 ≤ x / 65536 → x / 65536 < result → has x (ids set.now) ≡ false }
+{
+    let mut ids = [0; MOST_FEW];
+    let count = set.copy_to(&mut ids);
+    for i in 0..count {
+        let id = ids[i];
+        let key = id >> 16;
+        if key >= base + 8 {
+            return key;
+        }
+        if key >= base {
+            let k = (key - base) as usize;
+            mark(&mut highs[k], &mut words[k], (id % 65536) as usize, others);
         }
     }
-    key
+    NO_KEY
 }
 
-/// Passes over the ids of lower keys.
-fn pass(sets: &[Chunks], starts: &mut [usize], key: u32)
-    requires key { key ≤ NO_KEY }
-    requires within { AreWithin sets.now starts.old }
-    ensures within { AreWithin sets.now starts.new }
-    ensures later { AllZip (λ a b. a ≤ b) starts.old starts.new }
-    ensures least { All (λ k. key ≤ k) (first_keys sets.now starts.new) }
-    ensures ids { (x : ℕ) → key ≤ x / 65536 → having sets.now starts.new x ≡ having sets.now starts.old x }
-{
-    for i in 0..sets.len() {
-        starts[i] = sets[i].seek(starts[i], key);
-    }
-}
-
-/// The high bytes that a chunk of the answer can have.
-fn all_highs(operation: Operation, sets: &[Chunks], starts: &[usize], key: u32) -> [u64; 4]
-    requires some { 0 < length sets.now }
-    requires key { key < NO_KEY }
-    requires within { AreWithin sets.now starts.now }
-    requires least { All (λ k. key ≤ k) (first_keys sets.now starts.now) }
-    // What it leaves out, the answer does not have.
-    ensures { (x : ℕ) → x / 65536 ≡ key → has_bit result (x % 65536 / 256) ≡ false → left operation sets.now starts.now x ≡ false }
-{
-    let first = &sets[0];
-    let start = starts[0];
-    let mut occur = first.highs(start, first.end(start, key));
-    for i in 1..sets.len() {
-        let set = &sets[i];
-        let place = starts[i];
-        let own = set.highs(place, set.end(place, key));
-        occur = operation.highs(&occur, &own);
-    }
-    occur
-}
-
-/// Loads the ids of a key that have these high bytes, combined. Moves the starts after the key.
-fn combine_key(
+/// Takes the ids of a set key by key, or combines them. Returns the next key of the set.
+fn add_chunks(
     operation: Operation,
-    sets: &[Chunks],
-    starts: &mut [usize],
-    key: u32,
-    occur: &[u64; 4],
-    highs: &[u32],
-    words: &mut [u64; 1024],
+    takes: bool,
+    set: &IdSet,
+    base: u32,
+    highs: &mut [[u64; 4]; KEYS],
+    words: &mut [[u64; 1024]; KEYS],
     others: &mut [u64; 1024],
-)
-    requires some { 0 < length sets.now }
-    requires key { key < NO_KEY }
-    requires within { AreWithin sets.now starts.old }
-    requires least { All (λ k. key ≤ k) (first_keys sets.now starts.old) }
-    requires highs { highs.now ≡ those 256 (has_bit occur.now) }
-    ensures within { AreWithin sets.now starts.new }
-    ensures later { AllZip (λ a b. a ≤ b) starts.old starts.new }
-    ensures passed { All (λ k. key < k) (first_keys sets.now starts.new) }
-    ensures own { (x : ℕ) → x / 65536 ≡ key → has_bit occur.now (x % 65536 / 256) ≡ true
-        → has_bit words.new (x % 65536) ≡ left operation sets.now starts.old x }
-    ensures none { (x : ℕ) → x / 65536 ≤ key → left operation sets.now starts.new x ≡ false }
-    ensures others { (x : ℕ) → key < x / 65536 → having sets.now starts.new x ≡ having sets.now starts.old x }
+) -> u32
+    requires base { base + 8 ≤ 65536 }
+    ensures later { base + 8 ≤ result }
+    ensures most { result ≤ 65536 }
+    ensures own { (i : ℕ) → i < 524288 → found highs.new words.new i ≡ joined takes operation (found highs.old words.old i) (has (base * 65536 + i) (ids set.now)) }
+    ensures none { (x : ℕ) → base + 8 ≤ x / 65536 → x / 65536 < result → has x (ids set.now) ≡ false }
 {
-    let first = &sets[0];
-    let start = starts[0];
-    let next = first.end(start, key);
-    first.load(start, next, highs, words);
-    starts[0] = next;
-    for i in 1..sets.len() {
-        let set = &sets[i];
-        let place = starts[i];
-        let end = set.end(place, key);
-        add_set(operation, set, place, end, occur, words, others);
-        starts[i] = end;
+    let mut room = [0; ROOM];
+    let chunks = set.chunks(&mut room);
+    let mut place = chunks.seek(0, base);
+    for k in 0..KEYS {
+        let end = chunks.end(place, base + k as u32);
+        let (own_highs, own_words) = (&mut highs[k], &mut words[k]);
+        if takes {
+            take_chunk(&chunks, place, end, own_highs, own_words);
+        } else {
+            add_chunk(operation, &chunks, place, end, own_highs, own_words, others);
+        }
+        place = end;
     }
+    chunks.key(place)
 }
 
-/// Combines the bits of these high bytes with the ids of a set between two positions, which share a key.
-fn add_set(
+/// Adds a number.
+#[inline(always)]
+fn mark(highs: &mut [u64; 4], words: &mut [u64; 1024], low: usize, others: &mut [u64; 1024])
+    requires { low < 65536 }
+    ensures { (x : ℕ) → x < 65536 → marked highs.new words.new x ≡ (marked highs.old words.old x || (x == low)) }
+{
+    if !test_bit(highs, low / 256) {
+        clear_highs(&[(low / 256) as u32], words, others);
+        set_bit(highs, low / 256);
+    }
+    set_bit(words, low);
+}
+
+/// Takes the ids of a set between two positions, which share a key.
+fn take_chunk(set: &Chunks, place: usize, end: usize, highs: &mut [u64; 4], words: &mut [u64; 1024])
+    requires within { (place ≤ end) × (end ≤ places set.now) }
+    requires one { set.now.count ≢ 0 → end ≤ place + 1 }
+    ensures { (x : ℕ) → x < 65536 → marked highs.new words.new x ≡ has x (lows_between set.now place end) }
+{
+    let mut own = [0; 256];
+    *highs = set.highs(place, end);
+    let count = unpack_bits(highs, 0, &mut own, 0);
+    set.load(place, end, &own[..count], words);
+}
+
+/// Combines numbers with the ids of a set between two positions, which share a key.
+fn add_chunk(
     operation: Operation,
     set: &Chunks,
     place: usize,
     end: usize,
-    occur: &[u64; 4],
+    highs: &mut [u64; 4],
     words: &mut [u64; 1024],
     others: &mut [u64; 1024],
 )
-    requires later { place ≤ end }
-    requires within { end ≤ places set.now }
+    requires within { (place ≤ end) × (end ≤ places set.now) }
     requires one { set.now.count ≢ 0 → end ≤ place + 1 }
-    ensures { (x : ℕ) → x < 65536 → has_bit occur.now (x / 256) ≡ true
-        → has_bit words.new x ≡ holds operation (has_bit words.old x) (has x (lows_between set.now place end)) }
+    ensures { (x : ℕ) → x < 65536 → marked highs.new words.new x
+        ≡ holds operation (marked highs.old words.old x) (has x (lows_between set.now place end)) }
 {
-    let mut own = *occur;
-    // If the answer has ids of the left alone, then only the set's own high bytes change it.
-    if operation.keeps_left() {
-        if place == end {
-            return;
-        }
-        own = Operation::And.highs(occur, &set.highs(place, end));
+    let own = set.highs(place, end);
+    if operation.keeps_right() {
+        let mut fresh = [0; 256];
+        let count = unpack_bits(
+            &combine_highs(Operation::AndNot, &own, highs),
+            0,
+            &mut fresh,
+            0,
+        );
+        clear_highs(&fresh[..count], words, others);
+        combine_words(operation, set, place, end, &own, words, others);
+    } else {
+        let shared = combine_highs(Operation::And, highs, &own);
+        combine_words(operation, set, place, end, &shared, words, others);
     }
+    *highs = next_highs(operation, highs, &own);
+}
+
+/// Combines the bits of these high bytes with the ids of a set.
+#[inline(always)]
+fn combine_words(
+    operation: Operation,
+    set: &Chunks,
+    place: usize,
+    end: usize,
+    own: &[u64; 4],
+    words: &mut [u64; 1024],
+    others: &mut [u64; 1024],
+)
+    requires within { (place ≤ end) × (end ≤ places set.now) }
+    requires one { set.now.count ≢ 0 → end ≤ place + 1 }
+    ensures own { (x : ℕ) → x < 65536 → has_bit own.now (x / 256) ≡ true
+        → has_bit words.new x ≡ holds operation (has_bit words.old x) (has x (lows_between set.now place end)) }
+    ensures rest { (x : ℕ) → x < 65536 → has_bit own.now (x / 256) ≡ false → has_bit words.new x ≡ has_bit words.old x }
+{
     let mut highs = [0; 256];
-    let high_count = unpack_bits(&own, 0, &mut highs, 0);
-    let highs = &highs[..high_count];
+    let count = unpack_bits(own, 0, &mut highs, 0);
+    if count == 0 {
+        return;
+    }
+    let highs = &highs[..count];
     set.load(place, end, highs, others);
     combine(operation, highs, words, others);
+}
+
+/// Clears the bits of these high bytes alone.
+#[inline(always)]
+fn clear_highs(highs: &[u32], words: &mut [u64; 1024], others: &mut [u64; 1024])
+    requires { IsRising 0 256 highs.now }
+    ensures own { (x : ℕ) → x < 65536 → has (x / 256) highs.now ≡ true → has_bit words.new x ≡ false }
+    ensures rest { (x : ℕ) → x < 65536 → has (x / 256) highs.now ≡ false → has_bit words.new x ≡ has_bit words.old x }
+{
+    clear(highs, others);
+    combine(Operation::And, highs, words, others);
+}
+
+/// The high bytes that the answer of two sets has.
+#[inline(always)]
+fn next_highs(operation: Operation, a: &[u64; 4], b: &[u64; 4]) -> [u64; 4]
+    ensures { (h : ℕ) → h < 256 → has_bit result h ≡ high_of operation (has_bit a.now h) (has_bit b.now h) }
+{
+    match operation {
+        Operation::And => combine_highs(Operation::And, a, b),
+        Operation::AndNot => *a,
+        _ => combine_highs(Operation::Or, a, b),
+    }
+}
+
+/// Combines bits.
+#[inline(always)]
+fn combine_highs(operation: Operation, a: &[u64; 4], b: &[u64; 4]) -> [u64; 4]
+    ensures { (h : ℕ) → h < 256 → has_bit result h ≡ holds operation (has_bit a.now h) (has_bit b.now h) }
+{
+    [
+        operation.word(a[0], b[0]),
+        operation.word(a[1], b[1]),
+        operation.word(a[2], b[2]),
+        operation.word(a[3], b[3]),
+    ]
 }

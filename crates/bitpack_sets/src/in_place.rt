@@ -1,18 +1,30 @@
 //! Ids of a vector that a set has or lacks, and the union of both, in the vector.
 
-ghost use Rattle.std.specs.Prelude.{◌≡◌, ℕ, ◌+◌, ◌^◌, ◌<◌, ◌≤◌, ◌≢◌, ◌||◌, ◌++◌, true, false, Err, None, if◌then◌else◌, IfErr, IfOk, IsOk, MatchOption, OnErr, OnOk, drop, length, not, slice_index, take, vec_capacity};
+ghost use Rattle.std.specs.Prelude.{◌≡◌, ℕ, ◌+◌, ◌/◌, ◌^◌, ◌<◌, ◌≤◌, ◌≢◌, ◌||◌, ◌++◌, true, false, Err, None, IfErr, IfOk, IsOk, MatchOption, OnErr, OnOk, drop, length, not, slice_index, take, vec_capacity};
 ghost use Rattle.std.specs.List.{filter};
+ghost use Rattle.bitpack_sets.specs.Chunks.{Knows, ids_from};
+ghost use Rattle.bitpack_sets.specs.Kept.{IsCounted, Moves, keeps};
 ghost use Rattle.bitpack_sets.specs.Opened.{ids};
 ghost use Rattle.bitpack_sets.specs.Operations.{those};
 ghost use Rattle.bitpack_sets.specs.Reads.{has};
 ghost use Rattle.bitpack_sets.specs.Sets.{IsRising};
 ghost use Rattle.bitpack_sets.specs.Slices.{first_fall};
 
+use crate::blocks::Blocks;
+use crate::chunks::Chunks;
 use crate::encoding::order::first_unsorted;
-use crate::finding::Known;
+use crate::finding::{Own, load, many_from, span};
 use crate::id_set::{IdSet, ROOM};
 use crate::reserved::append_zeros;
 use crate::set_error::SetError;
+
+/// After how many ids of a key the slices of its body are found once, and after how many its bitmap is loaded.
+const MANY: usize = 3;
+
+const MOST: usize = 511;
+
+/// After how many ids of a key its bitmap is loaded to count them.
+const SOME: usize = 31;
 
 /// Keeps the ids that a set has, in their order. They need not increase. Allocates nothing.
 pub fn retain(values: &mut Vec<u32>, set: &IdSet)
@@ -69,12 +81,60 @@ fn count_shared(values: &[u32], set: &IdSet) -> usize
 {
     let mut room = [0; ROOM];
     let chunks = set.chunks(&mut room);
-    let mut known = Known::new(&chunks);
     let mut count = 0;
-    for index in 0..values.len() {
-        count += known.has_at(&chunks, values, index) as usize;
+    let mut index = 0;
+    while index < values.len() {
+        let next = if many_from(values, index, SOME) {
+            count_many(values, index, count, &chunks)
+        } else {
+            count_few(values, index, count, &chunks)
+        };
+        count = next.0;
+        index = next.1;
     }
     count
+}
+
+/// Counts ids that share the key of the one at an index, from it on, by the bitmap of the key. Returns how many these are with the count
+/// before, and where the ids of the key end.
+#[inline(never)]
+fn count_many(values: &[u32], index: usize, count: usize, set: &Chunks) -> (usize, usize)
+    requires within { index < length values.now }
+    requires few { count ≤ index }
+    ensures { IsCounted (ids_from set.now 0) values.now count index result.0 result.1 }
+{
+    let mut words = [0; 1024];
+    let own = load(set, values[index] >> 16, &mut words);
+    count_run(values, index, count, set, own)
+}
+
+/// Counts them as they are found.
+fn count_few(values: &[u32], index: usize, count: usize, set: &Chunks) -> (usize, usize)
+    requires within { index < length values.now }
+    requires few { count ≤ index }
+    ensures { IsCounted (ids_from set.now 0) values.now count index result.0 result.1 }
+{
+    let (place, end) = span(set, values[index] >> 16);
+    count_run(values, index, count, set, Own::Between(place, end))
+}
+
+/// Counts them, when the ids of the key are found.
+#[inline(always)]
+fn count_run(values: &[u32], index: usize, count: usize, set: &Chunks, own: Own) -> (usize, usize)
+    requires within { index < length values.now }
+    requires few { count ≤ index }
+    requires own { Knows set.now (slice_index values.now index / 65536) own }
+    ensures { IsCounted (ids_from set.now 0) values.now count index result.0 result.1 }
+{
+    let key = values[index] >> 16;
+    let mut count = count;
+    for i in index..values.len() {
+        if values[i] >> 16 != key {
+            return (count, i);
+        }
+        count += own.has(set, values[i]) as usize;
+    }
+    (count, values.len())
 }
 
 /// Unites the first `count` ids with a set. There is room for the union alone.
@@ -135,18 +195,92 @@ fn is_at(values: &[u32], index: usize, id: u32) -> bool
 }
 
 /// Moves the ids that a set has, or those that it lacks, to the front, in their order. Returns how many these are.
-fn keep(values: &mut [u32], set: &IdSet, there: bool) -> usize
+pub(crate) fn keep(values: &mut [u32], set: &IdSet, there: bool) -> usize
     ensures within { result ≤ length values.new }
-    ensures kept { take result values.new ≡ filter (λ x. if there then has x (ids set.now) else not (has x (ids set.now))) values.old }
+    ensures kept { take result values.new ≡ filter (keeps there (ids set.now)) values.old }
 {
     let mut room = [0; ROOM];
     let chunks = set.chunks(&mut room);
-    let mut known = Known::new(&chunks);
     let mut kept = 0;
-    for index in 0..values.len() {
-        let has = known.has_at(&chunks, values, index);
-        values[kept] = values[index];
-        kept += (has == there) as usize;
+    let mut index = 0;
+    while index < values.len() {
+        let next = if many_from(values, index, MOST) {
+            keep_many(values, index, kept, &chunks, there)
+        } else {
+            keep_few(values, index, kept, &chunks, there)
+        };
+        kept = next.0;
+        index = next.1;
     }
     kept
+}
+
+/// Moves ids that share the key of the one at an index, from it on, by the bitmap of the key. Returns where the moved ones end, and where the
+/// ids of the key end.
+#[inline(never)]
+fn keep_many(
+    values: &mut [u32],
+    index: usize,
+    kept: usize,
+    set: &Chunks,
+    there: bool,
+) -> (usize, usize)
+    requires within { index < length values.old }
+    requires behind { kept ≤ index }
+    ensures { Moves there (ids_from set.now 0) values.old values.new kept index result.0 result.1 }
+{
+    let mut words = [0; 1024];
+    let own = load(set, values[index] >> 16, &mut words);
+    keep_run(values, index, kept, set, own, there)
+}
+
+/// Moves them as they are found in the body of the key, whose slices are found before if many are looked up.
+fn keep_few(
+    values: &mut [u32],
+    index: usize,
+    kept: usize,
+    set: &Chunks,
+    there: bool,
+) -> (usize, usize)
+    requires within { index < length values.old }
+    requires behind { kept ≤ index }
+    ensures { Moves there (ids_from set.now 0) values.old values.new kept index result.0 result.1 }
+{
+    let (place, end) = span(set, values[index] >> 16);
+    if many_from(values, index, MANY)
+        && let Some(body) = set.blocks(place, end)
+    {
+        let mut starts = [0; 257];
+        let own = Own::Blocks(Blocks::new(body, &mut starts));
+        return keep_run(values, index, kept, set, own, there);
+    }
+    keep_run(values, index, kept, set, Own::Between(place, end), there)
+}
+
+/// Moves them, when the ids of the key are found.
+#[inline(always)]
+fn keep_run(
+    values: &mut [u32],
+    index: usize,
+    kept: usize,
+    set: &Chunks,
+    own: Own,
+    there: bool,
+) -> (usize, usize)
+    requires within { index < length values.old }
+    requires behind { kept ≤ index }
+    requires own { Knows set.now (slice_index values.old index / 65536) own }
+    ensures { Moves there (ids_from set.now 0) values.old values.new kept index result.0 result.1 }
+{
+    let key = values[index] >> 16;
+    let mut kept = kept;
+    for i in index..values.len() {
+        let id = values[i];
+        if id >> 16 != key {
+            return (kept, i);
+        }
+        values[kept] = id;
+        kept += (own.has(set, id) == there) as usize;
+    }
+    (kept, values.len())
 }

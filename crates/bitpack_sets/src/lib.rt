@@ -3,8 +3,10 @@
 
 mod appending;
 mod array;
+mod as_set;
 mod bitmap;
 mod blocks;
+mod body;
 mod chunk;
 mod chunks;
 mod combining;
@@ -20,6 +22,7 @@ mod id_set;
 mod ids;
 mod in_place;
 pub mod laws;
+mod listed;
 mod opening;
 mod operation;
 mod pairing;
@@ -36,10 +39,9 @@ mod varints;
 mod worked_sets;
 
 pub use appending::append;
+pub use as_set::AsSet;
 pub use combining::{combine, combine_count, combine_to, is_disjoint, is_subset};
-pub use combining_all::{
-    MOST_SETS, combine_all_count, combine_all_to, combine_few_count, combine_few_to,
-};
+pub use combining_all::{combine_all_count, combine_all_to};
 pub use combining_sets::combine_set;
 pub use encoding::{encode, encode_to, encoded_len};
 pub use id_set::IdSet;

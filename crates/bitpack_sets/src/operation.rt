@@ -33,6 +33,19 @@ impl Operation {
         }
     }
 
+    /// Combines 256 bits.
+    #[inline(always)]
+    pub(crate) fn words(self, a: [u64; 4], b: [u64; 4]) -> [u64; 4]
+        ensures { (i : ℕ) → i < 256 → has_bit result i ≡ holds self (has_bit a i) (has_bit b i) }
+    {
+        [
+            self.word(a[0], b[0]),
+            self.word(a[1], b[1]),
+            self.word(a[2], b[2]),
+            self.word(a[3], b[3]),
+        ]
+    }
+
     /// Whether the answer has ids that are in the first set alone.
     #[inline(always)]
     pub(crate) fn keeps_left(self) -> bool
@@ -75,17 +88,15 @@ impl Operation {
         ensures both { (h : ℕ) → h < 256 → has_bit result h ≡ false → holds self (has_bit a.now h) (has_bit b.now h) ≡ false }
         ensures left { (h : ℕ) → h < 256 → has_bit result h ≡ false → holds self (has_bit a.now h) false ≡ false }
         ensures right { (h : ℕ) → h < 256 → has_bit result h ≡ false → holds self false (has_bit b.now h) ≡ false }
+        // If it has no ids of the second alone, the first has the high bytes, and likewise the second.
+        ensures in_left { holds self false true ≡ false → (h : ℕ) → h < 256 → has_bit result h ≡ true → has_bit a.now h ≡ true }
+        ensures in_right { holds self true false ≡ false → (h : ℕ) → h < 256 → has_bit result h ≡ true → has_bit b.now h ≡ true }
     {
         let operation = match self {
             Operation::And => Operation::And,
             Operation::AndNot => return *a,
             _ => Operation::Or,
         };
-        [
-            operation.word(a[0], b[0]),
-            operation.word(a[1], b[1]),
-            operation.word(a[2], b[2]),
-            operation.word(a[3], b[3]),
-        ]
+        operation.words(*a, *b)
     }
 }

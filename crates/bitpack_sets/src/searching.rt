@@ -129,6 +129,7 @@ pub(crate) fn in_chunk(count: usize, chunks: usize, rest: &[u8], chunk: usize, n
 }
 
 /// The body of a chunk.
+#[inline(always)]
 pub(crate) fn body_of<'a>(count: usize, chunks: usize, rest: &'a [u8], chunk: usize) -> &'a [u8]
     requires few { chunks ≤ 65536 }
     requires rest { IsRest count chunks rest.now }

@@ -53,7 +53,7 @@ pub(crate) fn open_group(
     ensures within { IfOk result (λ end. end ≤ length bytes.now) }
 {
     match test_group(group, count, bytes, codes) {
-        Ok((end, _)) => Ok(end),
+        Ok(end) => Ok(end),
         Err(error) => Err(as_set_error(error)),
     }
 }

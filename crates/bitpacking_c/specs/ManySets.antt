@@ -9,18 +9,16 @@ use Rattle.bitpacking_c.specs.declared.set_view.SetView.{SetView}
 abbrev pub ids_of_views : List SetView → List (List ℕ)
 ids_of_views views = map (λ view. ids_in view.bytes.now) views
 
--- the ids that an operation on sets gives are written to the front, and their number is the result; or there is no room for them, and the
--- result is -3; or there are more than 64 sets, the result is -8, and nothing is written
-pub record WritesIds (many : ℕ) (ids before after : List ℕ) (answer : ℤ) : Type 0 where
-  pub refused : 64 < many → (answer ≡ negsuc 7) × (after ≡ before)
-  pub short : many ≤ 64 → length before < length ids → answer ≡ negsuc 2
-  pub count : many ≤ 64 → length ids ≤ length before → answer ≡ pos (length ids)
-  pub ids_are : many ≤ 64 → length ids ≤ length before → take (length ids) after ≡ ids
+-- these ids are written to the front, and their number is the result; or there is no room for them, and the result is -3
+pub record WritesIds (ids before after : List ℕ) (answer : ℤ) : Type 0 where
+  pub short : length before < length ids → answer ≡ negsuc 2
+  pub count : length ids ≤ length before → answer ≡ pos (length ids)
+  pub ids_are : length ids ≤ length before → take (length ids) after ≡ ids
 
+-- the ids that an operation on sets gives are written so
 abbrev pub CombinesSets : Operation → List SetView → List ℕ → List ℕ → ℤ → Type 0
-CombinesSets operation views = WritesIds (length views) (answer_all operation (ids_of_views views))
+CombinesSets operation views = WritesIds (answer_all operation (ids_of_views views))
 
--- the result is how many ids an operation on sets gives; or -8, if there are more than 64 sets
-pub record CountsSets (operation : Operation) (views : List SetView) (answer : ℤ) : Type 0 where
-  pub refused : 64 < length views → answer ≡ negsuc 7
-  pub count : length views ≤ 64 → answer ≡ pos (length (answer_all operation (ids_of_views views)))
+-- the result is how many ids an operation on sets gives
+abbrev pub CountsSets : Operation → List SetView → ℤ → Type 0
+CountsSets operation views answer = answer ≡ pos (length (answer_all operation (ids_of_views views)))

@@ -8,7 +8,7 @@ ghost use Rattle.bitpack_sets.specs.Stated.{States};
 ghost use Rattle.bitpacking_c.specs.IdSets.{Encodes, SeeksId, number_of_answer, set_fault_number};
 ghost use Rattle.bitpacking_c.specs.Views.{Gets, UnpacksList};
 
-use bitpack_sets::{IdSet, Parts};
+use bitpack_sets::{AsSet, IdSet, Parts};
 
 /// An id set that was opened. It borrows its bytes, which do not change while the view is used.
 ///
@@ -61,11 +61,13 @@ impl<'a> SetView<'a> {
             },
         ))
     }
+}
 
-    /// The set, which is empty if the view was not opened.
-    pub(crate) fn set_or_empty(&self) -> IdSet<'a>
-        ensures { ids result ≡ ids_in self.now.bytes.now }
-    {
+impl<'a> AsSet for SetView<'a> {
+    ghost its_ids = { λ view. ids_in view.bytes.now };
+
+    #[inline(always)]
+    fn as_set(&self) -> IdSet<'_> {
         match self.set() {
             Some(set) => set,
             None => no_ids(),
@@ -74,7 +76,7 @@ impl<'a> SetView<'a> {
 }
 
 /// The empty set.
-pub(crate) fn no_ids<'a>() -> IdSet<'a>
+fn no_ids<'a>() -> IdSet<'a>
     ensures { ids result ≡ [] }
 {
     IdSet::of_tested(&[0x80])

@@ -88,8 +88,6 @@ class SetsSession : public Session {
             });
         size_t len = query.operation == '|' ? sum : bitpacking_set_len(&views_[0]);
         uint32_t *ids = room_.of(len);
-        if (views_.size() > BITPACKING_SET_MAX_VIEWS)
-            return united(ids, len);
         auto call = query.operation == '&'   ? bitpacking_set_intersect
                     : query.operation == '|' ? bitpacking_set_unite
                                              : bitpacking_set_subtract;
@@ -101,22 +99,6 @@ class SetsSession : public Session {
     }
 
   private:
-    // Of more sets than a call takes, by parts.
-    size_t united(uint32_t *ids, size_t len)
-    {
-        size_t count = 0;
-        for (size_t i = 0; i < views_.size(); i += BITPACKING_SET_MAX_VIEWS) {
-            size_t some = std::min<size_t>(BITPACKING_SET_MAX_VIEWS, views_.size() - i);
-            ptrdiff_t more = bitpacking_set_unite(&views_[i], some, ids + count, len - count);
-            if (more < 0)
-                fail(more);
-            std::inplace_merge(ids, ids + count, ids + count + more);
-            count = std::unique(ids, ids + count + more) - ids;
-        }
-        out = ids;
-        return count;
-    }
-
     const Sets &all_;
     bool opens_;
     std::vector<bitpacking_set> views_;

@@ -43,8 +43,8 @@ fn low_at(size: usize, bytes: &[u8], i: usize) -> usize
     ensures small { result < 65536 }
     ensures low { result ≡ slice_index (lows_of size bytes.now) i }
 {
-    let from = size * i;
-    bytes[from] as usize + 256 * bytes[from + 1] as usize
+    let bytes = &bytes[size * i..size * i + 2];
+    u16::from_le_bytes([bytes[0], bytes[1]]) as usize
 }
 
 /// The high bytes of the low 16 bits of integers of two or four bytes, as bits.

@@ -1,12 +1,15 @@
 //! Tests and sets bits.
 
-ghost use Rattle.std.specs.Prelude.{◌≡◌, ℕ, ◌*◌, ◌<◌, ◌≤◌, ◌||◌, ◌==◌, false, length, slice_index, true, drop, take};
+ghost use Rattle.std.specs.Prelude.{◌≡◌, ℕ, ◌*◌, ◌<◌, ◌≤◌, ◌||◌, ◌==◌, false, length, slice_index, true};
 ghost use Rattle.bitpack_sets.specs.Bitmaps.{has_bit};
 ghost use Rattle.bitpack_sets.specs.Operations.{those};
 ghost use Rattle.bitpack_sets.specs.Reads.{has};
 ghost use Rattle.bitpack_sets.specs.Slices.{slice_len, slice_numbers};
 
-use crate::slice::reading::word_at;
+use crate::bitmap::ones::bit_of;
+use crate::operation::Operation;
+use crate::slice::marks::four_of;
+use crate::slice::reading::words_of;
 
 /// Whether a bit is 1.
 #[inline(always)]
@@ -81,12 +84,7 @@ pub(crate) fn slice_bits(count: usize, bytes: &[u8]) -> [u64; 4]
     if count < 32 {
         byte_bits(bytes)
     } else if count < 256 {
-        [
-            word_at(bytes, 0),
-            word_at(bytes, 1),
-            word_at(bytes, 2),
-            word_at(bytes, 3),
-        ]
+        words_of(bytes)
     } else {
         [u64::MAX; 4]
     }
@@ -97,22 +95,28 @@ pub(crate) fn slice_bits(count: usize, bytes: &[u8]) -> [u64; 4]
 fn byte_bits(bytes: &[u8]) -> [u64; 4]
     ensures { (i : ℕ) → i < 256 → has_bit result i ≡ has i bytes.now }
 {
+    if bytes.len() == 0 {
+        return [0; 4];
+    }
+    let full = (bytes.len() - 1) / 4;
     let mut bits = [0; 4];
-    for step in 0..bytes.len().div_ceil(4) {
-        set_four(&mut bits, bytes, 4 * step);
+    set_four(&mut bits, &four_of(&bytes[4 * full..]));
+    for step in 0..full {
+        set_four(&mut bits, &bytes[4 * step..4 * step + 4]);
     }
     bits
 }
 
-/// Sets the bits of four bytes from an index on. If there are fewer than four, the last is taken again.
+/// Sets the bits of four bytes.
 #[inline(always)]
-fn set_four(bits: &mut [u64; 4], bytes: &[u8], at: usize)
-    requires { at < length bytes.now }
-    ensures { (i : ℕ) → has_bit bits.new i ≡ (has_bit bits.old i || has i (take 4 (drop at bytes.now))) }
+fn set_four(bits: &mut [u64; 4], bytes: &[u8])
+    requires { length bytes.now ≡ 4 }
+    ensures { (i : ℕ) → i < 256 → has_bit bits.new i ≡ (has_bit bits.old i || has i bytes.now) }
 {
-    let last = bytes.len() - 1;
-    set_bit(bits, bytes[at] as usize);
-    set_bit(bits, bytes[(at + 1).min(last)] as usize);
-    set_bit(bits, bytes[(at + 2).min(last)] as usize);
-    set_bit(bits, bytes[(at + 3).min(last)] as usize);
+    let first = Operation::Or.words(bit_of(bytes[0]), bit_of(bytes[1]));
+    let last = Operation::Or.words(bit_of(bytes[2]), bit_of(bytes[3]));
+    bits[0] |= first[0] | last[0];
+    bits[1] |= first[1] | last[1];
+    bits[2] |= first[2] | last[2];
+    bits[3] |= first[3] | last[3];
 }

@@ -44,7 +44,7 @@ fn unpack_few(bits: &[u64], base: u32, out: &mut [u32], at: usize) -> usize
 
 /// Writes them byte by byte.
 #[inline(always)]
-fn unpack_many(bits: &[u64], base: u32, out: &mut [u32], at: usize) -> usize
+pub(crate) fn unpack_many(bits: &[u64], base: u32, out: &mut [u32], at: usize) -> usize
     requires size { length bits.now ≡ 4 }
     requires fits { base + 256 ≤ 2 ^ 32 }
     requires room { at + 256 ≤ length out.old }

@@ -1,10 +1,11 @@
 //! Combines two bodies of blocks.
 
-ghost use Rattle.std.specs.Prelude.{◌≡◌, None, ◌+◌, ◌^◌, ◌<◌, ◌≤◌, ◌++◌, IfSome, length, map, take};
-ghost use Rattle.bitpack_sets.specs.Operations.{combined};
-ghost use Rattle.bitpack_sets.specs.Selections.{parts_numbers};
+ghost use Rattle.std.specs.Prelude.{◌≡◌, ℕ, None, ◌+◌, ◌^◌, ◌<◌, ◌≤◌, ◌==◌, ◌++◌, IfSome, true, false, length, map, take};
+ghost use Rattle.std.specs.Int.{bit_at};
+ghost use Rattle.bitpack_sets.specs.Bitmaps.{has_bit};
+ghost use Rattle.bitpack_sets.specs.Operations.{combined, holds};
+ghost use Rattle.bitpack_sets.specs.Selections.{answer_with, parts_numbers, word_highs};
 
-use crate::bitmap::unpacking::unpack_bits;
 use crate::blocks::Blocks;
 use crate::operation::Operation;
 use crate::slice::selecting::select;
@@ -50,12 +51,44 @@ fn unpack_each(
     ensures room { IfSome result (λ end. end ≤ length out.old) }
     ensures none { result ≡ None → length out.old < at + length (combined 65536 operation (parts_numbers a.now) (parts_numbers b.now)) }
 {
-    let mut highs = [0; 256];
-    let many = unpack_bits(&operation.highs(&a.highs, &b.highs), 0, &mut highs, 0);
+    let occur = operation.highs(&a.highs, &b.highs);
     let mut next = at;
-    for high in &highs[..many] {
-        let selection = select(operation, a.slice(*high as usize), b.slice(*high as usize));
-        next = selection.unpack_within(base + 256 * *high, out, next)?;
+    for word in 0..4 {
+        next = unpack_word(operation, a, b, 64 * word, occur[word], base, out, next)?;
+    }
+    Some(next)
+}
+
+/// Writes the numbers whose high bytes are bits of a word. Its bit 0 is the high byte `first`. Returns where they end.
+#[inline(always)]
+fn unpack_word(
+    operation: Operation,
+    a: &Blocks,
+    b: &Blocks,
+    first: usize,
+    word: u64,
+    base: u32,
+    out: &mut [u32],
+    at: usize,
+) -> Option<usize>
+    requires within { first + 64 ≤ 256 }
+    requires in_left { holds operation false true ≡ false → (i : ℕ) → i < 64 → (bit_at word i == 1) ≡ true → has_bit a.now.highs (first + i) ≡ true }
+    requires in_right { holds operation true false ≡ false → (i : ℕ) → i < 64 → (bit_at word i == 1) ≡ true → has_bit b.now.highs (first + i) ≡ true }
+    requires fits { base + 65536 ≤ 2 ^ 32 }
+    requires start { at ≤ length out.old }
+    ensures end { IfSome result (λ end. end ≡ at + length (answer_with (word_highs first word) operation a.now b.now)) }
+    ensures values { IfSome result (λ end. take end out.new ≡ take at out.old ++ map (λ i. base + i) (answer_with (word_highs first word) operation a.now b.now)) }
+    ensures room { IfSome result (λ end. end ≤ length out.old) }
+    ensures none { result ≡ None → length out.old < at + length (answer_with (word_highs first word) operation a.now b.now) }
+{
+    let mut next = at;
+    let mut left = word;
+    while left != 0 {
+        let high = first + left.trailing_zeros() as usize;
+        let x = a.slice_of(high, !operation.keeps_right());
+        let y = b.slice_of(high, !operation.keeps_left());
+        next = select(operation, x, y).unpack_within(base + 256 * high as u32, out, next)?;
+        left &= left.wrapping_sub(1);
     }
     Some(next)
 }
@@ -77,12 +110,30 @@ pub(crate) fn count_combined(operation: Operation, a: &Blocks, b: &Blocks) -> us
 fn count_each(operation: Operation, a: &Blocks, b: &Blocks) -> usize
     ensures { result ≡ length (combined 65536 operation (parts_numbers a.now) (parts_numbers b.now)) }
 {
-    let mut highs = [0; 256];
-    let many = unpack_bits(&operation.highs(&a.highs, &b.highs), 0, &mut highs, 0);
+    let occur = operation.highs(&a.highs, &b.highs);
     let mut count = 0;
-    for high in &highs[..many] {
-        let selection = select(operation, a.slice(*high as usize), b.slice(*high as usize));
-        count += selection.count();
+    for word in 0..4 {
+        count += count_word(operation, a, b, 64 * word, occur[word]);
+    }
+    count
+}
+
+/// Counts the numbers whose high bytes are bits of a word. Its bit 0 is the high byte `first`.
+#[inline(always)]
+fn count_word(operation: Operation, a: &Blocks, b: &Blocks, first: usize, word: u64) -> usize
+    requires within { first + 64 ≤ 256 }
+    requires in_left { holds operation false true ≡ false → (i : ℕ) → i < 64 → (bit_at word i == 1) ≡ true → has_bit a.now.highs (first + i) ≡ true }
+    requires in_right { holds operation true false ≡ false → (i : ℕ) → i < 64 → (bit_at word i == 1) ≡ true → has_bit b.now.highs (first + i) ≡ true }
+    ensures { result ≡ length (answer_with (word_highs first word) operation a.now b.now) }
+{
+    let mut count = 0;
+    let mut left = word;
+    while left != 0 {
+        let high = first + left.trailing_zeros() as usize;
+        let x = a.slice_of(high, !operation.keeps_right());
+        let y = b.slice_of(high, !operation.keeps_left());
+        count += select(operation, x, y).count();
+        left &= left.wrapping_sub(1);
     }
     count
 }

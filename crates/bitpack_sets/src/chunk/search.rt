@@ -140,7 +140,8 @@ pub(crate) fn number_at(body: &[u8], place: usize) -> u16
     requires { place < length body.now / 2 }
     ensures { result ≡ slice_index (pairs_of body.now) place }
 {
-    body[2 * place] as u16 + 256 * body[2 * place + 1] as u16
+    let bytes = &body[2 * place..2 * place + 2];
+    u16::from_le_bytes([bytes[0], bytes[1]])
 }
 
 /// How many numbers of a body of numbers are below this one, by halves.

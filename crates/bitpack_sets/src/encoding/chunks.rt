@@ -8,10 +8,10 @@ ghost use Rattle.bitpack_sets.specs.Varints.{number};
 ghost use Rattle.bitpack_sets.specs.Written.{bodies, directory, ends_text, head, keys_text, sums_text};
 
 use crate::encoding::bodies::write_body;
-use crate::encoding::integers::{byte_count, write_at, write_integers};
+use crate::encoding::integers::write_integers;
 use crate::encoding::measuring::{body_len, measure_slices};
 use crate::encoding::runs::{CHUNK_BITS, run_len};
-use bitpack_groups::{number_len, write_number};
+use bitpack_groups::{byte_count, number_len, write_at, write_number};
 
 /// How many bytes the array of `count` ids has.
 pub(crate) fn array_len(count: usize) -> usize
@@ -29,7 +29,7 @@ pub(crate) fn chunks_len(count: usize, chunks: usize, size: usize) -> usize
     ensures { result ≡ 2 + length (number count) + length (number chunks)
         + (2 + varints.byte_count size + varints.byte_count count) * chunks + size }
 {
-    let entry = 2 + byte_count(size) + byte_count(count);
+    let entry = 2 + byte_count(size as u32) + byte_count(count as u32);
     head_len(count, chunks) + entry * chunks + size
 }
 
@@ -57,8 +57,8 @@ pub(crate) fn write_chunks(ids: &[u32], chunks: usize, size: usize, out: &mut [u
     requires room { length out.old ≡ length (in_chunks ids.now) }
     ensures { out.new ≡ in_chunks ids.now }
 {
-    let end_size = byte_count(size);
-    let sum_size = byte_count(ids.len());
+    let end_size = byte_count(size as u32);
+    let sum_size = byte_count(ids.len() as u32);
     let len = head_len(ids.len(), chunks);
     let (head, rest) = out.split_at_mut(len);
     write_head(ids.len(), chunks, end_size, sum_size, head);

@@ -8,8 +8,8 @@ ghost use Rattle.bitpack_sets.specs.Sound.{IsRest};
 
 use crate::directory::{begin_at, bodies_start, count_before, end_at, sum_at};
 use crate::encoding::chunks::{head_len, write_entries, write_head};
-use crate::encoding::integers::{byte_count, write_at};
 use crate::encoding::measuring::{count_chunks, measure_bodies};
+use bitpack_groups::{byte_count, write_at};
 
 /// The chunks of a set in chunks that are copied if ids follow: all but the last.
 #[derive(Clone, Copy)]
@@ -207,8 +207,8 @@ impl<'a> Front<'a> {
         ensures { out.new ≡ in_chunks (front_ids self.now ++ ids.now) }
     {
         let count = self.len() + ids.len();
-        let end_size = byte_count(size);
-        let sum_size = byte_count(count);
+        let end_size = byte_count(size as u32);
+        let sum_size = byte_count(count as u32);
         let len = head_len(count, chunks);
         let (head, rest) = out.split_at_mut(len);
         write_head(count, chunks, end_size, sum_size, head);

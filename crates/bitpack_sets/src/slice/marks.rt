@@ -1,6 +1,6 @@
 //! Which bytes of a slice another slice has: a mark for each, which is a bit.
 
-ghost use Rattle.std.specs.Prelude.{◌≡◌, ℕ, ◌+◌, ◌/◌, ◌%◌, ◌^◌, ◌<◌, ◌≤◌, ◌&&◌, ◌==◌, ◌++◌, drop, length, nat_lt, slice_index, take};
+ghost use Rattle.std.specs.Prelude.{◌≡◌, ℕ, ◌+◌, ◌/◌, ◌%◌, ◌^◌, ◌<◌, ◌≤◌, ◌&&◌, ◌==◌, ◌++◌, if◌then◌else◌, length, nat_lt, slice_index};
 ghost use Rattle.std.specs.Int.{bit_at};
 ghost use Rattle.bitpack_sets.specs.Reads.{has};
 ghost use Rattle.bitpack_sets.specs.Slices.{number_of, ones_from};
@@ -39,37 +39,48 @@ pub(crate) fn marks_among(bytes: u8x32, count: usize, others: &[u8]) -> u32
     requires count { count < 32 }
     ensures { (i : ℕ) → i < 32 → (bit_at result i == 1) ≡ (nat_lt i count && has (slice_index bytes i) others.now) }
 {
-    let mut marks = 0;
-    for step in 0..others.len().div_ceil(4) {
-        marks |= marks_of_four(bytes, others, 4 * step);
+    if others.len() == 0 {
+        return 0;
     }
+    // The last step takes one to four others, so that it is always taken: a branch that is hard to predict costs more.
+    let full = (others.len() - 1) / 4;
+    let mut found = equal_to_four(bytes, &four_of(&others[4 * full..]));
+    for step in 0..full {
+        found = found | equal_to_four(bytes, &others[4 * step..4 * step + 4]);
+    }
+    let marks = found.simd_eq(u8x32::splat(255)).to_bitmask();
     marks as u32 & ((1 << count) - 1)
 }
 
-/// Marks the bytes that are among four others from an index on. If there are fewer than four, the last is taken again.
+/// All bits of each byte that is one of four others, and no bit of the rest.
 #[inline(always)]
-fn marks_of_four(bytes: u8x32, others: &[u8], at: usize) -> u64
+fn equal_to_four(bytes: u8x32, others: &[u8]) -> u8x32
     requires length { length bytes ≡ 32 }
-    requires within { at < length others.now }
-    ensures few { result < 2 ^ 32 }
-    ensures marks { (i : ℕ) → i < 32 → (bit_at result i == 1) ≡ has (slice_index bytes i) (take 4 (drop at others.now)) }
+    requires four { length others.now ≡ 4 }
+    ensures length { length result ≡ 32 }
+    ensures bytes { (i : ℕ) → i < 32 → slice_index result i ≡ (if has (slice_index bytes i) others.now then 255 else 0) }
 {
-    let last = others.len() - 1;
-    let one = marks_of_one(bytes, others[at]);
-    let two = marks_of_one(bytes, others[(at + 1).min(last)]);
-    let three = marks_of_one(bytes, others[(at + 2).min(last)]);
-    let four = marks_of_one(bytes, others[(at + 3).min(last)]);
-    one | two | three | four
+    let one = bytes.simd_eq(u8x32::splat(others[0]));
+    let two = bytes.simd_eq(u8x32::splat(others[1]));
+    let three = bytes.simd_eq(u8x32::splat(others[2]));
+    let four = bytes.simd_eq(u8x32::splat(others[3]));
+    (one | two | (three | four)).select(u8x32::splat(255), u8x32::splat(0))
 }
 
-/// Marks the bytes that are another.
+/// One to four bytes as four: the last again, if they are fewer.
 #[inline(always)]
-fn marks_of_one(bytes: u8x32, other: u8) -> u64
-    requires length { length bytes ≡ 32 }
-    ensures few { result < 2 ^ 32 }
-    ensures marks { (i : ℕ) → i < 32 → (bit_at result i == 1) ≡ (slice_index bytes i == other) }
+pub(crate) fn four_of(bytes: &[u8]) -> [u8; 4]
+    requires some { 0 < length bytes.now }
+    requires few { length bytes.now ≤ 4 }
+    ensures { (x : ℕ) → has x result ≡ has x bytes.now }
 {
-    bytes.simd_eq(u8x32::splat(other)).to_bitmask()
+    let last = bytes.len() - 1;
+    [
+        bytes[0],
+        bytes[last.min(1)],
+        bytes[last.min(2)],
+        bytes[last.min(3)],
+    ]
 }
 
 /// Marks the bytes whose bits are 1, of the first `count`.

@@ -1,9 +1,12 @@
 //! Unpacks the numbers of slices, in order.
 
-ghost use Rattle.std.specs.Prelude.{◌≡◌, ◌+◌, ◌*◌, ◌/◌, ◌^◌, ◌<◌, ◌≤◌, ◌++◌, drop, length, map, slice_index, take};
+ghost use Rattle.std.specs.Prelude.{◌≡◌, ℕ, ◌+◌, ◌*◌, ◌/◌, ◌^◌, ◌<◌, ◌≤◌, ◌++◌, drop, length, map, slice_index, take};
 ghost use Rattle.std.specs.List.{range_with_len};
+ghost use Rattle.bitpack_sets.specs.Bitmaps.{has_bit};
+ghost use Rattle.bitpack_sets.specs.Reads.{has};
 ghost use Rattle.bitpack_sets.specs.Slices.{IsSlice, number_of, ones_from, slice_len, slice_numbers};
 
+use crate::bitmap::unpacking::unpack_many;
 use crate::slice::byte_len;
 
 /// Writes the numbers of the slice of `count` that begins at `start`, each with `base` added. Returns where they end.
@@ -100,7 +103,7 @@ pub(crate) fn unpack_slice(
     if count < 32 {
         unpack_bytes(bytes, base, out, at)
     } else if count < 256 {
-        unpack_bits(bytes, base, out, at)
+        unpack_many(&words_of(bytes), base, out, at)
     } else {
         unpack_full(base, out, at)
     }
@@ -119,21 +122,6 @@ fn unpack_bytes(bytes: &[u8], base: u32, out: &mut [u32], at: usize) -> usize
         places[i] = base + bytes[i] as u32;
     }
     at + bytes.len()
-}
-
-/// Writes the numbers whose bits are 1, each with `base` added. Returns where they end.
-fn unpack_bits(bytes: &[u8], base: u32, out: &mut [u32], at: usize) -> usize
-    requires size { length bytes.now ≡ 32 }
-    requires fits { base + 256 ≤ 2 ^ 32 }
-    requires room { at + 256 ≤ length out.old }
-    ensures few { result ≤ at + 256 }
-    ensures values { take result out.new ≡ take at out.old ++ map (λ i. base + i) (ones_from (number_of bytes.now) 0 256) }
-{
-    let mut next = at;
-    for i in 0..4 {
-        next = unpack_ones(word_at(bytes, i), base + 64 * i as u32, out, next);
-    }
-    next
 }
 
 /// Writes 256 numbers from `base` on. Returns where they end.
@@ -171,6 +159,20 @@ pub(crate) fn unpack_ones(word: u64, base: u32, out: &mut [u32], at: usize) -> u
         next += 4;
     }
     end
+}
+
+/// The words of 32 bytes.
+#[inline(always)]
+pub(crate) fn words_of(bytes: &[u8]) -> [u64; 4]
+    requires { length bytes.now ≡ 32 }
+    ensures { (i : ℕ) → i < 256 → has_bit result i ≡ has i (ones_from (number_of bytes.now) 0 256) }
+{
+    [
+        word_at(bytes, 0),
+        word_at(bytes, 1),
+        word_at(bytes, 2),
+        word_at(bytes, 3),
+    ]
 }
 
 /// Word i of some bytes.

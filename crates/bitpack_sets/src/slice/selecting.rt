@@ -11,6 +11,7 @@ use crate::operation::Operation;
 use crate::slice::Slice;
 use crate::slice::marks::{bytes_from, marks_among, marks_in_bits};
 use crate::slice::places::unpack_chosen;
+use crate::slice::reading::unpack_from;
 
 /// Some numbers of a slice.
 #[derive(Clone, Copy)]
@@ -19,6 +20,8 @@ pub(crate) enum Selection<'a> {
     Bytes(Slice<'a>, u32),
     /// Those whose bit is 1.
     Bits([u64; 4]),
+    /// All of a slice.
+    All(Slice<'a>),
 }
 
 /// The numbers that an operation on two slices gives.
@@ -28,29 +31,19 @@ pub(crate) fn select<'a>(operation: Operation, a: Slice<'a>, b: Slice<'a>) -> Se
     ensures numbers { selected result ≡ combined 256 operation (numbers_at a.entry) (numbers_at b.entry) }
 {
     if b.count == 0 && operation.keeps_left() {
-        return select_all(a);
+        return Selection::All(a);
     }
     if a.count == 0 && operation.keeps_right() {
-        return select_all(b);
+        return Selection::All(b);
     }
     match operation {
-        Operation::And if a.count <= b.count && a.count < 32 => select_common(a, b),
+        Operation::And if a.count < 32 && (b.count <= a.count || b.count >= 32) => select_common(
+            a, b,
+        ),
         Operation::And if b.count < 32 => select_common(b, a),
         Operation::AndNot if a.count < 32 => select_alone(a, b),
         _ => select_bits(operation, a, b),
     }
-}
-
-/// All numbers of a slice.
-#[inline(always)]
-fn select_all<'a>(slice: Slice<'a>) -> Selection<'a>
-    ensures marks { AreMarks result }
-    ensures numbers { selected result ≡ numbers_at slice.entry }
-{
-    if slice.count < 32 {
-        return Selection::Bytes(slice, (1 << slice.count) - 1);
-    }
-    Selection::Bits(slice.bits())
 }
 
 /// The marks of the bytes of a slice that another slice has.
@@ -95,14 +88,9 @@ fn select_bits<'a>(operation: Operation, a: Slice<'a>, b: Slice<'a>) -> Selectio
     ensures marks { AreMarks result }
     ensures numbers { selected result ≡ combined 256 operation (numbers_at a.entry) (numbers_at b.entry) }
 {
-    let x = a.bits();
-    let y = b.bits();
-    Selection::Bits([
-        operation.word(x[0], y[0]),
-        operation.word(x[1], y[1]),
-        operation.word(x[2], y[2]),
-        operation.word(x[3], y[3]),
-    ])
+    let words = operation.words(a.bits(), b.bits());
+    // Word by word: so the compiler leaves them in registers.
+    Selection::Bits([words[0], words[1], words[2], words[3]])
 }
 
 impl<'a> Selection<'a> {
@@ -118,6 +106,9 @@ impl<'a> Selection<'a> {
         match self {
             Selection::Bytes(slice, marks) => unpack_marked(slice, marks, base, out, at),
             Selection::Bits(words) => unpack_bits(&words, base, out, at),
+            Selection::All(slice) => {
+                unpack_from(slice.count, slice.slices, slice.start, base, out, at)
+            }
         }
     }
 
@@ -152,6 +143,7 @@ impl<'a> Selection<'a> {
         match self {
             Selection::Bytes(_, marks) => count_marks(marks),
             Selection::Bits(words) => count_bits(&words),
+            Selection::All(slice) => slice.count,
         }
     }
 }

@@ -177,12 +177,30 @@ macro_rules! vector {
             }
         }
 
+        impl BitOr for $mask {
+            type Output = Self;
+
+            #[inline(always)]
+            fn bitor(self, other: Self) -> Self {
+                $mask($of::or(self.0, other.0))
+            }
+        }
+
         impl BitAnd for $bytes {
             type Output = Self;
 
             #[inline(always)]
             fn bitand(self, other: Self) -> Self {
                 $bytes($of::and(self.0, other.0))
+            }
+        }
+
+        impl BitOr for $bytes {
+            type Output = Self;
+
+            #[inline(always)]
+            fn bitor(self, other: Self) -> Self {
+                $bytes($of::or(self.0, other.0))
             }
         }
 
@@ -220,7 +238,7 @@ macro_rules! vector {
 
             #[inline(always)]
             pub(crate) fn splat(byte: u8) -> Self {
-                $bytes($of::splat(u32::from_le_bytes([byte; 4])))
+                $bytes($of::splat_byte(byte))
             }
 
             #[inline(always)]
@@ -290,8 +308,8 @@ macro_rules! vector {
     };
 }
 
-vector!(u32x4, u8x16, Mask16, 4, 16, four);
-vector!(u32x8, u8x32, Mask32, 8, 32, eight);
+vector!(u32x4, u8x16, mask8x16, 4, 16, four);
+vector!(u32x8, u8x32, mask8x32, 8, 32, eight);
 
 impl u8x16 {
     /// The bytes at these indices, each below 16.

@@ -1,9 +1,8 @@
--- One code more is added and joined, to those of the group or to those after it.
-use Rattle.std.proofs.Common.{◌≡◌, ◌+◌, ◌-◌, ◌%◌, ◌^◌, ◌<◌, ◌≤◌, true, ℕ, List, get_or, sum, take, drop, length, sym, ◌∙◌, ap, arith, inl, inr}
+-- One code more is joined, to those of the group or to those after it.
+use Rattle.std.proofs.Common.{◌≡◌, ◌+◌, ◌-◌, ◌^◌, ◌<◌, ◌≤◌, true, ℕ, List, get_or, take, drop, length, sym, ◌∙◌, ap, arith, inl, inr}
 use Rattle.std.proofs.lemmas.Bool.{cases_lt}
-use Rattle.std.proofs.lemmas.List.{get_or-take, get_or-drop, length-drop, length-take-le, take_all}
+use Rattle.std.proofs.lemmas.List.{get_or-take, get_or-drop, length-drop, length-take-le}
 use Rattle.std.proofs.lemmas.List.Elements.{All-from_get_or}
-use Rattle.std.proofs.lemmas.List.Sums.{sum_by_more}
 use Rattle.std.proofs.lemmas.Nat.{le_or_l, le_or_r, or_lt, pow_pos}
 use Rattle.bitpack_groups.specs.Groups.{are_zeros}
 use Rattle.bitpack_groups.proofs.GroupLaws.{Decides-zeros}
@@ -11,7 +10,6 @@ use Rattle.bitpack_groups.proofs.group.add_group.Goals as goal
 
 pub loop-index-init : goal.loop-index-init
 loop-index-init c = record {
-  sum = omega arith;
   above = λ w k lt before within. absurd (omega (arith, before));
   below = λ w fits. pow_pos w;
   zeros = λ k none before past. absurd (omega (arith, before));
@@ -44,7 +42,6 @@ loop-index-preserved c =
           let is : own ≡ code = c.if_below-own.ensures.below lt in
           let here : get_or part i 0 ≡ code = get_or-take count codes i 0 lt in
           record {
-            sum = omega (arith, before.sum, is, here, sum_by_more (λ (n : ℕ). n) part i 0 (omega (arith, long, lt)));
             above = λ w k small upto inside. elim (cases_lt k i) [
               | inl earlier ↦ before.above w k (omega (arith, small, le_or_l bits own)) earlier inside
               | inr last ↦
@@ -59,9 +56,7 @@ loop-index-preserved c =
           }
       | inr le ↦
           let is : own ≡ 0 = c.if_below-own.ensures.above le in
-          let all : take (i + 1) part ≡ take i part = take_all (i + 1) part (omega (arith, long, le)) ∙ sym (take_all i part (omega (arith, long, le))) in
           record {
-            sum = omega (arith, before.sum, is, ap sum all);
             above = λ w k small upto inside. before.above w k (omega (arith, small, le_or_l bits own)) (omega (arith, upto, inside, le)) inside;
             below = λ w fits. or_lt w bits own (before.below w fits) (omega (arith, is, pow_pos w));
             zeros = λ k none upto past. elim (cases_lt k i) [
@@ -76,14 +71,6 @@ loop-index-preserved c =
                 omega (arith, or_lt 0 later (code - own) (omega (arith, so_far)) (omega (arith, zero)));
           }
     ]
-
-pub returns-clause-sum : goal.returns-clause-sum
-returns-clause-sum c =
-    let codes : List ℕ = c.args.codes.now in
-    let part : List ℕ = take c.args.count codes in
-    let all : take c.loop-index.index part ≡ part =
-    take_all c.loop-index.index part (omega (arith, length-take-le c.args.count codes (omega (arith, c.requires.count, c.requires.room)), c.requires.count)) in
-    c.loop-index.invariant.sum ∙ ap (λ xs. sum xs % 2 ^ 32) all
 
 pub returns-clause-above : goal.returns-clause-above
 returns-clause-above c = λ w lt.

@@ -1,5 +1,5 @@
 -- The tests in their order find the first fault of a group.
-use Rattle.std.proofs.Common.{◌≡◌, ◌-◌, ◌%◌, ◌^◌, ◌<◌, ◌&&◌, ltb, ℕ, List, length, take, drop, get_or, sum, sym, ◌∙◌, ap, arith}
+use Rattle.std.proofs.Common.{◌≡◌, ◌-◌, ◌^◌, ◌<◌, ◌&&◌, ltb, ℕ, List, length, take, drop, get_or, sym, ◌∙◌, ap, arith}
 use Rattle.std.proofs.lemmas.Bool.{false_from_ne_true}
 use Rattle.std.proofs.lemmas.List.{take_rest}
 use Rattle.bitpacking.specs.Width.{Fits}
@@ -74,10 +74,6 @@ returns-clause-fault c =
     let test = zeros_are count width bytes found c.unpack_group-end.ensures.codes ∙ totals.zeros (omega (arith, c.if-totals-gt0.false)) in
     right c.args.block count width bytes (take (length bytes - 1) (drop 1 bytes)) (front-is bytes c.in-len1-up.len_at_least) c.if-width-gt32.false
     (rw c.group_size.ensures.size at c.if-rest-group_size.false) least test
-
-pub returns-clause-sum : goal.returns-clause-sum
-returns-clause-sum c =
-    c.add_group-totals.ensures.sum ∙ ap (λ zs. sum (take c.args.count zs) % 2 ^ 32) c.unpack_group-end.ensures.codes
 
 pub returns-clause-fits : goal.returns-clause-fits
 returns-clause-fits c =

@@ -1,12 +1,13 @@
--- The slices so far are passed.
-use Rattle.std.proofs.Common.{◌≡◌, ◌*◌, ◌<◌, ◌≤◌, ℕ, get_or, length, take}
+-- The starts of the slices so far are known, and where they end.
+use Rattle.std.proofs.Common.{◌≡◌, ◌*◌, ◌+◌, ◌≤◌, get_or, length, take}
+use Rattle.bitpack_sets.proofs.SumsLaws.{AreStarts}
 use Rattle.bitpack_sets.proofs.blocks.fill_starts.Given as goal
 use Rattle.bitpack_sets.specs.Slices.{slices_len}
+use Rattle.bitpacking_register.specs.Words.{first_words}
 
-abbrev pub invariant-loop-index : goal.invariant-loop-index
-invariant-loop-index l = record {
+abbrev pub invariant-loop-step : goal.invariant-loop-step
+invariant-loop-step l = record {
   size : length l.starts ≡ 257;
-  few : l.start ≤ 32 * l.index;
-  passed : l.start ≡ slices_len (take l.index l.counts);
-  known : (k : ℕ) → k < l.index → get_or l.starts k 0 ≡ slices_len (take k l.counts);
+  ends : 8 * l.step ≤ length l.counts → get_or (first_words 8 l.ends) 7 0 ≡ slices_len (take (8 * l.step) l.counts);
+  known : AreStarts (8 * l.step + 1) l.starts l.counts;
 }

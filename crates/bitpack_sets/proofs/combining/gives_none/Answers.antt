@@ -1,8 +1,10 @@
-use Rattle.std.proofs.Common.{ap, sym, refl, arith, length}
+use Rattle.std.proofs.Common.{◌*◌, ◌+◌, ap, sym, refl, arith, length}
 use Rattle.std.proofs.lemmas.Bool.{true≢false}
+use Rattle.std.proofs.lemmas.List.{length-map}
 use Rattle.bitpack_sets.specs.Chunks.{ids_from}
 use Rattle.bitpack_sets.specs.Opened.{ids}
-use Rattle.bitpack_sets.specs.Pairs.{left}
+use Rattle.bitpack_sets.specs.Operations.{those}
+use Rattle.bitpack_sets.specs.Pairs.{left, meets}
 use Rattle.bitpack_sets.proofs.AnswerLaws.{answer_left, counted_more, none_counted, some_counted}
 use Rattle.bitpack_sets.proofs.combining.gives_none.Goals as goal
 
@@ -15,14 +17,16 @@ loop-meeting-init c = record {
 
 pub loop-meeting-preserved : goal.loop-meeting-preserved
 loop-meeting-preserved c =
-    let count = c.count_meeting.ensures in
-    let no = c.if-count_meeting-gt0.false in
+    let count = c.write_meeting.ensures.end_is in
+    let same = length-map (those 65536 (meets c.next.new.self c.in-Some.meeting)) (λ i. c.in-Some.meeting.key * 65536 + i) in
+    let no = c.if-write_meeting-gt0.false in
     counted_more 0 0 c.in-Some.meeting.key _ _ _ _ c.loop-meeting.invariant c.in-Some.ensures.part (omega arith)
 
-pub returns-then-count_meeting-gt0 : goal.returns-then-count_meeting-gt0
-returns-then-count_meeting-gt0 c =
-    let so = counted_more 0 c.count_meeting.result c.in-Some.meeting.key _ _ _ _ c.loop-meeting.invariant c.in-Some.ensures.part (let count = c.count_meeting.ensures in omega arith) in
-    (λ h. absurd (true≢false (sym h)), λ e. absurd (some_counted c.count_meeting.result _ _ so c.if-count_meeting-gt0.true e))
+pub returns-then-write_meeting-gt0 : goal.returns-then-write_meeting-gt0
+returns-then-write_meeting-gt0 c =
+    let same = length-map (those 65536 (meets c.next.new.self c.in-Some.meeting)) (λ i. c.in-Some.meeting.key * 65536 + i) in
+    let so = counted_more 0 c.write_meeting.result c.in-Some.meeting.key _ _ _ _ c.loop-meeting.invariant c.in-Some.ensures.part (let count = c.write_meeting.ensures.end_is in omega arith) in
+    (λ h. absurd (true≢false (sym h)), λ e. absurd (some_counted c.write_meeting.result _ _ so c.if-write_meeting-gt0.true e))
 
 pub returns : goal.returns
 returns c = (λ h. none_counted _ _ c.loop-meeting.invariant c.in_default.ensures.none, λ e. refl)

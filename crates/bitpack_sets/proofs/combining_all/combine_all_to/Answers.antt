@@ -1,29 +1,27 @@
-use Rattle.std.proofs.Common.{◌≡◌, ◌<◌, ◌∙◌, IfOk, OnErr, sym, subst, length, take}
-use Rattle.bitpack_sets.proofs.GatherLaws.{whole_left, whole_within}
-use Rattle.bitpack_sets.specs.Folds.{ids_left}
-use Rattle.bitpack_sets.specs.Rooms.{AreChunksOf}
+-- No set has no ids, and two are combined.
+use Rattle.std.proofs.Common.{◌≡◌, ℕ, List, IfOk, ap, sym, length, map, take, eqb-true, subst, ◌∙◌, arith}
+use Rattle.std.proofs.lemmas.List.{length-map}
+use Rattle.bitpack_sets.specs.Opened.{ids}
+use Rattle.bitpack_sets.proofs.FoldLaws.{set_ids}
+use Rattle.bitpack_sets.proofs.PickLaws.{none_of_none, two_sets}
 use Rattle.bitpack_sets.proofs.combining_all.combine_all_to.Goals as goal
 
-pub fold_to-requires-clause-within : goal.fold_to-requires-clause-within
-fold_to-requires-clause-within c = whole_within c.as_slice-2.result.now c.as_mut_slice.result.now _ (c.as_slice-2.ensures.len ∙ c.in_ok-chunks.ensures.len) (c.as_mut_slice.ensures.value ∙ c.in_ok-starts.ensures.starts)
+pub returns-then-is_empty-clause-ids : goal.returns-then-is_empty-clause-ids
+returns-then-is_empty-clause-ids g c =
+    sym (none_of_none c.args.operation (map g.S.AsSet.its_ids c.args.sets.now)
+    (length-map c.args.sets.now g.S.AsSet.its_ids ∙ eqb-true _ _ (sym c.is_empty.ensures ∙ c.if-is_empty.true)))
 
-pub returns-clause-len : goal.returns-clause-len
-returns-clause-len c =
-    let are : AreChunksOf c.args.sets.now (take (length c.args.sets.now) c.as_slice-2.result.now) =
-    subst (λ own. AreChunksOf c.args.sets.now (take (length c.args.sets.now) own)) (sym c.as_slice-2.ensures.value) c.in_ok-chunks.ensures.chunks in
-    let all = whole_left c.args.operation c.args.sets.now c.as_slice-2.result.now c.as_mut_slice.result.now _ are (c.as_slice-2.ensures.len ∙ c.in_ok-chunks.ensures.len) (c.as_mut_slice.ensures.value ∙ c.in_ok-starts.ensures.starts) in
-    subst (λ ids. IfOk c.fold_to.result (λ len. len ≡ length ids)) all c.fold_to.ensures.len
+pub returns-then-is_empty-clause-len : goal.returns-then-is_empty-clause-len
+returns-then-is_empty-clause-len g c =
+    ap length (sym (none_of_none c.args.operation (map g.S.AsSet.its_ids c.args.sets.now)
+    (length-map c.args.sets.now g.S.AsSet.its_ids ∙ eqb-true _ _ (sym c.is_empty.ensures ∙ c.if-is_empty.true))))
 
-pub returns-clause-ids : goal.returns-clause-ids
-returns-clause-ids c =
-    let are : AreChunksOf c.args.sets.now (take (length c.args.sets.now) c.as_slice-2.result.now) =
-    subst (λ own. AreChunksOf c.args.sets.now (take (length c.args.sets.now) own)) (sym c.as_slice-2.ensures.value) c.in_ok-chunks.ensures.chunks in
-    let all = whole_left c.args.operation c.args.sets.now c.as_slice-2.result.now c.as_mut_slice.result.now _ are (c.as_slice-2.ensures.len ∙ c.in_ok-chunks.ensures.len) (c.as_mut_slice.ensures.value ∙ c.in_ok-starts.ensures.starts) in
-    subst (λ ids. IfOk c.fold_to.result (λ len. take len c.fold_to.new.out ≡ ids)) all c.fold_to.ensures.ids
-
-pub returns-clause-short : goal.returns-clause-short
-returns-clause-short c e =
-    let are : AreChunksOf c.args.sets.now (take (length c.args.sets.now) c.as_slice-2.result.now) =
-    subst (λ own. AreChunksOf c.args.sets.now (take (length c.args.sets.now) own)) (sym c.as_slice-2.ensures.value) c.in_ok-chunks.ensures.chunks in
-    let all = whole_left c.args.operation c.args.sets.now c.as_slice-2.result.now c.as_mut_slice.result.now _ are (c.as_slice-2.ensures.len ∙ c.in_ok-chunks.ensures.len) (c.as_mut_slice.ensures.value ∙ c.in_ok-starts.ensures.starts) in
-    subst (λ ids. length c.args.out.now < length ids) all (subst (λ r. OnErr r (length c.args.out.now < length (ids_left c.args.operation c.as_slice-2.result.now c.as_mut_slice.result.now))) e c.fold_to.ensures.room)
+pub returns-then-sets-eq2-clause-ids : goal.returns-then-sets-eq2-clause-ids
+returns-then-sets-eq2-clause-ids g c =
+    let f = g.S.AsSet.its_ids in
+    let two = c.if-sets-eq2.true in
+    subst (λ (zs : List ℕ). IfOk c.combine_to.result (λ len. take len c.combine_to.new.out ≡ zs))
+    (two_sets c.args.operation (ids c.as_set.result) (ids c.as_set-then-sets-eq2.result) (map f c.args.sets.now) (length-map c.args.sets.now f ∙ two)
+    (set_ids f c.args.sets.now 0 c.index-sets-0.result (omega arith) c.index-sets-0.is ∙ sym c.as_set.ensures)
+    (set_ids f c.args.sets.now 1 c.index-sets-1.result (omega arith) c.index-sets-1.is ∙ sym c.as_set-then-sets-eq2.ensures))
+    c.combine_to.ensures.ids

@@ -1,41 +1,69 @@
-use Rattle.std.proofs.Common.{◌+◌, ◌/◌, ◌&&◌, ℕ, arith, length, take}
-use Rattle.bitpack_sets.specs.Bitmaps.{bitmap_numbers, has_bit}
-use Rattle.bitpack_sets.specs.Reads.{has}
-use Rattle.bitpack_sets.proofs.AnswerLaws.{counted_more, counted_so, length_all, written_all, written_more}
-use Rattle.bitpack_sets.proofs.GatherLaws.{told}
-use Rattle.bitpack_sets.proofs.BitmapLaws.{those_few}
-use Rattle.bitpack_sets.proofs.combining_all.fold_to.Goals.{else-left-lt65536-via-then-left-lt65536+else-left-count_bitmap, else-left-lt65536-via-else-left-lt65536}
+-- The ids of several keys more are written.
+use Rattle.std.proofs.Common.{◌≡◌, ◌+◌, ◌*◌, ◌/◌, ◌^◌, ◌≤◌, ℕ, length, length-append, map, ap, sym, ◌∙◌, arith, refl}
+use Rattle.std.proofs.lemmas.List.{length-map}
+use Rattle.bitpack_sets.specs.Folds.{found, ids_of_keys}
+use Rattle.bitpack_sets.specs.Operations.{those}
+use Rattle.bitpack_sets.proofs.AnswerLaws.{counted_so, length_all, written_all}
+use Rattle.bitpack_sets.proofs.KeysLaws.{all_left, keys_first, keys_written, left_from, none_from}
 use Rattle.bitpack_sets.proofs.combining_all.fold_to.Goals as goal
 
-pub returns-then-left-count_bitmap-clause-room : goal.returns-then-left-count_bitmap-clause-room
-returns-then-left-count_bitmap-clause-room c =
-    let numbers = bitmap_numbers (take c.in-Some.part.high_count c.next_part.new.highs) c.next_part.new.words in
-    let within = c.loop-part.invariant.written.within in
-    let more = (counted_more c.loop-part.at (c.loop-part.at + length numbers) c.in-Some.part.key _ _ _ _ (counted_so _ _ _ _ c.loop-part.invariant.written) (told c.in-Some.part.key _ _ _ _ c.in-Some.ensures.part) (omega arith)).rest in
-    let count = c.count_bitmap.ensures in
-    let less = c.if-left-count_bitmap.true in
-    let long = c.loop-part.auto.out in
-    omega arith
-
-pub unpack_bitmap-at-requires-clause-room : goal.unpack_bitmap-at-requires-clause-room
-unpack_bitmap-at-requires-clause-room c =
-    let within = c.loop-part.invariant.written.within in
-    let few = those_few 65536 (λ (x : ℕ). has (x / 256) (take c.in-Some.part.high_count c.next_part.new.highs) && has_bit c.next_part.new.words x) in
-    elim c.else-left-lt65536.branch [
-      | else-left-lt65536-via-then-left-lt65536+else-left-count_bitmap w ↦ (let count = w.count_bitmap.ensures in let most = w.if-left-count_bitmap.false in omega arith)
-      | else-left-lt65536-via-else-left-lt65536 w ↦ (let most = w.if-left-lt65536.false in omega arith)
-    ]
-
-pub loop-part-preserved : goal.loop-part-preserved
-loop-part-preserved c = record {
-  within = c.next_part.ensures.within;
-  written =
-      written_more c.loop-part.out c.unpack_bitmap-at.new.out c.loop-part.at c.unpack_bitmap-at.result c.in-Some.part.key _ _ _ _ c.loop-part.invariant.written (told c.in-Some.part.key _ _ _ _ c.in-Some.ensures.part)
-      c.unpack_bitmap-at.ensures.end c.unpack_bitmap-at.ensures.values;
-}
-
-pub returns-clause-len : goal.returns-clause-len
-returns-clause-len c = length_all _ _ _ _ c.loop-part.invariant.written c.in_default.ensures.none
+pub loop-base-init : goal.loop-base-init
+loop-base-init g c =
+    let f = g.S.AsSet.its_ids in
+    let long = length-map c.args.sets.now f in
+    let within = c.first_of-first.ensures.within in
+    record {
+      most = omega arith;
+      whole = refl;
+      written = record { within = omega arith; parts = sym (all_left c.args.operation c.first_of-first.result (map f c.args.sets.now) (omega arith) c.first_of-first.ensures.may) };
+      long = refl;
+    }
 
 pub returns-clause-ids : goal.returns-clause-ids
-returns-clause-ids c = written_all _ _ _ _ c.loop-part.invariant.written c.in_default.ensures.none
+returns-clause-ids g c =
+    let past = c.loop-base-test.false in
+    written_all _ _ _ _ c.loop-base.invariant.written (none_from c.args.operation c.first_of-first.result c.loop-base.base (map g.S.AsSet.its_ids c.args.sets.now) (omega arith))
+
+pub returns-clause-len : goal.returns-clause-len
+returns-clause-len g c =
+    let past = c.loop-base-test.false in
+    length_all _ _ _ _ c.loop-base.invariant.written (none_from c.args.operation c.first_of-first.result c.loop-base.base (map g.S.AsSet.its_ids c.args.sets.now) (omega arith))
+
+pub loop-base-preserved : goal.loop-base-preserved
+loop-base-preserved g c =
+    let inv = c.loop-base.invariant in
+    let f = g.S.AsSet.its_ids in
+    let next = c.combine_keys-next.ensures in
+    let least = next.later in
+    let last = next.most in
+    let whole = inv.whole in
+    let under = c.loop-base-test.true in
+    record {
+      most = omega arith;
+      whole = omega arith;
+      written = keys_written c.loop-base.out c.unpack_keys.new.out c.loop-base.at c.in-Some.end c.loop-base.base c.combine_keys-next.new.highs c.combine_keys-next.new.words _ _ _ inv.written
+          (keys_first c.args.operation c.first_of-first.result c.loop-base.base (c.combine_keys-next.result / 8 * 8) c.combine_keys-next.result (map f c.args.sets.now)
+          c.combine_keys-next.new.highs c.combine_keys-next.new.words (omega arith) (omega arith) (omega arith) next.own next.none)
+          c.in-Some.ensures.within c.in-Some.ensures.values;
+      long = c.unpack_keys.auto.out ∙ inv.long;
+    }
+
+pub returns-in_default-clause-room : goal.returns-in_default-clause-room
+returns-in_default-clause-room g c =
+    let inv = c.loop-base.invariant in
+    let f = g.S.AsSet.its_ids in
+    let next = c.combine_keys-next.ensures in
+    let least = next.later in
+    let whole = inv.whole in
+    let under = c.loop-base-test.true in
+    let highs = c.combine_keys-next.new.highs in
+    let words = c.combine_keys-next.new.words in
+    let after = left_from c.args.operation c.first_of-first.result (map f c.args.sets.now) (c.combine_keys-next.result / 8 * 8) in
+    let split = ap length (keys_first c.args.operation c.first_of-first.result c.loop-base.base (c.combine_keys-next.result / 8 * 8) c.combine_keys-next.result (map f c.args.sets.now)
+    highs words (omega arith) (omega arith) (omega arith) next.own next.none)
+    ∙ length-append (ids_of_keys highs words c.loop-base.base) (those (2 ^ 32) after)
+    ∙ ap (λ (n : ℕ). n + length (those (2 ^ 32) after)) (length-map (those 524288 (found highs words)) (λ i. c.loop-base.base * 65536 + i)) in
+    let rest = (counted_so _ _ _ _ inv.written).rest in
+    let long = inv.long in
+    let short = c.in_default.ensures.none refl in
+    omega arith

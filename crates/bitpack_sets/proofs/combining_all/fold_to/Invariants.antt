@@ -1,12 +1,16 @@
-use Rattle.bitpack_sets.specs.Folds.{AreWithin, ids_left, left, places_left}
+use Rattle.std.proofs.Common.{◌≡◌, ◌*◌, ◌/◌, ◌-◌, ◌≤◌, length, map}
+use Rattle.bitpack_sets.specs.Operations.{answer_all}
 use Rattle.bitpack_sets.proofs.AnswerLaws.{Written}
+use Rattle.bitpack_sets.proofs.KeysLaws.{left_from}
 use Rattle.bitpack_sets.proofs.combining_all.fold_to.Given as goal
 
-abbrev pub invariant-loop-part : goal.invariant-loop-part
-invariant-loop-part l = record {
-  within : AreWithin l.sets l.starts;
-  written : Written l.out l.at (ids_left l.operation l.sets l.fn.starts) (left l.operation l.sets l.starts);
+abbrev pub invariant-loop-base : goal.invariant-loop-base
+invariant-loop-base g l = record {
+  most : l.base ≤ 65536;
+  whole : l.base / 8 * 8 ≡ l.base;
+  written : Written l.out l.at (answer_all l.operation (map g.S.AsSet.its_ids l.sets)) (left_from l.operation l.first (map g.S.AsSet.its_ids l.sets) l.base);
+  long : length l.out ≡ length l.fn.out;
 }
 
-abbrev pub decreases-loop-part : goal.decreases-loop-part
-decreases-loop-part l = places_left l.sets l.starts
+abbrev pub decreases-loop-base : goal.decreases-loop-base
+decreases-loop-base g l = 65536 - l.base

@@ -1,10 +1,10 @@
 -- The end of a chunk is within the ends.
 use Rattle.std.proofs.Common.{◌%◌, ◌*◌, ◌+◌, ◌≡◌, ℕ, arith, get_or}
-use Rattle.bitpack_sets.proofs.NumberReads.{within_all}
+use Rattle.bitpack_groups.proofs.ForCallers.{within_all}
 use Rattle.bitpack_sets.proofs.directory.end_at.Goals as goal
 
-pub read_short-requires-clause-within : goal.read_short-requires-clause-within
-read_short-requires-clause-within c =
+pub read_integer-requires-clause-within : goal.read_integer-requires-clause-within
+read_integer-requires-clause-within c =
     let size : ℕ = get_or c.args.rest.now 0 0 % 16 in
     let all = within_all size c.args.chunk c.args.chunks c.requires.within in
     let room = c.requires.directory.room in

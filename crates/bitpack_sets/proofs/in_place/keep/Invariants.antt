@@ -1,10 +1,13 @@
-use Rattle.bitpack_sets.specs.Chunks.{Knows}
-use Rattle.bitpack_sets.specs.Opened.{ids}
-use Rattle.bitpack_sets.proofs.PlacedLaws.{IsKept, keeps}
+use Rattle.std.proofs.Common.{◌≤◌, ◌-◌, length}
+use Rattle.bitpack_sets.specs.Chunks.{ids_from}
+use Rattle.bitpack_sets.specs.Kept.{IsKept, keeps}
 use Rattle.bitpack_sets.proofs.in_place.keep.Given as goal
 
 abbrev pub invariant-loop-index : goal.invariant-loop-index
 invariant-loop-index l = record {
-  kept : IsKept (keeps l.there (ids l.fn.set)) l.initial.values l.values l.kept l.index;
-  knows : Knows l.chunks l.known;
+  kept : IsKept (keeps l.there (ids_from l.chunks 0)) l.initial.values l.values l.kept l.index;
+  within : l.index ≤ length l.values;
 }
+
+abbrev pub decreases-loop-index : goal.decreases-loop-index
+decreases-loop-index l = length l.values - l.index

@@ -71,16 +71,19 @@ fn in_place(ids: &[u32], set: &IdSet<'_>, [shared, alone, all]: &[Vec<u32>; 3], 
     }
 }
 
-/// The first set, and the second an odd number of times, have the answer of both: with an array on the stack, and with memory.
+/// The first set, and the second an odd number of times, have the answer of both: with room for it alone, and for the ids of both.
 fn all_written(name: &str, operation: Operation, (a, b): (&IdSet<'_>, &IdSet<'_>), answer: &[u32], row: &Row, report: &mut Report) {
     for times in [1, 3, 63, 65] {
         let mut sets = vec![*b; times + 1];
         sets[0] = *a;
         let name = format!("{name}, the other {times} times");
-        report.check(&row.name, &format!("{name}, counted"), combine_all_count(operation, &sets), Ok(answer.len()));
+        report.check(&row.name, &format!("{name}, counted"), combine_all_count(operation, &sets), answer.len());
         let mut found = vec![u32::MAX; answer.len()];
-        report.check(&row.name, &name, combine_all_to(operation, &sets, &mut found), Ok(answer.len()));
-        report.check(&row.name, &format!("{name}, ids"), found == answer, true);
+        for more in [0, a.len() + b.len()] {
+            found.resize(answer.len() + more, u32::MAX);
+            report.check(&row.name, &format!("{name}, room for {more} more"), combine_all_to(operation, &sets, &mut found), Ok(answer.len()));
+            report.check(&row.name, &format!("{name}, room for {more} more, ids"), found[..answer.len()] == *answer, true);
+        }
         if let Some(less) = answer.len().checked_sub(1) {
             let refused = combine_all_to(operation, &sets, &mut found[..less]);
             report.check(&row.name, &format!("{name} without room"), refused, Err(SetError::Short));
@@ -90,6 +93,7 @@ fn all_written(name: &str, operation: Operation, (a, b): (&IdSet<'_>, &IdSet<'_>
     let mut found = vec![u32::MAX; a.len()];
     report.check(&row.name, "one set", combine_all_to(operation, &alone, &mut found), Ok(a.len()));
     report.check(&row.name, "one set, ids", found.iter().copied().eq(a.iter()), true);
-    report.check(&row.name, "no set", combine_all_to(operation, &[], &mut []), Ok(0));
-    report.check(&row.name, "no set, counted", combine_all_count(operation, &[]), Ok(0));
+    let none: [IdSet<'_>; 0] = [];
+    report.check(&row.name, "no set", combine_all_to(operation, &none, &mut []), Ok(0));
+    report.check(&row.name, "no set, counted", combine_all_count(operation, &none), 0);
 }

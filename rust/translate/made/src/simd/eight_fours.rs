@@ -41,6 +41,11 @@ pub(super) fn splat(word: u32) -> Words {
 }
 
 #[inline(always)]
+pub(super) fn splat_byte(byte: u8) -> Words {
+    (four::splat_byte(byte), four::splat_byte(byte))
+}
+
+#[inline(always)]
 pub(super) fn shl(a: Words, shift: u32) -> Words {
     (four::shl(a.0, shift), four::shl(a.1, shift))
 }

@@ -35,6 +35,11 @@ pub(super) fn splat(word: u32) -> Words {
 }
 
 #[inline(always)]
+pub(super) fn splat_byte(byte: u8) -> Words {
+    splat(u32::from_le_bytes([byte; 4]))
+}
+
+#[inline(always)]
 pub(super) fn shl(a: Words, shift: u32) -> Words {
     of(|n| a[n] << shift)
 }

@@ -30,6 +30,11 @@ pub(super) fn splat(word: u32) -> Words {
 }
 
 #[inline(always)]
+pub(super) fn splat_byte(byte: u8) -> Words {
+    unsafe { vreinterpretq_u32_u8(vdupq_n_u8(byte)) }
+}
+
+#[inline(always)]
 pub(super) fn shl(a: Words, shift: u32) -> Words {
     unsafe { vshlq_u32(a, vdupq_n_s32(shift as i32)) }
 }

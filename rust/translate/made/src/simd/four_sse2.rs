@@ -30,6 +30,11 @@ pub(super) fn splat(word: u32) -> Words {
 }
 
 #[inline(always)]
+pub(super) fn splat_byte(byte: u8) -> Words {
+    unsafe { _mm_set1_epi8(byte as i8) }
+}
+
+#[inline(always)]
 pub(super) fn shl(a: Words, shift: u32) -> Words {
     unsafe { _mm_sll_epi32(a, _mm_cvtsi32_si128(shift as i32)) }
 }

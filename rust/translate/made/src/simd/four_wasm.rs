@@ -30,6 +30,11 @@ pub(super) fn splat(word: u32) -> Words {
 }
 
 #[inline(always)]
+pub(super) fn splat_byte(byte: u8) -> Words {
+    u8x16_splat(byte)
+}
+
+#[inline(always)]
 pub(super) fn shl(a: Words, shift: u32) -> Words {
     u32x4_shl(a, shift)
 }

@@ -1,7 +1,7 @@
 -- The bits of one high byte more are clear.
 use Rattle.std.proofs.Common.{◌≡◌, ◌*◌, ◌+◌, ◌-◌, ◌∙◌, ap, arith, false, get_or, length, replicate, sym, ℕ}
+use Rattle.bitpack_groups.proofs.ForCallers.{length-written}
 use Rattle.bitpack_sets.proofs.DecodeLaws.{rising_top}
-use Rattle.bitpack_sets.proofs.FillLaws.{length-written}
 use Rattle.bitpack_sets.proofs.LoadLaws.{bit_clear, four_words, high_written}
 use Rattle.bitpack_sets.proofs.bitmap.loading.clear.Goals as goal
 

@@ -1,7 +1,7 @@
 -- The slice of one high byte more is loaded.
 use Rattle.std.proofs.Common.{◌≡◌, ◌*◌, ◌+◌, ◌-◌, ◌∙◌, ap, arith, get_or, length, sym, List, ℕ}
+use Rattle.bitpack_groups.proofs.ForCallers.{length-written}
 use Rattle.bitpack_sets.proofs.DecodeLaws.{rising_top}
-use Rattle.bitpack_sets.proofs.FillLaws.{length-written}
 use Rattle.bitpack_sets.proofs.LoadLaws.{four_words, high_written}
 use Rattle.bitpack_sets.proofs.bitmap.loading.load_blocks.Goals as goal
 use Rattle.bitpack_sets.specs.Bitmaps.{has_bit}

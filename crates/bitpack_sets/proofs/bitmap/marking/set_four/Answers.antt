@@ -1,14 +1,18 @@
--- One bit after the other.
-use Rattle.std.proofs.Common.{ap, ◌∙◌, ◌||◌, ℕ, eqb, get_or, Bool}
-use Rattle.bitpack_sets.proofs.MarkLaws.{four_added}
+-- The bits of two bytes, those of two others, and those before.
+use Rattle.std.proofs.Common.{Bool, ℕ, ◌||◌, ◌∙◌, ap, eqb, get_or}
+use Rattle.bitpack_sets.proofs.BitRows.{words_set}
+use Rattle.bitpack_sets.proofs.EqualLaws.{has_pairs}
 use Rattle.bitpack_sets.proofs.bitmap.marking.set_four.Goals as goal
 use Rattle.bitpack_sets.specs.Bitmaps.{has_bit}
 
 pub returns : goal.returns
-returns c = λ i.
+returns c = λ i small.
     let bytes = c.args.bytes.now in
+    let bits = c.args.bits.now in
     let o : ℕ → Bool = λ k. eqb i (get_or bytes k 0) in
-    c.set_bit-4.ensures i ∙ ap (λ (b : Bool). o c.min-3.result || b) (c.set_bit-3.ensures i)
-    ∙ ap (λ (b : Bool). o c.min-3.result || (o c.min-2.result || b)) (c.set_bit-2.ensures i)
-    ∙ ap (λ (b : Bool). o c.min-3.result || (o c.min-2.result || (o c.min.result || b))) (c.set_bit.ensures i)
-    ∙ four_added i bytes c.args.at c.min.result c.min-2.result c.min-3.result (has_bit c.args.bits.now i) c.requires c.min.ensures c.min-2.ensures c.min-3.ensures
+    words_set bits c.words-first.result c.words-last.result c.told-bits i small
+    ∙ ap (λ (b : Bool). has_bit bits i || (b || has_bit c.words-last.result i))
+    (c.words-first.ensures i small ∙ ap (λ (b : Bool). b || has_bit c.bit_of-2.result i) (c.bit_of.ensures i small) ∙ ap (λ (b : Bool). o 0 || b) (c.bit_of-2.ensures i small))
+    ∙ ap (λ (b : Bool). has_bit bits i || ((o 0 || o 1) || b))
+    (c.words-last.ensures i small ∙ ap (λ (b : Bool). b || has_bit c.bit_of-4.result i) (c.bit_of-3.ensures i small) ∙ ap (λ (b : Bool). o 2 || b) (c.bit_of-4.ensures i small))
+    ∙ ap (λ (b : Bool). has_bit bits i || b) (has_pairs i bytes c.requires)

@@ -1,6 +1,6 @@
--- The count of high bytes before one is the place of its slice.
-use Rattle.std.proofs.Common.{◌∙◌, arith, sym}
-use Rattle.bitpack_sets.proofs.LoadLaws.{index_within, none_found, none_there, slice_found, some_there}
+-- A high byte that does not occur has no numbers.
+use Rattle.std.proofs.Common.{◌∙◌, sym}
+use Rattle.bitpack_sets.proofs.LoadLaws.{none_found, none_there}
 use Rattle.bitpack_sets.proofs.blocks.Blocks.slice.Goals as goal
 use Rattle.bitpack_sets.specs.Bitmaps.{has_bit}
 
@@ -12,28 +12,5 @@ returns-then-not-test_bit c = λ i small.
     let parts = c.args.self.now in
     sym (none_there (has_bit parts.highs) c.args.high i parts.counts.now parts.slices.now c.requires small (sym c.test_bit.ensures ∙ c.if-not-test_bit.true) parts.are)
 
-pub bounds-self-index-2 : goal.bounds-self-index-2
-bounds-self-index-2 c =
-    index_within _ _ _ c.args.self.now.counts.now c.args.self.now.size c.rank_of_bit-index.ensures c.requires (sym c.test_bit.ensures ∙ c.if-not-test_bit.false)
-
-pub bounds-self-index : goal.bounds-self-index
-bounds-self-index c =
-    let less = index_within _ _ _ c.args.self.now.counts.now c.args.self.now.size c.rank_of_bit-index.ensures c.requires (sym c.test_bit.ensures ∙ c.if-not-test_bit.false) in
-    let few = c.args.self.now.few in
-    omega arith
-
-pub offset_bounds-self-index : goal.offset_bounds-self-index
-offset_bounds-self-index c = let less = bounds-self-index c in omega arith
-
-pub invariant_of-result-2 : goal.invariant_of-result-2
-invariant_of-result-2 c =
-    let parts = c.args.self.now in
-    let less = index_within _ _ _ parts.counts.now parts.size c.rank_of_bit-index.ensures c.requires (sym c.test_bit.ensures ∙ c.if-not-test_bit.false) in
-    record { there = slice_found c.rank_of_bit-index.result _ parts.counts.now parts.slices.now parts.are less (parts.passed c.rank_of_bit-index.result less) }
-
-pub returns : goal.returns
-returns c = λ i small.
-    let parts = c.args.self.now in
-    let less = index_within _ _ _ parts.counts.now parts.size c.rank_of_bit-index.ensures c.requires (sym c.test_bit.ensures ∙ c.if-not-test_bit.false) in
-    some_there (has_bit parts.highs) c.args.high i c.rank_of_bit-index.result _ parts.counts.now parts.slices.now c.requires small
-    (sym c.test_bit.ensures ∙ c.if-not-test_bit.false) parts.size parts.are c.rank_of_bit-index.ensures (parts.passed c.rank_of_bit-index.result less)
+pub slice_at-requires-clause-occurs : goal.slice_at-requires-clause-occurs
+slice_at-requires-clause-occurs c = sym c.test_bit.ensures ∙ c.if-not-test_bit.false

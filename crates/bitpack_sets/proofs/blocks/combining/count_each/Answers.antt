@@ -1,49 +1,50 @@
--- The numbers of one high byte more are counted.
-use Rattle.std.proofs.Common.{List, ℕ, ◌∙◌, ap, arith, get_or, length, take}
-use Rattle.bitpack_sets.proofs.DecodeLaws.{rising_top}
-use Rattle.bitpack_sets.proofs.SelectionLaws.{listed, lows_combined, passes}
-use Rattle.bitpack_sets.proofs.UnpackLaws.{high_counted, highs_done, numbers_few}
+-- The numbers of one word more are counted.
+use Rattle.std.proofs.Common.{ℕ, ◌+◌, ◌*◌, ◌≡◌, ◌∙◌, ap, arith, get_or, length, length-append, sym}
+use Rattle.bitpack_sets.proofs.BitmapLaws.{those_few}
+use Rattle.bitpack_sets.proofs.SelectionLaws.{listed, passes}
+use Rattle.bitpack_sets.proofs.UnpackLaws.{by_high}
+use Rattle.bitpack_sets.proofs.WordLaws.{bit_in_word, word_numbers, words_few, words_more}
 use Rattle.bitpack_sets.proofs.blocks.combining.count_each.Goals as goal
-use Rattle.bitpack_sets.specs.Selections.{numbers_at, parts_numbers}
+use Rattle.bitpack_sets.specs.Bitmaps.{has_bit}
+use Rattle.bitpack_sets.specs.Operations.{those}
+use Rattle.bitpack_sets.specs.Selections.{word_highs}
 
-pub loop-high-init : goal.loop-high-init
-loop-high-init c = record {
-  listed = listed c.args.operation c.args.a.now c.args.b.now c.highs.result _ c.highs.ensures.both c.highs.ensures.left c.highs.ensures.right c.unpack_bits-many.ensures.values;
-  count = omega arith;
-}
+pub loop-word-init : goal.loop-word-init
+unfolding those
+loop-word-init c = omega arith
 
-pub slice-requires : goal.slice-requires
-slice-requires c = rising_top 0 256 c.loop-high.high-index _ c.loop-high.invariant.listed.rising c.loop-high-test.true
+pub count_word-count-requires-clause-in_left : goal.count_word-count-requires-clause-in_left
+count_word-count-requires-clause-in_left c = λ lacks i small is.
+    c.highs-occur.ensures.in_left lacks (64 * c.loop-word.word + i) (omega arith) (sym (bit_in_word c.highs-occur.result c.loop-word.word i small) ∙ is)
 
-pub slice-requires-in-loop-high : goal.slice-requires-in-loop-high
-slice-requires-in-loop-high c = rising_top 0 256 c.loop-high.high-index _ c.loop-high.invariant.listed.rising c.loop-high-test.true
+pub count_word-count-requires-clause-in_right : goal.count_word-count-requires-clause-in_right
+count_word-count-requires-clause-in_right c = λ lacks i small is.
+    c.highs-occur.ensures.in_right lacks (64 * c.loop-word.word + i) (omega arith) (sym (bit_in_word c.highs-occur.result c.loop-word.word i small) ∙ is)
 
 pub overflow_add-count : goal.overflow_add-count
 overflow_add-count c =
-    let a = c.args.a.now in
-    let b = c.args.b.now in
-    let highs : List ℕ = take c.unpack_bits-many.result c.unpack_bits-many.new.out in
-    let few = numbers_few (passes c.args.operation a b) highs c.loop-high.invariant.listed.rising in
-    let more = high_counted (passes c.args.operation a b) c.loop-high.high-index highs c.loop-high-test.true in
-    let own = c.count-count.ensures ∙ ap length (c.select-selection.ensures.numbers
-    ∙ lows_combined c.args.operation (get_or highs c.loop-high.high-index 0) (numbers_at c.slice.result) (numbers_at c.slice-in-loop-high.result) (parts_numbers a) (parts_numbers b)
-    c.slice.ensures c.slice-in-loop-high.ensures) in
-    omega (arith, c.loop-high.invariant.count)
+    let P = passes c.args.operation c.args.a.now c.args.b.now in
+    let occur = c.highs-occur.result in
+    let q = c.loop-word.word in
+    let size = ap length (words_more P occur q) ∙ length-append (by_high P (those (64 * q) (has_bit occur))) (by_high P (word_highs (64 * q) (get_or occur q 0))) in
+    let same = ap length (word_numbers P (64 * q) (get_or occur q 0) (omega arith)) in
+    let few = words_few P occur (64 * (q + 1)) (omega arith) in
+    let all = those_few 65536 P in
+    omega (arith, c.loop-word.invariant, c.count_word-count.ensures)
 
-pub loop-high-preserved : goal.loop-high-preserved
-loop-high-preserved c =
-    let a = c.args.a.now in
-    let b = c.args.b.now in
-    let highs : List ℕ = take c.unpack_bits-many.result c.unpack_bits-many.new.out in
-    let more = high_counted (passes c.args.operation a b) c.loop-high.high-index highs c.loop-high-test.true in
-    let own = c.count-count.ensures ∙ ap length (c.select-selection.ensures.numbers
-    ∙ lows_combined c.args.operation (get_or highs c.loop-high.high-index 0) (numbers_at c.slice.result) (numbers_at c.slice-in-loop-high.result) (parts_numbers a) (parts_numbers b)
-    c.slice.ensures c.slice-in-loop-high.ensures) in
-    record { listed = c.loop-high.invariant.listed; count = omega (arith, c.loop-high.invariant.count) }
+pub loop-word-preserved : goal.loop-word-preserved
+loop-word-preserved c =
+    let P = passes c.args.operation c.args.a.now c.args.b.now in
+    let occur = c.highs-occur.result in
+    let q = c.loop-word.word in
+    let size = ap length (words_more P occur q) ∙ length-append (by_high P (those (64 * q) (has_bit occur))) (by_high P (word_highs (64 * q) (get_or occur q 0))) in
+    let same = ap length (word_numbers P (64 * q) (get_or occur q 0) (omega arith)) in
+    omega (arith, c.loop-word.invariant, c.count_word-count.ensures)
 
 pub returns : goal.returns
 returns c =
     let P = passes c.args.operation c.args.a.now c.args.b.now in
-    let none = ap length (highs_done P c.loop-high.high-index (take c.unpack_bits-many.result c.unpack_bits-many.new.out) c.loop-high-test.false) in
-    let same = ap length c.loop-high.invariant.listed.all in
-    omega (arith, c.loop-high.invariant.count)
+    let occur = c.highs-occur in
+    let end : 64 * c.loop-word.word ≡ 256 = omega arith in
+    c.loop-word.invariant ∙ ap (λ (n : ℕ). length (by_high P (those n (has_bit occur.result)))) end
+    ∙ ap length (sym (listed c.args.operation c.args.a.now c.args.b.now occur.result occur.ensures.both occur.ensures.left occur.ensures.right))

@@ -1,11 +1,10 @@
--- The numbers of the high bytes that are left are still to be counted.
-use Rattle.std.proofs.Common.{◌≡◌, ◌+◌, drop, length}
-use Rattle.bitpack_sets.proofs.SelectionLaws.{IsListed, passes}
+-- The numbers of the words so far are counted.
+use Rattle.std.proofs.Common.{◌≡◌, ◌*◌, length}
+use Rattle.bitpack_sets.proofs.SelectionLaws.{passes}
 use Rattle.bitpack_sets.proofs.UnpackLaws.{by_high}
 use Rattle.bitpack_sets.proofs.blocks.combining.count_each.Given as goal
+use Rattle.bitpack_sets.specs.Bitmaps.{has_bit}
+use Rattle.bitpack_sets.specs.Operations.{those}
 
-abbrev pub invariant-loop-high : goal.invariant-loop-high
-invariant-loop-high l = record {
-  listed : IsListed l.operation l.a l.b l.high-items;
-  count : l.count + length (by_high (passes l.operation l.a l.b) (drop l.high-index l.high-items)) ≡ length (by_high (passes l.operation l.a l.b) l.high-items);
-}
+abbrev pub invariant-loop-word : goal.invariant-loop-word
+invariant-loop-word l = l.count ≡ length (by_high (passes l.operation l.a l.b) (those (64 * l.word) (has_bit l.occur)))

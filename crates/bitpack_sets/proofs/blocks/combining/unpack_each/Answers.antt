@@ -1,88 +1,72 @@
--- The numbers of one high byte more are written.
-use Rattle.std.proofs.Common.{List, ℕ, ◌+◌, ◌*◌, ◌++◌, ◌∙◌, ap, append-nil, append_assoc, arith, drop, get_or, length, map, refl, sym, take}
-use Rattle.bitpack_sets.proofs.DecodeLaws.{rising_top}
-use Rattle.bitpack_sets.proofs.SelectionLaws.{listed, lows_combined, passes}
-use Rattle.bitpack_sets.proofs.UnpackLaws.{by_high, high_counted, high_more, highs_done, lows}
+-- The numbers of one word more are written.
+use Rattle.std.proofs.Common.{List, ℕ, ◌+◌, ◌*◌, ◌++◌, ◌≡◌, ◌∙◌, ap, append_assoc, append-nil, arith, get_or, length, length-append, map, refl, sym, take}
+use Rattle.std.proofs.lemmas.List.{map-append}
+use Rattle.bitpack_sets.proofs.SelectionLaws.{listed, passes}
+use Rattle.bitpack_sets.proofs.UnpackLaws.{by_high}
+use Rattle.bitpack_sets.proofs.WordLaws.{bit_in_word, word_numbers, words_few, words_more}
 use Rattle.bitpack_sets.proofs.blocks.combining.unpack_each.Goals as goal
-use Rattle.bitpack_sets.specs.Selections.{numbers_at, parts_numbers}
+use Rattle.bitpack_sets.specs.Bitmaps.{has_bit}
+use Rattle.bitpack_sets.specs.Operations.{those}
+use Rattle.bitpack_sets.specs.Selections.{word_highs}
 
-pub loop-high-init : goal.loop-high-init
-loop-high-init c = record {
-  listed = listed c.args.operation c.args.a.now c.args.b.now c.highs.result _ c.highs.ensures.both c.highs.ensures.left c.highs.ensures.right c.unpack_bits-many.ensures.values;
-  room = c.requires.start;
-  count = refl;
-  values = refl;
-}
+pub loop-word-init : goal.loop-word-init
+unfolding those
+loop-word-init c = record { room = c.requires.start; count = omega arith; values = sym (append-nil (take c.args.at c.args.out.now)) }
 
-pub slice-requires : goal.slice-requires
-slice-requires c = rising_top 0 256 c.loop-high.high-index _ c.loop-high.invariant.listed.rising c.loop-high-test.true
+pub unpack_word-requires-clause-in_left : goal.unpack_word-requires-clause-in_left
+unpack_word-requires-clause-in_left c = λ lacks i small is.
+    c.highs-occur.ensures.in_left lacks (64 * c.loop-word.word + i) (omega arith) (sym (bit_in_word c.highs-occur.result c.loop-word.word i small) ∙ is)
 
-pub slice-requires-in-loop-high : goal.slice-requires-in-loop-high
-slice-requires-in-loop-high c = rising_top 0 256 c.loop-high.high-index _ c.loop-high.invariant.listed.rising c.loop-high-test.true
+pub unpack_word-requires-clause-in_right : goal.unpack_word-requires-clause-in_right
+unpack_word-requires-clause-in_right c = λ lacks i small is.
+    c.highs-occur.ensures.in_right lacks (64 * c.loop-word.word + i) (omega arith) (sym (bit_in_word c.highs-occur.result c.loop-word.word i small) ∙ is)
 
-pub overflow_mul-high : goal.overflow_mul-high
-overflow_mul-high c = let few = rising_top 0 256 c.loop-high.high-index _ c.loop-high.invariant.listed.rising c.loop-high-test.true in omega arith
-
-pub overflow_add-base : goal.overflow_add-base
-overflow_add-base c =
-    let few = rising_top 0 256 c.loop-high.high-index _ c.loop-high.invariant.listed.rising c.loop-high-test.true in omega (arith, c.requires.fits)
-
-pub unpack_within-requires-clause-fits : goal.unpack_within-requires-clause-fits
-unpack_within-requires-clause-fits c =
-    let few = rising_top 0 256 c.loop-high.high-index _ c.loop-high.invariant.listed.rising c.loop-high-test.true in omega (arith, c.requires.fits)
+pub loop-word-preserved : goal.loop-word-preserved
+loop-word-preserved c =
+    let P = passes c.args.operation c.args.a.now c.args.b.now in
+    let occur = c.highs-occur.result in
+    let q = c.loop-word.word in
+    let f : List ℕ → List ℕ = map (λ i. c.args.base + i) in
+    let front = take c.args.at c.args.out.now in
+    let before : List ℕ = by_high P (those (64 * q) (has_bit occur)) in
+    let word : List ℕ = by_high P (word_highs (64 * q) (get_or occur q 0)) in
+    let own = word_numbers P (64 * q) (get_or occur q 0) (omega arith) in
+    let more = words_more P occur q in
+    let size = ap length more ∙ length-append before word in
+    let same = ap length own in
+    record {
+      room = omega (arith, c.in_ok-next.ensures.room, c.unpack_word.auto.out);
+      count = omega (arith, c.in_ok-next.ensures.end, c.loop-word.invariant.count);
+      values = c.in_ok-next.ensures.values ∙ ap (λ (l : List ℕ). take c.loop-word.next c.loop-word.out ++ f l) own
+          ∙ ap (λ (l : List ℕ). l ++ f word) c.loop-word.invariant.values ∙ append_assoc front (f before) (f word)
+          ∙ ap (λ (l : List ℕ). front ++ l) (sym (map-append (λ i. c.args.base + i) before word) ∙ ap f (sym more));
+    }
 
 pub returns-in_err-next-clause-none : goal.returns-in_err-next-clause-none
 returns-in_err-next-clause-none c = λ e.
-    let a = c.args.a.now in
-    let b = c.args.b.now in
-    let highs : List ℕ = take c.unpack_bits-many.result c.unpack_bits-many.new.out in
-    let more = high_counted (passes c.args.operation a b) c.loop-high.high-index highs c.loop-high-test.true in
-    let own = ap length (c.select-selection.ensures.numbers
-    ∙ lows_combined c.args.operation (get_or highs c.loop-high.high-index 0) (numbers_at c.slice.result) (numbers_at c.slice-in-loop-high.result) (parts_numbers a) (parts_numbers b)
-    c.slice.ensures c.slice-in-loop-high.ensures) in
-    let same = ap length c.loop-high.invariant.listed.all in
+    let P = passes c.args.operation c.args.a.now c.args.b.now in
+    let occur = c.highs-occur.result in
+    let q = c.loop-word.word in
+    let before : List ℕ = by_high P (those (64 * q) (has_bit occur)) in
+    let word : List ℕ = by_high P (word_highs (64 * q) (get_or occur q 0)) in
+    let size = ap length (words_more P occur q) ∙ length-append before word in
+    let same = ap length (word_numbers P (64 * q) (get_or occur q 0) (omega arith)) in
+    let few = words_few P occur (64 * (q + 1)) (omega arith) in
     let short = c.in_err-next.ensures.none refl in
-    omega (arith, c.loop-high.invariant.count, c.loop-high.auto.out)
+    omega (arith, c.loop-word.invariant.count, c.loop-word.auto.out)
 
-pub loop-high-preserved : goal.loop-high-preserved
-loop-high-preserved c =
-    let a = c.args.a.now in
-    let b = c.args.b.now in
-    let highs : List ℕ = take c.unpack_bits-many.result c.unpack_bits-many.new.out in
-    let P = passes c.args.operation a b in
-    let i = c.loop-high.high-index in
-    let high = get_or highs i 0 in
-    let more = high_counted P i highs c.loop-high-test.true in
-    let numbers = c.select-selection.ensures.numbers
-    ∙ lows_combined c.args.operation high (numbers_at c.slice.result) (numbers_at c.slice-in-loop-high.result) (parts_numbers a) (parts_numbers b)
-    c.slice.ensures c.slice-in-loop-high.ensures in
-    let own = ap length numbers in
-    let f : ℕ → List ℕ → List ℕ = λ base xs. map (λ i. base + i) xs in
-    let front = take c.loop-high.next c.loop-high.out in
-    let base = c.args.base + 256 * high in
-    let rest = f c.args.base (by_high P (drop (i + 1) highs)) in
-    record {
-      listed = c.loop-high.invariant.listed;
-      room = omega (arith, c.in_ok-next.ensures.room, c.unpack_within.auto.out);
-      count = omega (arith, c.in_ok-next.ensures.end, c.loop-high.invariant.count);
-      values = ap (λ (l : List ℕ). l ++ rest) (c.in_ok-next.ensures.values ∙ ap (λ (l : List ℕ). front ++ f base l) numbers)
-          ∙ append_assoc front (f base (lows P high)) rest
-          ∙ ap (λ (l : List ℕ). front ++ l) (sym (high_more P c.args.base i highs c.loop-high-test.true))
-          ∙ c.loop-high.invariant.values;
-    }
+-- the words are all
+done : (c : goal.After-loop-word) → by_high (passes c.args.operation c.args.a.now c.args.b.now) (those (64 * c.loop-word.word) (has_bit c.highs-occur.result))
+    ≡ those 65536 (passes c.args.operation c.args.a.now c.args.b.now)
+done c =
+    let P = passes c.args.operation c.args.a.now c.args.b.now in
+    let occur = c.highs-occur in
+    let end : 64 * c.loop-word.word ≡ 256 = omega arith in
+    ap (λ (n : ℕ). by_high P (those n (has_bit occur.result))) end
+    ∙ sym (listed c.args.operation c.args.a.now c.args.b.now occur.result occur.ensures.both occur.ensures.left occur.ensures.right)
 
 pub returns-clause-end : goal.returns-clause-end
-returns-clause-end c =
-    let P = passes c.args.operation c.args.a.now c.args.b.now in
-    let none = ap length (highs_done P c.loop-high.high-index (take c.unpack_bits-many.result c.unpack_bits-many.new.out) c.loop-high-test.false) in
-    let same = ap length c.loop-high.invariant.listed.all in
-    omega (arith, c.loop-high.invariant.count)
+returns-clause-end c = c.loop-word.invariant.count ∙ ap (λ (l : List ℕ). c.args.at + length l) (done c)
 
 pub returns-clause-values : goal.returns-clause-values
-returns-clause-values c =
-    let P = passes c.args.operation c.args.a.now c.args.b.now in
-    let highs : List ℕ = take c.unpack_bits-many.result c.unpack_bits-many.new.out in
-    let f : List ℕ → List ℕ = λ xs. map (λ i. c.args.base + i) xs in
-    let front = take c.loop-high.next c.loop-high.out in
-    sym (append-nil front) ∙ ap (λ (l : List ℕ). front ++ f l) (sym (highs_done P c.loop-high.high-index highs c.loop-high-test.false))
-    ∙ c.loop-high.invariant.values ∙ ap (λ (l : List ℕ). take c.args.at c.args.out.now ++ f l) (sym c.loop-high.invariant.listed.all)
+returns-clause-values c = c.loop-word.invariant.values ∙ ap (λ (l : List ℕ). take c.args.at c.args.out.now ++ map (λ i. c.args.base + i) l) (done c)

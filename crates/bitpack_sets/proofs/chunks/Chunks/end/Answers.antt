@@ -1,9 +1,10 @@
 -- The ids of a key are the chunk of a place, or those up to the first of a higher key.
-use Rattle.std.proofs.Common.{◌≡◌, ◌≢◌, ◌∙◌, ◌+◌, ◌%◌, ◌<◌, ◌≤◌, ℕ, List, ap, arith, inl, inr, sym}
+use Rattle.std.proofs.Common.{◌≡◌, ◌≢◌, ◌∙◌, ◌+◌, ◌-◌, ◌%◌, ◌<◌, ◌≤◌, ℕ, List, ap, arith, inl, inr, sym}
 use Rattle.std.proofs.lemmas.Bool.{cases_lt}
 use Rattle.bitpack_sets.proofs.CountLaws.{bytes_are}
 use Rattle.bitpack_sets.proofs.NumberReads.{quads_len}
 use Rattle.bitpack_sets.proofs.PlaceLaws.{array_own, between_array, between_chunk, between_none, chunk_key, chunk_own, chunk_up, from_array, from_chunks, places_array, places_chunks, walk}
+use Rattle.bitpack_sets.proofs.WalkLaws.{array_key, walk_up}
 use Rattle.bitpack_sets.proofs.chunks.Chunks.end.Goals as goal
 use Rattle.bitpack_sets.specs.Chunks.{first_key, ids_from, places}
 use Rattle.bitpack_sets.specs.Directory.{key_at}
@@ -30,6 +31,20 @@ returns-then-self-eq0-clause-own c x e =
     ∙ array_own xs c.args.place c.seek.result c.args.key x (set.rising none) sought.later (omega (arith, sought.within)) e (omega (arith, key_at c.args.place, c.requires.least))
     (λ p a b. omega (arith, key_at p, sought.lower p a b)) (omega (arith, key_at c.seek.result, sought.reached))
     ∙ sym (ap (has (x % 65536)) (between_array set c.args.place c.seek.result none))
+
+pub returns-then-self-eq0-clause-shared : goal.returns-then-self-eq0-clause-shared
+returns-then-self-eq0-clause-shared c e k from to =
+    let set = c.args.self.now in
+    let none = c.if-self-eq0.true in
+    let xs : List ℕ = quads_of set.rest.now in
+    let size = quads_len set.rest.now in
+    let all = places_array set none in
+    let sought = c.seek.ensures in
+    let there = array_key k xs (omega (arith, sought.within)) in
+    let here = ap first_key (from_array set k none) in
+    let below = sought.lower k from to in
+    let up = walk_up (places set) (ids_from set) (walk set) c.args.place (k - c.args.place) k (omega arith) (omega (arith, sought.within)) in
+    omega (arith, c.requires.least)
 
 -- a place whose key is below 65536 is that of a chunk
 chunk_there : (set : Chunks) (place key : ℕ) → set.count ≢ 0 → place ≤ places set → key ≡ first_key (ids_from set place) → key < 65536 → place < set.count

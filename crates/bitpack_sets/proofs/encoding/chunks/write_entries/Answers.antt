@@ -1,8 +1,8 @@
 -- The entry and the body of one chunk more are written.
 use Rattle.std.proofs.Common.{◌≡◌, ℕ, ◌+◌, ◌%◌, ◌≤◌, List, length, take, sym, arith, rules, ◌∙◌}
 use Rattle.std.proofs.lemmas.List.{length-map, length-take-le}
+use Rattle.bitpack_groups.proofs.ForCallers.{lent_len}
 use Rattle.bitpack_sets.proofs.EntriesFilled.{body_room, end_room, entries_end, entries_more, entries_start, key_room, sum_room}
-use Rattle.bitpack_sets.proofs.IntegerLaws.{lent_len}
 use Rattle.bitpack_sets.proofs.RunLaws.{chunk_few, run_chunk}
 use Rattle.bitpack_sets.proofs.encoding.chunks.write_entries.Goals as goal
 use Rattle.bitpack_sets.specs.Sets.{body}
@@ -85,8 +85,8 @@ loop-left-preserved c =
     entries_more c.args.ids.now c.loop-left.left.now c.args.start c.args.before c.loop-left.index c.loop-left.end c.loop-left.sum c.args.end_size c.args.sum_size c.run_len-run.result c.loop-left.keys
     c.loop-left.ends c.loop-left.sums c.loop-left.out c.loop-left.invariant c.run_len-run.ensures
     c.body_len-size.result c.write_at.new.out c.write_at-in-loop-left.new.out c.write_at-in-loop-left-2.new.out c.write_body.new.out long c.body_len-size.ensures.few
-    c.write_at.auto.out c.write_at.ensures c.write_at-in-loop-left.auto.out c.write_at-in-loop-left.ensures c.write_at-in-loop-left-2.auto.out
-    c.write_at-in-loop-left-2.ensures c.write_body.ensures
+    c.write_at.auto.out c.write_at.ensures.bytes c.write_at-in-loop-left.auto.out c.write_at-in-loop-left.ensures.bytes c.write_at-in-loop-left-2.auto.out
+    c.write_at-in-loop-left-2.ensures.bytes c.write_body.ensures
 
 pub returns-clause-keys : goal.returns-clause-keys
 returns-clause-keys c =

@@ -1,6 +1,6 @@
 -- The gaps of the ids that are left are still to be written.
 use Rattle.std.proofs.Common.{◌+◌, drop, get_or}
-use Rattle.bitpack_sets.proofs.FillLaws.{IsFilled}
+use Rattle.bitpack_groups.proofs.ForCallers.{IsFilled}
 use Rattle.bitpack_sets.proofs.encoding.few.copy_gaps.Given as goal
 use Rattle.bitpack_sets.specs.Sets.{gaps}
 

@@ -2,9 +2,7 @@
 use Rattle.std.proofs.Common.{◌≡◌, ℕ, ◌+◌, ◌-◌, ◌*◌, ◌++◌, get_or, drop, arith, ap, subst, sym, ◌∙◌, List}
 use Rattle.std.specs.List.{flat_map}
 use borrow.Rule.Slice.PartMut.{put_mid}
-use Rattle.bitpack_sets.proofs.BodyLaws.{little_len}
-use Rattle.bitpack_sets.proofs.FillLaws.{IsFilled, fill_done, fill_part, fill_room, fill_start}
-use Rattle.bitpack_sets.proofs.IntegerLaws.{flat_more, flat_none, lent_len, product_more}
+use Rattle.bitpack_groups.proofs.ForCallers.{IsFilled, fill_done, fill_part, fill_room, fill_start, flat_more, flat_none, lent_len, little_len, product_more}
 use Rattle.bitpack_sets.proofs.LongLaws.{flat_len}
 use Rattle.bitpack_sets.proofs.encoding.integers.write_integers.Goals as goal
 use Rattle.bitpack_sets.specs.Sets.{le_bytes}

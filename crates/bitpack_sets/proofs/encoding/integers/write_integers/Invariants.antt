@@ -1,7 +1,7 @@
 -- The bytes of the numbers that are left are still to be written.
 use Rattle.std.proofs.Common.{◌*◌, drop}
 use Rattle.std.specs.List.{flat_map}
-use Rattle.bitpack_sets.proofs.FillLaws.{IsFilled}
+use Rattle.bitpack_groups.proofs.ForCallers.{IsFilled}
 use Rattle.bitpack_sets.proofs.encoding.integers.write_integers.Given as goal
 use Rattle.bitpack_sets.specs.Sets.{le_bytes}
 

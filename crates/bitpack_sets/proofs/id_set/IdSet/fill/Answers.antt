@@ -1,9 +1,13 @@
 -- The ids of a set of few fill its room.
-use Rattle.std.proofs.Common.{◌*◌, ◌∙◌, sym, arith}
-use Rattle.bitpack_sets.proofs.GatherLaws.{front_filled}
+use Rattle.std.proofs.Common.{◌≡◌, ℕ, ◌*◌, ◌++◌, List, length, take, ap, ◌∙◌, sym, arith}
+use Rattle.std.proofs.Math.Seq.{take-append_seam}
 use Rattle.std.proofs.lemmas.List.{length-take-le}
 use Rattle.bitpack_sets.proofs.FormLaws.{some_bytes, stated_few}
+use Rattle.bitpack_sets.specs.Slices.{quads_of}
 use Rattle.bitpack_sets.proofs.id_set.IdSet.fill.Goals as goal
+
+front_filled : (n : ℕ) (xs ys all : List ℕ) → length xs ≡ n → quads_of xs ≡ all → quads_of (take n (xs ++ ys)) ≡ all
+front_filled n xs ys all long are = ap (λ m. quads_of (take m (xs ++ ys))) (sym long) ∙ ap quads_of (take-append_seam xs ys) ∙ are
 
 pub bounds-self-0 : goal.bounds-self-0
 bounds-self-0 c = let set = c.args.self.now in some_bytes set.bytes.now set.states.none

@@ -1,14 +1,16 @@
 -- A high byte that is left out is in neither, or for `And` not in both.
-use Rattle.std.proofs.Common.{◌∙◌, sym}
-use Rattle.bitpack_sets.proofs.CombineLaws.{IsLeftOut, four_combined, left_out_and, left_out_or}
+use Rattle.std.proofs.Common.{true, false, ◌∙◌, ap, sym}
+use Rattle.std.proofs.lemmas.Bool.{and_parts, true≢false}
+use Rattle.bitpack_sets.proofs.CombineLaws.{IsLeftOut, keeps_one, left_out_and, left_out_or}
 use Rattle.bitpack_sets.proofs.operation.Operation.highs.Goals as goal
 use Rattle.bitpack_sets.proofs.operation.Operation.highs.Goals.{in-And, in_default}
 use Rattle.bitpack_sets.specs.Bitmaps.{has_bit}
+use Rattle.bitpack_sets.specs.Operations.{holds}
+use Rattle.bitpack_sets.specs.declared.operation.Operation.{Operation}
 
 pub returns-clause-both : goal.returns-clause-both
 returns-clause-both c h small none =
-    let e = sym (four_combined c.match-self.operation c.args.a.now c.args.b.now c.word.result c.word-2.result c.word-3.result c.word-4.result
-    c.word.ensures c.word-2.ensures c.word-3.ensures c.word-4.ensures h small) ∙ none in
+    let e = sym (c.words.ensures h small) ∙ none in
     let out : IsLeftOut c.args.self (has_bit c.args.a.now h) (has_bit c.args.b.now h) = elim c.match-self.branch [
       | in-And w ↦ left_out_and c.args.self c.match-self.operation (has_bit c.args.a.now h) (has_bit c.args.b.now h) w.in-And.is w.operation-is e
       | in_default w ↦ left_out_or c.args.self c.match-self.operation (has_bit c.args.a.now h) (has_bit c.args.b.now h) w.operation-is e
@@ -17,8 +19,7 @@ returns-clause-both c h small none =
 
 pub returns-clause-left : goal.returns-clause-left
 returns-clause-left c h small none =
-    let e = sym (four_combined c.match-self.operation c.args.a.now c.args.b.now c.word.result c.word-2.result c.word-3.result c.word-4.result
-    c.word.ensures c.word-2.ensures c.word-3.ensures c.word-4.ensures h small) ∙ none in
+    let e = sym (c.words.ensures h small) ∙ none in
     let out : IsLeftOut c.args.self (has_bit c.args.a.now h) (has_bit c.args.b.now h) = elim c.match-self.branch [
       | in-And w ↦ left_out_and c.args.self c.match-self.operation (has_bit c.args.a.now h) (has_bit c.args.b.now h) w.in-And.is w.operation-is e
       | in_default w ↦ left_out_or c.args.self c.match-self.operation (has_bit c.args.a.now h) (has_bit c.args.b.now h) w.operation-is e
@@ -27,10 +28,28 @@ returns-clause-left c h small none =
 
 pub returns-clause-right : goal.returns-clause-right
 returns-clause-right c h small none =
-    let e = sym (four_combined c.match-self.operation c.args.a.now c.args.b.now c.word.result c.word-2.result c.word-3.result c.word-4.result
-    c.word.ensures c.word-2.ensures c.word-3.ensures c.word-4.ensures h small) ∙ none in
+    let e = sym (c.words.ensures h small) ∙ none in
     let out : IsLeftOut c.args.self (has_bit c.args.a.now h) (has_bit c.args.b.now h) = elim c.match-self.branch [
       | in-And w ↦ left_out_and c.args.self c.match-self.operation (has_bit c.args.a.now h) (has_bit c.args.b.now h) w.in-And.is w.operation-is e
       | in_default w ↦ left_out_or c.args.self c.match-self.operation (has_bit c.args.a.now h) (has_bit c.args.b.now h) w.operation-is e
     ] in
     out.2
+
+pub returns-clause-in_left : goal.returns-clause-in_left
+returns-clause-in_left c = λ lacks h small is.
+    let e = sym (c.words.ensures h small) ∙ is in
+    elim c.match-self.branch [
+      | in-And w ↦ (and_parts _ _ (sym (ap (λ (o : Operation). holds o (has_bit c.args.a.now h) (has_bit c.args.b.now h)) w.operation-is) ∙ e)).0
+      | in_default w ↦ absurd (true≢false (sym (keeps_one c.args.self w.in_default.not-And w.in_default.not-AndNot).1 ∙ lacks))
+    ]
+
+pub returns-clause-in_right : goal.returns-clause-in_right
+returns-clause-in_right c = λ lacks h small is.
+    let e = sym (c.words.ensures h small) ∙ is in
+    elim c.match-self.branch [
+      | in-And w ↦ (and_parts _ _ (sym (ap (λ (o : Operation). holds o (has_bit c.args.a.now h) (has_bit c.args.b.now h)) w.operation-is) ∙ e)).1
+      | in_default w ↦ absurd (true≢false (sym (keeps_one c.args.self w.in_default.not-And w.in_default.not-AndNot).0 ∙ lacks))
+    ]
+
+pub returns-in-AndNot-clause-in_right : goal.returns-in-AndNot-clause-in_right
+returns-in-AndNot-clause-in_right c = λ lacks h small is. absurd (true≢false (sym (ap (λ (o : Operation). holds o true false) c.in-AndNot.is) ∙ lacks))

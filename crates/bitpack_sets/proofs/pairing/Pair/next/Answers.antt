@@ -20,8 +20,8 @@ returns-clause-meeting c =
     let most = c.key.ensures.most in
     record {
       small = omega (arith, c.if-key-eq-NO_KEY.false);
-      a_span = record { later = c.end.ensures.later; within = c.end.ensures.within; one = c.end.ensures.one };
-      b_span = record { later = c.end-2.ensures.later; within = c.end-2.ensures.within; one = c.end-2.ensures.one };
+      a_span = record { later = c.end.ensures.later; within = c.end.ensures.within; one = c.end.ensures.one; shared = c.end.ensures.shared };
+      b_span = record { later = c.end-2.ensures.later; within = c.end-2.ensures.within; one = c.end-2.ensures.one; shared = c.end-2.ensures.shared };
     }
 
 pub returns-clause-part : goal.returns-clause-part

@@ -1,18 +1,41 @@
--- The bytes that are four others more are marked.
-use Rattle.std.proofs.Common.{ap, ◌∙◌, ◌*◌, arith, get_or}
-use Rattle.std.proofs.lemmas.List.{take_all}
-use Rattle.std.proofs.lemmas.Nat.{or_lt}
-use Rattle.bitpack_sets.proofs.MarkLaws.{marks_first, marks_more}
+-- The bytes that are one of four others more get all bits, and at the end each has its mark.
+use Rattle.std.proofs.Common.{◌*◌, ◌+◌, ◌-◌, ◌/◌, ◌≡◌, ◌∙◌, ap, arith, eqb, get_or, length, lit≤, w8}
+use Rattle.std.proofs.lemmas.Simd.{bitmask_splat}
+use Rattle.bitpack_sets.proofs.EqualLaws.{either_at, either_long, fours_done, fours_more, full_mark, lane, none_marked, tail_whole}
+use Rattle.bitpack_sets.proofs.MarkLaws.{marks_first, marks_small}
 use Rattle.bitpack_sets.proofs.slice.marks.marks_among.Goals as goal
 use Rattle.bitpack_sets.specs.Reads.{has}
 
+pub loop-step-init : goal.loop-step-init
+loop-step-init c = record {
+  length = c.equal_to_four-found.ensures.length;
+  bytes = λ i lt.
+      let x = get_or c.args.bytes i 0 in
+      let others = c.args.others.now in
+      c.equal_to_four-found.ensures.bytes i lt ∙ ap lane (c.four_of.ensures x ∙ ap (has x) (tail_whole (4 * ((length others - 1) / 4)) others));
+}
+
 pub loop-step-preserved : goal.loop-step-preserved
-loop-step-preserved c = record {
-  small = or_lt 32 _ _ c.loop-step.invariant.small c.marks_of_four-marks.ensures.few;
-  marks = marks_more c.args.bytes c.args.others.now c.loop-step.step c.loop-step.marks _ c.marks_of_four-marks.ensures.marks c.loop-step.invariant.marks;
+loop-step-preserved c =
+    let four : 4 * c.loop-step.step + 4 - 4 * c.loop-step.step ≡ 4 = omega arith in
+    let found = c.loop-step.found in
+    let own = c.equal_to_four-found-in-loop-step in
+    record {
+      length = either_long found own.result c.loop-step.invariant.length own.ensures.length;
+      bytes = λ i lt. either_at found own.result i _ _ c.loop-step.invariant.length own.ensures.length lt (c.loop-step.invariant.bytes i lt) (own.ensures.bytes i lt)
+          ∙ ap lane (fours_more (get_or c.args.bytes i 0) c.args.others.now c.loop-step.step _ _ four);
+    }
+
+pub overflow_cast-result : goal.overflow_cast-result
+overflow_cast-result c = record {
+  fits = marks_small c.loop-step.found 255 _ c.loop-step.invariant.length (bitmask_splat w8 eqb c.loop-step.found 32 255 c.loop-step.invariant.length (lit≤ tt));
 }
 
 pub returns : goal.returns
 returns c i small =
-    marks_first c.loop-step.marks c.args.count i (has (get_or c.args.bytes i 0) c.args.others.now) c.requires.count
-    (c.loop-step.invariant.marks i small ∙ ap (has (get_or c.args.bytes i 0)) (take_all (4 * c.loop-step.step) c.args.others.now (omega arith)))
+    marks_first _ c.args.count i (has (get_or c.args.bytes i 0) c.args.others.now) c.requires.count
+    (full_mark c.loop-step.found _ i _ c.loop-step.invariant.length (bitmask_splat w8 eqb c.loop-step.found 32 255 c.loop-step.invariant.length (lit≤ tt)) small
+    (c.loop-step.invariant.bytes i small ∙ ap lane (fours_done (get_or c.args.bytes i 0) c.args.others.now c.loop-step.step _ (omega arith))))
+
+pub returns-then-others-eq0 : goal.returns-then-others-eq0
+returns-then-others-eq0 c i small = none_marked (get_or c.args.bytes i 0) c.args.count i c.args.others.now c.if-others-eq0.true

@@ -8,12 +8,12 @@ pub returns-then-keeps_left-clause-numbers : goal.returns-then-keeps_left-clause
 returns-then-keeps_left-clause-numbers c =
     let a = c.args.a in
     let b = c.args.b in
-    c.select_all.ensures.numbers ∙ only_left c.args.operation (numbers_at a) (numbers_at b) a.there.slice.rising
+    only_left c.args.operation (numbers_at a) (numbers_at b) a.there.slice.rising
     (no_numbers b.slices.now b.start b.count c.if-b-eq0.true) (sym c.keeps_left.ensures ∙ c.if-keeps_left.true)
 
 pub returns-then-keeps_right-clause-numbers : goal.returns-then-keeps_right-clause-numbers
 returns-then-keeps_right-clause-numbers c =
     let a = c.args.a in
     let b = c.args.b in
-    c.select_all-then-keeps_right.ensures.numbers ∙ only_right c.args.operation (numbers_at a) (numbers_at b) b.there.slice.rising
+    only_right c.args.operation (numbers_at a) (numbers_at b) b.there.slice.rising
     (no_numbers a.slices.now a.start a.count c.if-a-eq0.true) (sym c.keeps_right.ensures ∙ c.if-keeps_right.true)

@@ -1,6 +1,6 @@
 -- The bytes of the ids that are left are still to be written.
 use Rattle.std.proofs.Common.{◌%◌, drop, map}
-use Rattle.bitpack_sets.proofs.FillLaws.{IsFilled}
+use Rattle.bitpack_groups.proofs.ForCallers.{IsFilled}
 use Rattle.bitpack_sets.proofs.slice.writing.copy_lows.Given as goal
 
 abbrev pub invariant-loop-index : goal.invariant-loop-index

@@ -20,7 +20,7 @@ pub loop-chunk-preserved : goal.loop-chunk-preserved
 loop-chunk-preserved c =
     let front = c.args.self.now in
     copied_more (sum_at front.chunks front.rest.now) c.args.size (front.chunks - 1) c.loop-chunk.chunk c.sum_at.result c.loop-chunk.out c.write_at.new.out (sums_text c.args.size 0 (front_ids front))
-    c.loop-chunk-test.true c.loop-chunk.invariant c.sum_at.ensures c.write_at.auto.out c.write_at.ensures
+    c.loop-chunk-test.true c.loop-chunk.invariant c.sum_at.ensures c.write_at.auto.out c.write_at.ensures.bytes
 
 pub write_at-requires : goal.write_at-requires
 write_at-requires c =

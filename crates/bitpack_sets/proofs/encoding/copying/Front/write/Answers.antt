@@ -1,5 +1,6 @@
 -- The parts of the encoding have their places.
 use Rattle.std.proofs.Common.{◌≡◌, ℕ, ◌+◌, ◌++◌, List, length, ap, sym, arith, ◌∙◌, length-append}
+use Rattle.bitpack_sets.proofs.FrontLaws.{bodies_small}
 use Rattle.bitpack_sets.proofs.LongFilled.{chunks_joined, chunks_size}
 use Rattle.bitpack_sets.proofs.encoding.copying.Front.write.Goals as goal
 use Rattle.bitpack_sets.specs.Fronts.{front_ids}
@@ -8,6 +9,11 @@ use Rattle.bitpack_sets.specs.Written.{directory}
 
 count_is : (n : ℕ) (first later : List ℕ) → n ≡ length first → n + length later ≡ length (first ++ later)
 count_is n first later e = ap (λ (m : ℕ). m + length later) e ∙ sym (length-append first later)
+
+pub overflow_cast-size : goal.overflow_cast-size
+overflow_cast-size c =
+    let all : List ℕ = front_ids c.args.self.now ++ c.args.ids.now in
+    omega (arith, c.requires.most, c.requires.size, bodies_small all)
 
 pub split_at_mut-head-requires : goal.split_at_mut-head-requires
 split_at_mut-head-requires c =

@@ -1,0 +1,95 @@
+-- The numbers of the lowest high byte that is left are written.
+use Rattle.std.proofs.Common.{Bool, List, ℕ, true, false, ◌+◌, ◌*◌, ◌++◌, ◌<◌, ◌≡◌, ◌∙◌, ap, append-nil, append_assoc, arith, eqb, length, map, not, refl, sym, take, w64}
+use Rattle.std.proofs.lemmas.Bool.{true≢false}
+use Rattle.std.specs.Int.{trailing_zeros}
+use Rattle.bitpack_sets.proofs.FourLaws.{cleared, next_is}
+use Rattle.bitpack_sets.proofs.SelectionLaws.{lows_combined, passes}
+use Rattle.bitpack_sets.proofs.UnpackLaws.{by_high, lows}
+use Rattle.bitpack_sets.proofs.WordLaws.{none_left, still_there, word_counted, word_numbers, word_written}
+use Rattle.bitpack_sets.proofs.blocks.combining.unpack_word.Goals as goal
+use Rattle.bitpack_sets.specs.Selections.{numbers_at, parts_numbers, word_highs}
+
+not_true : (b : Bool) → not b ≡ true → b ≡ false
+not_true true e = absurd (true≢false (sym e))
+not_true false e = refl
+
+pub overflow_add-high : goal.overflow_add-high
+overflow_add-high c = let next = next_is c.loop-left.left (omega (arith, c.loop-left-test.true)) c.loop-left.auto.left-fits.fits in omega (arith, next.within, c.requires.within)
+
+pub slice_of-x-requires-clause-within : goal.slice_of-x-requires-clause-within
+slice_of-x-requires-clause-within c = let next = next_is c.loop-left.left (omega (arith, c.loop-left-test.true)) c.loop-left.auto.left-fits.fits in omega (arith, next.within, c.requires.within)
+
+pub slice_of-y-requires-clause-within : goal.slice_of-y-requires-clause-within
+slice_of-y-requires-clause-within c = let next = next_is c.loop-left.left (omega (arith, c.loop-left-test.true)) c.loop-left.auto.left-fits.fits in omega (arith, next.within, c.requires.within)
+
+pub slice_of-x-requires-clause-occurs : goal.slice_of-x-requires-clause-occurs
+slice_of-x-requires-clause-occurs c = λ e. let next = next_is c.loop-left.left (omega (arith, c.loop-left-test.true)) c.loop-left.auto.left-fits.fits in
+    c.requires.in_left (sym c.keeps_right.ensures ∙ not_true _ e) (trailing_zeros w64 c.loop-left.left) next.within (c.loop-left.invariant.bits (trailing_zeros w64 c.loop-left.left) (ap (λ (n : ℕ). eqb n 1) next.one))
+
+pub slice_of-y-requires-clause-occurs : goal.slice_of-y-requires-clause-occurs
+slice_of-y-requires-clause-occurs c = λ e. let next = next_is c.loop-left.left (omega (arith, c.loop-left-test.true)) c.loop-left.auto.left-fits.fits in
+    c.requires.in_right (sym c.keeps_left.ensures ∙ not_true _ e) (trailing_zeros w64 c.loop-left.left) next.within (c.loop-left.invariant.bits (trailing_zeros w64 c.loop-left.left) (ap (λ (n : ℕ). eqb n 1) next.one))
+
+pub loop-left-smaller : goal.loop-left-smaller
+loop-left-smaller c = let next = next_is c.loop-left.left (omega (arith, c.loop-left-test.true)) c.loop-left.auto.left-fits.fits in next.less
+
+pub loop-left-init : goal.loop-left-init
+loop-left-init c = record { bits = λ k e. e; room = c.requires.start; count = refl; values = refl }
+
+pub loop-left-preserved : goal.loop-left-preserved
+loop-left-preserved c =
+    let a = c.args.a.now in
+    let b = c.args.b.now in
+    let P = passes c.args.operation a b in
+    let left = c.loop-left.left in
+    let first = c.args.first in
+    let some : 0 < left = omega (arith, c.loop-left-test.true) in
+    let small = c.loop-left.auto.left-fits.fits in
+    let high : ℕ = first + trailing_zeros w64 left in
+    let numbers = c.select.ensures.numbers
+    ∙ lows_combined c.args.operation high (numbers_at c.slice_of-x.result) (numbers_at c.slice_of-y.result) (parts_numbers a) (parts_numbers b) c.slice_of-x.ensures c.slice_of-y.ensures in
+    let own = ap length numbers in
+    let more = word_counted P first left some small in
+    let f : ℕ → List ℕ → List ℕ = λ base xs. map (λ i. base + i) xs in
+    let front = take c.loop-left.next c.loop-left.out in
+    let base : ℕ = c.args.base + 256 * high in
+    let rest = f c.args.base (by_high P (word_highs first (cleared left))) in
+    record {
+      bits = still_there left c.args.word c.loop-left.invariant.bits;
+      room = omega (arith, c.in_ok-next.ensures.room, c.unpack_within.auto.out);
+      count = omega (arith, c.in_ok-next.ensures.end, c.loop-left.invariant.count);
+      values = ap (λ (l : List ℕ). l ++ rest) (c.in_ok-next.ensures.values ∙ ap (λ (l : List ℕ). front ++ f base l) numbers)
+          ∙ append_assoc front (f base (lows P high)) rest
+          ∙ ap (λ (l : List ℕ). front ++ l) (sym (word_written P first left some small c.args.base))
+          ∙ c.loop-left.invariant.values;
+    }
+
+pub returns-in_err-next-clause-none : goal.returns-in_err-next-clause-none
+returns-in_err-next-clause-none c = λ e.
+    let a = c.args.a.now in
+    let b = c.args.b.now in
+    let P = passes c.args.operation a b in
+    let left = c.loop-left.left in
+    let first = c.args.first in
+    let high : ℕ = first + trailing_zeros w64 left in
+    let own = ap length (c.select.ensures.numbers
+    ∙ lows_combined c.args.operation high (numbers_at c.slice_of-x.result) (numbers_at c.slice_of-y.result) (parts_numbers a) (parts_numbers b) c.slice_of-x.ensures c.slice_of-y.ensures) in
+    let more = word_counted P first left (omega (arith, c.loop-left-test.true)) c.loop-left.auto.left-fits.fits in
+    let all = ap length (word_numbers P first c.args.word c.requires.within) in
+    let short = c.in_err-next.ensures.none refl in
+    omega (arith, c.loop-left.invariant.count, c.loop-left.auto.out)
+
+pub returns-clause-end : goal.returns-clause-end
+returns-clause-end c =
+    let P = passes c.args.operation c.args.a.now c.args.b.now in
+    let none = ap length (none_left P c.args.first c.loop-left.left c.loop-left-test.false) in
+    let all = ap length (word_numbers P c.args.first c.args.word c.requires.within) in
+    omega (arith, c.loop-left.invariant.count)
+
+pub returns-clause-values : goal.returns-clause-values
+returns-clause-values c =
+    let P = passes c.args.operation c.args.a.now c.args.b.now in
+    let f : List ℕ → List ℕ = λ xs. map (λ i. c.args.base + i) xs in
+    let front = take c.loop-left.next c.loop-left.out in
+    sym (append-nil front) ∙ ap (λ (l : List ℕ). front ++ f l) (sym (none_left P c.args.first c.loop-left.left c.loop-left-test.false))
+    ∙ c.loop-left.invariant.values ∙ ap (λ (l : List ℕ). take c.args.at c.args.out.now ++ f l) (sym (word_numbers P c.args.first c.args.word c.requires.within))

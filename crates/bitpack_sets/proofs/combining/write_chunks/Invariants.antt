@@ -1,0 +1,15 @@
+-- What is left of the answer comes next.
+use Rattle.std.proofs.Common.{◌≡◌, ◌^◌, length}
+use Rattle.bitpack_sets.proofs.FollowLaws.{IsLeft}
+use Rattle.bitpack_sets.proofs.combining.write_chunks.Given as goal
+use Rattle.bitpack_sets.specs.Operations.{those}
+use Rattle.bitpack_sets.specs.Pairs.{left, places_left}
+
+abbrev pub invariant-loop-meeting : goal.invariant-loop-meeting
+invariant-loop-meeting l = record {
+  size : length l.out ≡ length l.fn.out;
+  rest : IsLeft (those (2 ^ 32) (left l.fn.pair)) l.fn.out l.out 0 l.at (those (2 ^ 32) (left l.pair));
+}
+
+abbrev pub decreases-loop-meeting : goal.decreases-loop-meeting
+decreases-loop-meeting l = places_left l.pair

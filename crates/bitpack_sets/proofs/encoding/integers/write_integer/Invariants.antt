@@ -1,8 +1,0 @@
--- The bytes of what is left are still to be written.
-use Rattle.std.proofs.Common.{◌-◌, length}
-use Rattle.bitpack_sets.proofs.FillLaws.{IsFilled}
-use Rattle.bitpack_sets.proofs.encoding.integers.write_integer.Given as goal
-use Rattle.bitpack_sets.specs.Sets.{le_bytes}
-
-abbrev pub invariant-loop-index : goal.invariant-loop-index
-invariant-loop-index l = IsFilled l.out l.index (le_bytes (length l.fn.out - l.index) l.left) (le_bytes (length l.fn.out) l.value)

@@ -1,0 +1,17 @@
+-- The bitmap of all high bytes tells each id of the key.
+use Rattle.std.proofs.Common.{◌∙◌, ◌/◌, ◌%◌, ap, arith, subst, sym}
+use Rattle.bitpack_sets.proofs.CountLaws.{full_rise}
+use Rattle.bitpack_sets.proofs.ReadLaws.{has_all}
+use Rattle.bitpack_sets.proofs.finding.load.Goals as goal
+use Rattle.bitpack_sets.specs.Reads.{has}
+use Rattle.bitpack_sets.specs.Sets.{IsRising}
+
+pub load-requires-clause-highs : goal.load-requires-clause-highs
+load-requires-clause-highs c = subst (IsRising 0 256) (sym c.all_highs.ensures) full_rise
+
+pub returns : goal.returns
+returns c = λ x h.
+    let small = c.requires in
+    c.span-place.ensures.passed x (omega arith)
+    ∙ c.span-place.ensures.own x h
+    ∙ sym (c.load.ensures (x % 65536) (omega arith) (ap (has (x % 65536 / 256)) c.all_highs.ensures ∙ has_all (x % 65536 / 256) 0 256 (omega arith) (omega arith)))

@@ -1,0 +1,121 @@
+//! Combines a body of blocks with a bitmap.
+
+ghost use Rattle.std.specs.Prelude.{◌≡◌, ◌+◌, ◌*◌, ◌^◌, ◌<◌, ◌≤◌, length, map};
+ghost use Rattle.bitpack_sets.specs.Bitmaps.{has_bit};
+ghost use Rattle.bitpack_sets.specs.Follows.{Follow};
+ghost use Rattle.bitpack_sets.specs.Lists.{in_bitmap};
+ghost use Rattle.bitpack_sets.specs.Operations.{holds, those};
+ghost use Rattle.bitpack_sets.specs.Reads.{has};
+ghost use Rattle.bitpack_sets.specs.Selections.{AreMarks, numbers_at, parts_numbers, selected};
+
+use crate::bitmap::marking::test_bit;
+use crate::bitmap::unpacking::unpack_bits;
+use crate::blocks::Blocks;
+use crate::operation::Operation;
+use crate::slice::Slice;
+use crate::slice::selecting::{Selection, select};
+
+/// Writes the numbers that an operation on blocks and on a bitmap of these high bytes gives, each with `base` added, if there is room for all.
+/// Returns where they end, which is past the end if not.
+pub(crate) fn mix(
+    operation: Operation,
+    blocks: &Blocks,
+    others: &[u64; 4],
+    words: &[u64; 1024],
+    base: u32,
+    out: &mut [u32],
+    at: usize,
+) -> usize
+    requires fits { base + 65536 ≤ 2 ^ 32 }
+    requires start { at ≤ 2 ^ 32 }
+    ensures { Follow (map (λ i. base + i) (those 65536 (λ x. holds operation (has x (parts_numbers blocks.now)) (in_bitmap others.now words.now x)))) out.old out.new at result }
+{
+    match operation {
+        Operation::And => mix_each(Operation::And, blocks, others, words, base, out, at),
+        Operation::Or => mix_each(Operation::Or, blocks, others, words, base, out, at),
+        Operation::AndNot => mix_each(Operation::AndNot, blocks, others, words, base, out, at),
+        Operation::Xor => mix_each(Operation::Xor, blocks, others, words, base, out, at),
+    }
+}
+
+/// Writes them for an operation that the caller names, so that each operation has a loop of its own.
+#[inline(always)]
+fn mix_each(
+    operation: Operation,
+    blocks: &Blocks,
+    others: &[u64; 4],
+    words: &[u64; 1024],
+    base: u32,
+    out: &mut [u32],
+    at: usize,
+) -> usize
+    requires fits { base + 65536 ≤ 2 ^ 32 }
+    requires start { at ≤ 2 ^ 32 }
+    ensures { Follow (map (λ i. base + i) (those 65536 (λ x. holds operation (has x (parts_numbers blocks.now)) (in_bitmap others.now words.now x)))) out.old out.new at result }
+{
+    let mut highs = [0; 256];
+    let many = unpack_bits(&operation.highs(&blocks.highs, others), 0, &mut highs, 0);
+    let mut next = at;
+    for high in &highs[..many] {
+        let slice = blocks.slice(*high as usize);
+        let selection = mix_slice(operation, slice, others, words, *high as usize);
+        next = put_selected(selection, base + 256 * *high, out, next);
+    }
+    next
+}
+
+/// The numbers that an operation gives on a slice and on the bits of its high byte.
+#[inline(always)]
+fn mix_slice<'a>(
+    operation: Operation,
+    slice: Slice<'a>,
+    others: &[u64; 4],
+    words: &[u64; 1024],
+    high: usize,
+) -> Selection<'a>
+    requires { high < 256 }
+    ensures marks { AreMarks result }
+    ensures numbers { selected result ≡ those 256 (λ i. holds operation (has i (numbers_at slice.entry)) (in_bitmap others.now words.now (256 * high + i))) }
+{
+    if test_bit(others, high) {
+        let from = 4 * high;
+        return mix_bits(operation, slice.bits(), &words[from..from + 4]);
+    }
+    let none = Slice {
+        slices: &[],
+        start: 0,
+        count: 0,
+    };
+    select(operation, slice, none)
+}
+
+/// The bits that an operation on two sets of 256 gives.
+#[inline(always)]
+fn mix_bits<'a>(operation: Operation, x: [u64; 4], y: &[u64]) -> Selection<'a>
+    requires { length y.now ≡ 4 }
+    ensures marks { AreMarks result }
+    ensures numbers { selected result ≡ those 256 (λ i. holds operation (has_bit x i) (has_bit y.now i)) }
+{
+    Selection::Bits([
+        operation.word(x[0], y[0]),
+        operation.word(x[1], y[1]),
+        operation.word(x[2], y[2]),
+        operation.word(x[3], y[3]),
+    ])
+}
+
+/// Writes selected numbers, each with `base` added, if there is room for all. Returns where they end, which is past the end if not.
+#[inline(always)]
+fn put_selected(selection: Selection, base: u32, out: &mut [u32], at: usize) -> usize
+    requires marks { AreMarks selection }
+    requires fits { base + 256 ≤ 2 ^ 32 }
+    requires start { at ≤ 2 ^ 33 }
+    ensures { Follow (map (λ i. base + i) (selected selection.entry)) out.old out.new at result }
+{
+    if at < out.len() {
+        if let Some(end) = selection.unpack_within(base, out, at) {
+            return end;
+        }
+    }
+    at + selection.count()
+}
