@@ -13,6 +13,7 @@ import sys
 sys.dont_write_bytecode = True
 
 from calls import loose_blocks, refused_packs, refused_unpacks, single_blocks, upgrades
+from columns import columns
 from combined_id_sets import combined_id_sets
 from id_sets import id_sets, spelled_bytes, spelled_ids
 from lists import digest_lists, digests, edge_lists, long_lists, made_lists, single_lists, worked_lists, worked_lists2
@@ -22,6 +23,7 @@ from parts import FOLDER, KINDS, LANES, body_of, list_text, plain_blocks
 from refusals import number_of, refused_rows
 from refusals3 import refused_rows3
 from refusals4 import refused_rows4
+from refused_columns import damaged_columns, refused_columns
 from refused_id_sets import damaged_sets, refused_id_sets
 from rules import rule_of
 from sets import combinations, intersections, refused_values, searches
@@ -62,6 +64,19 @@ def refused_set_rows():
         yield number_of(fault), fault, spelled_bytes(text)
 
 
+def column_rows():
+    """The columns, and after them the damaged texts that are the text of another column."""
+    found = {text: (kind, values) for kind, values, text in columns()}
+    found |= {text: column for text, fault, column in damaged_columns() if fault is None}
+    for text, (kind, values) in found.items():
+        yield KINDS[kind], values, spelled_bytes(text)
+
+
+def refused_column_rows():
+    for fault, text in refused_columns():
+        yield number_of(fault), fault, spelled_bytes(text)
+
+
 def tables(blocks):
     """The text of each file, by its name."""
     found = {
@@ -78,6 +93,8 @@ def tables(blocks):
         "id_sets.tsv": table("ids bytes", set_rows()),
         "refused_id_sets.tsv": table("number fault bytes", refused_set_rows()),
         "combined_id_sets.tsv": table("ids others both", (map(spelled_ids, it) for it in combined_id_sets())),
+        "columns.tsv": table("kind values bytes", column_rows()),
+        "refused_columns.tsv": table("number fault bytes", refused_column_rows()),
         "digests.tsv": table("kind lanes count bits version length sha256", digests()),
     }
     for name, rows in [("", upgrades(blocks)), ("3", upgrades3(blocks)), ("4", upgrades4(blocks))]:

@@ -90,11 +90,16 @@ def least_bytes(value):
     return next(count for count in range(1, 5) if value < 256**count)
 
 
-def front4(lanes, count, kind, ends, marks, sizes=None):
-    """What is before the bodies of version 4: with this byte of sizes, or with the least sizes."""
+def front_sizes(ends, marks, sizes=None):
+    """The byte of the sizes, the least ones or this, and ends and marks of these sizes."""
     sizes = least_bytes(ends[-1]) + 16 * least_bytes(max(marks)) if sizes is None else sizes
     short = [end.to_bytes(sizes % 16, "little") for end in ends] + [mark.to_bytes(sizes // 16, "little") for mark in marks]
-    return header4(lanes, count, kind) + bytes([sizes]) + b"".join(short)
+    return bytes([sizes]) + b"".join(short)
+
+
+def front4(lanes, count, kind, ends, marks, sizes=None):
+    """What is before the bodies of version 4: with this byte of sizes, or with the least sizes."""
+    return header4(lanes, count, kind) + front_sizes(ends, marks, sizes)
 
 
 def bits_size(lanes, start, last):

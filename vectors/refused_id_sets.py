@@ -263,12 +263,21 @@ def cut_sets():
             yield "Trailing", text + bytes([byte])
 
 
-def decoder():
-    """The decoder of sets of docs/FORMAT.md."""
+def decoder(name):
+    """A decoder of docs/FORMAT.md."""
     names = {}
     with open(f"{FOLDER}/../docs/FORMAT.md", encoding="utf-8") as file:
         exec("\n".join(re.findall(r"^```python\n(.*?)^```$", file.read(), re.M | re.S)), names)
-    return names["decode_set"]
+    return names[name]
+
+
+def fault_of(decode, text):
+    """The fault of a text and nothing, or nothing and what it encodes."""
+    try:
+        return None, decode(text)
+    except ValueError as refusal:
+        name, *details = refusal.args
+        return f"{name}({', '.join(map(str, details))})" if details else name, None
 
 
 def drawn_texts():
@@ -286,13 +295,9 @@ def drawn_texts():
 
 def damaged_sets():
     """The drawn texts with their fault, or with their ids."""
-    decode_set = decoder()
+    decode_set = decoder("decode_set")
     for text in {text: None for text in drawn_texts()}:
-        try:
-            yield text, None, decode_set(text)
-        except ValueError as refusal:
-            name, *details = refusal.args
-            yield text, f"{name}({', '.join(map(str, details))})" if details else name, None
+        yield text, *fault_of(decode_set, text)
 
 
 def refused_id_sets():

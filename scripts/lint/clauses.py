@@ -37,12 +37,13 @@ BELIEVED = [
     "bitpack_sorted",
     "bitpack_groups",
     "bitpack_sets",
+    "bitpack_columns",
     "bitpack",
     "bitpacking_c",
     "bitpack_uses",
 ]
 # The most lines of definitions to believe. If there are fewer, it is lowered.
-MOST = 2098
+MOST = 2414
 PAGE = "docs/PROOFS.md"
 
 

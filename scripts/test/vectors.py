@@ -25,10 +25,10 @@ KINDS = ["plain", "sorted", "strict"]
 
 
 def model():
-    """An implementation in Python: the fenced `python` blocks of docs/FORMAT.md, and what vectors/model.py, set_model.py and line_model.py add
+    """An implementation in Python: the fenced `python` blocks of docs/FORMAT.md, and what vectors/model.py, set_model.py, column_model.py and line_model.py add
     to them."""
     shown = re.findall(r"^```python\n(.*?)^```$", source("docs/FORMAT.md"), re.M | re.S)
-    return "\n".join([*shown, *(source(f"vectors/{name}.py") for name in ["model", "set_model", "line_model"])])
+    return "\n".join([*shown, *(source(f"vectors/{name}.py") for name in ["model", "set_model", "column_model", "line_model"])])
 
 
 def names_of(text):
@@ -212,6 +212,19 @@ def id_set_checks(names):
                 yield f"refused ids {row['bytes'][:80]}", answer_of(names["encode_set"], wrong), f"NotSorted({p})"
 
 
+def column_checks(names):
+    for row in table("refused_columns.tsv"):
+        yield f"refused column {row['bytes'][:80]}", answer_of(names["decode_column"], octets(row["bytes"])), row["fault"]
+    for row in table("columns.tsv"):
+        kind, values, text = KINDS.index(row["kind"]), numbers(row["values"]), octets(row["bytes"])
+        yield f"column {row['bytes'][:80]}", answer_of(names["decode_column"], text), (kind, values)
+        yield f"text of column {row['bytes'][:80]}", answer_of(names["encode_column"], kind, values), text
+        for p in {1, len(values) // 2, len(values) - 1} if kind and len(values) > 1 else []:
+            if values[p] > 0:
+                wrong = [*values[:p], values[p], values[p] - 1, *values[p:]]
+                yield f"refused values {row['bytes'][:80]}", answer_of(names["encode_column"], kind, wrong), f"NotSorted({p + 1})"
+
+
 def line_checks(names):
     for line, right in lines_by_hand():
         yield line, names["answer"](line), right
@@ -225,6 +238,7 @@ CHECKS = {
     "queries": query_checks,
     "sets": set_checks,
     "id_sets": id_set_checks,
+    "columns": column_checks,
     "lines": line_checks,
     "long_lists": long_list_checks,
 }
@@ -255,9 +269,9 @@ def parquet_checks(names):
 
 
 def page_checks(names):
-    """The texts in the tables of docs/FORMAT.md that show the rules, by the decoder of their version in one lane, or of sets."""
+    """The texts in the tables of docs/FORMAT.md that show the rules, by the decoder of their version in one lane, of sets, or of columns."""
     readers = {f"Packed lists, version {it or 1}": functools.partial(names[f"decode{it}"], 1) for it in ["", "2", "3", "4"]}
-    for title, decode in [*readers.items(), ("Id sets", names["decode_set"])]:
+    for title, decode in [*readers.items(), ("Id sets", names["decode_set"]), ("Columns", names["decode_column"])]:
         shown = source("docs/FORMAT.md").split(f"\n## {title}\n")[1].split("\n## ")[0]
         for text, fault in re.findall(r"^\| `([0-9A-F ]+)` \| (\w+(?:\([\d, ]+\))?) \|", shown, re.M):
             yield f"{text} by the page", answer_of(decode, bytes.fromhex(text)), fault
@@ -322,7 +336,7 @@ def of_python():
     """The checks of the readers in Python, with their names."""
     names = names_of(model())
     found = [it for checks in [*CHECKS.values(), rule_checks, parquet_checks, page_checks] for it in checks(names)]
-    yield "the decoders of docs/FORMAT.md, vectors/model.py, set_model.py and line_model.py", found
+    yield "the decoders of docs/FORMAT.md, vectors/model.py, set_model.py, column_model.py and line_model.py", found
     yield "wrong implementations", mistake_checks()
 
 

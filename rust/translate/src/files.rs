@@ -23,6 +23,7 @@ const MADE: &[(&str, &str)] = made![
     "archive/Cargo.toml",
     "archive/lib.rs",
     "examples/vectors/blocks.rs",
+    "examples/vectors/columns.rs",
     "examples/vectors/combined_sets.rs",
     "examples/vectors/digests.rs",
     "examples/vectors/lists.rs",

@@ -7,11 +7,12 @@ use crate::rules::{Change, applied};
 use crate::tokens::{Kind, Token, last_code, phrase};
 
 /// The crates, the lowest first, with their modules.
-pub const CRATES: [Module; 7] = [
+pub const CRATES: [Module; 8] = [
     Module { of: "bitpacking_register", name: "register", path: "crate::register", within: "pub(in crate::register)" },
     Module { of: "bitpacking", name: "bitpacking", path: "crate::bitpacking", within: "pub(in crate::bitpacking)" },
     Module { of: "bitpack_groups", name: "groups", path: "crate::groups", within: "pub(in crate::groups)" },
     Module { of: "bitpack_sets", name: "sets", path: "crate::sets", within: "pub(in crate::sets)" },
+    Module { of: "bitpack_columns", name: "columns", path: "crate::columns", within: "pub(in crate::columns)" },
     Module { of: "bitpack_lists", name: "lists", path: "crate::lists", within: "pub(in crate::lists)" },
     Module { of: "bitpack_sorted", name: "sorted", path: "crate::sorted", within: "pub(in crate::sorted)" },
     Module { of: "bitpacking_c", name: "c", path: "crate::c", within: "pub(in crate::c)" },

@@ -12,6 +12,7 @@ pub mod bitpacking;
 pub mod c;
 #[cfg(feature = "c")]
 mod c_slices;
+pub mod columns;
 pub mod growing;
 mod groups;
 pub mod lists;

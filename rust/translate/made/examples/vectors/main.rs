@@ -1,6 +1,7 @@
 //! Runs the tables of a folder over the crate: `vectors FOLDER`. It prints each check that fails, and last 'N passed, M failed'.
 
 mod blocks;
+mod columns;
 mod combined_sets;
 mod digests;
 mod lists;
@@ -19,7 +20,7 @@ use report::Report;
 use rows::Row;
 
 /// Each table, and what checks a row of it.
-const TABLES: [(&str, fn(&Row, &mut Report)); 27] = [
+const TABLES: [(&str, fn(&Row, &mut Report)); 29] = [
     ("blocks.tsv", blocks::packed),
     ("single.tsv", blocks::packed),
     ("loose.tsv", blocks::packed),
@@ -47,6 +48,8 @@ const TABLES: [(&str, fn(&Row, &mut Report)); 27] = [
     ("refused_id_sets.tsv", sets::refused),
     ("combined_id_sets.tsv", combined_sets::combined),
     ("combined_id_sets.tsv", query_trees::queried),
+    ("columns.tsv", columns::opened),
+    ("refused_columns.tsv", columns::refused),
 ];
 
 fn main() -> ExitCode {

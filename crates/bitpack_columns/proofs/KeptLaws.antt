@@ -1,0 +1,125 @@
+-- The blocks of an opened column that stay as they are when values follow.
+use Rattle.std.proofs.Common.{◌≡◌, ℕ, zero, suc, ◌+◌, ◌-◌, ◌*◌, ◌^◌, ◌<◌, ◌≤◌, List, ◌++◌, length, get_or, take, drop, refl, sym, ap, ◌∙◌, arith, subst}
+use Rattle.std.proofs.lemmas.List.{take_all}
+use Rattle.bitpack_groups.specs.Packed.{le_bytes}
+use Rattle.bitpack_columns.specs.declared.column.Column.{Column}
+use Rattle.bitpack_columns.specs.declared.column_kind.ColumnKind.{ColumnKind}
+use Rattle.bitpack_columns.specs.declared.column_kind.ColumnKind.TheVariants.{Sorted}
+use Rattle.bitpack_columns.specs.Columns.{IsColumn, base_of, mark_in, sum_to}
+use Rattle.bitpack_columns.specs.Measured.{bodies_text, width_after}
+use Rattle.bitpack_columns.specs.Opened.{blocks_of, values}
+use Rattle.bitpack_columns.specs.Reads.{begin_at, bodies_start, end_at}
+use Rattle.bitpack_columns.proofs.BlocksTexts.{AreRead, bodies_text as bodies_read, sum_read}
+use Rattle.bitpack_columns.proofs.EntryLaws.{end_text}
+use Rattle.bitpack_columns.proofs.OpenedLaws.{are_blocks, block_is, body_few, blocks_is, first_is, opened, rising}
+use Rattle.bitpack_columns.proofs.PartsLaws.{run, run_more}
+use Rattle.bitpack_columns.proofs.ReadLaws.{tail_start-is}
+use Rattle.bitpack_columns.proofs.SoundLaws.{AreTight}
+use Rattle.bitpack_columns.proofs.TextLaws.{values_are_read}
+use Rattle.bitpack_columns.proofs.SplitLaws.{IsSplit, all_blocks, block_back, block_front}
+
+-- the first value
+abbrev pub head_of : Column → ℕ
+head_of column = get_or (values column) 0 0
+
+module _ (column : Column) (some : 0 < blocks_of column) where
+  front_read : AreRead column.kind column.first (values column) column.rest.now
+  front_read =
+      let is = opened column in
+      let e = blocks_is column in
+      record {
+        are_bytes = is.are_bytes;
+        are_blocks = are_blocks column 0 some;
+        are_tight = subst (λ (n : ℕ). AreTight n column.rest.now) e (is.are_tight (omega arith));
+        small = is.small;
+        block = λ m lt. block_is column m lt;
+        first_is = λ sorted. sym (first_is column sorted);
+      }
+
+  pub kept_sum : (m : ℕ) → m ≤ blocks_of column → sum_to (width_after column.kind (head_of column) (values column)) m ≡ begin_at column.rest.now m
+  kept_sum m le = sum_read column.kind column.first (values column) column.rest.now front_read m le
+
+  pub kept_total : sum_to (width_after column.kind (head_of column) (values column)) (blocks_of column) ≡ begin_at column.rest.now (blocks_of column)
+  kept_total = kept_sum (blocks_of column) (omega arith)
+
+  pub kept_end : (size m : ℕ) → m < blocks_of column → le_bytes size (end_at column.rest.now m) ≡ end_text column.kind (head_of column) (values column) size 0 m
+  kept_end size m lt =
+      let e = kept_sum (suc m) (omega arith) in
+      let f : end_at column.rest.now m ≡ 0 + sum_to (width_after column.kind (head_of column) (values column)) (suc m) = omega arith in
+      ap (le_bytes size) f
+
+  pub kept_bodies : (out : List ℕ) → length out ≡ 16 * sum_to (width_after column.kind (head_of column) (values column)) (blocks_of column)
+      → take (length out) (drop (bodies_start (blocks_of column) column.rest.now) column.rest.now) ≡ bodies_text column.kind (head_of column) (values column)
+  unfolding bodies_text
+  kept_bodies out long =
+      let e : length out ≡ 16 * begin_at column.rest.now (blocks_of column) = long ∙ ap (λ (n : ℕ). 16 * n) kept_total in
+      ap (λ (n : ℕ). take n (drop (bodies_start (blocks_of column) column.rest.now) column.rest.now)) e
+      ∙ sym (bodies_read column.kind column.first (values column) column.rest.now front_read)
+
+  pub kept_room : bodies_start (blocks_of column) column.rest.now + 16 * sum_to (width_after column.kind (head_of column) (values column)) (blocks_of column) ≤ length column.rest.now
+  kept_room =
+      let e = kept_total in
+      let f = tail_start-is column.kind column.first (blocks_of column) column.rest.now (are_blocks column 0 some) 0 some in
+      let room = (are_blocks column 0 some).room in
+      omega arith
+
+  -- where the bodies end
+  pub kept_few : bodies_start (blocks_of column) column.rest.now + 16 * sum_to (width_after column.kind (head_of column) (values column)) (blocks_of column) ≤ 2 ^ 32
+  kept_few =
+      let m : ℕ = blocks_of column - 1 in
+      let lt : m < blocks_of column = omega arith in
+      let few = body_few column m lt in
+      let up = rising column m lt in
+      let end = last_begin (blocks_of column) some in
+      let total = kept_total in
+      omega arith
+    where
+      last_begin : (k : ℕ) → 0 < k → begin_at column.rest.now k ≡ end_at column.rest.now (k - 1)
+      last_begin zero h = absurd (omega arith)
+      last_begin (suc k) h = (let e : k ≡ suc k - 1 = omega arith in ap (end_at column.rest.now) e)
+
+-- the blocks of a column and packed values after them
+pub kept_split : (column : Column) (packed : List ℕ) → 0 < blocks_of column
+    → IsSplit column.kind (head_of column) (values column) packed (take (128 * blocks_of column) (values column) ++ packed) (blocks_of column)
+    (mark_in column.kind (values column) (blocks_of column - 1))
+kept_split column packed some =
+    let le : 128 * blocks_of column ≤ length (values column) = omega arith in
+    record {
+      front = λ m lt. block_front (values column) packed (blocks_of column) m le lt;
+      back = λ i. block_back (values column) packed (blocks_of column) i le;
+      blocks_are = all_blocks (values column) packed (blocks_of column) le;
+      values_are = refl;
+      last_is = λ is. ap (λ (kind : ColumnKind). mark_in kind (values column) (blocks_of column - 1)) is ∙ sym (before (blocks_of column) some);
+    }
+  where
+    before : (k : ℕ) → 0 < k → base_of Sorted (head_of column) (mark_in Sorted (values column)) k ≡ mark_in Sorted (values column) (k - 1)
+    before zero h = absurd (omega arith)
+    before (suc k) h = (let e : k ≡ suc k - 1 = omega arith in ap (mark_in Sorted (values column)) e)
+
+-- ---- what is copied so far
+
+pub record CopiedTo (f : ℕ → List ℕ) (size count i : ℕ) (out : List ℕ) : Type 0 where
+  pub long : length out ≡ size * count
+  pub are : take (size * i) out ≡ run f i
+
+pub copied_start : (f : ℕ → List ℕ) (size count : ℕ) (out : List ℕ) → length out ≡ size * count → CopiedTo f size count 0 out
+copied_start f size count out e = record { long = e; are = (let z : size * 0 ≡ 0 = omega arith in ap (λ (n : ℕ). take n out) z) }
+
+pub copied_more : (f : ℕ → List ℕ) (size count i : ℕ) (out new part : List ℕ) → CopiedTo f size count i out → length new ≡ length out
+    → take (size * (i + 1)) new ≡ take (size * i) out ++ part → part ≡ f i → CopiedTo f size count (i + 1) new
+copied_more f size count i out new part so_far long is part_is =
+    let n : suc i ≡ i + 1 = omega arith in
+    record {
+      long = long ∙ so_far.long;
+      are = is ∙ ap (λ (l : List ℕ). l ++ part) so_far.are ∙ ap (λ (l : List ℕ). run f i ++ l) part_is ∙ sym (run_more f i) ∙ ap (run f) n;
+    }
+
+pub copied_done : (f : ℕ → List ℕ) (size count i : ℕ) (out : List ℕ) → CopiedTo f size count i out → i ≡ count → out ≡ run f count
+copied_done f size count i out all e =
+    sym (take_all (size * i) out (omega (arith, all.long, ap (λ (n : ℕ). size * n) e))) ∙ all.are ∙ ap (run f) e
+
+-- an opened column is one
+pub opened_column : (column : Column) → IsColumn column.kind (values column)
+opened_column column =
+    let states = column.states in
+    subst (λ (kind : ColumnKind). IsColumn kind (values column)) (sym states.kind_is) (values_are_read column.bytes.now column.are_bytes states.none).0

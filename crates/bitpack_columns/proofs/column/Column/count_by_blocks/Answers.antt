@@ -1,0 +1,35 @@
+-- Each turn counts the values of a block, and the last those of the tail.
+use Rattle.std.proofs.Common.{◌≡◌, ◌≤◌, ◌-◌, length, ◌∙◌, ap, arith}
+use Rattle.bitpack_columns.specs.Opened.{blocks_of, values}
+use Rattle.bitpack_columns.specs.Searches.{positions_among}
+use Rattle.bitpack_columns.proofs.OpenedLaws.{few_values}
+use Rattle.bitpack_columns.proofs.WithinLaws.{counted_few, counted_more, upto}
+use Rattle.bitpack_columns.proofs.column.Column.count_by_blocks.Goals as goal
+
+pub overflow_add-block-end : goal.overflow_add-block-end
+overflow_add-block-end c = omega (arith, few_values c.args.self.now, c.blocks-block-end.ensures)
+
+pub overflow_add-count : goal.overflow_add-count
+overflow_add-count c =
+    let column = c.args.self.now in
+    let inside : c.loop-block.block ≤ blocks_of column = omega (arith, c.loop-block-test.true, c.blocks-block-end.ensures) in
+    omega (
+      arith,
+      few_values column,
+      counted_few c.args.low c.args.high (values column) c.loop-block.block c.loop-block.count c.count_in_block-count.result inside c.loop-block.invariant
+          c.count_in_block-count.ensures,
+    )
+
+pub loop-block-preserved : goal.loop-block-preserved
+loop-block-preserved c =
+    let column = c.args.self.now in
+    let inside : c.loop-block.block ≤ blocks_of column = omega (arith, c.loop-block-test.true, c.blocks-block-end.ensures) in
+    counted_more c.args.low c.args.high (values column) c.loop-block.block c.loop-block.count c.count_in_block-count.result inside c.loop-block.invariant
+    c.count_in_block-count.ensures
+
+pub returns : goal.returns
+returns c =
+    let column = c.args.self.now in
+    let all : upto c.args.low c.args.high (values column) c.loop-block.block ≡ length (values column) - 0 =
+    omega (arith, c.loop-block-test.false, c.loop-block.auto.block-end, c.blocks-block-end.ensures) in
+    c.loop-block.invariant ∙ ap (λ n. length (positions_among c.args.low c.args.high 0 n (values column))) all

@@ -1,0 +1,9 @@
+-- The values of the blocks so far were counted.
+use Rattle.std.proofs.Common.{◌≡◌, length}
+use Rattle.bitpack_columns.specs.Opened.{values}
+use Rattle.bitpack_columns.specs.Searches.{positions_among}
+use Rattle.bitpack_columns.proofs.WithinLaws.{upto}
+use Rattle.bitpack_columns.proofs.column.Column.count_by_blocks.Given as goal
+
+abbrev pub invariant-loop-block : goal.invariant-loop-block
+invariant-loop-block l = l.count ≡ length (positions_among l.low l.high 0 (upto l.low l.high (values l.self) l.block) (values l.self))

@@ -1,0 +1,9 @@
+-- There are as many values as the count.
+use Rattle.std.proofs.Common.{sym}
+use Rattle.bitpack_columns.proofs.ReadLaws.{is_read}
+use Rattle.bitpack_columns.proofs.column.Column.len.Goals as goal
+
+pub returns : goal.returns
+returns c =
+    let column = c.args.self.now in
+    sym (is_read column.bytes.now column.kind column.count column.first column.rest.now column.are_bytes column.states).len

@@ -1,0 +1,20 @@
+-- The definitions of this crate.
+pub mod Builders
+pub mod Columns
+pub mod Cursors
+pub mod Errors
+pub mod Faults
+pub mod Gathering
+pub mod Laws
+pub mod Measured
+pub mod Numbers
+pub mod Opened
+pub mod Opening
+pub mod Ranges
+pub mod Reads
+pub mod Searches
+pub mod Sound
+pub mod Stated
+pub mod WorkedColumns
+pub mod WorkedFaults
+pub mod Written

@@ -1,0 +1,159 @@
+//! The blocks of a column and its tail.
+
+ghost use Rattle.std.specs.Prelude.{◌≡◌, ℕ, ◌+◌, ◌-◌, ◌*◌, ◌%◌, ◌^◌, ◌<◌, ◌≤◌, drop, length, min, slice_index, take};
+ghost use Rattle.bitpack_columns.specs.declared.column_kind.ColumnKind.TheVariants.{Plain, Sorted};
+ghost use Rattle.bitpacking.specs.Layout.{codes_of};
+ghost use Rattle.bitpack_columns.specs.Columns.{base_of, block_of, mark_of, tail_base, tail_of};
+ghost use Rattle.bitpack_columns.specs.Numbers.{number_value};
+ghost use Rattle.bitpack_columns.specs.Opened.{blocks_of, kind_of, values};
+ghost use Rattle.bitpack_columns.specs.Reads;
+
+use crate::column::{BLOCK_LEN, Column};
+use crate::column_kind::ColumnKind;
+use crate::entries::{begin_at, bodies_start, end_at, mark_at, tail_start};
+use crate::tail::{to_values, unpack_tail_values};
+use bitpack_groups::unpack_number;
+use bitpacking::{BitPacker, BitPacker4x, Kind};
+
+impl<'a> Column<'a> {
+    /// How many whole blocks of 128 values there are. The other values, fewer than 128, are the tail.
+    pub fn blocks(&self) -> usize
+        ensures { result ≡ blocks_of self.now }
+    {
+        self.count / BLOCK_LEN
+    }
+
+    /// The mark of a block: its least value, or if the column is sorted its last one.
+    #[inline(always)]
+    pub(crate) fn mark(&self, block: usize) -> u32
+        requires { block < blocks_of self.now }
+        ensures { result ≡ mark_of (kind_of self.now) (block_of block (values self.now)) }
+    {
+        mark_at(self.blocks(), self.rest, block)
+    }
+
+    /// The width of a block. In a plain column its values are below its mark and 2 to the power of the width.
+    #[inline(always)]
+    pub(crate) fn width(&self, block: usize) -> u8
+        requires { block < blocks_of self.now }
+        ensures is { result ≡ Reads.width_at self.now.rest.now block }
+        ensures narrow { result ≤ 32 }
+        ensures fits { kind_of self.now ≡ Plain → (k : ℕ) → k < 128
+            → slice_index (values self.now) (128 * block + k)
+            < mark_of Plain (block_of block (values self.now)) + 2 ^ result }
+    {
+        let blocks = self.blocks();
+        (end_at(blocks, self.rest, block) - begin_at(blocks, self.rest, block)) as u8
+    }
+
+    /// The body of a block.
+    #[inline(always)]
+    pub(crate) fn body(&self, block: usize) -> &'a [u8]
+        requires { block < blocks_of self.now }
+        ensures { result.now ≡ Reads.body_at (blocks_of self.now) self.now.rest.now block }
+    {
+        let blocks = self.blocks();
+        let from = bodies_start(blocks, self.rest)
+            + 16 * begin_at(blocks, self.rest, block) as usize;
+        &self.rest[from..from + 16 * self.width(block) as usize]
+    }
+
+    /// Unpacks a block.
+    pub(crate) fn unpack_block(&self, block: usize, out: &mut [u32])
+        requires block { block < blocks_of self.now }
+        requires room { length out.old ≡ 128 }
+        ensures { out.new ≡ block_of block (values self.now) }
+    {
+        let base = self.base(block);
+        unpack_body(self.kind, base, self.width(block), self.body(block), out);
+    }
+
+    // What the codes of a block count from.
+    fn base(&self, block: usize) -> u32
+        requires { block < blocks_of self.now }
+        ensures { result ≡ base_of (kind_of self.now) self.now.first
+            (Reads.mark_at (blocks_of self.now) self.now.rest.now) block }
+    {
+        match self.kind {
+            ColumnKind::Plain => self.mark(block),
+            ColumnKind::Sorted => self.value_before(block),
+        }
+    }
+
+    /// The value before a block of a sorted column, or before its tail. Before the first block it is the first value.
+    pub(crate) fn value_before(&self, block: usize) -> u32
+        requires block { block ≤ blocks_of self.now }
+        requires sorted { kind_of self.now ≡ Sorted }
+        ensures first { block ≡ 0 → result ≡ slice_index (values self.now) 0 }
+        ensures later { 0 < block → result ≡ slice_index (values self.now) (128 * block - 1) }
+    {
+        if block == 0 {
+            self.first
+        } else {
+            self.mark(block - 1)
+        }
+    }
+
+    /// Unpacks the tail.
+    pub(crate) fn unpack_tail(&self, out: &mut [u32])
+        requires { length out.old ≡ length (values self.now) % 128 }
+        ensures { out.new ≡ tail_of (blocks_of self.now) (values self.now) }
+    {
+        if out.is_empty() {
+            return;
+        }
+        let blocks = self.blocks();
+        let tail = &self.rest[tail_start(blocks, self.rest)..];
+        let (base, end) = self.tail_base(tail);
+        unpack_tail_values(self.kind, blocks, base, &tail[end..], out);
+    }
+
+    /// What the codes of the tail count from, and where its groups begin.
+    pub(crate) fn tail_base(&self, tail: &[u8]) -> (u32, usize)
+        requires some { 0 < length (values self.now) % 128 }
+        requires tail { tail.now ≡ Reads.tail_at (blocks_of self.now) self.now.rest.now }
+        ensures base { result.0 ≡ tail_base (kind_of self.now) self.now.first
+            (Reads.mark_at (blocks_of self.now) self.now.rest.now) (blocks_of self.now) (number_value tail.now) }
+        ensures end { result.1 ≡ Reads.least_size (kind_of self.now) (length (values self.now) % 128) tail.now }
+        ensures within { result.1 ≤ length tail.now }
+    {
+        match self.kind {
+            ColumnKind::Plain => unpack_number(tail),
+            ColumnKind::Sorted => (self.value_before(self.blocks()), 0),
+        }
+    }
+
+    /// Unpacks a block at the start of a slice, or the tail if the block is the one after the last. Returns how many values these are.
+    pub(crate) fn read_block(&self, block: usize, out: &mut [u32; 128]) -> usize
+        requires { block ≤ blocks_of self.now }
+        ensures len { result ≡ min 128 (length (values self.now) - 128 * block) }
+        ensures values { take result out.new ≡ block_of block (values self.now) }
+    {
+        if block < self.blocks() {
+            self.unpack_block(block, out);
+            return BLOCK_LEN;
+        }
+        let len = self.count % BLOCK_LEN;
+        self.unpack_tail(&mut out[..len]);
+        len
+    }
+}
+
+/// Unpacks the body of a block, whose codes count from `base`.
+#[inline(always)]
+pub(crate) fn unpack_body(kind: ColumnKind, base: u32, width: u8, body: &[u8], out: &mut [u32])
+    requires width { width ≤ 32 }
+    requires body { length body.now ≡ 16 * width }
+    requires room { length out.old ≡ 128 }
+    ensures { out.new ≡ Reads.values_of kind base (codes_of 4 width body.now) }
+{
+    match kind {
+        ColumnKind::Plain => {
+            BitPacker4x::new().decompress_kind(Kind::Plain, body, out, width);
+            to_values(kind, base, out);
+        }
+        ColumnKind::Sorted => {
+            BitPacker4x::new().decompress_kind(Kind::Sorted(base), body, out, width);
+        }
+    }
+}

@@ -1,0 +1,46 @@
+//! Bounds of the values of blocks.
+
+ghost use Rattle.std.specs.Prelude.{◌≡◌, ◌+◌, ◌^◌, ◌<◌, ◌≤◌};
+ghost use Rattle.bitpack_columns.specs.declared.column_kind.ColumnKind.TheVariants.{Plain};
+ghost use Rattle.bitpack_columns.specs.Opened.{blocks_of, kind_of, values};
+ghost use Rattle.bitpack_columns.specs.Ranges.{AreBounds};
+ghost use Rattle.bitpack_columns.specs.Searches.{greatest_in, least_in};
+
+use crate::column::Column;
+use crate::column_kind::ColumnKind;
+
+impl<'a> Column<'a> {
+    /// Bounds of the values of a block: no value is below the first, or above the second. It unpacks nothing.
+    ///
+    /// In a plain column the first is the least value of the block, and the second what the width of the block allows above it. In a sorted
+    /// one the first is the value before the block, and the second its last value.
+    pub fn bounds(&self, block: usize) -> (u32, u32)
+        requires { block < blocks_of self.now }
+        ensures { AreBounds (kind_of self.now) (values self.now) block result.0 result.1 }
+    {
+        match self.kind {
+            ColumnKind::Plain => self.plain_bounds(block),
+            ColumnKind::Sorted => (self.value_before(block), self.mark(block)),
+        }
+    }
+
+    /// The bounds of a block of a plain column, exactly.
+    pub(crate) fn plain_bounds(&self, block: usize) -> (u32, u32)
+        requires plain { kind_of self.now ≡ Plain }
+        requires block { block < blocks_of self.now }
+        ensures bounds { AreBounds Plain (values self.now) block result.0 result.1 }
+        ensures least { result.0 ≡ least_in self.now block }
+        ensures greatest { result.1 ≡ greatest_in self.now block }
+    {
+        let mark = self.mark(block);
+        (mark, mark.saturating_add(greatest_code(self.width(block))))
+    }
+}
+
+/// The greatest code of a width.
+fn greatest_code(width: u8) -> u32
+    requires { width ≤ 32 }
+    ensures { result + 1 ≡ 2 ^ width }
+{
+    ((1u64 << width) - 1) as u32
+}

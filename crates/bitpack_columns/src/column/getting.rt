@@ -1,0 +1,213 @@
+//! The values at positions of a column.
+
+ghost use Rattle.std.specs.Prelude.{◌≡◌, ℕ, ◌+◌, ◌-◌, ◌*◌, ◌%◌, ◌^◌, ◌<◌, ◌≤◌, IfErr, MatchOption, OnErr, OnOk, drop, length, slice_get, slice_index, true};
+ghost use Rattle.bitpacking.specs.Layout.{codes_of};
+ghost use Rattle.bitpack_columns.specs.declared.column_kind.ColumnKind.TheVariants.{Sorted};
+ghost use Rattle.bitpack_columns.specs.Gathering.{AreWithin, HasValues};
+ghost use Rattle.bitpack_columns.specs.Columns.{block_of, tail_of};
+ghost use Rattle.bitpack_columns.specs.Opened.{blocks_of, values};
+ghost use Rattle.bitpack_columns.specs.Ranges.{HasAll, IsFirstBeyond};
+ghost use Rattle.bitpack_columns.specs.Reads.{values_of};
+
+use crate::code::code_at;
+use crate::column::{BLOCK_LEN, Column};
+use crate::column_kind::ColumnKind;
+use crate::entries::tail_start;
+use crate::tail::{end_of_group, left_out, unpack_tail_front};
+use bitpacking::{BitPacker, BitPacker4x, Kind};
+
+/// A block of a plain column is unpacked only if this many positions after each other may be in it.
+const FEW: usize = 8;
+
+impl<'a> Column<'a> {
+    /// The value at a position, which begins at 0. It is `None` exactly if the position is not below the number of values.
+    ///
+    /// In a plain column the value of a whole block is read by its bits, and nothing is unpacked.
+    pub fn get(&self, position: usize) -> Option<u32>
+        ensures { result ≡ slice_get (values self.now) position }
+    {
+        if position >= self.count {
+            return None;
+        }
+        Some(self.value_at(position))
+    }
+
+    fn value_at(&self, position: usize) -> u32
+        requires { position < length (values self.now) }
+        ensures { result ≡ slice_index (values self.now) position }
+    {
+        let block = position / BLOCK_LEN;
+        if block < self.blocks() {
+            return self.value_in_block(block, position % BLOCK_LEN);
+        }
+        self.value_in_tail(position % BLOCK_LEN)
+    }
+
+    // The value at an index of the tail. Unpacks the groups up to the value's.
+    fn value_in_tail(&self, index: usize) -> u32
+        requires { index < length (values self.now) % 128 }
+        ensures { result ≡ slice_index (tail_of (blocks_of self.now) (values self.now)) index }
+    {
+        let blocks = self.blocks();
+        let count = self.count % BLOCK_LEN;
+        let tail = &self.rest[tail_start(blocks, self.rest)..];
+        let (base, end) = self.tail_base(tail);
+        let len = end_of_group(left_out(self.kind, blocks, count), count, index);
+        let mut values = [0; BLOCK_LEN];
+        unpack_tail_front(
+            self.kind,
+            blocks,
+            count,
+            base,
+            &tail[end..],
+            &mut values[..len],
+        );
+        values[index]
+    }
+
+    // The value at an index of a block.
+    #[inline(always)]
+    fn value_in_block(&self, block: usize, index: usize) -> u32
+        requires block { block < blocks_of self.now }
+        requires index { index < 128 }
+        ensures { result ≡ slice_index (block_of block (values self.now)) index }
+    {
+        let width = self.width(block);
+        let body = self.body(block);
+        match self.kind {
+            ColumnKind::Plain => self.mark(block).wrapping_add(code_at(width, body, index)),
+            ColumnKind::Sorted => sum_of_codes(self.value_before(block), width, body, index),
+        }
+    }
+
+    /// Writes the value at each position to the same index of a slice. Later values of the slice are unchanged.
+    ///
+    /// The positions may be in any order, and one may come twice. If one of them is not in the column, nothing is written or unpacked, and
+    /// the error is the index of the first such position.
+    ///
+    /// A block is unpacked at most once for each run of positions that are in it.
+    pub fn gather(&self, positions: &[usize], out: &mut [u32]) -> Result<(), usize>
+        requires room { length positions.now ≤ length out.old }
+        ensures ok { OnOk result (HasAll (values self.now) positions.now out.new) }
+        ensures err { IfErr result (λ index. IsFirstBeyond (values self.now) positions.now index) }
+        ensures rest { drop (length positions.now) out.new ≡ drop (length positions.now) out.old }
+        ensures unchanged { OnErr result (out.new ≡ out.old) }
+    {
+        if let Some(index) = first_beyond(positions, self.count) {
+            return Err(index);
+        }
+        self.gather_all(positions, out);
+        Ok(())
+    }
+
+    // Writes the values at these positions, which are all in the column.
+    fn gather_all(&self, positions: &[usize], out: &mut [u32])
+        requires within { AreWithin self.now.count positions.now }
+        requires room { length positions.now ≤ length out.old }
+        ensures all { HasAll (values self.now) positions.now out.new }
+        ensures rest { drop (length positions.now) out.new ≡ drop (length positions.now) out.old }
+    {
+        let mut last = LastBlock::none();
+        for index in 0..positions.len() {
+            out[index] = self.next_value(&positions[index..], &mut last);
+        }
+    }
+
+    // The value at the first of these positions. Unless it is alone, its block is unpacked, if it was not the last.
+    #[inline(always)]
+    fn next_value(&self, positions: &[usize], last: &mut LastBlock) -> u32
+        requires some { 0 < length positions.now }
+        requires within { slice_index positions.now 0 < length (values self.now) }
+        requires last { HasValues (values self.now) last.old }
+        ensures value { result ≡ slice_index (values self.now) (slice_index positions.now 0) }
+        ensures last { HasValues (values self.now) last.new }
+    {
+        let block = positions[0] / BLOCK_LEN;
+        let index = positions[0] % BLOCK_LEN;
+        if last.block != block && self.is_alone(block, positions) {
+            return self.value_in_block(block, index);
+        }
+        self.hold(block, last);
+        last.values[index]
+    }
+
+    // Whether the first of these positions is in a block of a plain column, and a position soon after it is not.
+    #[inline(always)]
+    fn is_alone(&self, block: usize, positions: &[usize]) -> bool
+        ensures { result ≡ true → block < blocks_of self.now }
+    {
+        self.kind == ColumnKind::Plain
+            && block < self.blocks()
+            && (positions.len() < FEW || positions[FEW - 1] / BLOCK_LEN != block)
+    }
+
+    // Unpacks a block, or the tail, unless it was unpacked last.
+    #[inline(always)]
+    fn hold(&self, block: usize, last: &mut LastBlock)
+        requires block { block ≤ blocks_of self.now }
+        requires values { HasValues (values self.now) last.old }
+        ensures block { last.new.block ≡ block }
+        ensures values { HasValues (values self.now) last.new }
+    {
+        if last.block != block {
+            self.read_block(block, &mut last.values);
+            last.block = block;
+        }
+    }
+}
+
+/// The block that was unpacked last. Before any is, it has a number that no column reaches.
+#[derive(Drop)]
+struct LastBlock {
+    block: usize,
+    values: [u32; BLOCK_LEN],
+}
+
+impl LastBlock {
+    fn none() -> LastBlock
+        ensures { result.block ≡ 2 ^ 64 - 1 }
+    {
+        LastBlock {
+            block: usize::MAX,
+            values: [0; BLOCK_LEN],
+        }
+    }
+}
+
+/// The value at an index of a block of a sorted column: the codes up to it are added to the value before the block.
+fn sum_of_codes(before: u32, width: u8, body: &[u8], index: usize) -> u32
+    requires width { width ≤ 32 }
+    requires body { length body.now ≡ 16 * width }
+    requires index { index < 128 }
+    ensures { result ≡ slice_index (values_of Sorted before (codes_of 4 width body.now)) index }
+{
+    let mut codes = [0; BLOCK_LEN];
+    BitPacker4x::new().decompress_kind(Kind::Plain, body, &mut codes, width);
+    sum(before, &codes[..index + 1])
+}
+
+/// The sum of a number and codes, modulo 2 to the power of 32.
+fn sum(before: u32, codes: &[u32]) -> u32
+    requires { 1 ≤ length codes.now }
+    ensures { result ≡ slice_index (values_of Sorted before codes.now) (length codes.now - 1) }
+{
+    let mut value = before;
+    for index in 0..codes.len() {
+        value = value.wrapping_add(codes[index]);
+    }
+    value
+}
+
+/// The index of the first position that is not below a count, or `None` if all are.
+fn first_beyond(positions: &[usize], count: usize) -> Option<usize>
+    ensures { MatchOption result (AreWithin count positions.now) (λ index. (index < length positions.now)
+        × (count ≤ slice_index positions.now index)
+        × ((k : ℕ) → k < index → slice_index positions.now k < count)) }
+{
+    for index in 0..positions.len() {
+        if positions[index] >= count {
+            return Some(index);
+        }
+    }
+    None
+}
