@@ -4,8 +4,8 @@
 def column_codes(kind, before, values):
     """The codes of values of a plain column, or of those of a sorted one after a value, and what a plain column stores before them."""
     if kind == 0:
-        least = min(values)
-        return [value - least for value in values], least
+        mark = min(values)
+        return [value - mark for value in values], mark
     return codes_of(1, before, values), values[-1]
 
 
