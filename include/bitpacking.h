@@ -1,20 +1,21 @@
-/* bitpacking.h: blocks of 32-bit integers packed in few bits per value, chains and lists of such blocks, and id sets.
+/* bitpacking.h: blocks of 32-bit integers packed in few bits per value, chains and lists of such blocks, id sets, and columns.
  *
  * The functions are in a static library, libbitpacking.a; docs/C.md of the repository says how to build it. It chooses the level of the
  * processor, or has one level. Four functions are `static inline` here, and in no archive: bitpacking_list_empty, bitpacking_list_none,
  * bitpacking_cursor_block and bitpacking_error_text; the shared library has them for other languages. Four steps of cursors, list_append, list_join,
- * set_pack, and list_pack and list_size of each packer, are in the archive and `static inline` here too: see bitpacking_cursor_value_inline and
- * bitpacking_4x_list_pack_inline.
+ * set_pack, column_pack, column_size, column_append, column_join, and list_pack and list_size of each packer, are in the archive and `static inline`
+ * here too: see bitpacking_cursor_value_inline and bitpacking_4x_list_pack_inline.
  *
  * What each call of the archive returns and writes is proved for all arguments that meet these rules:
  *
  * - A pointer with a length after it is to that many items. It may be NULL if the length is 0.
  * - The pointers num_bits, view, cursor, builder, position, item, id, block, least and greatest are to one item each, and must not be NULL.
- *   Only the position of list_pack, list_size, list_append, list_join and set_pack may be NULL: see bitpacking_4x_list_pack_inline.
+ *   Only the position of list_pack, list_size, list_append, list_join, set_pack, column_pack, column_size, column_append and column_join may be
+ *   NULL: see bitpacking_4x_list_pack_inline.
  * - Pointers are aligned for their type.
  * - The buffers that a call writes overlap none of its other arguments, no bytes of a view or a cursor, and no values of a builder.
  * - Nothing else writes to an argument during a call, and nothing reads what the call writes.
- * - The bytes of a list or of a set do not change while a view or a cursor of it is used: see bitpacking_list below.
+ * - The bytes of a list, a set or a column do not change while a view or a cursor of it is used: see bitpacking_list below.
  *
  * The functions allocate nothing and have no state: they may run on any threads at once.
  *
@@ -29,9 +30,10 @@
  *     strictly_sorted    one less than that, modulo 2^32                       initial, or BITPACKING_NO_INITIAL for none
  *
  * A call that works returns a number of bytes, or a width, from 0 on. A call that fails returns one of the negative numbers
- * below, and writes nothing: the buffers are unchanged. Only list_pack, list_size, list_append, list_join, list_builder_extend and
- * set_pack write at one error, the position of a value that is out of order; and set_intersect, set_unite and set_subtract may write ids
- * before they find that there is no room for all. Comments name an error without BITPACKING_.
+ * below, and writes nothing: the buffers are unchanged. Only those with a position that may be NULL, list_builder_extend and
+ * column_builder_extend write at one error, the position of a value that is out of order; column_join also writes the position of a value that is
+ * too great; and set_intersect, set_unite and set_subtract may write ids before they find that there is no room for all. Comments name an error
+ * without BITPACKING_.
  *
  *     uint32_t values[128], back[128];
  *     uint8_t bytes[BITPACKING_4X_BLOCK_SIZE(BITPACKING_MAX_WIDTH)], width;
@@ -82,14 +84,14 @@ uint32_t bitpacking_version(void);
 #define BITPACKING_SHORT (-3)      /* too few bytes, to write or to read */
 #define BITPACKING_UNFIT (-4)      /* a code of the block does not fit the width */
 
-/* Why bitpacking_list_gather failed. */
+/* Why bitpacking_list_gather or bitpacking_column_gather failed. */
 #define BITPACKING_BAD_POSITION (-5) /* a position is not in the list */
 
-/* Why bitpacking_list_bounds, bitpacking_list_block_last or bitpacking_list_read_block failed. */
+/* Why bitpacking_list_bounds, bitpacking_list_block_last, bitpacking_list_read_block or bitpacking_column_bounds failed. */
 #define BITPACKING_BAD_BLOCK (-6) /* the list has no such block */
 
-/* Why bitpacking_list_get_wide or bitpacking_list_unpack_wide failed. */
-#define BITPACKING_BAD_BASE (-7) /* the base is above BITPACKING_MAX_BASE */
+/* Why bitpacking_list_get_wide, _unpack_wide or _join, or one of these calls of columns, failed. */
+#define BITPACKING_BAD_BASE (-7) /* the base is above BITPACKING_MAX_BASE; in a join, a value with it is above 2^32 - 1 */
 
 /* The greatest base of values: with it, no value passes 64 bits. */
 #define BITPACKING_MAX_BASE (UINT64_MAX - UINT32_MAX)
@@ -719,7 +721,7 @@ static inline const char *bitpacking_error_text(ptrdiff_t number)
     case BITPACKING_BAD_BLOCK:
         return "The list has no block of this number.";
     case BITPACKING_BAD_BASE:
-        return "The base is above 2^64 - 2^32.";
+        return "The base is above 2^64 - 2^32, or a value with it does not fit.";
     case BITPACKING_LIST_SHORT:
         return "Bytes of the list are missing.";
     case BITPACKING_LIST_BAD_VERSION:
@@ -908,6 +910,206 @@ ptrdiff_t bitpacking_set_count_common(const bitpacking_set *views, size_t views_
 
 /* Returns how many ids any set has. */
 ptrdiff_t bitpacking_set_count_any(const bitpacking_set *views, size_t views_len);
+
+/* Columns: lists of 32-bit integers, plain or sorted, for what is stored beside ids: times, prices, positions. They need no packer and no
+ * version. A value is read in place, by its position. docs/FORMAT.md of the repository describes each byte. A column has one encoding.
+ *
+ * A view of a column is one as of a list: a struct of the caller that borrows the bytes, and whose fields only bitpacking_column_open and
+ * bitpacking_column_open_tested may write. Set it to BITPACKING_COLUMN_EMPTY before anything else, or all of it to zero: each is the empty
+ * plain column.
+ *
+ *     bitpacking_column times = BITPACKING_COLUMN_EMPTY;
+ *     uint32_t time;
+ *     if (bitpacking_column_open(bytes, bytes_len, &times) < 0) return -1;
+ *     if (bitpacking_column_get(&times, 1000, &time)) ...
+ */
+typedef struct bitpacking_column {
+    const uint8_t *bytes;
+    size_t bytes_len;
+    size_t count;
+    const uint8_t *rest;
+    size_t rest_len;
+    uint32_t first;
+    uint8_t kind;
+} bitpacking_column;
+
+#define BITPACKING_COLUMN_EMPTY {NULL, 0, 0, NULL, 0, 0, 0}
+
+/* Room that is enough for every column of values_len values, in bytes. */
+#define BITPACKING_COLUMN_ROOM(values_len) (16 + 4 * sizeof(uint8_t) * (values_len) + sizeof(uint8_t) * (values_len) / 4)
+
+/* Writes the column of these values at the start of bytes, and returns its number of bytes. Bytes after those are unchanged. kind is
+ * BITPACKING_PLAIN or BITPACKING_SORTED: no value of a sorted column is below the one before it.
+ * The first of: LIST_BAD_KIND: kind is another; LIST_TOO_LONG: these are more than 268,435,456 values; LIST_NOT_SORTED, and then *position is the
+ * position of the first value that is below the one before it, unless position is NULL; SHORT: bytes_len is below the number of bytes of the
+ * column, which BITPACKING_COLUMN_ROOM(values_len) never is. Nothing else is written then, and *position only if the result is LIST_NOT_SORTED. */
+ptrdiff_t bitpacking_column_pack(uint8_t kind, const uint32_t *values, size_t values_len, uint8_t *bytes, size_t bytes_len, size_t *position);
+
+/* Returns the number of bytes that bitpacking_column_pack writes for the values, and writes none. It has the errors of that call, without SHORT. */
+ptrdiff_t bitpacking_column_size(uint8_t kind, const uint32_t *values, size_t values_len, size_t *position);
+
+/* The inline forms of bitpacking_column_pack and bitpacking_column_size, whose position may be NULL. */
+static inline ptrdiff_t bitpacking_column_pack_inline(uint8_t kind, const uint32_t *values, size_t values_len,
+                                                      uint8_t *bytes, size_t bytes_len, size_t *position)
+{
+    size_t ignored;
+
+    return (bitpacking_column_pack)(kind, values, values_len, bytes, bytes_len, position != NULL ? position : &ignored);
+}
+
+static inline ptrdiff_t bitpacking_column_size_inline(uint8_t kind, const uint32_t *values, size_t values_len, size_t *position)
+{
+    size_t ignored;
+
+    return (bitpacking_column_size)(kind, values, values_len, position != NULL ? position : &ignored);
+}
+
+#ifndef BITPACKING_NO_INLINE
+#define bitpacking_column_pack(...) bitpacking_column_pack_inline(__VA_ARGS__)
+#define bitpacking_column_size(...) bitpacking_column_size_inline(__VA_ARGS__)
+#endif
+
+/* Opens a column. Accepts any bytes, and tests all of them: they may be untrusted. Returns 0; or the number of the first fault in the order of
+ * docs/FORMAT.md, and then the view is unchanged. Each fault has the number that it has in lists, as LIST_SHORT. */
+ptrdiff_t bitpacking_column_open(const uint8_t *bytes, size_t bytes_len, bitpacking_column *view);
+
+/* Opens bytes that bitpacking_column_open accepted before, and that did not change since. It does not test them again. With other bytes this
+ * call or a later one may read or write outside its buffers. */
+void bitpacking_column_open_tested(const uint8_t *bytes, size_t bytes_len, bitpacking_column *view);
+
+/* Returns how many values an opened column has. */
+size_t bitpacking_column_len(const bitpacking_column *view);
+
+/* Returns the kind of an opened column: BITPACKING_PLAIN or BITPACKING_SORTED. */
+uint8_t bitpacking_column_kind(const bitpacking_column *view);
+
+/* Writes the value at a position, from 0 on, and returns 1. If there is no such position it returns 0 and writes nothing. */
+int32_t bitpacking_column_get(const bitpacking_column *view, size_t position, uint32_t *item);
+
+/* Unpacks all values, and returns their number. Values after them are unchanged.
+ * SHORT: values_len is below the number of values. */
+ptrdiff_t bitpacking_column_unpack(const bitpacking_column *view, uint32_t *values, size_t values_len);
+
+/* Write base + value, in 64 bits, for ids above 2^32, offsets in a large corpus, or times. Otherwise they do what bitpacking_column_get and
+ * bitpacking_column_unpack do, and have the same errors.
+ * BAD_BASE: the base is above BITPACKING_MAX_BASE, whatever the values are. It is tested first, and nothing is written then. In an `if`, it
+ * is true: compare the result of get_wide with `== 1`. */
+int32_t bitpacking_column_get_wide(const bitpacking_column *view, uint64_t base, size_t position, uint64_t *item);
+ptrdiff_t bitpacking_column_unpack_wide(const bitpacking_column *view, uint64_t base, uint64_t *values, size_t values_len);
+
+/* Unpacks the values from position `from` on, as many as there are and as fit, and returns how many these are: 0 from the length on. Values
+ * after them are unchanged. */
+ptrdiff_t bitpacking_column_range(const bitpacking_column *view, size_t from, uint32_t *values, size_t values_len);
+
+/* Writes the value at each position to the same index of values, and returns their number, positions_len. The positions may be in any order,
+ * and one may come twice. Values after them are unchanged. Positions in order take the least time.
+ * The first of: SHORT: values_len is below positions_len; BAD_POSITION: one of the positions is not in the column. Nothing is written then. */
+ptrdiff_t bitpacking_column_gather(const bitpacking_column *view, const size_t *positions, size_t positions_len,
+                                   uint32_t *values, size_t values_len);
+
+/* Searches a sorted column for the first value that is at least target. Writes its position and the value, and returns 1. If every value is
+ * below the target it returns 0, and for a plain column BITPACKING_LIST_BAD_KIND; then nothing is written. Compare the result with `== 1`: in
+ * an `if`, BITPACKING_LIST_BAD_KIND is true as well. */
+int32_t bitpacking_column_seek(const bitpacking_column *view, uint32_t target, size_t *position, uint32_t *item);
+
+/* Returns how many values are from low to high, both included. In a sorted column it looks for both ends, and in a plain one it compares the
+ * values of the blocks whose bounds do not tell. */
+size_t bitpacking_column_count_between(const bitpacking_column *view, uint32_t low, uint32_t high);
+
+/* Writes the positions of the values from low to high, both included, in increasing order: from position `from` on, as many as fit. Returns
+ * how many it wrote. Positions after them are unchanged. If it fills the array, there may be more: go on from the position after the last, as
+ * with bitpacking_list_between. */
+size_t bitpacking_column_between(const bitpacking_column *view, uint32_t low, uint32_t high, size_t from,
+                                 size_t *positions, size_t positions_len);
+
+/* Writes bounds of the values of a whole block of BITPACKING_4X_BLOCK_LEN values, and returns 0: no value of the block is below *least, or above
+ * *greatest. Block b begins at position b * BITPACKING_4X_BLOCK_LEN. The values after the last whole block have no bounds. It unpacks nothing.
+ * In a plain column *least is the least value of the block, and *greatest is *least plus the greatest number of the block's width, and at most
+ * UINT32_MAX. In a sorted one *greatest is the last value of the block, and *least the value before the block; of the first block it is the
+ * first value.
+ * BAD_BLOCK: the column has no whole block of this number. Nothing is written then. */
+ptrdiff_t bitpacking_column_bounds(const bitpacking_column *view, size_t block, uint32_t *least, uint32_t *greatest);
+
+/* A builder collects the values of a column one by one, or a part at a time, and then writes the column. It stores the values in a buffer of the
+ * caller, as a builder of a list does.
+ *
+ * Set a builder to zero before anything else: it is then one of a plain column, without room. Then start it, as often as you like. Only the
+ * functions for builders may write its fields, and nothing else may write the buffer while the builder is used. Use a builder or its copy,
+ * not both.
+ *
+ *     uint32_t room[1000];
+ *     uint8_t bytes[BITPACKING_COLUMN_ROOM(1000)];
+ *     bitpacking_column_builder builder = {NULL, 0, 0, 0};
+ *     if (bitpacking_column_builder_start(&builder, BITPACKING_SORTED, room, 1000) < 0) return -1;
+ *     while (...)
+ *         if (bitpacking_column_builder_push(&builder, value) < 0) ...
+ *     ptrdiff_t size = bitpacking_column_builder_finish(&builder, bytes, sizeof bytes);
+ */
+typedef struct bitpacking_column_builder {
+    uint32_t *values;
+    size_t values_len;
+    size_t count;
+    uint8_t kind;
+} bitpacking_column_builder;
+
+/* Starts a builder of a column without values, which has room for values_len values. kind is BITPACKING_PLAIN or BITPACKING_SORTED. Returns 0; or
+ * LIST_BAD_KIND, if kind is another, and then the builder is unchanged. */
+ptrdiff_t bitpacking_column_builder_start(bitpacking_column_builder *builder, uint8_t kind, uint32_t *values, size_t values_len);
+
+/* Pushes a value, and returns how many values there are then. The first of: LIST_TOO_LONG, if there are 268,435,456 values; LIST_NOT_SORTED,
+ * if the column is sorted and the value below the last one; SHORT, if the buffer is full. Then the builder is unchanged. */
+ptrdiff_t bitpacking_column_builder_push(bitpacking_column_builder *builder, uint32_t value);
+
+/* Pushes all of these values, or none, and returns how many values there are then. It has the errors of bitpacking_column_builder_push. At
+ * LIST_NOT_SORTED *position is the position in the column of the first value out of order, counted from the first value of the builder. */
+ptrdiff_t bitpacking_column_builder_extend(bitpacking_column_builder *builder, const uint32_t *values, size_t values_len, size_t *position);
+
+/* Returns how many values were pushed since the builder was started. */
+size_t bitpacking_column_builder_len(const bitpacking_column_builder *builder);
+
+/* Writes the column at the start of bytes, as bitpacking_column_pack does, and returns its number of bytes. Bytes after those are unchanged. The
+ * builder retains its values: more can be pushed.
+ * SHORT: bytes_len is below the number of bytes of the column, which BITPACKING_COLUMN_ROOM(values) never is. Nothing is written then. */
+ptrdiff_t bitpacking_column_builder_finish(const bitpacking_column_builder *builder, uint8_t *bytes, size_t bytes_len);
+
+/* Writes the column of a view and more values after it as one column, at the start of bytes, and returns its number of bytes: what
+ * bitpacking_column_pack writes of all values, for the kind of the column. The whole blocks of the column are copied, and only the values after
+ * them are packed. bytes may not overlap the bytes of the column.
+ * The first of: LIST_TOO_LONG: all values are more than 268,435,456; LIST_NOT_SORTED, and then *position is the position of the first value that
+ * is below the one before it, counted from the first value of the column, unless position is NULL; SHORT: bytes_len is below the number of bytes
+ * of all values, which BITPACKING_COLUMN_ROOM(all values) never is. Then bytes are unchanged, as are those after a column that is written. */
+ptrdiff_t bitpacking_column_append(const bitpacking_column *view, const uint32_t *values, size_t values_len,
+                                   uint8_t *bytes, size_t bytes_len, size_t *position);
+
+/* Writes the values of a view and, after them, the values of another column with base added to each as one column, as bitpacking_column_append
+ * does: two segments become one, whose second part begins at base. The result has the kind of the first. room is work space for the values of the
+ * other column: room_len is at least its length.
+ * The first of: SHORT: room is too short; BAD_BASE: a value with the base is above 2^32 - 1, and then *position is the position in the other column
+ * of the first one, unless position is NULL; and the errors of bitpacking_column_append. Then bytes are unchanged. */
+ptrdiff_t bitpacking_column_join(const bitpacking_column *view, uint32_t base, const bitpacking_column *other, uint32_t *room, size_t room_len,
+                                 uint8_t *bytes, size_t bytes_len, size_t *position);
+
+/* The inline forms of bitpacking_column_append and bitpacking_column_join, whose position may be NULL. */
+static inline ptrdiff_t bitpacking_column_append_inline(const bitpacking_column *view, const uint32_t *values, size_t values_len,
+                                                        uint8_t *bytes, size_t bytes_len, size_t *position)
+{
+    size_t ignored;
+
+    return (bitpacking_column_append)(view, values, values_len, bytes, bytes_len, position != NULL ? position : &ignored);
+}
+
+static inline ptrdiff_t bitpacking_column_join_inline(const bitpacking_column *view, uint32_t base, const bitpacking_column *other,
+                                                      uint32_t *room, size_t room_len, uint8_t *bytes, size_t bytes_len, size_t *position)
+{
+    size_t ignored;
+
+    return (bitpacking_column_join)(view, base, other, room, room_len, bytes, bytes_len, position != NULL ? position : &ignored);
+}
+
+#ifndef BITPACKING_NO_INLINE
+#define bitpacking_column_append(...) bitpacking_column_append_inline(__VA_ARGS__)
+#define bitpacking_column_join(...) bitpacking_column_join_inline(__VA_ARGS__)
+#endif
 
 #ifdef __cplusplus
 }

@@ -8,7 +8,7 @@ import time
 from distributed import Client
 
 HERE = os.path.dirname(os.path.abspath(__file__))
-PATIENCE = 60
+PATIENCE = 240
 
 
 class Cluster:

@@ -19,7 +19,7 @@ import pytest
 import index
 import queries
 import shards
-from processes import HERE, Cluster
+from processes import HERE, PATIENCE, Cluster
 from shards import ShardError
 
 SHARDS, DOCUMENTS, EACH, WORDS = 8, 1500, 20, 2000
@@ -109,7 +109,7 @@ def right(found, sets, asked):
 
 def settled(tasks):
     """Waits until some tasks are done and no more will be. Returns what they are."""
-    deadline, before, since = time.monotonic() + 60, None, 0
+    deadline, before, since = time.monotonic() + PATIENCE, None, 0
     while time.monotonic() < deadline:
         now = collections.Counter(it.status for it in tasks)
         if now != before:
@@ -276,13 +276,13 @@ def test_a_worker_is_killed_while_it_builds(cluster, folder, texts, tmp_path):
     cluster.signal(signal.SIGSTOP, cluster.workers[1])
     pool = concurrent.futures.ThreadPoolExecutor(1)
     done = pool.submit(index.build, cluster.client, texts, tmp_path, FIRST)
-    deadline = time.monotonic() + 60
+    deadline = time.monotonic() + PATIENCE
     while not any(tmp_path.glob("*.shard")) and time.monotonic() < deadline:
         time.sleep(0.05)
     time.sleep(1.5)
     assert not done.done() and any(tmp_path.glob("*.shard")) and not (tmp_path / index.NAME).exists()
     cluster.kill(cluster.workers[1])
-    done.result(timeout=60)
+    done.result(timeout=PATIENCE)
     cluster.add(1)
     assert {it.name: it.read_bytes() for it in tmp_path.iterdir()} == {it.name: it.read_bytes() for it in folder.iterdir()}
 

@@ -1,4 +1,4 @@
-/* Ranks documents by BM25 (k1 = 1.2, b = 0.75): by a scan of all lists, or without reading the blocks that cannot have one of the best.
+/* Ranks documents by BM25 (k1 = 1.2, b = 0.75): by a scan of all sets, or without reading the counts that cannot be of one of the best.
  *
  * A score is the sum of its parts in the order of the query, and a bound of scores is the sum of bounds of the parts in the same order. Since
  * rounding keeps the order of numbers, it is a bound of the rounded scores too, and both ways find the same scores, to the last bit. */
@@ -6,7 +6,8 @@
 
 #include <math.h>
 
-#define STEP 8 /* how many documents of a block are passed at once */
+/* How many blocks are passed at once; and a set is unpacked if more than one of RARELY documents is looked up. */
+enum { STEP = 16, RARELY = 256 };
 
 uint8_t class_of(uint32_t length)
 {
@@ -57,11 +58,14 @@ static int beats(const struct ranking *r, double score, uint32_t document)
     return score > worst.score || (score == worst.score && document < worst.document);
 }
 
-/* Keeps a document if it is among the best. Of equal scores the lower document is better. */
-static void keep(struct ranking *r, double score, uint32_t document)
+/* Adds a document to the best if it is among them, and not yet there. Of equal scores the lower document is better. */
+static void add(struct ranking *r, double score, uint32_t document)
 {
     if (!beats(r, score, document))
         return;
+    for (size_t i = 0; i < r->len; i++)
+        if (r->best[i].document == document)
+            return;
     size_t i = r->len < r->room ? r->len++ : r->len - 1;
     for (; i > 0; i--) {
         struct found before = r->best[i - 1];
@@ -72,203 +76,191 @@ static void keep(struct ranking *r, double score, uint32_t document)
     r->best[i] = (struct found){score, document};
 }
 
-struct term term_of(const struct lengths *lengths, const bitpacking_list *documents, const bitpacking_list *counts)
+uint32_t greatest_of(const uint32_t *values, size_t len)
 {
-    struct term t = {.documents = *documents, .counts = *counts, .block = SIZE_MAX, .read = SIZE_MAX, .counted = SIZE_MAX};
-    double all = (double)lengths->documents, have = (double)bitpacking_list_len(documents);
-    uint32_t least, most;
+    uint32_t greatest = 0;
+    for (size_t i = 0; i < len; i++)
+        greatest = values[i] > greatest ? values[i] : greatest;
+    return greatest;
+}
+
+struct term term_of(const struct lengths *lengths, const bitpacking_set *documents, const bitpacking_column *counts,
+                    const bitpacking_column *blocks)
+{
+    struct term t = {.documents = *documents, .counts = *counts, .len = bitpacking_set_len(documents), .counted = SIZE_MAX};
+    double all = (double)lengths->documents, have = (double)t.len;
+    size_t whole = t.len / BLOCK;
+    uint32_t rest[BLOCK];
     t.weight = 2.2 * log(1 + (all - have + 0.5) / (have + 0.5));
-    t.blocks = bitpacking_list_block_count(counts);
-    bitpacking_list_get(documents, bitpacking_list_len(documents) - 1, &t.last);
-    for (ptrdiff_t i = bitpacking_list_read_block(counts, t.blocks, t.numbers, BLOCK); i-- > 0;)
-        t.of_rest = t.numbers[i] > t.of_rest ? t.numbers[i] : t.of_rest;
-    t.greatest = t.of_rest;
-    for (size_t i = 0; i < t.blocks; i++) {
-        bitpacking_list_bounds(counts, i, &least, &most);
-        t.greatest = most > t.greatest ? most : t.greatest;
+    t.blocks = (t.len + BLOCK - 1) / BLOCK;
+    t.lasts = grown(NULL, 2 * t.blocks, sizeof *t.lasts);
+    t.greatest = t.lasts + t.blocks;
+    bitpacking_column_range(blocks, 0, t.lasts, whole);
+    bitpacking_column_range(blocks, whole, t.greatest, whole);
+    if (whole < t.blocks) {
+        bitpacking_set_get(documents, t.len - 1, &t.lasts[whole]);
+        t.greatest[whole] = greatest_of(rest, (size_t)bitpacking_column_range(counts, whole * BLOCK, rest, BLOCK));
     }
     for (int class = 0; class < CLASSES; class++)
-        t.tops[class] = part(lengths, &t, t.greatest, class);
+        t.tops[class] = part(lengths, &t, greatest_of(t.greatest, t.blocks), class);
     return t;
+}
+
+/* Unpacks the documents of a term if they are still packed. */
+static const uint32_t *ids_of(struct term *t)
+{
+    if (!t->ids) {
+        t->ids = grown(NULL, t->len, sizeof *t->ids);
+        bitpacking_set_unpack(&t->documents, t->ids, t->len);
+    }
+    return t->ids;
 }
 
 void scan(struct ranking *r, struct numbers documents, double *scores)
 {
+    uint32_t counts[BLOCK];
     for (size_t i = 0; i < r->terms.len; i++) {
         struct term *t = &r->terms.items[i];
-        struct numbers ids = unpack(t->documents), counts = unpack(t->counts);
-        for (size_t j = 0; j < ids.len; j++)
-            scores[ids.items[j]] += part(r->lengths, t, counts.items[j], r->lengths->classes[ids.items[j]]);
-        free(ids.items);
-        free(counts.items);
+        const uint32_t *ids = ids_of(t);
+        for (size_t j = 0; j < t->len; j++) {
+            if (j % BLOCK == 0)
+                r->counts_read += (size_t)bitpacking_column_range(&t->counts, j, counts, BLOCK);
+            scores[ids[j]] += part(r->lengths, t, counts[j % BLOCK], r->lengths->classes[ids[j]]);
+        }
     }
     for (size_t i = 0; i < documents.len; i++)
-        keep(r, scores[documents.items[i]], documents.items[i]);
+        add(r, scores[documents.items[i]], documents.items[i]);
 }
 
-/* Puts the terms in the order of their weights, the greatest first. */
-static void start(struct ranking *r)
-{
-    const struct term *terms = r->terms.items;
-    for (size_t i = 0, j; i < r->terms.len; i++) {
-        for (j = i; j > 0 && terms[i].weight > terms[r->order[j - 1]].weight; j--)
-            r->order[j] = r->order[j - 1];
-        r->order[j] = i;
-    }
-}
-
-static double sum(const struct ranking *r)
+/* Sets the part of a term. Returns the score, or the bound of it, that all parts make. */
+static double with(struct ranking *r, const struct term *t, double part)
 {
     double score = 0;
+    r->parts[t->place] = part;
     for (size_t i = 0; i < r->terms.len; i++)
         score += r->parts[i];
     return score;
 }
 
-/* Sets a part. Returns the score, or the bound of it, that all parts make. */
-static double with_part(struct ranking *r, size_t term, uint32_t count, int class)
+/* The bound of the score of a document of this class or a longer one, which has this part of a term, and maybe the terms from number `from` on. */
+static double bound(struct ranking *r, size_t from, int class, const struct term *t, double part)
 {
-    r->parts[term] = part(r->lengths, &r->terms.items[term], count, class);
-    return sum(r);
+    for (size_t i = 0; i < r->terms.len; i++)
+        r->parts[r->terms.items[i].place] = i < from ? 0 : r->terms.items[i].tops[class];
+    return with(r, t, part);
 }
 
-/* Sets the parts of the terms from place `from` of the order on to bounds, for documents of this class or a longer one, and the others to
- * zero. Returns the bound of the score. */
-static double with_bounds(struct ranking *r, size_t from, int class)
+/* Moves a term to the first block that can have this document or a later one, and returns the greatest count there. */
+static uint32_t move(struct term *t, uint32_t document)
 {
-    for (size_t i = 0; i < r->terms.len; i++) {
-        size_t term = r->order[i];
-        r->parts[term] = i < from ? 0 : r->terms.items[term].tops[class];
+    while (t->block + STEP <= t->blocks && t->lasts[t->block + STEP - 1] < document)
+        t->block += STEP;
+    while (t->block < t->blocks && t->lasts[t->block] < document)
+        t->block++;
+    return t->block < t->blocks ? t->greatest[t->block] : 0;
+}
+
+/* The count of a document, which is 0 if the block at hand does not have it. A set is unpacked if many of its documents are looked up. */
+static uint32_t count_of(struct ranking *r, struct term *t, uint32_t document)
+{
+    size_t at = t->at / BLOCK == t->block ? t->at : t->block * BLOCK, end = t->len - at < BLOCK ? t->len : (t->block + 1) * BLOCK;
+    uint32_t id, count = 0;
+    if (t->block == t->blocks)
+        return 0;
+    if (!t->ids && ++t->looked_up <= t->len / RARELY) {
+        if (bitpacking_set_seek(&t->documents, document, &at, &id) && id == document && at / BLOCK == t->block)
+            r->counts_read += (size_t)bitpacking_column_get(&t->counts, at, &count);
+        return count;
     }
-    return sum(r);
+    for (const uint32_t *ids = ids_of(t); at < end && ids[at] < document;)
+        at += at + FEW <= end && ids[at + FEW - 1] < document ? FEW : 1;
+    t->at = at;
+    if (at == end || t->ids[at] != document)
+        return 0;
+    if (t->counted != t->block)
+        r->counts_read += (size_t)bitpacking_column_range(&t->counts, t->block * BLOCK, t->numbers, BLOCK);
+    t->counted = t->block;
+    return t->numbers[at % BLOCK];
 }
 
-/* Moves a term to the first block that can have this document or a later one. */
-static void move(struct term *t, uint32_t document)
-{
-    uint32_t least;
-    if (t->block != SIZE_MAX && t->end >= document)
-        return;
-    t->block = (size_t)bitpacking_list_find_block(&t->documents, t->block + 1, document);
-    t->end = document <= t->last ? t->last : UINT32_MAX;
-    t->most = document <= t->last ? t->of_rest : 0;
-    if (t->block < t->blocks) {
-        bitpacking_list_block_last(&t->documents, t->block, &t->end);
-        bitpacking_list_bounds(&t->counts, t->block, &least, &t->most);
-    }
-}
-
-/* Moves a term to this document, or the next one within the block. Returns whether it is there. */
-static int find(struct ranking *r, struct term *t, uint32_t document)
-{
-    move(t, document);
-    if (t->read != t->block) {
-        t->len = (size_t)bitpacking_list_read_block(&t->documents, t->block, t->ids, BLOCK);
-        t->at = 0;
-        t->read = t->block;
-        r->unpacked++;
-    }
-    while (t->at + STEP <= t->len && t->ids[t->at + STEP - 1] < document)
-        t->at += STEP;
-    while (t->at < t->len && t->ids[t->at] < document)
-        t->at++;
-    return t->at < t->len && t->ids[t->at] == document;
-}
-
-/* The count of the document at hand. */
-static uint32_t count_of(struct ranking *r, struct term *t)
-{
-    if (t->counted != t->block) {
-        bitpacking_list_read_block(&t->counts, t->block, t->numbers, BLOCK);
-        t->counted = t->block;
-        r->unpacked++;
-    }
-    return t->numbers[t->at];
-}
-
-/* Looks a document up in the terms from place `from` of the order on, as long as it can be among the best, and keeps it if it is. If it has a
- * term of an earlier place other than `own`, it was seen before. */
-static void look_up(struct ranking *r, size_t own, size_t from, uint32_t document, double score)
+/* Looks a document up in the terms from number `from` on, as long as it can be among the best: in the bounds of blocks, then in the counts. */
+static void look_up(struct ranking *r, size_t from, uint32_t document, double score)
 {
     int class = r->lengths->classes[document];
-    for (size_t i = from; i < r->terms.len && beats(r, score, document); i++) {
-        struct term *t = &r->terms.items[r->order[i]];
-        move(t, document);
-        score = with_part(r, r->order[i], t->most, class);
-        if (beats(r, score, document))
-            score = with_part(r, r->order[i], find(r, t, document) ? count_of(r, t) : 0, class);
-    }
-    for (size_t i = 0; i < from && beats(r, score, document); i++)
-        if (i != own && find(r, &r->terms.items[r->order[i]], document))
-            return;
-    keep(r, score, document);
+    struct term *terms = r->terms.items;
+    for (size_t i = from; i < r->terms.len && beats(r, score, document); i++)
+        score = with(r, &terms[i], part(r->lengths, &terms[i], move(&terms[i], document), class));
+    for (size_t i = from; i < r->terms.len && beats(r, score, document); i++)
+        score = with(r, &terms[i], part(r->lengths, &terms[i], count_of(r, &terms[i], document), class));
+    add(r, score, document);
 }
 
-/* Ranks the documents of the term at place `own` of the order, but for those that have another term before place `from`: they were seen. */
-static void walk(struct ranking *r, size_t own, size_t from)
+/* Ranks these documents, which can have all terms. */
+static void rank_these(struct ranking *r, struct numbers documents)
 {
-    struct term *t = &r->terms.items[r->order[own]];
+    int longest = CLASSES;
+    for (size_t i = 0; i < documents.len; i++) {
+        int class = r->lengths->classes[documents.items[i]];
+        if (class > longest)
+            continue;
+        double score = bound(r, 0, class, r->terms.items, r->terms.items->tops[class]);
+        if (beats(r, score, documents.items[i]))
+            look_up(r, 0, documents.items[i], score);
+        else
+            longest = class - 1;
+    }
+}
+
+/* Ranks the documents of a term, as if they had of the other terms only those from number `from` on. */
+static void walk(struct ranking *r, struct term *t, size_t from)
+{
     int longest[FEW + 1], least = r->lengths->least; /* by the count, the longest class that can be among the best */
+    uint32_t counts[BLOCK];
     for (size_t i = 0; i <= FEW; i++)
         longest[i] = CLASSES;
     for (size_t i = 0; i < r->terms.len; i++)
-        r->terms.items[i].block = r->terms.items[i].read = r->terms.items[i].counted = SIZE_MAX;
-    for (size_t block = 0; block <= t->blocks; block++) {
-        uint32_t low = 0, most = t->of_rest, other;
-        if (block < t->blocks) {
-            bitpacking_list_bounds(&t->documents, block, &low, &other);
-            bitpacking_list_bounds(&t->counts, block, &other, &most);
-        }
-        with_bounds(r, from, least);
-        if (!beats(r, with_part(r, r->order[own], most, least), low))
+        r->terms.items[i].block = r->terms.items[i].at = 0;
+    for (size_t block = 0; block < t->blocks; block++) {
+        double score = bound(r, from, least, t, part(r->lengths, t, t->greatest[block], least));
+        if (!beats(r, score, block > 0 ? t->lasts[block - 1] + 1 : 0))
             continue;
-        t->len = (size_t)bitpacking_list_read_block(&t->documents, block, t->ids, BLOCK);
-        bitpacking_list_read_block(&t->counts, block, t->numbers, BLOCK);
-        r->unpacked += 2;
-        for (size_t i = 0; i < t->len; i++) {
-            uint32_t count = t->numbers[i], document = t->ids[i];
-            int class = r->lengths->classes[document], *its = &longest[count < FEW ? count : FEW];
+        const uint32_t *ids = ids_of(t) + block * BLOCK;
+        size_t len = (size_t)bitpacking_column_range(&t->counts, block * BLOCK, counts, BLOCK);
+        r->counts_read += len;
+        for (size_t i = 0; i < len; i++) {
+            int class = r->lengths->classes[ids[i]], *its = &longest[counts[i] < FEW ? counts[i] : FEW];
             if (class > *its)
                 continue;
-            with_bounds(r, from, class);
-            double score = with_part(r, r->order[own], count, class);
-            if (beats(r, score, document))
-                look_up(r, own, from, document, score);
-            else if (count < FEW)
+            score = bound(r, from, class, t, part(r->lengths, t, counts[i], class));
+            if (beats(r, score, ids[i]))
+                look_up(r, from, ids[i], score);
+            else if (counts[i] < FEW)
                 *its = class - 1;
         }
     }
 }
 
-void rank_these(struct ranking *r, struct numbers documents)
+/* Among documents of several terms, those that have the two rarest come first. Then come those of each term, the rarest first. A document that
+ * comes again does so with a lower score, since it lacks the term for which it came before, and so it is not added again. */
+void rank(struct ranking *r, const struct numbers *documents)
 {
-    int longest = CLASSES;
-    start(r);
-    for (size_t i = 0; i < documents.len; i++) {
-        int class = r->lengths->classes[documents.items[i]];
-        double score = class > longest ? 0 : with_bounds(r, 0, class);
-        if (class <= longest && beats(r, score, documents.items[i]))
-            look_up(r, 0, 0, documents.items[i], score);
-        else if (class <= longest)
-            longest = class - 1;
+    struct term *terms = r->terms.items;
+    for (size_t i = 0, j; i < r->terms.len; i++) {
+        struct term t = terms[i];
+        t.place = i;
+        for (j = i; j > 0 && t.weight > terms[j - 1].weight; j--)
+            terms[j] = terms[j - 1];
+        terms[j] = t;
     }
-}
-
-void rank_any(struct ranking *r)
-{
-    start(r);
-    if (r->terms.len > 1) {
-        bitpacking_list two[] = {r->terms.items[r->order[0]].documents, r->terms.items[r->order[1]].documents};
-        size_t len = bitpacking_list_len(&two[0]); /* the shorter one, since it weighs more */
-        struct numbers both = {grown(NULL, len, sizeof *both.items), 0};
-        for (size_t i = 0; i < 2; i++) {
-            size_t blocks = (bitpacking_list_len(&two[i]) + BLOCK - 1) / BLOCK;
-            r->unpacked += blocks < 2 * len + 1 ? blocks : 2 * len + 1; /* at most two for each value that is sought, and one */
-        }
-        both.len = (size_t)bitpacking_list_intersect(two, 2, both.items, len);
+    if (documents)
+        rank_these(r, *documents);
+    if (!documents && r->terms.len > 1) {
+        bitpacking_set two[] = {terms[0].documents, terms[1].documents};
+        struct numbers both = {grown(NULL, terms[0].len, sizeof *both.items), 0};
+        both.len = (size_t)bitpacking_set_intersect(two, 2, both.items, terms[0].len);
         rank_these(r, both);
         free(both.items);
     }
-    for (size_t i = 0; i < r->terms.len; i++)
-        walk(r, i, i > 0 || r->terms.len == 1 ? i + 1 : 2);
+    for (size_t i = 0; !documents && i < r->terms.len; i++)
+        walk(r, &terms[i], i > 0 || r->terms.len == 1 ? i + 1 : 2);
 }

@@ -2,8 +2,11 @@
 #define _DEFAULT_SOURCE
 #include "search.h"
 
+#include <dirent.h>
 #include <errno.h>
 #include <fts.h>
+#include <signal.h>
+#include <sys/stat.h>
 #include <unistd.h>
 
 enum { LONGEST_WORD = 64, LONGEST_LINE = 100, CHAINS = 1 << 20 }; /* bytes of a word and of a line, and chains */
@@ -15,7 +18,8 @@ static struct { struct word **items; size_t len; } words;
 
 /* The bytes of the index, where its items begin, and the classes of the lengths of documents. */
 static FILE *out;
-static struct numbers bounds, classes;
+static struct numbers bounds;
+static struct { uint8_t *items; size_t len; } classes;
 
 /* Writes the last bytes of an item. */
 static void end_item(const void *bytes, size_t len)
@@ -25,12 +29,30 @@ static void end_item(const void *bytes, size_t len)
     PUSH(bounds, (uint32_t)ftell(out));
 }
 
-static void write_list(uint8_t kind, const struct numbers *values)
+static void write_column(uint8_t kind, const struct numbers *values)
 {
+    size_t room = BITPACKING_COLUMN_ROOM(values->len);
+    uint8_t *bytes = grown(NULL, room, 1);
+    end_item(bytes, (size_t)bitpacking_column_pack(kind, values->items, values->len, bytes, room, NULL));
+    free(bytes);
+}
+
+/* Writes what the index has of a word: its documents, its counts, and the last document and the greatest count of each whole block. */
+static void write_word(const struct word *word)
+{
+    struct numbers blocks = {NULL, 0};
+    uint8_t *bytes;
     size_t size;
-    uint8_t *bytes = pack(kind, values, &size);
+    for (size_t at = BLOCK; at <= word->documents.len; at += BLOCK)
+        PUSH(blocks, word->documents.items[at - 1]);
+    for (size_t at = BLOCK; at <= word->documents.len; at += BLOCK)
+        PUSH(blocks, greatest_of(word->counts.items + at - BLOCK, BLOCK));
+    bytes = pack_set(&word->documents, &size);
     end_item(bytes, size);
     free(bytes);
+    write_column(BITPACKING_PLAIN, &word->counts);
+    write_column(BITPACKING_PLAIN, &blocks);
+    free(blocks.items);
 }
 
 /* The word of these letters in lower case, which is added if it is new. */
@@ -141,10 +163,32 @@ static int compare_words(const void *a, const void *b)
     return strcmp((*(struct word *const *)a)->text, (*(struct word *const *)b)->text);
 }
 
+/* Refuses to replace what is no regular file, and removes the files that runs left beside it if they were killed. */
+static void prepare(const char *file)
+{
+    const char *slash = strrchr(file, '/'), *name = slash ? slash + 1 : file;
+    char *folder = slash ? strndup(file, (size_t)(name - file)) : strdup(".");
+    struct stat status;
+    if (lstat(file, &status) == 0 && !S_ISREG(status.st_mode))
+        errx(2, "%s: it is no regular file, and is not replaced", file);
+    DIR *entries = opendir(folder);
+    for (struct dirent *entry; entries && (entry = readdir(entries));) {
+        int process, end = 0, ours = strncmp(entry->d_name, name, strlen(name)) == 0;
+        const char *rest = entry->d_name + (ours ? strlen(name) : 0);
+        ours = ours && sscanf(rest, ".%d.tmp%n", &process, &end) == 1 && end > 0 && !rest[end] && process > 0;
+        if (ours && kill(process, 0) != 0 && errno == ESRCH)
+            unlinkat(dirfd(entries), entry->d_name, 0);
+    }
+    if (entries)
+        closedir(entries);
+    free(folder);
+}
+
 void make_index(char *folder, const char *file, int paragraphs)
 {
     char *bytes, *name = grown(NULL, strlen(file) + 32, 1);
     size_t size;
+    prepare(file);
     if (!(out = open_memstream(&bytes, &size)))
         err(2, "memory");
     end_item(MAGIC, sizeof MAGIC);
@@ -153,13 +197,11 @@ void make_index(char *folder, const char *file, int paragraphs)
         qsort(words.items, words.len, sizeof *words.items, compare_words);
     for (size_t i = 0; i < words.len; i++)
         end_item(words.items[i]->text, strlen(words.items[i]->text) + 1);
-    for (size_t i = 0; i < words.len; i++) {
-        write_list(BITPACKING_STRICTLY_SORTED, &words.items[i]->documents);
-        write_list(BITPACKING_PLAIN, &words.items[i]->counts);
-    }
-    write_list(BITPACKING_PLAIN, &classes);
+    for (size_t i = 0; i < words.len; i++)
+        write_word(words.items[i]);
+    end_item(classes.items, classes.len);
     uint32_t start = bounds.items[bounds.len - 1];
-    write_list(BITPACKING_STRICTLY_SORTED, &bounds);
+    write_column(BITPACKING_SORTED, &bounds);
     end_item((uint8_t[]){start & 0xFF, start >> 8 & 0xFF, start >> 16 & 0xFF, start >> 24}, 4);
     fflush(out);
     sprintf(name, "%s.%ld.tmp", file, (long)getpid());

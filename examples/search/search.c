@@ -1,4 +1,4 @@
-/* A small search engine over packed lists (README.md): the command line, and `find`. index.c has `index`. */
+/* A small search engine over id sets and columns (README.md): the command line, and `find`. index.c has `index`. */
 #define _DEFAULT_SOURCE
 #include "search.h"
 
@@ -8,23 +8,23 @@
 #include <sys/stat.h>
 
 static const char help[] =
-    "A small search engine over packed lists.\n\n"
+    "A small search engine over id sets and columns.\n\n"
     "    search index [--paragraphs] FOLDER FILE\n"
     "        writes an index of the text files below FOLDER to FILE; a document is a file, or a paragraph\n"
     "    search find [--best N] [--scan] [--count] [--explain] FILE QUERY\n"
-    "        prints the 10 best documents that answer QUERY, or the N best up to 999, without reading all its lists, or with\n"
-    "        reading all (--scan); or how many answer (--count); and which lists and how many of their blocks it reads (--explain)\n\n"
+    "        prints the 10 best documents that answer QUERY, or the N best up to 999, without reading all counts of its words,\n"
+    "        or with reading all (--scan); or how many answer (--count); and which sets and how many counts it reads (--explain)\n\n"
     "A query has words next to each other (documents with all of them), a | b (with one of them), -c (without it),\n"
-    "pre* (all words that begin so), and brackets: 'packed (list | block) -chain*'\n\n"
+    "pre* (all words that begin so), and brackets: 'packed (list | block) -chain*'. All signs but letters and digits end a word.\n\n"
     "The status is 0 if a document was found, 1 if none was, and 2 if something is wrong.\n";
 
 #define DAMAGED "%s: the index is damaged: "
-#define BLOCKS(len) (((len) + BLOCK - 1) / BLOCK)
+#define ENDS SPACES "\n|()" /* these signs end what is read as one */
 
 enum { LONGEST_QUERY = 1000 }; /* signs */
 
-struct lists { bitpacking_list *items; size_t len; };
-typedef ptrdiff_t set_call(const bitpacking_list *views, size_t views_len, uint32_t *out, size_t out_len);
+struct sets { bitpacking_set *items; size_t len; };
+typedef ptrdiff_t set_call(const bitpacking_set *views, size_t views_len, uint32_t *ids, size_t ids_len);
 
 /* An index file, and where its items begin; and a query, and where it is read. */
 struct search {
@@ -34,7 +34,8 @@ struct search {
     size_t documents, words;
     struct lengths lengths;
     struct ranking ranking;
-    int explain, alone; /* whether any of words are wanted: their lists are ranked without making one of them */
+    int explain;
+    size_t combined; /* how many times sets became one */
 };
 
 void *grown(void *items, size_t len, size_t size)
@@ -46,32 +47,33 @@ void *grown(void *items, size_t len, size_t size)
     return items;
 }
 
-uint8_t *pack(uint8_t kind, const struct numbers *values, size_t *size)
+uint8_t *pack_set(const struct numbers *ids, size_t *size)
 {
-    uint8_t *bytes = grown(NULL, BITPACKING_LIST_ROOM(values->len), 1);
-    ptrdiff_t packed = bitpacking_4x_list_pack(BITPACKING_LIST_NEWEST, kind, values->items, values->len, bytes,
-                                               BITPACKING_LIST_ROOM(values->len), NULL);
-    if (packed < 0)
-        errx(2, "a list: %s", bitpacking_error_text(packed));
-    *size = (size_t)packed;
+    size_t room = BITPACKING_SET_ROOM(ids->len);
+    uint8_t *bytes = grown(NULL, room, 1);
+    *size = (size_t)bitpacking_set_pack(ids->items, ids->len, bytes, room, NULL);
     return bytes;
 }
 
-struct numbers unpack(bitpacking_list list)
+/* The bytes of an item, and their number. */
+#define ITEM(s, item) (s)->bytes + (s)->bounds[item], (s)->bounds[(item) + 1] - (s)->bounds[item]
+
+static bitpacking_set open_set(const struct search *s, size_t item, const char *name)
 {
-    struct numbers values = {NULL, bitpacking_list_len(&list)};
-    values.items = grown(NULL, values.len, sizeof *values.items);
-    bitpacking_list_unpack(&list, values.items, values.len);
-    return values;
+    bitpacking_set set = BITPACKING_SET_EMPTY;
+    ptrdiff_t opened = bitpacking_set_open(ITEM(s, item), &set);
+    if (opened < 0)
+        errx(2, DAMAGED "the set of %s: %s", s->file, name, bitpacking_error_text(opened));
+    return set;
 }
 
-static bitpacking_list open_list(const struct search *s, size_t item, uint8_t kind, const char *name)
+static bitpacking_column open_column(const struct search *s, size_t item, uint8_t kind, const char *name)
 {
-    bitpacking_list list = BITPACKING_LIST_EMPTY;
-    ptrdiff_t opened = bitpacking_list_open(s->bytes + s->bounds[item], s->bounds[item + 1] - s->bounds[item], &list);
-    if (opened < 0 || bitpacking_list_kind(&list) != kind || bitpacking_list_block_len(&list) != BLOCK)
-        errx(2, DAMAGED "a list of %s: %s", s->file, name, opened < 0 ? bitpacking_error_text(opened) : "wrong kind or blocks");
-    return list;
+    bitpacking_column column = BITPACKING_COLUMN_EMPTY;
+    ptrdiff_t opened = bitpacking_column_open(ITEM(s, item), &column);
+    if (opened < 0 || bitpacking_column_kind(&column) != kind)
+        errx(2, DAMAGED "a column of %s: %s", s->file, name, opened < 0 ? bitpacking_error_text(opened) : "wrong kind");
+    return column;
 }
 
 static const char *word_at(const struct search *s, size_t word)
@@ -92,81 +94,70 @@ static void open_index(struct search *s)
         errx(2, "%s: this is no index: it does not begin with '" MAGIC "'", s->file);
     const uint8_t *end = s->bytes + len - 4;
     uint32_t start = end[0] | (uint32_t)end[1] << 8 | (uint32_t)end[2] << 16 | (uint32_t)end[3] << 24;
-    uint32_t list[] = {start, (uint32_t)(len - 4)};
-    if (start > list[1])
+    uint32_t ends[] = {start, (uint32_t)(len - 4)};
+    if (start > ends[1])
         errx(2, DAMAGED "it is cut", s->file);
-    s->bounds = list;
-    struct numbers bounds = unpack(open_list(s, 0, BITPACKING_STRICTLY_SORTED, "bounds"));
-    if (bounds.len < 2 || bounds.items[0] != sizeof MAGIC || bounds.items[bounds.len - 1] != start)
+    s->bounds = ends;
+    bitpacking_column column = open_column(s, 0, BITPACKING_SORTED, "bounds");
+    size_t items = bitpacking_column_len(&column) - 1;
+    uint32_t *bounds = grown(NULL, items + 1, sizeof *bounds);
+    bitpacking_column_unpack(&column, bounds, items + 1);
+    if (items == SIZE_MAX || items == 0 || bounds[0] != sizeof MAGIC || bounds[items] != start)
         errx(2, DAMAGED "the bounds are of other items", s->file);
-    s->bounds = bounds.items;
-    struct numbers classes = unpack(open_list(s, bounds.len - 2, BITPACKING_PLAIN, "classes"));
-    s->documents = classes.len;
-    s->words = (bounds.len - 2 - s->documents) / 3;
-    if (s->documents > bounds.len - 2 || s->documents + 3 * s->words != bounds.len - 2)
+    s->bounds = bounds;
+    s->documents = s->lengths.documents = bounds[items] - bounds[items - 1];
+    s->lengths.classes = s->bytes + bounds[items - 1];
+    s->words = (items - 1 - s->documents) / 4;
+    if (s->documents > items - 1 || s->documents + 4 * s->words != items - 1)
         errx(2, DAMAGED "the number of items is wrong", s->file);
-    s->lengths.documents = s->documents;
-    s->lengths.classes = grown(NULL, s->documents, 1);
-    for (size_t i = 0; i < s->documents; s->lengths.classes[i] = (uint8_t)classes.items[i], i++)
-        if (classes.items[i] >= CLASSES)
-            errx(2, DAMAGED "a length has no class", s->file);
     set_lengths(&s->lengths);
     for (size_t i = 0; i < s->words; i++) {
-        const char *word = word_at(s, i);
-        len = s->bounds[s->documents + i + 1] - s->bounds[s->documents + i] - 1;
-        if (word[len] != 0 || strspn(word, LETTERS) != len || (i > 0 && strcmp(word_at(s, i - 1), word) >= 0))
+        const char *word = word_at(s, i), *end = word_at(s, i + 1);
+        if (word == end || end[-1] || strspn(word, LETTERS) != (size_t)(end - word) - 1 || (i > 0 && strcmp(word_at(s, i - 1), word) >= 0))
             errx(2, DAMAGED "word %zu has a wrong sign, or is not in order", s->file, i);
     }
 }
 
-/* Opens the list of the documents that have a word. Unless it is negative it counts for their order. */
-static bitpacking_list open_word(struct search *s, size_t word, int negative)
+/* Opens the set of the documents that have a word. Unless it is negative it counts for their order. */
+static bitpacking_set open_word(struct search *s, size_t word, int negative)
 {
-    size_t item = s->documents + s->words + 2 * word;
-    bitpacking_list list = open_list(s, item, BITPACKING_STRICTLY_SORTED, word_at(s, word));
-    size_t len = bitpacking_list_len(&list);
+    const char *name = word_at(s, word);
+    size_t item = s->documents + s->words + 3 * word;
+    bitpacking_set set = open_set(s, item, name);
+    size_t len = bitpacking_set_len(&set);
     uint32_t last;
-    if (!bitpacking_list_get(&list, len - 1, &last) || last >= s->documents)
-        errx(2, DAMAGED "'%s' is in no document, or in one that is not there", s->file, word_at(s, word));
+    if (!bitpacking_set_get(&set, len - 1, &last) || last >= s->documents)
+        errx(2, DAMAGED "'%s' is in no document, or in one that is not there", s->file, name);
     if (s->explain)
-        fprintf(stderr, "%s: %zu documents in %zu blocks\n", word_at(s, word), len, BLOCKS(len));
+        fprintf(stderr, "%s: %zu documents in %zu blocks\n", name, len, (len + BLOCK - 1) / BLOCK);
     if (s->ranking.room == 0 || negative)
-        return list;
-    bitpacking_list counts = open_list(s, item + 1, BITPACKING_PLAIN, word_at(s, word));
-    if (bitpacking_list_len(&counts) != len)
+        return set;
+    bitpacking_column counts = open_column(s, item + 1, BITPACKING_PLAIN, name);
+    bitpacking_column blocks = open_column(s, item + 2, BITPACKING_PLAIN, name);
+    if (bitpacking_column_len(&counts) != len || bitpacking_column_len(&blocks) != 2 * (len / BLOCK))
         errx(2, DAMAGED "a word has more or fewer counts than documents", s->file);
-    PUSH(s->ranking.terms, term_of(&s->lengths, &list, &counts));
-    return list;
+    PUSH(s->ranking.terms, term_of(&s->lengths, &set, &counts, &blocks));
+    return set;
 }
 
-/* What a function of the library makes of lists. One list stays as it is. */
-static bitpacking_list combine(const struct search *s, const char *name, set_call *call, const struct lists *lists)
+/* What a function of the library makes of sets. One set stays as it is. */
+static bitpacking_set combine(struct search *s, const char *name, set_call *call, const struct sets *sets)
 {
-    if (lists->len == 1 || s->alone)
-        return lists->len > 0 ? lists->items[0] : bitpacking_list_none();
-    size_t room = 0, most = 0, sought = SIZE_MAX;
-    for (size_t i = 0; i < lists->len; i++) {
-        size_t len = bitpacking_list_len(&lists->items[i]);
-        room += len;
-        most = BLOCKS(len) > most ? BLOCKS(len) : most;
-        if (i == 0 || (call == bitpacking_list_intersect && len < sought))
-            sought = len;
-    }
-    if (call != bitpacking_list_unite && 2 * sought + 1 < most)
-        most = 2 * sought + 1; /* one for each value that is sought, and one for the value after it */
+    bitpacking_set set = BITPACKING_SET_EMPTY;
+    if (sets->len < 2)
+        return sets->len > 0 ? sets->items[0] : set;
+    size_t room = 0, size;
+    for (size_t i = 0; i < sets->len; i++)
+        room += bitpacking_set_len(&sets->items[i]);
+    struct numbers ids = {grown(NULL, room, sizeof *ids.items), 0};
+    ids.len = (size_t)call(sets->items, sets->len, ids.items, room);
     if (s->explain)
-        fprintf(stderr, "%s of %zu lists: at most %zu blocks of each unpacked\n", name, lists->len, most);
-    struct numbers values = {grown(NULL, room, sizeof *values.items), 0};
-    ptrdiff_t found = call(lists->items, lists->len, values.items, room);
-    if (found < 0)
-        errx(2, "%s: %s: %s", s->file, name, bitpacking_error_text(found));
-    values.len = (size_t)found;
-    size_t size;
-    uint8_t *bytes = pack(BITPACKING_STRICTLY_SORTED, &values, &size);
-    bitpacking_list list;
-    bitpacking_list_open_tested(bytes, size, &list); /* these bytes are a list */
-    free(values.items);
-    return list;
+        fprintf(stderr, "%s of %zu sets: %zu documents\n", name, sets->len, ids.len);
+    uint8_t *bytes = pack_set(&ids, &size);
+    bitpacking_set_open_tested(bytes, size, &set); /* these bytes are a set */
+    free(ids.items);
+    s->combined++;
+    return set;
 }
 
 /* Goes on in the query by this many signs, and the spaces after them. */
@@ -181,89 +172,98 @@ static void wrong(const struct search *s, const char *what)
     errx(2, "%s: the query, after '%.*s': %s", s->file, (int)(s->at - s->query), s->query, what);
 }
 
-/* Reads a word, or the first letters of words. */
-static bitpacking_list read_word(struct search *s, int negative)
+/* The documents that have a word of these letters, or one that begins so. */
+static bitpacking_set find_word(struct search *s, const char *letters, size_t len, int prefix, int negative)
 {
-    struct lists lists = {NULL, 0};
-    const char *text = s->at;
-    size_t len = strspn(text, LETTERS "ABCDEFGHIJKLMNOPQRSTUVWXYZ"), low = 0, high = s->words;
-    int prefix = text[len] == '*';
-    skip(s, len + prefix);
-    if (len == 0 || !strchr(SPACES "\n|()", text[len + prefix]))
-        wrong(s, "a word is missing, or a space after it");
+    struct sets sets = {NULL, 0};
+    size_t low = 0, high = s->words;
     while (low < high) {
         size_t middle = (low + high) / 2;
-        int before = strncasecmp(word_at(s, middle), text, len) < 0;
+        int before = strncasecmp(word_at(s, middle), letters, len) < 0;
         low = before ? middle + 1 : low;
         high = before ? high : middle;
     }
     /* Of the words that begin so, the one that ends there is the first. */
-    while (low < s->words && strncasecmp(word_at(s, low), text, len) == 0 && (prefix || !word_at(s, low)[len]))
-        PUSH(lists, open_word(s, low++, negative));
-    return combine(s, "unite", bitpacking_list_unite, &lists);
+    while (low < s->words && strncasecmp(word_at(s, low), letters, len) == 0 && (prefix || !word_at(s, low)[len]))
+        PUSH(sets, open_word(s, low++, negative));
+    return combine(s, "unite", bitpacking_set_unite, &sets);
+}
+
+/* Reads words up to a space, a bar or a bracket, as they are read in documents. The last one may be the first letters of words. Adds the set of
+ * the documents that have all, if there is a word. */
+static void read_words(struct search *s, int negative, struct sets *parts)
+{
+    struct sets words = {NULL, 0};
+    while (!strchr(ENDS, *s->at)) {
+        size_t len = strspn(s->at, LETTERS "ABCDEFGHIJKLMNOPQRSTUVWXYZ");
+        if (len > 0)
+            PUSH(words, find_word(s, s->at, len, s->at[len] == '*' && strchr(ENDS, s->at[len + 1]), negative));
+        s->at += len > 0 ? len : 1;
+    }
+    skip(s, 0);
+    if (words.len > 0)
+        PUSH(*parts, combine(s, "intersect", bitpacking_set_intersect, &words));
 }
 
 /* Reads a query, or what is in brackets: alternatives, each of which has parts with and parts without a minus. */
-static bitpacking_list read_query(struct search *s, int negative, char end)
+static struct sets read_query(struct search *s, int negative, char end)
 {
-    struct lists any = {NULL, 0};
+    struct sets any = {NULL, 0};
     do {
-        struct lists parts[] = {{NULL, 0}, {NULL, 0}}; /* without a minus, and with one */
-        PUSH(parts[1], bitpacking_list_empty());       /* set below */
-        skip(s, end != 0 || any.len > 0);              /* a bracket or a line */
+        struct sets parts[] = {{NULL, 0}, {NULL, 0}}; /* without a minus, and with one */
+        PUSH(parts[1], (bitpacking_set)BITPACKING_SET_EMPTY); /* set below */
+        skip(s, end != 0 || any.len > 0);                     /* a bracket or a line */
         while (!strchr("|)", *s->at)) {
             int minus = *s->at == '-';
             skip(s, minus);
-            PUSH(parts[minus], *s->at == '(' ? read_query(s, negative || minus, ')') : read_word(s, negative || minus));
+            if (*s->at != '(') {
+                read_words(s, negative || minus, &parts[minus]);
+                continue;
+            }
+            struct sets inner = read_query(s, negative || minus, ')');
+            PUSH(parts[minus], combine(s, "unite", bitpacking_set_unite, &inner));
         }
         if (parts[0].len == 0)
             wrong(s, "a word is missing, or one without a minus");
-        parts[1].items[0] = combine(s, "intersect", bitpacking_list_intersect, &parts[0]);
-        PUSH(any, combine(s, "subtract", bitpacking_list_subtract, &parts[1]));
+        parts[1].items[0] = combine(s, "intersect", bitpacking_set_intersect, &parts[0]);
+        PUSH(any, combine(s, "subtract", bitpacking_set_subtract, &parts[1]));
     } while (*s->at == '|');
     if (*s->at != end)
         wrong(s, end ? "a bracket is not closed" : "no bracket is open");
     skip(s, end != 0);
-    return combine(s, "unite", bitpacking_list_unite, &any);
-}
-
-/* Ranks the documents that answer a query. Any of words are ranked by their lists; for other queries the documents are found first. */
-static void find_best(struct search *s, int scans)
-{
-    struct ranking *r = &s->ranking;
-    size_t words = 0, bars = 0;
-    for (const char *at = s->query; *at; at++) {
-        bars += *at == '|';
-        words += isalnum((unsigned char)*at) && (at == s->query || !isalnum((unsigned char)at[-1]));
-    }
-    s->alone = !scans && !strpbrk(s->query, "-(*") && words == bars + 1 && words <= MOST_TERMS;
-    bitpacking_list documents = read_query(s, 0, 0);
-    if (scans || r->terms.len > MOST_TERMS)
-        scan(r, unpack(documents), calloc(s->documents, sizeof(double)));
-    else if (s->alone)
-        rank_any(r);
-    else
-        rank_these(r, unpack(documents));
+    return any;
 }
 
 /* Prints the best documents that answer a query, or how many answer. Returns the status of the program. */
 static int find(const char *file, const char *query, int explain, int scans, size_t best)
 {
     struct search s = {.file = file, .query = query, .at = query, .explain = explain};
+    struct ranking *r = &s.ranking;
     if (strlen(query) > LONGEST_QUERY)
         errx(2, "%s: the query is too long", file);
     open_index(&s);
-    s.ranking = (struct ranking){.lengths = &s.lengths, .best = calloc(best, sizeof *s.ranking.best), .room = best};
-    if (best == 0) {
-        bitpacking_list documents = read_query(&s, 0, 0);
-        printf("%zu of %zu documents\n", bitpacking_list_len(&documents), s.documents);
-        return bitpacking_list_len(&documents) == 0;
+    *r = (struct ranking){.lengths = &s.lengths, .best = calloc(best, sizeof *r->best), .room = best};
+    struct sets any = read_query(&s, 0, 0);
+    scans |= r->terms.len > MOST_TERMS;
+    if (s.combined == 0 && best > 0 && !scans) {
+        rank(r, NULL); /* any of these words, whose sets need not become one */
+    } else {
+        bitpacking_set set = combine(&s, "unite", bitpacking_set_unite, &any);
+        if (best == 0) {
+            printf("%zu of %zu documents\n", bitpacking_set_len(&set), s.documents);
+            return bitpacking_set_len(&set) == 0;
+        }
+        struct numbers documents = {grown(NULL, bitpacking_set_len(&set), sizeof *documents.items), bitpacking_set_len(&set)};
+        bitpacking_set_unpack(&set, documents.items, documents.len);
+        if (scans)
+            scan(r, documents, calloc(s.documents, sizeof(double)));
+        else
+            rank(r, &documents);
     }
-    find_best(&s, scans);
     if (explain)
-        fprintf(stderr, "%zu blocks unpacked to rank\n", s.ranking.unpacked);
-    for (size_t i = 0; i < s.ranking.len; i++) {
-        struct found found = s.ranking.best[i];
+        fprintf(stderr, "%zu counts read to rank\n", r->counts_read);
+    for (size_t i = 0; i < r->len; i++) {
+        struct found found = r->best[i];
         printf("%7.3f  ", found.score);
         for (size_t at = s.bounds[found.document]; at < s.bounds[found.document + 1]; at++)
             putchar(iscntrl(s.bytes[at]) ? '?' : s.bytes[at]); /* a terminal could take it for a command */
@@ -271,7 +271,7 @@ static int find(const char *file, const char *query, int explain, int scans, siz
         if (explain)
             fprintf(stderr, "document %" PRIu32 ": %.17g\n", found.document, found.score);
     }
-    return s.ranking.len == 0;
+    return r->len == 0;
 }
 
 int main(int len, char **arguments)

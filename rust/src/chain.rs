@@ -20,11 +20,11 @@
 //! # Ok::<(), bitpacking::chain::Error>(())
 //! ```
 
-use std::fmt;
+use core::fmt;
 
-use crate::calls::{Answer, Fault};
-use crate::packers::number;
 use crate::Packer;
+use crate::bitpacking::{self, BitPacker};
+use crate::lists::chain;
 
 /// What is packed, and the value before the first one.
 #[derive(Clone, Copy, PartialEq, Eq, Hash, Debug)]
@@ -73,16 +73,26 @@ impl fmt::Display for Error {
     }
 }
 
-impl std::error::Error for Error {}
+impl core::error::Error for Error {}
 
-/// A count of bytes, or the error of a chain.
-fn size(answer: Answer) -> Result<usize, Error> {
-    answer.map_err(|fault| match fault {
-        Fault::BadLength => Error::BadLength,
-        Fault::BadWidth => Error::BadWidth,
-        Fault::Short => Error::Short,
-        Fault::Unfit => unreachable!("each block is packed at its own width"),
-    })
+impl Kind {
+    /// The kind of proved code.
+    fn proved(self) -> bitpacking::Kind {
+        match self {
+            Kind::Plain => bitpacking::Kind::Plain,
+            Kind::Sorted(initial) => bitpacking::Kind::Sorted(initial),
+            Kind::StrictlySorted(initial) => bitpacking::Kind::StrictlySorted(initial),
+        }
+    }
+}
+
+/// Tests that bytes of this length hold blocks of these widths.
+fn test_widths<P: BitPacker>(widths: &[u8], bytes: usize) -> Result<(), Error> {
+    if widths.iter().any(|&width| width > 32) {
+        return Err(Error::BadWidth);
+    }
+    let size: u64 = widths.iter().map(|&width| P::compressed_block_size(width) as u64).sum();
+    if size > bytes as u64 { Err(Error::Short) } else { Ok(()) }
 }
 
 /// Packs whole blocks, one for each of `widths`, which get the width of each block. Returns the number of bytes written.
@@ -106,12 +116,15 @@ fn size(answer: Answer) -> Result<usize, Error> {
 /// assert_eq!(pack_all(BitPacker1x, Kind::Plain, &values, &mut widths, &mut bytes[..11]), Err(Error::Short));
 /// ```
 pub fn pack_all<P: Packer>(_packer: P, kind: Kind, values: &[u32], widths: &mut [u8], bytes: &mut [u8]) -> Result<usize, Error> {
-    let calls = P::calls();
-    size(match kind {
-        Kind::Plain => calls.plain.pack_all(values, widths, bytes),
-        Kind::Sorted(initial) => calls.sorted.pack_all(initial, values, widths, bytes),
-        Kind::StrictlySorted(initial) => calls.strictly_sorted.pack_all(number(initial), values, widths, bytes),
-    })
+    let (packer, kind) = (<P::Code as BitPacker>::new(), kind.proved());
+    if values.len() % P::BLOCK_LEN != 0 || values.len() / P::BLOCK_LEN != widths.len() {
+        return Err(Error::BadLength);
+    }
+    if values.len() > bytes.len() / 4 && bytes.len() < chain::packed_len(&packer, kind, values) {
+        return Err(Error::Short);
+    }
+    // REQUIRES: the values are as many as `widths.len()` blocks have, and there is room for their chain, as was tested.
+    Ok(chain::pack_measured(&packer, kind, values, widths, bytes))
 }
 
 /// Unpacks blocks that were packed with the same packer, kind and widths. Returns the number of bytes read.
@@ -133,10 +146,10 @@ pub fn pack_all<P: Packer>(_packer: P, kind: Kind, values: &[u32], widths: &mut 
 /// assert_eq!(unpack_all(BitPacker1x, Kind::Plain, &[1, 33], &[0xFF; 12], &mut values), Err(Error::BadWidth));
 /// ```
 pub fn unpack_all<P: Packer>(_packer: P, kind: Kind, widths: &[u8], bytes: &[u8], values: &mut [u32]) -> Result<usize, Error> {
-    let calls = P::calls();
-    size(match kind {
-        Kind::Plain => calls.plain.unpack_all(widths, bytes, values),
-        Kind::Sorted(initial) => calls.sorted.unpack_all(initial, widths, bytes, values),
-        Kind::StrictlySorted(initial) => calls.strictly_sorted.unpack_all(number(initial), widths, bytes, values),
-    })
+    test_widths::<P::Code>(widths, bytes.len())?;
+    if widths.len() > values.len() / P::BLOCK_LEN {
+        return Err(Error::BadLength);
+    }
+    // REQUIRES: each width is at most 32, the bytes have these blocks, and there is room for their values, as was tested.
+    Ok(chain::unpack_all(&<P::Code as BitPacker>::new(), kind.proved(), widths, bytes, values))
 }

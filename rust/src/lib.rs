@@ -15,22 +15,42 @@
 //! assert_eq!(unpacked, documents);
 //! ```
 //!
-//! 0.9.3 has neither lists nor chains. The module [`list`] encodes a list of any length, and finds values in its bytes without unpacking
-//! all of them. A [`chain`] is many blocks packed in one call.
+//! Beside the blocks of 0.9.3 it has [`chain`]s, which are many blocks packed in one call.
+//!
+//! The blocks are proved code: sources with contracts, each function proved to meet its contract, which the build translates into Rust.
+#![no_std]
 #![deny(unsafe_op_in_unsafe_fn)]
 #![warn(missing_docs)]
 
-mod calls;
+extern crate alloc;
+#[cfg(any(feature = "std", test))]
+extern crate std;
+
+mod buffer;
+#[cfg(feature = "c")]
+#[doc(hidden)]
+pub mod c_functions;
+#[cfg(feature = "c")]
+mod c_slices;
 pub mod chain;
-pub mod list;
+pub mod column;
+mod growing;
+mod index;
 mod packers;
+mod room;
+pub mod set;
+// Not each feature calls each operation.
+#[allow(dead_code)]
+mod simd;
+mod stable_bytes;
 #[cfg(test)]
 mod tests;
 
-pub use packers::{BitPacker1x, BitPacker4x, BitPacker8x};
+// The proved code, as Rust.
+include!(concat!(env!("OUT_DIR"), "/modules.rs"));
 
-/// The version of the archives and their header. The crate itself has the number of the original, so that `[patch.crates-io]` accepts it.
-pub const VERSION: &str = "1.0.0";
+pub use packers::{BitPacker1x, BitPacker4x, BitPacker8x};
+pub use stable_bytes::StableBytes;
 
 /// Packs blocks of `BLOCK_LEN` values, each in as many bits as the greatest of its block needs.
 ///
@@ -265,4 +285,4 @@ pub trait Pack: BitPacker {
 }
 
 /// A packer of this crate, which packs chains and lists too. No other type can be one.
-pub trait Packer: Pack + packers::Table {}
+pub trait Packer: Pack + packers::Code {}

@@ -1,88 +1,102 @@
-//! The packers: each call finds its function in the table of the best level, and panics as the Rust crate does.
+//! The packers: each call tests its arguments, and panics as 0.9.3 does, before it calls the proved code.
 
-use crate::calls::{best, Answer, Calls, Fault};
-use crate::{BitPacker, Pack, Packer};
+use crate::bitpacking::{BitPacker as Proved, Kind};
+use crate::{BitPacker, Pack, Packer, bitpacking};
 
-/// The functions of a packer. Users cannot name this trait, so that no other type is a `Packer`.
-pub trait Table {
-    /// The functions for this processor.
-    fn calls() -> &'static Calls;
+/// The proved code of a packer. Users cannot name this trait, so that no other type is a `Packer`.
+pub trait Code {
+    /// A packer whose calls do not test what they require.
+    type Code: Proved;
 }
 
-/// The initial value that means none, by a law of the proved code.
-pub(crate) fn number(initial: Option<u32>) -> u32 {
-    initial.unwrap_or(u32::MAX)
-}
-
-/// The count of a compress call, or the panic of the Rust crate.
+/// Packs a block, or panics as 0.9.3 does.
 #[inline]
-fn compressed_size(answer: Answer, decompressed: usize, compressed: usize, num_bits: u8, block_len: usize) -> usize {
+fn compress<P: Proved>(kind: Kind, decompressed: &[u32], compressed: &mut [u8], num_bits: u8) -> usize {
     #[cold]
     #[inline(never)]
-    fn fail(fault: Fault, decompressed: usize, compressed: usize, num_bits: u8, block_len: usize) -> ! {
-        match fault {
-            Fault::BadWidth => panic!("Num bits must be <= 32. Was {num_bits}."),
-            Fault::BadLength => panic!("Input block too small {decompressed}, (expected {block_len})"),
-            Fault::Short => {
-                panic!("Output array too small (numbits {num_bits}). {compressed} <= {}", block_len * num_bits as usize / 8)
-            }
-            Fault::Unfit => panic!("A value of the block does not fit {num_bits} bits"),
+    fn fail(decompressed: usize, compressed: usize, num_bits: u8, block_len: usize) -> ! {
+        if num_bits > 32 {
+            panic!("Num bits must be <= 32. Was {num_bits}.");
         }
+        if decompressed != block_len {
+            panic!("Input block too small {decompressed}, (expected {block_len})");
+        }
+        let size = block_len * num_bits as usize / 8;
+        if compressed < size {
+            panic!("Output array too small (numbits {num_bits}). {compressed} <= {size}");
+        }
+        panic!("A value of the block does not fit {num_bits} bits");
     }
-    answer.unwrap_or_else(|fault| fail(fault, decompressed, compressed, num_bits, block_len))
+    let has_room = num_bits <= 32 && decompressed.len() == P::BLOCK_LEN && compressed.len() >= P::compressed_block_size(num_bits);
+    let packer = P::new();
+    // REQUIRES: the block has `BLOCK_LEN` values, as `has_room` says.
+    if !has_room || packer.num_bits_kind(kind, decompressed) > num_bits {
+        fail(decompressed.len(), compressed.len(), num_bits, P::BLOCK_LEN);
+    }
+    // REQUIRES: the block has `BLOCK_LEN` values, which fit `num_bits` bits, at most 32, and there is room for them, as was tested.
+    packer.compress_kind(kind, decompressed, compressed, num_bits)
 }
 
-/// The count of a decompress call, or the panic of the Rust crate.
+/// Unpacks a block, or panics as 0.9.3 does.
 #[inline]
-fn read_size(answer: Answer, compressed: usize, decompressed: usize, num_bits: u8, block_len: usize) -> usize {
+fn decompress<P: Proved>(kind: Kind, compressed: &[u8], decompressed: &mut [u32], num_bits: u8) -> usize {
     #[cold]
     #[inline(never)]
-    fn fail(fault: Fault, compressed: usize, decompressed: usize, num_bits: u8, block_len: usize) -> ! {
-        match fault {
-            Fault::BadLength => panic!("The output array is not large enough : ({decompressed} >= {block_len})"),
-            Fault::BadWidth => panic!("Num bits must be <= 32. Was {num_bits}."),
-            _ => panic!("Compressed array seems too small. ({compressed} < {}) ", block_len * num_bits as usize / 8),
+    fn fail(compressed: usize, decompressed: usize, num_bits: u8, block_len: usize) -> ! {
+        if decompressed < block_len {
+            panic!("The output array is not large enough : ({decompressed} >= {block_len})");
         }
+        if num_bits > 32 {
+            panic!("Num bits must be <= 32. Was {num_bits}.");
+        }
+        panic!("Compressed array seems too small. ({compressed} < {}) ", block_len * num_bits as usize / 8);
     }
-    answer.unwrap_or_else(|fault| fail(fault, compressed, decompressed, num_bits, block_len))
+    if decompressed.len() < P::BLOCK_LEN || num_bits > 32 || compressed.len() < P::compressed_block_size(num_bits) {
+        fail(compressed.len(), decompressed.len(), num_bits, P::BLOCK_LEN);
+    }
+    // REQUIRES: `num_bits` is at most 32, there is room for `BLOCK_LEN` values, and `compressed` has the bytes of a block, as was tested.
+    P::new().decompress_kind(kind, compressed, decompressed, num_bits)
 }
 
-/// The width of a width call, or the panic of the Rust crate.
+/// The least width of a block, or the panic of 0.9.3.
 #[inline]
-fn width(answer: Answer, block_len: usize) -> u8 {
+fn width<P: Proved>(kind: Kind, decompressed: &[u32]) -> u8 {
     #[cold]
     #[inline(never)]
     fn fail(block_len: usize) -> ! {
         panic!("`decompressed`'s len is not `BLOCK_LEN={block_len}`")
     }
-    answer.unwrap_or_else(|_| fail(block_len)) as u8
+    if decompressed.len() != P::BLOCK_LEN {
+        fail(P::BLOCK_LEN);
+    }
+    // REQUIRES: the block has `BLOCK_LEN` values, as was tested.
+    P::new().num_bits_kind(kind, decompressed)
 }
 
-/// The count of a pack call, or a panic.
+/// Packs a block at its least width, or panics.
 #[inline]
-fn packed_size(answer: Answer, compressed: usize, block_len: usize) -> usize {
+fn pack<P: Proved>(kind: Kind, decompressed: &[u32], compressed: &mut [u8]) -> (usize, u8) {
     #[cold]
     #[inline(never)]
-    fn fail(fault: Fault, compressed: usize, block_len: usize) -> ! {
-        match fault {
-            Fault::BadLength => panic!("`decompressed`'s len is not `BLOCK_LEN={block_len}`"),
-            _ => panic!("Output array too small for the block: it has {compressed} bytes"),
-        }
+    fn fail(compressed: usize) -> ! {
+        panic!("Output array too small for the block: it has {compressed} bytes")
     }
-    answer.unwrap_or_else(|fault| fail(fault, compressed, block_len))
+    let num_bits = width::<P>(kind, decompressed);
+    if compressed.len() < P::compressed_block_size(num_bits) {
+        fail(compressed.len());
+    }
+    // REQUIRES: the block has `BLOCK_LEN` values, or `width` had panicked; `num_bits` is their width, and there is room for them.
+    (P::new().compress_kind(kind, decompressed, compressed, num_bits), num_bits)
 }
 
 macro_rules! packer {
-    ($name:ident, $block_len:literal, $calls:ident, $doc:literal) => {
+    ($name:ident, $block_len:literal, $doc:literal) => {
         #[doc = $doc]
         #[derive(Clone, Copy, Debug)]
         pub struct $name;
 
-        impl Table for $name {
-            #[inline]
-            fn calls() -> &'static Calls {
-                &best().$calls
-            }
+        impl Code for $name {
+            type Code = bitpacking::$name;
         }
 
         impl Packer for $name {}
@@ -97,14 +111,12 @@ macro_rules! packer {
 
             #[inline]
             fn compress(&self, decompressed: &[u32], compressed: &mut [u8], num_bits: u8) -> usize {
-                let answer = Self::calls().plain.compress(decompressed, compressed, num_bits);
-                compressed_size(answer, decompressed.len(), compressed.len(), num_bits, Self::BLOCK_LEN)
+                compress::<bitpacking::$name>(Kind::Plain, decompressed, compressed, num_bits)
             }
 
             #[inline]
             fn compress_sorted(&self, initial: u32, decompressed: &[u32], compressed: &mut [u8], num_bits: u8) -> usize {
-                let answer = Self::calls().sorted.compress(initial, decompressed, compressed, num_bits);
-                compressed_size(answer, decompressed.len(), compressed.len(), num_bits, Self::BLOCK_LEN)
+                compress::<bitpacking::$name>(Kind::Sorted(initial), decompressed, compressed, num_bits)
             }
 
             #[inline]
@@ -115,20 +127,17 @@ macro_rules! packer {
                 compressed: &mut [u8],
                 num_bits: u8,
             ) -> usize {
-                let answer = Self::calls().strictly_sorted.compress(number(initial), decompressed, compressed, num_bits);
-                compressed_size(answer, decompressed.len(), compressed.len(), num_bits, Self::BLOCK_LEN)
+                compress::<bitpacking::$name>(Kind::StrictlySorted(initial), decompressed, compressed, num_bits)
             }
 
             #[inline]
             fn decompress(&self, compressed: &[u8], decompressed: &mut [u32], num_bits: u8) -> usize {
-                let answer = Self::calls().plain.decompress(compressed, decompressed, num_bits);
-                read_size(answer, compressed.len(), decompressed.len(), num_bits, Self::BLOCK_LEN)
+                decompress::<bitpacking::$name>(Kind::Plain, compressed, decompressed, num_bits)
             }
 
             #[inline]
             fn decompress_sorted(&self, initial: u32, compressed: &[u8], decompressed: &mut [u32], num_bits: u8) -> usize {
-                let answer = Self::calls().sorted.decompress(initial, compressed, decompressed, num_bits);
-                read_size(answer, compressed.len(), decompressed.len(), num_bits, Self::BLOCK_LEN)
+                decompress::<bitpacking::$name>(Kind::Sorted(initial), compressed, decompressed, num_bits)
             }
 
             #[inline]
@@ -139,51 +148,44 @@ macro_rules! packer {
                 decompressed: &mut [u32],
                 num_bits: u8,
             ) -> usize {
-                let answer = Self::calls().strictly_sorted.decompress(number(initial), compressed, decompressed, num_bits);
-                read_size(answer, compressed.len(), decompressed.len(), num_bits, Self::BLOCK_LEN)
+                decompress::<bitpacking::$name>(Kind::StrictlySorted(initial), compressed, decompressed, num_bits)
             }
 
             #[inline]
             fn num_bits(&self, decompressed: &[u32]) -> u8 {
-                width(Self::calls().plain.num_bits(decompressed), Self::BLOCK_LEN)
+                width::<bitpacking::$name>(Kind::Plain, decompressed)
             }
 
             #[inline]
             fn num_bits_sorted(&self, initial: u32, decompressed: &[u32]) -> u8 {
-                width(Self::calls().sorted.num_bits(initial, decompressed), Self::BLOCK_LEN)
+                width::<bitpacking::$name>(Kind::Sorted(initial), decompressed)
             }
 
             #[inline]
             fn num_bits_strictly_sorted(&self, initial: Option<u32>, decompressed: &[u32]) -> u8 {
-                width(Self::calls().strictly_sorted.num_bits(number(initial), decompressed), Self::BLOCK_LEN)
+                width::<bitpacking::$name>(Kind::StrictlySorted(initial), decompressed)
             }
         }
 
         impl Pack for $name {
             #[inline]
             fn pack(&self, decompressed: &[u32], compressed: &mut [u8]) -> (usize, u8) {
-                let mut num_bits = 0;
-                let answer = Self::calls().plain.pack(decompressed, compressed, &mut num_bits);
-                (packed_size(answer, compressed.len(), Self::BLOCK_LEN), num_bits)
+                pack::<bitpacking::$name>(Kind::Plain, decompressed, compressed)
             }
 
             #[inline]
             fn pack_sorted(&self, initial: u32, decompressed: &[u32], compressed: &mut [u8]) -> (usize, u8) {
-                let mut num_bits = 0;
-                let answer = Self::calls().sorted.pack(initial, decompressed, compressed, &mut num_bits);
-                (packed_size(answer, compressed.len(), Self::BLOCK_LEN), num_bits)
+                pack::<bitpacking::$name>(Kind::Sorted(initial), decompressed, compressed)
             }
 
             #[inline]
             fn pack_strictly_sorted(&self, initial: Option<u32>, decompressed: &[u32], compressed: &mut [u8]) -> (usize, u8) {
-                let mut num_bits = 0;
-                let answer = Self::calls().strictly_sorted.pack(number(initial), decompressed, compressed, &mut num_bits);
-                (packed_size(answer, compressed.len(), Self::BLOCK_LEN), num_bits)
+                pack::<bitpacking::$name>(Kind::StrictlySorted(initial), decompressed, compressed)
             }
         }
     };
 }
 
-packer!(BitPacker1x, 32, one, "The packer of blocks of 32 values.");
-packer!(BitPacker4x, 128, four, "The packer of blocks of 128 values. If in doubt, use this one.");
-packer!(BitPacker8x, 256, eight, "The packer of blocks of 256 values.");
+packer!(BitPacker1x, 32, "The packer of blocks of 32 values.");
+packer!(BitPacker4x, 128, "The packer of blocks of 128 values. If in doubt, use this one.");
+packer!(BitPacker8x, 256, "The packer of blocks of 256 values.");

@@ -6,8 +6,8 @@ SETS = {"1": ("|", 300, [("any", 1, 1)])}
 SETS |= {
     f"{name}{count}": (operation, 300, [("any", count, count)]) for name, operation in [("and", "&"), ("or", "|")] for count in range(2, 6)
 }
-# The ways that rank; one more mode of the lists is the scan.
-WAYS = ["lists", "arrays", "xapian"]
+# The ways that rank; one more mode of the engine's sets is the scan.
+WAYS = ["sets", "arrays", "xapian"]
 
 
 def times(machine, way, mode, name, one_of=1):
@@ -17,25 +17,25 @@ def times(machine, way, mode, name, one_of=1):
 
 
 def measure(machine, way, numbers, threads, command, counts):
-    """Has a way rank the queries, and adds what that took, of all and of a median query, and how many blocks it unpacked."""
+    """Has a way rank the queries, and adds what that took, of all and of a median query, and how many counts it read."""
     for words in machine.run(*command, "ranked", f"ranked.{way}", *counts, threads=threads)[0]:
-        if words[0] == "blocks":
-            numbers.add("best: blocks unpacked of 100", way, 100 * int(words[2]) / int(words[3]), words[1])
+        if words[0] == "counts":
+            numbers.add("best: counts read of 100", way, 100 * int(words[2]) / int(words[3]), words[1])
         elif len(words) == 6:
             mode, name, _, count, processor, wall = words
             numbers.add(f"{mode}: processor seconds", way, float(processor) / int(count), name, threads)
             numbers.add(f"{mode}: seconds", way, float(wall) / int(count), name, threads)
     for name in SETS if threads == 1 else []:
-        for mode in ("best", "scan") if way == "lists" else ("best",):
+        for mode in ("best", "scan") if way == "sets" else ("best",):
             numbers.add(f"{mode}: seconds of a median query", way, statistics.median(times(machine, way, mode, name)), name, threads)
 
 
 def add_gains(machine, ways, numbers):
-    """Adds how many times as long as the lists another way takes for a median query, and of lists the scan. Ways have one of how many queries."""
+    """Adds how many times as long as the sets another way takes for a median query, and of sets the scan. Ways have one of how many queries."""
     for name in SETS:
         for way, one_of in ways.items():
-            its = times(machine, way, "scan" if way == "lists" else "best", name)
-            best = times(machine, "lists", "best", name, one_of)
+            its = times(machine, way, "scan" if way == "sets" else "best", name)
+            best = times(machine, "sets", "best", name, one_of)
             numbers.add("best: times of a median query", way, statistics.median(a / b for a, b in zip(its, best)), name)
 
 
@@ -44,17 +44,18 @@ def title(name):
     return "a word" if name == "1" else f"{'AND' if name.startswith('and') else 'OR'} of {name[-1]}"
 
 
-def page_rows(get):
-    """The rows of the table of a page, from numbers by measure, way, set and threads."""
+def page_rows(get, engine):
+    """The rows of the table of a page, from numbers by measure, way, set and threads. The way of the engine was `lists` until 2026-11-28."""
+    read = "best: blocks unpacked of 100" if engine == "lists" else "best: counts read of 100"
 
     def rounded(number):
         return f"{float(f'{number:.3g}'):,.0f}" if number >= 10 else f"{number:.1f}"
 
     for name in SETS:
-        cells = [rounded(get("best: blocks unpacked of 100", "lists", name, ""))]
-        for mode, way in [("best", "lists"), ("scan", "lists"), ("best", "arrays"), ("best", "xapian")]:
+        cells = [rounded(get(read, engine, name, ""))]
+        for mode, way in [("best", engine), ("scan", engine), ("best", "arrays"), ("best", "xapian")]:
             cells.append(rounded(1 / get(f"{mode}: processor seconds", way, name, "1")))
-        cells += [rounded(1 / get(f"{mode}: seconds", "lists", name, "4")) for mode in ("best", "scan")]
-        cells.append(rounded(1e6 * get("best: seconds of a median query", "lists", name, "1")))
-        cells += [rounded(get("best: times of a median query", way, name, "")) for way in WAYS]
+        cells += [rounded(1 / get(f"{mode}: seconds", engine, name, "4")) for mode in ("best", "scan")]
+        cells.append(rounded(1e6 * get("best: seconds of a median query", engine, name, "1")))
+        cells += [rounded(get("best: times of a median query", way, name, "")) for way in (engine, "arrays", "xapian")]
         yield f"| {title(name)} | {' | '.join(cells)} |"

@@ -1,12 +1,12 @@
 #!/usr/bin/env python3
-"""Measures the lists of the search engine of examples/search/ beside plain arrays, CRoaring and Xapian, from nothing:
+"""Measures the id sets of the search engine of examples/search/ beside packed lists, plain arrays, CRoaring and Xapian, from nothing:
 
     scripts/bench/search_speed.py [--core N] [--passes N] [--tsv FILE] [--keep FOLDER] [--roaring FOLDER] [--ways WAY,WAY ..]
                                   [--threads N,N ..] [--ranked] [--archive FILE] [FOLDER ..]
     scripts/bench/search_speed.py --try
 
-Then the best ten of queries of one to five words are ranked by BM25: by the skipping of the engine over packed lists and over plain arrays, by
-its scan of whole lists, and by Xapian.
+Then the best ten of queries of one to five words are ranked by BM25: by the skipping of the engine over sets and columns and over plain arrays,
+by its scan of whole sets, and by Xapian.
 
 It copies the text files below the folders (/usr/share and /usr/include if none is given) to a folder of its own, and has each way index
 their paragraphs by itself. Then each answers the same random queries, in one process, on one core and on four. The answers have to be the
@@ -15,8 +15,8 @@ same. It prints a table, and with --tsv writes all numbers. docs/SPEED.md says w
 It needs 200 MB of text with 500,000 paragraphs; `apt-get install linux-doc` brings 150 MB. It needs g++, taskset, and the packages
 libroaring-dev and libxapian-dev of Debian. Debian's CRoaring is built for any x86-64; --roaring adds one built for this processor, from its
 sources in FOLDER. --keep uses the texts that an earlier run left in FOLDER. The archive is the one of scripts/build/archives.py, which is
-called if it is not there, or the one of --archive. --ways measures only these ways, of which `lists` is always one. `lists3`, which is not
-measured unless it is named, is the engine with lists of version 3. --threads says on how many threads, 1,4 if it is left out. --ranked
+called if it is not there, or the one of --archive. --ways measures only these ways, of which `sets` is always one. `lists3`, which is not
+measured unless it is named, has lists of version 3. --threads says on how many threads, 1,4 if it is left out. --ranked
 measures only the best ten.
 
 --try measures nothing: it compiles the programs, compares the answers on examples/search/corpus/, and compares the table of the best ten in
@@ -47,19 +47,18 @@ LEAST = {"bytes": 200_000_000, "paragraphs": 500_000}
 # The ways in the order of the table: how many rounds a process makes of a set, in how many passes at most, and of how many queries it takes
 # one. Xapian takes far longer.
 WAYS = {
+    "sets": (3, 99, 1),
     "lists": (3, 99, 1),
     "lists3": (3, 99, 1),
-    "sets": (3, 99, 1),
     "arrays": (3, 99, 1),
     "roaring": (3, 99, 1),
     "roaring_here": (3, 99, 1),
     "xapian": (1, 1, 4),
 }
-# A way that has the program of another, and one that has the index of another.
-PROGRAMS = {"lists3": "lists"}
+# A way that has the index of another.
 INDEXES = {"roaring_here": "roaring"}
-# The search engine that indexes for a way, with the words of its source that are others there.
-ENGINES = {"lists": ("search", {}), "lists3": ("search3", {"BITPACKING_LIST_NEWEST": "BITPACKING_LIST_VERSION_3"})}
+# The way whose index the search engine writes.
+ENGINE = "sets"
 # What a way needs that may not be installed, and what comes with it.
 NEEDS = {"roaring": ("/usr/include/roaring/roaring.h", "libroaring-dev"), "xapian": ("/usr/bin/xapian-config", "libxapian-dev")}
 # The sets of queries: operation, how many queries, and of which words. The words of a query are of one document, of each kind at least and
@@ -96,36 +95,22 @@ def stage(folders, folder):
                     shutil.copyfile(path, f"{folder}{path}")
 
 
-def engine_sources(folder, name, changes):
-    """Copies the sources of the search engine, with other words in them. Returns the paths of those in C."""
-    os.makedirs(f"{folder}/{name}.sources", exist_ok=True)
-    texts = {path: source(os.path.relpath(path, ROOT)) for path in glob.glob(f"{ROOT}/examples/search/*.[ch]")}
-    unused = [word for word in changes if not any(word in text for text in texts.values())]
-    if unused:
-        sys.exit(f"the search engine has no word {unused[0]}")
-    for path, text in texts.items():
-        for word, other in changes.items():
-            text = text.replace(word, other)
-        with open(f"{folder}/{name}.sources/{os.path.basename(path)}", "w", encoding="utf-8") as file:
-            file.write(text)
-    return sorted(glob.glob(f"{folder}/{name}.sources/*.c"))
-
-
 def commands(folder, ways, roaring, archive, level):
     """What builds each program, at a level of optimization."""
     flags = [level, "-march=native", "-Wall", "-Wextra", "-Werror"]
     cpp = ["g++", "-std=c++20", *flags, "-pthread", f"{HERE}/main.cpp"]
     include = f"-I{ROOT}/include"
-    for name, changes in [ENGINES[way] for way in ways if way in ENGINES]:
-        yield name, ["cc", "-std=c99", "-O2", include, *engine_sources(folder, name, changes), archive, "-lm"]
+    engine = [f"{ROOT}/examples/search/{name}.c" for name in ("search", "index", "best")]
+    yield "search", ["cc", "-std=c99", "-O2", include, *engine, archive, "-lm"]
     yield "words", ["g++", "-std=c++20", *flags, f"{HERE}/words.cpp"]
-    for way, headers in ("lists", include), ("arrays", f"-I{HERE}/plain"):
+    for way, headers in ("sets", include), ("arrays", f"-I{HERE}/plain"):
         if way in ways:
             both = [headers, f"-I{ROOT}/examples/search"]
             yield f"{way}.best", ["cc", "-std=c99", *flags, *both, "-c", f"{ROOT}/examples/search/best.c"]
-            yield way, [*cpp, *both, f"{HERE}/{way}.cpp", f"{folder}/{way}.best", *([archive] if way == "lists" else [])]
-    if "sets" in ways:
-        yield "sets", [*cpp, include, f"{HERE}/sets.cpp", archive]
+            yield way, [*cpp, *both, f"{HERE}/{way}.cpp", f"{folder}/{way}.best", *([archive] if way == "sets" else [])]
+    for way, version in ("lists", "BITPACKING_LIST_NEWEST"), ("lists3", "BITPACKING_LIST_VERSION_3"):
+        if way in ways:
+            yield way, [*cpp, include, f"-DVERSION={version}", f"{HERE}/lists.cpp", archive]
     if "roaring" in ways:
         yield "roaring", [*cpp, f"{HERE}/roaring.cpp", "-lroaring"]
     if "roaring_here" in ways:
@@ -200,10 +185,6 @@ def write_queries(path, counts, chosen, documents, sets):
         file.writelines(lines)
 
 
-def program_of(way):
-    return f"./{PROGRAMS.get(way, way)}"
-
-
 def index_of(way):
     return f"index.{INDEXES.get(way, way)}"
 
@@ -212,11 +193,11 @@ def measure_index(machine, ways, numbers, one_of=200):
     """Has each way index the texts, and adds what that took, and the bytes of its lists."""
     for way in ["reading", *(way for way in ways if way not in INDEXES)]:
         shutil.rmtree(f"{machine.folder}/index.{way}", ignore_errors=True)
-        command = [program_of(way), "index", "texts", index_of(way)]
+        command = [f"./{way}", "index", "texts", index_of(way)]
         if way == "reading":
             command = ["./words", "texts", "sample", str(one_of)]
-        elif way in ENGINES:
-            command = [f"./{ENGINES[way][0]}", "index", "--paragraphs", "texts", index_of(way)]
+        elif way == ENGINE:
+            command = ["./search", "index", "--paragraphs", "texts", index_of(way)]
         said, processor, wall, memory = machine.run(*command)
         numbers.add("index: processor seconds", way, processor)
         numbers.add("index: seconds", way, wall)
@@ -225,8 +206,8 @@ def measure_index(machine, ways, numbers, one_of=200):
             for name, value in zip(["bytes", "paragraphs", "words", "postings", "occurrences"], said[0][1:]):
                 numbers.add(name, "texts", int(value))
             continue
-        if way in ENGINES:
-            said = machine.run(program_of(way), "index", "texts", index_of(way))[0]
+        if way == ENGINE:
+            said = machine.run(f"./{way}", "index", "texts", index_of(way))[0]
         numbers.add("bytes of documents", way, int(said[0][1]))
         numbers.add("bytes of counts", way, int(said[0][2]))
         numbers.save()
@@ -235,7 +216,7 @@ def measure_index(machine, ways, numbers, one_of=200):
 
 def measure_queries(machine, way, numbers, threads, rounds, one_of):
     """Has a way answer the queries, and adds what that took."""
-    command = [program_of(way), "queries", index_of(way), "queries", f"answers.{way}", str(rounds), str(threads), str(one_of)]
+    command = [f"./{way}", "queries", index_of(way), "queries", f"answers.{way}", str(rounds), str(threads), str(one_of)]
     for words in machine.run(*command, threads=threads)[0]:
         if words[0] == "memory":
             numbers.add("queries: bytes of memory", way, int(words[1]), "", threads)
@@ -246,22 +227,20 @@ def measure_queries(machine, way, numbers, threads, rounds, one_of):
 
 
 def measure_way(machine, way, numbers, threads, only_ranked):
-    """Has a way answer the queries, and compares the answers with those of the lists. Xapian rounds lengths otherwise, and has other scores."""
+    """Has a way answer the queries, and compares the answers with those of the sets. Xapian rounds lengths otherwise, and has other scores."""
     rounds, _, one_of = WAYS[way]
     if not only_ranked:
         measure_queries(machine, way, numbers, threads, rounds, one_of)
-        if machine.answers(way) != machine.answers("lists")[::one_of]:
-            sys.exit(f"{way} has other answers than the lists")
+        if machine.answers(way) != machine.answers(ENGINE)[::one_of]:
+            sys.exit(f"{way} has other answers than the sets")
     if way in best_ten.WAYS:
-        best_ten.measure(
-            machine, way, numbers, threads, [program_of(way), "ranked", index_of(way)], [str(rounds), str(threads), str(one_of)]
-        )
-        if way != "xapian" and machine.answers(way, "ranked") != machine.answers("lists", "ranked"):
-            sys.exit(f"{way} has other best documents than the lists")
+        best_ten.measure(machine, way, numbers, threads, [f"./{way}", "ranked", index_of(way)], [str(rounds), str(threads), str(one_of)])
+        if way != "xapian" and machine.answers(way, "ranked") != machine.answers(ENGINE, "ranked"):
+            sys.exit(f"{way} has other best documents than the sets")
 
 
 def measure(machine, ways, numbers, passes, counts_of_threads, only_ranked):
-    """Has the ways answer the queries in turn. Last it opens all lists of documents."""
+    """Has the ways answer the queries in turn. Last it opens all sets and lists of documents."""
     for number in range(passes):
         for threads in counts_of_threads:
             for way in ways:
@@ -271,8 +250,8 @@ def measure(machine, ways, numbers, passes, counts_of_threads, only_ranked):
         print(f"pass {number + 1} of {passes}: the answers are the same; load {os.getloadavg()[0]:.1f}", flush=True)
     if 1 in counts_of_threads:
         best_ten.add_gains(machine, {way: WAYS[way][2] for way in best_ten.WAYS if way in ways}, numbers)
-    for way in [way for way in ways if way in ENGINES]:
-        for words in machine.run(program_of(way), "open", index_of(way), "5")[0]:
+    for way in [way for way in ways if way in (ENGINE, "lists", "lists3")]:
+        for words in machine.run(f"./{way}", "open", index_of(way), "5")[0]:
             if words[0] == "open":
                 numbers.add("opening all: lists", way, int(words[1]))
                 numbers.add("opening all: processor seconds", way, float(words[3]))
@@ -288,7 +267,7 @@ def tried():
             ways.remove(way)
     rows = [line.split("\t") for line in source("docs/speed/best.tsv").split("\n")[2:] if line]
     written = {tuple(row[:4]): float(row[4]) for row in rows}
-    lacks = [row for row in best_ten.page_rows(lambda *key: written[key]) if row not in source("docs/SPEED.md").split("\n")]
+    lacks = [row for row in best_ten.page_rows(lambda *key: written[key], "lists") if row not in source("docs/SPEED.md").split("\n")]
     yield "the table of the best ten", f"docs/SPEED.md lacks {lacks[0]}" if lacks else None
     with tempfile.TemporaryDirectory(prefix="search-speed-") as folder:
         os.symlink(CORPUS, f"{folder}/texts")
@@ -303,13 +282,13 @@ def tried():
         for threads in 1, 4:
             for way in ways:
                 measure_queries(machine, way, numbers, threads, 1, 1)
-                right = machine.answers(way) == machine.answers("lists") and len(machine.answers(way)) > 1000
-                yield f"the answers of {way} with {threads} threads", None if right else "they are others than the lists have"
+                right = machine.answers(way) == machine.answers(ENGINE) and len(machine.answers(way)) > 1000
+                yield f"the answers of {way} with {threads} threads", None if right else "they are others than the sets have"
             for way in [way for way in best_ten.WAYS if way in ways]:
-                best_ten.measure(machine, way, numbers, threads, [program_of(way), "ranked", index_of(way)], ["1", str(threads), "1"])
-                right = way == "xapian" or machine.answers(way, "ranked") == machine.answers("lists", "ranked")
+                best_ten.measure(machine, way, numbers, threads, [f"./{way}", "ranked", index_of(way)], ["1", str(threads), "1"])
+                right = way == "xapian" or machine.answers(way, "ranked") == machine.answers(ENGINE, "ranked")
                 right = right and len(machine.answers(way, "ranked")) > 1000
-                yield f"the best documents of {way} with {threads} threads", None if right else "they are others than the lists have"
+                yield f"the best documents of {way} with {threads} threads", None if right else "they are others than the sets have"
         best_ten.add_gains(machine, {way: WAYS[way][2] for way in best_ten.WAYS if way in ways}, numbers)
 
 
@@ -341,11 +320,11 @@ def main():
 
 def chosen_ways(given):
     """The ways that the arguments name, in the order of the table."""
-    named = given.ways.split(",") if given.ways else [way for way in WAYS if way not in ("lists3", "sets")]
+    named = given.ways.split(",") if given.ways else [way for way in WAYS if way != "lists3"]
     if set(named) - set(WAYS):
         sys.exit(f"there is no way {' and no '.join(sorted(set(named) - set(WAYS)))}")
     named = [way for way in named if way != "roaring_here" or given.roaring]
-    return [way for way in WAYS if way in ["lists", *named, *(INDEXES.get(way) for way in named)]]
+    return [way for way in WAYS if way in [ENGINE, *named, *(INDEXES.get(way) for way in named)]]
 
 
 def measured(given, ways):

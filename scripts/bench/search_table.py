@@ -49,7 +49,7 @@ def show(ways, numbers, sets):
     for part in best_ten.SETS:
         row(f"best, {part}, microseconds of a median query", number("best: seconds of a median query", "{:.0f}", 1e6, 1, part))
         row(
-            f"best, {part}, times as long for a median query as by lists; of lists, the scan",
+            f"best, {part}, times as long for a median query as by sets; of sets, the scan",
             number("best: times of a median query", "{:.1f}", part=part),
         )
-        row(f"best, {part}, blocks unpacked, %", number("best: blocks unpacked of 100", "{:.1f}", part=part))
+        row(f"best, {part}, counts read, %", number("best: counts read of 100", "{:.1f}", part=part))

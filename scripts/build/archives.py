@@ -1,10 +1,9 @@
 #!/usr/bin/env python3
-"""Builds the archives of proved code that C and Rust programs link, into rust/out/:
+"""Builds the archives of proved code that C programs link, into rust/out/:
 
-    rust/out/libbitpacking.a                     for C on x86-64: each function chooses its level when it is called
-    rust/out/LEVEL/libbitpacking.a               for C, of one level of x86-64
-    rust/out/libbitpacking_vN.a                  the same for the crate in rust/, each name with the prefix vN_
-    rust/out/TARGET/libbitpacking.a              for C and Rust on aarch64, which has one level
+    rust/out/libbitpacking.a                     for x86-64: each function chooses its level when it is called
+    rust/out/LEVEL/libbitpacking.a               of one level of x86-64
+    rust/out/TARGET/libbitpacking.a              for aarch64, which has one level
 
 It proves the crate `bitpacking_c` once, and the crates below it that are not proved in out/proved/ from these sources. Each level and target
 takes that proof, and only compiles.
@@ -25,6 +24,7 @@ import os
 import re
 import shutil
 import sys
+import tempfile
 import time
 
 sys.path.insert(1, f"{sys.path[0]}/..")
@@ -96,36 +96,9 @@ def proved_and_built():
     return None
 
 
-def prefixed(prefix, level):
-    """Writes the archive of a level for the Rust crate. Returns why that failed, or None."""
-    names = f"{OUT}/{level}/names"
-    with open(names, "w", encoding="ascii") as file:
-        file.writelines(f"{name} {prefix}_{name}\n" for name in sorted(exported(archive(level))))
-    done = run("objcopy", f"--redefine-syms={names}", archive(level), f"{OUT}/libbitpacking_{prefix}.a")
-    return None if done.returncode == 0 else done.stdout
-
-
 def joined():
-    """Writes the archive for all levels of x86-64: one object, of which only the names of the header can be seen. Returns why that failed,
-    or None."""
-    chooser, whole, names = f"{OUT}/levels.o", f"{OUT}/bitpacking.o", f"{OUT}/names"
-    why = choosing.compiled(chooser)
-    if why:
-        return why
-    with open(names, "w", encoding="ascii") as file:
-        file.writelines(f"{name}\n" for name in sorted([*choosing.prototypes(), *(f"{prefix}_{fast.MARK}" for prefix in LEVELS)]))
-    for file in [f"{OUT}/{ALL}", whole]:
-        if os.path.exists(file):
-            os.remove(file)
-    for command in [
-        ["ld", "-r", "--whole-archive", chooser, *(f"{OUT}/libbitpacking_{prefix}.a" for prefix in LEVELS), "-o", whole],
-        ["objcopy", f"--keep-global-symbols={names}", whole],
-        ["ar", "rcsD", f"{OUT}/{ALL}", whole],
-    ]:
-        done = run(*command)
-        if done.returncode != 0:
-            return done.stdout
-    return None
+    """Writes the archive for all levels of x86-64. Returns why that failed, or None."""
+    return choosing.joined({prefix: archive(level) for prefix, level in LEVELS.items()}, f"{OUT}/{ALL}", fast.MARK)
 
 
 def exported(path):
@@ -133,12 +106,12 @@ def exported(path):
     return {parts[2] for parts in map(str.split, lines) if len(parts) == 3}
 
 
-def faults(path, data=0):
-    """What is wrong with an archive for C, which has that many bytes of data."""
+def faults(path, data=0, needs=frozenset(["memcpy", "memmove", "memset"])):
+    """What is wrong with an archive for C, which has that many bytes of data, and needs these functions."""
     if exported(path) != set(choosing.prototypes()):
         yield f"it exports {sorted(exported(path) ^ set(choosing.prototypes()))[:4]}, or the header declares them"
     needed = {line.split()[-1] for line in run("nm", "-u", path).stdout.split("\n") if line.strip().startswith("U ")}
-    if not needed <= {"memcpy", "memmove", "memset"}:
+    if not needed <= needs:
         yield f"it needs {sorted(needed)}"
     found = 0
     for name, size in re.findall(r"^\s*\d+ (\S+)\s+([0-9a-f]+)", run("objdump", "-h", path).stdout, re.M):
@@ -154,7 +127,7 @@ def faults(path, data=0):
 def instructions(path):
     """A number that changes with the instructions of an archive and the functions that they call, and how many have registers of 256 bits."""
     text = run("objdump", "-d", "--no-show-raw-insn", path).stdout.partition("Disassembly of section")[2]
-    return hashlib.sha256(re.sub(r"\bv\d_(?=bitpacking_)", "", text).encode()).hexdigest(), text.count("%ymm")
+    return hashlib.sha256(text.encode()).hexdigest(), text.count("%ymm")
 
 
 def faults_of_level(build, path, others=()):
@@ -168,20 +141,24 @@ def faults_of_level(build, path, others=()):
 
 
 def levels_of_all():
-    """What is wrong with the levels of the archives that are made of those for C."""
-    for prefix, level in LEVELS.items():
-        if instructions(f"{OUT}/libbitpacking_{prefix}.a") != instructions(archive(level)):
-            yield f"libbitpacking_{prefix}.a has other instructions than the archive for {level}"
+    """What is wrong with the levels of the archive for all."""
     wide = sum(instructions(archive(level))[1] for level in LEVELS.values())
     if instructions(f"{OUT}/{ALL}")[1] != wide:
         yield f"{ALL} has {instructions(f'{OUT}/{ALL}')[1]} instructions with registers of 256 bits, and not {wide}"
+
+
+def renamed(path):
+    """What is wrong with an archive for C that has another name for a function."""
+    with tempfile.TemporaryDirectory(prefix="archives-") as folder:
+        run("objcopy", "--redefine-sym=bitpacking_version=bitpacking_versions", path, f"{folder}/{ALL}")
+        return list(faults(f"{folder}/{ALL}"))
 
 
 def by_instructions():
     """Each check of the instructions of the archives, and each of a wrong archive, as a name and what is wrong, or None."""
     for build in BUILDS:
         yield f"the instructions for {build}", "; ".join(faults_of_level(build, archive(build), BUILDS)) or None
-    yield "the instructions of the other archives", "; ".join(levels_of_all()) or None
+    yield "the instructions of the archive for all levels", "; ".join(levels_of_all()) or None
     least, widest, whole = archive("x86-64"), archive("x86-64-v3"), f"{OUT}/{ALL}"
     for what, found, wanted in [
         ("an archive of x86-64 for x86-64-v3", faults_of_level("x86-64-v3", least), "it has no register of 256 bits"),
@@ -189,18 +166,17 @@ def by_instructions():
         ("an archive of x86-64 for x86-64-v2", faults_of_level("x86-64-v2", least, BUILDS), "its instructions are those of x86-64"),
         ("data beside the level", faults(whole, data=0), "it has 4 bytes of data, and not 0"),
         ("less data than said", faults(whole, data=8), "it has 4 bytes of data, and not 8"),
-        ("names with a prefix", faults(f"{OUT}/libbitpacking_v1.a"), "it exports ["),
+        ("another name", renamed(least), "it exports ["),
     ]:
         yield f"a wrong archive: {what}", None if any(wanted in it for it in found) else "nothing refuses it"
 
 
 def fresh(stamp, numbers):
-    """Whether the archives for C are there, of these sources, and whether all archives are."""
+    """Whether the archives of each level are there, of these sources, and whether all archives are."""
     proved = [archive(build) for build in BUILDS]
-    more = [f"{OUT}/libbitpacking_{prefix}.a" for prefix in LEVELS] + [f"{OUT}/{ALL}"]
     were = open(stamp, encoding="ascii").read().split() if os.path.isfile(stamp) else []
     kept = all(map(os.path.isfile, proved)) and were[:1] == numbers[:1]
-    return kept, kept and all(map(os.path.isfile, more)) and were == numbers
+    return kept, kept and os.path.isfile(f"{OUT}/{ALL}") and were == numbers
 
 
 def made(kept, whole):
@@ -214,11 +190,6 @@ def made(kept, whole):
         return
     for build in BUILDS:
         yield f"the archive for {build}", "; ".join(faults(archive(build))) or None
-    for prefix, level in LEVELS.items():
-        wrong = None if whole else prefixed(prefix, level)
-        if not wrong and exported(f"{OUT}/libbitpacking_{prefix}.a") != {f"{prefix}_{name}" for name in exported(archive(level))}:
-            wrong = "the prefix is not that of each name"
-        yield f"the archive for {level} and Rust", wrong
     wrong = None if whole else joined()
     yield "the archive for all levels", wrong or "; ".join(faults(f"{OUT}/{ALL}", data=4)) or None
 
@@ -228,11 +199,11 @@ def built_fast():
     print("the archives are not proved: scripts/build/archives.py builds those that are", flush=True)
     try:
         fast.archives(OUT, list(LEVELS.values()))
-        faults = [why for why in [*(prefixed(prefix, level) for prefix, level in LEVELS.items()), joined()] if why]
+        faults = [why for why in [joined()] if why]
     except fast.Failed as why:
         faults = [str(why)]
     print("".join(f"FAILED: an archive that is not proved: {why}\n" for why in faults), end="")
-    return len(LEVELS) * 2 + 1 - len(faults), len(faults)
+    return len(LEVELS) + 1 - len(faults), len(faults)
 
 
 def choose(is_fast):
@@ -287,7 +258,7 @@ def main():
         print(f"archives.py: there is no {' and no '.join(lacking)}, and nothing was built", file=sys.stderr)
         return 2
     choose("--fast" in given)
-    return 0 if left_out_without("the archives for C and Rust", *TOOLS) else ended(*build("--anew" in given, thorough=True))
+    return 0 if left_out_without("the archives for C", *TOOLS) else ended(*build("--anew" in given, thorough=True))
 
 
 if __name__ == "__main__":

@@ -1,7 +1,7 @@
 #!/usr/bin/env python3
 """Writes what those need who have no rt, into FOLDER: a file for each processor, such as bitpacking-1.0.0-linux-x86_64.tar.gz. It has
-the header, the archives for the processor, the crate in rust/ with its archives in place, the Python package, the PostgreSQL extension, the
-examples, the vectors, the licence, all pages, and scripts/build/install.py.
+the header, the archives for the processor, the sources of the Rust crate, the Python package, the PostgreSQL extension, the examples, the
+vectors, the licence, all pages, and scripts/build/install.py.
 
     bundle.py FOLDER
 
@@ -21,14 +21,15 @@ import archives
 
 PAGES = ["LICENSE", "README.md", "CHANGELOG.md", "CONTRIBUTING.md", "docs/*.md", "docs/*/*.svg", "crates/*/README.md", "rust/README.md"]
 FILES = [*PAGES, "include/*.h", "c/symbols.c", "vectors/*.tsv", "examples/*.c"]
-FILES += [*(f"examples/{it}/**/*.*" for it in ("search", "numbers")), "examples/dask/*.*"]
-FILES += ["rust/Cargo.toml", "rust/Cargo.lock", "rust/build.rs", "rust/src/**/*.rs", "rust/examples/*.rs"]
+FILES += [*(f"examples/{it}/**/*.*" for it in ("search", "numbers", "web")), "examples/dask/*.*"]
+FILES += ["Cargo.toml", "Cargo.lock", "crates/*/src/**/*.rt", "rust/c/*.*"]
+FILES += [f"rust/{it}/**/*.rs" for it in ("src", "translate/src", "examples", "vectors")]
 FILES += ["python/*.md", "python/pyproject.toml", "python/setup.py", "python/src/core/*.[ch]", "python/src/fimulowen/*.py*"]
 FILES += ["python/src/fimulowen/py.typed", "python/tests/*.py"]
 FILES += ["postgres/Makefile", "postgres/packed_list*", "postgres/src/*.[ch]", "postgres/sql/*.sql", "postgres/expected/*.out"]
-FILES += ["scripts/common.py", *(f"scripts/build/{it}.py" for it in ("install", "archives", "choosing", "fast", "proving"))]
+FILES += ["scripts/common.py", *(f"scripts/build/{it}.py" for it in ("install", "archives", "by_cargo", "choosing", "fast", "proving"))]
 # The archives of each processor, by the name that `uname -m` gives it.
-ARCHIVES = {"x86_64": ["rust/out/*.a", "rust/out/x86-64*/*.a"], "aarch64": ["rust/out/aarch64*/*.a"]}
+ARCHIVES = {"x86_64": ["rust/out/libbitpacking.a", "rust/out/x86-64*/*.a"], "aarch64": ["rust/out/aarch64*/*.a"]}
 
 
 def name_of(processor):

@@ -1,6 +1,7 @@
 """The C file by which each function of include/bitpacking.h chooses the level of x86-64 when it is called: c/levels.c, with a line for each
-function that the header declares."""
+function that the header declares. And the archive for all levels, which has it and the archives of the levels."""
 
+import os
 import re
 import tempfile
 
@@ -52,3 +53,30 @@ def compiled(to):
         written(f"{folder}/levels.c", chooser())
         done = run("cc", *WARNED, *COMPILED, "-c", f"{folder}/levels.c", "-o", to)
         return None if done.returncode == 0 else done.stdout
+
+
+def joined(paths, archive, *more):
+    """Writes the archive for all levels: one object, which shows the names of the header alone. `paths` has the archive of each level by its
+    prefix in LEVELS. Each name that an archive has beside those of the header is shown with the prefix. Returns why that failed, or None.
+    """
+    with tempfile.TemporaryDirectory(prefix="levels-") as folder:
+        why = compiled(f"{folder}/levels.o")
+        if why:
+            return why
+        names = sorted(prototypes())
+        written(f"{folder}/names", "".join(f"{it}\n" for it in [*names, *(f"{prefix}_{it}" for prefix in paths for it in more)]))
+        for prefix in paths:
+            written(f"{folder}/{prefix}", "".join(f"{it} {prefix}_{it}\n" for it in [*names, *more]))
+        objects = [f"{folder}/{prefix}.a" for prefix in paths]
+        if os.path.exists(archive):
+            os.remove(archive)
+        for command in [
+            *(["objcopy", f"--redefine-syms={folder}/{prefix}", path, to] for (prefix, path), to in zip(paths.items(), objects)),
+            ["ld", "-r", "--whole-archive", f"{folder}/levels.o", *objects, "-o", f"{folder}/bitpacking.o"],
+            ["objcopy", f"--keep-global-symbols={folder}/names", f"{folder}/bitpacking.o"],
+            ["ar", "rcsD", archive, f"{folder}/bitpacking.o"],
+        ]:
+            done = run(*command)
+            if done.returncode != 0:
+                return done.stdout
+    return None

@@ -1,13 +1,17 @@
 #!/usr/bin/env python3
 """Installs the library for C under a folder, PREFIX, for programs that ask `pkg-config --cflags --libs bitpacking`:
 
-    install.py PREFIX [--level LEVEL]    include/bitpacking.h, lib/libbitpacking.a, a shared library with the link lib/libbitpacking.so, and
-                                         lib/pkgconfig/bitpacking.pc
-    install.py PREFIX --remove           takes away what it wrote there, with the folders that it made
+    install.py PREFIX [--level LEVEL] [--from cargo]    include/bitpacking.h, lib/libbitpacking.a, a shared library with the link
+                                                        lib/libbitpacking.so, and lib/pkgconfig/bitpacking.pc
+    install.py PREFIX --remove                          takes away what it wrote there, with the folders that it made
 
 LEVEL is that of the archive: x86-64, x86-64-v2 or x86-64-v3; without it the archive for all levels is installed; for aarch64 LEVEL is
 aarch64-unknown-linux-gnu, and CC has to name a compiler for it. The archives are those that scripts/build/archives.py wrote; a bundle has them.
-Archives that are not proved are installed as version 0.0.0. If the variable DESTDIR is set, all is written below that folder, as packages want it, and names PREFIX alone.
+They are proved, or else installed as version 0.0.0. If the variable DESTDIR is set, all is written below that folder, as packages want it, and
+names PREFIX alone.
+
+With `--from cargo` the library for x86-64 is compiled by cargo from the proved sources, without the prover's compiler: the last line says so, and
+lib/pkgconfig/bitpacking.pc. Its version is the true one.
 
 The shared library exports each function of the header, the four that are inline there too. Its name ends with the major version: programs need
 a new link after a change of that. The names of what was written are in share/bitpacking/installed. A file that another program wrote is not
@@ -22,6 +26,7 @@ import tempfile
 sys.path.insert(1, f"{sys.path[0]}/..")
 from common import ROOT, missing, run, source
 import archives
+import by_cargo
 import choosing
 import fast
 
@@ -30,12 +35,15 @@ HEADER, STATIC, LINK = "include/bitpacking.h", "lib/libbitpacking.a", "lib/libbi
 ASKED, NAMES = "lib/pkgconfig/bitpacking.pc", "share/bitpacking/installed"
 SYMBOLS = "c/symbols.c"
 
+# What is said of a library that cargo compiled.
+BY_RUSTC = "compiled by rustc, not by the prover's compiler"
 PC = """prefix={prefix}
 includedir=${{prefix}}/include
 libdir=${{prefix}}/lib
+compiler={compiler}
 
 Name: bitpacking
-Description: Blocks of 32-bit integers packed in few bits per value, and chains and lists of such blocks
+Description: Blocks of 32-bit integers packed in few bits per value, and sets and columns of them{by}
 Version: {version}
 Cflags: -I${{includedir}}
 Libs: -L${{libdir}} -lbitpacking
@@ -90,7 +98,7 @@ def made_folders(prefix, path):
     return made
 
 
-def install(prefix, archive):
+def install(prefix, archive, by_rustc=False):
     """Writes all files below the folder that is named DESTDIR. If one cannot be written, those before it are taken away again."""
     root = placed(prefix)
     if os.path.exists(f"{root}/{NAMES}"):
@@ -113,13 +121,18 @@ def install(prefix, archive):
             elif path == LINK:
                 os.symlink(os.path.basename(library), f"{root}/{path}")
             else:
-                text = PC.format(prefix=prefix, version=version(header)) if path == ASKED else "\n".join(written)
                 with open(f"{root}/{path}", "w", encoding="utf-8") as file:
-                    file.write(text)
+                    file.write(asked(prefix, version(header), by_rustc) if path == ASKED else "\n".join(written))
     except (OSError, Failed):
         taken_away(root, written)
         raise
-    return f"installed version {version(header)} under {root}: {' '.join(files)}"
+    return f"installed version {version(header)}{f', {BY_RUSTC},' * by_rustc} under {root}: {' '.join(files)}"
+
+
+def asked(prefix, number, by_rustc):
+    """The text of the file that pkg-config reads."""
+    compiler, by = ("rustc", f", {BY_RUSTC}") if by_rustc else ("rattle", "")
+    return PC.format(prefix=prefix, version=number, compiler=compiler, by=by)
 
 
 def placed(prefix):
@@ -148,6 +161,16 @@ def remove(prefix):
     return f"removed what was installed under {root}"
 
 
+def by_cargo_of(level):
+    """The archive of a level, or of all levels, that cargo compiles."""
+    if level not in ["all", *archives.LEVELS.values()]:
+        raise Failed(f"there is no level {level} by cargo: it is one of {' '.join(archives.LEVELS.values())}")
+    lacking = missing(*by_cargo.TOOLS, CC)
+    if lacking:
+        raise Failed(f"there is no {' and no '.join(lacking)}")
+    return by_cargo.for_all() if level == "all" else by_cargo.archive(level)
+
+
 def archive_of(level):
     """The archive of a level, or of all levels."""
     if level not in ["all", *archives.BUILDS]:
@@ -163,16 +186,18 @@ def archive_of(level):
 def main():
     given = sys.argv[1:]
     prefix = os.path.abspath(given[0]) if given and not given[0].startswith("-") else None
-    levelled = len(given) == 3 and given[1] == "--level"
-    if not prefix or not (len(given) == 1 or given[1:] == ["--remove"] or levelled):
+    options = dict(zip(given[1::2], given[2::2]))
+    right = len(given) == 1 + 2 * len(options) and options.keys() <= {"--level", "--from"} and options.get("--from") in (None, "cargo")
+    if not prefix or not (right or given[1:] == ["--remove"]):
         print(__doc__.split("\n\n")[1], file=sys.stderr)
         return 2
     try:
         if given[1:] == ["--remove"]:
             print(remove(prefix))
         else:
-            print(install(prefix, archive_of(given[2] if levelled else "all")))
-    except (OSError, Failed) as why:
+            by_rustc, level = "--from" in options, options.get("--level", "all")
+            print(install(prefix, by_cargo_of(level) if by_rustc else archive_of(level), by_rustc))
+    except (OSError, Failed, by_cargo.Failed) as why:
         print(f"install.py: {why}", file=sys.stderr)
         return 1
     return 0

@@ -1,7 +1,8 @@
 """Proves crates and compiles them with `rattle`, the compiler that `rt` calls.
 
 `rt lib` keeps each proof for later checks, and the crates above load all of them again. Here the crates above load what a library states and no
-proof, and nothing else is kept in out/proved/. From nothing that takes 30 % less time. scripts/check puts there what `rt ci` proved.
+proof, and nothing else is kept in out/proved/. From nothing that takes 30 % less time. scripts/check puts there what `rt ci` proved: until then
+it has the lock of the library, for which each other call waits.
 """
 
 import collections
@@ -70,9 +71,9 @@ def digest_of(path):
     return digest(path, found.st_mtime_ns, found.st_size)
 
 
-def sum_of(crate, top=ROOT):
-    """A number that changes with the toolchain, and with each source of a crate and of those below it, in a copy of the repository."""
-    found = hashlib.sha256(toolchain().encode())
+def sources_of(crate, top=ROOT):
+    """A number that changes with each source of a crate and of those below it, in a copy of the repository."""
+    found = hashlib.sha256()
     for name in [*libraries(crate), crate]:
         line = re.search(rf"^{name}\b.*$", source("crates.txt"), re.M)[0]
         found.update(f"{line}\n".encode())
@@ -82,11 +83,20 @@ def sum_of(crate, top=ROOT):
     return found.hexdigest()
 
 
+def sum_of(crate, top=ROOT):
+    """A number that changes with the toolchain too."""
+    return hashlib.sha256((toolchain() + sources_of(crate, top)).encode()).hexdigest()
+
+
+def free_memory():
+    """The memory that is free, in bytes."""
+    with open("/proc/meminfo", encoding="ascii") as file:
+        return 1024 * int(re.search(r"MemAvailable:\s+(\d+)", file.read())[1])
+
+
 def free_jobs():
     """How many processors a check uses: as many as there are and memory is free for."""
-    with open("/proc/meminfo", encoding="ascii") as file:
-        free = 1024 * int(re.search(r"MemAvailable:\s+(\d+)", file.read())[1])
-    return max(1, min(MOST, len(os.sched_getaffinity(0)), free // EACH))
+    return max(1, min(MOST, len(os.sched_getaffinity(0)), free_memory() // EACH))
 
 
 def words_of(crate):
@@ -149,36 +159,31 @@ def library(crate, tell):
         rattle(crate, tell, "build", *proof("--statements", "-o", rlib))
 
 
-def taken(sums, *tops):
-    """Puts the libraries that `rt ci` has just proved into out/proved/ of these copies of the repository, if their sources are those of the
-    sums, taken before it ran. It leaves out those that another command of `rt` built, which have a stamp."""
-    for crate, before in sums.items():
-        made = f"{ROOT}/crates/{crate}/out/rlib"
-        if not os.path.isdir(f"{made}/{crate}.rlib") or os.path.exists(f"{made}/stamp"):
-            continue
-        for proved in (f"{top}/out/proved" for top in tops if sum_of(crate, top) == before == sum_of(crate)):
-            os.makedirs(proved, exist_ok=True)
-            shutil.rmtree(f"{proved}/{crate}.rlib", ignore_errors=True)
-            shutil.copytree(f"{made}/{crate}.rlib", f"{proved}/{crate}.rlib")
-            with open(f"{proved}/{crate}.sum", "w", encoding="ascii") as file:
-                file.write(before)
+def taken(crate, before):
+    """Puts the library that `rt ci` has just proved into out/proved/, if its sources are those of this sum, taken before it ran. It leaves out
+    one that another command of `rt` built, which has a stamp."""
+    made = f"{ROOT}/crates/{crate}/out/rlib"
+    if os.path.isdir(f"{made}/{crate}.rlib") and not os.path.exists(f"{made}/stamp") and sum_of(crate) == before:
+        shutil.rmtree(f"{PROVED}/{crate}.rlib", ignore_errors=True)
+        shutil.copytree(f"{made}/{crate}.rlib", f"{PROVED}/{crate}.rlib")
+        with open(f"{PROVED}/{crate}.sum", "w", encoding="ascii") as file:
+            file.write(before)
 
 
 def program(crate, tell):
     """Proves a program, and writes it to the out/ of its crate."""
     made = f"{ROOT}/crates/{crate}/out/{crate}"
     os.makedirs(os.path.dirname(made), exist_ok=True)
-    with alone():
-        for below in libraries(crate):
-            library(below, tell)
-        with made_once(crate, made) as is_made:
-            if is_made:
-                os.utime(made)
-                return
-            by_llvm = ["--toolchain", f"{kit()}/toolchain", "--backend", "llvm"]
-            rattle(crate, tell, "build", *proof(*by_llvm, "-o", f"{made}.o"))
-            needs = [f"{made}.o", f"{kit()}/c/libos_c.a", f"{kit()}/c/liblibc_c.a"]
-            called(crate, tell, f"{kit()}/bin/rattle-link", "--target", "x86_64-unknown-linux-gnu", *by_llvm[:2], "-o", made, *needs)
+    for below in libraries(crate):
+        library(below, tell)
+    with made_once(crate, made) as is_made:
+        if is_made:
+            os.utime(made)
+            return
+        by_llvm = ["--toolchain", f"{kit()}/toolchain", "--backend", "llvm"]
+        rattle(crate, tell, "build", *proof(*by_llvm, "-o", f"{made}.o"))
+        needs = [f"{made}.o", f"{kit()}/c/libos_c.a", f"{kit()}/c/liblibc_c.a"]
+        called(crate, tell, f"{kit()}/bin/rattle-link", "--target", "x86_64-unknown-linux-gnu", *by_llvm[:2], "-o", made, *needs)
 
 
 def kept(crate):
@@ -190,7 +195,8 @@ def check(crate, tell):
     """Proves a crate, and keeps each proof for later checks of it."""
     for below in libraries(crate):
         library(below, tell)
-    rattle(crate, tell, "check", *proof("--progress", "--incremental", kept(crate)))
+    with alone(f"{crate}.kept"):
+        rattle(crate, tell, "check", *proof("--progress", "--incremental", kept(crate)))
 
 
 def linked(one, other):
@@ -219,7 +225,7 @@ def archives(crate, builds, tell):
         shutil.rmtree(room)
         return made
 
-    with alone():
+    with alone(f"{crate}.archives"):
         check(crate, tell)
         with concurrent.futures.ThreadPoolExecutor(free_jobs()) as pool:
             return dict(zip(builds, pool.map(compiled, builds)))
@@ -240,20 +246,21 @@ def is_proved(crate):
 
 
 @contextlib.contextmanager
-def made_once(crate, made):
-    """Tells whether a file or folder was made from these sources. If it was not, it is noted once the block made it."""
-    note, now, before = f"{PROVED}/{crate}.sum", sum_of(crate), noted(crate)
-    if before:
-        os.remove(note)
-    yield before == now and os.path.exists(made)
-    with open(note, "w", encoding="ascii") as file:
-        file.write(now)
+def alone(name):
+    """Waits until no other call makes what has this name in out/proved/."""
+    os.makedirs(PROVED, exist_ok=True)
+    with open(f"{PROVED}/{name}.lock", "w", encoding="ascii") as file:
+        fcntl.flock(file, fcntl.LOCK_EX)
+        yield
 
 
 @contextlib.contextmanager
-def alone():
-    """Waits until no other call works in out/proved/."""
-    os.makedirs(PROVED, exist_ok=True)
-    with open(f"{PROVED}/lock", "w", encoding="ascii") as file:
-        fcntl.flock(file, fcntl.LOCK_EX)
-        yield
+def made_once(crate, made):
+    """Tells whether a file or folder was made from these sources. If it was not, it is noted once the block made it."""
+    with alone(crate):
+        note, now, before = f"{PROVED}/{crate}.sum", sum_of(crate), noted(crate)
+        if before:
+            os.remove(note)
+        yield before == now and os.path.exists(made)
+        with open(note, "w", encoding="ascii") as file:
+            file.write(now)

@@ -32,7 +32,6 @@ import rust
 OUT = f"{ROOT}/out/release"
 SUMS = "SHA256SUMS"
 PROGRAM, PRINTS = "examples/list.c", c.PROGRAMS["examples/list.c"]
-IN_RUST = "list"
 IN_PYTHON = "import fimulowen; ids = fimulowen.pack([7, 9, 10, 300]); print(fimulowen.__version__, ids.nbytes, ids.seek(100))"
 # What compiles C programs for each processor, and what runs them.
 BY_PROCESSOR = {"x86_64": ("cc", []), "aarch64": (arm.CROSS, [arm.QEMU])}
@@ -90,10 +89,8 @@ def in_rust(room, top):
     if missing("cargo"):
         leave_out("a program in Rust over the bundle", "since there is no cargo")
         return
-    env = dict(os.environ, CARGO_TARGET_DIR=f"{room}/target", CARGO_HOME=f"{room}/cargo")
-    env.pop("BITPACKING_ARCHIVES", None)
-    done = run("cargo", "run", "--quiet", "--offline", "--example", IN_RUST, folder=f"{top}/rust", env=env)
-    yield f"the example {IN_RUST} in Rust over it", wrong(done, rust.EXAMPLES[IN_RUST])
+    done = rust.called("run", "--quiet", "--offline", "--example", rust.PROGRAM, folder=top, CARGO_TARGET_DIR=f"{room}/target")
+    yield f"the example {rust.PROGRAM} in Rust over it", rust.printed(done, rust.EXAMPLES[rust.PROGRAM])
 
 
 def sums(folder):

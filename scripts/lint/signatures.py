@@ -1,14 +1,14 @@
 #!/usr/bin/env python3
 """Compares the types and the names of what the functions for C take: those of crates/bitpacking_c with those that include/bitpacking.h
-declares, and with those by which rust/src/calls.rs and rust/src/calls/by_name.rs call them. A slice `x` is a pointer `x` and a length
-`x_len`. The fields of `bitpacking_list`, `bitpacking_list_outline`, `bitpacking_cursor`, `bitpacking_list_builder` and `bitpacking_set` are
-compared with `ListView`, `ListOutline`, `ListCursor`, `ListBuilder` and `SetView` too, and the limits of blocks with those of
-crates/bitpacking. The header is read as it is written: it has to name each function in a prototype, which no macro makes.
+declares. A slice `x` is a pointer `x` and a length `x_len`. The fields of the structs of lists, sets and columns are compared with those of
+`STRUCTS` too, and the limits of blocks with those of crates/bitpacking. The header is read as it is written: it has to name each function in a
+prototype, which no macro makes.
 
-The header, the archive, the Rust crate and the Python package have the version of CHANGELOG.md.
+The header, the archive, the library by cargo and the Python package have the version of CHANGELOG.md, and the Rust crate that and the version of
+the crate whose API it has.
 
 Then the wrong changes of scripts/mutate/edits/signatures/ are tried, as scripts/mutate/changes.py says. The last line is 'N passed, M
-failed', one for the header, one for its limits, one for the calls, one for the version and one for each of these.
+failed', one for the header, one for its limits, one for the version and one for each of these.
 """
 import re
 import sys
@@ -29,6 +29,8 @@ C_TYPES = {
     "ListCursor": "bitpacking_cursor",
     "ListBuilder": "bitpacking_list_builder",
     "SetView": "bitpacking_set",
+    "ColumnView": "bitpacking_column",
+    "ColumnBuilder": "bitpacking_column_builder",
 }
 STRUCTS = {
     "ListOutline": "crates/bitpack_lists/src/opened/outline.rt",
@@ -36,11 +38,11 @@ STRUCTS = {
     "ListCursor": "crates/bitpacking_c/src/list_cursor.rt",
     "ListBuilder": "crates/bitpacking_c/src/list_builder.rt",
     "SetView": "crates/bitpacking_c/src/set_view.rt",
+    "ColumnView": "crates/bitpacking_c/src/column_view.rt",
+    "ColumnBuilder": "crates/bitpacking_c/src/column_builder.rt",
 }
 PLACE = "crates/bitpack_lists/src/opened/place.rt"
 HEADER = "include/bitpacking.h"
-CALLS = "rust/src/calls.rs"
-LISTS = "rust/src/calls/by_name.rs"
 LIMITS = "crates/bitpacking/src/limits.rt"
 # Where the version is, beside CHANGELOG.md: as text, or as the number a million times the major one, a thousand times the minor one, and the
 # patch.
@@ -48,13 +50,14 @@ VERSIONS = {
     (HEADER, r"^#define BITPACKING_VERSION (.*)$"): True,
     ("crates/bitpacking_c/src/version.rt", r"result ≡ (\S+)"): True,
     ("crates/bitpacking_c/src/version.rt", r"^\{\n    (.*)\n\}$"): True,
-    ("rust/src/lib.rs", r'^pub const VERSION: &str = "(.*)";$'): False,
+    ("Cargo.toml", r'^version = "0\.9\.3\+(.*)"$'): False,
+    ("rust/c/Cargo.toml", r'^version = "(.*)"$'): False,
     ("python/pyproject.toml", r'^version = "(.*)"$'): False,
 }
 
 
 def in_c(written, name=""):
-    """A parameter in C, as Rattle or Rust writes its type; of no name, what a function returns."""
+    """A parameter in C, as Rattle writes its type; of no name, what a function returns."""
     written = re.sub(r"<'\w+>|'\w+ ", "", written)
     array = re.fullmatch(r"\[(\w+); (\w+)\]", written)
     if array:
@@ -99,35 +102,12 @@ def declared():
     return {name: [" ".join(it.split()) for it in types] for name, types in found.items()}
 
 
-def called():
-    """The same of the calls from Rust: of each packer and kind, of which all but the first have an initial value; and of the functions of
-    lists, of which those in the macro `calls` are of each packer, and the others in a file of their own."""
-    text = text_of(CALLS)
-    functions = re.findall(r'concat!\(\$prefix, "(\w+)", \$kind\)\]\s*fn \w+\(([^;]*)\) -> (\w+);', text)
-    kinds = re.findall(r'foreign!\(\w+, \$prefix, "(\w*)"(, initial)?\)', text)
-    found = {}
-    for packer in re.findall(r'calls!\("v1_(bitpacking_\dx_)"\)', text):
-        for kind, initial in kinds:
-            for name, given, returned in functions:
-                given = given.replace("$($initial: u32,)?", "initial: u32," if initial else "")
-                found[f"{packer}{name}{kind}"] = in_c(returned) + parameters(given)
-    of_packers = text[text.index("macro_rules! calls ") :]
-    for part, prefixes in [(of_packers, re.findall(r'calls!\("v1_(bitpacking_\dx_)"\)', text)), (text_of(LISTS), ["bitpacking_"])]:
-        for name, given, returned in re.findall(r'concat!\(\$prefix, "(\w+)"\)\]\s*fn \w+(?:<[^>]*>)?\(([^;]*)\)(?: -> (\w+))?;', part):
-            found.update({f"{prefix}{name}": (in_c(returned) if returned else ["void"]) + parameters(given) for prefix in prefixes})
-    return found
-
-
-def differences(others, where, needed):
-    """Where these functions are not those of the crate, and the functions that are needed and not there."""
-    functions = exported()
-    for name in sorted(set(others) | needed):
-        if others.get(name) != functions.get(name):
-            yield f"{where}: {name} has {others.get(name)}, and the crate {functions.get(name)}"
-
-
 def header():
-    yield from differences(declared(), HEADER, set(exported()))
+    """Where the functions of the header are not those of the crate."""
+    others, functions = declared(), exported()
+    for name in sorted(others.keys() | functions.keys()):
+        if others.get(name) != functions.get(name):
+            yield f"{HEADER}: {name} has {others.get(name)}, and the crate {functions.get(name)}"
 
 
 def limits():
@@ -136,11 +116,6 @@ def limits():
     for name in sorted(right.keys() | found.keys()):
         if found.get(name) != right.get(name):
             yield f"{HEADER}: {name} is {found.get(name)}, and in {LIMITS} {right.get(name)}"
-
-
-def calls():
-    packed = {name for name in exported() if re.search(r"x_(pack|compress|decompress|num_bits)(_sorted|_strictly_sorted)?$", name)}
-    yield from differences(called(), CALLS, packed)
 
 
 def versions():
@@ -153,4 +128,4 @@ def versions():
 
 
 if __name__ == "__main__":
-    sys.exit(results([header, limits, calls, versions], "signatures"))
+    sys.exit(results([header, limits, versions], "signatures"))

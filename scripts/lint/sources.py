@@ -12,8 +12,6 @@
   code of its own.
 - The program's packers `4s` and `8s` are those that `scalar` gives; `bitpacking_c` names no `scalar`; `bitpack_lists` makes no packer but
   the one for groups, `bitpack_sorted` none, and else they take the one that they are given.
-- The Rust crate asks for the features of each level, has the functions of each level in its table, and those of the one level of another
-  processor, and takes the best level.
 - Of `bitpack_lists` and `bitpack_sorted`, each function that reads a number or unpacks a block from bytes, sees the bytes or the packer of
   an opened list, or makes a `Reads`, has a mark in marks.txt; and so has each that calls one, unless a contract counts what that reads, or
   it is of the tail. Each that measures a block, or calls one that does, has a mark too. A mark names the calls in the order of the text: so
@@ -21,6 +19,8 @@
   has a mark, none of a trait needs one, and no code calls `get`.
 - So do the functions of `bitpacking_c` that call these or one with a `Reads`, with what they call in turn. Those for blocks and chains of a
   packer call one function.
+- Of `bitpack_columns`, the files of `column/` for single values, searches, ranges and bounds see the bytes of a column only as bodies, and read
+  marks and unpack only by methods of `Reads`. They name it as a parameter, and in each public call at most once as a new one.
 - A walk reads no entry once nothing is wanted. The items of a vector begin a cursor anew only for one below the last. A list shows
   its current block. How far searches go step by step, and how many widths are kept, is in bounds.
 
@@ -31,11 +31,11 @@ import sys
 
 sys.path.insert(1, f"{sys.path[0]}/..")
 from marks import LISTS, SORTED, marks
-from texts import at, code, end_of_braces, paths, results, text_of
+from texts import at, code, end_of_braces, paths, results
 
 SOURCES = "crates/bitpacking/src"
 MEMORY = f"{SOURCES}/memory.rt"
-COUNTS = ["bitpacking/proofs/memory/Steps", "bitpack_lists/proofs/blocks/reads/Reads"]
+COUNTS = ["bitpacking/proofs/memory/Steps", "bitpack_lists/proofs/blocks/reads/Reads", "bitpack_columns/proofs/reads/Reads"]
 BY_HAND = [f"crates/{count}/{name}/Proof.antt" for count in COUNTS for name in ["new", "record"]]
 COUNTED = ["pack_counted", "unpack_counted", "width_counted"]
 BY_CODES = ["pack_codes", "unpack_codes"]
@@ -48,25 +48,10 @@ KERNELS = {
     "pack_at": {"dispatch/by_width.rt": ["pack_codes"]},
     "unpack_at": {"dispatch/by_width.rt": ["unpack_codes"]},
 }
-CALLS_OF_RUST = "rust/src/calls.rs"
-# What each level of x86-64 adds, by the processors' ABI, but for `lahf_lm` and `xsave`, for which Rust cannot ask.
-FEATURES = {
-    "v2": "cmpxchg16b popcnt sse3 sse4.1 sse4.2 ssse3",
-    "v3": "avx avx2 bmi1 bmi2 f16c fma lzcnt movbe",
-}
-# The choice of a level in the Rust crate: by file, what is in it once.
-CHOICE = {
-    CALLS_OF_RUST: [
-        "levels_with(added_by_v2(), added_by_v3())",
-        "let v2 = v2.iter().all(|(_, has)| *has); let v3 = v2 && v3.iter().all(|(_, has)| *has);",
-        "&LEVELS[..1 + usize::from(v2) + usize::from(v3)]",
-        "BEST.get_or_init(|| &levels()[levels().len() - 1])",
-    ],
-    "rust/src/packers.rs": ["fn calls() -> &'static Calls { &best().$calls }"],
-}
 GROUPS = (f"{LISTS}/v3/group.rt", "BitPacker1x")
-# What code of lists has once, by file: the loop of a walk, which reads no entry once nothing is wanted; where a cursor begins
-# anew; and the current block of a list, which saves a seek for each of its values.
+COLUMNS = "crates/bitpack_columns/src"
+# What code of lists and columns has once, by file: the loop of a walk, which reads no entry once nothing is wanted; where a cursor begins
+# anew; the current block of a list, which saves a seek for each of its values; and the cached widths of the blocks of a column.
 SHAPES = {
     f"{LISTS}/opened/intersection.rt": ["for number in 0..one.count / P::BLOCK_LEN { if walk.want > u32::MAX as u64 { return; }"],
     f"{SORTED}/distinct_values.rt": [
@@ -74,7 +59,14 @@ SHAPES = {
         "self.cursor.seek_ahead(target, ahead); self.cursor.value()",
         "match self.cursor.seek_to_bits(self.bits, target, ahead) {",
     ],
+    f"{COLUMNS}/encoding/measuring.rt": [
+        "if index < widths.len() { widths[index] = width; }",
+        "if index < widths.len() { return (mark_of_block(kind, block), widths[index]); }",
+    ],
 }
+# Of `bitpack_columns`, the files of the calls that count what they read; and what reads a mark or unpacks, if not by `Reads`, or sees all bytes.
+COUNTING = [f"crates/bitpack_columns/src/column/{name}.rt" for name in ["getting", "search", "ranges", "bounds"]]
+NOT_COUNTED = r"(?<!reads\.)\b(?:(mark|mark_at|\w*base|value_before|value_in_tail|read_block|copy_to|copy_range|copy_part|append_to|cursor|\w*unpack\w*|decompress\w*)\(|rest\b|bytes\b)"
 # By file and name, the least and the most that a constant may be: how far a search goes step by step, how many values show whether it
 # pays to merge, and how many widths are kept to be measured once.
 BOUNDS = {
@@ -82,6 +74,8 @@ BOUNDS = {
     (f"{SORTED}/and.rt", "FEW"): (4, 64),
     (f"{LISTS}/blocks/measuring.rt", "KEPT_WIDTHS"): (256, 4096),
     (f"{LISTS}/blocks/measuring.rt", "MANY_WIDTHS"): (4096, 16384),
+    (f"{COLUMNS}/encoding.rt", "FEW_WIDTHS"): (32, 256),
+    (f"{COLUMNS}/encoding.rt", "MANY_WIDTHS"): (4096, 16384),
 }
 # The trait of the packers, its three calls by kind with the counted call of each, and by name the one of the three that each of the
 # nine others calls.
@@ -227,26 +221,24 @@ def packers():
                 yield f"{at(path, text, found.start())}: makes a new {found[1]}"
 
 
-def levels():
-    text = text_of(CALLS_OF_RUST)
-    packers = [("one", "calls", "1x_"), ("four", "calls", "4x_"), ("eight", "calls", "8x_"), ("lists", "lists", "")]
-    levels = ["v1_", "v2_", "v3_", ""]
-    right = [(name, macro, f"{level}bitpacking_{lanes}") for level in levels for name, macro, lanes in packers]
-    if re.findall(r'\b(\w+): (\w+)!\("(\w+)"\)', text) != right:
-        yield f"{CALLS_OF_RUST}: the tables are not {right}"
-    for level, features in FEATURES.items():
-        asked = re.findall(rf"fn added_by_{level}\(\)[^{{]*{{\s*detected!\(([^)]*)\)", text)
-        if [sorted(re.findall(r'"([^"]*)"', names)) for names in asked] != [features.split()]:
-            yield f"{CALLS_OF_RUST}: {level} asks for {asked}, and not {features}"
-    for path, wanted in CHOICE.items():
-        found = " ".join(text_of(path).split())
-        yield from (f"{path}: there is no {it}" for it in wanted if found.count(it) != 1)
-
-
 def shapes():
     for path, wanted in SHAPES.items():
         found = " ".join(code(path).split())
         yield from (f"{path}: there is no {it}" for it in wanted if found.count(it) != 1)
+
+
+def columns():
+    for path in COUNTING:
+        text, made = code(path), []
+        for found in re.finditer(NOT_COUNTED, text):
+            yield f"{at(path, text, found.start())}: {found[1] or found[0]} is not counted"
+        for found in re.finditer(r"\bReads\b", text):
+            before, after = text[: found.start()], text[found.end() :]
+            if after.startswith("::new()") and before.endswith("&mut "):
+                made.append(re.findall(r"(pub )?fn (\w+)", before)[-1])
+            elif not before.endswith(("reads: &mut ", "use crate::reads::")):
+                yield f"{at(path, text, found.start())}: names Reads as neither a parameter nor a new one for a call"
+        yield from (f"{path}: {name} makes a Reads" for public, name in made if not public or made.count((public, name)) > 1)
 
 
 def bounds():
@@ -256,7 +248,7 @@ def bounds():
             yield f"{path}: {name} is {', '.join(found)}, and not from {least} to {most}"
 
 
-PARTS = [proofs_by_hand, slices, steps, registers, kernels, program, packers, levels, marks, shapes, bounds]
+PARTS = [proofs_by_hand, slices, steps, registers, kernels, program, packers, marks, shapes, columns, bounds]
 
 
 if __name__ == "__main__":

@@ -29,7 +29,7 @@ from common import ROOT, source
 
 FOLDER = "scripts/mutate/edits"
 # The folders of wrong changes that the scripts of these names try, which read the sources.
-OF_SCRIPTS = {"claims", "clauses", "examples", "maps", "page_numbers", "signatures", "sources"}
+OF_SCRIPTS = {"claims", "clauses", "doors", "examples", "maps", "page_numbers", "signatures", "sources"}
 
 
 @dataclasses.dataclass

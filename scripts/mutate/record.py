@@ -1,5 +1,6 @@
 """The record of the last whole run of the edits, scripts/mutate/tried.txt: for each crate whose edits were all tried, and all refused as they
-must be, a sum of its sources, of those of the crates below it, and of its edits. scripts/mutate/unproved.py writes it.
+must be, a sum of its sources, of those of the crates below it, and of its edits. scripts/mutate/unproved.py writes it. Another toolchain leaves
+it as it is: `unproved.py --all` tries all edits with that.
 
 Of a crate whose sum is still that one, one edit in ten is tried, chosen by the hash of the commit; of the others all are.
 """
@@ -18,7 +19,7 @@ ONE_IN = 10
 
 def sum_of(crate, top=ROOT):
     """A number that changes with each source and each edit that a try of the crate's edits reads, in a copy of the repository."""
-    found = hashlib.sha256(proving.sum_of(crate, top).encode())
+    found = hashlib.sha256(proving.sources_of(crate, top).encode())
     for path in sorted(glob.glob(f"{top}/{changes.FOLDER}/{crate}/**/*.edit", recursive=True)):
         found.update(f"{os.path.relpath(path, top)}\n".encode() + proving.digest_of(path))
     return found.hexdigest()

@@ -10,8 +10,8 @@ without a clause. An edit of a crate below must not compile.
 
 If all edits of a crate are tried, the crate is proved first, and each check begins with what that kept; if some are, a check looks at the
 functions that they name, and at those that these call. Which are tried says scripts/mutate/record.py, whose record a run without a fault
-brings up to date. The libraries are those of out/proved/, and are proved if they are not there. The edits are made in copies of what git
-tracks, one for each processor, up to four.
+brings up to date. The libraries are those of out/proved/, and are proved if they are not there; the edits of a crate are tried as soon as
+those below it are. The edits are made in copies of the crates that git tracks, one for each processor, up to four, and fewer if memory lacks.
 
 `unproved.py --all` tries all edits. `unproved.py WORD ..` tries the edits alone that are named, or that are in a folder of
 scripts/mutate/edits/, such as a crate. `unproved.py --list` tries none, and prints each claim of docs/PROOFS.md with its edits, and what
@@ -19,6 +19,7 @@ these break; also with words. The last line is 'N passed, M failed'.
 """
 import collections
 import concurrent.futures
+import contextlib
 import functools
 import os
 import re
@@ -26,6 +27,7 @@ import shutil
 import subprocess
 import sys
 import tempfile
+import threading
 import time
 
 sys.path.insert(1, f"{sys.path[0]}/..")
@@ -36,6 +38,8 @@ import proving
 import record
 
 COPIES = min(4, len(os.sched_getaffinity(0)))
+# The memory that has to be free for one more check beside others, in bytes, and the seconds in which a check takes its own.
+EACH, BEGINS = 3 << 30, 10
 # How many edits a check takes at most: the more it takes, the more memory it needs, and the longer the others wait for it at the end.
 MOST = 34
 # The name of an impl, of which `--only` says nothing.
@@ -209,9 +213,9 @@ def tried(room, crate, edits, whole):
     return whys, waiting, more
 
 
-def copied(room):
-    """Makes a copy of the tracked files, which git tracks there too."""
-    listed = subprocess.run(["git", "ls-files", "-z"], cwd=ROOT, check=True, stdout=subprocess.PIPE).stdout
+def copied(room, *paths):
+    """Makes a copy of the tracked files, or of those at these paths, which git tracks there too."""
+    listed = subprocess.run(["git", "ls-files", "-z", *paths], cwd=ROOT, check=True, stdout=subprocess.PIPE).stdout
     for name in listed.decode().split("\0"):
         if name and os.path.isfile(f"{ROOT}/{name}"):
             os.makedirs(os.path.dirname(f"{room}/{name}"), exist_ok=True)
@@ -261,16 +265,42 @@ class Rooms:
 
     def __init__(self, top, whole):
         self.top, self.whole, self.free, self.faults = top, whole, [], {}
+        self.door, self.running, self.last = threading.Lock(), 0, 0
         # How many edits a check takes at most, by crate.
         self.most = collections.defaultdict(lambda: MOST)
 
+    def prepared(self, crate, edits):
+        """Proves the libraries below a crate that are not there, and the crate if all of its edits are tried. Returns the edits, or none if that
+        failed."""
+        try:
+            for below in proving.libraries(crate):
+                proving.library(below, lambda *_: None)
+            if crate in self.whole:
+                proving.check(crate, lambda *_: None)
+        except proving.Failed as why:
+            self.faults[crate] = [f"{crate}: FAILED: the crate, or one below it, is not proved: {why}\n{why.said}"]
+        return [] if crate in self.faults else edits
+
+    @contextlib.contextmanager
+    def memory(self):
+        """Waits until memory is free for one more check, or no other runs."""
+        with self.door:
+            while self.running and (time.time() < self.last + BEGINS or proving.free_memory() < EACH):
+                time.sleep(1)
+            self.running, self.last = self.running + 1, time.time()
+        try:
+            yield
+        finally:
+            self.running -= 1
+
     def try_in_one(self, crate, edits):
         """Tries the edits in one check, and keeps what failed in `faults`. Returns the edits that wait."""
-        start = time.time()
         room = self.free.pop() if self.free else tempfile.mkdtemp(prefix="room-", dir=self.top)
         if not os.listdir(room):
-            copied(room)
-        whys, waiting, more = tried(room, crate, edits, crate in self.whole)
+            copied(room, "crates", "crates.txt", "HANDLES")
+        with self.memory():
+            start = time.time()
+            whys, waiting, more = tried(room, crate, edits, crate in self.whole)
         self.free.append(room)
         if more is None and len(edits) > 1:
             self.most[crate], more = max(1, len(edits) // 4), []
@@ -284,45 +314,28 @@ class Rooms:
         return [it for it in edits if it.name in waiting]
 
     def try_all(self, asked):
-        """Tries the edits of each crate, each check as soon as a copy is free."""
-        tasks = [(crate, edits) for crate, found in asked.items() for edits in checks_of(crate, found, MOST)]
-        running, left = {}, {crate: [] for crate in asked}
-        with concurrent.futures.ThreadPoolExecutor(COPIES) as pool:
-            while tasks or running:
-                for crate, edits in sorted(tasks, key=lambda it: -len(it[1])):
-                    running[pool.submit(self.try_in_one, crate, edits)] = crate
-                done = concurrent.futures.wait(running, return_when=concurrent.futures.FIRST_COMPLETED).done
-                for future in done:
+        """Tries the edits of each crate once what they need is proved, each check as soon as a copy is free."""
+        left = collections.defaultdict(list)
+        with concurrent.futures.ThreadPoolExecutor(1) as prover, concurrent.futures.ThreadPoolExecutor(COPIES) as pool:
+            running = {prover.submit(self.prepared, crate, edits): crate for crate, edits in asked.items()}
+            while running:
+                for future in concurrent.futures.wait(running, return_when=concurrent.futures.FIRST_COMPLETED).done:
                     crate = running.pop(future)
                     left[crate] += future.result()
-                # Those that wait are tried when no check of their crate is left that could find more of them.
-                ready = [crate for crate, found in left.items() if found and crate not in running.values()]
-                tasks = [(crate, edits) for crate in ready for edits in checks_of(crate, left.pop(crate), self.most[crate])]
-                left.update({crate: [] for crate in ready})
-
-
-def proved(crates):
-    """Proves these crates, each whole. Returns why each fails that does."""
-    faults = {}
-    for crate in crates:
-        try:
-            proving.check(crate, lambda *_: None)
-        except proving.Failed as why:
-            faults[crate] = [f"{crate}: FAILED: the crate itself is not proved: {why}\n{why.said}"]
-    return faults
+                    # Those that wait are tried when no check of their crate is left that could find more of them.
+                    if crate not in running.values():
+                        for edits in checks_of(crate, left.pop(crate), self.most[crate]):
+                            running[pool.submit(self.try_in_one, crate, edits)] = crate
 
 
 def try_edits(by_crate, whole):
     """Tries edits, those of the crates that are `whole` over proofs of the whole crate. Returns by crate what failed."""
-    with proving.alone():
-        for crate in by_crate:
-            for below in proving.libraries(crate):
-                proving.library(below, lambda *_: None)
-        faults = proved(whole)
     with tempfile.TemporaryDirectory(prefix="unproved-") as top:
         rooms = Rooms(top, whole)
-        rooms.try_all({crate: edits for crate, edits in by_crate.items() if crate not in faults})
-    return rooms.faults | faults
+        # First those that wait for the fewest crates, if these are proved at this time.
+        order = sorted(proving.crates(), key=lambda it: len(proving.libraries(it)))
+        rooms.try_all({crate: by_crate[crate] for crate in order if crate in by_crate})
+    return rooms.faults
 
 
 def main():

@@ -250,7 +250,7 @@ static void texts(void)
         {BITPACKING_UNFIT, "A value does not fit the width."},
         {BITPACKING_BAD_POSITION, "A position is not in the list."},
         {BITPACKING_BAD_BLOCK, "The list has no block of this number."},
-        {BITPACKING_BAD_BASE, "The base is above 2^64 - 2^32."},
+        {BITPACKING_BAD_BASE, "The base is above 2^64 - 2^32, or a value with it does not fit."},
         {BITPACKING_LIST_SHORT, "Bytes of the list are missing."},
         {BITPACKING_LIST_BAD_VERSION, "The version of the list is not supported."},
         {BITPACKING_LIST_BAD_KIND, "The list has none of the three kinds, or is plain, and a plain list has no order."},

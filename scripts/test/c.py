@@ -1,10 +1,10 @@
 #!/usr/bin/env python3
 """Compiles and runs the C programs over the archive for all levels of the processor and the archive of each level: those of examples/,
 whose output is worked by hand, scripts/test/calls.c, list_calls.c, cursor.c, columns.c, blocks.c and builder.c, and scripts/test/tables.c,
-queries.c, sets.c, id_sets.c and damaged.c over the tables of vectors/. They are compiled as C99 with every warning an error and run with little stack,
-and once more with the address sanitizer if the compiler has it. The two programs of calls are also compiled as C++11 and C++17, without a cast
+queries.c, sets.c, id_sets.c, column_tables.c, column_parts.c and damaged.c over the tables of vectors/. They are compiled as C99 with every warning an error and
+run with little stack, and once more with the address sanitizer if the compiler has it. The two programs of calls are also compiled as C++11 and C++17, without a cast
 of C in the header; scripts/test/calls.c also runs over the archive for all levels on a processor of each level that qemu gives. It,
-list_calls.c, blocks.c, builder.c and id_sets.c have to name every macro of the header. Over that archive scripts/test/damaged.c opens a million damaged
+list_calls.c, blocks.c, builder.c, id_sets.c, column_tables.c and column_parts.c have to name every macro of the header. Over that archive scripts/test/damaged.c opens a million damaged
 lists once more.
 
 Then each program has to fail with another output than it has, or, if it prints nothing, with a function that returns one more. The archives
@@ -35,10 +35,12 @@ BUILDER = "scripts/test/builder.c"
 TABLES = "scripts/test/tables.c"
 SETS = "scripts/test/sets.c"
 ID_SETS = "scripts/test/id_sets.c"
+COLUMN_TABLES = "scripts/test/column_tables.c"
+COLUMN_PARTS = "scripts/test/column_parts.c"
 QUERIES = "scripts/test/queries.c"
 DAMAGED = "scripts/test/damaged.c"
 # Those that name the macros of the header.
-NAMING = [CALLS, LIST_CALLS, BLOCKS, BUILDER, ID_SETS]
+NAMING = [CALLS, LIST_CALLS, BLOCKS, BUILDER, ID_SETS, COLUMN_TABLES, COLUMN_PARTS]
 STACK = 256 << 10  # bytes; the sanitizer needs more
 SANITIZED = ["-fsanitize=address,undefined", "-fno-sanitize-recover=all"]
 # The index of the documents 1 to 1000, by hand: 500, 333 and 200 numbers. The codes of the lists are gaps less one: 1 of even (of its
@@ -63,8 +65,10 @@ PROGRAMS = {
     # A header of 7 bytes, 2 entries of 9, those blocks, and 44 numbers of 4 bytes; the last number is 3 * 299 + 1.
     "examples/packed_list.c": "300 numbers in 265 bytes, the last 898\nthe first from 500 on is 502, at position 167\n",
     # Row r costs 5000 and 37 * r, modulo 1000. Since 37 * 973 is 36001, each price from 5000 to 5999 is there once, and 1 more is 27 rows before.
-    # 5100 is in row 300.
-    "examples/column.c": "20 of 1000 rows: 3 30 57 84 111 138 165 192 219 246 273 300 787 814 841 868 895 922 949 976\n",
+    # 5100 is in row 300. Each block and each group has a price more than 511 above the least, and so 10 bits. The column has byte 0, 2 bytes for
+    # 1000, 1 of sizes, 7 ends of 1 and 7 marks of 2, 7 * 160 of blocks, and 2 of the least of the 104 other prices, whose groups have 41, 41, 41
+    # and 11 bytes.
+    "examples/column.c": "1000 prices in 1281 bytes\nrow 300: 5100\n20 rows: 3 30 57 84 111 138 165 192 219 246 273 300 787 814 841 868 895 922 949 976\n",
     # The second 10 is refused; the others are those of examples/list.c.
     "examples/builder.c": "10 is out of order\n4 ids in 7 bytes\n",
     # The ids up to 2997 have 12 high bytes, each with 85 or 86 low ones, which take 32 bytes of bits. The body is a byte, the 12 high bytes, 12
@@ -92,6 +96,8 @@ PROGRAMS = {
     # these with six of them.
     SETS: "580 lists, 953215 combined, 640810 counted, 925994 with an array\n",
     ID_SETS: "360 sets, 2052 refusals, 102 pairs\n",
+    COLUMN_TABLES: "727 columns, 2605 refusals\n",
+    COLUMN_PARTS: "727 columns in parts\n",
 }
 # For each program that prints nothing, a function of the header that it calls, and that function with a wrong answer.
 CALLED = {
@@ -115,6 +121,8 @@ ONE_MORE = """#include "bitpacking.h"
 VECTORS = {SETS: ["lists2", "lists3"], DAMAGED: ["lists2", "lists3", "lists4", "refused2", "refused3", "refused4"]}
 VECTORS[TABLES] = [*VECTORS[DAMAGED], "upgrade4"]
 VECTORS[ID_SETS] = ["id_sets", "refused_id_sets", "combined_id_sets"]
+VECTORS[COLUMN_TABLES] = ["columns", "refused_columns"]
+VECTORS[COLUMN_PARTS] = ["columns"]
 VECTORS[QUERIES] = ["seek", "seek3", "seek4", "intersect", "union", "difference", "refused_values"]
 # The same of a million damaged lists.
 MILLION = (
@@ -233,11 +241,9 @@ def macros_not_named():
 def casts_in_the_header():
     """What a C++ compiler says of casts of C in the header and its macros, or None."""
     macros = re.findall(r"^#define (BITPACKING_\w+)(\(\w+\))? ", source("include/bitpacking.h"), re.M)
-    uses = [
-        f"used({name}{'(1)' if given else ''});" for name, given in macros if name not in ("BITPACKING_LIST_EMPTY", "BITPACKING_SET_EMPTY")
-    ]
+    uses = [f"used({name}{'(1)' if given else ''});" for name, given in macros if not name.endswith("_EMPTY")]
     lines = ["template <typename Item> static void used(Item) {}", "int main() { bitpacking_list list = BITPACKING_LIST_EMPTY; used(list);"]
-    lines.append("bitpacking_set set = BITPACKING_SET_EMPTY; used(set);")
+    lines.append("bitpacking_set set = BITPACKING_SET_EMPTY; used(set); bitpacking_column column = BITPACKING_COLUMN_EMPTY; used(column);")
     text = "\n".join(['#include "bitpacking.h"', *lines, *uses, "used(bitpacking_list_empty()); }", ""])
     right, said = works(["c++", *STRICT, "-Wold-style-cast", "-x", "c++", "-fsyntax-only", "-"], input=text)
     return None if right else said or "it is refused"

@@ -1,6 +1,6 @@
 #!/usr/bin/env python3
-"""Tests that what decides can fail, with made-up results: `report`, by which a script ends; `judged` of scripts/check; `why_not` of
-scripts/mutate/unproved.py, over what a check printed; `not_refused`, by which scripts that read the sources try wrong changes; and
+"""Tests that what decides can fail, with made-up results: `report`, by which a script ends; `judged` of scripts/check, and its `--first`;
+`taken`, by which it takes a library that `rt ci` proved; `why_not` of scripts/mutate/unproved.py, over what a check printed; `not_refused`, by which scripts that read the sources try wrong changes; and
 `chosen` of scripts/mutate/record.py, over a copy in which a source and an edit change: all edits of the crates above it are tried then.
 
 The last line is 'N passed, M failed'.
@@ -9,6 +9,7 @@ import contextlib
 import importlib.machinery
 import importlib.util
 import io
+import os
 import shutil
 import sys
 import tempfile
@@ -17,6 +18,7 @@ from unittest import mock
 sys.path.insert(1, f"{sys.path[0]}/..")
 import common
 import changes
+import proving
 import record
 import texts
 import unproved
@@ -74,6 +76,34 @@ def parts():
     for why, (said, status) in ends.items():
         passed = 3 if status else 0
         yield f"a part of which {why}", judged("it", said, status), (passed, 1, [f"FAILED: it: {why}\n"])
+
+
+def stops():
+    """What becomes of a part after one that fails, as a name, what it comes to, and what it has to."""
+    part, left_out = "echo 1 passed, 0 failed", "LEFT OUT: echo 1 passed, 0 failed, since the run was stopped\n"
+    for given, right in {"": (1, 0, []), "--first": (0, 0, [left_out])}.items():
+        check = gate()
+        with mock.patch.object(sys, "argv", ["check", given]), contextlib.redirect_stdout(io.StringIO()):
+            check.run("false", common.ROOT)
+            yield f"a part after one that fails, check {given}", check.run(part, common.ROOT), right
+
+
+def libraries():
+    """Whether a library that `rt ci` left is taken, as a name, what it comes to, and what it has to."""
+    for name, before, stamp, right in [
+        ("a library", "1", False, True),
+        ("a library of other sources", "2", False, False),
+        ("a library of another command", "1", True, False),
+    ]:
+        with tempfile.TemporaryDirectory(prefix="taken-") as top, mock.patch.multiple(
+            proving, ROOT=top, PROVED=f"{top}/proved", sum_of=lambda _: "1"
+        ):
+            os.makedirs(f"{top}/crates/low/out/rlib/low.rlib")
+            os.makedirs(proving.PROVED)
+            if stamp:
+                os.makedirs(f"{top}/crates/low/out/rlib/stamp")
+            proving.taken("low", before)
+            yield name, proving.is_proved("low"), right
 
 
 def why(goals, refused=(), status=1):
@@ -150,7 +180,7 @@ def records():
 
 
 def checks():
-    for part in [reports, parts, edits, faults, records]:
+    for part in [reports, parts, stops, libraries, edits, faults, records]:
         for name, found, right in part():
             yield name, None if found == right else f"it is {found}, and not {right}"
 

@@ -348,7 +348,7 @@ int main(void)
     combines_many(1000);
     combines_many(VIEWS);
     while (next_row(column))
-        if (table == REFUSED_ID_SETS) {
+        if (table == REFUSED_BYTES) {
             refuses(atoi(column[0]), read_bytes(column[2], bytes));
             refusals++;
         } else if (table == COMBINED_ID_SETS) {

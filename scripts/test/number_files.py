@@ -1,322 +1,316 @@
 #!/usr/bin/env python3
-"""Builds the program of examples/numbers/ with warnings as errors, runs the session that its page shows, and compares each command with plain
-sets and lists of Python: the lists that it writes byte by byte with the model of docs/FORMAT.md, what it reads of the tables of vectors/, and
-the faults that it finds in these and in a thousand damaged files with those of the decoders of that page. Then each error, and what a terminal
-shows. It takes the archives that scripts/build/archives.py wrote, which is called if they are not there. A script `numbers.py` would hide the
-module of this name from the library of Python. The last line is 'N passed, M failed'.
+"""Runs each command of the page of examples/numbers/, which install the program with warnings as errors, and compares what they print with the
+page. Then it compares each verb with sets and sorted lists of Python: the bytes that it writes with the models of docs/FORMAT.md, what it reads
+of the tables of vectors/, and the faults that it finds in these and in a thousand damaged files with those of the decoders of that page. Then
+wrong calls, files that are replaced or not, and what a terminal shows. A script `numbers.py` would hide the module of this name from the
+library of Python. The last line is 'N passed, M failed'.
 """
-import collections
+import functools
 import glob
 import itertools
+import operator
 import os
 import random
 import re
-import struct
+import resource
+import shlex
+import stat
 import subprocess
 import sys
 import tempfile
 import time
 
 sys.path.insert(1, f"{sys.path[0]}/..")
-from common import ROOT, leave_out, report, run, source
-import archives
-import rust
-import vectors
-from rows import numbers, octets, table
+from common import ROOT, leave_out, left_out_without, report, run, source
+from number_cases import FOLDER, HELP, HELPS, KINDS, MISSING, SAMPLES, VERBS, WRONG_CALLS, WRONG_NUMBERS
+from number_cases import asked, binary_of, damaged, description, disorder, finding, packed, text_of
+from rows import numbers, octets, spelled_ids, table
 from terminal import Terminal
 
-FOLDER = "examples/numbers"
-MOST_LINES = 400
+MOST_LINES, MOST_LINES_OF_FILE = 600, 250
 # Seconds for one call, which takes far below one.
 PATIENCE = 240
-DAMAGES = 1000
-KINDS, LANES = ["plain", "sorted", "strict"], [1, 4, 8]
-MODEL = vectors.names_of(vectors.model())
-# The numbers of faults, and the texts of the crate.
-FAULTS = {name: int(number) for number, name in re.findall(r"^\| (\d+) \| ([A-Z]\w+)[^|]* \|", source("docs/FORMAT.md"), re.M)}
-OF_BLOCKS = re.findall(r"^\| \d+ \| (\w+)\(m", source("docs/FORMAT.md"), re.M)
-# The first text of each fault: the second of NotSorted is without a position.
-TEXTS = dict(reversed(re.findall(r'Error::(\w+)[^=]* => (?:f\.write_str\(|write!\(f, )"([^"]*)"', source("rust/src/list/error.rs"))))
-USAGE = "arguments: numbers --help says what is wanted"
-
-
-def samples():
-    """Values by what they are."""
-    chance = random.Random(1)
-    return {
-        "no value": [],
-        "0": [0],
-        "the greatest number": [2**32 - 1],
-        "one value twice": [5, 5],
-        "a fall": [9, 5, 2**32 - 1, 0],
-        "a run of a block": list(range(32)),
-        "three": list(range(0, 3000, 3)),
-        "close values": sorted(chance.sample(range(2000), 1000)),
-        "close and far": [*range(7, 1007, 2), *range(10**9, 10**9 + 300 * 10**6, 10**6)],
-        "repeated": sorted(chance.choice(range(500)) for _ in range(900)),
-        "any": [chance.randrange(2 ** chance.randrange(1, 33)) for _ in range(1500)],
-        # More than are unpacked at once, and more bytes than are read at once.
-        "many": [chance.randrange(2**12) for _ in range(40_000)],
-        "many and close": sorted(chance.sample(range(200_000), 40_000)),
-    }
-
-
-SAMPLES = samples()
-
-
-def is_of(kind, values):
-    return all(after >= before + [-(2**32), 0, 1][kind] for before, after in zip(values, values[1:]))
-
-
-def text_of(values):
-    return "".join(f"{value}\n" for value in values).encode()
-
-
-def binary_of(values):
-    return struct.pack(f"<{len(values)}I", *values)
-
-
-def packed(lanes, kind, values):
-    return MODEL["encode4"](lanes, kind, values)
-
-
-def form_of(text):
-    """The version and the lanes that a text says. A reader of all packers takes them from it."""
-    first = text[0] if text else 0
-    version = 2 if first < 16 else 4 if first < 64 else 3
-    lanes = {2: text[2] if len(text) > 2 else 1, 3: [1, 1, 4, 8][first // 64], 4: [1, 1, 4, 8][first // 16 % 4]}[version]
-    return version, lanes if lanes in LANES else 1
-
-
-def read(text):
-    """The kind and the values of a text, by the decoders of the page, or ValueError with its fault."""
-    version, lanes = form_of(text)
-    return MODEL[f"decode{version}"](lanes, text)
-
-
-def width_and_form(version, lanes, kind, start, values):
-    """How many bits a value of a block takes, and its form."""
-    if version < 4:
-        return MODEL["width_of"](MODEL["codes_of"](kind, start, values)), "packed"
-    _, size, _ = MODEL["block4"](lanes, kind, start, values)
-    is_packed = kind < 2 or size < -(-((values[-1] - start - 1) % 2**32 + 1) // (32 * lanes))
-    return size, "packed" if is_packed else "set of bits"
-
-
-def description(text):
-    """What `show` has to print for a list."""
-    (version, lanes), (kind, values) = form_of(text), read(text)
-    block, start, forms = 32 * lanes, [0, 0, 2**32 - 1][kind], collections.Counter()
-    for at in range(0, len(values) // block * block, block):
-        forms[width_and_form(version, lanes, kind, start, values[at : at + block])] += 1
-        start = values[at + block - 1]
-    each = f", {8 * len(text) / len(values):.2f} bits a value" if values else ""
-    lines = [f"version {version}, kind {KINDS[kind]}, lanes {lanes}", f"{len(values)} values in {len(text)} bytes{each}"]
-    lines.append(f"{len(values) // block} blocks of {block} values, and {len(values) % block} values after them")
-    for (width, form), count in sorted(forms.items()):
-        bar = "#" * -(-40 * count // max(forms.values()))
-        lines.append(f"{width:4} bits a value, {form:11} {count:9} {bar}")
-    return "\n".join([*lines, ""]).encode()
 
 
 class Program:
+    """The program, and a folder for files."""
+
     def __init__(self, folder):
-        self.folder, self.path = folder, f"{archives.OUT}/target/release/numbers"
-        self.built = rust.cargo("build", "--release", package=FOLDER)
+        self.folder, self.path = f"{folder}/files", f"{folder}/bin/numbers"
+        os.mkdir(self.folder)
+        built = {"RUSTFLAGS": "-D warnings", "CARGO_NET_OFFLINE": "true", "CARGO_INSTALL_ROOT": folder}
+        self.env = {"CARGO_TARGET_DIR": f"{ROOT}/out/numbers"} | os.environ | built
+        self.env |= {"PATH": f"{folder}/bin:{os.environ['PATH']}", "LC_ALL": "C"}
 
-    def run(self, *words, given=b"", **more):
-        """The status, what is printed, and the messages."""
-        how = {"input": given, "stdout": subprocess.PIPE, "stderr": subprocess.PIPE, "cwd": self.folder, "timeout": PATIENCE}
-        done = subprocess.run([self.path, *words], check=False, **(how | more))
-        return done.returncode, done.stdout, (done.stderr or b"").decode(errors="replace")
-
-    def differs(self, wanted, *words, given=b""):
-        """What is wrong if a call answers otherwise than with this status and these bytes, without a message; or None."""
-        answer, wanted = self.run(*words, given=given), (*wanted, "")
+    def differs(self, wanted, *words, **more):
+        """What is wrong if a call has another answer than this status, these bytes and this message; or None."""
+        how = {"input": more.pop("given", b""), "stdout": subprocess.PIPE, "stderr": subprocess.PIPE, "cwd": self.folder}
+        done = subprocess.run([self.path, *map(str, words)], check=False, timeout=PATIENCE, **(how | more))
+        answer, wanted = (done.returncode, done.stdout, (done.stderr or b"").decode(errors="replace")), (*wanted, "", "")[:3]
         return None if answer == wanted else f"answered {str(answer)[:1000]}, and not {str(wanted)[:1000]}"
 
-    def write(self, name, text):
+    def fails(self, message, *words, **more):
+        """What is wrong if a call does not fail with this message."""
+        return self.differs((2, b"", f"numbers: {message}\n"), *words, **more)
+
+    def write(self, name, content):
         with open(f"{self.folder}/{name}", "wb") as file:
-            file.write(text)
+            file.write(content)
         return name
 
 
 def of_page(program):
-    """The session of the page: what each line prints."""
+    """Each command of the page, and what it prints. The first installs the program."""
     lines = [line[4:] for line in source(f"{FOLDER}/README.md").split("\n") if line.startswith("    ")]
     calls = [number for number, line in enumerate(lines) if line.startswith("$ ")]
-    env = dict(os.environ, PATH=f"{os.path.dirname(program.path)}:{os.environ['PATH']}", LC_ALL="C")
+    yield "the first line of the page", None if calls[:1] == [0] else "it is no command"
     for number, end in zip(calls, [*calls[1:], len(lines)]):
-        done = run("sh", "-c", lines[number][2:], folder=program.folder, env=env)
-        wanted = "".join(f"{line}\n" for line in lines[number + 1 : end])
-        yield f"{FOLDER}/README.md: {lines[number]}", None if done.stdout == wanted else f"it prints {done.stdout}"
-    yield "the lines that the page shows", None if len(calls) > 9 else f"there are {len(calls)}"
+        command, wanted = lines[number][2:], "".join(f"{line}\n" for line in lines[number + 1 : end])
+        is_cargo = command.startswith("cargo ")
+        done = run("sh", "-c", command, folder=ROOT if is_cargo else program.folder, env=program.env, stderr=subprocess.PIPE)
+        right = done.stdout == wanted and done.stderr == "" or is_cargo and done.returncode == 0
+        yield f"{FOLDER}/README.md: {command}", None if right else f"it prints {done.stdout} {done.stderr[-4000:]}"
+    shown = {found for number in calls for found in re.findall(r"\bnumbers (\w+)", lines[number])}
+    yield "the verbs that the page shows", None if shown == {*VERBS} else f"they differ by {shown ^ {*VERBS}}"
+
+
+def helping(program):
+    shown = ["\n".join(part.split("\n")[:2]) if part.startswith("numbers ") else part for part in HELP.split("\n\n")]
+    yield "--help", program.differs((0, "\n\n".join(shown).encode()), "--help")
+    yield "the verbs of the help", None if [*HELPS] == VERBS else f"they are {[*HELPS]}"
+    for verb in VERBS:
+        yield f"{verb} --help", program.differs((0, f"{HELPS[verb]}\n".encode()), verb, "set", "--help")
+    version = re.search(r'^version = "(.*)"$', source(f"{FOLDER}/Cargo.toml"), re.M)[1]
+    yield "--version", program.differs((0, f"numbers {version}\n".encode()), "--version")
 
 
 def packing(program):
-    """Each sample is packed in both forms by each packer and each kind, unpacked in both forms, and shown."""
-    for (what, values), lanes in itertools.product(SAMPLES.items(), LANES):
-        forms = {"text": ([], text_of(values)), "binary": (["--binary"], binary_of(values))}
-        for kind in [kind for kind in range(3) if is_of(kind, values)]:
-            name, wanted = f"{what}, {KINDS[kind]}, {lanes} lanes", packed(lanes, kind, values)
-            words = ["--kind", KINDS[kind], "--packer", f"{lanes}x"]
-            for form, (option, text) in forms.items():
-                yield f"packing {name}, from {form}", program.differs((0, wanted), "pack", *words, *option, given=text)
-                yield f"unpacking {name}, to {form}", program.differs((0, text), "unpack", *option, given=wanted)
-            yield f"showing {name}", program.differs((0, description(wanted)), "show", given=wanted)
-        best = max(kind for kind in range(3) if is_of(kind, values))
-        wanted = packed(lanes, best, values), forms["text"][1]
-        yield f"the kind for {what}", program.differs((0, wanted[0]), "pack", "--packer", f"{lanes}x", given=wanted[1])
+    """Each sample is packed as each kind, from text and from bytes, unpacked to both, and described."""
+    for what, values in SAMPLES.items():
+        forms = {"text": ([], text_of(values)), "bytes": (["--binary"], binary_of(values))}
+        for kind, (form, (option, content)) in itertools.product(KINDS, forms.items()):
+            name, position, words = f"{what} as {kind}, {form}", disorder(kind, values), ["pack", *option, "--as", kind]
+            if position is not None:
+                text = f"the number at position {position} is out of order: {values[position]} comes after {values[position - 1]}"
+                yield f"packing {name}", program.fails(f"standard input: {text}", *words, given=content)
+                continue
+            wanted = packed(kind, values)
+            yield f"packing {name}", program.differs((0, wanted), *words, given=content)
+            yield f"unpacking {name}", program.differs((0, content), "unpack", *option, given=wanted)
+            line = f"standard input: {description(kind, wanted, values)}\n".encode()
+            for verb in ["show"], ["check", "-"]:
+                yield f"{verb} of {name}", program.differs((0, line), *verb, given=wanted)
+        kind = next(kind for kind in KINDS if disorder(kind, values) is None)
+        yield f"the kind of {what}", program.differs((0, packed(kind, values)), "pack", given=text_of(values))
+
+
+def texts(program):
+    """Numbers in other texts than `unpack` writes, and other words of calls."""
     for what, text in {
         "spaces": b"  7 9\t10\r\n\n300",
-        "zeros in front": b"007\n0000000000000000000000009 10 300\n",
+        "zeros in front": b"007\n" + b"0" * 60_000 + b"9\n10 300\n",
         "a form feed": b"7\f9 10 300 ",
+        "a number after a full piece": b"\n" * (2**16 - 1) + b"7\n9\n10 300",
+        "a number across two pieces": b" " * (2**16 - 2) + b"7 9 10 300",
+        "a number of two digits across two pieces": b"7 9" + b" " * (2**16 - 4) + b"10 300",
     }.items():
-        # The list of four ids that docs/FORMAT.md has.
-        yield f"text with {what}", program.differs((0, bytes.fromhex("A4070901008404")), "pack", given=text)
+        # The set of four ids that docs/FORMAT.md has.
+        yield f"text with {what}", program.differs((0, bytes.fromhex("84 07 09 01008404")), "pack", given=text)
     program.write("numbers", b"3 1")
-    for words in ["numbers"], ["--kind", "plain", "numbers", "--packer", "1x"]:
-        wanted = bytes.fromhex("42030101" if len(words) > 1 else "82030101")
-        yield f"the arguments {words}", program.differs((0, wanted), "pack", *words)
+    program.write("-odd", b"5 5 9")
+    # The columns of docs/FORMAT.md.
+    for words in "numbers", "--as plain numbers", "numbers --as set --as plain", "-- numbers":
+        yield f"the words {words}", program.differs((0, bytes.fromhex("42 01 02 02")), "pack", *words.split())
+    for words in "-- -odd", "--as sorted -- -odd", "./-odd":
+        yield f"the words {words}", program.differs((0, bytes.fromhex("63 05 03 20")), "pack", *words.split())
 
 
 def tables(program):
-    """The lists of vectors/: their values and shapes."""
-    for row in [row for version in "234" for row in table(f"lists{version}.tsv")]:
-        text, values = octets(row["bytes"]), numbers(row["values"])
-        name = f"{row['kind']}, {row['lanes']} lanes, {row['bytes'][:40]}"
-        yield f"unpacking {name}", program.differs((0, text_of(values)), "unpack", given=text)
-        yield f"showing {name}", program.differs((0, description(text)), "show", given=text)
-
-
-def damaged():
-    """Files that are cut, or have other bytes in front or anywhere."""
-    chance = random.Random(2)
-    texts = [packed(lanes, 2, SAMPLES["close and far"][:600]) for lanes in LANES] + [packed(4, 0, SAMPLES["any"][:300])]
-    texts += [MODEL[f"encode{version}"](lanes, 1, SAMPLES["repeated"][:300]) for lanes in LANES for version in (2, 3)]
-    for number in range(DAMAGES):
-        text = bytearray(chance.choice(texts))
-        for _ in range(chance.randrange(1, 4)):
-            text[chance.randrange(min(len(text), [12, len(text)][number % 2]))] = chance.choice(
-                [0, 1, 127, 128, 255, chance.randrange(256)]
-            )
-        yield bytes(text[: chance.randrange(len(text))] if number % 5 == 0 else text)
-
-
-def finding(text):
-    """What `check` has to say of a text."""
-    try:
-        return f"a list of {len(read(text)[1])} values"
-    except ValueError as error:
-        fault, *where = error.args
-    block = where[0] // (32 * form_of(text)[1]) if fault == "NotSorted" else where[0] if fault in OF_BLOCKS else None
-    return f"no list: fault {FAULTS[fault]}: {'' if block is None else f'block {block}: '}{TEXTS[fault].format(position=(*where, 0)[0])}"
+    """The rows of the tables of vectors/."""
+    rows = [("set", [] if row["ids"] == "-" else [*spelled_ids(row["ids"])], octets(row["bytes"])) for row in table("id_sets.tsv")]
+    rows += [(row["kind"], numbers(row["values"]), octets(row["bytes"])) for row in table("columns.tsv")]
+    lines = [f"row{number}: {description(*row[::2], row[1])}\n" for number, row in enumerate(rows)]
+    for number, (_, values, encoding) in enumerate(rows):
+        program.write(f"row{number}", encoding)
+        yield f"unpacking {encoding.hex()[:40]}", program.differs((0, binary_of(values)), "unpack", "--binary", f"row{number}")
+    yield "showing the rows", program.differs((0, "".join(lines).encode()), "show", *(f"row{number}" for number in range(len(rows))))
 
 
 def checking(program):
-    """What `check` says of refused texts, of lists and of damaged files."""
-    refused = [octets(row["bytes"]) for version in ["", *"234"] for row in table(f"refused{version}.tsv")]
-    lists = [octets(row["bytes"]) for version in "234" for row in table(f"lists{version}.tsv")]
-    for what, texts in {"refused texts": refused, "lists": lists, "damaged files": list(damaged())}.items():
-        names = [program.write(f"{what[0]}{number}", text) for number, text in enumerate(texts)]
-        wanted = [f"{name}: {finding(text)}" for name, text in zip(names, texts)]
-        status, printed, messages = program.run("check", *names)
-        right = int(any("no list" in it for it in wanted))
-        yield f"the status for {what}", None if (status, messages) == (right, "") else f"it is {status}, and says {messages}"
-        for line, found in itertools.zip_longest(wanted, printed.decode().split("\n")[:-1]):
+    """What `check` says of refused and damaged files."""
+    rows = [row for name in ("refused_id_sets.tsv", "refused_columns.tsv") for row in table(name)]
+    for what, contents in ("refused rows", [octets(row["bytes"]) for row in rows]), ("damaged files", [*damaged()]):
+        names = [program.write(f"{what[0]}{number}", content) for number, content in enumerate(contents)]
+        wanted = [f"{name}: {finding(content)}" for name, content in zip(names, contents)]
+        done = subprocess.run([program.path, "check", *names], cwd=program.folder, capture_output=True, text=True, check=False)
+        yield f"the status for {what}", None if (done.returncode, done.stderr) == (1, "") else f"it is {done.returncode}: {done.stderr}"
+        for line, found in itertools.zip_longest(wanted, done.stdout.split("\n")[:-1]):
             yield f"{what}: {line}", None if line == found else f"it says {found}"
-        have = sum("no list" in it for it in wanted)
-        bounds = {"refused texts": len(texts) // 2, "lists": 0, "damaged files": DAMAGES // 4}[what]
-        yield f"how many {what} are no list", None if have >= bounds and (have > 0) == (bounds > 0) else f"they are {have}"
+        wrong = sum(": fault " in line for line in wanted)
+        yield f"how many {what} have a fault", None if wrong > len(contents) / 2 else f"they are {wrong}"
+    for row in rows:
+        # A set that is refused as a column may be right.
+        right = row["fault"].startswith("BadVersion") or finding(octets(row["bytes"])).startswith(f"fault {row['number']}: ")
+        yield f"the fault {row['fault']} of {row['bytes'][:40]}", None if right else finding(octets(row["bytes"]))
+
+
+def asking(program):
+    for (what, values), kind in itertools.product(SAMPLES.items(), KINDS):
+        if disorder(kind, values) is None:
+            content = packed(kind, values)
+            name = program.write("asked", content)
+            for number, ((verb, *words), answer) in enumerate(asked(kind, values)):
+                file, given = ("-", content) if number % 3 == 0 else (name, b"")
+                why = program.differs((0 if answer else 1, text_of(answer)), verb, file, *words, given=given)
+                yield f"{verb} {words} of {what}, {kind}", why
+            text = f"asked: there is no position {len(values)}: it has {len(values)} numbers"
+            yield f"a position after {what}, {kind}", program.fails(text, "get", name, *[0][: len(values)], len(values))
+    program.write("plain", packed("plain", [3, 1]))
+    yield "a search in a plain column", program.fails("plain: the column is plain", "seek", "plain", "2")
 
 
 def combining(program):
-    """What all of some lists have, any of them, or the first alone, in lists of any kinds and packers."""
-    chance = random.Random(3)
-    makers = [(lanes, kind, version) for lanes in LANES for kind in (1, 2) for version in (2, 3, 4)]
-    for number in range(40):
-        count, most = 1 + number % 6, [30, 3000, 30_000, 2**32][number % 4]
+    """What all sets have, any of them, the first alone, or an odd number of them."""
+    chance, operations = random.Random(3), {"and": operator.and_, "or": operator.or_, "not": operator.sub, "xor": operator.xor}
+    for number in range(24):
+        count, most = 2 + number % 5, [30, 3000, 300_000, 2**32][number % 4]
         sets = [{chance.randrange(most) for _ in range(chance.choice([0, 3, 300, 2000]))} for _ in range(count)]
-        names = []
-        for place, values in enumerate(sets):
-            lanes, kind, version = chance.choice(makers)
-            repeated = sorted([*values, *([value for value in values if value % 3 == 0] if kind == 1 else [])])
-            names.append(program.write(f"set{place}", MODEL[f"encode{version}"](lanes, kind, repeated)))
-        answers = {"and": set.intersection(*sets), "or": set.union(*sets), "not": sets[0].difference(*sets[1:])}
-        for command, values in answers.items():
-            lanes = chance.choice(LANES)
-            words = ["--packer", f"{lanes}x"] if lanes != 4 else []
-            wanted = (0 if values else 1, packed(lanes, 2, sorted(values)))
-            yield f"{command} of {count} sets below {most}", program.differs(wanted, command, *words, *names)
-        with open(f"{program.folder}/set0", "rb") as file:
-            wanted = 0 if answers["and"] else 1, packed(4, 2, sorted(answers["and"]))
-            yield f"and with standard input, of {count}", program.differs(wanted, "and", *names[1:], "-", given=file.read())
+        names = [program.write(f"set{position}", packed("set", sorted(ids))) for position, ids in enumerate(sets)]
+        for verb, operation in operations.items():
+            ids = sorted(functools.reduce(operation, sets))
+            status, given = 0 if ids else 1, packed("set", sorted(sets[1]))
+            for form, wanted in ("", packed("set", ids)), ("--text", text_of(ids)), ("--count", f"{len(ids)}\n".encode()):
+                name = f"{verb} {form} of {count} sets below {most}"
+                yield name, program.differs((status, wanted), verb, *form.split(), names[0], "-", *names[2:], given=given)
+                why = program.differs((status, b""), verb, *form.split(), *names, "--output", "out")
+                with open(f"{program.folder}/out", "rb") as file:
+                    yield f"{name}, to a file", why or (None if file.read() == wanted else "it has other bytes")
 
 
-def refusals(program):
-    """Calls that are refused, each with what is said: words, standard input, and the message."""
-    program.write("plain", packed(4, 0, [3, 1]))
-    program.write("strict", packed(4, 2, [1, 3]))
-    program.write("cut", packed(4, 2, [1, 3])[:-1])
+def wrong(program):
+    """Wrong calls and numbers."""
+    for call, what in [re.fullmatch("(.{30})(.*)", line).groups() for line in WRONG_CALLS[1:-1].split("\n")]:
+        verb, *words = shlex.split(call) or [""]
+        usage = f"the usage is {HELPS[verb].splitlines()[0]}" if verb in VERBS else "see numbers --help"
+        yield f"the call {call}", program.fails(f"{what}: {usage}", *([verb] if call.strip() else []), *words)
+    for verb, option in itertools.product(VERBS, ["--all", "-5", "--"[:1] + "x"]):
+        text = f"unknown option {option}: the usage is {HELPS[verb].splitlines()[0]}"
+        yield f"{verb} {option}", program.fails(text, verb, "set", option, "set")
+    for given, line, word in WRONG_NUMBERS:
+        text = f"standard input: line {line}: '{word}' is not a number from 0 to 4294967295"
+        yield f"the numbers {given[-20:]}", program.fails(text, "pack", given=given)
+    for size in 1, 2, 3:
+        text = f"standard input: the last number has {size} bytes of 4"
+        yield f"{size} bytes more", program.fails(text, "pack", "--binary", given=bytes(4 + size))
     program.write("long", b"")
     os.truncate(f"{program.folder}/long", 4 * (2**28 + 1))
-    cut = f"no list: fault {FAULTS['Short']}: {TEXTS['Short']}"
-    usages = ["", "seek", "pack --all", "pack --kind", "pack --kind none", "pack --packer 2x", "pack --packer", "pack a b", "unpack a b"]
-    usages += ["unpack --kind plain", "show a b", "show --binary", "check", "check --binary a", "and", "or", "not", "and --kind strict a"]
-    for words in usages:
-        yield words.split(), b"", USAGE
-    for text, message in {
-        b"7 x": "line 1: 'x' is no digit, space or line end",
-        b"7\n8\n-9": "line 3: '-' is no digit, space or line end",
-        b"7\n\n1.5\n": "line 3: '.' is no digit, space or line end",
-        b"\xC3\xA9": "line 1: '\\xc3' is no digit, space or line end",
-        b"4294967295\n4294967296": "line 2: a number is above 4294967295",
-        b"99999999999999999999999999999": "line 1: a number is above 4294967295",
-    }.items():
-        yield ["pack"], text, f"standard input: {message}"
-    for size in 1, 2, 3:
-        yield ["pack", "--binary"], bytes(4 + size), f"standard input: the last number has {size} bytes of 4"
-    for kind, text, position, after in ("strict", b"3 5 5 2", 2, 5), ("sorted", b"3 5 5 2", 3, 2), ("strict", b"1 0", 1, 0):
-        before = text.split()[position - 1].decode()
-        message = f"the value at position {position} is out of order: {after} comes after {before}"
-        yield ["pack", "--kind", kind], text, f"standard input: {message}"
-    yield ["pack", "--binary", "long"], b"", "long: there are more than 268435456 numbers, which no list has"
-    for words in ["pack"], ["unpack"], ["show"], ["and", "strict"]:
-        yield [*words, "nowhere"], b"", "nowhere: No such file or directory (os error 2)"
-        yield [*words, "."], b"", ".: Is a directory (os error 21)"
-        if words != ["pack"]:
-            yield [*words, "cut"], b"", f"cut: {cut}"
-            yield [*words, "-"], b"", f"standard input: {cut}"
-    for command in "and", "or", "not":
-        yield [command, "strict", "plain"], b"", "plain: the list is plain, and so has no order"
+    yield "too many numbers", program.fails("long: there are more than 268435456 numbers", "pack", "--binary", "long")
 
 
-def refusing(program):
-    for words, given, message in refusals(program):
-        answer, wanted = program.run(*words, given=given), (2, b"", f"numbers: {message}\n")
-        yield f"refusing {words} for {given[:20]}", None if answer == wanted else f"answered {answer}, and not {wanted}"
-    status, printed, messages = program.run("check", "cut", "nowhere", "strict", ".")
-    wanted = f"cut: {finding(packed(4, 2, [1, 3])[:-1])}\nstrict: a list of 2 values\n"
-    errors = "numbers: nowhere: No such file or directory (os error 2)\nnumbers: .: Is a directory (os error 21)\n"
-    right = (status, printed.decode(), messages) == (2, wanted, errors)
-    yield "checking what is not there", None if right else f"answered {status} {printed} {messages}"
-    status, printed, messages = program.run("--help")
-    yield "--help", None if status == 0 and printed.startswith(b"Packs files of numbers") and not messages else f"{status} {messages}"
-    with open("/dev/full", "wb") as full:
-        for words in ["pack"], ["show", "strict"], ["unpack", "strict"]:
-            status, _, messages = program.run(*words, stdout=full)
-            right = (status, messages) == (2, "numbers: standard output: No space left on device (os error 28)\n")
-            yield f"{words} to a full disk", None if right else f"it ends with {status}, and says {messages}"
-    ours, theirs = os.pipe()
+def refused(program):
+    """Files that are not there, not right, or columns; standard output that is full, or has no reader any more."""
+    content = packed("set", [1, 3])
+    for name, bytes_of in {"set": content, "cut": content[:-1], "column": packed("sorted", [1, 3])}.items():
+        program.write(name, bytes_of)
+    whats = {"nowhere": MISSING, ".": "Is a directory (os error 21)", "cut": finding(content[:-1])}
+    for call, (name, what) in itertools.product(
+        ["pack @", "unpack @", "show @", "get @ 0", "between @ 0 1", "and set @", "xor @ set"], whats.items()
+    ):
+        if (call, name) != ("pack @", "cut"):
+            yield f"{call} of {name}", program.fails(f"{name}: {what}", *call.replace("@", name).split())
+    for verb in "and", "or", "not", "xor":
+        yield f"{verb} of a column", program.fails("column: it is a column, not a set", verb, "set", "column")
+    line, cut = f"set: {description('set', content, [1, 3])}\n", f"cut: {finding(content[:-1])}\n"
+    wanted = 2, (cut + line).encode(), f"numbers: nowhere: {MISSING}\n"
+    yield "checking what is not there", program.differs(wanted, "check", "cut", "nowhere", "set")
+    yield "showing what is cut", program.differs((2, line.encode(), f"numbers: {cut}"), "show", "cut", "set")
+    full, (ours, theirs) = os.open("/dev/full", os.O_WRONLY), os.pipe()
     os.close(ours)
-    status, _, messages = program.run("unpack", "strict", stdout=theirs)
+    for call in "pack", "show set", "unpack set", "and set set", "--help":
+        text = "numbers: standard output: No space left on device (os error 28)\n"
+        yield f"{call} to a full disk", program.differs((2, None, text), *call.split(), stdout=full)
+        yield f"{call} to a reader that has ended", program.differs((2, None), *call.split(), stdout=theirs)
+    os.close(full)
     os.close(theirs)
-    yield "a reader that has ended", None if (status, messages) == (2, "") else f"it ends with {status}, and says {messages}"
+
+
+def limited():
+    """Before a program begins: it can write files of 1000 bytes."""
+    resource.setrlimit(resource.RLIMIT_FSIZE, (1000, 1000))
+
+
+def left():
+    """Before a program begins: a run with its number was killed, and left its file."""
+    os.close(os.open(f".numbers-{os.getpid()}", os.O_CREAT | os.O_EXCL))
+
+
+def device(path):
+    """Makes a device as /dev/null is one, which a wrong program would replace if the root user runs it. A user who may make no device gets a pipe."""
+    try:
+        os.mknod(path, stat.S_IFCHR | 0o600, os.makedev(1, 3))
+    except PermissionError:
+        os.mkfifo(path)
+
+
+def state(folder):
+    """What the names of a folder are: modes, and what files have."""
+    found = {entry.name: (entry.stat(follow_symlinks=False).st_mode, None) for entry in os.scandir(folder)}
+    for name in [name for name, (mode, _) in found.items() if stat.S_ISREG(mode)]:
+        with open(f"{folder}/{name}", "rb") as file:
+            found[name] = found[name][0], file.read()
+    return found
+
+
+def output_cases():
+    """Calls, the name of the file that they write, its bytes or why they fail, and how they run."""
+    content, many, full = packed("set", [7, 9, 10, 300]), text_of(SAMPLES["many"]), {"preexec_fn": limited, "restore_signals": False}
+    yield "pack --output new", "new", content, {}
+    yield "pack --output new --output old", "old", content, {}
+    yield "pack --output -", "-", content, {}
+    yield "pack --binary own --output own", "own", bytes.fromhex("42 01 02 02"), {}
+    yield "unpack ../many --output old", "old", many, {"preexec_fn": left}
+    for name in "link", "dangling", "fifo", "device", "folder", ".", "folder/..":
+        yield f"pack --output {name}", name, "it is not a regular file, and is not replaced", {}
+    yield "pack --output nowhere/new", "nowhere/new", MISSING, {}
+    yield "pack --output ''", "", MISSING, {}
+    yield "pack --output old/new", "old/new", "Not a directory (os error 20)", {}
+    yield "pack --binary old --output old", "old", "the last number has 2 bytes of 4", {}
+    yield "unpack ../many --output old", "old", "File too large (os error 27)", full
+    yield "pack --as plain ../text --output old", "old", "File too large (os error 27)", full
+
+
+def outputs(program):
+    """What --output replaces, and what it leaves as it was."""
+    program.write("many", packed("plain", SAMPLES["many"]))
+    program.write("text", text_of(SAMPLES["many"]))
+    mask = os.umask(0o027)
+    for number, (call, name, wanted, how) in enumerate(output_cases()):
+        folder = f"{program.folder}/case{number}"
+        os.mkdir(folder)
+        program.write(f"case{number}/old", b"what was there")
+        program.write(f"case{number}/own", binary_of([3, 1]))
+        os.chmod(f"{folder}/old", 0o604)
+        os.symlink("old", f"{folder}/link")
+        os.symlink("nowhere", f"{folder}/dangling")
+        os.mkfifo(f"{folder}/fifo")
+        os.mkdir(f"{folder}/folder")
+        device(f"{folder}/device")
+        before = state(folder)
+        how, fails = {"cwd": folder, "given": b"7 9 10 300", **how}, isinstance(wanted, str)
+        answer = (2, b"", f"numbers: {name}: {wanted}\n") if fails else (0, wanted if name == "-" else b"")
+        why = program.differs(answer, *shlex.split(call), **how)
+        after = state(folder)
+        # The file of the run that was killed is there, and no other.
+        beside = [name for name in after if name.startswith(".numbers-") and how.get("preexec_fn") is left]
+        is_one = [after.pop(name)[1] for name in beside] == ([b""] if how.get("preexec_fn") is left else [])
+        right = before if fails or name == "-" else before | {name: (before.get(name, (stat.S_IFREG | 0o640,))[0], wanted)}
+        yield call, why or (None if after == right and is_one else f"there are {beside} and {after}, and not {right}")
+    os.umask(mask)
 
 
 def slowly(program, *words, given=b"", pieces=1):
     """What a terminal shows for messages while a program gets its input in pieces, each half a second late, and gives its output to a reader
-    that waits so long."""
+    that waits as long."""
     terminal = Terminal()
     how = {"stdin": subprocess.PIPE, "stdout": subprocess.PIPE, "stderr": terminal.theirs, "cwd": program.folder}
     with subprocess.Popen([program.path, *words], **how) as ran:
@@ -337,44 +331,40 @@ def on_terminal(program):
     except OSError as error:
         leave_out("the bar of numbers", f"since there is no terminal: {error}")
         return
-    status, _, messages = program.run("pack", given=b"7", stdout=terminal.theirs)
-    right = (status, messages) == (2, "numbers: standard output is a terminal, and bytes would be written: add > FILE\n")
-    shown = terminal.end()
-    yield "a list to a terminal", None if right and shown == b"" else f"it ends with {status}, and says {messages}, and shows {shown}"
+    refusal = "numbers: standard output is a terminal, and bytes would be written: add > FILE\n"
+    for call in "pack", "unpack --binary set", "and set set":
+        yield f"{call} to a terminal", program.differs((2, None, refusal), *call.split(), given=b"7", stdout=terminal.theirs)
+    for call in "unpack set", "and --text set set", "or --count set set":
+        yield f"{call} to a terminal", program.differs((0, None), *call.split(), stdout=terminal.theirs)
     values = SAMPLES["many"] * 10
-    name = program.write("many", packed(4, 0, values))
-    status, printed, shown = slowly(program, "unpack", name)
-    bars = re.findall(rb"\r\[(#*) *\] +(\d+) %", shown)
-    right = (status, printed) == (0, text_of(values)) and shown.endswith(b"\r\x1b[K")
-    right = (
-        right and bars and all(len(bar) == int(part) * 40 // 100 for bar, part in bars) and bars == sorted(bars, key=lambda it: int(it[1]))
-    )
-    yield "a bar while numbers are written", None if right and bars[-1][1] == b"100" else f"it ends with {status}, and shows {shown}"
-    status, printed, shown = slowly(program, "pack", "--binary", given=binary_of(values), pieces=4)
-    right = (status, printed) == (0, packed(4, 0, values)) and re.search(rb"\r\d+ KiB\r", shown) and shown.endswith(b"\r\x1b[K")
-    yield "how much was read of a pipe", None if right else f"it ends with {status}, and shows {shown}"
-    terminal = Terminal()
-    program.run("unpack", name, stderr=terminal.theirs)
+    name = program.write("many", packed("plain", values))
+    yield "short work", program.differs((0, text_of(values), ""), "unpack", name, stderr=terminal.theirs)
     shown = terminal.end()
-    yield "short work", None if shown == b"" else f"it shows {shown}"
+    # A terminal ends lines with both signs.
+    yield "what a terminal shows", None if shown == b"1\r\n3\r\n1\r\n3\r\n2\r\n" else f"it shows {shown}"
+    status, printed, shown = slowly(program, "unpack", name)
+    bars = [(len(bar), int(part)) for bar, part in re.findall(rb"\r\[(#*) *\] +(\d+) %", shown)]
+    right = (status, printed) == (0, text_of(values)) and shown.endswith(b"\r\x1b[K")
+    right = right and bars and all(length == part * 40 // 100 for length, part in bars) and bars == sorted(bars) and bars[-1][1] == 100
+    yield "a bar while numbers are written", None if right else f"it ends with {status}, and shows {shown}"
+    status, printed, shown = slowly(program, "pack", "--binary", given=binary_of(values), pieces=4)
+    right = (status, printed) == (0, packed("plain", values)) and re.search(rb"\r\d+ KiB\r", shown) and shown.endswith(b"\r\x1b[K")
+    yield "how much was read of a pipe", None if right else f"it ends with {status}, and shows {shown}"
 
 
 def checks():
+    lines = [source(os.path.relpath(path, ROOT)).count("\n") for path in glob.glob(f"{ROOT}/{FOLDER}/src/*.rs")]
+    yield "the lines of the program", None if sum(lines) <= MOST_LINES and max(lines) < MOST_LINES_OF_FILE else f"they are {lines}"
     with tempfile.TemporaryDirectory(prefix="numbers-") as folder:
         program = Program(folder)
-        built = program.built
-        yield "the program", None if built.returncode == 0 else f"{built.stdout[-2000:]} {built.stderr[-2000:]}"
-        if built.returncode != 0:
-            return
-        lines = sum(source(os.path.relpath(path, ROOT)).count("\n") for path in glob.glob(f"{ROOT}/{FOLDER}/src/*.rs"))
-        yield "the lines of the program", None if lines < MOST_LINES else f"there are {lines}"
-        for part in of_page, packing, tables, checking, combining, refusing, on_terminal:
-            yield from part(program)
+        yield from of_page(program)
+        if os.path.exists(program.path):
+            for part in helping, packing, texts, tables, checking, asking, combining, wrong, refused, outputs, on_terminal:
+                yield from part(program)
 
 
 def main():
-    status = archives.status_without("the command for files of numbers", "cc", "cargo")
-    return report(checks()) if status is None else status
+    return 0 if left_out_without("the command for files of numbers", "cargo", "cc") else report(checks())
 
 
 if __name__ == "__main__":

@@ -1,14 +1,13 @@
 #!/usr/bin/env python3
 """Tests scripts/build/install.py with a folder of its own for PREFIX, and scripts/build/bundle.py with programs in C and Rust outside the
-repository, and with the Python package, that are built from the unpacked bundle. One of the programs gets `bitpacking` through another crate,
-which asks for 0.9 of crates.io with one of its features, and takes the crate of the bundle by `[patch.crates-io]`. Nothing is fetched: the
-folder of cargo is empty. Each program has to fail if another output is wanted. A small program is linked with the flag of docs/C.md, by which
-the linker leaves out what is not called. The last line is 'N passed, M failed'; a part that is left out for want of a tool is named.
+repository, and with the Python package, that are built from the unpacked bundle. One of the programs gets `bitpacking` through another crate, as
+in scripts/test/rust.py. Nothing is fetched: the folder of cargo is empty. Each program has to fail if another output is wanted. A small program is
+linked with the flag of docs/C.md, by which the linker leaves out what is not called. The last line is 'N passed, M failed'; a part that is left out
+for want of a tool is named.
 """
 import ctypes
 import os
 import re
-import subprocess
 import sys
 import tarfile
 import tempfile
@@ -48,41 +47,6 @@ HELLO_PRINTS = "4 ids, the last 300\n"
 # The linker leaves out what is not called, by this flag of docs/C.md. Over the archive of this level that program then has fewer bytes, and
 # examples/list.c over the archive for all levels.
 LEAVES_OUT, SMALL_LEVEL, SMALL = "-Wl,--gc-sections", "x86-64-v3", 600_000
-
-# A program that gets the crate through another one, in one file for each: its path and its text.
-THROUGH_ANOTHER = {
-    "Cargo.toml": """[package]
-name = "through_another"
-version = "0.0.0"
-edition = "2021"
-
-[dependencies]
-another = {{ path = "another" }}
-
-[patch.crates-io]
-bitpacking = {{ path = "{crate}" }}
-""",
-    "src/main.rs": 'fn main() {{\n    println!("{{}} ids in {{}} bytes", another::BLOCK_LEN, another::size());\n}}\n',
-    "another/Cargo.toml": """[package]
-name = "another"
-version = "0.0.0"
-edition = "2021"
-
-[dependencies]
-bitpacking = {{ version = "0.9", default-features = false, features = ["bitpacker4x"] }}
-""",
-    "another/src/lib.rs": """use bitpacking::{{BitPacker, BitPacker4x}};
-
-pub const BLOCK_LEN: usize = BitPacker4x::BLOCK_LEN;
-
-pub fn size() -> usize {{
-    let ids: Vec<u32> = (0..BLOCK_LEN as u32).map(|k| 3 * k).collect();
-    let mut bytes = [0; 4 * BLOCK_LEN];
-    let packer = BitPacker4x::new();
-    packer.compress_sorted(0, &ids, &mut bytes, packer.num_bits_sorted(0, &ids))
-}}
-""",
-}
 
 
 def listed(folder):
@@ -180,6 +144,8 @@ def installed(folder):
         env = dict(os.environ, PKG_CONFIG_PATH=f"{prefix}/lib/pkgconfig")
         asked = run("pkg-config", "--modversion", "bitpacking", env=env)
         yield "the version that pkg-config tells", None if asked.stdout == f"{version()}\n" else f"it is {asked.stdout}"
+        asked = run("pkg-config", "--variable=compiler", "bitpacking", env=env)
+        yield "the compiler that pkg-config tells", None if asked.stdout == "rattle\n" else f"it is {asked.stdout}"
         asked = run("pkg-config", "--cflags", "--libs", "bitpacking", env=env)
         for program in EXAMPLES:
             command = ["cc", "-std=c99", f"{ROOT}/{program}", *asked.stdout.split()]
@@ -202,7 +168,7 @@ def installed(folder):
 
 def small(folder):
     """Whether the linker leaves out what programs do not call, and one still works: each check as a name and what is wrong, or None."""
-    written(folder, {"hello.c": HELLO})
+    rust.written(folder, {"hello.c": HELLO})
     command, whole = ["cc", "-std=c99", "-O2", "-s", f"-I{ROOT}/include"], f"{archives.OUT}/{archives.ALL}"
     for program, archive in [f"{folder}/hello.c", archives.archive(SMALL_LEVEL)], [f"{ROOT}/examples/list.c", whole]:
         sizes = []
@@ -214,21 +180,6 @@ def small(folder):
     yield "the flag that leaves out", None if LEAVES_OUT in source("docs/C.md") else "docs/C.md does not name it"
     command += [f"{folder}/hello.c", whole, LEAVES_OUT]
     yield "a program for all levels with the flag", built_and_run(command, "hello.c", HELLO_PRINTS)
-
-
-def cargo_run(folder, wanted, *words):
-    """What is wrong with a Rust program that gets these words, or None."""
-    env = dict(os.environ, CARGO_TARGET_DIR=f"{folder}/target", CARGO_HOME=f"{folder}/cargo")
-    env.pop("BITPACKING_ARCHIVES", None)
-    done = run("cargo", "run", "--quiet", "--offline", "--", *words, folder=folder, env=env, stderr=subprocess.PIPE)
-    return None if done.stdout == wanted else f"it printed {done.stdout}{done.stderr[-2000:]}"
-
-
-def written(folder, texts):
-    for path, text in texts.items():
-        os.makedirs(os.path.dirname(f"{folder}/{path}"), exist_ok=True)
-        with open(f"{folder}/{path}", "w", encoding="utf-8") as file:
-            file.write(text)
 
 
 def are_same(folder):
@@ -270,11 +221,7 @@ def unpacked(folder):
         file.extractall(folder)
     top = f"{folder}/{bundle.name_of(PROCESSOR)}"
     found = {os.path.relpath(path, f"{top}/rust/out") for path in listed(f"{top}/rust/out") if path.endswith(".a")}
-    wanted = {
-        archives.ALL,
-        *(f"libbitpacking_{prefix}.a" for prefix in archives.LEVELS),
-        *(f"{it}/{archives.ALL}" for it in archives.LEVELS.values()),
-    }
+    wanted = {archives.ALL, *(f"{it}/{archives.ALL}" for it in archives.LEVELS.values())}
     yield "the archives of the bundle", None if found == wanted else f"they differ in {sorted(found ^ wanted)}"
     yield "the links of the bundle's pages", ", ".join(dead_links(top)) or None
     yield "an installation from the bundle", installed_from(top, folder)
@@ -289,19 +236,17 @@ def unpacked(folder):
     if missing("cargo"):
         leave_out("Rust programs from the bundle", "since there is no cargo")
         return
-    name, wanted = next(iter(rust.EXAMPLES.items()))
-    manifest = f'[package]\nname = "it"\nversion = "0.0.0"\nedition = "2021"\n\n[dependencies]\nbitpacking = {{ path = "{top}/rust" }}\n'
-    with open(f"{top}/rust/examples/{name}.rs", encoding="utf-8") as file:
-        written(f"{folder}/it", {"Cargo.toml": manifest, "src/main.rs": file.read()})
-    yield "a Rust program from the bundle", cargo_run(f"{folder}/it", wanted)
-    yield "another output of a Rust program", is_refused(cargo_run(f"{folder}/it", c.miscounted(wanted)), wanted)
-    # Plain, 3 and 1, in one lane.
-    written(folder, {"list": "B\3\1\1"})
-    command = cargo_run(f"{top}/examples/numbers", f"{folder}/list: a list of 2 values\n", "check", f"{folder}/list")
+    checked = rust.called("check", "--offline", "--locked", "--package", "bitpacking_c", folder=top, CARGO_TARGET_DIR=f"{folder}/target")
+    yield "the sources of the library for C by cargo in the bundle", rust.wrong(checked)
+    rust.program(f"{folder}/it", f'{{ path = "{top}" }}')
+    yield from rust.depends(f"{folder}/it")
+    # Of docs/FORMAT.md: 7, 9, 10 and 300.
+    with open(f"{folder}/ids", "wb") as file:
+        file.write(bytes.fromhex("84070901008404"))
+    wanted = f"{folder}/ids: set, 4 numbers in 7 bytes, 14.00 bits a number, from 7 to 300\n"
+    command = rust.ran(f"{top}/examples/numbers", wanted, "check", f"{folder}/ids")
     yield "the command for files of numbers from the bundle", command
-    written(f"{folder}/through", {path: text.format(crate=f"{top}/rust") for path, text in THROUGH_ANOTHER.items()})
-    # Differences of 3 but for the first: two bits each, and so 2 * 16 bytes.
-    yield "a crate that asks for 0.9 of crates.io", cargo_run(f"{folder}/through", "128 ids in 32 bytes\n")
+    yield "a crate that asks for 0.9 of crates.io", rust.through_another(f"{folder}/through", top)
 
 
 def checks():

@@ -29,18 +29,21 @@ ALONE = 40
 WRONG = [
     (
         "a block with the bound of the last score and lower documents is passed",
-        ("least), low))", "least), UINT32_MAX))"),
-        ("bound, low)", "bound, u32::MAX)"),
+        ("block > 0 ? t->lasts[block - 1] + 1 : 0))", "UINT32_MAX))"),
+        ("self.beats(score, first)", "self.beats(score, u32::MAX)"),
     ),
     (
-        "a bound is of the last value",
-        ("block, &other, &most);", "block, &other, &most), bitpacking_list_get(&t->counts, BLOCK * block + BLOCK - 1, &most);"),
-        ("its.of_rest, |bounds| bounds.1", "its.of_rest, |_| its.counts.get(BLOCK * block + BLOCK - 1).unwrap_or(0)"),
+        "a bound is that of another block",
+        ("bitpacking_column_range(blocks, whole, t.greatest, whole);", "bitpacking_column_range(counts, 0, t.greatest, whole);"),
+        (
+            "lasts.split_off(documents.len() / BLOCK);",
+            "lasts.split_off(documents.len() / BLOCK).into_iter().map(|_| 1).collect::<Vec<_>>();",
+        ),
     ),
     (
-        "a word without a block is left out",
-        ("find(r, t, document) ?", "t->blocks && find(r, t, document) ?"),
-        ("if its.find", "if its.counts.block_count() > 0 && its.find"),
+        "the last document of a block is looked up in the next one",
+        ("t->lasts[t->block] < document", "t->lasts[t->block] <= document"),
+        ("|&last| last < document", "|&last| last <= document"),
     ),
     (
         "of equal scores the first that comes is better",
@@ -54,18 +57,23 @@ WRONG = [
     ),
     (
         "a score is added up in another order",
-        ("score += r->parts[i]", "score += r->parts[r->order[i]]"),
-        ("self.parts.iter().fold(0.0, |sum, part| sum + part)", "self.order.iter().fold(0.0, |sum, &term| sum + self.parts[term])"),
+        ("score += r->parts[i]", "score += r->parts[r->terms.items[i].place]"),
+        ("self.parts.iter().fold(0.0, |sum, part| sum + part)", "self.terms.iter().fold(0.0, |sum, term| sum + self.parts[term.place])"),
     ),
     (
-        "a document that was seen comes again",
-        ("i != own && find", "i != own && 0 && find"),
-        ("|| self.terms[self.order[i]].find(document)?", "|| false"),
+        "a document that was added comes again",
+        ("if (r->best[i].document == document)", "if (0 && r->best[i].document == document)"),
+        (" && self.best.iter().all(|&(_, its)| its != document)", ""),
     ),
     (
         "the bound of a rest is that of nothing",
-        ("most = t->of_rest, other", "most = 0, other"),
-        ("map_or(its.of_rest, |bounds|", "map_or(0, |bounds|"),
+        ("t.greatest[whole] = greatest_of", "t.greatest[whole] = 0 * greatest_of"),
+        ("greatest.extend(rest[..len].iter().max())", "greatest.push(0)"),
+    ),
+    (
+        "the first block that is looked up is taken for the others",
+        ("if (t->counted != t->block)", "if (t->counted == SIZE_MAX)"),
+        ("let start = self.block * BLOCK;", "let start = 0;"),
     ),
 ]
 
@@ -147,6 +155,9 @@ def queries(model):
     made = [(query(chance, words), chance.choice([1, 2, 10, 10, 10, 25, 999])) for _ in range(QUERIES)]
     tied = [(f"{one} | {other}", [one, other]) for one, other in (["ant", "bee"], ["bee", "ant"]) for _ in range(3)]
     made += [((text, both, lambda counts: "ant" in counts or "bee" in counts), room) for (text, both), room in zip(tied, [1, 10, 25] * 2)]
+    many = [[word for word in words if word != "elm"] * 4 + ["elm"] * extra for extra in (0, 1)]
+    many += [words[:8] * 4 + ["sea"] * extra for extra in (0, 1)]  # 32 terms, which are ranked without reading all, and 33
+    made += [((" | ".join(terms), terms, lambda counts, terms=terms: any(it in counts for it in terms)), 10) for terms in many]
     return [(text, room, model.best(counted, answers, room)) for (text, counted, answers), room in made]
 
 
@@ -175,10 +186,16 @@ def wrong_programs(programs):
     for path in f"{folder}/best.c", f"{folder}/rust/src/best.rs":
         with open(path, encoding="utf-8") as file:
             right[path] = file.read()
-    with open(f"{folder}/rust/Cargo.toml", encoding="utf-8") as file:
-        manifest = file.read().replace('path = "../../../rust"', f'path = "{ROOT}/rust"')
-    with open(f"{folder}/rust/Cargo.toml", "w", encoding="utf-8") as file:
-        file.write(manifest)
+    # A package of another name is built beside the right one, over the same library.
+    for path, old, new in [
+        ("Cargo.toml", 'name = "search"', 'name = "wrong_search"'),
+        ("Cargo.toml", 'path = "../../.."', f'path = "{ROOT}"'),
+        ("src/main.rs", "mod best;", "#![allow(warnings)]\nmod best;"),
+    ]:
+        with open(f"{folder}/rust/{path}", encoding="utf-8") as file:
+            text = file.read().replace(old, new)
+        with open(f"{folder}/rust/{path}", "w", encoding="utf-8") as file:
+            file.write(text)
     build = {
         "c": [
             *c.C99,
@@ -194,10 +211,10 @@ def wrong_programs(programs):
     for what, *changes in WRONG:
         for (language, command), (path, text), (old, new) in zip(build.items(), right.items(), changes):
             name = f"wrong {language}"
-            programs.paths[name] = f"{folder}/search" if language == "c" else f"{folder}/target/release/search"
+            programs.paths[name] = f"{folder}/search" if language == "c" else f"{archives.OUT}/target/release/wrong_search"
             with open(path, "w", encoding="utf-8") as file:
                 file.write(text.replace(old, new))
-            built = run(*command, env=dict(os.environ, CARGO_TARGET_DIR=f"{folder}/target", RUSTFLAGS="-A warnings"))
+            built = run(*command, env=dict(os.environ, CARGO_TARGET_DIR=f"{archives.OUT}/target", RUSTFLAGS="-D warnings"))
             why = None if built.returncode == 0 and text.count(old) == 1 else f"it is not built: {built.stdout[-2000:]}"
             yield what, name, why
             with open(path, "w", encoding="utf-8") as file:
@@ -206,7 +223,7 @@ def wrong_programs(programs):
 
 
 def skipped(programs):
-    """How many blocks a ranking unpacks, by hand. 512 paragraphs have a word, in 4 blocks: ten of 60 words 60 times, the others, of 2 words,
+    """How many counts a ranking reads, by hand. 512 paragraphs have a word, in 4 blocks: ten of 60 words 60 times, the others, of 2 words,
     once. The mean is (10 * 60 + 502 * 2) / 512 = 3.13 words. A part is 1 / (1 + 1.2 * (0.25 + 0.75 * 60 / 3.13) / 60) = 0.77 of the weight
     for the ten, and at most 1 / (1 + 1.2 * (0.25 + 0.75 * 2 / 3.13)) = 0.53 in the blocks after the first, which stay packed."""
     os.makedirs(f"{programs.folder}/skipped")
@@ -216,8 +233,8 @@ def skipped(programs):
     yield "an index of paragraphs to skip", wrong
     for name in programs.paths:
         status, _, messages = programs.run(name, "find", "--explain", "index.c", "w")
-        right = ["w: 512 documents in 4 blocks", "2 blocks unpacked to rank"]
-        yield f"the blocks that {name} unpacks", None if (status, messages.split("\n")[:2]) == (0, right) else f"said {messages}"
+        right = ["w: 512 documents in 4 blocks", "128 counts read to rank"]
+        yield f"the counts that {name} reads", None if (status, messages.split("\n")[:2]) == (0, right) else f"said {messages}"
 
 
 def checks(programs):

@@ -1,69 +1,256 @@
 #!/usr/bin/env python3
-"""Builds the crate in rust/ with warnings as errors, and runs its tests, the example of its page and the programs of rust/examples/. It
-takes the archives that scripts/build/archives.py wrote, and builds them where they are not there; nothing is fetched. Without archives
-`cargo check` and `cargo doc` have to work, and a build has to fail and say why. The last line is 'N passed, M failed', one for each test; a part that is left out
-for want of a tool is named.
+"""Tests the Rust crate, the package at the top of the repository, with warnings as errors:
+
+- its tests, the examples of its comments, and the programs of rust/examples/; clippy and rustdoc; the crate without the standard library;
+- what its package has, and that cargo can publish that and builds it alone;
+- programs outside the repository: one that takes the crate from a git repository, and is built of what `cargo vendor` wrote; one that gets it
+  through another crate, which asks for 0.9 of crates.io, by `[patch.crates-io]`; and one that packs a block, which has few bytes more than one that
+  does not.
+
+Nothing is fetched: the folder of cargo is empty. The last line is 'N passed, M failed'; a part that is left out for want of a tool is named.
 """
+import functools
 import os
 import re
 import subprocess
 import sys
+import tempfile
 
 sys.path.insert(1, f"{sys.path[0]}/..")
-from common import ROOT, report, run
+from common import ROOT, leave_out, left_out_without, missing, report, run, source
 import archives
+import by_cargo
 import c
+import unproved
 
+TARGET = f"{archives.OUT}/target"
 # The programs of rust/examples/ and what they print, worked by hand.
 EXAMPLES = {
     # Gaps of 3: two bits each, and so 2 * 16 bytes.
     "block": "128 ids in 32 bytes\n",
     # Gaps of 2 and 4 in turn: one less are 1 and 3, two bits each, and so 2 * 16 bytes for each block of 128.
     "posting_list": "300 numbers: [2, 2] bits, 64 bytes, 44 numbers as they are\n",
-    # The bytes are those of examples/list.c; 300 is at position 3.
-    "list": "4 ids in 7 bytes, from 100 on: Some((3, 300))\n",
-    "index": c.INDEX,
+    # The bytes are those of docs/FORMAT.md; 300 is at position 3.
+    "set": "4 ids in 7 bytes, from 100 on: Some((3, 300))\nin both: [9, 300]\n",
+    # 199 and 205 are below 210.
+    "column": "row 2: Some(205)\nrows below 210: [1, 2]\n",
+}
+PROGRAM = "block"
+# The tests that run under valgrind, by parts of their names.
+FILLING = ["column_reading", "column_searching", "column_appending", "set_combining::two_sets", "set_iter"]
+# What a package has of the repository, beside its manifest.
+PACKED = ["LICENSE", "docs/RUST.md", "crates/*/src", "rust/src", "rust/translate/src", "rust/examples"]
+MADE = {"Cargo.toml", "Cargo.toml.orig", "Cargo.lock", ".cargo_vcs_info.json"}
+MANIFEST = '[package]\nname = "it"\nversion = "0.0.0"\nedition = "2024"\n\n[dependencies]\nbitpacking = {}\n'
+# The most bytes that a program has more which packs a block, than one that prints a line.
+GROWS = 100_000
+PRINTS = 'fn main() {\n    println!("128 ids in {} bytes", std::env::args().count());\n}\n'
+# A program that gets the crate through another one, in one file for each: its path and its text.
+THROUGH_ANOTHER = {
+    "Cargo.toml": """[package]
+name = "through_another"
+version = "0.0.0"
+edition = "2021"
+
+[dependencies]
+another = {{ path = "another" }}
+
+[patch.crates-io]
+bitpacking = {{ path = "{crate}" }}
+""",
+    "src/main.rs": 'fn main() {{\n    println!("{{}} ids in {{}} bytes", another::BLOCK_LEN, another::size());\n}}\n',
+    "another/Cargo.toml": """[package]
+name = "another"
+version = "0.0.0"
+edition = "2021"
+
+[dependencies]
+bitpacking = {{ version = "0.9", default-features = false, features = ["bitpacker4x"] }}
+""",
+    "another/src/lib.rs": """use bitpacking::{{BitPacker, BitPacker4x}};
+
+pub const BLOCK_LEN: usize = BitPacker4x::BLOCK_LEN;
+
+pub fn size() -> usize {{
+    let ids: Vec<u32> = (0..BLOCK_LEN as u32).map(|k| 3 * k).collect();
+    let mut bytes = [0; 4 * BLOCK_LEN];
+    let packer = BitPacker4x::new();
+    packer.compress_sorted(0, &ids, &mut bytes, packer.num_bits_sorted(0, &ids))
+}}
+""",
 }
 
 
-def cargo(*arguments, package="rust", **variables):
-    env = dict(os.environ, CARGO_TARGET_DIR=f"{archives.OUT}/target", RUSTFLAGS="-D warnings", **variables)
-    command = ["cargo", arguments[0], "--offline", "--locked", "--manifest-path", f"{ROOT}/{package}/Cargo.toml", *arguments[1:]]
-    return run(*command, stderr=subprocess.PIPE, env=env)
+@functools.cache
+def home():
+    """The folder of cargo, which is empty at first."""
+    return tempfile.TemporaryDirectory(prefix="cargo-")
 
 
-def without_archives():
-    """Builds that lack archives, as a name, what cargo says, whether it has to work, and what it has to say."""
-    nowhere = {"BITPACKING_ARCHIVES": "/nowhere"}
-    missing = "there is no /nowhere/libbitpacking_v1.a: scripts/build/archives.py of the repository writes it"
-    yield "cargo check without archives", cargo("check", **nowhere), True, missing
-    yield "cargo doc without archives", cargo("doc", **nowhere), True, missing
-    yield "cargo build without archives", cargo("build", **nowhere), False, missing
-    relative = cargo("check", BITPACKING_ARCHIVES="out")
-    yield "archives by a relative path", relative, True, "BITPACKING_ARCHIVES is out, and has to be the full path of a folder"
-    other = "riscv64gc-unknown-linux-gnu"
-    yield "a build for another processor", cargo("build", "--target", other), False, f"there are none for {other}"
+def called(*words, folder=ROOT, **variables):
+    """Calls cargo in a folder."""
+    env = {**os.environ, "CARGO_HOME": home().name, **variables}
+    return run("cargo", *words, folder=folder, stderr=subprocess.PIPE, env=env)
 
 
-def checks():
-    tests = cargo("test", "--no-fail-fast")
-    results = re.findall(r"^test (.+) \.\.\. (.+)$", tests.stdout, re.M)
-    if tests.returncode != 0 or not results:
-        print(tests.stdout[-4000:], tests.stderr[-4000:])
-        yield "cargo test", f"it ended with {tests.returncode}"
+def cargo(word, *words, package=".", **variables):
+    """Calls cargo for a package of the repository."""
+    flags = {"CARGO_TARGET_DIR": TARGET, "RUSTFLAGS": "-D warnings", "RUSTDOCFLAGS": "-D warnings"}
+    return called(word, "--offline", "--locked", "--manifest-path", f"{ROOT}/{package}/Cargo.toml", *words, **flags | variables)
+
+
+def wrong(done):
+    """What cargo says if it failed, or None."""
+    return None if done.returncode == 0 else f"status {done.returncode}: {done.stdout[-2000:]}{done.stderr[-3000:]}"
+
+
+def printed(done, wanted):
+    """What is wrong with a program that cargo ran, or None."""
+    return None if done.returncode == 0 and done.stdout == wanted else f"it printed {done.stdout}{done.stderr[-3000:]}"
+
+
+def tests():
+    """Each test and each example of the crate as a name and what is wrong, or None."""
+    done = cargo("test", "--no-fail-fast")
+    results = re.findall(r"^test (.+) \.\.\. (.+)$", done.stdout, re.M)
+    if done.returncode != 0 or not results:
+        print(done.stdout[-4000:], done.stderr[-4000:])
+        yield "cargo test", f"it ended with {done.returncode}"
     for name, result in results:
         yield name, None if result == "ok" else result
     for name, wanted in EXAMPLES.items():
-        example = cargo("run", "--quiet", "--release", "--example", name)
-        yield f"rust/examples/{name}.rs", None if example.stdout == wanted else f"printed {example.stdout!r} {example.stderr[-2000:]}"
-    for name, done, works, text in without_archives():
-        right = (done.returncode == 0) == works and text in done.stderr
-        yield name, None if right else f"ended with {done.returncode} and said {done.stderr[-2000:]}"
+        yield f"rust/examples/{name}.rs", printed(cargo("run", "--quiet", "--example", name), wanted)
+    if missing("cargo-clippy"):
+        leave_out("clippy", "since there is no cargo-clippy")
+    else:
+        packages = ["--package", "bitpacking", "--package", "bitpacking_c"]
+        yield "cargo clippy", wrong(cargo("clippy", "--all-targets", *packages, "--", "-D", "warnings"))
+    yield "cargo doc", wrong(cargo("doc", "--no-deps"))
+    yield "the crate without the standard library", wrong(cargo("check", "--no-default-features"))
+
+
+def in_a_release():
+    """Tests in a release, whose indexes are not tested: deep trees of queries, and under valgrind, which tests each access to memory, those that
+    fill vectors and slices."""
+    done = cargo("test", "--profile", "quick", "--lib", "--no-run")
+    named = re.search(r"Executable .* \((.+)\)", done.stderr)
+    if not named:
+        yield "tests in a release", wrong(done) or f"no program is named: {done.stderr[-2000:]}"
+        return
+    program = os.path.join(ROOT, named[1])
+    yield "deep trees in a release", tested(run(program, "set_query"))
+    if missing("valgrind"):
+        leave_out("tests under valgrind", "since there is no valgrind")
+    else:
+        yield "tests under valgrind", tested(run("valgrind", "--quiet", "--error-exitcode=9", program, *FILLING))
+
+
+def tested(done):
+    """What is wrong with a program of tests, or None."""
+    passed = re.search(r"test result: ok\. [1-9]\d* passed", done.stdout)
+    return None if done.returncode == 0 and passed else done.stdout[-3000:]
+
+
+def tracked(path):
+    """The files of the package at a path of PACKED."""
+    ending = {"crates/*/src": ".rt"}.get(path, "")
+    return {it for it in run("git", "ls-files", f":(glob){path}/**", path).stdout.split() if it.endswith(ending)}
+
+
+def packed(folder):
+    """Each check of the package as a name and what is wrong, or None. Its index of crates is a folder."""
+    listed = cargo("package", "--allow-dirty", "--list")
+    found, wanted = set(listed.stdout.split()) - MADE, set().union(*map(tracked, PACKED))
+    right = listed.returncode == 0 and found == wanted
+    yield "the files of the package", None if right else f"they differ in {sorted(found ^ wanted)[:9]} {listed.stderr[-2000:]}"
+    written(f"{folder}/index", {"config.json": '{"dl": "file:///nowhere", "api": "file:///nowhere"}\n'})
+    committed(f"{folder}/index")
+    # What cargo builds of the package it would take for what it builds here.
+    flags = {"CARGO_TARGET_DIR": f"{folder}/target", "CARGO_REGISTRIES_LOCAL_INDEX": f"file://{folder}/index", "RUSTFLAGS": "-D warnings"}
+    done = called("publish", "--dry-run", "--allow-dirty", "--locked", "--registry", "local", **flags)
+    built = re.search(r"Verifying .*\n.*Compiling bitpacking .*\n.*Finished", done.stderr)
+    yield "cargo publish --dry-run", wrong(done) if done.returncode or built else f"it did not build the package: {done.stderr}"
+
+
+def written(folder, texts):
+    """Writes files into a folder: their paths and their texts."""
+    for path, text in texts.items():
+        os.makedirs(os.path.dirname(f"{folder}/{path}"), exist_ok=True)
+        with open(f"{folder}/{path}", "w", encoding="utf-8") as file:
+            file.write(text)
+
+
+def committed(folder):
+    """Makes a folder a git repository with one commit of all files."""
+    named = ["-c", "user.name=it", "-c", "user.email=it@nowhere"]
+    for words in ["init", "-q", "."], ["add", "--all"], [*named, "commit", "-q", "--no-gpg-sign", "-m", "All of it"]:
+        by_cargo.called("git", *words, folder=folder)
+
+
+def ran(folder, wanted, *words, **variables):
+    """What is wrong with a program in a folder that gets these words, or None."""
+    more = {"CARGO_TARGET_DIR": f"{folder}/target", **variables}
+    return printed(called("run", "--quiet", "--offline", "--", *words, folder=folder, **more), wanted)
+
+
+def depends(folder, **variables):
+    """The program in a folder, which is PROGRAM, as a name and what is wrong, or None. It has to fail if another output is wanted."""
+    yield f"{PROGRAM}.rs outside the repository", ran(folder, EXAMPLES[PROGRAM], **variables)
+    why = ran(folder, c.miscounted(EXAMPLES[PROGRAM]), **variables) or ""
+    yield f"another output of {PROGRAM}.rs", None if why.startswith(f"it printed {EXAMPLES[PROGRAM]}") else f"it does not fail so: {why}"
+
+
+def program(folder, dependency, more=""):
+    """Writes a package with PROGRAM over this crate."""
+    written(folder, {"Cargo.toml": MANIFEST.format(dependency) + more, "src/main.rs": source(f"rust/examples/{PROGRAM}.rs")})
+
+
+def through_another(folder, top):
+    """What is wrong with a program that gets the crate in a folder through another one, or None."""
+    written(folder, {path: text.format(crate=top) for path, text in THROUGH_ANOTHER.items()})
+    # Differences of 3 but for the first: two bits each, and so 2 * 16 bytes.
+    return ran(folder, "128 ids in 32 bytes\n")
+
+
+def vendored(folder):
+    """A program over a git repository of what git tracks here, as a name and what is wrong, or None."""
+    unproved.copied(f"{folder}/tracked")
+    committed(f"{folder}/tracked")
+    program(f"{folder}/it", f'{{ git = "file://{folder}/tracked" }}')
+    done = called("vendor", folder=f"{folder}/it")
+    yield "cargo vendor", wrong(done)
+    if done.returncode == 0:
+        written(f"{folder}/it", {".cargo/config.toml": done.stdout})
+        os.makedirs(f"{folder}/home")
+        yield from depends(f"{folder}/it", CARGO_HOME=f"{folder}/home")
+
+
+def small(folder):
+    """How many bytes a program that packs a block has more than one that packs nothing, as a name and what is wrong, or None."""
+    sizes = []
+    for prints in [True, False]:
+        program(folder, f'{{ path = "{ROOT}" }}', "\n[profile.release]\nstrip = true\n")
+        if prints:
+            written(folder, {"src/main.rs": PRINTS})
+        done = called("build", "--offline", "--release", folder=folder, CARGO_TARGET_DIR=f"{folder}/target")
+        if done.returncode != 0:
+            return wrong(done)
+        sizes.append(os.path.getsize(f"{folder}/target/release/it"))
+    return None if 0 < sizes[1] - sizes[0] < GROWS else f"it is {sizes[1]}, and without the block {sizes[0]}"
+
+
+def checks():
+    yield from tests()
+    yield from in_a_release()
+    with tempfile.TemporaryDirectory(prefix="rust-") as folder:
+        yield from packed(f"{folder}/packed")
+        yield from vendored(f"{folder}/vendored")
+        yield "a crate that asks for 0.9 of crates.io", through_another(f"{folder}/through", ROOT)
+        yield "the size of a program that packs a block", small(f"{folder}/small")
 
 
 def main():
-    status = archives.status_without("the Rust crate", "cargo", "cc")
-    return report(checks()) if status is None else status
+    return 0 if left_out_without("the Rust crate", "cargo", "cc", "git") else report(checks())
 
 
 if __name__ == "__main__":

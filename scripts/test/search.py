@@ -2,11 +2,12 @@
 """Builds the search engine of examples/search/ in Rust and in C, with warnings as errors, and tries both on the same files: their indexes
 have to be the same bytes, and their answers the same text. The answers on examples/search/corpus/ are compared with `grep`, others with
 numbers worked by hand, and the best documents with those of ranked.py. Last come a thousand damaged indexes, in C with the address sanitizer.
-It takes the archives that scripts/build/archives.py wrote, which is called where they are not there. The last line is 'N passed, M failed'.
+The program in C takes the archives that scripts/build/archives.py wrote, which is called where they are not there. The last line is 'N passed, M failed'.
 """
 import os
 import random
 import re
+import resource
 import struct
 import subprocess
 import sys
@@ -47,6 +48,15 @@ QUERIES = {
     "water zebra": lambda has: set(),
     "zebra | water -zeb*": lambda has: has("water"),
     "zebra": lambda has: set(),
+    # Signs end a word of a query as they do in documents, and a sign that is no part of a word says nothing.
+    "warm'water": lambda has: has("water") & has("warm"),
+    "caf\u00E9": lambda has: has("caf"),
+    "oven-clock | wi-fi": lambda has: (has("oven") & has("clock")) | (has("wi") & has("fi")),
+    "+water, & warm!": lambda has: has("water") & has("warm"),
+    "water -warm'cold": lambda has: has("water") - (has("warm") & has("cold")),
+    "2.5 | bees*": lambda has: (has("2") & has("5")) | has("bees[a-z0-9]*"),
+    "warm-mo*": lambda has: has("warm") & has("mo[a-z0-9]*"),
+    "mo*on | water*-": lambda has: (has("mo") & has("on")) | has("water"),
 }
 # A thousand paragraphs: each has its number, and one word more for each of these that divides the number.
 NUMBERS = {"even": 2, "fizz": 3, "buzz": 5}
@@ -62,15 +72,17 @@ COUNTS = {
     "even -fizz": 334,
     "(fizz | buzz) -even": 234,
     "n7 even": 0,
+    "number-n7": 1,
+    "n1*.n10": 0,
+    " | ".join(f"n{k}" for k in range(1, 101)): 100,
 }
-# What is read for a query, and how many answer it, by hand. A list of 1000 values has 8 blocks, and an AND with one value reads 3 of them.
-# With 3 begin 3, 30 to 39 and 300 to 399, whose 111 lists are united; of these numbers 1 + 4 + 34 are multiples of 3.
+# What is read for a query, and how many answer it, by hand. A set of 1000 documents has 8 blocks of 128 positions.
+# With 3 begin 3, 30 to 39 and 300 to 399, whose 111 sets are united; of these numbers 1 + 4 + 34 are multiples of 3.
 BEGIN_WITH_3 = [f"n{k}: 1 documents in 1 blocks" for k in sorted(map(str, [3, *range(30, 40), *range(300, 400)]))]
-UNITED = "unite of 111 lists: at most 1 blocks of each unpacked"
-TWO = "of 2 lists: at most 3 blocks of each unpacked"
+UNITED = "unite of 111 sets: 111 documents"
 EXPLAINED = {
-    "number n30": (["number: 1000 documents in 8 blocks", "n30: 1 documents in 1 blocks", f"intersect {TWO}"], 1),
-    "fizz -n3*": (["fizz: 333 documents in 3 blocks", *BEGIN_WITH_3, UNITED, f"subtract {TWO}"], 333 - 39),
+    "number n30": (["number: 1000 documents in 8 blocks", "n30: 1 documents in 1 blocks", "intersect of 2 sets: 1 documents"], 1),
+    "fizz -n3*": (["fizz: 333 documents in 3 blocks", *BEGIN_WITH_3, UNITED, "subtract of 2 sets: 294 documents"], 333 - 39),
 }
 # Files, and the names that their documents get, in the order of their bytes. None is there for a file that is left out.
 FILES = {
@@ -94,7 +106,6 @@ SCORES = {
     "a -(b c)": "  0.275  F/2:1  a, a; A!\n  0.199  F/1:1  a b\n",
 }
 # Queries that are refused, after which part of them, and why.
-NO_TERM = "a word is missing, or a space after it"
 NO_WORD = "a word is missing, or one without a minus"
 REFUSED = {
     "a (b": ("a (b", "a bracket is not closed"),
@@ -103,11 +114,9 @@ REFUSED = {
     "a |": ("a |", NO_WORD),
     "a ()": ("a (", NO_WORD),
     "a | -b": ("a | -b", NO_WORD),
-    "a 'b'": ("a ", NO_TERM),
-    "*": ("*", NO_TERM),
-    "a-b": ("a", NO_TERM),
-    "na\u00EFve": ("na", NO_TERM),
-    "a* caf\u00E9 (": ("a* caf", NO_TERM),
+    "*": ("*", NO_WORD),
+    "' + |": ("' + ", NO_WORD),
+    "a* caf\u00E9 (": ("a* caf\u00E9 (", NO_WORD),
 }
 LONGEST_QUERY = 1000
 
@@ -213,6 +222,9 @@ def by_hand(programs):
         status, text, _, wrong = programs.same("find", "--count", index, query)
         right = (status, text) == (0 if count else 1, f"{count} of 1000 documents\n")
         yield f"how many have {query}", wrong or (None if right else f"printed {text}")
+        _, text, _, wrong = programs.same("find", "--best", "999", index, query)
+        found = len(re.findall(r"^ *[\d.]+  numbers/numbers.txt:", text, re.M))
+        yield f"the best of {query}", wrong or (None if found == min(count, 999) else f"found {found}")
     for query, (explained, count) in EXPLAINED.items():
         for name in programs.paths:
             answer = programs.run(name, "find", "--count", "--explain", index, query)
@@ -267,10 +279,15 @@ def refusals(programs):
     calls |= {
         "no folder": (["index", "nowhere", "new"], "nowhere: No such file or directory"),
         "no place for the index": (["index", "files", "nowhere/new"], "nowhere/new: No such file or directory"),
-        "a folder in the place of the index": (["index", "files", "split"], "split: Is a directory"),
+        **{
+            f"{what} in the place of the index": (["index", "files", path], f"{path}: it is no regular file, and is not replaced")
+            for what, path in [("a folder", "split"), ("a link", "link"), ("a pipe", "pipe"), ("a device", "/dev/null")]
+        },
         "no index": (["find", "nowhere", "a"], "nowhere: No such file or directory"),
-        "text for an index": (["find", "files/b-x", "a"], "files/b-x: this is no index: it does not begin with 'search2'"),
+        "text for an index": (["find", "files/b-x", "a"], "files/b-x: this is no index: it does not begin with 'search3'"),
     }
+    os.symlink(index, f"{programs.folder}/link")
+    os.mkfifo(f"{programs.folder}/pipe")
     before = sorted(os.listdir(programs.folder))
     for what, (arguments, message) in calls.items():
         for name in programs.paths:
@@ -280,6 +297,27 @@ def refusals(programs):
     for name in programs.paths:
         status, text, messages = programs.run(name, "--help")
         yield f"--help in {name}", None if status == 0 and text.startswith("A small search engine") else f"{status} {messages}"
+
+
+def kills(programs):
+    """Runs that the system ends when they have written a byte. Each leaves a file, which the next run removes, as it does not the file of a
+    process that runs, or one with another name."""
+    others = [f"killed.{os.getpid()}.tmp", "killed.x.tmp", "killed.1.tmp.x", "others.99999999.tmp"]
+    write(programs.folder, {name: b"" for name in others})
+    for name, path in programs.paths.items():
+        if name == "sanitized":
+            continue
+        given = {"folder": programs.folder, "env": ENVIRONMENT, "stderr": subprocess.PIPE}
+        before = set(os.listdir(programs.folder))
+        limit = lambda: resource.setrlimit(resource.RLIMIT_FSIZE, (1, 1))
+        killed = run(path, "index", "files", "killed", preexec_fn=limit, **given)
+        left = set(os.listdir(programs.folder)) - before
+        yield f"{name} is killed", None if killed.returncode < 0 and len(left) == 1 else f"ended with {killed.returncode}, and left {left}"
+        done = run(path, "index", "files", "killed", **given)
+        new = set(os.listdir(programs.folder)) - before
+        right = done.returncode == 0 and new == {"killed"} and before <= set(os.listdir(programs.folder))
+        yield f"what {name} left", None if right else f"ended with {done.returncode} {done.stderr}, and there is {new}"
+        os.remove(f"{programs.folder}/killed")
 
 
 def forgeries(programs):
@@ -346,7 +384,7 @@ def checks():
         programs = Programs(folder)
         yield from programs.faults
         if all(why is None for _, why in programs.faults):
-            for part in against_grep, by_hand, ranked.checks, on_terminal, refusals, forgeries, damages:
+            for part in against_grep, by_hand, ranked.checks, on_terminal, refusals, kills, forgeries, damages:
                 yield from part(programs)
 
 

@@ -9,7 +9,7 @@
 #include <stdlib.h>
 #include <string.h>
 
-enum { LINE = 1 << 21, COLUMNS = 5, TABLES = 11 };
+enum { LINE = 1 << 21, COLUMNS = 5, TABLES = 12 };
 
 /* The table of the row that was read last. */
 static enum {
@@ -22,8 +22,9 @@ static enum {
     REFUSED_VALUES,
     UPGRADES,
     ID_SETS,
-    REFUSED_ID_SETS,
-    COMBINED_ID_SETS
+    REFUSED_BYTES, /* of id sets, or of columns */
+    COMBINED_ID_SETS,
+    VALUES_OF_COLUMNS
 } table;
 static const char *const heads[TABLES] = {
     "kind\tlanes\tvalues\tbytes",
@@ -36,7 +37,8 @@ static const char *const heads[TABLES] = {
     "lanes\tbytes\tnumber\tfault\tupgraded",
     "ids\tbytes",
     "number\tfault\tbytes",
-    "ids\tothers\tboth"};
+    "ids\tothers\tboth",
+    "kind\tvalues\tbytes"};
 
 static char line[LINE];
 

@@ -2,8 +2,8 @@
 """Runs the vectors of vectors/ over the decoders that docs/FORMAT.md shows, wrong implementations, and the program.
 
 docs/VECTORS.md says where the vectors come from. `vectors.py PROGRAM ..` runs them over another program of the same line language,
-in place of ./bitpack, and `vectors.py --programs` over the programs alone. Each program has to fail if one of its answers is changed, and no
-check may find a mistake in the decoders themselves.
+in place of ./bitpack, `vectors.py --programs` over the programs alone, and `vectors.py --readers` over all others. Each program has to fail if
+one of its answers is changed, and no check may find a mistake in the decoders themselves.
 The last line is 'N passed, M failed', which counts the readers of the vectors.
 """
 
@@ -300,7 +300,7 @@ def mistake_checks():
     yield "how many mistakes have a name of their own", len({name for _, name, _, _ in tried}), len(tried)
     yield "whether the decoders without a mistake are caught", caught(right, "blocks"), False
     with multiprocessing.get_context("fork").Pool() as pool:
-        found = pool.starmap(caught, [(right.replace(old, new), kind) for kind, _, old, new in tried])
+        found = pool.starmap(caught, [(right.replace(old, new), kind) for kind, _, old, new in tried], chunksize=1)
     for (_, name, old, _), is_caught in zip(tried, found):
         yield f"how many places the mistake '{name}' changes", right.count(old), 1
         yield f"whether the mistake '{name}' is caught", is_caught, True
@@ -355,7 +355,8 @@ def readers():
     assembled = run(sys.executable, f"{ROOT}/vectors/assemble.py", "--check")
     yield "vectors/assemble.py", None if assembled.returncode == 0 else assembled.stdout
     in_python = of_python() if asked != ["--programs"] else []
-    for reader, checks in itertools.chain(in_python, of_programs([asked] if asked not in ([], ["--programs"]) else programs())):
+    in_programs = of_programs([asked] if asked not in ([], ["--programs"]) else programs()) if asked != ["--readers"] else []
+    for reader, checks in itertools.chain(in_python, in_programs):
         count, wrong = 0, []
         for name, found, right in checks:
             count += 1

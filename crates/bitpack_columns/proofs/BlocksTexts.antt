@@ -1,7 +1,6 @@
 -- The blocks of the values that are read from bytes without a fault are in these bytes.
-use Rattle.std.proofs.Common.{◌≡◌, ℕ, zero, suc, ◌+◌, ◌-◌, ◌*◌, ◌/◌, ◌^◌, ◌<◌, ◌≤◌, List, [], ◌∷◌, ◌++◌, take, drop, length, get_or, refl, sym, ap, ◌∙◌, arith, subst, append_assoc, take-append-drop}
+use Rattle.std.proofs.Common.{◌≡◌, ℕ, zero, suc, ◌+◌, ◌-◌, ◌*◌, ◌/◌, ◌^◌, ◌<◌, ◌≤◌, List, ◌∷◌, ◌++◌, take, drop, length, get_or, sym, ap, ◌∙◌, arith, subst}
 use Rattle.std.proofs.lemmas.Bool.{true≢false}
-use Rattle.std.proofs.lemmas.List.{drop-drop}
 use Rattle.bitpack_groups.proofs.ForCallers.{AreBytes-drop, Decides-are_loose, least_width_is}
 use Rattle.bitpack_groups.specs.Numbers.{byte_count}
 use Rattle.bitpack_groups.specs.Packed.{le_bytes, least_width}

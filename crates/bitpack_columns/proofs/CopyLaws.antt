@@ -1,11 +1,11 @@
 -- Values that are copied part by part.
-use Rattle.std.proofs.Common.{◌≡◌, ℕ, min, ◌+◌, ◌-◌, ◌*◌, ◌/◌, ◌%◌, ◌<◌, ◌≤◌, List, ◌++◌, length, take, take-add, drop, Result, Ok, Err, true, false, sym, ◌∙◌, ap, arith}
+use Rattle.std.proofs.Common.{◌≡◌, ℕ, ◌+◌, ◌-◌, ◌*◌, ◌<◌, ◌≤◌, List, ◌++◌, length, take, take-add, drop, Result, Ok, Err, true, false, sym, ◌∙◌, ap, arith}
 use Rattle.std.specs.Result.{OnErr, OnOk, is_err}
-use Rattle.std.proofs.lemmas.List.{append_assoc, drop-drop, drop-take, drop_at, length-append, length-drop, length-take-le, take-append-drop, take-append-le, take-take, take_all, take_at, take_rest}
+use Rattle.std.proofs.lemmas.List.{drop-drop, drop-take, drop_at, length-append, length-take-le, take-append-drop, take-append-le, take-take, take_all, take_at, take_rest}
 use Rattle.std.proofs.lemmas.Slice.{drop-append-drop, drop-put_mid, take-put_mid}
 use borrow.Rule.Slice.PartMut.{post_of, put_mid}
 use Rattle.bitpack_columns.specs.declared.column.Column.{Column}
-use Rattle.bitpack_columns.specs.Columns.{block_of, tail_of}
+use Rattle.bitpack_columns.specs.Columns.{block_of}
 use Rattle.bitpack_columns.specs.Opened.{blocks_of, values}
 use Rattle.bitpack_columns.specs.Reads.{begin_at, bodies_start, body_at, end_at, width_at}
 use Rattle.bitpack_columns.proofs.OpenedLaws.{rising}

@@ -1,5 +1,5 @@
 -- The first groups of some: their codes are the first of all codes, and they have no fault if all groups have none.
-use Rattle.std.proofs.Common.{◌≡◌, ℕ, zero, suc, min, ◌+◌, ◌-◌, ◌*◌, ◌/◌, ◌%◌, ◌<◌, ◌≤◌, List, ◌++◌, length, get_or, slice_index, take, take-add, drop, replicate, ◌^◌, None, refl, sym, subst, ◌∙◌, ap, arith, inl, inr}
+use Rattle.std.proofs.Common.{◌≡◌, ℕ, zero, suc, min, ◌+◌, ◌-◌, ◌*◌, ◌%◌, ◌<◌, ◌≤◌, List, ◌++◌, length, get_or, slice_index, take, take-add, drop, replicate, ◌^◌, None, refl, sym, subst, ◌∙◌, ap, arith, inl, inr}
 use Rattle.std.proofs.lemmas.Bool.{cases_lt}
 use Rattle.std.proofs.lemmas.List.{drop_at, get_or-take, length-replicate, length-take, length-take-le, take-map, take_all, take_at}
 use Rattle.std.proofs.lemmas.List.FromFn.{length-map-range_with_len}
@@ -10,7 +10,6 @@ use Rattle.bitpack_groups.specs.Groups.{body_of, group_codes, group_end, group_f
 use Rattle.bitpack_groups.proofs.ForCallers.{none_first}
 use Rattle.bitpack_columns.specs.declared.column_kind.ColumnKind.{ColumnKind}
 use Rattle.bitpack_columns.specs.declared.column_kind.ColumnKind.TheVariants.{Plain, Sorted}
-use Rattle.bitpack_columns.specs.Gathering.{EndsGroup}
 use Rattle.bitpack_columns.specs.Reads.{values_of}
 use Rattle.bitpack_columns.proofs.ReadLaws.{groups_read}
 use Rattle.bitpack_columns.proofs.ValueLaws.{take-sums}

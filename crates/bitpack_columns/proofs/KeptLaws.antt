@@ -1,22 +1,27 @@
 -- The blocks of an opened column that stay as they are when values follow.
-use Rattle.std.proofs.Common.{◌≡◌, ℕ, zero, suc, ◌+◌, ◌-◌, ◌*◌, ◌^◌, ◌<◌, ◌≤◌, List, ◌++◌, length, get_or, take, drop, refl, sym, ap, ◌∙◌, arith, subst}
+use Rattle.std.proofs.Common.{◌≡◌, ℕ, zero, suc, ◌+◌, ◌-◌, ◌*◌, ◌^◌, ◌/◌, ◌<◌, ◌≤◌, cond, eqb, List, [], ◌++◌, length, get_or, take, drop, refl, sym, ap, ◌∙◌, arith, inl, inr, subst, length-append}
+use Rattle.std.specs.Prelude.{max}
+use Rattle.std.proofs.lemmas.Bool.{cases_eq, cond-false, ne_eqb}
 use Rattle.std.proofs.lemmas.List.{take_all}
 use Rattle.bitpack_groups.specs.Packed.{le_bytes}
 use Rattle.bitpack_columns.specs.declared.column.Column.{Column}
 use Rattle.bitpack_columns.specs.declared.column_kind.ColumnKind.{ColumnKind}
-use Rattle.bitpack_columns.specs.declared.column_kind.ColumnKind.TheVariants.{Sorted}
+use Rattle.bitpack_columns.specs.declared.column_kind.ColumnKind.TheVariants.{Plain, Sorted}
 use Rattle.bitpack_columns.specs.Columns.{IsColumn, base_of, mark_in, sum_to}
-use Rattle.bitpack_columns.specs.Measured.{bodies_text, width_after}
+use Rattle.bitpack_columns.specs.Measured.{IsMeasured, bodies_text, ends_text, extended, marks_text, packed_after, width_after}
+use Rattle.bitpack_columns.specs.Numbers.{greatest}
 use Rattle.bitpack_columns.specs.Opened.{blocks_of, values}
 use Rattle.bitpack_columns.specs.Reads.{begin_at, bodies_start, end_at}
 use Rattle.bitpack_columns.proofs.BlocksTexts.{AreRead, bodies_text as bodies_read, sum_read}
-use Rattle.bitpack_columns.proofs.EntryLaws.{end_text}
+use Rattle.bitpack_columns.proofs.EntryLaws.{body_text, end_text, mark_text}
+use Rattle.bitpack_columns.proofs.MeasureLaws.{total_few}
 use Rattle.bitpack_columns.proofs.OpenedLaws.{are_blocks, block_is, body_few, blocks_is, first_is, opened, rising}
 use Rattle.bitpack_columns.proofs.PartsLaws.{run, run_more}
 use Rattle.bitpack_columns.proofs.ReadLaws.{tail_start-is}
 use Rattle.bitpack_columns.proofs.SoundLaws.{AreTight}
 use Rattle.bitpack_columns.proofs.TextLaws.{values_are_read}
-use Rattle.bitpack_columns.proofs.SplitLaws.{IsSplit, all_blocks, block_back, block_front}
+use Rattle.bitpack_columns.proofs.SplitLaws.{IsSplit, all_blocks, all_long, block_back, block_front, first_same, measured_split}
+use Rattle.bitpack_columns.proofs.SumLaws.{sum_none}
 
 -- the first value
 abbrev pub head_of : Column → ℕ
@@ -79,22 +84,91 @@ module _ (column : Column) (some : 0 < blocks_of column) where
       last_begin (suc k) h = (let e : k ≡ suc k - 1 = omega arith in ap (end_at column.rest.now) e)
 
 -- the blocks of a column and packed values after them
-pub kept_split : (column : Column) (packed : List ℕ) → 0 < blocks_of column
-    → IsSplit column.kind (head_of column) (values column) packed (take (128 * blocks_of column) (values column) ++ packed) (blocks_of column)
-    (mark_in column.kind (values column) (blocks_of column - 1))
-kept_split column packed some =
+pub kept_split : (column : Column) (packed : List ℕ)
+    → IsSplit column.kind (get_or (extended column packed) 0 0) (values column) packed (extended column packed) (blocks_of column) (packed_after column packed)
+kept_split column packed =
     let le : 128 * blocks_of column ≤ length (values column) = omega arith in
     record {
       front = λ m lt. block_front (values column) packed (blocks_of column) m le lt;
       back = λ i. block_back (values column) packed (blocks_of column) i le;
       blocks_are = all_blocks (values column) packed (blocks_of column) le;
       values_are = refl;
-      last_is = λ is. ap (λ (kind : ColumnKind). mark_in kind (values column) (blocks_of column - 1)) is ∙ sym (before (blocks_of column) some);
+      last_is = λ is. before column.kind (blocks_of column) is;
     }
   where
-    before : (k : ℕ) → 0 < k → base_of Sorted (head_of column) (mark_in Sorted (values column)) k ≡ mark_in Sorted (values column) (k - 1)
-    before zero h = absurd (omega arith)
-    before (suc k) h = (let e : k ≡ suc k - 1 = omega arith in ap (mark_in Sorted (values column)) e)
+    before : (kind : ColumnKind) (k : ℕ) → kind ≡ Sorted → cond (eqb k 0) (get_or packed 0 0) (mark_in kind (values column) (k - 1))
+        ≡ base_of Sorted (get_or (take (128 * k) (values column) ++ packed) 0 0) (mark_in Sorted (values column)) k
+    before Plain k is = absurd cc
+    before Sorted zero is = refl
+    before Sorted (suc k) is =
+        let e : suc k - 1 ≡ k = omega arith in
+        cond-false (eqb (suc k) 0) (get_or packed 0 0) (mark_in Sorted (values column) (suc k - 1)) (ne_eqb (suc k) 0 (λ e. omega (arith, e)))
+        ∙ ap (mark_in Sorted (values column)) e
+
+-- the first value of all is that of the column, if it has a block
+pub first_kept : (column : Column) (packed : List ℕ) → 0 < blocks_of column → head_of column ≡ get_or (extended column packed) 0 0
+first_kept column packed some = sym (first_same (values column) packed (blocks_of column) some (omega arith))
+
+-- no block has no text
+module _ (kind : ColumnKind) (first : ℕ) (values : List ℕ) (none : length values / 128 ≡ 0) where
+  pub ends_none : (size : ℕ) → ends_text kind first values size 0 ≡ []
+  unfolding ends_text
+  ends_none size = ap (run (end_text kind first values size 0)) none
+
+  pub marks_none : (size : ℕ) → marks_text kind first values size ≡ []
+  unfolding marks_text
+  marks_none size = ap (run (mark_text kind first values size)) none
+
+  pub bodies_none : bodies_text kind first values ≡ []
+  unfolding bodies_text
+  bodies_none = ap (run (body_text kind first values)) none
+
+pub extended_long : (column : Column) (filled later : List ℕ) → length (extended column (filled ++ later)) ≡ 128 * blocks_of column + (length filled + length later)
+extended_long column filled later =
+    all_long (values column) (filled ++ later) (blocks_of column) (omega arith) ∙ ap (λ (n : ℕ). 128 * blocks_of column + n) (length-append filled later)
+
+-- what no block has does not count from the first value
+module _ (kind : ColumnKind) (values : List ℕ) (k a b : ℕ) (long : length values / 128 ≡ k) (same : 0 < k → a ≡ b) where
+  pub sum_first : sum_to (width_after kind a values) k ≡ sum_to (width_after kind b values) k
+  sum_first = elim (cases_eq k 0) [
+    | inl none ↦
+        ap (sum_to (width_after kind a values)) none ∙ sum_none (width_after kind a values) ∙ sym (sum_none (width_after kind b values)) ∙ ap (sum_to (width_after kind b values)) (sym none)
+    | inr some ↦ ap (λ (n : ℕ). sum_to (width_after kind n values) k) (same (omega (arith, some)))
+  ]
+
+  pub ends_first : (size : ℕ) → ends_text kind a values size 0 ≡ ends_text kind b values size 0
+  unfolding ends_text
+  ends_first size = elim (cases_eq k 0) [
+    | inl none ↦ ap (run (end_text kind a values size 0)) (long ∙ none) ∙ ap (run (end_text kind b values size 0)) (sym (long ∙ none))
+    | inr some ↦ ap (λ (n : ℕ). ends_text kind n values size 0) (same (omega (arith, some)))
+  ]
+
+  pub marks_first : (size : ℕ) → marks_text kind a values size ≡ marks_text kind b values size
+  unfolding marks_text
+  marks_first size = refl
+
+  pub bodies_first : bodies_text kind a values ≡ bodies_text kind b values
+  unfolding bodies_text
+  bodies_first = elim (cases_eq k 0) [
+    | inl none ↦ ap (run (body_text kind a values)) (long ∙ none) ∙ ap (run (body_text kind b values)) (sym (long ∙ none))
+    | inr some ↦ ap (λ (n : ℕ). bodies_text kind n values) (same (omega (arith, some)))
+  ]
+
+-- what is measured of the blocks of a column and of packed values after them
+pub kept_measured : (column : Column) (packed : List ℕ) (total most before more_total more_most last : ℕ)
+    → total ≡ sum_to (width_after column.kind (head_of column) (values column)) (blocks_of column) → most ≡ greatest (mark_in column.kind (values column)) (blocks_of column)
+    → before ≡ packed_after column packed → IsMeasured column.kind before packed more_total more_most last
+    → IsMeasured column.kind (get_or (extended column packed) 0 0) (extended column packed) (total + more_total) (max most more_most) last
+kept_measured column packed total most before more_total more_most last a b at more =
+    let all : List ℕ = extended column packed in
+    measured_split column.kind (get_or all 0 0) (values column) packed all (blocks_of column) (packed_after column packed) (kept_split column packed) total most more_total more_most last
+    (a ∙ sum_first column.kind (values column) (blocks_of column) (head_of column) (get_or all 0 0) refl (first_kept column packed)) b
+    (subst (λ (n : ℕ). IsMeasured column.kind n packed more_total more_most last) at more)
+
+pub measured_few : (kind : ColumnKind) (values : List ℕ) (first total most last : ℕ) → IsColumn kind values → IsMeasured kind first values total most last → total ≤ 2 ^ 26
+measured_few kind values first total most last column measured =
+    let few = total_few kind first values (length values / 128) column.words in
+    omega (arith, few, column.few, measured.total_is)
 
 -- ---- what is copied so far
 

@@ -5,10 +5,12 @@ mod BlockLaws
 mod BlocksBack
 mod BlocksTexts
 mod BodyLaws
+mod BothLaws
 mod BoundLaws
 mod CodeLaws
 mod CodeWords
 mod CopyLaws
+mod CountedLaws
 mod CursorLaws
 mod EncodeLaws
 mod EntryLaws
@@ -17,6 +19,7 @@ mod FoundLaws
 mod FrontGroups
 mod HeaderBack
 mod HeaderTexts
+mod JoinLaws
 mod KeptLaws
 mod LeastLaws
 mod MarkLaws
@@ -29,6 +32,7 @@ mod OutLaws
 mod PartsLaws
 mod RangeLaws
 mod ReadLaws
+mod RunLaws
 mod SeekLaws
 mod SoundLaws
 mod SplitLaws

@@ -32,7 +32,7 @@ both a b e f = ap (λ (x : Bool). x && b) e ∙ f
 neither : (a b : Bool) → a ≡ false → b ≡ false → (a || b) ≡ false
 neither a b e f = ap (λ (x : Bool). x || b) e ∙ f
 
-none_of : (fault : ℕ → Option ColumnError) (count : ℕ) → ((m : ℕ) → m < count → fault m ≡ None) → first_of fault count ≡ None
+pub none_of : (fault : ℕ → Option ColumnError) (count : ℕ) → ((m : ℕ) → m < count → fault m ≡ None) → first_of fault count ≡ None
 unfolding first_of
 none_of fault zero h = refl
 none_of fault (suc count) h = none_or (first_of fault count) (fault count) (none_of fault count (λ m lt. h m (omega arith))) (h count (omega arith))

@@ -1,5 +1,5 @@
 -- An opened column: its blocks, its marks and its tail, by what was read when it was opened.
-use Rattle.std.proofs.Common.{◌≡◌, ◌⊎◌, add-one, ℕ, zero, suc, ◌+◌, ◌-◌, ◌*◌, ◌/◌, ◌%◌, ◌^◌, ◌<◌, ◌≤◌, List, [], ◌∷◌, length, min, take, drop, get_or, None, cond, refl, sym, subst, ◌∙◌, ap, arith, inl, inr}
+use Rattle.std.proofs.Common.{◌≡◌, ◌⊎◌, add-one, ℕ, zero, suc, ◌+◌, ◌-◌, ◌*◌, ◌/◌, ◌%◌, ◌^◌, ◌<◌, ◌≤◌, List, length, min, take, drop, get_or, None, cond, refl, sym, subst, ◌∙◌, ap, arith, inl, inr}
 use Rattle.std.proofs.lemmas.Bool.{cases_eq}
 use Rattle.std.proofs.lemmas.List.{get_or-drop, get_or-map, get_or-take, get_or_past, length-drop, length-take}
 use Rattle.std.proofs.lemmas.Nat.{mul-le}
@@ -10,7 +10,7 @@ use Rattle.bitpack_columns.specs.declared.column_kind.ColumnKind.{ColumnKind}
 use Rattle.bitpack_columns.specs.declared.column_kind.ColumnKind.TheVariants.{Plain, Sorted}
 use Rattle.bitpack_columns.specs.Columns.{base_of, block_of, least, mark_of}
 use Rattle.bitpack_columns.specs.Faults.{first_out}
-use Rattle.bitpack_columns.specs.Opened.{blocks_of, kind_of, values}
+use Rattle.bitpack_columns.specs.Opened.{blocks_of, values}
 use Rattle.bitpack_columns.specs.Reads.{begin_at, block_values, bodies_start, body_at, codes_at, column_values, end_at, end_size, mark_at, mark_size, values_of, width_at}
 use Rattle.bitpack_columns.specs.Sound.{AreBlocks, HasEntries}
 use Rattle.bitpack_columns.specs.Stated.{after_count, count_in, first_in, has_first, kind_in}

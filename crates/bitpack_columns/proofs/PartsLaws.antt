@@ -1,5 +1,5 @@
 -- Parts end to end: where each of them is, and that parts of bytes are these bytes; and integers of a few bytes, as they are written and read.
-use Rattle.std.proofs.Common.{◌≡◌, ℕ, zero, suc, ◌+◌, ◌-◌, ◌*◌, ◌/◌, ◌%◌, ◌^◌, ◌<◌, ◌≤◌, List, [], ◌∷◌, ◌++◌, take, drop, length, get_or, refl, sym, ap, ◌∙◌, arith, inl, inr, subst, append-nil, append_assoc, length-append, length-drop, take-add, take-append-drop}
+use Rattle.std.proofs.Common.{◌≡◌, ℕ, zero, suc, ◌+◌, ◌-◌, ◌*◌, ◌^◌, ◌<◌, ◌≤◌, List, [], ◌∷◌, ◌++◌, take, drop, length, get_or, refl, sym, ap, ◌∙◌, arith, inl, inr, subst, append-nil, append_assoc, length-append, length-drop, take-add, take-append-drop}
 use Rattle.std.specs.List.{flat_map, range_with_len}
 use Rattle.std.proofs.lemmas.Bool.{cases_lt}
 use Rattle.std.proofs.lemmas.List.{drop-drop, drop_at, get_or-drop, take_at}
@@ -8,7 +8,6 @@ use Rattle.bitpack_groups.proofs.ForCallers.{AreBytes-append, AreBytes-drop, Are
 use Rattle.bitpack_groups.specs.Numbers.{number, short_at}
 use Rattle.bitpack_groups.specs.Packed.{le_bytes}
 use Rattle.bitpacking.specs.Bits.{AreBytes}
-use Rattle.bitpacking.specs.Words.{joined}
 
 -- ---- lists in parts
 

@@ -1,5 +1,5 @@
 -- What bytes without a fault say: of the count and the first value, of the blocks and of the tail.
-use Rattle.std.proofs.Common.{◌≡◌, ℕ, zero, suc, ◌-◌, ◌/◌, ◌%◌, ◌^◌, ◌<◌, ◌≤◌, Bool, true, false, cond, ◌&&◌, eqb, leb, ltb, List, [], ◌∷◌, length, drop, get_or, not, Option, Some, None, refl, arith, inl, inr}
+use Rattle.std.proofs.Common.{◌≡◌, ℕ, zero, suc, ◌/◌, ◌%◌, ◌^◌, ◌<◌, ◌≤◌, Bool, true, false, cond, ◌&&◌, eqb, leb, ltb, List, [], ◌∷◌, length, drop, get_or, not, Option, Some, None, refl, arith, inl, inr}
 use Rattle.std.specs.Option.{option_map}
 use Rattle.std.proofs.lemmas.Bool.{and_parts, cases_Bool, cases_lt, cond-false, cond-true, eqb-true, leb-false, leb-true, ltb-false, ltb-true, ne_eqb, not-false, or_parts}
 use Rattle.bitpack_groups.proofs.ForCallers.{none_first, passed}
@@ -24,11 +24,6 @@ not_mapped f (Some x) e = absurd cc
 pub only_if : {A : Type 0} (test : Bool) (fault : A) → cond test None (Some fault) ≡ None → test ≡ true
 only_if true fault e = refl
 only_if false fault e = absurd cc
-
--- There is another fault unless the test holds.
-pub only_first : {A : Type 0} (test : Bool) (found : Option A) (fault : A) → cond test found (Some fault) ≡ None → (test ≡ true) × (found ≡ None)
-only_first true found fault e = (refl, e)
-only_first false found fault e = absurd cc
 
 -- What is tested only if something holds.
 pub if_so : {A : Type 0} (test : Bool) (found : Option A) → cond test found None ≡ None → test ≡ true → found ≡ None

@@ -1,12 +1,13 @@
 -- Blocks of values, and blocks of other values after them, as the blocks of all.
-use Rattle.std.proofs.Common.{◌≡◌, ℕ, zero, suc, ◌+◌, ◌*◌, ◌/◌, ◌<◌, ◌≤◌, List, ◌++◌, length, get_or, take, drop, refl, sym, ap, ◌∙◌, arith, append-nil, append_assoc, length-append}
-use Rattle.std.specs.Prelude.{max}
-use Rattle.std.proofs.lemmas.List.{drop-append-le, drop-drop, drop_at, get_or-take, get_or_append_left, length-drop, length-take-le, take-append-drop, take-append-le}
+use Rattle.std.proofs.Common.{◌≡◌, ◌⊎◌, ℕ, zero, suc, ◌+◌, ◌-◌, ◌*◌, ◌/◌, ◌%◌, ◌<◌, ◌≤◌, List, ◌++◌, length, get_or, take, drop, refl, sym, ap, ◌∙◌, arith, inl, inr, append-nil, append_assoc, length-append}
+use Rattle.std.specs.Prelude.{max, min}
+use Rattle.std.proofs.lemmas.Bool.{cases_lt}
+use Rattle.std.proofs.lemmas.List.{drop-append-le, drop-drop, drop_at, get_or-append_right, get_or-drop, get_or-take, get_or_append_left, length-drop, length-take, length-take-le, nil_from_length, take-append-drop, take-append-le, take_all, take_at, take_rest}
 use Rattle.bitpack_groups.specs.Packed.{le_bytes, least_width}
 use Rattle.bitpack_columns.specs.declared.column_kind.ColumnKind.{ColumnKind}
 use Rattle.bitpack_columns.specs.declared.column_kind.ColumnKind.TheVariants.{Plain, Sorted}
 use Rattle.bitpack_columns.specs.Columns.{base_of, block_of, codes, mark_in, mark_of, packed_block, sum_to}
-use Rattle.bitpack_columns.specs.Measured.{IsMeasured, bodies_text, codes_after, ends_text, marks_text, width_after}
+use Rattle.bitpack_columns.specs.Measured.{AreWidths, IsMeasured, bodies_text, codes_after, ends_text, marks_text, width_after}
 use Rattle.bitpack_columns.specs.Numbers.{greatest}
 use Rattle.bitpack_columns.proofs.CodeLaws.{base_same}
 use Rattle.bitpack_columns.proofs.EntryLaws.{body_text, end_text, mark_text}
@@ -68,7 +69,7 @@ module _ (kind : ColumnKind) (first : ℕ) (values packed all : List ℕ) (k las
       ap (λ (b : ℕ). codes kind b (block_of m all)) (base_same kind first first (mark_in kind all) (mark_in kind values) k m (λ _. refl) mark_front lt)
       ∙ ap (codes kind (base_of kind first (mark_in kind values) m)) (split.front m lt)
 
-  width_front : (m : ℕ) → m < k → width_after kind first all m ≡ width_after kind first values m
+  pub width_front : (m : ℕ) → m < k → width_after kind first all m ≡ width_after kind first values m
   width_front m lt = ap least_width (codes_front m lt)
 
 -- what the first codes that are packed count from
@@ -118,24 +119,28 @@ module _ (kind : ColumnKind) (first : ℕ) (values packed all : List ℕ) (k las
       let d = greatest_back j in
       ap (greatest (mark_in kind all)) (next k j) ∙ omega arith
 
-  pub base_after_all : (j : ℕ) → kind ≡ Sorted → base_of kind first (mark_in kind all) (k + j) ≡ base_of kind last (mark_in kind packed) j
-  base_after_all j is = base_back kind first values packed all k last split j
-
   -- the texts of the parts
 
-  pub ends_split : (size : ℕ) → ends_text kind first all size 0
-      ≡ ends_text kind first values size 0 ++ ends_text kind last packed size (sum_to (width_after kind first values) k)
+  pub ends_split : (size start : ℕ) → ends_text kind first all size start
+      ≡ ends_text kind first values size start ++ ends_text kind last packed size (start + sum_to (width_after kind first values) k)
   unfolding ends_text
-  ends_split size =
-      let f : ℕ → List ℕ = end_text kind first all size 0 in
+  ends_split size start =
+      let f : ℕ → List ℕ = end_text kind first all size start in
       let j : ℕ = length packed / 128 in
       ap (run f) split.blocks_are ∙ run_split f k j
       ∙ ap (λ (l : List ℕ). l ++ run (λ i. f (k + i)) j)
-      (run_same f (end_text kind first values size 0) k (λ m lt. ap (λ (n : ℕ). le_bytes size (0 + n)) (sum_front (suc m) (omega arith))) ∙ ap (run (end_text kind first values size 0)) (sym split.values_are))
-      ∙ ap (λ (l : List ℕ). run (end_text kind first values size 0) (length values / 128) ++ l)
-      (run_same (λ i. f (k + i)) (end_text kind last packed size (sum_to (width_after kind first values) k)) j
-      (λ i lt. ap (le_bytes size) (let e : 0 + sum_to (width_after kind first all) (suc (k + i)) ≡ sum_to (width_after kind first all) (suc (k + i)) = omega arith in
-      e ∙ ap (sum_to (width_after kind first all)) (sym (next k i)) ∙ sum_back (suc i))))
+      (run_same f (end_text kind first values size start) k (λ m lt. ap (λ (n : ℕ). le_bytes size (start + n)) (sum_front (suc m) (omega arith)))
+      ∙ ap (run (end_text kind first values size start)) (sym split.values_are))
+      ∙ ap (λ (l : List ℕ). run (end_text kind first values size start) (length values / 128) ++ l)
+      (run_same (λ i. f (k + i)) (end_text kind last packed size (start + sum_to (width_after kind first values) k)) j
+      (λ i lt. ap (le_bytes size) (later i)))
+    where
+      later : (i : ℕ) → start + sum_to (width_after kind first all) (suc (k + i))
+          ≡ start + sum_to (width_after kind first values) k + sum_to (width_after kind last packed) (suc i)
+      later i =
+          let e = sum_back (suc i) in
+          let f = ap (sum_to (width_after kind first all)) (next k i) in
+          omega (arith, e, f)
 
   pub marks_split : (size : ℕ) → marks_text kind first all size ≡ marks_text kind first values size ++ marks_text kind last packed size
   unfolding marks_text
@@ -161,6 +166,40 @@ module _ (kind : ColumnKind) (first : ℕ) (values packed all : List ℕ) (k las
       ∙ ap (λ (l : List ℕ). run (body_text kind first values) (length values / 128) ++ l)
       (run_same (λ i. f (k + i)) (body_text kind last packed) j
       (λ i lt. ap (λ (w : ℕ). packed_block w (codes_after kind first all (k + i))) (width_back i) ∙ ap (packed_block (width_after kind last packed i)) (codes_back i)))
+
+-- the widths of all
+module _ (kind : ColumnKind) (first : ℕ) (values packed all : List ℕ) (k last : ℕ) (split : IsSplit kind first values packed all k last) where
+  pub widths_split : (widths more : List ℕ) → length widths ≡ k → AreWidths kind first values widths → AreWidths kind last packed more
+      → AreWidths kind first all (widths ++ more)
+  widths_split widths more long one two = record {
+    each = λ m lt within. elim (cases_lt m k) [
+      | inl front ↦
+          get_or_append_left widths more 0 m (omega (arith, long, front)) ∙ one.each m (omega (arith, split.values_are, front)) (omega (arith, long, front))
+          ∙ sym (width_front kind first values packed all k last split m front)
+      | inr back ↦
+          let i : ℕ = m - k in
+          let e : k + i ≡ m = omega (arith, back) in
+          get_or-append_right widths more k m 0 long back
+          ∙ two.each i (omega (arith, split.blocks_are, lt, back)) (omega (arith, length-append widths more, long, within, back))
+          ∙ sym (width_back kind first values packed all k last split i) ∙ ap (width_after kind first all) e
+    ];
+  }
+
+  pub widths_front : (widths : List ℕ) → AreWidths kind first all widths → AreWidths kind first values (take k widths)
+  widths_front widths both = record {
+    each = λ m lt within.
+        let front : m < k = omega (arith, split.values_are, lt) in
+        let room : m < length widths = omega (arith, length-take k widths, within) in
+        get_or-take k widths m 0 front ∙ both.each m (omega (arith, split.blocks_are, front)) room
+        ∙ width_front kind first values packed all k last split m front;
+  }
+
+  pub widths_back : (widths : List ℕ) → k ≤ length widths → AreWidths kind first all widths → AreWidths kind last packed (drop k widths)
+  widths_back widths le both = record {
+    each = λ i lt within.
+        let room : k + i < length widths = omega (arith, length-drop k widths, le, within) in
+        get_or-drop k widths i 0 ∙ both.each (k + i) (omega (arith, split.blocks_are, lt)) room ∙ width_back kind first values packed all k last split i;
+  }
 
 -- what is measured of all
 pub measured_split : (kind : ColumnKind) (first : ℕ) (values packed all : List ℕ) (k last : ℕ) → IsSplit kind first values packed all k last
@@ -200,3 +239,67 @@ tail_back values packed k le =
 -- a tail and more values after it follow the blocks
 pub rejoined : (values more : List ℕ) (n : ℕ) → take n values ++ (drop n values ++ more) ≡ values ++ more
 rejoined values more n = sym (append_assoc (take n values) (drop n values) more) ∙ ap (λ (l : List ℕ). l ++ more) (take-append-drop n values)
+
+-- values of whole blocks, and packed ones after them
+whole_split : (kind : ColumnKind) (first : ℕ) (values packed : List ℕ) (k last : ℕ) → length values ≡ 128 * k
+    → (kind ≡ Sorted → last ≡ base_of Sorted first (mark_in Sorted values) k) → IsSplit kind first values packed (values ++ packed) k last
+whole_split kind first values packed k last long last_is =
+    let same : take (128 * k) values ++ packed ≡ values ++ packed = ap (λ (l : List ℕ). l ++ packed) (take_all (128 * k) values (omega (arith, long))) in
+    let le : 128 * k ≤ length values = omega (arith, long) in
+    record {
+      front = λ m lt. ap (block_of m) (sym same) ∙ block_front values packed k m le lt;
+      back = λ i. ap (block_of (k + i)) (sym same) ∙ block_back values packed k i le;
+      blocks_are = omega (arith, length-append values packed, long);
+      values_are = omega (arith, long);
+      last_is = last_is;
+    }
+
+-- a filled block, and later values
+pub filled_split : (kind : ColumnKind) (before : ℕ) (filled later : List ℕ) → length filled ≡ 128
+    → IsSplit kind before filled later (filled ++ later) 1 (get_or filled 127 0)
+filled_split kind before filled later long =
+    whole_split kind before filled later 1 (get_or filled 127 0) long
+    (λ is. ap (λ (l : List ℕ). get_or l 127 0) (sym (take_all 128 filled (omega (arith, long)))))
+
+pub left_both : (filled later : List ℕ) → (length filled ≡ 0) ⊎ (length filled ≡ 128)
+    → drop (128 * (length (filled ++ later) / 128)) (filled ++ later) ≡ drop (128 * (length later / 128)) later
+left_both filled later (inl none) = ap (λ (l : List ℕ). drop (128 * (length (l ++ later) / 128)) (l ++ later)) (nil_from_length filled none)
+left_both filled later (inr one) =
+    let same : take (128 * 1) filled ≡ filled = take_all (128 * 1) filled (omega (arith, one)) in
+    ap (λ (l : List ℕ). drop (128 * (length (l ++ later) / 128)) (l ++ later)) (sym same) ∙ tail_back filled later 1 (omega (arith, one))
+
+-- no values or one block of them: if there is one, it is a block
+pub one_block : (filled : List ℕ) → (length filled ≡ 0) ⊎ (length filled ≡ 128) → 0 < length filled → length filled ≡ 128
+one_block filled (inl none) some = absurd (omega (arith, none, some))
+one_block filled (inr one) some = one
+
+-- how many whole blocks there are with those that are kept
+pub packed_blocks : (filled later : List ℕ) (kept k : ℕ) → kept ≡ k → kept + (length filled + length later) / 128 ≡ k + length (filled ++ later) / 128
+packed_blocks filled later kept k e = omega (arith, e, length-append filled later)
+
+-- the tail and the first of more values, and the other ones
+pub repacked : (values more room filled later : List ℕ) (n taken long count : ℕ) → long ≡ count → take (long % 128 + taken) room ≡ drop n values ++ take taken more
+    → filled ++ later ≡ take (count % 128 + taken) room ++ take (length more - taken) (drop taken more) → take n values ++ (filled ++ later) ≡ values ++ more
+repacked values more room filled later n taken long count e a b =
+    ap (λ (l : List ℕ). take n values ++ l)
+    (b ∙ ap (λ (l : List ℕ). take (count % 128 + taken) room ++ l) (take_rest more taken) ∙ ap (λ (i : ℕ). take (i % 128 + taken) room ++ drop taken more) (sym e)
+    ∙ ap (λ (l : List ℕ). l ++ drop taken more) a ∙ append_assoc (drop n values) (take taken more) (drop taken more)
+    ∙ ap (λ (l : List ℕ). drop n values ++ l) (take-append-drop taken more))
+    ∙ rejoined values more n
+
+pub front_taken : (front more rest : List ℕ) (n : ℕ) → length front + length more ≡ n → take n (front ++ (more ++ rest)) ≡ front ++ more
+front_taken front more rest n e = ap (take n) (sym (append_assoc front more rest)) ∙ take_at (front ++ more) rest n (length-append front more ∙ e)
+
+-- if the tail and the first of more values fill no block, there is no other one
+pub none_later : (values more room : List ℕ) (taken count : ℕ) → length values ≡ count
+    → take (length values % 128 + taken) room ≡ drop (128 * (length values / 128)) values ++ take taken more → taken ≡ min (length more) (128 - length values % 128)
+    → length (take (count % 128 + taken) room) < 128 → length (take (length more - taken) (drop taken more)) ≡ 0
+none_later values more room taken count e filled is few =
+    let n : ℕ = 128 * (length values / 128) in
+    let le : taken ≤ length more = omega (arith, is) in
+    let same = ap (λ (i : ℕ). length (take (i % 128 + taken) room)) e in
+    let front = ap length filled ∙ length-append (drop n values) (take taken more) in
+    let tail = length-drop n values in
+    let new = length-take-le taken more le in
+    let left = ap length (take_rest more taken) ∙ length-drop taken more in
+    omega (arith, is, few, same, front, tail, new, left)

@@ -2,7 +2,7 @@
 use Rattle.std.proofs.Common.{◌≡◌, ℕ, zero, suc, min, ◌+◌, ◌-◌, ◌*◌, ◌/◌, ◌%◌, ◌^◌, ◌<◌, ◌≤◌, Bool, true, false, cond, ◌&&◌, eqb, not, List, [], ◌∷◌, ◌++◌, map, take, drop, length, get_or, replicate, Option, None, refl, sym, ap, ◌∙◌, arith, inl, inr, subst, append-nil, eq-eqb, length-append, length-drop, take-append-drop}
 use Rattle.std.specs.List.Sorted.{IsNonDecreasing}
 use Rattle.std.specs.Option.{option_map}
-use Rattle.std.proofs.lemmas.Bool.{cases_lt, lt-ltb, ne_eqb, true≢false}
+use Rattle.std.proofs.lemmas.Bool.{cases_lt, ne_eqb, true≢false}
 use Rattle.std.proofs.lemmas.List.{drop_at, nil_from_length}
 use Rattle.std.proofs.lemmas.List.Elements.{All-drop, All-head}
 use Rattle.bitpack_groups.proofs.ForCallers.{AreBytes-append, AreBytes-nil, groups_read_back, groups_run, longest_groups, longest_number, number_reads_back}

@@ -1,8 +1,8 @@
 -- The header, the tail and the blocks of a column, as they are written.
-use Rattle.std.proofs.Common.{◌≡◌, ℕ, suc, ◌+◌, ◌-◌, ◌*◌, ◌/◌, ◌<◌, ◌≤◌, Bool, true, false, cond, eqb, ltb, List, [], ◌∷◌, ◌++◌, length, get_or, set, take, drop, refl, sym, ap, ◌∙◌, arith, subst, append-nil, append_assoc, length-append}
+use Rattle.std.proofs.Common.{◌≡◌, ℕ, suc, ◌+◌, ◌-◌, ◌*◌, ◌/◌, ◌<◌, ◌≤◌, Bool, true, false, cond, eqb, ltb, List, [], ◌∷◌, ◌++◌, length, get_or, set, take, drop, refl, sym, ap, ◌∙◌, arith, inl, inr, subst, append-nil, append_assoc, length-append}
 use Rattle.std.specs.Prelude.{min}
 use borrow.Rule.Slice.PartMut.{put_mid}
-use Rattle.std.proofs.lemmas.Bool.{cond_above, cond_below, eq-eqb, ne_eqb}
+use Rattle.std.proofs.lemmas.Bool.{cases_lt, cond_above, cond_below, eq-eqb, ne_eqb}
 use Rattle.std.proofs.lemmas.List.{drop_all}
 use Rattle.bitpack_groups.proofs.ForCallers.{groups_run, longest_groups, take-put_end}
 use Rattle.bitpack_groups.specs.Packed.{groups, le_bytes}
@@ -188,6 +188,12 @@ no_blocks kind values few =
 pub are_blocks : (kind : ColumnKind) (values : List ℕ) → 128 ≤ length values → some_blocks kind values ≡ blocks_text kind values
 are_blocks kind values many =
     ap (λ (b : Bool). cond b [] (blocks_text kind values)) (ne_eqb (length values / 128) 0 (λ e. omega (arith, e)))
+
+pub blocks_if : (kind : ColumnKind) (values : List ℕ) → 0 < length (some_blocks kind values) → some_blocks kind values ≡ blocks_text kind values
+blocks_if kind values some = elim (cases_lt (length values) 128) [
+  | inl few ↦ (let none = ap length (no_blocks kind values few) in absurd (omega (arith, some, none)))
+  | inr many ↦ are_blocks kind values many
+]
 
 pub text_long : (kind : ColumnKind) (values : List ℕ) → length (text kind values) ≡ length (header_text kind values) + length (some_blocks kind values) + length (tail_text kind values)
 text_long kind values =

@@ -1,12 +1,12 @@
 -- The first fault of bytes as an encoded column.
-use Rattle.std.specs.Prelude.{ℕ, zero, suc, ◌+◌, ◌-◌, ◌*◌, ◌/◌, ◌%◌, ◌^◌, Bool, false, ◌&&◌, ◌||◌, ◌==◌, not, nat_lt, nat_le, if◌then◌else◌, List, [], ◌∷◌, length, take, drop, slice_index, Option, Some, None}
+use Rattle.std.specs.Prelude.{ℕ, zero, suc, ◌+◌, ◌/◌, ◌%◌, Bool, false, ◌&&◌, ◌||◌, ◌==◌, not, nat_lt, nat_le, if◌then◌else◌, List, [], ◌∷◌, length, drop, slice_index, Option, Some, None}
 use Rattle.std.specs.Option.{option_map, option_or}
 use Rattle.bitpack_columns.specs.declared.column_kind.ColumnKind.{ColumnKind}
 use Rattle.bitpack_columns.specs.declared.column_kind.ColumnKind.TheVariants.{Plain, Sorted}
 use Rattle.bitpack_columns.specs.declared.column_error.ColumnError.{ColumnError}
 use Rattle.bitpack_columns.specs.declared.column_error.ColumnError.TheVariants.{Short, BadVersion, LooseWidth, BadOffset, BadLast, NotSorted, Trailing, BadSizes}
 use Rattle.bitpack_columns.specs.Columns.{least, mark_of}
-use Rattle.bitpack_columns.specs.Numbers.{are_loose, byte_count, count_fault, greatest, groups_fault, groups_of, number_end, number_fault, number_value, of}
+use Rattle.bitpack_columns.specs.Numbers.{are_loose, byte_count, count_fault, greatest, groups_fault, groups_of, number_fault, number_value, of}
 use Rattle.bitpack_columns.specs.Reads.{after_tail, begin_at, block_values, bodies_start, coded, codes_at, column_values, end_at, end_size, groups_at, mark_at, mark_size, tail_at, tail_start, tail_values, width_at}
 use Rattle.bitpack_columns.specs.Stated.{after_count, count_in, first_in, has_first, is_few, kind_in, rest_in}
 

@@ -1,6 +1,7 @@
 -- The definitions of this crate.
 pub mod Builders
 pub mod Columns
+pub mod Counted
 pub mod Cursors
 pub mod Errors
 pub mod Faults

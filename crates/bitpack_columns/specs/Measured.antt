@@ -1,5 +1,5 @@
 -- What is measured of values that follow others in a column before they are written, and what is written of them.
-use Rattle.std.specs.Prelude.{◌≡◌, ℕ, suc, ◌+◌, ◌-◌, ◌*◌, ◌/◌, ◌<◌, List, ◌++◌, drop, length, slice_index, take, Option, None}
+use Rattle.std.specs.Prelude.{◌≡◌, ℕ, suc, ◌+◌, ◌-◌, ◌*◌, ◌/◌, ◌<◌, ◌==◌, if◌then◌else◌, List, ◌++◌, drop, length, slice_index, take, Option, None}
 use Rattle.std.specs.List.{flat_map, range_with_len}
 use Rattle.bitpack_columns.specs.declared.column.Column.{Column}
 use Rattle.bitpack_columns.specs.declared.column_kind.ColumnKind.{ColumnKind}
@@ -75,13 +75,14 @@ pub record IsPlanned (kind : ColumnKind) (values : List ℕ) (before : ℕ) (pac
 
 -- ---- more values after a column
 
--- the first value of a column, and the mark of its last block
+-- the first value of a column
 abbrev pub first_value : Column → ℕ
 first_value column = slice_index (values column) 0
-
-abbrev pub last_mark : Column → ℕ
-last_mark column = mark_in (kind_of column) (values column) (blocks_of column - 1)
 
 -- the values of its whole blocks, and packed values after them
 abbrev pub extended : Column → List ℕ → List ℕ
 extended column packed = take (128 * blocks_of column) (values column) ++ packed
+
+-- what packed values of a sorted column follow: the last value of the blocks, or if there is no block the first of these values
+abbrev pub packed_after : Column → List ℕ → ℕ
+packed_after column packed = if blocks_of column == 0 then slice_index packed 0 else mark_in (kind_of column) (values column) (blocks_of column - 1)

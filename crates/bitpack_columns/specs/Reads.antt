@@ -1,5 +1,5 @@
 -- What a reader finds in an encoded column. The rest of its bytes is what is after the count and the first value.
-use Rattle.std.specs.Prelude.{ℕ, zero, suc, ◌+◌, ◌-◌, ◌*◌, ◌/◌, ◌%◌, ◌^◌, ◌==◌, nat_lt, if◌then◌else◌, List, [], ◌∷◌, ◌++◌, map, length, take, drop, replicate, slice_index}
+use Rattle.std.specs.Prelude.{ℕ, zero, suc, ◌+◌, ◌-◌, ◌*◌, ◌/◌, ◌%◌, ◌^◌, ◌==◌, if◌then◌else◌, List, ◌++◌, map, take, drop, replicate, slice_index}
 use Rattle.std.specs.List.{flat_map, range_with_len}
 use Rattle.bitpacking.specs.Codes as packing
 use Rattle.bitpacking.specs.Layout.{codes_of}

@@ -1,7 +1,7 @@
 -- What reading a column relies on: the bytes have no fault, and what they state.
-use Rattle.std.specs.Prelude.{◌≡◌, ℕ, ◌+◌, ◌*◌, ◌/◌, ◌<◌, ◌≤◌, List, length, None}
+use Rattle.std.specs.Prelude.{◌≡◌, ℕ, ◌<◌, ◌≤◌, List, length, None}
 use Rattle.bitpack_columns.specs.declared.column_kind.ColumnKind.{ColumnKind}
-use Rattle.bitpack_columns.specs.Columns.{base_of, mark_of}
+use Rattle.bitpack_columns.specs.Columns.{mark_of}
 use Rattle.bitpack_columns.specs.Faults.{fault}
 use Rattle.bitpack_columns.specs.Reads.{begin_at, block_values, bodies_start, end_at, end_size, mark_at, mark_size, tail_start, width_at}
 use Rattle.bitpack_columns.specs.Stated.{count_in, first_in, kind_in, rest_in}

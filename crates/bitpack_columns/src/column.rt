@@ -53,12 +53,14 @@ impl<'a> Column<'a> {
     ghost use Rattle.bitpack_columns.specs.Errors.{Finds};
     ghost use Rattle.bitpack_columns.specs.Faults.{fault};
     ghost use Rattle.bitpack_columns.specs.Opened.{kind_of, text_of, values};
+    ghost use Rattle.bitpack_columns.specs.Stated.{kind_in};
 
     /// Opens an encoded column. Tests all bytes, accepts any, and allocates nothing.
     pub fn open(bytes: &'a [u8]) -> Result<Column<'a>, ColumnError>
         // Bytes with a fault are refused for the first, and bytes without one are opened.
         ensures fault { Finds result (fault bytes.now) }
         ensures bytes { IfOk result (λ column. text_of column ≡ bytes.now) }
+        ensures kind { IfOk result (λ column. kind_of column ≡ kind_in bytes.now) }
         // The bytes are the encoding of this column.
         ensures column { IfOk result (λ column. IsColumn (kind_of column) (values column)) }
         ensures text { IfOk result (λ column. text (kind_of column) (values column) ≡ bytes.now) }
@@ -78,6 +80,7 @@ impl<'a> Column<'a> {
     pub fn of_tested(bytes: &'a [u8]) -> Column<'a>
         requires sound { fault bytes.now ≡ None }
         ensures bytes { text_of result ≡ bytes.now }
+        ensures kind { kind_of result ≡ kind_in bytes.now }
         ensures column { IsColumn (kind_of result) (values result) }
         ensures text { text (kind_of result) (values result) ≡ bytes.now }
     {
@@ -88,6 +91,7 @@ impl<'a> Column<'a> {
     pub fn from_parts(bytes: &'a [u8], parts: Parts<'a>) -> Column<'a>
         requires { States bytes.now parts.kind parts.count parts.first parts.rest.now }
         ensures bytes { text_of result ≡ bytes.now }
+        ensures kind { kind_of result ≡ kind_in bytes.now }
         ensures column { IsColumn (kind_of result) (values result) }
         ensures text { text (kind_of result) (values result) ≡ bytes.now }
     {

@@ -42,8 +42,8 @@ impl ColumnBuilder {
     /// them in a sorted column, or with `Memory`. The builder is then unchanged.
     pub fn push(&mut self, value: u32) -> Result<(), ColumnError>
         ensures kind { kind_of_builder self.new ≡ kind_of_builder self.old }
-        ensures pushes { Pushes (kind_of_builder self.old) (room_of_builder self.old) (values_of_builder self.old)
-            (value ∷ []) (values_of_builder self.new) result }
+        ensures pushes { Pushes ColumnError.Memory (kind_of_builder self.old) (room_of_builder self.old)
+            (values_of_builder self.old) (value ∷ []) (values_of_builder self.new) result }
     {
         test_pushed(self.kind, self.values.as_slice(), &[value])?;
         match self.values.push(value) {
@@ -58,7 +58,7 @@ impl ColumnBuilder {
     /// it. The builder is then unchanged.
     pub fn push_all(&mut self, values: &[u32]) -> Result<(), ColumnError>
         ensures kind { kind_of_builder self.new ≡ kind_of_builder self.old }
-        ensures pushes { Pushes (kind_of_builder self.old) (room_of_builder self.old)
+        ensures pushes { Pushes ColumnError.Memory (kind_of_builder self.old) (room_of_builder self.old)
             (values_of_builder self.old) values.now (values_of_builder self.new) result }
     {
         test_pushed(self.kind, self.values.as_slice(), values)?;

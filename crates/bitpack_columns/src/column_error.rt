@@ -36,7 +36,7 @@ pub enum ColumnError {
     WrongKind(ColumnKind, ColumnKind),
     /// The byte of the sizes does not say the least counts of bytes from 1 to 4.
     BadSizes(u8),
-    /// The value at this position is above `u32::MAX` with the base added.
+    /// The value at this position of the other column is above `u32::MAX` with the base added.
     Overflow(usize),
 }
 

@@ -12,13 +12,16 @@ mod encoding;
 mod entries;
 pub mod laws;
 mod opening;
+mod reads;
 mod tail;
 mod worked_columns;
 
-pub use appending::append;
+pub use appending::joining::{join, join_to};
+pub use appending::{append, append_to};
 pub use column::{Column, Parts};
 pub use column_builder::ColumnBuilder;
 pub use column_cursor::ColumnCursor;
 pub use column_error::ColumnError;
 pub use column_kind::ColumnKind;
+pub use encoding::order::test_pushed;
 pub use encoding::{encode, encode_to, encoded_len};

@@ -1,5 +1,5 @@
 -- An integer of one to four bytes, by its bytes; and the room of those end to end.
-use Rattle.std.proofs.Common.{◌≡◌, ℕ, zero, suc, ◌+◌, ◌*◌, ◌^◌, ◌<◌, ◌≤◌, ◌-◌, List, take, drop, get_or, slice_index, [], ◌∷◌, ◌/◌, length, refl, sym, ap, ◌∙◌, arith}
+use Rattle.std.proofs.Common.{◌≡◌, ℕ, zero, suc, ◌+◌, ◌*◌, ◌^◌, ◌<◌, ◌≤◌, ◌-◌, List, take, drop, get_or, slice_index, refl, ap, ◌∙◌, arith}
 use Rattle.std.proofs.lemmas.List.{get_or-drop, get_or-take}
 use Rattle.std.proofs.lemmas.Nat.{mul-le}
 use Rattle.bitpacking.specs.Words.{joined}
@@ -17,9 +17,6 @@ from_there size start index bytes =
     (λ i. get_or-drop start bytes (size * index + i) 0 ∙ (let e : start + (size * index + i) ≡ start + size * index + i = omega arith in ap (λ (n : ℕ). get_or bytes n 0) e))
 
 module _ (start index : ℕ) (bytes : List ℕ) where
-  byte : ℕ → ℕ → ℕ
-  byte from i = get_or bytes (from + i) 0
-
   first_byte : (from : ℕ) → get_or bytes (from + 0) 0 ≡ get_or bytes from 0
   first_byte from = let e : from + 0 ≡ from = omega arith in ap (λ (n : ℕ). get_or bytes n 0) e
 

@@ -1,5 +1,5 @@
 -- How long numbers and groups can be: no number has more than five bytes, and no group more than a byte beside its codes.
-use Rattle.std.proofs.Common.{◌≡◌, ℕ, zero, suc, ◌+◌, ◌/◌, ◌%◌, ◌^◌, ◌<◌, ◌≤◌, [], length, take, drop, ap, arith, inl, inr}
+use Rattle.std.proofs.Common.{◌≡◌, ℕ, zero, suc, ◌+◌, ◌/◌, ◌%◌, ◌^◌, ◌<◌, [], length, take, drop, ap, arith, inl, inr}
 use Rattle.std.proofs.lemmas.Bool.{cases_lt, le-ltb, lt-ltb}
 use Rattle.std.proofs.lemmas.List.{length-append, length-drop, length-take}
 use Rattle.std.proofs.lemmas.List.Elements.{All-drop, All-take}
@@ -8,9 +8,9 @@ use Rattle.bitpacking.specs.Bits.{AreBytes}
 use Rattle.bitpacking.proofs.ForCallers.{one_least_width}
 use Rattle.bitpack_groups.specs.Groups.{group_size}
 use Rattle.bitpack_groups.specs.Laws.{LongestGroup, LongestGroups, LongestNumber}
-use Rattle.bitpack_groups.specs.Numbers.{number, number_in}
+use Rattle.bitpack_groups.specs.Numbers.{number_in}
 use Rattle.bitpack_groups.proofs.ByteLemmas.{AreBytes-cons, AreBytes-nil}
-use Rattle.bitpack_groups.proofs.NumberLemmas.{length-number_in, number-small, number_in-large, number_in-small}
+use Rattle.bitpack_groups.proofs.NumberLemmas.{length-number_in}
 
 pub AreBytes-number_in : (more x : ℕ) → AreBytes (number_in more x)
 unfolding number_in
@@ -23,13 +23,6 @@ AreBytes-number_in (suc more) x =
 
 pub longest_number : LongestNumber
 longest_number x = length-number_in 5 x
-
-pub two_bytes : (x : ℕ) → x < 2 ^ 14 → length (number x) ≤ 2
-two_bytes x few =
-    elim (cases_lt x 128) [
-      | inl small ↦ omega (arith, ap length (number-small x small))
-      | inr large ↦ omega (arith, ap length (number_in-large 4 x large), ap length (number_in-small 3 (x / 128) (omega arith)))
-    ]
 
 pub longest_group : LongestGroup
 longest_group codes part few words group =

@@ -9,7 +9,7 @@ use Rattle.bitpacking.specs.Words.{joined}
 use Rattle.bitpack_groups.specs.Laws.{OneNumber, NumberReadsBack}
 use Rattle.bitpack_groups.specs.Numbers.{number_in, number, going_on, number_end, number_value, number_fault}
 use Rattle.bitpack_groups.proofs.FaultLemmas.{passed}
-use Rattle.bitpack_groups.proofs.NumberLemmas.{number-small, number_in-small, number_in-large, pow-seven, number_end-is, number_value-is, no_fault, length-number_in}
+use Rattle.bitpack_groups.proofs.NumberLemmas.{joined-none, length-number_in, no_fault, number-small, number_end-is, number_in-large, number_in-small, number_value-is, pow-seven}
 
 -- the seven bits of each byte
 abbrev pub low : List ℕ → ℕ → ℕ
@@ -48,18 +48,10 @@ going-large : (most byte : ℕ) (bytes : List ℕ) → 128 ≤ byte → going_on
 unfolding going_on
 going-large most byte bytes le = rw (le-ltb byte 128 le) refl
 
-going-zero : (bytes : List ℕ) → going_on 0 bytes ≡ 0
-unfolding going_on
-going-zero bytes = refl
-
-joined-zero : (f : ℕ → ℕ) → joined 7 f 0 ≡ 0
-unfolding joined
-joined-zero f = refl
-
 -- One byte says that no other follows.
 read-one : (most byte : ℕ) (bytes : List ℕ) → byte < 128 → take 1 (byte ∷ bytes) ≡ number_in (suc most) (joined 7 (low (byte ∷ bytes)) 1)
 read-one most byte bytes less =
-    let none = joined-zero (λ i. low (byte ∷ bytes) (suc i)) in
+    let none = joined-none (λ i. low (byte ∷ bytes) (suc i)) in
     let value : joined 7 (low (byte ∷ bytes)) 1 ≡ byte = omega (arith, joined-first (low (byte ∷ bytes)) 0, none) in
     rw value (sym (number_in-small most byte less))
 
@@ -109,7 +101,7 @@ reads-one most x rest less =
     let stop = going-small most x rest less in
     record {
       going = omega (arith, stop);
-      value = omega (arith, joined-first (low (x ∷ rest)) 0, joined-zero (λ i. low (x ∷ rest) (suc i)));
+      value = omega (arith, joined-first (low (x ∷ rest)) 0, joined-none (λ i. low (x ∷ rest) (suc i)));
       last = λ some. rw stop some;
     }
 

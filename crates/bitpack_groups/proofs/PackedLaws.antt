@@ -13,7 +13,6 @@ use Rattle.bitpack_groups.proofs.IntegerTexts.{front_text, front_value, low_firs
 use Rattle.bitpack_groups.proofs.WidthLemmas.{Decides-fits}
 use Rattle.bitpacking.specs.Bits.{AreBytes, bit_of}
 use Rattle.bitpacking.specs.Codes.{AreWords}
-use Rattle.bitpacking.specs.Layout.{place}
 use Rattle.bitpacking.specs.Width.{Fits, Least}
 use Rattle.bitpack_groups.specs.Groups.{AreGroups, IsGroup, groups_of}
 use Rattle.bitpack_groups.specs.Packed.{group, groups, le_bytes, least_width, packed, width_from}

@@ -1,6 +1,6 @@
 -- A slice whose part was written anew.
 use Rattle.std.proofs.Common.{◌≡◌, ℕ, ◌+◌, ◌-◌, ◌≤◌, List, [], ◌++◌, length, take, take-add, drop, refl, ◌∙◌, ap, arith}
-use Rattle.std.proofs.lemmas.List.{append-nil, drop-drop, drop_all, drop_at, length-append, length-drop, length-take, length-take-le, take_all, take_at, take_rest}
+use Rattle.std.proofs.lemmas.List.{append-nil, drop_all, drop_at, length-append, length-drop, length-take, length-take-le, take_at, take_rest}
 use borrow.Rule.Slice.PartMut.{put_mid}
 
 -- A list whose end was written anew.
@@ -21,21 +21,6 @@ take-put_end start size xs part within long =
       take_at (take start xs) part start front,
       drop_at (take start xs) part start front,
     ) refl
-
-pub drop-put_end : (start size : ℕ) (xs part : List ℕ) → start ≤ length xs → length part ≡ length xs - start
-    → drop size part ≡ drop size (take (length xs - start) (drop start xs))
-    → drop (start + size) (put_mid start (length xs - start) xs part) ≡ drop (start + size) xs
-drop-put_end start size xs part within long rest =
-    let front : length (take start xs) ≡ start = simp length-take (omega arith) in
-    let end : take (length xs - start) (drop start xs) ≡ drop start xs =
-    take_all (length xs - start) (drop start xs) (simp length-drop (omega arith)) in
-    rw (
-      put_end start xs part within long,
-      ← drop-drop size start (take start xs ++ part),
-      drop_at (take start xs) part start front,
-      rest,
-      end,
-    ) (drop-drop size start xs)
 
 -- A slice after its front, and how long that is.
 pub lent_after : (start : ℕ) (xs : List ℕ) → length (take (length xs - start) (drop start xs)) ≡ length xs - start

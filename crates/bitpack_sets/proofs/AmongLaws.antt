@@ -1,12 +1,13 @@
 -- A byte that is looked for among bytes with marks.
 use Rattle.std.proofs.Common.{◌≡◌, ℕ, zero, suc, ◌^◌, ◌<◌, Bool, true, false, ◌||◌, ◌&&◌, not, eqb, ltb, List, [], ◌∷◌, get_or, length, refl, sym, ap, ◌∙◌, arith, inl, inr, eq-eqb}
+use Rattle.std.proofs.Math.Bool.{or-false}
 use Rattle.std.specs.Int.{bit_at}
 use Rattle.std.proofs.lemmas.Bool.{cases_lt, le-ltb, lt-ltb, ne_eqb, or_parts, true≢false}
 use Rattle.std.proofs.lemmas.Bool.Decides.{eqb_tells}
 use Rattle.std.proofs.lemmas.Nat.Bits.{bit_at-zero}
 use Rattle.bitpack_sets.proofs.BitmapLaws.{those_none}
 use Rattle.bitpack_sets.proofs.OnesLaws.{ones_all}
-use Rattle.bitpack_sets.proofs.ReadLaws.{eqb_same, or_false}
+use Rattle.bitpack_sets.proofs.ReadLaws.{eqb_same}
 use Rattle.bitpack_sets.specs.Reads.{has}
 use Rattle.bitpack_sets.specs.Sets.{bits}
 use Rattle.bitpack_sets.specs.Slices.{ones_from}
@@ -51,7 +52,7 @@ module _ (m count low : ℕ) (bytes own : List ℕ) (small : m < 2 ^ 32) (size :
   lacking h i lt = elim (cases_lt i count) [
     | inl less ↦
         marks i lt ∙ ap (λ (b : Bool). b && (eqb low (get_or bytes i 0) || false)) (lt-ltb i count less)
-        ∙ or_false (eqb low (get_or bytes i 0)) ∙ ap (λ (n : ℕ). eqb low n) (same i (omega arith)) ∙ has_not low i own h (omega arith)
+        ∙ or-false (eqb low (get_or bytes i 0)) ∙ ap (λ (n : ℕ). eqb low n) (same i (omega arith)) ∙ has_not low i own h (omega arith)
     | inr more ↦ marks i lt ∙ ap (λ (b : Bool). b && (eqb low (get_or bytes i 0) || false)) (le-ltb i count more)
   ]
 

@@ -1,13 +1,12 @@
 -- The numbers below a bound that pass a test, and the answer chunk by chunk.
-use Rattle.std.proofs.Common.{length, take, append_assoc, length-append, eq-eqb, ◌≡◌, ℕ, ◌+◌, ◌-◌, ◌*◌, ◌/◌, ◌%◌, ◌^◌, ◌<◌, ◌≤◌, Bool, true, false, ◌&&◌, ◌||◌, eqb, List, [], ◌∷◌, ◌++◌, map, refl, sym, ap, ◌∙◌, arith, subst, inl, inr}
+use Rattle.std.proofs.Common.{length, take, length-append, ◌≡◌, ℕ, ◌+◌, ◌-◌, ◌*◌, ◌/◌, ◌%◌, ◌^◌, ◌<◌, ◌≤◌, Bool, true, false, List, [], ◌++◌, map, refl, sym, ap, ◌∙◌, arith, subst, inl, inr}
 use Rattle.std.specs.List.{filter, range_with_len}
-use Rattle.std.proofs.lemmas.Bool.{cases_lt, ne_eqb, true≢false}
-use Rattle.std.proofs.lemmas.List.{append-nil, length-map, length-take, length-take-le}
-use Rattle.bitpack_sets.proofs.BitmapLaws.{those_agree, those_few, those_none, those_raised, those_split}
+use Rattle.std.proofs.lemmas.Bool.{cases_lt}
+use Rattle.std.proofs.lemmas.List.{append-nil, length-map, length-take-le, nil_from_length}
+use Rattle.bitpack_sets.proofs.BitmapLaws.{those_few, those_none, those_raised, those_split}
 use Rattle.bitpack_sets.proofs.CombineLaws.{holds_none}
-use Rattle.bitpack_sets.proofs.LoadLaws.{has_those, those_rise}
-use Rattle.bitpack_sets.proofs.SelectionLaws.{map_zero, out_of}
-use Rattle.bitpack_sets.specs.Bitmaps.{has_high}
+use Rattle.bitpack_sets.proofs.LoadLaws.{has_those, kept_same, those_rise}
+use Rattle.bitpack_sets.proofs.SelectionLaws.{map_zero}
 use Rattle.bitpack_sets.specs.Chunks.{lows_between}
 use Rattle.bitpack_sets.specs.Operations.{answer, holds, those}
 use Rattle.bitpack_sets.specs.Pairs.{IsPart, left, meets, places_left}
@@ -62,7 +61,7 @@ pass_right operation p q r x key none below same = elim (cases_lt x (key * 65536
 
 pub those_same : (n : ℕ) (p q : ℕ → Bool) → ((x : ℕ) → x < n → p x ≡ q x) → those n p ≡ those n q
 unfolding those
-those_same n p q same = those_agree p q 0 n (λ x a b. same x (omega arith))
+those_same n p q same = kept_same p q 0 n (λ x a b. same x (omega arith))
 
 pub none_pass : (n : ℕ) (p : ℕ → Bool) → ((x : ℕ) → x < n → p x ≡ false) → those n p ≡ []
 unfolding those
@@ -89,9 +88,9 @@ those_part n low size p q r room before own passed after =
     ∙ ap (λ (xs : List ℕ). xs ++ (filter p (range_with_len low size) ++ filter p (range_with_len (low + size) more))) (those_none p 0 low (λ x a b. before x (omega arith)))
     ∙ ap (λ (xs : List ℕ). xs ++ filter p (range_with_len (low + size) more))
     (ap (λ (l : ℕ). filter p (range_with_len l size)) (sym zero_low) ∙ those_raised p low 0 size
-    ∙ ap (map (λ i. low + i)) (those_agree (λ i. p (low + i)) q 0 size (λ x a b. own x (omega arith))))
+    ∙ ap (map (λ i. low + i)) (kept_same (λ i. p (low + i)) q 0 size (λ x a b. own x (omega arith))))
     ∙ ap (λ (xs : List ℕ). map (λ i. low + i) (filter q (range_with_len 0 size)) ++ xs)
-    (those_agree p r (low + size) more (λ x a b. after x a (omega arith))
+    (kept_same p r (low + size) more (λ x a b. after x a (omega arith))
     ∙ sym (ap (λ (m : ℕ). filter r (range_with_len 0 m)) all ∙ cut r low size more
     ∙ ap (λ (xs : List ℕ). xs ++ (filter r (range_with_len low size) ++ filter r (range_with_len (low + size) more))) (those_none r 0 low (λ x a b. passed x (omega arith)))
     ∙ ap (λ (xs : List ℕ). xs ++ filter r (range_with_len (low + size) more)) (those_none r low size (λ x a b. passed x (omega arith)))))
@@ -104,21 +103,6 @@ listed_rise xs p e = subst (λ (ys : List ℕ). IsRising 0 256 ys) (sym (e ∙ m
 pub listed_has : (xs : List ℕ) (p : ℕ → Bool) (x : ℕ) → xs ≡ map (λ i. 0 + i) (those 256 p) → x < 256 → has x xs ≡ p x
 listed_has xs p x e h = ap (has x) (e ∙ map_zero (those 256 p)) ∙ has_those p x 256 h
 
-or_first : (a b : Bool) → (a || b) ≡ false → a ≡ false
-or_first true b h = h
-or_first false b h = refl
-
-or_second : (a b : Bool) → (a || b) ≡ false → b ≡ false
-or_second true b h = absurd (true≢false h)
-or_second false b h = h
-
-pub high_none : (x h : ℕ) (xs : List ℕ) → h ≡ x / 256 → has_high h xs ≡ false → has x xs ≡ false
-high_none x h [] is none = refl
-high_none x h (y ∷ xs) is none =
-    let first : eqb (y / 256) h ≡ false = or_first (eqb (y / 256) h) (has_high h xs) none in
-    ap (λ (b : Bool). b || has x xs) (ne_eqb y x (λ e. true≢false (sym (eq-eqb (y / 256) h (ap (λ (n : ℕ). n / 256) e ∙ sym is)) ∙ first)))
-    ∙ high_none x h xs is (or_second (eqb (y / 256) h) (has_high h xs) none)
-
 pub each : (operation : Operation) (p p' q q' : Bool) → p ≡ p' → q ≡ q' → holds operation p q ≡ holds operation p' q'
 each operation p p' q q' e f = ap (λ (b : Bool). holds operation b q) e ∙ ap (holds operation p') f
 
@@ -128,12 +112,6 @@ pub meets_same : (pair : Pair) (meeting : Meeting) (xs ys : List ℕ) → xs ≡
 meets_same pair meeting xs ys e f =
     those_same 65536 (λ x. holds pair.operation (has x xs) (has x ys)) (meets pair meeting)
     (λ x h. each pair.operation (has x xs) (has x (lows_between pair.a meeting.a.0 meeting.a.1)) (has x ys) (has x (lows_between pair.b meeting.b.0 meeting.b.1)) (ap (has x) e) (ap (has x) f))
-
-pub own_bit : (operation : Operation) (p high q high' occurs there bit bit' word : Bool) → (high ≡ false → p ≡ false) → (high' ≡ false → q ≡ false)
-    → (occurs ≡ false → holds operation high high' ≡ false) → (occurs ≡ false → holds operation high false ≡ false) → (occurs ≡ false → holds operation false high' ≡ false)
-    → there ≡ occurs → (there ≡ true → bit ≡ p) → (there ≡ true → bit' ≡ q) → (there ≡ true → word ≡ holds operation bit bit') → holds operation p q ≡ (there && word)
-own_bit operation p high q high' occurs true bit bit' word f g both one other e a b w = sym (w refl ∙ each operation bit p bit' q (a refl) (b refl))
-own_bit operation p high q high' occurs false bit bit' word f g both one other e a b w = out_of operation high high' p q f g (both (sym e), one (sym e), other (sym e))
 
 -- ---- the answer chunk by chunk
 
@@ -156,23 +134,6 @@ part_first key test before after part =
 pub record Written (out : List ℕ) (at : ℕ) (all : List ℕ) (more : ℕ → Bool) : Type 0 where
   pub within : at ≤ length out
   pub parts : all ≡ take at out ++ those (2 ^ 32) more
-
-taken : (n : ℕ) (xs : List ℕ) → length (take n xs) ≡ n → n ≤ length xs
-taken n xs e = let cut = length-take n xs in omega arith
-
-pub written_more : (out out' : List ℕ) (at at' key : ℕ) (all : List ℕ) (test before after : ℕ → Bool) → Written out at all before → IsPart key test before after
-    → at' ≡ at + length (those 65536 test) → take at' out' ≡ take at out ++ map (λ i. key * 65536 + i) (those 65536 test) → Written out' at' all after
-written_more out out' at at' key all test before after so part end values =
-    let raised : List ℕ = map (λ i. key * 65536 + i) (those 65536 test) in
-    record {
-      within =
-          (let long : length (take at' out') ≡ length (take at out) + length raised = ap length values ∙ length-append (take at out) raised in
-          let some : length (take at out) ≡ at = length-take-le at out so.within in
-          let more : length raised ≡ length (those 65536 test) = length-map (those 65536 test) (λ i. key * 65536 + i) in
-          taken at' out' (omega arith));
-      parts = so.parts ∙ ap (λ (xs : List ℕ). take at out ++ xs) (part_first key test before after part)
-          ∙ sym (append_assoc (take at out) raised (those (2 ^ 32) after)) ∙ ap (λ (xs : List ℕ). xs ++ those (2 ^ 32) after) (sym values);
-    }
 
 pub written_all : (out : List ℕ) (at : ℕ) (all : List ℕ) (more : ℕ → Bool) → Written out at all more → ((x : ℕ) → x < 2 ^ 32 → more x ≡ false) → take at out ≡ all
 written_all out at all more so none = sym (so.parts ∙ ap (λ (xs : List ℕ). take at out ++ xs) (none_pass (2 ^ 32) more none) ∙ append-nil (take at out))
@@ -207,12 +168,8 @@ counted_all count all more so none =
 pub answer_few : (operation : Operation) (xs ys : List ℕ) → length (answer operation xs ys) ≤ 2 ^ 32
 answer_few operation xs ys = those_few (2 ^ 32) (λ x. holds operation (has x xs) (has x ys))
 
-pub no_items : (xs : List ℕ) → length xs ≡ 0 → xs ≡ []
-no_items [] e = refl
-no_items (x ∷ xs) e = absurd (omega arith)
-
 pub none_counted : (all : List ℕ) (more : ℕ → Bool) → Counted 0 all more → ((x : ℕ) → x < 2 ^ 32 → more x ≡ false) → all ≡ []
-none_counted all more so none = no_items all (sym (counted_all 0 all more so none))
+none_counted all more so none = nil_from_length all (sym (counted_all 0 all more so none))
 
 pub some_counted : (count : ℕ) (all : List ℕ) (more : ℕ → Bool) → Counted count all more → 0 < count → all ≡ [] → ⊥
 some_counted count all more so some e = let rest = so.rest in let no : length all ≡ 0 = ap length e in omega arith

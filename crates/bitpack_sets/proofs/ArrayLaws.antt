@@ -1,20 +1,21 @@
 -- Bytes have no fault as an array exactly if they are the array of the ids that are read from them.
-use Rattle.std.proofs.Common.{◌≡◌, ℕ, zero, suc, ◌+◌, ◌*◌, ◌/◌, ◌%◌, ◌^◌, ◌<◌, ◌≤◌, Bool, true, false, ltb, List, [], ◌∷◌, ◌++◌, take, drop, length, Option, Some, None, refl, sym, ap, ◌∙◌, arith, cond, inl, inr, subst, take-append-drop}
-use Rattle.std.specs.Option.{is_some, option_map, option_or}
+use Rattle.std.proofs.Common.{◌≡◌, ℕ, zero, suc, ◌+◌, ◌*◌, ◌/◌, ◌%◌, ◌^◌, ◌<◌, ◌≤◌, Bool, true, ltb, List, [], ◌∷◌, ◌++◌, take, drop, length, Some, None, refl, sym, ap, ◌∙◌, arith, cond, inl, inr, subst, take-append-drop}
+use Rattle.std.specs.Option.{is_some}
 use Rattle.std.proofs.lemmas.Bool.{cases_lt, le-leb, lt-leb, lt-ltb, le-ltb, true≢false}
 use Rattle.std.proofs.lemmas.List.{take_all, drop_at}
 use Rattle.bitpacking.specs.Bits.{AreBytes}
-use Rattle.bitpack_sets.specs.declared.set_error.SetError.{SetError}
 use Rattle.bitpack_sets.specs.declared.set_error.SetError.TheVariants.{BadNumber, LooseForm, NotSorted, Short, TooLong, Trailing}
 use Rattle.std.specs.List.{flat_map}
 use Rattle.bitpack_sets.proofs.CountLaws.{bytes_are}
-use Rattle.bitpack_sets.proofs.FaultLaws.{if_none, if_none', if_some, is_below, map_none, none_map, none_or, not_below, or_none, some_not}
+use Rattle.bitpack_sets.proofs.DecodeLaws.{bytes_dropped}
+use Rattle.bitpack_sets.proofs.FaultLaws.{if_none, if_none', is_below, map_none, none_map, none_or, not_below, or_none, some_not}
 use Rattle.bitpack_sets.proofs.LongLaws.{Below, array_parts, array_tails, flat_len, rising_below}
 use Rattle.bitpack_sets.proofs.Words.{EachByte, IsArray}
 use Rattle.bitpack_sets.specs.Faults.{array_fault, count_fault, ids_fault}
 use Rattle.bitpack_sets.specs.Sets.{IsRising, array, le_bytes, parts}
 use Rattle.bitpack_sets.specs.Slices.{first_fall, quads_of}
 use Rattle.bitpack_sets.specs.Varints.{set_error, NumberReadsBack, OneNumber, number, number_end, number_fault, number_value}
+use Rattle.bitpack_groups.proofs.ForCallers.{passed}
 
 -- ---- order
 
@@ -82,17 +83,12 @@ quads_of_little (x ∷ xs) (a, h) =
 
 -- ---- the law
 
-bytes_drop : (n : ℕ) (bytes : List ℕ) → EachByte bytes → EachByte (drop n bytes)
-bytes_drop zero bytes h = h
-bytes_drop (suc n) [] h = h
-bytes_drop (suc n) (byte ∷ bytes) (a, h) = bytes_drop n bytes h
-
-count_none : (bytes : List ℕ) → count_fault bytes ≡ None → (number_fault bytes ≡ None) × (128 ≤ number_value bytes) × (number_value bytes ≤ 2 ^ 28)
+pub count_none : (bytes : List ℕ) → count_fault bytes ≡ None → (number_fault bytes ≡ None) × (128 ≤ number_value bytes) × (number_value bytes ≤ 2 ^ 28)
 unfolding count_fault
 count_none bytes h =
     let (a, b) = or_none _ _ h in
-    let (c, d) = if_some _ _ _ b in
-    let (e, f) = if_some _ _ _ d in
+    let (c, d) = passed _ _ _ b in
+    let (e, f) = passed _ _ _ d in
     (map_none set_error _ a, not_below (number_value bytes) 128 c, not_below (2 ^ 28) (number_value bytes) e)
 
 ids_none : (ids : ℕ) (rest : List ℕ) → EachByte rest → ids_fault ids rest ≡ None
@@ -100,10 +96,10 @@ ids_none : (ids : ℕ) (rest : List ℕ) → EachByte rest → ids_fault ids res
 unfolding ids_fault
 ids_none ids rest are h =
     let (a, b) = or_none _ _ h in
-    let (short, _) = if_some _ _ _ a in
+    let (short, _) = passed _ _ _ a in
     let (c, d) = or_none _ _ b in
     let (e, f) = or_none _ _ d in
-    let (long, _) = if_some _ _ _ f in
+    let (long, _) = passed _ _ _ f in
     let size : length rest ≡ 4 * ids = (let lo = not_below (length rest) (4 * ids) short in let hi = not_below (4 * ids) (length rest) long in omega arith) in
     let whole : take (4 * ids) rest ≡ rest = ap (λ (n : ℕ). take n rest) (sym size) ∙ take_all (length rest) rest (omega arith) in
     let (back, many, below) = quads_back ids rest are size in
@@ -118,14 +114,14 @@ array_no_fault one bytes are h =
     let (sound, many, few) = count_none bytes a in
     let (small, front, only) = one bytes are sound in
     let rest : List ℕ = drop (number_end bytes) bytes in
-    let (size, rising, count, apart, back) = ids_none (number_value bytes) rest (bytes_drop (number_end bytes) bytes (bytes_are bytes are)) b in
+    let (size, rising, count, apart, back) = ids_none (number_value bytes) rest (bytes_dropped (number_end bytes) bytes (bytes_are bytes are)) b in
     let text : array (quads_of rest) ≡ 6 ∷ bytes =
     array_parts (quads_of rest) ∙ ap (λ (n : ℕ). 6 ∷ (number n ++ flat_map (le_bytes 4) (quads_of rest))) count
     ∙ ap (λ (l : List ℕ). 6 ∷ (number (number_value bytes) ++ l)) back ∙ ap (λ (l : List ℕ). 6 ∷ (l ++ rest)) (sym front)
     ∙ ap (λ (l : List ℕ). 6 ∷ l) (take-append-drop (number_end bytes) bytes) in
     record { rising = rising; many = omega arith; few = omega arith; apart = subst (λ (n : ℕ). n < 4 * length (parts (2 ^ 16) (quads_of rest))) (sym count) apart; text = text }
 
-none_count : (bytes : List ℕ) → number_fault bytes ≡ None → 128 ≤ number_value bytes → number_value bytes ≤ 2 ^ 28 → count_fault bytes ≡ None
+pub none_count : (bytes : List ℕ) → number_fault bytes ≡ None → 128 ≤ number_value bytes → number_value bytes ≤ 2 ^ 28 → count_fault bytes ≡ None
 unfolding count_fault
 none_count bytes a b c =
     none_or _ _ (none_map set_error (number_fault bytes) a) (some_not (ltb (number_value bytes) 128) BadNumber _ (le-ltb (number_value bytes) 128 b)

@@ -10,7 +10,8 @@ use Rattle.std.proofs.lemmas.Nat.Bits.{bit_at-zero, bit_at_ones, bit_at_set_othe
 use Rattle.std.proofs.lemmas.Nat.{and_mask, one_shl}
 use Rattle.bitpack_sets.proofs.CountLaws.{ones_counted, ones_length}
 use Rattle.bitpack_sets.proofs.DecodeLaws.{bytes_dropped}
-use Rattle.bitpack_sets.proofs.ReadLaws.{bit_of_bytes, eqb_same, has_all, has_append, has_bit as bits_bit}
+use Rattle.bitpack_sets.proofs.LoadLaws.{eqb_turned, kept_same}
+use Rattle.bitpack_sets.proofs.ReadLaws.{bit_of_bytes, has_all, has_append, has_bit as bits_bit}
 use Rattle.bitpack_sets.proofs.SliceLaws.{rising_room}
 use Rattle.bitpack_sets.proofs.TestLaws.{bytes_taken}
 use Rattle.bitpack_sets.proofs.Words.{EachByte}
@@ -66,7 +67,7 @@ set_is words i k h = elim (cases_eq (k / 64) (i / 64)) [
 ]
 
 -- no bit of words of 0 is 1
-zero_at : (n q : ℕ) → ◌≡◌ {A = ℕ} (get_or (replicate n 0) q 0) 0
+pub zero_at : (n q : ℕ) → ◌≡◌ {A = ℕ} (get_or (replicate n 0) q 0) 0
 zero_at zero q = refl
 zero_at (suc n) zero = refl
 zero_at (suc n) (suc q) = zero_at n q
@@ -90,14 +91,6 @@ range_cat a (suc n) m =
 pub those_split : (passes : ℕ → Bool) (a n m : ℕ)
     → filter passes (range_with_len a (n + m)) ≡ filter passes (range_with_len a n) ++ filter passes (range_with_len (a + n) m)
 those_split passes a n m = ap (filter passes) (range_cat a n m) ∙ filter-append passes (range_with_len a n) (range_with_len (a + n) m)
-
--- two tests that agree on some numbers
-pub those_agree : (p q : ℕ → Bool) (a n : ℕ) → ((x : ℕ) → a ≤ x → x < a + n → p x ≡ q x) → filter p (range_with_len a n) ≡ filter q (range_with_len a n)
-those_agree p q a zero h = refl
-those_agree p q a (suc n) h =
-    let ih = those_agree p q (a + 1) n (λ x l m. h x (omega arith) (omega arith)) in
-    ap (λ (b : Bool). cond b (a ∷ filter p (range_with_len (a + 1) n)) (filter p (range_with_len (a + 1) n))) (h a (omega arith) (omega arith))
-    ∙ ap (λ (l : List ℕ). cond (q a) (a ∷ l) l) ih
 
 raise_one : (b : Bool) (k a : ℕ) (xs ys : List ℕ) → xs ≡ map (λ i. k + i) ys → cond b ((k + a) ∷ xs) xs ≡ map (λ i. k + i) (cond b (a ∷ ys) ys)
 raise_one true k a xs ys e = ap (λ (l : List ℕ). (k + a) ∷ l) e
@@ -135,7 +128,7 @@ unfolding ones_from
 word_numbers words q r h =
     let e : 64 * q ≡ 64 * q + 0 = omega arith in
     ap (λ (k : ℕ). filter (has_bit words) (range_with_len k r)) e ∙ those_raised (has_bit words) (64 * q) 0 r
-    ∙ ap (map (λ i. 64 * q + i)) (those_agree (λ i. has_bit words (64 * q + i)) (λ i. eqb (bit_at (get_or words q 0) i) 1) 0 r (λ x l m.
+    ∙ ap (map (λ i. 64 * q + i)) (kept_same (λ i. has_bit words (64 * q + i)) (λ i. eqb (bit_at (get_or words q 0) i) 1) 0 r (λ x l m.
     let place : (64 * q + x) % 64 ≡ x = omega arith in
     has_of words q (64 * q + x) (omega arith) ∙ ap (λ (k : ℕ). eqb (bit_at (get_or words q 0) k) 1) place))
 
@@ -224,9 +217,6 @@ unfolding has_bit
 four_full i small =
     ap (λ (w : ℕ). eqb (bit_at w (i % 64)) 1) (all_at 4 (2 ^ 64 - 1) (i / 64) (omega arith))
     ∙ ap (λ (b : ℕ). eqb b 1) (bit_at_ones 64 (i % 64) (omega arith)) ∙ sym (has_all i 0 256 (omega arith) (omega arith))
-
-eqb_turned : (a b : ℕ) → eqb a b ≡ eqb b a
-eqb_turned a b = eqb_same a b b a sym sym
 
 or_turned : (b c d : Bool) → b ≡ c → (b || d) ≡ (d || (c || false))
 or_turned true true true e = refl

@@ -1,17 +1,15 @@
 -- A body has no fault exactly if it is the body of the numbers that are read from it.
-use Rattle.std.proofs.Common.{◌≡◌, ℕ, suc, ◌+◌, ◌*◌, ◌<◌, ◌≤◌, Bool, true, false, ltb, eqb, List, [], ◌∷◌, ◌++◌, map, length, Option, Some, None, refl, sym, ap, ◌∙◌, arith, cond, inl, inr, subst, length-append}
-use Rattle.std.specs.List.{flat_map}
+use Rattle.std.proofs.Common.{◌≡◌, ℕ, ◌*◌, ◌<◌, ◌≤◌, Bool, List, length, Option, Some, None, sym, ap, ◌∙◌, arith, cond, inl, inr, subst}
 use Rattle.std.proofs.lemmas.Bool.{cases_lt, ne_eqb}
 use Rattle.std.proofs.lemmas.Bool.Decides.{eqb_tells}
 use Rattle.bitpack_sets.proofs.BodyLaws.{body_blocks, body_numbers, numbers_len}
 use Rattle.bitpack_sets.proofs.FaultLaws.{if_none, if_none'}
-use Rattle.bitpack_sets.proofs.PartLaws.{AreParts, parts_are}
 use Rattle.bitpack_sets.proofs.TestLaws.{blocks_are_blocks, blocks_tested}
 use Rattle.bitpack_sets.proofs.ToldLaws.{blocks_told, body_none, none_body, of_numbers}
 use Rattle.bitpack_sets.proofs.Words.{EachByte}
 use Rattle.bitpack_sets.specs.Directory.{body_numbers_of}
 use Rattle.bitpack_sets.specs.Faults.{body_fault}
-use Rattle.bitpack_sets.specs.Sets.{IsRising, blocks, body, numbers}
+use Rattle.bitpack_sets.specs.Sets.{blocks, numbers}
 use Rattle.bitpack_sets.specs.Slices.{IsBlocks, are_blocks, block_numbers, pairs_of}
 use Rattle.bitpack_sets.specs.Sound.{IsBody}
 use Rattle.bitpack_sets.specs.declared.set_error.SetError.{SetError}

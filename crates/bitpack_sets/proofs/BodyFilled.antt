@@ -50,7 +50,7 @@ blocks_sizes ids out count size a b e =
     let g = ap slice_len a in
     omega arith
 
-one_set : (head : List ℕ) (x : ℕ) → length head ≡ 1 → set head 0 x ≡ x ∷ []
+pub one_set : (head : List ℕ) (x : ℕ) → length head ≡ 1 → set head 0 x ≡ x ∷ []
 one_set [] x h = absurd (omega arith)
 one_set (y ∷ []) x h = refl
 one_set (y ∷ z ∷ ys) x h = absurd (omega arith)

@@ -1,5 +1,5 @@
 -- Bytes are written, and of some bytes the first few.
-use Rattle.std.proofs.Common.{◌≡◌, ℕ, ◌+◌, ◌-◌, ◌<◌, ◌≤◌, List, [], ◌∷◌, ◌++◌, map, take, drop, length, get_or, set, sym, ap, ◌∙◌, arith, length-drop}
+use Rattle.std.proofs.Common.{◌≡◌, ℕ, ◌+◌, ◌-◌, ◌<◌, ◌≤◌, List, [], ◌∷◌, ◌++◌, map, take, drop, length, get_or, set, sym, ap, ◌∙◌, arith}
 use borrow.Rule.Slice.PartMut.{put_mid}
 use Rattle.std.proofs.lemmas.Bool.{cond_below}
 use Rattle.std.proofs.lemmas.List.{length-take-le, map-append, take-map, take-take, take_all, take_more, take_more_set}
@@ -7,12 +7,7 @@ use Rattle.std.proofs.lemmas.Slice.{take-put_mid}
 use Rattle.bitpack_sets.proofs.CountLaws.{few_numbers}
 use Rattle.bitpack_sets.proofs.FourLaws.{take_past}
 use Rattle.bitpack_sets.specs.Slices.{slice_len, slice_numbers}
-
--- a part has as many places as there are bytes
-pub part_long : (at n : ℕ) (out : List ℕ) → at + n ≤ length out → length (take (at + n - at) (drop at out)) ≡ n
-part_long at n out room =
-    let size = length-take-le (at + n - at) (drop at out) (omega (arith, length-drop at out)) in
-    omega arith
+use Rattle.bitpack_groups.proofs.ForCallers.{lent_len}
 
 -- one number more of some
 pub one_set : (f : ℕ → ℕ) (out xs : List ℕ) (i : ℕ) → i < length xs → i < length out → take i out ≡ map f (take i xs)
@@ -40,7 +35,7 @@ pub first_few : (base count start at n : ℕ) (old slices out : List ℕ) → co
 first_few base count start at n old slices out few within end room e =
     let f : List ℕ → List ℕ = map (λ i. base + i) in
     let bytes : List ℕ = take (start + 32 - start) (drop start slices) in
-    let long = part_long start 32 slices room in
+    let long = lent_len start 32 slices room in
     let size : slice_len count ≡ count = sym (cond_below count 32 count _ few) in
     sym (take-take (at + count) n out (omega arith)) ∙ ap (take (at + count)) e ∙ take_past at count (take at old) (f bytes) (length-take-le at old within)
     ∙ ap (λ (l : List ℕ). take at old ++ l) (take-map (λ i. base + i) count bytes)

@@ -87,18 +87,15 @@ count_next ids chunks m rest is lt next e =
     let f = before_next (sum_at chunks rest) m in
     omega arith
 
-last_sum : (ids chunks c : ℕ) (rest : List ℕ) → IsRest ids chunks rest → c ≡ chunks → before (sum_at chunks rest) c ≡ ids
-last_sum ids chunks zero rest is e = let some = is.some in absurd (omega arith)
-last_sum ids chunks (suc c) rest is e = let lt : c < chunks = omega arith in (is.entries c lt).last (omega arith)
-
-pub sum_all : (ids chunks m : ℕ) (rest : List ℕ) → IsRest ids chunks rest → m ≡ chunks → before (sum_at chunks rest) m ≡ ids
-sum_all ids chunks m rest is e = last_sum ids chunks m rest is e
+pub sum_all : (ids chunks c : ℕ) (rest : List ℕ) → IsRest ids chunks rest → c ≡ chunks → before (sum_at chunks rest) c ≡ ids
+sum_all ids chunks zero rest is e = let some = is.some in absurd (omega arith)
+sum_all ids chunks (suc c) rest is e = let lt : c < chunks = omega arith in (is.entries c lt).last (omega arith)
 
 pub count_within : (ids chunks m : ℕ) (rest : List ℕ) → IsRest ids chunks rest → m < chunks → before (sum_at chunks rest) m + count_at chunks rest m ≤ ids
 count_within ids chunks m rest is lt =
     let some = (is.entries m lt).some in
     let top = grown_to (sum_at chunks rest) m chunks (sums_grow ids chunks rest is.entries) lt in
-    let all = last_sum ids chunks chunks rest is refl in
+    let all = sum_all ids chunks chunks rest is refl in
     omega arith
 
 -- ---- chunk by chunk

@@ -1,5 +1,5 @@
 -- The encoding of ids in chunks has no fault.
-use Rattle.std.proofs.Common.{◌≡◌, ℕ, zero, suc, ◌+◌, ◌-◌, ◌*◌, ◌/◌, ◌%◌, ◌^◌, ◌<◌, ◌≤◌, List, [], ◌∷◌, ◌++◌, map, take, drop, length, get_or, None, refl, sym, ap, ◌∙◌, arith, subst, length-append, inl, inr}
+use Rattle.std.proofs.Common.{◌≡◌, ℕ, zero, suc, ◌+◌, ◌*◌, ◌^◌, ◌<◌, ◌≤◌, List, [], ◌∷◌, ◌++◌, map, take, drop, length, get_or, None, refl, sym, ap, ◌∙◌, arith, subst, length-append, inl, inr}
 use Rattle.std.specs.List.{concat, flat_map}
 use Rattle.std.proofs.lemmas.Bool.{cases_lt, cond_above, cond_below, le-ltb}
 use Rattle.std.proofs.lemmas.List.{drop-drop, drop_at, length-map, take_at}
@@ -9,7 +9,7 @@ use Rattle.bitpack_sets.proofs.BodyLaws.{body_blocks, body_numbers, numbers_len}
 use Rattle.bitpack_sets.proofs.ByteLaws.{each_body}
 use Rattle.bitpack_sets.proofs.EntryLaws.{none_entry, none_first, none_loose, none_sizes}
 use Rattle.bitpack_sets.proofs.FaultLaws.{none_or, some_not}
-use Rattle.bitpack_sets.proofs.LongLaws.{Below, after_counts, bodies, body_len, concat_len, counts, counts_len, ends, ends_below, ends_len, flat_len, join_len, keys, keys_below, small, sums_below, sums_len, total}
+use Rattle.bitpack_sets.proofs.LongLaws.{after_counts, bodies, body_len, concat_len, counts, counts_len, ends, ends_below, ends_len, flat_len, keys, keys_below, small, sums_below, total}
 use Rattle.bitpack_sets.proofs.LongLaws as texts
 use Rattle.bitpack_sets.proofs.PartLaws.{AreParts}
 use Rattle.bitpack_sets.proofs.ShortLaws.{short_written}
@@ -17,9 +17,9 @@ use Rattle.bitpack_sets.proofs.SliceLaws.{rising_room}
 use Rattle.bitpack_sets.proofs.TestLaws.{blocks_are_blocks}
 use Rattle.bitpack_sets.proofs.Words.{EachByte}
 use Rattle.bitpack_sets.specs.Directory.{before, bodies_end, bodies_start, body_at, count_at, end_at, end_size, key_at, size_at, sum_at, sum_size}
-use Rattle.bitpack_sets.specs.Faults.{body_fault, body_fault_at, chunks_fault, entry_fault, loose_sizes_fault}
+use Rattle.bitpack_sets.specs.Faults.{body_fault_at, chunks_fault, entry_fault}
 use Rattle.bitpack_sets.specs.Sets.{IsRising, blocks, body, le_bytes, sums}
-use Rattle.bitpack_sets.specs.Sound.{IsBody, IsEntry}
+use Rattle.bitpack_sets.specs.Sound.{IsEntry}
 use Rattle.bitpack_sets.specs.Varints.{byte_count, short_at}
 use Rattle.bitpack_sets.specs.declared.set_error.SetError.TheVariants.{Short, Trailing}
 

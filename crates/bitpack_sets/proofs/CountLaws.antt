@@ -100,9 +100,6 @@ pub bytes_are : (xs : List ℕ) → ((k : ℕ) → get_or xs k 0 < 256) → Each
 bytes_are [] h = tt
 bytes_are (x ∷ xs) h = (h 0, bytes_are xs (λ k. h (suc k)))
 
-next_is : (x y : ℕ) (ys : List ℕ) → IsStrictlyIncreasing (x ∷ y ∷ ys) → x < y
-next_is x y ys h = h 0 (omega arith)
-
 later_rise : (x : ℕ) (xs : List ℕ) → IsStrictlyIncreasing (x ∷ xs) → IsStrictlyIncreasing xs
 later_rise x xs h k lt =
     let e : suc k + 1 ≡ suc (k + 1) = omega arith in

@@ -7,6 +7,7 @@ use Rattle.std.proofs.lemmas.List.{drop_more, length-map, length-take-le}
 use Rattle.std.proofs.Math.Nat.{div-mul-le_self}
 use Rattle.std.proofs.lemmas.Nat.{le-div}
 use Rattle.bitpack_sets.proofs.FallLaws.{Counted, counted_other, counted_same}
+use Rattle.bitpack_sets.proofs.HalfLaws.{rising_at}
 use Rattle.bitpack_sets.proofs.PartLaws.{AreParts}
 use Rattle.bitpack_sets.proofs.RunLaws.{chunk_few, chunk_rest, get_drop, slice_part, slices_are}
 use Rattle.bitpack_sets.proofs.SliceLaws.{rising_room}
@@ -17,15 +18,10 @@ use Rattle.bitpack_sets.specs.Written.{IsChunk, IsRun, capped, lows, slices}
 
 -- ---- runs
 
-rising_above : (low high i : ℕ) (xs : List ℕ) → IsRising low high xs → i < length xs → low ≤ get_or xs i 0
-rising_above low high i [] r lt = absurd (omega arith)
-rising_above low high zero (x ∷ xs) (a, r) lt = a
-rising_above low high (suc i) (x ∷ xs) (a, r) lt = let up = rising_above (x + 1) high i xs r (omega arith) in omega arith
-
 pub rising_le : (low high i j : ℕ) (xs : List ℕ) → IsRising low high xs → i ≤ j → j < length xs → get_or xs i 0 ≤ get_or xs j 0
 rising_le low high i j [] r le lt = absurd (omega arith)
 rising_le low high zero zero (x ∷ xs) r le lt = omega arith
-rising_le low high zero (suc j) (x ∷ xs) (a, r) le lt = let up = rising_above (x + 1) high j xs r (omega arith) in omega arith
+rising_le low high zero (suc j) (x ∷ xs) (a, r) le lt = let up = rising_at (x + 1) high j xs r (omega arith) in omega arith
 rising_le low high (suc i) zero (x ∷ xs) r le lt = absurd (omega arith)
 rising_le low high (suc i) (suc j) (x ∷ xs) (a, r) le lt = rising_le (x + 1) high i j xs r (omega arith) (omega arith)
 

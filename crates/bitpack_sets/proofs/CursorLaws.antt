@@ -1,12 +1,11 @@
 -- The ids of a slice among increasing ids, and those before and after it.
-use Rattle.std.proofs.Common.{◌≡◌, ◌≢◌, ℕ, zero, suc, ◌+◌, ◌*◌, ◌/◌, ◌%◌, ◌^◌, ◌<◌, ◌≤◌, ◌||◌, Bool, false, true, eqb, ltb, List, [], ◌∷◌, length, length-drop, take, drop, get_or, None, IfSome, refl, sym, ap, ◌∙◌, arith, cond, inl, inr, subst}
+use Rattle.std.proofs.Common.{◌≡◌, ◌≢◌, ℕ, zero, suc, ◌+◌, ◌*◌, ◌/◌, ◌%◌, ◌^◌, ◌<◌, ◌≤◌, ◌||◌, Bool, false, eqb, ltb, List, [], ◌∷◌, length, length-drop, take, drop, get_or, None, IfSome, refl, sym, ap, ◌∙◌, arith, cond, inl, inr, subst}
 use Rattle.std.proofs.lemmas.Bool.{cases_lt, le-ltb, lt-ltb, ne_eqb}
 use Rattle.std.proofs.lemmas.List.{drop-drop, drop_all, drop_more}
 use Rattle.bitpack_sets.proofs.BitmapLaws.{has_above, has_more}
-use Rattle.bitpack_sets.proofs.HalfLaws.{rank_above, rank_most, rank_under}
+use Rattle.bitpack_sets.proofs.HalfLaws.{rank_above, rank_under}
 use Rattle.bitpack_sets.proofs.SliceLaws.{rising_room}
-use Rattle.bitpack_sets.proofs.ReadLaws.{eqb_same, has_below, lowest, rank_below}
-use Rattle.bitpack_sets.proofs.WalkLaws.{rising_from}
+use Rattle.bitpack_sets.proofs.ReadLaws.{eqb_same, has_below, lowest, rank_below, rank_le}
 use Rattle.bitpack_sets.specs.Bitmaps.{has_bit}
 use Rattle.bitpack_sets.specs.declared.id_set.IdSet.{IdSet}
 use Rattle.bitpack_sets.specs.Cursors.{first_slice, from_slice}
@@ -41,7 +40,7 @@ rank_whole x low high (y ∷ xs) (a, r) h =
 rank_at : (y x low high i : ℕ) (xs : List ℕ) → IsRising low high xs → i ≡ rank y xs → y ≤ x → (i < length xs → x ≤ get_or xs i 0) → i ≡ rank x xs
 rank_at y x low high i xs r e h next =
     let up = rank_up y x xs h in
-    let most = rank_most x xs in
+    let most = rank_le x xs in
     elim (cases_lt i (length xs)) [
       | inl lt ↦ (let under = rank_under x low high i xs r lt (next lt) in omega arith)
       | inr past ↦ omega arith
@@ -126,7 +125,7 @@ pub marked_end : (xs : List ℕ) (slice next : ℕ) (words : List ℕ) → IsRis
 marked_end xs slice next words r so other =
     let before = so.from in
     let after = so.to in
-    let most = rank_most (256 * slice + 256) xs in
+    let most = rank_le (256 * slice + 256) xs in
     elim (cases_lt next (length xs)) [
       | inl lt ↦ (
           let least = at_least (256 * slice) 0 (2 ^ 32) next xs r before lt in
@@ -162,7 +161,7 @@ seam slice p xs r e = elim (cases_lt p (length xs)) [
       rank_at (256 * slice) (256 * slice_or_end (drop p xs)) 0 (2 ^ 32) p xs r e (omega arith) (λ _. omega arith))
   | inr past ↦ (
       let is = slice_past p xs past in
-      let most = rank_most (256 * slice) xs in
+      let most = rank_le (256 * slice) xs in
       let whole = rank_whole (256 * slice_or_end (drop p xs)) 0 (2 ^ 32) xs r (omega arith) in
       omega arith)
 ]

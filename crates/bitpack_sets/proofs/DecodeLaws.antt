@@ -38,7 +38,7 @@ word_number k bytes h =
 next_power : (k : ℕ) → 2 ^ (8 * suc k) ≡ 2 ^ (8 * k) * 256
 next_power k = let e : 8 * suc k ≡ 8 * k + 8 = omega arith in ap (λ (n : ℕ). 2 ^ n) e ∙ pow-add 2 (8 * k) 8
 
-ring : (b w p r : ℕ) → b + 256 * (w * p + r) ≡ w * (p * 256) + (b + 256 * r)
+pub ring : (b w p r : ℕ) → b + 256 * (w * p + r) ≡ w * (p * 256) + (b + 256 * r)
 ring b w p r = grind arith
 
 pub number_split : (k n : ℕ) (bytes : List ℕ) → k ≤ length bytes
@@ -93,7 +93,7 @@ range_at low (suc n) (suc i) h = let ih = range_at (low + 1) n i (omega arith) i
 
 -- ---- slices end to end
 
-get_take : (r i : ℕ) (xs : List ℕ) → i < length (take r xs) → get_or (take r xs) i 0 ≡ get_or xs i 0
+pub get_take : (r i : ℕ) (xs : List ℕ) → i < length (take r xs) → get_or (take r xs) i 0 ≡ get_or xs i 0
 get_take zero i xs h = absurd (omega arith)
 get_take (suc r) i [] h = absurd (omega arith)
 get_take (suc r) zero (x ∷ xs) h = refl

@@ -1,5 +1,5 @@
 -- The encoding of a set by its form, and what calls leave.
-use Rattle.std.proofs.Common.{◌≡◌, ℕ, zero, suc, ◌+◌, ◌-◌, ◌*◌, ◌^◌, ◌<◌, ◌≤◌, List, [], ◌∷◌, ◌++◌, length, take, drop, Option, Some, None, Result, Ok, Err, MatchOption, OnErr, true, refl, sym, ap, ◌∙◌, arith, length-append}
+use Rattle.std.proofs.Common.{◌≡◌, ℕ, ◌+◌, ◌*◌, ◌<◌, ◌≤◌, List, [], ◌++◌, length, take, drop, None, Result, Ok, Err, MatchOption, OnErr, true, refl, sym, ap, ◌∙◌, arith, length-append}
 use Rattle.std.specs.Result.{is_err}
 use Rattle.std.specs.List.{concat}
 use Rattle.std.proofs.lemmas.Bool.{cond_above, cond_below}
@@ -61,15 +61,8 @@ chunks_measured ids len chunks size many a b few small more e = record {
 
 -- ---- what calls leave
 
-pub refused : {A : Type 0} (ids : List ℕ) (e : SetError) (P : Type 0) (result : Result A SetError) → refusal ids ≡ Some e → result ≡ Err e
-    → MatchOption (refusal ids) P (λ fault. result ≡ Err fault)
-refused ids e P result is err = rw is err
-
 pub accepted : (ids : List ℕ) {P : Type 0} (Q : SetError → Type 0) → refusal ids ≡ None → P → MatchOption (refusal ids) P Q
 accepted ids Q none holds = rw none holds
-
-pub not_refused : (ids : List ℕ) (e : SetError) → refusal ids ≡ Some e → refusal ids ≡ None → ⊥
-not_refused ids e is none = let both : Some e ≡ None = sym is ∙ none in absurd cc
 
 pub on_err : {A E P : Type 0} (result : Result A E) → is_err result ≡ true → OnErr result P → P
 on_err (Ok x) e holds = absurd cc

@@ -5,6 +5,7 @@ use Rattle.std.proofs.lemmas.Bool.{cases_eq}
 use Rattle.std.proofs.lemmas.List.{drop-drop, drop_more, length-map, length-take-le, take-set-le}
 use Rattle.bitpack_groups.proofs.ForCallers.{IsFilled, fill_done, fill_left, fill_one, fill_start}
 use Rattle.bitpack_sets.proofs.CountedRuns.{agree, differ, first_run, step_is}
+use Rattle.bitpack_sets.proofs.EntriesFilled.{next_sum, no_sums}
 use Rattle.bitpack_sets.proofs.LongLaws.{sums_len}
 use Rattle.bitpack_sets.proofs.RunLaws.{chunk_rest, get_drop, parts_some, slice_part}
 use Rattle.bitpack_sets.specs.Sets.{parts, sums}
@@ -19,21 +20,13 @@ unfolding parts
 no_parts [] h = refl
 no_parts (x ∷ left) h = absurd (omega arith)
 
-none_left : (begin : ℕ) → sums begin [] ≡ []
-unfolding sums
-none_left begin = refl
-
 pub no_ends : (ids : List ℕ) (begin : ℕ) → length (drop begin ids) ≡ 0 → ends_from ids begin ≡ []
-no_ends ids begin none = ap (λ (ps : List (ℕ × List ℕ)). sums begin (map (λ part. length part.1) ps)) (no_parts (drop begin ids) none) ∙ none_left begin
+no_ends ids begin none = ap (λ (ps : List (ℕ × List ℕ)). sums begin (map (λ part. length part.1) ps)) (no_parts (drop begin ids) none) ∙ no_sums begin
 
 pub ends_len : (ids : List ℕ) (begin : ℕ) → length (ends_from ids begin) ≡ length (parts 256 (lows (drop begin ids)))
 ends_len ids begin =
     let ps : List (ℕ × List ℕ) = parts 256 (lows (drop begin ids)) in
     sums_len begin (map (λ part. length part.1) ps) ∙ length-map ps (λ part. length part.1)
-
-next_sum : (begin x : ℕ) (xs : List ℕ) → sums begin (x ∷ xs) ≡ (begin + x) ∷ sums (begin + x) xs
-unfolding sums
-next_sum begin x xs = refl
 
 -- the first end is that of the first slice
 pub ends_next : (ids : List ℕ) (begin count : ℕ) → IsChunk (drop begin ids) → IsRun 256 (drop begin ids) count

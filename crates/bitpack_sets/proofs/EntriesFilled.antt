@@ -4,8 +4,9 @@ use Rattle.std.specs.List.{concat, flat_map}
 use borrow.Rule.Slice.PartMut.{put_mid}
 use Rattle.std.proofs.lemmas.List.{length-map, length-take-le}
 use Rattle.bitpack_groups.proofs.ForCallers.{IsFilled, fill_done, fill_more, fill_part, fill_room, fill_start, little_len, product_more}
+use Rattle.bitpack_sets.proofs.EqualLaws.{tail_whole}
 use Rattle.bitpack_sets.proofs.MeasureLaws.{ChunksLeft, chunks_more}
-use Rattle.bitpack_sets.proofs.RunLaws.{rest_is, run_part}
+use Rattle.bitpack_sets.proofs.RunLaws.{run_part}
 use Rattle.bitpack_sets.specs.Sets.{IsSet, body, le_bytes, parts, sums}
 use Rattle.bitpack_sets.specs.Written.{IsRun, bodies, ends_text, keys_text, lows, sums_text}
 
@@ -36,7 +37,7 @@ entries_start ids start before e z keys ends sums' bytes set a b d f = record {
   bytes_filled = fill_start bytes (concat (bodies ids)) f;
 }
 
-next_sum : (before x : ℕ) (xs : List ℕ) → sums before (x ∷ xs) ≡ (before + x) ∷ sums (before + x) xs
+pub next_sum : (before x : ℕ) (xs : List ℕ) → sums before (x ∷ xs) ≡ (before + x) ∷ sums (before + x) xs
 unfolding sums
 next_sum before x xs = refl
 
@@ -105,9 +106,9 @@ module _ (ids left : List ℕ) (start prior index end sum e z run : ℕ) (keys e
       let counted = before.counted in
       let within = is.within in
       let measured' = chunks_more ids left end run size before.measured is long few in
-      subst (λ (rest : List ℕ). EntriesLeft ids rest start prior (index + 1) (end + size) (sum + run) e z keys' ends' sums'' (put_mid end (end + size - end) bytes new)) (sym (rest_is run left))
+      subst (λ (rest : List ℕ). EntriesLeft ids rest start prior (index + 1) (end + size) (sum + run) e z keys' ends' sums'' (put_mid end (end + size - end) bytes new)) (sym (tail_whole run left))
       record {
-        measured = subst (λ (rest : List ℕ). ChunksLeft ids rest (end + size)) (rest_is run left) measured';
+        measured = subst (λ (rest : List ℕ). ChunksLeft ids rest (end + size)) (tail_whole run left) measured';
         counted = omega (arith, length-drop run left);
         keys_filled = filled_more 2 _ keys keys' _ _ next_key a a';
         ends_filled = filled_more e _ ends ends' _ _ (next_end size long) b b';
@@ -121,7 +122,7 @@ unfolding parts
 no_parts [] h = refl
 no_parts (x ∷ left) h = absurd (omega arith)
 
-no_sums : (before : ℕ) → sums before [] ≡ []
+pub no_sums : (before : ℕ) → sums before [] ≡ []
 unfolding sums
 no_sums before = refl
 

@@ -1,30 +1,26 @@
 -- What it says of the directory and the bodies of a set in chunks that they have no fault.
-use Rattle.std.proofs.Common.{◌≡◌, ℕ, zero, suc, ◌+◌, ◌-◌, ◌*◌, ◌<◌, ◌≤◌, Bool, true, false, ◌&&◌, ◌||◌, not, ltb, leb, eqb, List, take, drop, length, get_or, Option, Some, None, add-one, refl, sym, ap, ◌∙◌, arith, inl, inr, subst, eqb-true, eq-eqb, length-drop}
+use Rattle.std.proofs.Common.{◌≡◌, ℕ, zero, suc, ◌+◌, ◌-◌, ◌*◌, ◌<◌, ◌≤◌, Bool, true, false, ◌&&◌, ◌||◌, not, ltb, leb, eqb, List, take, drop, length, Option, Some, None, add-one, refl, sym, ap, ◌∙◌, arith, inl, inr, subst, eqb-true, eq-eqb, length-drop}
 use Rattle.std.specs.Option.{option_or}
-use Rattle.std.proofs.lemmas.Bool.{cases_lt, le-leb, lt-leb, lt-ltb, le-ltb, ne_eqb, true≢false}
+use Rattle.std.proofs.lemmas.Bool.{cases_lt, le-leb, le-ltb, leb-true, lt-leb, lt-ltb, ne_eqb, true≢false}
 use Rattle.std.proofs.lemmas.List.{length-take-le}
 use Rattle.bitpack_sets.proofs.BodyFaults.{body_read}
 use Rattle.bitpack_sets.proofs.DecodeLaws.{bytes_dropped}
-use Rattle.bitpack_sets.proofs.FaultLaws.{if_none, if_none', if_some, is_below, none_or, not_below, or_none, some_not}
-use Rattle.bitpack_sets.proofs.LongLaws.{total}
-use Rattle.bitpack_sets.proofs.ShortLaws.{Grows, before_next, grows_later, step_of, steps_total}
-use Rattle.bitpack_sets.proofs.TestLaws.{bytes_taken}
+use Rattle.bitpack_sets.proofs.FaultLaws.{if_none, if_none', is_below, none_or, not_below, or_none, some_not}
+use Rattle.bitpack_sets.proofs.ShortLaws.{Grows, before_next, steps_total}
+use Rattle.bitpack_sets.proofs.TestLaws.{both_true, bytes_taken, true_both}
 use Rattle.bitpack_sets.proofs.Words.{EachByte}
-use Rattle.bitpack_sets.specs.Directory.{before, bodies_end, bodies_start, body_at, body_numbers_of, count_at, end_at, end_size, key_at, size_at, sum_at, sum_size}
-use Rattle.bitpack_sets.specs.Faults.{body_fault, body_fault_at, chunks_fault, entry_fault, first_of, loose_sizes_fault, short_of, sizes_fault, trailing_after}
-use Rattle.bitpack_sets.specs.Sound.{HasDirectory, IsBody, IsEntry, IsRest}
+use Rattle.bitpack_sets.specs.Directory.{before, bodies_end, bodies_start, body_at, count_at, end_at, end_size, key_at, size_at, sum_at, sum_size}
+use Rattle.bitpack_sets.specs.Faults.{body_fault, body_fault_at, chunks_fault, entry_fault, first_of, loose_sizes_fault, sizes_fault}
+use Rattle.bitpack_sets.specs.Sound.{HasDirectory, IsEntry, IsRest}
 use Rattle.bitpack_sets.specs.Varints.{byte_count}
 use Rattle.bitpack_sets.specs.declared.set_error.SetError.{SetError}
+use Rattle.bitpack_groups.proofs.ForCallers.{passed}
 
 -- ---- tests
 
 pub neither : (a b : Bool) → (a || b) ≡ false → (a ≡ false) × (b ≡ false)
 neither true b e = absurd (true≢false e)
 neither false b e = (refl, e)
-
-pub both : (a b : Bool) → (a && b) ≡ true → (a ≡ true) × (b ≡ true)
-both true b e = (refl, e)
-both false b e = absurd (true≢false (sym e))
 
 second_not : (a b : Bool) → (a && b) ≡ false → a ≡ true → b ≡ false
 second_not true b e f = e
@@ -36,9 +32,6 @@ not_not false e = absurd (true≢false e)
 
 pub not_most : (x y : ℕ) → leb x y ≡ false → y < x
 not_most x y e = elim (cases_lt y x) [ inl less ↦ less | inr more ↦ absurd (true≢false (sym (le-leb x y more) ∙ e)) ]
-
-pub most_is : (x y : ℕ) → leb x y ≡ true → x ≤ y
-most_is x y e = elim (cases_lt y x) [ inl less ↦ absurd (true≢false (sym e ∙ lt-leb x y less)) | inr more ↦ more ]
 
 pub not_zero : (x : ℕ) → eqb x 0 ≡ false → 0 < x
 not_zero x e = elim (cases_lt 0 x) [ inl less ↦ less | inr more ↦ absurd (true≢false (sym (eq-eqb x 0 (omega arith)) ∙ e)) ]
@@ -86,9 +79,9 @@ first_found fault (suc count) m e h before here = elim (cases_lt m count) [
 pub entry_none : (ids chunks : ℕ) (rest : List ℕ) (m : ℕ) → entry_fault ids chunks rest m ≡ None → IsEntry ids chunks rest m
 unfolding entry_fault
 entry_none ids chunks rest m e =
-    let (keys, e1) = if_some _ _ _ e in
-    let (sums, e2) = if_some _ _ _ e1 in
-    let (ends, e3) = if_some _ _ _ e2 in
+    let (keys, e1) = passed _ _ _ e in
+    let (sums, e2) = passed _ _ _ e1 in
+    let (ends, e3) = passed _ _ _ e2 in
     let (sums1, last) = neither _ _ sums in
     let (none, many) = neither _ _ sums1 in
     let (empty, long) = neither _ _ ends in
@@ -124,35 +117,32 @@ none_entry ids chunks rest m is =
 pub sizes_none : (rest : List ℕ) → sizes_fault rest ≡ None → (1 ≤ length rest) × (1 ≤ end_size rest) × (end_size rest ≤ 4) × (1 ≤ sum_size rest) × (sum_size rest ≤ 4)
 unfolding sizes_fault
 sizes_none rest e =
-    let (some, e1) = if_some _ _ _ e in
-    let (e2, sum_few) = both _ _ (if_none _ _ e1) in
-    let (e3, sum_some) = both _ _ e2 in
-    let (end_some, end_few) = both _ _ e3 in
-    (not_below (length rest) 1 some, is_below 0 (end_size rest) end_some, most_is (end_size rest) 4 end_few, is_below 0 (sum_size rest) sum_some, most_is (sum_size rest) 4 sum_few)
+    let (some, e1) = passed _ _ _ e in
+    let (e2, sum_few) = both_true _ _ (if_none _ _ e1) in
+    let (e3, sum_some) = both_true _ _ e2 in
+    let (end_some, end_few) = both_true _ _ e3 in
+    (not_below (length rest) 1 some, is_below 0 (end_size rest) end_some, leb-true (end_size rest) 4 end_few, is_below 0 (sum_size rest) sum_some, leb-true (sum_size rest) 4 sum_few)
 
 pub has_directory : (chunks : ℕ) (rest : List ℕ) → sizes_fault rest ≡ None → bodies_start chunks rest ≤ length rest → HasDirectory chunks rest
 has_directory chunks rest e room =
     let (one, end_some, end_few, sum_some, sum_few) = sizes_none rest e in
     record { end_some = end_some; end_few = end_few; sum_some = sum_some; sum_few = sum_few; room = room }
 
-pub all_true : (a b : Bool) → a ≡ true → b ≡ true → (a && b) ≡ true
-all_true a b e f = ap (λ (x : Bool). x && b) e ∙ f
-
 pub none_sizes : (rest : List ℕ) → 1 ≤ length rest → 1 ≤ end_size rest → end_size rest ≤ 4 → 1 ≤ sum_size rest → sum_size rest ≤ 4 → sizes_fault rest ≡ None
 unfolding sizes_fault
 none_sizes rest some a b c d =
     some_not _ _ _ (le-ltb (length rest) 1 some)
-    (if_none' _ _ (all_true _ _ (all_true _ _ (all_true _ _ (lt-ltb 0 (end_size rest) a) (le-leb (end_size rest) 4 b)) (lt-ltb 0 (sum_size rest) c)) (le-leb (sum_size rest) 4 d)))
+    (if_none' _ _ (true_both _ _ (true_both _ _ (true_both _ _ (lt-ltb 0 (end_size rest) a) (le-leb (end_size rest) 4 b)) (lt-ltb 0 (sum_size rest) c)) (le-leb (sum_size rest) 4 d)))
 
 pub loose_none : (ids chunks : ℕ) (rest : List ℕ) → loose_sizes_fault ids chunks rest ≡ None
     → (end_size rest ≡ byte_count (before (end_at chunks rest) chunks)) × (sum_size rest ≡ byte_count ids)
 unfolding loose_sizes_fault
-loose_none ids chunks rest e = let (a, b) = both _ _ (if_none _ _ e) in (eqb-true (end_size rest) (byte_count (before (end_at chunks rest) chunks)) a, eqb-true (sum_size rest) (byte_count ids) b)
+loose_none ids chunks rest e = let (a, b) = both_true _ _ (if_none _ _ e) in (eqb-true (end_size rest) (byte_count (before (end_at chunks rest) chunks)) a, eqb-true (sum_size rest) (byte_count ids) b)
 
 pub none_loose : (ids chunks : ℕ) (rest : List ℕ) → end_size rest ≡ byte_count (before (end_at chunks rest) chunks) → sum_size rest ≡ byte_count ids
     → loose_sizes_fault ids chunks rest ≡ None
 unfolding loose_sizes_fault
-none_loose ids chunks rest a b = if_none' _ _ (all_true _ _ (eq-eqb (end_size rest) (byte_count (before (end_at chunks rest) chunks)) a) (eq-eqb (sum_size rest) (byte_count ids) b))
+none_loose ids chunks rest a b = if_none' _ _ (true_both _ _ (eq-eqb (end_size rest) (byte_count (before (end_at chunks rest) chunks)) a) (eq-eqb (sum_size rest) (byte_count ids) b))
 
 -- ---- ends and sums grow
 
@@ -196,10 +186,10 @@ rest_none ids chunks rest are some e =
     let (bad, after) = or_none _ _ e5 in
     let (one, end_some, end_few, sum_some, sum_few) = sizes_none rest sizes in
     let (end_least, sum_least) = loose_none ids chunks rest loose in
-    let room = not_below (length rest) (bodies_start chunks rest) (if_some _ _ _ short).0 in
+    let room = not_below (length rest) (bodies_start chunks rest) (passed _ _ _ short).0 in
     let entries : (m : ℕ) → m < chunks → IsEntry ids chunks rest m = λ m lt. entry_none ids chunks rest m (first_none (entry_fault ids chunks rest) chunks first m lt) in
-    let fits = not_below (length rest) (bodies_end chunks rest) (if_some _ _ _ cut).0 in
-    let all = not_below (bodies_end chunks rest) (length rest) (if_some _ _ _ after).0 in
+    let fits = not_below (length rest) (bodies_end chunks rest) (passed _ _ _ cut).0 in
+    let all = not_below (bodies_end chunks rest) (length rest) (passed _ _ _ after).0 in
     record {
       some = some;
       directory = record { end_some = end_some; end_few = end_few; sum_some = sum_some; sum_few = sum_few; room = room };

@@ -5,8 +5,9 @@ use Rattle.std.specs.Int.{bit_at}
 use Rattle.std.proofs.lemmas.List.{get_or-map, length-map, take_all}
 use Rattle.std.proofs.lemmas.Nat.Bits.{bit_at_above}
 use Rattle.std.proofs.lemmas.Simd.{get_or-replicate, get_or-sel_l, get_or-zip2, length-replicate, length-sel_l, length-zip2}
+use Rattle.bitpack_sets.proofs.LoadLaws.{eqb_turned}
 use Rattle.bitpack_sets.proofs.MarkLaws.{four_set, mark_told, marks_of}
-use Rattle.bitpack_sets.proofs.ReadLaws.{eqb_same, has_append}
+use Rattle.bitpack_sets.proofs.ReadLaws.{has_append}
 use Rattle.bitpack_sets.specs.Reads.{has}
 
 -- ---- four numbers
@@ -17,9 +18,6 @@ or_line false true r s = refl
 or_line false false true s = refl
 or_line false false false true = refl
 or_line false false false false = refl
-
-eqb_turned : (a b : ℕ) → eqb a b ≡ eqb b a
-eqb_turned a b = eqb_same a b b a sym sym
 
 pub has_four : (x a b c d : ℕ) → has x (a ∷ b ∷ c ∷ d ∷ []) ≡ (((eqb x a || eqb x b) || eqb x c) || eqb x d)
 has_four x a b c d =

@@ -18,11 +18,6 @@ map_none f (Some e) h = absurd (true≢false (ap is_some h))
 pub none_map : {T : Type 0} (f : T → SetError) (a : Option T) → a ≡ None → option_map f a ≡ None
 none_map f a h = ap (option_map f) h
 
--- a fault at a test
-pub if_some : {T : Type 0} (b : Bool) (e : T) (o : Option T) → cond b (Some e) o ≡ None → (b ≡ false) × (o ≡ None)
-if_some true e o h = absurd (true≢false (ap is_some h))
-if_some false e o h = (refl, h)
-
 pub if_none : {T : Type 0} (b : Bool) (e : T) → cond b None (Some e) ≡ None → b ≡ true
 if_none true e h = refl
 if_none false e h = absurd (true≢false (ap is_some h))

@@ -1,9 +1,8 @@
 -- The encoding of a set of few ids.
-use Rattle.std.proofs.Common.{◌≡◌, ℕ, zero, suc, ◌+◌, ◌-◌, ◌*◌, ◌^◌, ◌<◌, ◌≤◌, List, [], ◌∷◌, ◌++◌, length, get_or, set, take, drop, refl, sym, ap, ◌∙◌, arith, subst, length-append}
+use Rattle.std.proofs.Common.{◌≡◌, ℕ, zero, suc, ◌+◌, ◌-◌, ◌<◌, ◌≤◌, List, [], ◌∷◌, ◌++◌, length, get_or, set, take, drop, refl, sym, ap, ◌∙◌, arith, subst, length-append}
 use Rattle.std.proofs.lemmas.List.{drop_all, drop_more, take_all}
 use Rattle.bitpack_groups.proofs.ForCallers.{IsFilled, fill_one, groups_are, groups_run}
 use Rattle.bitpack_sets.proofs.GapLaws.{below_words, gaps_below, gaps_len, short_is}
-use Rattle.bitpack_sets.proofs.OnesLaws.{rising_lower}
 use Rattle.bitpack_sets.specs.Sets.{IsRising, IsSet, gaps, groups, short}
 use Rattle.bitpack_sets.specs.Varints.{AreGroups, groups_of, number}
 
@@ -75,8 +74,3 @@ id_above low high (suc i) (x ∷ y ∷ ids) (a, r) h =
 -- a slice whose front is all of it
 pub all_of : (n : ℕ) (out all : List ℕ) → take n out ≡ all → length out ≤ n → out ≡ all
 all_of n out all e h = sym (take_all n out h) ∙ e
-
-pub one_set : (head : List ℕ) (x : ℕ) → length head ≡ 1 → set head 0 x ≡ x ∷ []
-one_set [] x h = absurd (omega arith)
-one_set (y ∷ []) x h = refl
-one_set (y ∷ z ∷ ys) x h = absurd (omega arith)

@@ -1,18 +1,17 @@
 -- Sets that are folded from the first to the last.
-use Rattle.std.proofs.Common.{◌≡◌, ℕ, zero, suc, ◌+◌, ◌/◌, ◌<◌, ◌≤◌, ◌≢◌, ◌==◌, ◌&&◌, ◌||◌, ◌⊎◌, not, inl, inr, Bool, true, false, cond, List, [], ◌∷◌, map, length, get_or, set, take, eq-eqb, refl, sym, ap, ◌∙◌, arith}
-use Rattle.std.specs.List.{filter, fold, list_any, range_with_len}
-use Rattle.std.proofs.lemmas.Bool.{cases_eq, cases_lt, false≢true, ne_eqb, true≢false}
+use Rattle.std.proofs.Common.{◌≡◌, ℕ, zero, suc, ◌+◌, ◌/◌, ◌<◌, ◌≤◌, ◌≢◌, ◌==◌, ◌&&◌, ◌||◌, ◌⊎◌, not, inl, inr, Bool, true, false, List, [], ◌∷◌, map, length, get_or, set, take, refl, sym, ap, ◌∙◌, arith}
+use Rattle.std.proofs.Math.Bool.{and-false, and-true, or-false}
+use Rattle.std.specs.List.{fold}
+use Rattle.std.proofs.lemmas.Bool.{cases_eq, cases_lt, false≢true, true≢false}
 use Rattle.std.proofs.lemmas.Bool.Decides.{nat_tests}
 use Rattle.std.proofs.lemmas.List.{get_or-map, get_or-set_other, get_or-set_same, length-map, length-set, set-get_or, take_all}
 use Rattle.std.proofs.lemmas.List.Sums.{fold_more}
-use Rattle.bitpack_sets.proofs.AnswerLaws.{listed_has, those_same}
-use Rattle.bitpack_sets.proofs.OnesLaws.{rising_lower}
-use Rattle.bitpack_sets.proofs.ReadLaws.{has_below}
+use Rattle.bitpack_sets.proofs.AnswerLaws.{listed_has}
+use Rattle.bitpack_sets.proofs.SelectionLaws.{kept, map_zero}
 use Rattle.bitpack_sets.specs.Bitmaps.{has_high}
 use Rattle.bitpack_sets.specs.Folds.{high_of, swapped}
 use Rattle.bitpack_sets.specs.Operations.{folded, holds, those}
 use Rattle.bitpack_sets.specs.Reads.{has}
-use Rattle.bitpack_sets.specs.Sets.{IsRising}
 use Rattle.bitpack_sets.specs.declared.operation.Operation.{Operation}
 use Rattle.bitpack_sets.specs.declared.operation.Operation.TheVariants.{And, Or, AndNot, Xor}
 
@@ -37,10 +36,6 @@ neither Or = refl
 neither AndNot = refl
 neither Xor = refl
 
-pub left_kept : (operation : Operation) (a : Bool) → holds operation true false ≡ true → holds operation a false ≡ a
-left_kept operation true h = h
-left_kept operation false h = neither operation
-
 -- ---- high bytes
 
 no_high_step : (x y : ℕ) (a b : Bool) → ((y / 256 == x / 256) || a) ≡ false → (a ≡ false → b ≡ false) → ((y == x) || b) ≡ false
@@ -61,47 +56,9 @@ none_of_highs operation p false a true f g both left right = absurd (false≢tru
 
 -- ---- the numbers below a bound that pass a test
 
-chosen_rise : (b : Bool) (low high : ℕ) (xs : List ℕ) → IsRising (low + 1) high xs → IsRising low high (cond b (low ∷ xs) xs)
-chosen_rise true low high xs r = (omega arith, r)
-chosen_rise false low high xs r = rising_lower (low + 1) low high xs (omega arith) r
-
-kept_rise : (P : ℕ → Bool) (low high n : ℕ) → low + n ≡ high → IsRising low high (filter P (range_with_len low n))
-kept_rise P low high zero e = omega arith
-kept_rise P low high (suc n) e = chosen_rise (P low) low high (filter P (range_with_len (low + 1) n)) (kept_rise P (low + 1) high n (omega arith))
-
-has_later : (b : Bool) (x low : ℕ) (xs : List ℕ) → low ≢ x → has x (cond b (low ∷ xs) xs) ≡ has x xs
-has_later true x low xs h = ap (λ t. t || has x xs) (ne_eqb low x h)
-has_later false x low xs h = refl
-
-has_first : (b : Bool) (x low : ℕ) (xs : List ℕ) → low ≡ x → has x xs ≡ false → has x (cond b (low ∷ xs) xs) ≡ b
-has_first true x low xs e h = ap (λ t. t || has x xs) (eq-eqb low x e)
-has_first false x low xs e h = h
-
-has_kept : (P : ℕ → Bool) (x low n : ℕ) → low ≤ x → x < low + n → has x (filter P (range_with_len low n)) ≡ P x
-has_kept P x low zero a b = absurd (omega arith)
-has_kept P x low (suc n) a b = elim (cases_lt low x) [
-  | inl less ↦ has_later (P low) x low (filter P (range_with_len (low + 1) n)) (λ e. omega arith) ∙ has_kept P x (low + 1) n (omega arith) (omega arith)
-  | inr more ↦ (
-      let e : low ≡ x = omega arith in
-      let none : has x (filter P (range_with_len (low + 1) n)) ≡ false = has_below x (low + 1) (low + 1 + n) (filter P (range_with_len (low + 1) n)) (kept_rise P (low + 1) (low + 1 + n) n refl) (omega arith) in
-      has_first (P low) x low (filter P (range_with_len (low + 1) n)) e none ∙ ap P e)
-]
-
-pub has_those : (P : ℕ → Bool) (x bound : ℕ) → x < bound → has x (those bound P) ≡ P x
-unfolding those
-has_those P x bound h = has_kept P x 0 bound (omega arith) (omega arith)
-
-pub those_rise : (P : ℕ → Bool) (bound : ℕ) → IsRising 0 bound (those bound P)
-unfolding those
-those_rise P bound = kept_rise P 0 bound bound (omega arith)
-
-raised_not : (xs : List ℕ) → map (λ i. 0 + i) xs ≡ xs
-raised_not [] = refl
-raised_not (x ∷ xs) = let e : 0 + x ≡ x = omega arith in ap (λ y. y ∷ map (λ i. 0 + i) xs) e ∙ ap (λ ys. x ∷ ys) (raised_not xs)
-
 -- the high bytes that are written at the start
 pub listed : (out xs : List ℕ) (n : ℕ) → take n out ≡ map (λ i. 0 + i) xs → take n out ≡ xs
-listed out xs n e = e ∙ raised_not xs
+listed out xs n e = e ∙ map_zero xs
 
 -- no high byte is listed
 pub none_listed : (out : List ℕ) (n h : ℕ) (p : ℕ → Bool) → take n out ≡ map (λ i. 0 + i) (those 256 p) → n ≡ 0 → h < 256 → p h ≡ false
@@ -115,29 +72,17 @@ part_own before false bit none own = none refl
 
 -- ---- the numbers of a key
 
-and_false : (b : Bool) → (b && false) ≡ false
-and_false true = refl
-and_false false = refl
-
 pub and_cleared : (a b c : Bool) → a ≡ (b && c) → c ≡ false → a ≡ false
-and_cleared a b c e f = e ∙ ap (λ (d : Bool). b && d) f ∙ and_false b
-
-and_true : (b : Bool) → (b && true) ≡ b
-and_true true = refl
-and_true false = refl
-
-pub or_false : (b : Bool) → (b || false) ≡ b
-or_false true = refl
-or_false false = refl
+and_cleared a b c e f = e ∙ ap (λ (d : Bool). b && d) f ∙ and-false b
 
 -- a number is combined, if the answer has none of the second set alone
 pub cut_marked : (operation : Operation) (h o w w' b n : Bool) → holds operation false true ≡ false → n ≡ high_of operation h o → (o ≡ false → b ≡ false)
     → ((h && o) ≡ true → w' ≡ holds operation w b) → ((h && o) ≡ false → w' ≡ w) → (n && w') ≡ holds operation (h && w) b
 cut_marked And true true w w' b n k e f g r = ap (λ (m : Bool). m && w') e ∙ g refl
-cut_marked And true false w w' b n k e f g r = ap (λ (m : Bool). m && w') e ∙ sym (ap (λ (c : Bool). w && c) (f refl) ∙ and_false w)
+cut_marked And true false w w' b n k e f g r = ap (λ (m : Bool). m && w') e ∙ sym (ap (λ (c : Bool). w && c) (f refl) ∙ and-false w)
 cut_marked And false o w w' b n k e f g r = ap (λ (m : Bool). m && w') e
 cut_marked AndNot true true w w' b n k e f g r = ap (λ (m : Bool). m && w') e ∙ g refl
-cut_marked AndNot true false w w' b n k e f g r = ap (λ (m : Bool). m && w') e ∙ r refl ∙ sym (ap (λ (c : Bool). w && not c) (f refl) ∙ and_true w)
+cut_marked AndNot true false w w' b n k e f g r = ap (λ (m : Bool). m && w') e ∙ r refl ∙ sym (ap (λ (c : Bool). w && not c) (f refl) ∙ and-true w)
 cut_marked AndNot false o w w' b n k e f g r = ap (λ (m : Bool). m && w') e
 cut_marked Or h o w w' b n k e f g r = absurd (true≢false k)
 cut_marked Xor h o w w' b n k e f g r = absurd (true≢false k)
@@ -147,11 +92,11 @@ pub joined_marked : (operation : Operation) (h o w w' w'' b n : Bool) → holds 
     → ((o && not h) ≡ true → w' ≡ false) → ((o && not h) ≡ false → w' ≡ w) → (o ≡ true → w'' ≡ holds operation w' b) → (o ≡ false → w'' ≡ w')
     → (n && w'') ≡ holds operation (h && w) b
 joined_marked Or true true w w' w'' b n k e f q r s t = ap (λ (m : Bool). m && w'') e ∙ s refl ∙ ap (λ (c : Bool). c || b) (r refl)
-joined_marked Or true false w w' w'' b n k e f q r s t = ap (λ (m : Bool). m && w'') e ∙ t refl ∙ r refl ∙ sym (ap (λ (c : Bool). w || c) (f refl) ∙ or_false w)
+joined_marked Or true false w w' w'' b n k e f q r s t = ap (λ (m : Bool). m && w'') e ∙ t refl ∙ r refl ∙ sym (ap (λ (c : Bool). w || c) (f refl) ∙ or-false w)
 joined_marked Or false true w w' w'' b n k e f q r s t = ap (λ (m : Bool). m && w'') e ∙ s refl ∙ ap (λ (c : Bool). c || b) (q refl)
 joined_marked Or false false w w' w'' b n k e f q r s t = ap (λ (m : Bool). m && w'') e ∙ sym (f refl)
 joined_marked Xor true true w w' w'' b n k e f q r s t = ap (λ (m : Bool). m && w'') e ∙ s refl ∙ ap (λ (c : Bool). holds Xor c b) (r refl)
-joined_marked Xor true false w w' w'' b n k e f q r s t = ap (λ (m : Bool). m && w'') e ∙ t refl ∙ r refl ∙ sym (ap (holds Xor w) (f refl) ∙ left_kept Xor w refl)
+joined_marked Xor true false w w' w'' b n k e f q r s t = ap (λ (m : Bool). m && w'') e ∙ t refl ∙ r refl ∙ sym (ap (holds Xor w) (f refl) ∙ kept Xor w refl)
 joined_marked Xor false true w w' w'' b n k e f q r s t = ap (λ (m : Bool). m && w'') e ∙ s refl ∙ ap (λ (c : Bool). holds Xor c b) (q refl)
 joined_marked Xor false false w w' w'' b n k e f q r s t = ap (λ (m : Bool). m && w'') e ∙ sym (f refl)
 joined_marked And h o w w' w'' b n k e f q r s t = absurd (false≢true k)

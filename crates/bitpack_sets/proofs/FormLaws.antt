@@ -1,14 +1,14 @@
 -- What is tested after byte 0, by what byte 0 is; and what an opened set states.
-use Rattle.std.proofs.Common.{◌≡◌, ◌≢◌, ℕ, ◌+◌, ◌-◌, ◌*◌, ◌<◌, ◌≤◌, Bool, true, false, eqb, ltb, cond, List, [], ◌∷◌, drop, length, get_or, Option, Some, None, refl, sym, ap, ◌∙◌, arith, subst, eq-eqb, inl, inr}
-use Rattle.std.specs.Option.{is_some, option_or}
+use Rattle.std.proofs.Common.{◌≡◌, ◌≢◌, ℕ, ◌-◌, ◌*◌, ◌<◌, ◌≤◌, Bool, eqb, ltb, cond, List, [], ◌∷◌, drop, length, get_or, Option, Some, None, refl, sym, ap, ◌∙◌, arith, subst, eq-eqb, inl, inr}
+use Rattle.std.specs.Option.{is_some}
 use Rattle.std.proofs.lemmas.Bool.{cases_lt, le-ltb, lt-ltb, ne_eqb, true≢false}
 use Rattle.std.proofs.lemmas.Bool.Decides.{eqb_tells}
 use Rattle.bitpacking.specs.Bits.{AreBytes}
 use Rattle.bitpack_sets.proofs.CountLaws.{bytes_are}
 use Rattle.bitpack_sets.proofs.DecodeLaws.{bytes_dropped}
 use Rattle.bitpack_sets.proofs.EntryLaws.{rest_none}
-use Rattle.bitpack_sets.proofs.FaultLaws.{if_some, map_none, not_below, or_none}
-use Rattle.bitpack_sets.proofs.TextLaws.{chunks_none}
+use Rattle.bitpack_sets.proofs.FaultLaws.{map_none, not_below, or_none}
+use Rattle.bitpack_sets.proofs.TextLaws.{chunks_none, some_not_none}
 use Rattle.bitpack_sets.proofs.Words.{EachByte}
 use Rattle.bitpack_sets.specs.Directory.{chunk_ids}
 use Rattle.bitpack_sets.specs.Faults.{array_fault, count_fault, fault, ids_fault, in_chunks_fault, short_fault}
@@ -19,6 +19,7 @@ use Rattle.bitpack_sets.specs.Stated.{States, after_count, stated_count}
 use Rattle.bitpack_sets.specs.Varints.{number_end, number_fault, number_value, set_error}
 use Rattle.bitpack_sets.specs.declared.set_error.SetError.{SetError}
 use Rattle.bitpack_sets.specs.declared.set_error.SetError.TheVariants.{BadVersion, Short}
+use Rattle.bitpack_groups.proofs.ForCallers.{passed}
 
 abbrev low_fault : ℕ → List ℕ → Option SetError
 low_fault form bytes = cond (ltb form 128) (Some (BadVersion form)) (short_fault (form - 128) bytes)
@@ -130,8 +131,8 @@ stated_array bytes rest count chunks are is six =
     let (short, h3) = or_none _ _ h2 in
     let (falls, h4) = or_none _ _ h3 in
     let (apart, left) = or_none _ _ h4 in
-    let low = not_below (length after) (4 * number_value later) (if_some _ _ _ short).0 in
-    let high = not_below (4 * number_value later) (length after) (if_some _ _ _ left).0 in
+    let low = not_below (length after) (4 * number_value later) (passed _ _ _ short).0 in
+    let high = not_below (4 * number_value later) (length after) (passed _ _ _ left).0 in
     let n : count ≡ number_value later = is.count_is ∙ low_count bytes (omega arith) in
     let r : rest ≡ after = is.in_array six in
     let size = ap length r in
@@ -142,9 +143,6 @@ pub record HasFew (bytes : List ℕ) (count : ℕ) (rest : List ℕ) : Type 0 wh
   pub few : count ≤ 127
   pub sound : short_fault count rest ≡ None
   pub ids_are : ids_in bytes ≡ few_ids count rest
-
-some_not_none : {T : Type 0} (e : T) → Some e ≡ None → ⊥
-some_not_none e h = true≢false (ap is_some h)
 
 pub stated_few : (bytes rest : List ℕ) (count chunks : ℕ) → AreBytes bytes → States bytes count chunks rest → get_or bytes 0 0 ≢ 5 → get_or bytes 0 0 ≢ 6 → HasFew bytes count rest
 stated_few bytes rest count chunks are is not5 not6 =

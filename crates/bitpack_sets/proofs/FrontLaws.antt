@@ -4,17 +4,18 @@ use Rattle.std.specs.List.{concat, flat_map, range_with_len}
 use Rattle.std.proofs.lemmas.Bool.{cases_lt}
 use Rattle.std.proofs.lemmas.List.{drop-append-le, drop_at, length-map, length-take-le, map-append, take_at}
 use Rattle.std.proofs.lemmas.List.FromFn.{length-map-range_with_len}
+use Rattle.bitpack_sets.proofs.BitmapLaws.{range_cat}
 use Rattle.bitpack_sets.proofs.ChunkLaws.{from_chunk, shorts_all}
 use Rattle.bitpack_sets.proofs.ChunkReads.{sum_all}
 use Rattle.bitpack_sets.proofs.DecodeLaws.{bytes_dropped}
 use Rattle.bitpack_sets.proofs.EncodeLaws.{few_is}
 use Rattle.bitpack_sets.proofs.EntryLaws.{body_len, ends_grow, grown_to, sums_grow}
 use Rattle.bitpack_sets.proofs.JoinLaws.{join_rises, parts_join}
-use Rattle.bitpack_sets.proofs.LongLaws.{bodies_len, concat_len, counts, join_len, keys, total}
+use Rattle.bitpack_sets.proofs.LongLaws.{counts, join_len, keys, total}
 use Rattle.bitpack_sets.proofs.LongLaws as texts
 use Rattle.bitpack_sets.proofs.PartLaws.{AreParts, join, join_parts, parts_are}
-use Rattle.bitpack_sets.proofs.RunLaws.{rising_rest}
 use Rattle.bitpack_sets.proofs.ShortLaws.{Grows, map_map, map_same, before_next, step_of, steps_summed, steps_taken, steps_total}
+use Rattle.bitpack_sets.proofs.WalkLaws.{rising_from}
 use Rattle.bitpack_sets.proofs.Words.{EachByte}
 use Rattle.bitpack_sets.specs.Directory.{before, bodies_end, bodies_start, body_at, body_numbers_of, chunk_at, chunk_ids, count_at, end_at, ids_of_chunks, key_at, sum_at}
 use Rattle.bitpack_sets.specs.Fronts.{IsFront, IsNext}
@@ -44,27 +45,7 @@ parts_cut first later cut =
     join_append 65536 ps qs ∙ ap (λ (l : List ℕ). l ++ join 65536 qs) (join_parts 65536 first) ∙ ap (λ (l : List ℕ). first ++ l) (join_parts 65536 later) in
     ap (parts 65536) (sym all) ∙ parts_join 65536 0 65536 (ps ++ qs) (parts_append 65536 0 cut.key 65536 ps qs front back)
 
--- bodies have at most two bytes for each id
-pub bodies_small : (xs : List ℕ) → length (concat (bodies xs)) ≤ 2 * length xs
-bodies_small xs =
-    let ps : List (ℕ × List ℕ) = parts 65536 xs in
-    let a = concat_len (bodies xs) in
-    let b = bodies_len ps in
-    let c = join_len ps in
-    let d = ap length (join_parts 65536 xs) in
-    omega arith
-
 -- ---- the first chunks of a set
-
-range_split : (m k n : ℕ) → range_with_len m (k + n) ≡ range_with_len m k ++ range_with_len (m + k) n
-range_split m zero n =
-    let e : 0 + n ≡ n = omega arith in
-    let f : m + 0 ≡ m = omega arith in
-    ap (range_with_len m) e ∙ ap (λ (i : ℕ). range_with_len i n) (sym f)
-range_split m (suc k) n =
-    let e : suc k + n ≡ suc (k + n) = omega arith in
-    let f : m + 1 + k ≡ m + suc k = omega arith in
-    ap (range_with_len m) e ∙ ap (λ (l : List ℕ). m ∷ l) (range_split (m + 1) k n) ∙ ap (λ (i : ℕ). m ∷ (range_with_len (m + 1) k ++ range_with_len i n)) f
 
 module _ (ids chunks : ℕ) (rest : List ℕ) (are : EachByte rest) (is : IsRest ids chunks rest) (k : ℕ) (lt : k < chunks) where
   abbrev pub front : List (ℕ × List ℕ)
@@ -188,7 +169,7 @@ module _ (ids chunks : ℕ) (rest : List ℕ) (are : EachByte rest) (is : IsRest
   all_is =
       let whole : chunks ≡ k + (chunks - k) = omega arith in
       ap (λ (n : ℕ). ids_of_chunks (map (chunk_at chunks rest) (range_with_len 0 n))) whole
-      ∙ ap (λ (l : List ℕ). ids_of_chunks (map (chunk_at chunks rest) l)) (range_split 0 k (chunks - k))
+      ∙ ap (λ (l : List ℕ). ids_of_chunks (map (chunk_at chunks rest) l)) (range_cat 0 k (chunks - k))
       ∙ ap ids_of_chunks (map-append (chunk_at chunks rest) (range_with_len 0 k) (range_with_len (0 + k) (chunks - k)))
       ∙ join_append 65536 front (map (chunk_at chunks rest) (range_with_len (0 + k) (chunks - k)))
       ∙ ap (λ (n : ℕ). first ++ ids_of_chunks (map (chunk_at chunks rest) (range_with_len n (chunks - k)))) (zero_plus k)
@@ -247,7 +228,7 @@ module _ (ids chunks : ℕ) (rest : List ℕ) (are : EachByte rest) (is : IsRest
   }
 
 -- a set whose bytes begin as those in chunks has at least 128 ids
-short_first : (ids : List ℕ) → 128 ≤ get_or (short ids) 0 0
+pub short_first : (ids : List ℕ) → 128 ≤ get_or (short ids) 0 0
 unfolding short
 short_first [] = omega arith
 short_first (x ∷ ids) = omega arith
@@ -276,4 +257,4 @@ module _ (first ids more : List ℕ) (is : IsFront first ids) where
       let long = ap length e in
       let size = length-drop (length first) (ids ++ more) in
       let few = set.few in
-      record { few = omega arith; rising = subst (IsRising 0 (2 ^ 32)) e (rising_rest 0 (2 ^ 32) (length first) (ids ++ more) set.rising) }
+      record { few = omega arith; rising = subst (IsRising 0 (2 ^ 32)) e (rising_from 0 (2 ^ 32) (length first) (ids ++ more) set.rising) }

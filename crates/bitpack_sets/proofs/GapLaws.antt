@@ -1,21 +1,20 @@
 -- A set of fewer than 128 ids has no fault exactly if it is the encoding of the ids that are read from it.
-use Rattle.std.proofs.Common.{◌≡◌, ℕ, zero, suc, ◌+◌, ◌-◌, ◌*◌, ◌/◌, ◌^◌, ◌<◌, ◌≤◌, Bool, true, false, leb, cond, min, List, [], ◌∷◌, ◌++◌, take, drop, length, get_or, Option, Some, None, refl, sym, ap, ◌∙◌, arith, inl, inr, subst, length-append, take-append-drop, append_assoc, set, add-one}
-use Rattle.std.specs.Option.{is_some, option_or}
+use Rattle.std.proofs.Common.{◌≡◌, ℕ, zero, suc, ◌+◌, ◌-◌, ◌*◌, ◌^◌, ◌<◌, ◌≤◌, Bool, leb, cond, min, List, [], ◌∷◌, ◌++◌, take, drop, length, get_or, Option, Some, None, refl, sym, ap, ◌∙◌, arith, inl, inr, subst, take-append-drop, append_assoc, set, add-one}
+use Rattle.std.specs.Option.{is_some}
 use Rattle.std.proofs.lemmas.Bool.{cases_lt, le-leb, le-ltb, lt-leb, true≢false}
-use Rattle.std.proofs.lemmas.List.{append-nil, drop_all, drop_at, drop_more, take_all, take_more_set, get_or-drop, get_or_past}
+use Rattle.std.proofs.lemmas.List.{append-nil, drop_all, drop_at, drop_more, take_all, take_more_set}
 use Rattle.bitpack_groups.specs.Groups.{group_end}
 use Rattle.bitpack_groups.specs.declared.group_error.GroupError.{GroupError}
-use Rattle.bitpack_groups.proofs.ForCallers.{fault-here, fault-next, groups_are, groups_are_read, groups_read_back, groups_run, number_reads_back, one_number}
+use Rattle.bitpack_groups.proofs.ForCallers.{AreBytes-drop, fault-here, fault-next, groups_are, groups_are_read, groups_read_back, groups_run, number_reads_back, one_number, passed}
 use Rattle.bitpacking.specs.Bits.{AreBytes}
 use Rattle.bitpacking.specs.Codes.{AreWords}
-use Rattle.bitpack_sets.proofs.CountLaws.{bytes_are}
-use Rattle.bitpack_sets.proofs.FaultLaws.{if_some, map_none, none_map, none_or, not_below, or_none, some_not}
+use Rattle.bitpack_sets.proofs.FaultLaws.{map_none, none_map, none_or, not_below, or_none, some_not}
 use Rattle.bitpack_sets.proofs.LongLaws.{Below, rising_below}
 use Rattle.bitpack_sets.proofs.OnesLaws.{rising_lower}
 use Rattle.bitpack_sets.proofs.SliceLaws.{rising_room}
 use Rattle.bitpack_sets.specs.Faults.{first_over, ids_from, short_fault, short_ids, some_fault}
 use Rattle.bitpack_sets.specs.Reads.{few_ids}
-use Rattle.bitpack_sets.specs.Sets.{IsRising, gaps, group, groups, short}
+use Rattle.bitpack_sets.specs.Sets.{IsRising, gaps, groups, short}
 use Rattle.bitpack_sets.specs.Varints.{AreGroups, after_groups, group_fault, of, groups_codes, groups_fault, groups_of, number, number_end, number_fault, number_value, set_error}
 use Rattle.bitpack_sets.specs.declared.set_error.SetError.{SetError}
 use Rattle.bitpack_sets.specs.declared.set_error.SetError.TheVariants.{NotSorted, Trailing}
@@ -75,7 +74,7 @@ over_none : (place : ℕ) (xs : List ℕ) → first_over place xs ≡ None → B
 unfolding first_over
 over_none place [] e = tt
 over_none place (x ∷ xs) e =
-    let (low, later) = if_some (leb (2 ^ 32) x) place (first_over (place + 1) xs) e in
+    let (low, later) = passed (leb (2 ^ 32) x) place (first_over (place + 1) xs) e in
     let small : x < 2 ^ 32 = elim (cases_lt x (2 ^ 32)) [ inl less ↦ less | inr more ↦ absurd (true≢false (sym (le-leb (2 ^ 32) x more) ∙ low)) ] in
     (small, over_none (place + 1) xs later)
 
@@ -164,12 +163,9 @@ of_later groups total i count rest lt is h =
 
 -- ---- the law
 
-no_bytes : (bytes : List ℕ) → length bytes ≤ 0 → bytes ≡ []
+pub no_bytes : (bytes : List ℕ) → length bytes ≤ 0 → bytes ≡ []
 no_bytes [] h = refl
 no_bytes (byte ∷ bytes) h = absurd (omega arith)
-
-pub are_dropped : (n : ℕ) (bytes : List ℕ) → AreBytes bytes → AreBytes (drop n bytes)
-are_dropped n bytes are k = subst (λ (x : ℕ). x < 2 ^ 8) (sym (get_or-drop n bytes k 0)) (are (n + k))
 
 -- the encoding of an id and others, after byte 0
 abbrev pub later_text : ℕ → List ℕ → List ℕ
@@ -190,9 +186,9 @@ short_none more bytes are e =
     let value : ℕ = number_value bytes in
     let codes : List ℕ = groups_codes (groups_of more) more rest in
     let (small, front, only) = one_number bytes are (map_none set_error _ number_none) in
-    let (many, words, (run, split, run_is)) = groups_are_read (groups_of more) 0 more rest (omega arith) (omega arith) (are_dropped (number_end bytes) bytes are) (map_none set_error _ groups_none) in
+    let (many, words, (run, split, run_is)) = groups_are_read (groups_of more) 0 more rest (omega arith) (omega arith) (AreBytes-drop (number_end bytes) bytes are) (map_none set_error _ groups_none) in
     let below : Below (2 ^ 32) (ids_from value codes) = over_none 0 (ids_from value codes) (map_none NotSorted _ over) in
-    let end : after_groups (groups_of more) more rest ≡ [] = no_bytes (after_groups (groups_of more) more rest) (not_below 0 (length (after_groups (groups_of more) more rest)) (if_some _ _ _ after).0) in
+    let end : after_groups (groups_of more) more rest ≡ [] = no_bytes (after_groups (groups_of more) more rest) (not_below 0 (length (after_groups (groups_of more) more rest)) (passed _ _ _ after).0) in
     let whole : rest ≡ run = split ∙ ap (λ (l : List ℕ). run ++ l) end ∙ append-nil run in
     let run_text : run ≡ groups (groups_of more) codes = groups_are (groups_of more) codes run words run_is in
     let later : List ℕ = drop 1 (ids_from value codes) in

@@ -1,7 +1,8 @@
 -- IsRising numbers by halves.
-use Rattle.std.proofs.Common.{◌≡◌, ℕ, zero, suc, ◌+◌, ◌*◌, ◌/◌, ◌<◌, ◌≤◌, Bool, false, ◌||◌, eqb, ltb, List, [], ◌∷◌, length, refl, ap, ◌∙◌, arith, cond, inl, inr, get_or}
+use Rattle.std.proofs.Common.{◌≡◌, ℕ, zero, suc, ◌+◌, ◌-◌, ◌*◌, ◌/◌, ◌<◌, ◌≤◌, Bool, false, ◌||◌, eqb, ltb, List, [], ◌∷◌, length, length-drop, length-take-le, take, drop, refl, ap, ◌∙◌, arith, cond, inl, inr, get_or}
+use Rattle.std.proofs.Math.Bool.{or-false}
 use Rattle.std.proofs.lemmas.Bool.{cases_lt, ne_eqb, lt-ltb, false_from_ne_true}
-use Rattle.bitpack_sets.proofs.ReadLaws.{bit_le, has_below, lowest, or_false, rank_below, rank_less}
+use Rattle.bitpack_sets.proofs.ReadLaws.{bit_le, has_below, lowest, rank_below, rank_less}
 use Rattle.bitpack_sets.specs.Reads.{has, rank}
 use Rattle.bitpack_sets.specs.Sets.{IsRising}
 use Rattle.bitpack_sets.specs.Slices.{pairs_of}
@@ -51,10 +52,6 @@ rank_under x low high (suc i) (y ∷ ys) (a, r) h l =
     let one = bit_le (ltb y x) in
     omega arith
 
-pub rank_most : (x : ℕ) (xs : List ℕ) → rank x xs ≤ length xs
-rank_most x [] = omega arith
-rank_most x (y ∷ xs) = let one = bit_le (ltb y x) in let ih = rank_most x xs in omega arith
-
 -- what is at its place tells a number
 pub has_at_rank : (x low high i : ℕ) (xs : List ℕ) → IsRising low high xs → i ≡ rank x xs → i < length xs → has x xs ≡ eqb (get_or xs i 0) x
 has_at_rank x low high i [] r e h = absurd (omega arith)
@@ -62,7 +59,7 @@ has_at_rank x low high zero (y ∷ ys) (a, r) e h = elim (cases_lt y x) [
   | inl less ↦ (
       let first : ◌≡◌ {A = ℕ} (cond (ltb y x) 1 0) 1 = ap (λ (b : Bool). cond b 1 0) (lt-ltb y x less) in
       absurd (omega arith))
-  | inr more ↦ ap (λ (b : Bool). eqb y x || b) (has_below x (y + 1) high ys r (omega arith)) ∙ or_false (eqb y x)
+  | inr more ↦ ap (λ (b : Bool). eqb y x || b) (has_below x (y + 1) high ys r (omega arith)) ∙ or-false (eqb y x)
 ]
 has_at_rank x low high (suc i) (y ∷ ys) (a, r) e h = elim (cases_lt y x) [
   | inl less ↦ (
@@ -73,3 +70,15 @@ has_at_rank x low high (suc i) (y ∷ ys) (a, r) e h = elim (cases_lt y x) [
 
 pub has_not : (x i : ℕ) (xs : List ℕ) → i ≡ rank x xs → length xs ≤ i → has x xs ≡ false
 has_not x i xs e h = false_from_ne_true (has x xs) (λ s. (let less = rank_less x xs s in absurd (omega arith)))
+
+-- ---- the keys of chunks
+
+-- the keys as they are cut
+pub cut_keys : (chunks : ℕ) (rest : List ℕ) → take (1 + 2 * chunks - 1) (drop 1 rest) ≡ take (2 * chunks) (drop 1 rest)
+cut_keys chunks rest = let e : 1 + 2 * chunks - 1 ≡ 2 * chunks = omega arith in ap (λ (n : ℕ). take n (drop 1 rest)) e
+
+pub keys_len : (chunks : ℕ) (rest : List ℕ) → 1 + 2 * chunks ≤ length rest → length (pairs_of (take (2 * chunks) (drop 1 rest))) ≡ chunks
+keys_len chunks rest h =
+    let a = pairs_len (take (2 * chunks) (drop 1 rest)) in
+    let b = length-take-le (2 * chunks) (drop 1 rest) (omega (arith, length-drop 1 rest)) in
+    omega arith

@@ -8,7 +8,7 @@ use Rattle.std.specs.List.Sorted.{IsStrictlyIncreasing}
 use Rattle.std.proofs.lemmas.Bool.{cases_lt, cond_below, lt-leb, le-leb, true≢false}
 use Rattle.std.proofs.lemmas.List.{drop-drop, get_or-drop}
 use Rattle.std.proofs.lemmas.Nat.{and_mask, mod-pow-add, one_shl, shr-shr}
-use Rattle.std.proofs.lemmas.Simd.{get_or-chunk, get_or-zip2, length-chunk, length-zip2, mask_l-lt, mask_l-mod, tops_compared}
+use Rattle.std.proofs.lemmas.Simd.{get_or-chunk, get_or-zip2, length-chunk, length-zip2, mask_l-mod, tops_compared}
 use Rattle.bitpack_sets.proofs.ByteLaws.{byte_of}
 use Rattle.bitpack_sets.proofs.CountLaws.{bits_counted, bytes_are, decide_few}
 use Rattle.bitpack_sets.proofs.DecodeLaws.{bytes_dropped}

@@ -6,6 +6,7 @@ use Rattle.std.proofs.lemmas.Nat.{div-mul-add, mod-mul-add, mul-le}
 use Rattle.bitpack_sets.proofs.BlocksLaws.{blocks_are, build}
 use Rattle.bitpack_sets.proofs.OnesLaws.{rising_lower}
 use Rattle.bitpack_sets.proofs.PartLaws.{AreParts, join}
+use Rattle.bitpack_sets.proofs.RaisedLaws.{rising_append}
 use Rattle.bitpack_sets.specs.Sets.{IsRising, blocks, blocks_of, parts, with_number}
 use Rattle.bitpack_sets.specs.Slices.{AreSlices, IsBlocks, block_numbers, numbers_in, numbers_of, slice_len, slice_numbers}
 
@@ -58,10 +59,6 @@ parts_join base low high ((h, l ∷ ls) ∷ ps) (a, some, r, later) =
     run_join base h 0 l ls (join base ps) r (subst (Apart h) (sym ih) (apart_later base h high ps later)) ∙ ap (λ (qs : List (ℕ × List ℕ)). (h, l ∷ ls) ∷ qs) ih
 
 -- ---- they rise
-
-rising_append : (a b c : ℕ) (xs ys : List ℕ) → IsRising a b xs → IsRising b c ys → IsRising a c (xs ++ ys)
-rising_append a b c [] ys r s = rising_lower b a c ys r s
-rising_append a b c (x ∷ xs) ys (f, r) s = (f, rising_append (x + 1) b c xs ys r s)
 
 rising_map : (base h from : ℕ) (xs : List ℕ) → IsRising from base xs → IsRising (h * base + from) (h * base + base) (map (λ low. h * base + low) xs)
 rising_map base h from [] r = omega arith

@@ -1,20 +1,18 @@
 -- Numbers are looked up in the part of their quotient.
-use Rattle.std.proofs.Common.{◌≡◌, ◌≢◌, ℕ, zero, suc, ◌+◌, ◌*◌, ◌/◌, ◌%◌, ◌<◌, ◌≤◌, Bool, true, false, ◌||◌, eqb, ltb, cond, List, [], ◌∷◌, ◌++◌, map, take, length, get_or, refl, sym, ap, ◌∙◌, arith, inl, inr, subst, eq-eqb, div-add-mod'}
-use Rattle.std.proofs.lemmas.Bool.{cases_lt, le-ltb, lt-ltb, ne_eqb, true≢false}
+use Rattle.std.proofs.Common.{◌≡◌, ◌≢◌, ℕ, zero, suc, ◌+◌, ◌*◌, ◌/◌, ◌%◌, ◌<◌, ◌≤◌, Bool, true, false, ◌||◌, eqb, ltb, cond, List, [], ◌∷◌, ◌++◌, map, take, length, get_or, refl, sym, ap, ◌∙◌, arith, inl, inr, eq-eqb, div-add-mod'}
+use Rattle.std.proofs.Math.Bool.{or-false}
+use Rattle.std.proofs.lemmas.Bool.{cases_lt, false≢true, le-ltb, lt-ltb, ne_eqb, true≢false}
 use Rattle.std.proofs.lemmas.Nat.{div-mul-add, mod-mul-add, mod_below, mul-le}
 use Rattle.bitpack_sets.proofs.EntryLaws.{neither}
 use Rattle.bitpack_sets.proofs.LongLaws.{counts, keys, total}
 use Rattle.bitpack_sets.proofs.PartLaws.{AreParts, join}
-use Rattle.bitpack_sets.proofs.ReadLaws.{eqb_same, has_append, has_below, lowest, or_false, rank_below}
+use Rattle.bitpack_sets.proofs.ReadLaws.{eqb_same, has_append, has_below, lowest, rank_below}
 use Rattle.bitpack_sets.proofs.SliceLaws.{rising_room}
 use Rattle.bitpack_sets.specs.Reads.{has, rank}
 use Rattle.bitpack_sets.specs.Sets.{IsRising}
 
 pub none : ℕ × List ℕ
 none = (0, [])
-
-raised : ℕ → ℕ → List ℕ → List ℕ
-raised base h xs = map (λ low. h * base + low) xs
 
 split_other : (base x h low : ℕ) → low < base → h ≢ x / base → h * base + low ≢ x
 split_other base x h low small ne e = ne (sym (div-mul-add h base low small) ∙ ap (λ (n : ℕ). n / base) e)
@@ -48,9 +46,6 @@ pub keys_rise : (base low high : ℕ) (ps : List (ℕ × List ℕ)) → AreParts
 keys_rise base low high [] are = are
 keys_rise base low high (p ∷ ps) (a, some, r, later) = (a, keys_rise base (p.0 + 1) high ps later)
 
-false≢true : false ≡ true → ⊥
-false≢true e = true≢false (sym e)
-
 pub has_join : (base x low high i : ℕ) (ps : List (ℕ × List ℕ)) → AreParts base low high ps → i ≡ rank (x / base) (keys ps) → has (x / base) (keys ps) ≡ true
     → has x (join base ps) ≡ has (x % base) (get_or ps i none).1
 has_join base x low high i [] are e h = absurd (false≢true h)
@@ -65,7 +60,7 @@ has_join base x low high zero (p ∷ ps) (a, some, r, later) e h = elim (cases_l
         has_append x (map (λ low. p.0 * base + low) p.1) (join base ps)
         ∙ ap (λ (b : Bool). has x (map (λ low. p.0 * base + low) p.1) || b)
         (has_join_not base x (p.0 + 1) high ps later (has_below (x / base) (p.0 + 1) high (keys ps) (keys_rise base (p.0 + 1) high ps later) (omega arith)))
-        ∙ or_false (has x (map (λ low. p.0 * base + low) p.1)) ∙ has_same base x p.0 0 p.1 r same)
+        ∙ or-false (has x (map (λ low. p.0 * base + low) p.1)) ∙ has_same base x p.0 0 p.1 r same)
   ]
 ]
 has_join base x low high (suc i) (p ∷ ps) (a, some, r, later) e h = elim (cases_lt p.0 (x / base)) [

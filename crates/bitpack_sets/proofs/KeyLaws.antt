@@ -1,9 +1,9 @@
 -- The ids of one key, by their low 16 bits.
 use Rattle.std.proofs.Common.{◌≡◌, ℕ, suc, ◌+◌, ◌*◌, ◌/◌, ◌%◌, ◌^◌, ◌<◌, ◌≤◌, Bool, true, false, ◌||◌, ◌&&◌, not, eqb, List, [], ◌∷◌, ◌++◌, map, length, get_or, refl, sym, ap, ◌∙◌, arith, cond, append-nil}
 use Rattle.std.specs.List.{filter, range_with_len}
-use Rattle.std.proofs.Math.Bool.{and_comm, or_comm}
+use Rattle.std.proofs.Math.Bool.{and_comm}
 use Rattle.std.proofs.lemmas.Bool.{ne_eqb}
-use Rattle.bitpack_sets.proofs.AnswerLaws.{none_pass, those_part, those_same}
+use Rattle.bitpack_sets.proofs.AnswerLaws.{each, none_pass, those_part, those_same}
 use Rattle.bitpack_sets.proofs.CombineLaws.{holds_none}
 use Rattle.bitpack_sets.proofs.LoadLaws.{those_are}
 use Rattle.bitpack_sets.proofs.ReadLaws.{eqb_same}
@@ -14,7 +14,7 @@ use Rattle.bitpack_sets.specs.Operations.{answer, combined, holds, those}
 use Rattle.bitpack_sets.specs.Reads.{has}
 use Rattle.bitpack_sets.specs.Sets.{IsRising}
 use Rattle.bitpack_sets.specs.declared.operation.Operation.{Operation}
-use Rattle.bitpack_sets.specs.declared.operation.Operation.TheVariants.{And, Or, AndNot, Xor}
+use Rattle.bitpack_sets.specs.declared.operation.Operation.TheVariants.{And, AndNot}
 
 -- the low 16 bits of ids
 abbrev pub lows_in : List ℕ → List ℕ
@@ -74,9 +74,6 @@ of_key key p q small below above own =
     ∙ ap (λ (l : List ℕ). map (λ low. key * 65536 + low) (those 65536 q) ++ l) (none_pass (2 ^ 32) (λ x. false) (λ x h. refl))
     ∙ append-nil (map (λ low. key * 65536 + low) (those 65536 q))
 
-both : (operation : Operation) (p p' q q' : Bool) → p ≡ p' → q ≡ q' → holds operation p q ≡ holds operation p' q'
-both operation p p' q q' e f = ap (λ (b : Bool). holds operation b q) e ∙ ap (holds operation p') f
-
 -- the answer of two lists of ids of a key
 pub answer_of_key : (operation : Operation) (key : ℕ) (xs ys : List ℕ) → key < 65536 → AreOf key xs → AreOf key ys
     → answer operation xs ys ≡ map (λ low. key * 65536 + low) (combined 65536 operation (lows_in xs) (lows_in ys))
@@ -84,7 +81,7 @@ answer_of_key operation key xs ys small a b =
     of_key key (λ x. holds operation (has x xs) (has x ys)) (λ x. holds operation (has x (lows_in xs)) (has x (lows_in ys))) small
     (λ x h. holds_none operation (has x xs) (has x ys) (of_below key x xs a h) (of_below key x ys b h))
     (λ x h. holds_none operation (has x xs) (has x ys) (of_above key x xs a h) (of_above key x ys b h))
-    (λ x h. both operation (has (key * 65536 + x) xs) (has x (lows_in xs)) (has (key * 65536 + x) ys) (has x (lows_in ys)) (of_own key x xs a) (of_own key x ys b))
+    (λ x h. each operation (has (key * 65536 + x) xs) (has x (lows_in xs)) (has (key * 65536 + x) ys) (has x (lows_in ys)) (of_own key x xs a) (of_own key x ys b))
 
 -- ---- ids that are looked up
 
@@ -138,15 +135,3 @@ mixed_of_key operation numbers xs highs words bits none =
 
 pub and_turned : (n : ℕ) (xs ys : List ℕ) → combined n And xs ys ≡ combined n And ys xs
 and_turned n xs ys = those_same n (λ x. holds And (has x xs) (has x ys)) (λ x. holds And (has x ys) (has x xs)) (λ x h. and_comm (has x xs) (has x ys))
-
-pub or_turned : (n : ℕ) (xs ys : List ℕ) → combined n Or xs ys ≡ combined n Or ys xs
-or_turned n xs ys = those_same n (λ x. holds Or (has x xs) (has x ys)) (λ x. holds Or (has x ys) (has x xs)) (λ x h. or_comm (has x xs) (has x ys))
-
-xor_comm : (p q : Bool) → holds Xor p q ≡ holds Xor q p
-xor_comm true true = refl
-xor_comm true false = refl
-xor_comm false true = refl
-xor_comm false false = refl
-
-pub xor_turned : (n : ℕ) (xs ys : List ℕ) → combined n Xor xs ys ≡ combined n Xor ys xs
-xor_turned n xs ys = those_same n (λ x. holds Xor (has x xs) (has x ys)) (λ x. holds Xor (has x ys) (has x xs)) (λ x h. xor_comm (has x xs) (has x ys))

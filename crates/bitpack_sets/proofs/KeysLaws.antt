@@ -1,13 +1,14 @@
 -- The ids of several keys, key by key and before those of higher keys.
 use Rattle.std.proofs.Common.{◌≡◌, ◌≢◌, ℕ, zero, suc, ◌+◌, ◌*◌, ◌/◌, ◌%◌, ◌^◌, ◌<◌, ◌≤◌, ◌==◌, leb, Bool, true, false, ◌&&◌, ◌||◌, ◌⊎◌, ◌-◌, List, [], ◌∷◌, ◌++◌, length, length-append, map, get_or, set, take, eq-eqb, refl, sym, ap, ◌∙◌, arith, inl, inr, append_assoc}
 use Rattle.std.specs.List.{All, filter, range_with_len}
-use Rattle.std.proofs.Math.Bool.{or-true}
+use Rattle.std.proofs.Math.Bool.{or-false, or-true}
 use Rattle.std.proofs.lemmas.Bool.{cases_eq, cases_lt, false≢true, le-leb, lt-leb, ne_eqb}
 use Rattle.std.proofs.lemmas.List.{get_or-set_other, get_or-set_same, length-map, map-append}
 use Rattle.std.proofs.lemmas.List.Elements.{All-head, All-tail}
 use Rattle.bitpack_sets.proofs.AnswerLaws.{Counted, Written, those_part, those_same}
 use Rattle.bitpack_sets.proofs.BitmapLaws.{has_more, those_raised, those_split}
-use Rattle.bitpack_sets.proofs.FoldLaws.{or_false, swapped_answer}
+use Rattle.bitpack_sets.proofs.FoldLaws.{swapped_answer}
+use Rattle.bitpack_sets.proofs.RaisedLaws.{map_raised}
 use Rattle.bitpack_sets.proofs.ReadLaws.{has_below}
 use Rattle.bitpack_sets.specs.Bitmaps.{bitmap_numbers, has_bit}
 use Rattle.bitpack_sets.specs.Folds.{found, ids_of_keys, joined, marked, swapped}
@@ -82,14 +83,14 @@ few_marked highs words hs ws base id k i h w key new = elim (cases_eq (i / 65536
         | inr differ ↦ ne_eqb (i % 65536) (id % 65536) differ ∙ sym (ne_eqb (base * 65536 + i) id (λ e. differ (omega arith)))
       ])
   | inr apart ↦
-      found_other highs words k i hs ws apart ∙ sym (or_false (found highs words i))
+      found_other highs words k i hs ws apart ∙ sym (or-false (found highs words i))
       ∙ ap (λ (t : Bool). found highs words i || t) (sym (ne_eqb (base * 65536 + i) id (λ e. apart (omega arith))))
 ]
 
 -- an id of a lower key is none of theirs
 pub not_marked : (highs words : List (List ℕ)) (base id i : ℕ) → id / 65536 < base → found highs words i ≡ (found highs words i || (base * 65536 + i == id))
 not_marked highs words base id i h =
-    sym (or_false (found highs words i)) ∙ ap (λ (t : Bool). found highs words i || t) (sym (ne_eqb (base * 65536 + i) id (λ e. absurd (omega arith))))
+    sym (or-false (found highs words i)) ∙ ap (λ (t : Bool). found highs words i || t) (sym (ne_eqb (base * 65536 + i) id (λ e. absurd (omega arith))))
 
 or_moved : (a b e : Bool) → ((a || b) || e) ≡ (a || (e || b))
 or_moved true b e = refl
@@ -122,18 +123,18 @@ unfolding marked
 mark_new low x highs highs' words middle words' none more cleared kept new = elim (cases_eq (x / 256) (low / 256)) [
   | inl same ↦
       ap (λ (b : Bool). b && has_bit words' x) (more (x / 256) ∙ ap (λ (b : Bool). b || has_bit highs (x / 256)) (eq-eqb (x / 256) (low / 256) same))
-      ∙ new ∙ ap (λ (b : Bool). (x == low) || b) (cleared same) ∙ or_false (x == low)
+      ∙ new ∙ ap (λ (b : Bool). (x == low) || b) (cleared same) ∙ or-false (x == low)
       ∙ sym (ap (λ (b : Bool). (b && has_bit words x) || (x == low)) (ap (has_bit highs) same ∙ none))
   | inr apart ↦ (
       let differ : (x == low) ≡ false = ne_eqb x low (λ e. apart (ap (λ (n : ℕ). n / 256) e)) in
       ap (λ (b : Bool). b && has_bit words' x) (more (x / 256) ∙ ap (λ (b : Bool). b || has_bit highs (x / 256)) (ne_eqb (x / 256) (low / 256) apart))
       ∙ ap (λ (b : Bool). has_bit highs (x / 256) && b) (new ∙ ap (λ (b : Bool). b || has_bit middle x) differ ∙ kept apart)
-      ∙ sym (ap (λ (b : Bool). (has_bit highs (x / 256) && has_bit words x) || b) differ ∙ or_false (has_bit highs (x / 256) && has_bit words x)))
+      ∙ sym (ap (λ (b : Bool). (has_bit highs (x / 256) && has_bit words x) || b) differ ∙ or-false (has_bit highs (x / 256) && has_bit words x)))
 ]
 
 and_or : (h w e : Bool) → (e ≡ true → h ≡ true) → (h && (e || w)) ≡ ((h && w) || e)
 and_or true w true f = sym (or-true w)
-and_or true w false f = sym (or_false w)
+and_or true w false f = sym (or-false w)
 and_or false w true f = f refl
 and_or false w false f = refl
 
@@ -166,12 +167,6 @@ key_counted highs words k own are =
     ap length (next_key highs words k own are) ∙ length-append (those (65536 * k) (found highs words)) (map (λ i. 65536 * k + i) (bitmap_numbers own (get_or words k [])))
     ∙ ap (λ (n : ℕ). length (those (65536 * k) (found highs words)) + n) (length-map (bitmap_numbers own (get_or words k [])) (λ i. 65536 * k + i))
 
-raised_twice : (a b : ℕ) (xs : List ℕ) → map (λ i. a + i) (map (λ i. b + i) xs) ≡ map (λ i. a + b + i) xs
-raised_twice a b [] = refl
-raised_twice a b (x ∷ xs) =
-    let e : a + (b + x) ≡ a + b + x = omega arith in
-    ap (λ (y : ℕ). y ∷ map (λ i. a + i) (map (λ i. b + i) xs)) e ∙ ap (λ (ys : List ℕ). (a + b + x) ∷ ys) (raised_twice a b xs)
-
 pub key_written : (highs words : List (List ℕ)) (base k : ℕ) (own : List ℕ) → ((h : ℕ) → h < 256 → has h own ≡ has_bit (get_or highs k []) h)
     → map (λ i. base * 65536 + i) (those (65536 * (k + 1)) (found highs words))
     ≡ map (λ i. base * 65536 + i) (those (65536 * k) (found highs words)) ++ map (λ i. (base + k) * 65536 + i) (bitmap_numbers own (get_or words k []))
@@ -180,7 +175,7 @@ key_written highs words base k own are =
     ap (map (λ i. base * 65536 + i)) (next_key highs words k own are)
     ∙ map-append (λ i. base * 65536 + i) (those (65536 * k) (found highs words)) (map (λ i. 65536 * k + i) (bitmap_numbers own (get_or words k [])))
     ∙ ap (λ (xs : List ℕ). map (λ i. base * 65536 + i) (those (65536 * k) (found highs words)) ++ xs)
-    (raised_twice (base * 65536) (65536 * k) (bitmap_numbers own (get_or words k [])) ∙ ap (λ (n : ℕ). map (λ i. n + i) (bitmap_numbers own (get_or words k []))) e)
+    (map_raised (base * 65536) (65536 * k) (bitmap_numbers own (get_or words k [])) ∙ ap (λ (n : ℕ). map (λ i. n + i) (bitmap_numbers own (get_or words k []))) e)
 
 pub no_keys : (p : ℕ → Bool) → those 0 p ≡ []
 unfolding those

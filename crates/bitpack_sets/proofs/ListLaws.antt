@@ -1,12 +1,11 @@
 -- Lists of ids.
-use Rattle.std.proofs.Common.{◌≡◌, ℕ, ◌+◌, ◌/◌, ◌<◌, ◌≤◌, Bool, true, false, ◌||◌, eqb, List, [], ◌∷◌, ◌++◌, map, take, drop, length, get_or, refl, sym, ap, ◌∙◌, arith, cond, subst}
+use Rattle.std.proofs.Common.{◌≡◌, ℕ, ◌+◌, ◌/◌, ◌<◌, ◌≤◌, Bool, true, false, ◌||◌, eqb, List, [], ◌∷◌, ◌++◌, map, take, drop, length, get_or, refl, sym, ap, ◌∙◌, arith, cond}
 use Rattle.std.specs.List.{filter}
 use Rattle.std.proofs.lemmas.Bool.{eqb-false, ne_eqb, or_parts}
 use Rattle.std.proofs.lemmas.List.{drop_more, get_or-map, length-map}
 use Rattle.bitpack_sets.proofs.HalfLaws.{pairs_len}
-use Rattle.bitpack_sets.proofs.LoadLaws.{has_more}
+use Rattle.bitpack_sets.proofs.LoadLaws.{eqb_turned, has_more}
 use Rattle.bitpack_sets.proofs.NumberReads.{quads_len}
-use Rattle.bitpack_sets.proofs.ReadLaws.{eqb_same}
 use Rattle.bitpack_sets.specs.Bitmaps.{has_bit}
 use Rattle.bitpack_sets.specs.Reads.{has}
 use Rattle.bitpack_sets.specs.Sets.{IsRising}
@@ -18,13 +17,6 @@ use Rattle.bitpack_sets.specs.Slices.{integers_of, pairs_of, quads_of}
 pub rising_within : (low high low' high' : ℕ) (xs : List ℕ) → low' ≤ low → high ≤ high' → IsRising low high xs → IsRising low' high' xs
 rising_within low high low' high' [] h k r = omega arith
 rising_within low high low' high' (x ∷ xs) h k (a, r) = (omega arith, rising_within (x + 1) high (x + 1) high' xs (omega arith) k r)
-
--- a number is added to each
-pub rising_raised : (base low high : ℕ) (xs : List ℕ) → IsRising low high xs → IsRising (base + low) (base + high) (map (λ x. base + x) xs)
-rising_raised base low high [] r = omega arith
-rising_raised base low high (x ∷ xs) (a, r) =
-    let e : base + (x + 1) ≡ base + x + 1 = omega arith in
-    (omega arith, subst (λ (n : ℕ). IsRising n (base + high) (map (λ y. base + y) xs)) e (rising_raised base (x + 1) high xs r))
 
 -- ---- the integers of a list
 
@@ -59,14 +51,11 @@ at_short wide base i bytes e h =
 
 -- ---- marks of numbers
 
-turned : (a b : ℕ) → eqb a b ≡ eqb b a
-turned a b = eqb_same a b b a sym sym
-
 -- a number more has its bit
 pub mark_more : (x low i : ℕ) (lows words new : List ℕ) → i < length lows → low ≡ get_or lows i 0 → has_bit new x ≡ (eqb x low || has_bit words x)
     → has_bit words x ≡ has x (take i lows) → has_bit new x ≡ has x (take (i + 1) lows)
 mark_more x low i lows words new h e now before =
-    now ∙ ap (λ (b : Bool). eqb x low || b) before ∙ ap (λ (b : Bool). b || has x (take i lows)) (turned x low ∙ ap (λ (n : ℕ). eqb n x) e) ∙ sym (has_more x lows i h)
+    now ∙ ap (λ (b : Bool). eqb x low || b) before ∙ ap (λ (b : Bool). b || has x (take i lows)) (eqb_turned x low ∙ ap (λ (n : ℕ). eqb n x) e) ∙ sym (has_more x lows i h)
 
 same_high : (x low : ℕ) → eqb (x / 256) (low / 256) ≡ false → eqb low x ≡ false
 same_high x low e = ne_eqb low x (λ s. eqb-false (x / 256) (low / 256) e (ap (λ (n : ℕ). n / 256) (sym s)))

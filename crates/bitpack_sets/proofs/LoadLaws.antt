@@ -1,7 +1,7 @@
 -- What is loaded into bitmaps.
 use borrow.Rule.Slice.PartMut.{put_mid, post_of}
 use Rattle.std.proofs.Common.{◌≡◌, ◌≢◌, ◌⊎◌, ℕ, zero, suc, ◌+◌, ◌*◌, ◌/◌, ◌%◌, ◌-◌, ◌<◌, ◌≤◌, Bool, true, false, ◌||◌, eqb, List, [], ◌∷◌, ◌++◌, map, take, drop, length, refl, sym, ap, ◌∙◌, arith, cond, inl, inr, get_or, subst, replicate, eq-eqb, length-drop}
-use Rattle.std.proofs.Math.Bool.{or_comm, or_self}
+use Rattle.std.proofs.Math.Bool.{or-false, or_comm, or_self}
 use Rattle.std.specs.Int.{bit_at}
 use Rattle.std.specs.List.{filter, list_any, range_with_len}
 use Rattle.std.proofs.lemmas.Bool.{cases_lt, ne_eqb}
@@ -13,7 +13,7 @@ use Rattle.bitpack_sets.proofs.BlockReads.{slice_there}
 use Rattle.bitpack_sets.proofs.CutLaws.{counts_cut, counts_len, cut, highs_cut, slices_cut}
 use Rattle.bitpack_sets.proofs.HalfLaws.{pairs_at, pairs_len}
 use Rattle.bitpack_sets.proofs.OnesLaws.{kept_rise}
-use Rattle.bitpack_sets.proofs.ReadLaws.{eqb_same, has_below, has_kept, in_numbers, not_in, or_false, place_fits, rank_kept, rank_less, slice_at}
+use Rattle.bitpack_sets.proofs.ReadLaws.{eqb_same, has_below, has_kept, in_numbers, not_in, place_fits, rank_kept, rank_less, slice_at}
 use Rattle.bitpack_sets.proofs.SliceLaws.{rising_room}
 use Rattle.bitpack_sets.proofs.NumberReads.{quads_at, quads_len}
 use Rattle.bitpack_sets.specs.Bitmaps.{has_bit, has_high}
@@ -76,7 +76,7 @@ bit_clear x words e small = bit_none words x (ap (λ (l : List ℕ). get_or l (x
 
 -- ---- one high byte more
 
-eqb_turned : (a b : ℕ) → eqb a b ≡ eqb b a
+pub eqb_turned : (a b : ℕ) → eqb a b ≡ eqb b a
 eqb_turned a b = eqb_same a b b a sym sym
 
 -- a number that is among the first i + 1 is the last of them, or is among the first i
@@ -165,7 +165,7 @@ pub those_rise : (P : ℕ → Bool) (bound : ℕ) → IsRising 0 bound (those bo
 unfolding those
 those_rise P bound = kept_rise P 0 bound bound (omega arith)
 
-kept_same : (P Q : ℕ → Bool) (low n : ℕ) → ((i : ℕ) → low ≤ i → i < low + n → P i ≡ Q i) → filter P (range_with_len low n) ≡ filter Q (range_with_len low n)
+pub kept_same : (P Q : ℕ → Bool) (low n : ℕ) → ((i : ℕ) → low ≤ i → i < low + n → P i ≡ Q i) → filter P (range_with_len low n) ≡ filter Q (range_with_len low n)
 kept_same P Q low zero e = refl
 kept_same P Q low (suc n) e =
     ap (λ (b : Bool). cond b (low ∷ filter P (range_with_len (low + 1) n)) (filter P (range_with_len (low + 1) n))) (e low (omega arith) (omega arith))
@@ -248,7 +248,7 @@ high_there : (h high from : ℕ) (xs : List ℕ) → IsRising from 256 xs → 0 
 high_there h high from [] r some = absurd (omega arith)
 high_there h high from (y ∷ []) (a, r) some =
     let own : (high * 256 + y) / 256 ≡ high = omega arith in
-    or_false (eqb ((high * 256 + y) / 256) h) ∙ ap (λ (n : ℕ). eqb n h) own
+    or-false (eqb ((high * 256 + y) / 256) h) ∙ ap (λ (n : ℕ). eqb n h) own
 high_there h high from (y ∷ z ∷ zs) (a, r) some =
     let room = rising_room (y + 1) 256 (z ∷ zs) r in
     let own : (high * 256 + y) / 256 ≡ high = omega arith in

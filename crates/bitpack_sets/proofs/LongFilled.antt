@@ -1,9 +1,9 @@
 -- The parts of the encoding of 128 ids or more together.
-use Rattle.std.proofs.Common.{◌≡◌, ℕ, ◌+◌, ◌-◌, ◌*◌, ◌≤◌, List, [], ◌∷◌, ◌++◌, map, length, set, sym, ap, ◌∙◌, arith, append_assoc, length-append, add-mul}
+use Rattle.std.proofs.Common.{◌≡◌, ℕ, ◌+◌, ◌*◌, ◌≤◌, List, [], ◌∷◌, ◌++◌, map, length, set, sym, ap, ◌∙◌, arith, append_assoc, length-append, add-mul}
 use Rattle.std.specs.List.{concat, flat_map}
 use Rattle.std.proofs.Math.Nat.{mul-le-mul_right}
 use Rattle.std.proofs.lemmas.List.{length-map}
-use Rattle.bitpack_sets.proofs.FewLaws.{one_set}
+use Rattle.bitpack_sets.proofs.BodyFilled.{one_set}
 use Rattle.bitpack_sets.proofs.LongLaws.{array_parts, flat_len, long_parts, sums_len}
 use Rattle.bitpack_sets.specs.Sets.{array, body, in_chunks, le_bytes, parts, sums}
 use Rattle.bitpack_sets.specs.Varints.{byte_count, number}

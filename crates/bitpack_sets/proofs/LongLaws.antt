@@ -269,7 +269,7 @@ pub long_chunks : (xs : List ℕ) → 4 * length (parts 65536 xs) ≤ length xs 
 unfolding long
 long_chunks xs h = sym (cond_above (length xs) (4 * length (parts 65536 xs)) (array xs) _ _ h refl)
 
-heads : (x y : ℕ) (xs ys : List ℕ) → x ∷ xs ≡ y ∷ ys → x ≡ y
+pub heads : (x y : ℕ) (xs ys : List ℕ) → x ∷ xs ≡ y ∷ ys → x ≡ y
 heads x y xs ys e = cc
 
 six_five : (x y : ℕ) → x ≡ 6 → y ≡ 5 → x ≡ y → ⊥

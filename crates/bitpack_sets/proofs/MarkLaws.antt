@@ -1,5 +1,5 @@
 -- The marks of bytes that are among others.
-use Rattle.std.proofs.Common.{◌≡◌, ℕ, zero, suc, ◌+◌, ◌*◌, ◌%◌, ◌^◌, ◌-◌, ◌<◌, ◌≤◌, Bool, true, false, ◌||◌, ◌&&◌, eqb, ltb, List, [], ◌∷◌, ◌++◌, length-append, length-drop, take-add, drop, map, take, length, refl, sym, ap, ◌∙◌, arith, cond, inl, inr, subst, get_or, bit_and, bit_or, min, max, eq-eqb, pow_pos, w8}
+use Rattle.std.proofs.Common.{◌≡◌, ℕ, zero, suc, ◌+◌, ◌*◌, ◌%◌, ◌^◌, ◌-◌, ◌<◌, ◌≤◌, Bool, true, false, ◌||◌, ◌&&◌, eqb, ltb, List, [], ◌∷◌, ◌++◌, length-append, length-drop, take-add, drop, map, take, length, refl, sym, ap, ◌∙◌, arith, cond, inl, inr, subst, get_or, bit_and, bit_or, min, eq-eqb, pow_pos, w8}
 use lib.Lanes.{chunk, mask_l, pick_l, top, zip2}
 use Rattle.std.specs.Int.{bit_at}
 use Rattle.std.specs.List.{range_with_len}
@@ -14,13 +14,6 @@ use Rattle.bitpack_sets.proofs.ReadLaws.{eqb_same, has_append}
 use Rattle.bitpack_sets.specs.Reads.{has}
 
 -- ---- bits as tests
-
-or_bit : (a : ℕ) (b : Bool) → a < 2 → eqb (max a (cond b 1 0)) 1 ≡ (b || eqb a 1)
-or_bit zero true h = refl
-or_bit zero false h = refl
-or_bit (suc zero) true h = refl
-or_bit (suc zero) false h = refl
-or_bit (suc (suc a)) b h = absurd (omega arith)
 
 kept_bit : (a : ℕ) → a < 2 → eqb (min a 1) 1 ≡ eqb a 1
 kept_bit zero h = refl

@@ -2,7 +2,9 @@
 use Rattle.std.proofs.Common.{◌≡◌, ℕ, ◌+◌, ◌-◌, ◌*◌, ◌^◌, ◌<◌, ◌≤◌, List, [], ◌∷◌, length, take, drop, refl, sym, ap, ◌∙◌, arith, subst, length-drop}
 use Rattle.std.specs.List.{concat}
 use Rattle.bitpack_sets.proofs.BodyLaws.{body_blocks, body_numbers, numbers_len}
-use Rattle.bitpack_sets.proofs.RunLaws.{blocks_len, body_sizes, rest_is, rising_rest}
+use Rattle.bitpack_sets.proofs.EqualLaws.{tail_whole}
+use Rattle.bitpack_sets.proofs.RunLaws.{blocks_len, body_sizes}
+use Rattle.bitpack_sets.proofs.WalkLaws.{rising_from}
 use Rattle.bitpack_sets.specs.Sets.{IsRising, blocks, body, numbers, parts}
 use Rattle.bitpack_sets.specs.Slices.{slice_len}
 use Rattle.bitpack_sets.specs.Written.{IsRun, bodies, lows, slices}
@@ -22,8 +24,8 @@ chunks_more ids left bytes run added before is long few =
     let within = is.within in
     let sized = before.sized in
     let small = before.small in
-    subst (λ (rest : List ℕ). ChunksLeft ids rest (bytes + added)) (sym (rest_is run left))
-    record { rising = rising_rest 0 (2 ^ 32) run left before.rising; sized = omega arith; small = omega arith }
+    subst (λ (rest : List ℕ). ChunksLeft ids rest (bytes + added)) (sym (tail_whole run left))
+    record { rising = rising_from 0 (2 ^ 32) run left before.rising; sized = omega arith; small = omega arith }
 
 no_bodies : length (concat (bodies [])) ≡ 0
 unfolding parts

@@ -1,12 +1,13 @@
 -- The answer of two lists, from the lowest id of both on.
 use mir.Val.{bool_byte}
-use Rattle.std.proofs.Common.{◌≡◌, ℕ, ◌+◌, ◌-◌, ◌^◌, ◌<◌, ◌≤◌, Bool, true, false, ◌||◌, leb, List, [], ◌∷◌, ◌++◌, map, drop, length, get_or, min, refl, sym, ap, ◌∙◌, arith, cond, subst, inl, inr, append-nil, eq-eqb}
+use Rattle.std.proofs.Common.{◌≡◌, ℕ, ◌+◌, ◌^◌, ◌<◌, ◌≤◌, Bool, true, false, ◌||◌, leb, List, [], ◌∷◌, ◌++◌, map, drop, length, get_or, min, refl, sym, ap, ◌∙◌, arith, cond, subst, inl, inr, append-nil, eq-eqb}
 use Rattle.std.proofs.lemmas.Bool.{cases_lt, le-leb, lt-leb, ne_eqb}
 use Rattle.std.proofs.lemmas.List.{drop_all, drop_more}
 use Rattle.bitpack_sets.proofs.AnswerLaws.{each, none_left, none_pass, none_right, those_part}
 use Rattle.bitpack_sets.proofs.CombineLaws.{holds_none}
 use Rattle.bitpack_sets.proofs.LoadLaws.{those_are}
 use Rattle.bitpack_sets.proofs.ReadLaws.{has_below}
+use Rattle.bitpack_sets.proofs.SelectionLaws.{kept, kept_right}
 use Rattle.bitpack_sets.proofs.SliceLaws.{rising_room}
 use Rattle.bitpack_sets.proofs.WalkLaws.{rising_from}
 use Rattle.bitpack_sets.specs.Operations.{answer, holds, those}
@@ -130,20 +131,12 @@ answer_step operation i j xs ys r s h k x y e f =
 
 -- ---- one list alone is left
 
-left_alone : (operation : Operation) (b : Bool) → holds operation true false ≡ true → holds operation b false ≡ b
-left_alone operation true e = e
-left_alone operation false e = holds_none operation false false refl refl
-
-right_alone : (operation : Operation) (b : Bool) → holds operation false true ≡ true → holds operation false b ≡ b
-right_alone operation true e = e
-right_alone operation false e = holds_none operation false false refl refl
-
 answer_left : (operation : Operation) (c : Bool) (xs : List ℕ) → IsRising 0 (2 ^ 32) xs → holds operation true false ≡ c → answer operation xs [] ≡ cond c xs []
-answer_left operation true xs r e = those_are (λ x. holds operation (has x xs) false) (2 ^ 32) xs r (λ i h. left_alone operation (has i xs) e)
+answer_left operation true xs r e = those_are (λ x. holds operation (has x xs) false) (2 ^ 32) xs r (λ i h. kept operation (has i xs) e)
 answer_left operation false xs r e = none_pass (2 ^ 32) (λ x. holds operation (has x xs) false) (λ x h. none_left operation (has x xs) e)
 
 answer_right : (operation : Operation) (c : Bool) (ys : List ℕ) → IsRising 0 (2 ^ 32) ys → holds operation false true ≡ c → answer operation [] ys ≡ cond c ys []
-answer_right operation true ys r e = those_are (λ x. holds operation false (has x ys)) (2 ^ 32) ys r (λ i h. right_alone operation (has i ys) e)
+answer_right operation true ys r e = those_are (λ x. holds operation false (has x ys)) (2 ^ 32) ys r (λ i h. kept_right operation (has i ys) e)
 answer_right operation false ys r e = none_pass (2 ^ 32) (λ x. holds operation false (has x ys)) (λ x h. none_right operation (has x ys) e)
 
 cond_none : (c : Bool) (xs : List ℕ) → xs ≡ [] → cond c xs [] ≡ []

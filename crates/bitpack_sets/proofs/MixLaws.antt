@@ -1,17 +1,15 @@
 -- Blocks beside a bitmap of others.
-use Rattle.std.proofs.Common.{◌≡◌, ℕ, zero, suc, ◌+◌, ◌*◌, ◌/◌, ◌%◌, ◌-◌, ◌<◌, ◌≤◌, Bool, true, false, ◌&&◌, eqb, List, [], ◌++◌, map, take, drop, length, get_or, replicate, refl, sym, ap, ◌∙◌, arith, subst, append-nil}
+use Rattle.std.proofs.Common.{◌≡◌, ℕ, ◌+◌, ◌*◌, ◌/◌, ◌-◌, ◌<◌, ◌≤◌, Bool, true, false, ◌&&◌, eqb, List, [], map, take, drop, length, get_or, refl, sym, ap, ◌∙◌, arith, subst}
 use Rattle.std.specs.Int.{bit_at}
 use Rattle.std.specs.List.{range_with_len}
-use Rattle.std.proofs.lemmas.Nat.Bits.{bit_at-zero}
 use Rattle.std.proofs.lemmas.List.{length-map}
-use Rattle.bitpack_sets.proofs.AnswerLaws.{no_items, those_same}
+use Rattle.bitpack_sets.proofs.AnswerLaws.{those_same}
 use Rattle.bitpack_sets.proofs.BitmapLaws.{has_part, those_few}
 use Rattle.bitpack_sets.proofs.ListLaws.{filter_few}
-use Rattle.bitpack_sets.proofs.LoadLaws.{has_those, none_there, those_rise}
-use Rattle.bitpack_sets.proofs.SelectionLaws.{map_zero, out_of}
+use Rattle.bitpack_sets.proofs.LoadLaws.{has_those, those_rise}
+use Rattle.bitpack_sets.proofs.SelectionLaws.{both_or_none, map_zero, no_part, out_of}
 use Rattle.bitpack_sets.proofs.UnpackLaws.{by_high, lows, those_by_high}
 use Rattle.bitpack_sets.specs.Bitmaps.{has_bit}
-use Rattle.bitpack_sets.specs.Follows.{Follow}
 use Rattle.bitpack_sets.specs.Lists.{in_bitmap}
 use Rattle.bitpack_sets.specs.Operations.{holds, those}
 use Rattle.bitpack_sets.specs.Reads.{has}
@@ -26,16 +24,6 @@ use Rattle.bitpack_sets.specs.declared.slice.selecting.Selection.TheVariants.{Al
 -- whether the answer has a number
 abbrev pub mixes : Operation → Blocks → List ℕ → List ℕ → ℕ → Bool
 mixes operation blocks others words x = holds operation (has x (parts_numbers blocks)) (in_bitmap others words x)
-
-no_part : (parts : Blocks) (x : ℕ) → x < 65536 → has_bit parts.highs (x / 256) ≡ false → has x (parts_numbers parts) ≡ false
-no_part parts x small none =
-    let whole : 256 * (x / 256) + x % 256 ≡ x = omega arith in
-    sym (ap (λ (n : ℕ). has n (parts_numbers parts)) whole)
-    ∙ none_there (has_bit parts.highs) (x / 256) (x % 256) parts.counts.now parts.slices.now (omega arith) (omega arith) none parts.are
-
-or_none : (b c : Bool) → (b ≡ false → c ≡ false) → c ≡ (b && c)
-or_none true c f = refl
-or_none false c f = f refl
 
 -- the high bytes that the answer can have are listed
 pub record AreHighs (P : ℕ → Bool) (highs : List ℕ) : Type 0 where
@@ -56,7 +44,7 @@ are_highs operation blocks others words bits highs both left right e =
       all = those_same 65536 P (λ x. has (x / 256) highs && P x) (λ x small.
           let h : ℕ = x / 256 in
           let few : x / 256 < 256 = omega arith in
-          or_none (has h highs) (P x) (λ none.
+          both_or_none (has h highs) (P x) (λ none.
           let out : has_bit bits h ≡ false = sym (ap (has h) same ∙ has_those (has_bit bits) h 256 few) ∙ none in
           out_of operation (has_bit blocks.highs h) (has_bit others h) (has x (parts_numbers blocks)) (in_bitmap others words x) (no_part blocks x small)
           (λ f. ap (λ (b : Bool). b && has_bit words x) f)
@@ -96,23 +84,7 @@ none_mixed operation others words own none high out e =
 
 -- ---- no bits
 
-zero_at : (n k : ℕ) → ◌≡◌ {A = ℕ} (get_or (replicate n 0) k 0) 0
-zero_at zero k = refl
-zero_at (suc n) zero = refl
-zero_at (suc n) (suc k) = zero_at n k
-
-pub no_bits : (n x : ℕ) → has_bit (replicate n 0) x ≡ false
-unfolding has_bit
-no_bits n x = ap (λ (k : ℕ). eqb (bit_at k (x % 64)) 1) (zero_at n (x / 64)) ∙ ap (λ (k : ℕ). eqb k 1) (bit_at-zero (x % 64))
-
 -- ---- numbers that are written or counted
-
-pub raised_follow : (base at end : ℕ) (xs ys old new : List ℕ) → xs ≡ ys → end ≡ at + length xs → take end new ≡ take at old ++ map (λ i. base + i) xs
-    → Follow (map (λ i. base + i) ys) old new at end
-raised_follow base at end xs ys old new e count values = record {
-  end_is = count ∙ ap (λ (l : List ℕ). at + length l) e ∙ ap (λ (n : ℕ). at + n) (sym (length-map ys (λ i. base + i)));
-  written = λ h. values ∙ ap (λ (l : List ℕ). take at old ++ map (λ i. base + i) l) e;
-}
 
 -- numbers that are selected are few
 pub selected_few : (selection : Selection) → length (selected selection) ≤ 256
@@ -127,23 +99,3 @@ selected_few (All slice) =
     let few = slice.there.few in
     let size = slice.there.slice.count_is in
     omega arith
-
--- there is no room
-pub past_follow : (base at end : ℕ) (xs ys old new : List ℕ) → xs ≡ ys → end ≡ at + length xs → length new < at + length xs → Follow (map (λ i. base + i) ys) old new at end
-past_follow base at end xs ys old new e count short =
-    let size = length-map ys (λ i. base + i) in
-    let same : length xs ≡ length ys = ap length e in
-    record { end_is = omega arith; written = λ h. absurd (omega arith) }
-
--- there is no room for one
-pub full_follow : (base at end : ℕ) (xs ys old : List ℕ) → xs ≡ ys → end ≡ at + length xs → length old ≤ at → Follow (map (λ i. base + i) ys) old old at end
-full_follow base at end xs ys old e count full =
-    let size = length-map ys (λ i. base + i) in
-    let same : length xs ≡ length ys = ap length e in
-    record {
-      end_is = omega arith;
-      written = λ h.
-          let none : length (map (λ i. base + i) ys) ≡ 0 = omega arith in
-          let start : end ≡ at = omega arith in
-          ap (λ (n : ℕ). take n old) start ∙ sym (append-nil (take at old)) ∙ ap (λ (l : List ℕ). take at old ++ l) (sym (no_items (map (λ i. base + i) ys) none));
-    }

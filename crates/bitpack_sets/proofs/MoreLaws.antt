@@ -4,8 +4,8 @@ use Rattle.std.specs.Option.{option_map}
 use Rattle.std.proofs.lemmas.Bool.{le-leb, lt-leb}
 use Rattle.std.proofs.lemmas.List.{append-nil}
 use Rattle.bitpack_sets.proofs.ArrayLaws.{no_fall}
-use Rattle.bitpack_sets.proofs.RefusalLaws.{set_is, short_enough, too_long}
-use Rattle.bitpack_sets.specs.declared.set_error.SetError.TheVariants.{NotSorted, TooLong}
+use Rattle.bitpack_sets.proofs.RefusalLaws.{set_is, short_enough}
+use Rattle.bitpack_sets.specs.declared.set_error.SetError.TheVariants.{NotSorted}
 use Rattle.bitpack_sets.specs.Sets.{IsRising, IsSet}
 use Rattle.bitpack_sets.specs.Slices.{first_fall}
 use Rattle.bitpack_sets.specs.Written.{EndsWith, refusal}
@@ -48,9 +48,6 @@ all_after count x xs y ys r e =
 module _ (ids more : List ℕ) (count last : ℕ) (ends : EndsWith ids count last) where
   size : length (ids ++ more) ≡ count + length more
   size = length-append ids more ∙ ap (λ (n : ℕ). n + length more) ends.count_is
-
-  pub long_refused : 2 ^ 28 < count + length more → refusal (ids ++ more) ≡ Some (TooLong (count + length more))
-  long_refused many = let e = size in too_long (ids ++ more) (omega arith) ∙ ap (λ (n : ℕ). Some (TooLong n)) e
 
   short_refused : count + length more ≤ 2 ^ 28 → refusal (ids ++ more) ≡ option_map NotSorted (first_fall 0 (ids ++ more))
   short_refused few = let e = size in short_enough (ids ++ more) (omega arith)

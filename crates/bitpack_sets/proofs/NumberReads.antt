@@ -1,10 +1,6 @@
 -- The integers of an array.
-use Rattle.std.proofs.Common.{◌≡◌, ℕ, zero, suc, ◌+◌, ◌*◌, ◌^◌, ◌<◌, ◌≤◌, List, drop, get_or, slice_index, [], ◌∷◌, ◌/◌, length, refl, sym, ap, ◌∙◌, arith}
-use Rattle.std.proofs.lemmas.List.{get_or-drop}
-use Rattle.std.proofs.lemmas.Nat.{mul-le}
-use Rattle.bitpacking.specs.Words.{joined}
+use Rattle.std.proofs.Common.{◌≡◌, ℕ, zero, suc, ◌+◌, ◌*◌, ◌≤◌, List, get_or, [], ◌∷◌, ◌/◌, length, refl, ap, arith}
 use Rattle.bitpack_sets.specs.Slices.{quads_of}
-use Rattle.bitpack_sets.specs.Varints.{short_at}
 
 pub quads_len : (bytes : List ℕ) → length (quads_of bytes) ≡ length bytes / 4
 unfolding quads_of

@@ -1,7 +1,6 @@
 -- The bits of a number that are 1, and the bytes of a number.
-use Rattle.std.proofs.Common.{◌≡◌, ℕ, zero, suc, ◌+◌, ◌*◌, ◌/◌, ◌%◌, ◌^◌, ◌-◌, ◌<◌, ◌≤◌, Bool, true, false, eqb, List, [], ◌∷◌, length, refl, sym, ap, ◌∙◌, arith, pow-add, cond, lit<, inl, inr, subst, zero-mul, mod-eq_of_lt, pow-suc, pow_pos, ◌++◌, map, take, set, append_assoc, w64}
+use Rattle.std.proofs.Common.{◌≡◌, ℕ, zero, suc, ◌+◌, ◌*◌, ◌/◌, ◌%◌, ◌^◌, ◌-◌, ◌<◌, ◌≤◌, Bool, true, false, eqb, List, [], ◌∷◌, length, refl, sym, ap, ◌∙◌, arith, pow-add, cond, lit<, inl, inr, subst, zero-mul, mod-eq_of_lt, pow-suc, pow_pos, w64}
 use Rattle.std.specs.Int.{trailing_zeros}
-use Rattle.std.proofs.lemmas.List.{take_more_set}
 use Rattle.std.proofs.lemmas.Nat.Bits.{bit_at-trailing_zeros, bit_at_above}
 use Rattle.std.proofs.lemmas.Nat.{one_shl}
 use Rattle.std.specs.Int.{bit_at}
@@ -151,9 +150,3 @@ pub word_step : (x : ℕ) → 0 < x → x < 2 ^ 64 → IsStep x (trailing_zeros 
 word_step x pos small =
     let (few, one, none) = bit_at-trailing_zeros w64 x pos small in
     step_of x (trailing_zeros w64 x) pos small few one none
-
-pub one_written : (f : ℕ → ℕ) (out : List ℕ) (next t : ℕ) (rest : List ℕ) → next < length out
-    → take (next + 1) (set out next (f t)) ++ map f rest ≡ take next out ++ map f (t ∷ rest)
-one_written f out next t rest h =
-    let e : take (next + 1) (set out next (f t)) ≡ take next out ++ f t ∷ [] = take_more_set out next (f t) h in
-    ap (λ (l : List ℕ). l ++ map f rest) e ∙ append_assoc (take next out) (f t ∷ []) (map f rest)

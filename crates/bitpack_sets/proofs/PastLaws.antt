@@ -1,5 +1,5 @@
 -- Bytes that begin with a body of blocks have its slices.
-use Rattle.std.proofs.Common.{◌≡◌, ℕ, ◌+◌, ◌-◌, ◌≤◌, List, [], ◌∷◌, take, drop, length, refl, sym, ap, ◌∙◌, arith, subst, get_or, length-drop}
+use Rattle.std.proofs.Common.{◌≡◌, ℕ, ◌+◌, ◌-◌, ◌≤◌, List, [], ◌∷◌, take, drop, length, sym, ap, ◌∙◌, arith, subst, get_or, length-drop}
 use Rattle.std.proofs.lemmas.List.{drop-take, length-take-le, take-take, take_rest}
 use Rattle.bitpack_sets.proofs.CutLaws.{counts_cut, slices_cut}
 use Rattle.bitpack_sets.specs.Slices.{AreSlices, IsBlocks, block_numbers, counts_in, slice_len, slices_len}

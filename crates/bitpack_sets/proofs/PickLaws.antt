@@ -5,7 +5,8 @@ use Rattle.std.proofs.lemmas.Bool.{false≢true}
 use Rattle.std.proofs.lemmas.List.{get_or-map, length-map, take_all}
 use Rattle.std.proofs.lemmas.List.Sums.{fold_more}
 use Rattle.bitpack_sets.proofs.AnswerLaws.{none_pass, those_same}
-use Rattle.bitpack_sets.proofs.FoldLaws.{and_first, and_second, combined_first, combined_more, first_has, has_in}
+use Rattle.bitpack_sets.proofs.FoldLaws.{and_first, and_second, combined_more, first_has, has_in}
+use Rattle.bitpack_sets.proofs.TestLaws.{true_both}
 use Rattle.bitpack_sets.specs.Operations.{answer, answer_all, folded, holds, those}
 use Rattle.bitpack_sets.specs.Reads.{has}
 use Rattle.bitpack_sets.specs.declared.operation.Operation.{Operation}
@@ -64,17 +65,13 @@ all_of : (c : Bool) (bs : List Bool) → 0 < length bs → (folded And bs ≡ tr
 all_of c [] some f = absurd (omega arith)
 all_of c (b ∷ bs) some f = fold_and c b bs ∙ and_after c (fold (holds And) b bs) f
 
-both_true : (a b : Bool) → a ≡ true → b ≡ true → (a && b) ≡ true
-both_true true b e f = f
-both_true false b e f = absurd (false≢true e)
-
 pub common_all : (sets : List (List ℕ)) (a b i x : ℕ) → a < length sets → b < length sets → length sets ≤ i
     → common (get_or sets a []) (get_or sets b []) sets i x ≡ folded And (map (has x) sets)
 common_all sets a b i x h k l =
     let long = length-map sets (has x) in
     ap (fold (holds And) (has x (get_or sets a []) && has x (get_or sets b []))) (take_all i (map (has x) sets) (omega arith))
     ∙ all_of (has x (get_or sets a []) && has x (get_or sets b [])) (map (has x) sets) (omega arith)
-    (λ t. both_true (has x (get_or sets a [])) (has x (get_or sets b [])) (has_in x sets a t h) (has_in x sets b t k))
+    (λ t. true_both (has x (get_or sets a [])) (has x (get_or sets b [])) (has_in x sets a t h) (has_in x sets b t k))
 
 -- a set picks those that it has
 pub pick_more : (xs ys zs : List ℕ) (sets : List (List ℕ)) (i : ℕ) (old new : List ℕ) → i < length sets → get_or sets i [] ≡ zs → old ≡ those (2 ^ 32) (common xs ys sets i)
@@ -92,16 +89,6 @@ alone_more : (sets : List (List ℕ)) (i x : ℕ) → 0 < i → i < length sets 
 alone_more sets i x some h =
     combined_more AndNot (map (has x) sets) i false some (omega (arith, length-map sets (has x)))
     ∙ ap (λ (b : Bool). alone sets i x && not b) (get_or-map (has x) sets i [] false h)
-
-alone_one : (sets : List (List ℕ)) (x : ℕ) → 0 < length sets → alone sets 1 x ≡ has x (get_or sets 0 [])
-alone_one sets x h = combined_first AndNot (map (has x) sets) false (omega (arith, length-map sets (has x))) ∙ get_or-map (has x) sets 0 [] false h
-
-pub alone_two : (xs ys : List ℕ) (sets : List (List ℕ)) → 1 < length sets → get_or sets 0 [] ≡ xs → get_or sets 1 [] ≡ ys → answer AndNot xs ys ≡ those (2 ^ 32) (alone sets 2)
-alone_two xs ys sets h e f = those_same (2 ^ 32) _ _ (λ x small.
-    sym (alone_more sets 1 x (omega arith) h ∙ ap (λ (b : Bool). b && not (has x (get_or sets 1 []))) (alone_one sets x (omega arith) ∙ ap (has x) e) ∙ ap (λ (zs : List ℕ). has x xs && not (has x zs)) f))
-
-pub alone_all : (sets : List (List ℕ)) (i x : ℕ) → length sets ≤ i → alone sets i x ≡ folded AndNot (map (has x) sets)
-alone_all sets i x l = ap (folded AndNot) (take_all i (map (has x) sets) (omega (arith, length-map sets (has x))))
 
 pub drop_more : (zs : List ℕ) (sets : List (List ℕ)) (i : ℕ) (old new : List ℕ) → 0 < i → i < length sets → get_or sets i [] ≡ zs → old ≡ those (2 ^ 32) (alone sets i)
     → new ≡ filter (λ x. not (has x zs)) old → new ≡ those (2 ^ 32) (alone sets (i + 1))

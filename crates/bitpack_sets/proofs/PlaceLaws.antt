@@ -1,5 +1,6 @@
 -- The ids of a set from a place on.
 use Rattle.std.proofs.Common.{◌≡◌, ◌≢◌, ℕ, zero, suc, ◌+◌, ◌-◌, ◌*◌, ◌/◌, ◌%◌, ◌^◌, ◌<◌, ◌≤◌, Bool, true, false, eqb, List, [], ◌∷◌, map, take, drop, length, get_or, refl, sym, ap, subst, ◌∙◌, arith, cond, eq-eqb, eqb-true, inl, inr, ◌||◌, length-drop, take-append-drop}
+use Rattle.std.proofs.Math.Bool.{or-false}
 use Rattle.std.specs.List.{range_with_len}
 use Rattle.std.proofs.lemmas.Bool.{cases_lt, ne_eqb, true≢false}
 use Rattle.std.proofs.lemmas.List.{drop-drop, drop_all, get_or-drop}
@@ -8,7 +9,7 @@ use Rattle.bitpack_sets.proofs.ChunkReads.{blocks_read, numbers_read}
 use Rattle.bitpack_sets.proofs.CountLaws.{bytes_are}
 use Rattle.bitpack_sets.proofs.NumberReads.{quads_len}
 use Rattle.bitpack_sets.proofs.PartLaws.{AreParts, join}
-use Rattle.bitpack_sets.proofs.ReadLaws.{eqb_same, has_append, or_false}
+use Rattle.bitpack_sets.proofs.ReadLaws.{eqb_same, has_append}
 use Rattle.bitpack_sets.proofs.WalkLaws.{IsWalk, array_key, array_walk, key_under, part_key, part_own, part_pass, part_under, part_up, rising_from, walk_up}
 use Rattle.bitpack_sets.proofs.Words.{EachByte}
 use Rattle.bitpack_sets.specs.Chunks.{first_key, ids_from, lows_between, lows_of, places}
@@ -130,7 +131,7 @@ array_own xs place end key x r h within e least lower reached =
     let long = length-drop place xs in
     let gone : has x (drop d ys) ≡ false =
     ap (has x) (drop-drop d place xs ∙ ap (λ (n : ℕ). drop n xs) whole) ∙ key_under 0 x (drop end xs) (rising_from 0 (2 ^ 32) end xs r) (omega arith) in
-    sym (ap (has x) (take-append-drop d ys)) ∙ has_append x (take d ys) (drop d ys) ∙ ap (λ (b : Bool). has x (take d ys) || b) gone ∙ or_false (has x (take d ys))
+    sym (ap (has x) (take-append-drop d ys)) ∙ has_append x (take d ys) (drop d ys) ∙ ap (λ (b : Bool). has x (take d ys) || b) gone ∙ or-false (has x (take d ys))
     ∙ lows_tell d x ys (omega arith)
     (λ i lt. (
     let at = get_or-drop place xs i 0 in
@@ -141,7 +142,7 @@ array_own xs place end key x r h within e least lower reached =
 
 -- ---- integers of four bytes between two places
 
-quads_drop : (p : ℕ) (bytes : List ℕ) → quads_of (drop (4 * p) bytes) ≡ drop p (quads_of bytes)
+pub quads_drop : (p : ℕ) (bytes : List ℕ) → quads_of (drop (4 * p) bytes) ≡ drop p (quads_of bytes)
 unfolding quads_of
 quads_drop zero bytes = refl
 quads_drop (suc p) bytes =

@@ -5,8 +5,6 @@ use mathlib.Core.Bool.{beq}
 use mir.Val.{bool_byte}
 use Rattle.std.proofs.lemmas.List.{drop-drop, drop-set-lt, get_or-drop, length-drop, length-set, take_more, take_more_set, take-set}
 use Rattle.std.proofs.lemmas.List.Elements.{filter-append}
-use Rattle.std.proofs.lemmas.List.Filters.{length-filter_more}
-use Rattle.bitpack_sets.proofs.ReadLaws.{byte_is}
 use Rattle.bitpack_sets.specs.Kept.{IsKept, keeps}
 use Rattle.bitpack_sets.specs.Reads.{has}
 
@@ -59,14 +57,6 @@ pub keep_more : (there b : Bool) (xs old new : List ℕ) (kept index : ℕ) → 
     → IsKept (keeps there xs) old (set new kept (get_or new index 0)) (kept + bool_byte (beq b there)) (index + 1)
 keep_more there b xs old new kept index so h e =
     keep_one (keeps there xs) (beq b there) old new kept index (get_or new index 0) so h refl (told there b ∙ ap (λ (c : Bool). cond there c (not c)) e)
-
--- so far these pass a test
-pub count_more : (test : ℕ → Bool) (xs : List ℕ) (count index : ℕ) (b : Bool) → count ≡ length (filter test (take index xs)) → index < length xs → b ≡ test (get_or xs index 0)
-    → count + bool_byte b ≡ length (filter test (take (index + 1) xs))
-count_more test xs count index b so h e =
-    let one : bool_byte b ≡ cond (test (get_or xs index 0)) 1 0 = byte_is b ∙ ap (λ (c : Bool). cond c 1 0) e in
-    let more = length-filter_more test xs index 0 h in
-    omega arith
 
 pub byte_small : (b : Bool) → bool_byte b ≤ 1
 byte_small true = omega arith

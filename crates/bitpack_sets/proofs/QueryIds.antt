@@ -8,10 +8,12 @@ use borrow.Rule.Slice.PartMut.{put_mid}
 use Rattle.std.proofs.lemmas.List.Elements.{All-head, All-tail}
 use Rattle.bitpack_sets.proofs.AnswerLaws.{those_part, those_same}
 use Rattle.bitpack_sets.proofs.BitmapLaws.{has_part}
+use Rattle.bitpack_sets.proofs.DecodeLaws.{rising_top}
 use Rattle.bitpack_sets.proofs.HalfLaws.{rising_at}
 use Rattle.bitpack_sets.proofs.JoinLaws.{below_top}
 use Rattle.bitpack_sets.proofs.LoadLaws.{those_rise}
 use Rattle.bitpack_sets.proofs.RaisedLaws.{rising_raised}
+use Rattle.bitpack_sets.proofs.SelectionLaws.{and_false}
 use Rattle.bitpack_sets.specs.Bitmaps.{has_bit}
 use Rattle.bitpack_sets.specs.Operations.{those}
 use Rattle.bitpack_sets.specs.Queried.{left}
@@ -104,9 +106,6 @@ from_those : (n least : ℕ) (p : ℕ → Bool) → ids_from least (those n p) �
 unfolding those
 from_those n least p = filter_both p (leb least) (range_with_len 0 n)
 
-first_false : (a b : Bool) → a ≡ false → (a && b) ≡ false
-first_false a b e = ap (λ c. c && b) e
-
 second_false : (a b : Bool) → b ≡ false → (a && b) ≡ false
 second_false true b e = e
 second_false false b e = refl
@@ -133,9 +132,9 @@ passed_over n least next p h none =
 pub with_slice : (n base least : ℕ) (p q : ℕ → Bool) → base + 256 ≤ n → base ≤ least → least ≤ base + 256 → ((i : ℕ) → i < 256 → p (base + i) ≡ q i)
     → ids_from least (those n p) ≡ ids_from least (map (λ i. base + i) (those 256 q)) ++ ids_from (base + 256) (those n p)
 with_slice n base least p q room from to same =
-    let before : (x : ℕ) → x < base → (leb least x && p x) ≡ false = λ x l. first_false (leb least x) (p x) (lt-leb least x (omega arith)) in
+    let before : (x : ℕ) → x < base → (leb least x && p x) ≡ false = λ x l. and_false (leb least x) (p x) (lt-leb least x (omega arith)) in
     let own : (i : ℕ) → i < 256 → (leb least (base + i) && p (base + i)) ≡ (leb least (base + i) && q i) = λ i l. ap (λ b. leb least (base + i) && b) (same i l) in
-    let passed : (x : ℕ) → x < base + 256 → (leb (base + 256) x && p x) ≡ false = λ x l. first_false (leb (base + 256) x) (p x) (lt-leb (base + 256) x l) in
+    let passed : (x : ℕ) → x < base + 256 → (leb (base + 256) x && p x) ≡ false = λ x l. and_false (leb (base + 256) x) (p x) (lt-leb (base + 256) x l) in
     let after : (x : ℕ) → base + 256 ≤ x → x < n → (leb least x && p x) ≡ (leb (base + 256) x && p x) =
     λ x l m. ap (λ b. b && p x) (le-leb least x (omega arith) ∙ sym (le-leb (base + 256) x l)) in
     from_those n least p
@@ -153,11 +152,6 @@ pub parts_joined : (out written before : List ℕ) (xs : List ℕ) (k n least ne
 parts_joined out written before xs k n least next e w first last =
     ap (λ ys. ys ++ ids_from next xs) (e ∙ ap (λ ys. before ++ ys) w) ∙ append_assoc before (take n (drop k xs)) (ids_from next xs)
     ∙ ap (λ ys. before ++ ys) (ap (λ ys. take n (drop k xs) ++ ys) (sym last ∙ drop_twice k n xs) ∙ take-append-drop n (drop k xs) ∙ first)
-
-rising_below : (low high i : ℕ) (xs : List ℕ) → IsRising low high xs → i < length xs → get_or xs i 0 < high
-rising_below low high i [] r l = absurd (omega arith)
-rising_below low high zero (x ∷ xs) r l = omega (arith, below_top (x + 1) high xs r.1)
-rising_below low high (suc i) (x ∷ xs) r l = rising_below (x + 1) high i xs r.1 (omega arith)
 
 rising_lt : (low high i j : ℕ) (xs : List ℕ) → IsRising low high xs → i < j → j < length xs → get_or xs i 0 < get_or xs j 0
 rising_lt low high i j [] r h l = absurd (omega arith)
@@ -212,7 +206,7 @@ stops_after base least k n next p xs is above some l at =
 pub stops_within : (base next i : ℕ) (p : ℕ → Bool) (xs : List ℕ) → xs ≡ map (λ i. base + i) (those 256 p) → i < length xs → next ≡ get_or xs i 0 → next ≤ base + 256
 stops_within base next i p xs is l at =
     let rise : IsRising base (base + 256) xs = subst (IsRising base (base + 256)) (sym is) (numbers_rise base p) in
-    omega (arith, at, rising_below base (base + 256) i xs rise l)
+    omega (arith, at, rising_top base (base + 256) i xs rise l)
 
 -- ---- what is left of a query
 
@@ -233,7 +227,7 @@ pub none_before : (q : Query) (high x : ℕ) → q.next / 65536 ≡ q.key → x 
     → ((i : ℕ) → q.next % 65536 / 256 ≤ i → i < high → has_bit q.highs i ≡ false) → is_found q.sets.now q.steps.now x ≡ false
 none_before q high x key small from to few none =
     let own : x / 65536 ≡ q.key = omega arith in
-    q.loaded x small own ∙ first_false (has_bit q.highs (x % 65536 / 256)) (has_bit (get_or q.bitmaps.items 0 []) (x % 65536)) (none (x % 65536 / 256) (omega arith) (omega arith))
+    q.loaded x small own ∙ and_false (has_bit q.highs (x % 65536 / 256)) (has_bit (get_or q.bitmaps.items 0 []) (x % 65536)) (none (x % 65536 / 256) (omega arith) (omega arith))
 
 -- the ids of a high byte that occurs
 pub own_of_high : (q : Query) (high i : ℕ) → q.next / 65536 ≡ q.key → q.next < 2 ^ 32 → high < 256 → i < 256 → has_bit q.highs high ≡ true

@@ -1,15 +1,11 @@
 -- The bits of a number that are raised by others below them.
-use Rattle.std.proofs.Common.{◌≡◌, ℕ, zero, suc, ◌+◌, ◌*◌, ◌^◌, ◌<◌, List, [], ◌∷◌, ◌++◌, map, slice_index, refl, sym, ap, ◌∙◌, arith, lit<, subst, pow-add, bit_and, add_assoc, lt_of_le_of_lt}
-use Rattle.std.proofs.lemmas.List.{map-append}
-use Rattle.std.proofs.lemmas.Nat.{and_block, and_le_l, mul-add-lt}
+use Rattle.std.proofs.Common.{◌≡◌, ℕ, ◌+◌, ◌*◌, ◌^◌, ◌<◌, List, [], ◌∷◌, ◌++◌, map, refl, sym, ap, ◌∙◌, arith, subst, pow-add, add_assoc}
+use Rattle.std.proofs.lemmas.Nat.{mul-add-lt}
 use Rattle.bitpack_sets.specs.Sets.{IsRising}
 use Rattle.bitpack_sets.specs.Sets.{bits}
 use Rattle.bitpack_sets.specs.Slices.{ones_from}
 use Rattle.bitpack_sets.proofs.SliceLaws.{bits_one}
 use Rattle.bitpack_sets.proofs.OnesLaws.{ones_all, ones_rise}
-
-raised : ℕ → List ℕ → List ℕ
-raised k xs = map (λ i. k + i) xs
 
 pub bits_append : (xs ys : List ℕ) → bits (xs ++ ys) ≡ bits xs + bits ys
 unfolding bits

@@ -5,7 +5,7 @@ use Rattle.std.specs.List.{drop-map, take-map}
 use Rattle.std.proofs.Math.Nat.{le-min, min-le_left}
 use Rattle.std.proofs.Math.Seq.{take-add}
 use Rattle.std.proofs.lemmas.Bool.{cases_lt}
-use Rattle.std.proofs.lemmas.List.{drop-append-le, drop-drop, length-map, length-take-le, take-append-drop, take-append-le}
+use Rattle.std.proofs.lemmas.List.{drop-append-le, drop-drop, length-map, take-append-drop, take-append-le}
 use Rattle.std.proofs.lemmas.Slice.{take-put_mid}
 use Rattle.bitpack_sets.proofs.BlockReads.{build_at, build_total, slice_there}
 use Rattle.bitpack_sets.proofs.BlocksLaws.{build}
@@ -15,6 +15,7 @@ use Rattle.bitpack_sets.proofs.JoinLaws.{numbers_built}
 use Rattle.bitpack_sets.proofs.JoinReads.{none}
 use Rattle.bitpack_sets.proofs.LongLaws.{counts, total}
 use Rattle.bitpack_sets.proofs.PartLaws.{join}
+use Rattle.bitpack_sets.proofs.PlaceLaws.{quads_drop}
 use Rattle.bitpack_sets.proofs.RaisedLaws.{map_raised}
 use Rattle.bitpack_sets.proofs.ReadLaws.{slice_at}
 use Rattle.bitpack_sets.proofs.SelectLaws.{build_first, build_long, join_drop, many_chunks, numbers_more, slice_within}
@@ -35,12 +36,6 @@ front_range r n from out xs e h =
     ap (λ (l : List ℕ). take n (drop from l)) (sym (take-append-drop r out) ∙ ap (λ (l : List ℕ). l ++ drop r out) e)
     ∙ ap (take n) (drop-append-le from xs (drop r out) (omega arith)) ∙ take-append-le n (drop from xs) (drop r out) size
 
--- a part of a list, as it is cut
-pub part_len : (next wanted : ℕ) (out : List ℕ) → next + wanted ≤ length out → length (take (next + wanted - next) (drop next out)) ≡ wanted
-part_len next wanted out h =
-    let e : next + wanted - next ≡ wanted = omega arith in
-    ap (λ (n : ℕ). length (take n (drop next out))) e ∙ length-take-le wanted (drop next out) (omega (arith, length-drop next out))
-
 -- a part more is written
 pub part_written : (next wanted k from : ℕ) (out part xs : List ℕ) → next ≤ length out → length part ≡ wanted → take next out ≡ take next (drop from xs)
     → part ≡ take wanted (drop (from + next) xs) → take (next + wanted) (put_mid next k out part) ≡ take (next + wanted) (drop from xs)
@@ -55,18 +50,6 @@ min_less a b less = elim (cases_lt a b) [
 ]
 
 -- ---- integers end to end
-
-quads_dropped : (k : ℕ) (bytes : List ℕ) → quads_of (drop (4 * k) bytes) ≡ drop k (quads_of bytes)
-unfolding quads_of
-quads_dropped zero bytes = refl
-quads_dropped (suc k) bytes = let e : 4 * suc k ≡ suc (suc (suc (suc (4 * k)))) = omega arith in ap (λ (n : ℕ). quads_of (drop n bytes)) e ∙ later (quads_dropped k) bytes
-  where
-    later : ((bytes : List ℕ) → quads_of (drop (4 * k) bytes) ≡ drop k (quads_of bytes)) → (bytes : List ℕ) → quads_of (drop (suc (suc (suc (suc (4 * k))))) bytes) ≡ drop (suc k) (quads_of bytes)
-    later ih [] = refl
-    later ih (a ∷ []) = refl
-    later ih (a ∷ b ∷ []) = refl
-    later ih (a ∷ b ∷ c ∷ []) = refl
-    later ih (a ∷ b ∷ c ∷ d ∷ bytes) = ih bytes
 
 quads_taken : (k : ℕ) (bytes : List ℕ) → quads_of (take (4 * k) bytes) ≡ take k (quads_of bytes)
 unfolding quads_of
@@ -83,7 +66,7 @@ quads_taken (suc k) bytes = let e : 4 * suc k ≡ suc (suc (suc (suc (4 * k)))) 
 pub quads_range : (n from : ℕ) (bytes : List ℕ) → quads_of (take (4 * (from + n) - 4 * from) (drop (4 * from) bytes)) ≡ take n (drop from (quads_of bytes))
 quads_range n from bytes =
     let e : 4 * (from + n) - 4 * from ≡ 4 * n = omega arith in
-    ap (λ (m : ℕ). quads_of (take m (drop (4 * from) bytes))) e ∙ quads_taken n (drop (4 * from) bytes) ∙ ap (take n) (quads_dropped from bytes)
+    ap (λ (m : ℕ). quads_of (take m (drop (4 * from) bytes))) e ∙ quads_taken n (drop (4 * from) bytes) ∙ ap (take n) (quads_drop from bytes)
 
 pairs_dropped : (k : ℕ) (bytes : List ℕ) → pairs_of (drop (2 * k) bytes) ≡ drop k (pairs_of bytes)
 unfolding pairs_of

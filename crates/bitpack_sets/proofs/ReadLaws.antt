@@ -1,10 +1,11 @@
 -- What is looked up in slices and bodies.
 use Rattle.std.proofs.Common.{◌≡◌, ◌≢◌, ℕ, zero, suc, ◌+◌, ◌*◌, ◌/◌, ◌%◌, ◌^◌, ◌-◌, ◌<◌, ◌≤◌, Bool, true, false, ◌||◌, ◌&&◌, eqb, ltb, List, [], ◌∷◌, ◌++◌, map, take, drop, length, refl, sym, ap, ◌∙◌, arith, cond, inl, inr, get_or, bit_and, eq-eqb, length-drop}
+use Rattle.std.proofs.Math.Bool.{and-false, and-true, or-false}
 use mir.Val.{bool_byte}
 use Rattle.std.specs.Int.{bit_at}
 use Rattle.std.specs.Int.RustNames.{count_ones}
 use Rattle.std.specs.List.{filter, range_with_len}
-use Rattle.std.proofs.lemmas.Bool.{cases_lt, cond_above, ne_eqb, lt-ltb, le-ltb, or_parts, true≢false}
+use Rattle.std.proofs.lemmas.Bool.{cases_lt, cond_above, false≢true, le-ltb, lt-ltb, ne_eqb, or_parts, true≢false}
 use Rattle.std.proofs.lemmas.List.{drop-drop, drop_all, drop_more}
 use Rattle.std.proofs.lemmas.Nat.{and_mask, mod-pow-add, ones_cat}
 use Rattle.std.proofs.lemmas.Nat.Bits.{bit_at_cat_low, bit_at_cat_high}
@@ -51,33 +52,21 @@ rank_step : (b : Bool) (x low : ℕ) (xs : List ℕ) → rank x (cond b (low ∷
 rank_step true x low xs = refl
 rank_step false x low xs = omega arith
 
-and_false : (b : Bool) → (b && false) ≡ false
-and_false true = refl
-and_false false = refl
-
-and_true : (b : Bool) → (b && true) ≡ b
-and_true true = refl
-and_true false = refl
-
-pub or_false : (b : Bool) → (b || false) ≡ b
-or_false true = refl
-or_false false = refl
-
 has_out : (P : ℕ → Bool) (x low n : ℕ) → x < low → has x (filter P (range_with_len low n)) ≡ false
 has_out P x low zero h = refl
 has_out P x low (suc n) h =
     has_step (P low) x low (filter P (range_with_len (low + 1) n))
     ∙ ap (λ (b : Bool). (P low && b) || has x (filter P (range_with_len (low + 1) n))) (ne_eqb low x (λ e. omega arith))
-    ∙ ap (λ (b : Bool). b || has x (filter P (range_with_len (low + 1) n))) (and_false (P low))
+    ∙ ap (λ (b : Bool). b || has x (filter P (range_with_len (low + 1) n))) (and-false (P low))
     ∙ has_out P x (low + 1) n (omega arith)
 
 has_first : (P : ℕ → Bool) (x low n : ℕ) → low ≡ x → has x (filter P (range_with_len low (suc n))) ≡ P x
 has_first P x low n h =
     has_step (P low) x low (filter P (range_with_len (low + 1) n))
     ∙ ap (λ (b : Bool). (P low && b) || has x (filter P (range_with_len (low + 1) n))) (eq-eqb low x h)
-    ∙ ap (λ (b : Bool). b || has x (filter P (range_with_len (low + 1) n))) (and_true (P low))
+    ∙ ap (λ (b : Bool). b || has x (filter P (range_with_len (low + 1) n))) (and-true (P low))
     ∙ ap (λ (b : Bool). P low || b) (has_out P x (low + 1) n (omega arith))
-    ∙ or_false (P low) ∙ ap P h
+    ∙ or-false (P low) ∙ ap P h
 
 -- a number of a range is kept if it passes the test
 pub has_kept : (P : ℕ → Bool) (x low n : ℕ) → low ≤ x → x < low + n → has x (filter P (range_with_len low n)) ≡ P x
@@ -86,7 +75,7 @@ has_kept P x low (suc n) h l = elim (cases_lt low x) [
   | inl less ↦
       has_step (P low) x low (filter P (range_with_len (low + 1) n))
       ∙ ap (λ (b : Bool). (P low && b) || has x (filter P (range_with_len (low + 1) n))) (ne_eqb low x (λ e. omega arith))
-      ∙ ap (λ (b : Bool). b || has x (filter P (range_with_len (low + 1) n))) (and_false (P low))
+      ∙ ap (λ (b : Bool). b || has x (filter P (range_with_len (low + 1) n))) (and-false (P low))
       ∙ has_kept P x (low + 1) n (omega arith) (omega arith)
   | inr more ↦ has_first P x low n (omega arith)
 ]
@@ -201,7 +190,7 @@ bits_counted_before bytes x n are size small e =
     ∙ ap (λ (m : ℕ). m + count_ones (byte % 2 ^ (x % 8))) e
     ∙ sym (rank_bits bytes x are size small)
 
-rank_le : (x : ℕ) (xs : List ℕ) → rank x xs ≤ length xs
+pub rank_le : (x : ℕ) (xs : List ℕ) → rank x xs ≤ length xs
 rank_le x [] = omega arith
 rank_le x (y ∷ xs) = let one = bit_le (ltb y x) in let ih = rank_le x xs in omega arith
 
@@ -240,9 +229,6 @@ rank_all x low (suc n) h l = elim (cases_lt low x) [
 ]
 
 -- ---- the numbers of blocks
-
-false≢true : false ≡ true → ⊥
-false≢true e = true≢false (sym e)
 
 apart_below : (a b : ℕ) → a < b → a ≡ b → ⊥
 apart_below a b h e = omega arith
@@ -349,7 +335,7 @@ in_numbers x low zero (high ∷ highs) (less ∷ counts) bytes e size (a, r) (ro
         let bytes' = drop (slice_len (less + 1)) bytes in
         has_append x (map (λ low. high * 256 + low) low) (numbers_of highs counts bytes')
         ∙ ap (λ (b : Bool). has x (map (λ low. high * 256 + low) low) || b) (not_in x highs counts bytes' later (has_below (x / 256) (high + 1) 256 highs r (omega arith)))
-        ∙ or_false (has x (map (λ low. high * 256 + low) low)) ∙ has_same x high 0 low is.rising same)
+        ∙ or-false (has x (map (λ low. high * 256 + low) low)) ∙ has_same x high 0 low is.rising same)
   ]
 ]
 in_numbers x low (suc i) (high ∷ highs) (less ∷ counts) bytes e size (a, r) (room, is, later) h = elim (cases_lt high (x / 256)) [

@@ -13,12 +13,6 @@ use Rattle.bitpack_sets.specs.Written.{refusal}
 abbrev pub RisesTo : List ℕ → ℕ → Type 0
 RisesTo ids n = (k : ℕ) → k + 1 < n → get_or ids k 0 < get_or ids (k + 1) 0
 
-pub rises_more : (ids : List ℕ) (n : ℕ) → RisesTo ids n → get_or ids (n - 1) 0 < get_or ids n 0 → RisesTo ids (n + 1)
-rises_more ids n rises next k lt = elim (cases_lt (k + 1) n) [
-  | inl below ↦ rises k below
-  | inr above ↦ (let e : k ≡ n - 1 = omega arith in let f : k + 1 ≡ n = omega arith in let g = ap (λ m. get_or ids m 0) e in let h = ap (λ m. get_or ids m 0) f in omega arith)
-]
-
 later_rises : (x : ℕ) (ids : List ℕ) (n : ℕ) → RisesTo (x ∷ ids) (suc n) → RisesTo ids n
 later_rises x ids n rises k lt = let e : suc k + 1 ≡ suc (k + 1) = omega arith in subst (λ m. get_or ids k 0 < get_or (x ∷ ids) m 0) e (rises (suc k) (omega arith))
 

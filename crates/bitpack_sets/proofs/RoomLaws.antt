@@ -1,5 +1,5 @@
 -- How many bytes are enough for the encoding of a set.
-use Rattle.std.proofs.Common.{◌≡◌, ℕ, zero, suc, ◌+◌, ◌-◌, ◌*◌, ◌/◌, ◌%◌, ◌^◌, ◌<◌, ◌≤◌, List, [], ◌∷◌, ◌++◌, length, get_or, drop, refl, sym, ap, ◌∙◌, arith, lit<, inl, inr}
+use Rattle.std.proofs.Common.{◌≡◌, ℕ, ◌+◌, ◌*◌, ◌/◌, ◌^◌, ◌<◌, ◌≤◌, List, [], ◌∷◌, length, refl, ap, ◌∙◌, arith, lit<, inl, inr}
 use Rattle.std.specs.List.{concat}
 use Rattle.std.proofs.lemmas.Bool.{cases_lt}
 use Rattle.bitpack_groups.proofs.ForCallers.{longest_groups, longest_number, number-small, number_in-large, number_in-small}
@@ -10,7 +10,7 @@ use Rattle.bitpack_sets.proofs.LongFilled.{array_size, chunks_length, few_times}
 use Rattle.bitpack_sets.proofs.LongLaws.{bodies_len, concat_len, count_room, join_len}
 use Rattle.bitpack_sets.proofs.PartLaws.{AreParts, join_parts, parts_are}
 use Rattle.bitpack_sets.specs.Laws.{LongestText}
-use Rattle.bitpack_sets.specs.Sets.{IsSet, gaps, parts, short, text}
+use Rattle.bitpack_sets.specs.Sets.{IsSet, parts, short, text}
 use Rattle.bitpack_sets.specs.Varints.{byte_count, groups_of, number}
 use Rattle.bitpack_sets.specs.Written.{bodies}
 
@@ -53,7 +53,7 @@ chunks_few ids set =
     let room = count_room 0 (parts 65536 ids) are in
     omega arith
 
-bodies_few : (ids : List ℕ) → length (concat (bodies ids)) ≤ 2 * length ids
+pub bodies_few : (ids : List ℕ) → length (concat (bodies ids)) ≤ 2 * length ids
 bodies_few ids =
     let ps : List (ℕ × List ℕ) = parts 65536 ids in
     let a = concat_len (bodies ids) in

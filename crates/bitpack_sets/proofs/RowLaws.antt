@@ -9,8 +9,9 @@ use Rattle.std.proofs.lemmas.List.{ext_get_or, get_or-map, get_or-take, length-m
 use Rattle.std.proofs.lemmas.Nat.Bits.{bit_at-lt, bit_at_and, bit_at_ones}
 use Rattle.std.proofs.lemmas.Nat.{shr-shr}
 use Rattle.std.proofs.lemmas.Simd.{Each1-from_get_or, Each1-get_or, SwzOk, SwzOk-from_below, get_or-chunk, get_or-swz_l_below, length-swz_l, map-map, swz_l, take_more_put_chunk, zip2_splat}
-use Rattle.bitpack_sets.proofs.BitmapLaws.{those_agree, those_raised, those_split}
+use Rattle.bitpack_sets.proofs.BitmapLaws.{those_raised, those_split}
 use Rattle.bitpack_sets.proofs.DecodeLaws.{rising_top}
+use Rattle.bitpack_sets.proofs.LoadLaws.{kept_same}
 use Rattle.bitpack_sets.proofs.OnesLaws.{ones_rise}
 use Rattle.bitpack_sets.proofs.RaisedLaws.{map_raised}
 use Rattle.bitpack_sets.specs.Sets.{IsRising}
@@ -136,7 +137,7 @@ byte_more word k =
     those_split P 0 k 8
     ∙ ap (λ (l : List ℕ). filter P (range_with_len 0 k) ++ l)
     (ap (λ (a : ℕ). filter P (range_with_len a 8)) place ∙ those_raised P k 0 8
-    ∙ ap (map (λ j. k + j)) (those_agree (λ i. P (k + i)) Q 0 8 (λ i a b. ap (λ (n : ℕ). eqb n 1) (byte_bit word k i (omega arith)))))
+    ∙ ap (map (λ j. k + j)) (kept_same (λ i. P (k + i)) Q 0 8 (λ i a b. ap (λ (n : ℕ). eqb n 1) (byte_bit word k i (omega arith)))))
 
 pub bytes_more : (base i word : ℕ)
     → map (λ j. base + j) (ones_from word 0 (8 * (i + 1)))

@@ -1,14 +1,14 @@
 -- Ids of one chunk or slice one after the other.
-use Rattle.std.proofs.Common.{◌≡◌, ◌≢◌, ℕ, zero, suc, ◌+◌, ◌-◌, ◌*◌, ◌/◌, ◌%◌, ◌^◌, ◌<◌, ◌≤◌, Bool, true, false, eqb, List, [], ◌∷◌, ◌++◌, map, length, get_or, take, drop, refl, sym, ap, ◌∙◌, arith, cond, inl, inr, subst, lit<, eqb-true, ltb, length-append, length-drop}
+use Rattle.std.proofs.Common.{◌≡◌, ◌≢◌, ℕ, zero, suc, ◌+◌, ◌-◌, ◌*◌, ◌/◌, ◌%◌, ◌^◌, ◌<◌, ◌≤◌, Bool, true, false, eqb, List, [], ◌∷◌, ◌++◌, map, length, get_or, take, drop, refl, sym, ap, ◌∙◌, arith, cond, inl, inr, subst, lit<, eqb-true, length-append}
 use Rattle.std.proofs.lemmas.Bool.Decides.{eqb_tells}
 use Rattle.std.specs.List.{concat}
-use Rattle.std.proofs.lemmas.Bool.{cases_lt, cond_above, cond_below}
 use Rattle.std.proofs.lemmas.List.{get_or-map, length-map, length-take-le, take_all}
 use Rattle.std.proofs.lemmas.Nat.{field_of}
+use Rattle.bitpack_sets.proofs.DecodeLaws.{get_take}
 use Rattle.bitpack_sets.proofs.PartLaws.{AreParts, parts_are}
 use Rattle.bitpack_sets.proofs.SliceLaws.{rising_room}
-use Rattle.bitpack_sets.proofs.OnesLaws.{rising_lower}
 use Rattle.bitpack_sets.proofs.TestLaws.{slice_size}
+use Rattle.bitpack_sets.proofs.WalkLaws.{rising_from}
 use Rattle.bitpack_sets.specs.Sets.{IsRising, blocks, blocks_of, body, parts, slice, with_number}
 use Rattle.bitpack_sets.specs.Slices.{slice_len}
 use Rattle.bitpack_sets.specs.Written.{IsChunk, IsRun, bodies, counts, highs, lows, slices}
@@ -92,12 +92,6 @@ run_part base (suc count) (x ∷ xs) run =
 
 -- ---- chunks, and the slices of chunks
 
-get_take : (n i : ℕ) (xs : List ℕ) → i < length (take n xs) → get_or (take n xs) i 0 ≡ get_or xs i 0
-get_take zero i xs h = absurd (omega arith)
-get_take (suc n) i [] h = absurd (omega arith)
-get_take (suc n) zero (x ∷ xs) h = refl
-get_take (suc n) (suc i) (x ∷ xs) h = get_take n i xs (omega arith)
-
 pub get_drop : (n i : ℕ) (xs : List ℕ) → get_or (drop n xs) i 0 ≡ get_or xs (n + i) 0
 get_drop zero i xs = let e : zero + i ≡ i = omega arith in sym (ap (λ k. get_or xs k 0) e)
 get_drop (suc n) i [] = refl
@@ -108,11 +102,6 @@ take_few zero xs = omega arith
 take_few (suc n) [] = omega arith
 take_few (suc n) (x ∷ xs) = let h = take_few n xs in omega arith
 
-drop_few : (n : ℕ) (xs : List ℕ) → n + length (drop n xs) ≤ n + length xs
-drop_few zero xs = omega arith
-drop_few (suc n) [] = omega arith
-drop_few (suc n) (x ∷ xs) = let h = drop_few n xs in omega arith
-
 within_drop : (n i : ℕ) (xs : List ℕ) → i < length (drop n xs) → n + i < length xs
 within_drop zero i xs h = omega arith
 within_drop (suc n) i [] h = absurd (omega arith)
@@ -122,11 +111,6 @@ pub rising_front : (low high n : ℕ) (xs : List ℕ) → IsRising low high xs �
 rising_front low high zero xs r = let room = rising_room low high xs r in omega arith
 rising_front low high (suc n) [] r = r
 rising_front low high (suc n) (x ∷ xs) (a, r) = (a, rising_front (x + 1) high n xs r)
-
-pub rising_rest : (low high n : ℕ) (xs : List ℕ) → IsRising low high xs → IsRising low high (drop n xs)
-rising_rest low high zero xs r = r
-rising_rest low high (suc n) [] r = r
-rising_rest low high (suc n) (x ∷ xs) (a, r) = rising_lower (x + 1) low high (drop n xs) (omega arith) (rising_rest (x + 1) high n xs r)
 
 -- a run of ids is a chunk
 pub run_chunk : (count : ℕ) (ids : List ℕ) → IsRising 0 (2 ^ 32) ids → IsRun 65536 ids count → IsChunk (take count ids)
@@ -141,7 +125,7 @@ run_chunk count ids r run = record {
 -- and so is what is left of a chunk
 pub chunk_rest : (n : ℕ) (ids : List ℕ) → IsChunk ids → IsChunk (drop n ids)
 chunk_rest n ids chunk = record {
-  rising = rising_rest 0 (2 ^ 32) n ids chunk.rising;
+  rising = rising_from 0 (2 ^ 32) n ids chunk.rising;
   shared = λ k lt.
       let one = within_drop n k ids lt in
       let two = within_drop n 0 ids (omega arith) in
@@ -235,10 +219,6 @@ slice_few count ids chunk run =
     omega arith
 
 -- ---- what is measured
-
--- what is left after a run, as the code lends it
-pub rest_is : (n : ℕ) (xs : List ℕ) → take (length xs - n) (drop n xs) ≡ drop n xs
-rest_is n xs = take_all (length xs - n) (drop n xs) (let e = length-drop n xs in omega arith)
 
 pub chunk_few : (ids : List ℕ) → IsChunk ids → length ids ≤ 65536
 chunk_few ids chunk =

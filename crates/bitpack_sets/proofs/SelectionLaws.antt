@@ -1,22 +1,22 @@
 -- The numbers of a slice that are selected.
-use Rattle.std.proofs.Common.{take, ◌≡◌, ℕ, zero, suc, ◌+◌, ◌*◌, ◌/◌, ◌%◌, ◌^◌, ◌-◌, ◌<◌, ◌≤◌, Bool, true, false, ◌&&◌, not, eqb, ltb, List, [], ◌∷◌, ◌++◌, map, drop, length, refl, sym, ap, ◌∙◌, arith, cond, inl, inr, get_or, bit_and, eqb-true, append-nil, subst, lit<, w32}
+use Rattle.std.proofs.Common.{take, ◌≡◌, ℕ, zero, suc, ◌+◌, ◌*◌, ◌/◌, ◌%◌, ◌^◌, ◌-◌, ◌<◌, ◌≤◌, Bool, true, false, ◌&&◌, not, eqb, ltb, List, [], ◌∷◌, ◌++◌, map, drop, length, refl, sym, ap, ◌∙◌, arith, cond, inl, inr, get_or, bit_and, eqb-true, append-nil, subst, w32}
 use Rattle.std.specs.Int.{bit_at}
 use Rattle.std.specs.List.{filter, range_with_len}
 use Rattle.std.proofs.Math.Bool.{and_comm}
-use Rattle.std.proofs.Math.Nat.{pow-le-pow_right}
 use Rattle.std.proofs.lemmas.Bool.{cases_lt, cond_below, le-ltb, lt-ltb, true≢false}
 use Rattle.std.proofs.lemmas.List.{drop_all, drop_more, get_or-drop, get_or-take}
 use Rattle.std.proofs.lemmas.Map.Views.{any-filter_same}
 use Rattle.std.proofs.lemmas.Nat.Bits.{bit_at-lt, bit_at_above, bit_at_not, bit_at_ones, bit_at_ones_above}
 use Rattle.std.proofs.lemmas.Nat.{one_shl}
-use Rattle.bitpack_sets.proofs.BitmapLaws.{those_agree, those_none, those_split}
+use Rattle.bitpack_sets.proofs.BitmapLaws.{those_none, those_split}
 use Rattle.bitpack_sets.proofs.CombineLaws.{IsLeftOut, holds_none, not_of, word_and}
 use Rattle.bitpack_sets.proofs.CountLaws.{few_numbers}
-use Rattle.bitpack_sets.proofs.LoadLaws.{has_those, none_there, those_are, those_rise}
-use Rattle.bitpack_sets.proofs.OnesLaws.{ones_all, rising_lower}
+use Rattle.bitpack_sets.proofs.LoadLaws.{has_those, kept_same, none_there, those_are, those_rise}
+use Rattle.bitpack_sets.proofs.OnesLaws.{ones_all}
 use Rattle.bitpack_sets.proofs.RaisedLaws.{rise_all}
 use Rattle.bitpack_sets.proofs.RowLaws.{rising_agree}
 use Rattle.bitpack_sets.proofs.SliceLaws.{bits_room}
+use Rattle.bitpack_sets.proofs.UnitedLaws.{rising_filter}
 use Rattle.bitpack_sets.proofs.UnpackLaws.{by_high, lows, those_by_high}
 use Rattle.bitpack_sets.specs.Bitmaps.{has_bit}
 use Rattle.bitpack_sets.specs.Operations.{combined, holds, those}
@@ -26,6 +26,7 @@ use Rattle.bitpack_sets.specs.Sets.{IsRising, bits}
 use Rattle.bitpack_sets.specs.Slices.{HasSlice, ones_from, slice_len, slice_numbers}
 use Rattle.bitpack_sets.specs.declared.blocks.Blocks.{Blocks}
 use Rattle.bitpack_sets.specs.declared.operation.Operation.{Operation}
+use Rattle.bitpack_sets.specs.declared.operation.Operation.TheVariants.{And, Or, AndNot, Xor}
 
 -- ---- bits from a place on are 0
 
@@ -70,7 +71,7 @@ Marks marks bytes P = (i : ℕ) → i < 32 → eqb (bit_at marks i) 1 ≡ (ltb i
 and_true : (b c : Bool) → b ≡ true → (b && c) ≡ c
 and_true b c e = ap (λ (d : Bool). d && c) e
 
-and_false : (b c : Bool) → b ≡ false → (b && c) ≡ false
+pub and_false : (b c : Bool) → b ≡ false → (b && c) ≡ false
 and_false b c e = ap (λ (d : Bool). d && c) e
 
 past : (marks : ℕ) (bytes : List ℕ) (P : ℕ → Bool) → Marks marks bytes P → (i : ℕ) → length bytes ≤ i → i < 32 → eqb (bit_at marks i) 1 ≡ false
@@ -83,17 +84,9 @@ marked_pass : (marks : ℕ) (bytes : List ℕ) (P : ℕ → Bool) → length byt
 unfolding ones_from
 marked_pass marks bytes P few is =
     ap (map (λ i. get_or bytes i 0)) (ones_cut marks (length bytes) 32 (omega arith) (past marks bytes P is)
-    ∙ those_agree (λ i. eqb (bit_at marks i) 1) (λ i. P (get_or bytes i 0)) 0 (length bytes) (λ i a b.
+    ∙ kept_same (λ i. eqb (bit_at marks i) 1) (λ i. P (get_or bytes i 0)) 0 (length bytes) (λ i a b.
     is i (omega arith) ∙ and_true (ltb i (length bytes)) (P (get_or bytes i 0)) (lt-ltb i (length bytes) (omega arith))))
     ∙ passed_from P bytes 0 (length bytes) (omega arith)
-
-some_rise : (b : Bool) (low high x : ℕ) (xs : List ℕ) → low ≤ x → IsRising (x + 1) high xs → IsRising low high (cond b (x ∷ xs) xs)
-some_rise true low high x xs h r = (h, r)
-some_rise false low high x xs h r = rising_lower (x + 1) low high xs (omega arith) r
-
-passed_rise : (P : ℕ → Bool) (low high : ℕ) (xs : List ℕ) → IsRising low high xs → IsRising low high (filter P xs)
-passed_rise P low high [] r = r
-passed_rise P low high (x ∷ xs) (a, r) = some_rise (P x) low high x (filter P xs) a (passed_rise P (x + 1) high xs r)
 
 has_passed : (P : ℕ → Bool) (x : ℕ) (xs : List ℕ) → has x (filter P xs) ≡ (has x xs && P x)
 has_passed P x xs = any-filter_same (λ y. eqb y x) P (P x) (λ y e. ap P (eqb-true y x e)) xs ∙ and_comm (P x) (has x xs)
@@ -103,7 +96,7 @@ pub marked_those : (marks : ℕ) (bytes : List ℕ) (P : ℕ → Bool) → lengt
     → marked marks bytes ≡ those 256 (λ x. has x bytes && P x)
 marked_those marks bytes P few rise is =
     marked_pass marks bytes P few is
-    ∙ sym (those_are (λ x. has x bytes && P x) 256 (filter P bytes) (passed_rise P 0 256 bytes rise) (λ x small. sym (has_passed P x bytes)))
+    ∙ sym (those_are (λ x. has x bytes && P x) 256 (filter P bytes) (rising_filter P 0 256 bytes rise) (λ x small. sym (has_passed P x bytes)))
 
 -- ---- marks by masks
 
@@ -166,11 +159,11 @@ mask_is count bytes size few = ap (λ (n : ℕ). n - 1) (one_shl count 32 (omega
 
 -- ---- one slice alone
 
-kept : (operation : Operation) (b : Bool) → holds operation true false ≡ true → holds operation b false ≡ b
+pub kept : (operation : Operation) (b : Bool) → holds operation true false ≡ true → holds operation b false ≡ b
 kept operation true e = e
 kept operation false e = holds_none operation false false refl refl
 
-kept_right : (operation : Operation) (b : Bool) → holds operation false true ≡ true → holds operation false b ≡ b
+pub kept_right : (operation : Operation) (b : Bool) → holds operation false true ≡ true → holds operation false b ≡ b
 kept_right operation true e = e
 kept_right operation false e = holds_none operation false false refl refl
 
@@ -182,17 +175,21 @@ pub only_right : (operation : Operation) (xs ys : List ℕ) → IsRising 0 256 y
 only_right operation xs ys rise none keeps =
     sym (those_are (λ x. holds operation (has x xs) (has x ys)) 256 ys rise (λ i small. ap (λ (l : List ℕ). holds operation (has i l) (has i ys)) none ∙ kept_right operation (has i ys) keeps))
 
+-- an operation whose answer has no id that only the second has is one of these two
+pub of_both : (operation : Operation) (p q : Bool) → holds operation false true ≡ false → holds operation true false ≡ false → (p && q) ≡ holds operation p q
+of_both And p q right left = refl
+of_both Or p q right left = absurd (true≢false right)
+of_both AndNot p q right left = absurd (true≢false left)
+of_both Xor p q right left = absurd (true≢false right)
+
+pub of_first : (operation : Operation) (p q : Bool) → holds operation false true ≡ false → holds operation true false ≡ true → (p && not q) ≡ holds operation p q
+of_first And p q right left = absurd (true≢false (sym left))
+of_first Or p q right left = absurd (true≢false right)
+of_first AndNot p q right left = refl
+of_first Xor p q right left = absurd (true≢false right)
+
 pub no_numbers : (slices : List ℕ) (start count : ℕ) → count ≡ 0 → slice_numbers count (take (slice_len count) (drop start slices)) ≡ []
 no_numbers slices start count e = ap (λ (n : ℕ). slice_numbers n (take (slice_len n) (drop start slices))) e
-
--- ---- marked bytes are written
-
--- a bit that is left is the mark of a byte
-pub place_within : (x t len : ℕ) → t < 64 → 1 * 2 ^ t % 2 ^ 64 ≤ x → x < 2 ^ len → t < len
-place_within x t len few part small = elim (cases_lt t len) [
-  | inl less ↦ less
-  | inr more ↦ (let shift = one_shl t 64 few in let up : 2 ^ len ≤ 2 ^ t = pow-le-pow_right (lit< tt) more in absurd (omega arith))
-]
 
 -- ---- two bodies of blocks
 
@@ -215,20 +212,20 @@ pub lows_combined : (operation : Operation) (high : ℕ) (xs ys zs ws : List ℕ
     → combined 256 operation xs ys ≡ lows (λ x. holds operation (has x zs) (has x ws)) high
 unfolding those
 lows_combined operation high xs ys zs ws left right =
-    those_agree (λ x. holds operation (has x xs) (has x ys)) (λ i. holds operation (has (256 * high + i) zs) (has (256 * high + i) ws)) 0 256 (λ i low small.
+    kept_same (λ x. holds operation (has x xs) (has x ys)) (λ i. holds operation (has (256 * high + i) zs) (has (256 * high + i) ws)) 0 256 (λ i low small.
     ap (λ (b : Bool). holds operation b (has i ys)) (left i small) ∙ ap (holds operation (has (256 * high + i) zs)) (right i small))
 
 pub map_zero : (xs : List ℕ) → map (λ i. 0 + i) xs ≡ xs
 map_zero [] = refl
 map_zero (x ∷ xs) = let e : 0 + x ≡ x = omega arith in ap (λ (n : ℕ). n ∷ map (λ i. 0 + i) xs) e ∙ ap (λ (l : List ℕ). x ∷ l) (map_zero xs)
 
-no_part : (parts : Blocks) (x : ℕ) → x < 65536 → has_bit parts.highs (x / 256) ≡ false → has x (parts_numbers parts) ≡ false
+pub no_part : (parts : Blocks) (x : ℕ) → x < 65536 → has_bit parts.highs (x / 256) ≡ false → has x (parts_numbers parts) ≡ false
 no_part parts x small none =
     let whole : 256 * (x / 256) + x % 256 ≡ x = omega arith in
     sym (ap (λ (n : ℕ). has n (parts_numbers parts)) whole)
     ∙ none_there (has_bit parts.highs) (x / 256) (x % 256) parts.counts.now parts.slices.now (omega arith) (omega arith) none parts.are
 
-both_or_none : (b c : Bool) → (b ≡ false → c ≡ false) → c ≡ (b && c)
+pub both_or_none : (b c : Bool) → (b ≡ false → c ≡ false) → c ≡ (b && c)
 both_or_none true c f = refl
 both_or_none false c f = f refl
 
@@ -242,7 +239,7 @@ unfolding those
 listed operation a b bits both left right =
     let highs : List ℕ = those 256 (has_bit bits) in
     let P : ℕ → Bool = passes operation a b in
-    those_agree P (λ x. has (x / 256) highs && P x) 0 65536 (λ x low small.
+    kept_same P (λ x. has (x / 256) highs && P x) 0 65536 (λ x low small.
     let h : ℕ = x / 256 in
     let few : x / 256 < 256 = omega arith in
     both_or_none (has h highs) (P x) (λ none.

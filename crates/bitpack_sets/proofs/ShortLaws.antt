@@ -1,10 +1,10 @@
 -- Integers of a few bytes each, end to end; and running sums, whose differences are taken again.
-use Rattle.std.proofs.Common.{◌≡◌, ℕ, zero, suc, ◌+◌, ◌-◌, ◌*◌, ◌^◌, ◌<◌, ◌≤◌, List, [], ◌∷◌, ◌++◌, map, take, drop, length, get_or, slice_index, refl, sym, ap, ◌∙◌, arith, subst, length-append, length-drop, add-one, append_assoc, pow-add, pow-suc, take-add, mul-suc}
+use Rattle.std.proofs.Common.{◌≡◌, ℕ, zero, suc, ◌+◌, ◌-◌, ◌*◌, ◌^◌, ◌<◌, ◌≤◌, List, [], ◌∷◌, ◌++◌, map, take, drop, length, get_or, slice_index, refl, sym, ap, ◌∙◌, arith, length-append, length-drop, add-one, append_assoc, pow-add, pow-suc, take-add, mul-suc}
 use Rattle.std.specs.List.{concat, flat_map, range_with_len}
-use Rattle.std.proofs.lemmas.List.{drop-drop, drop_at, drop_more, get_or-drop, take_at, take_more, length-take-le}
+use Rattle.std.proofs.lemmas.List.{drop-drop, drop_at, get_or-drop, take_at, length-take-le}
 use Rattle.bitpack_groups.proofs.ForCallers.{little_len}
 use Rattle.bitpacking.specs.Words.{joined}
-use Rattle.bitpack_sets.proofs.DecodeLaws.{bytes_dropped}
+use Rattle.bitpack_sets.proofs.DecodeLaws.{bytes_dropped, ring}
 use Rattle.bitpack_sets.proofs.LongLaws.{Below, total}
 use Rattle.bitpack_sets.proofs.OnesLaws.{little_number, number_little}
 use Rattle.bitpack_sets.proofs.TestLaws.{bytes_taken}
@@ -36,9 +36,6 @@ digit zero = refl
 digit (suc k) =
     let e : 8 * suc k ≡ 8 * k + 8 = omega arith in
     ap (λ (n : ℕ). 2 ^ n) e ∙ pow-add 2 (8 * k) 8 ∙ ap (λ (n : ℕ). n * 256) (digit k) ∙ sym (pow-suc 256 k)
-
-ring : (b x p r : ℕ) → b + 256 * (x * p + r) ≡ x * (p * 256) + (b + 256 * r)
-ring b x p r = grind arith
 
 -- one byte more above
 number_more : (k : ℕ) (bytes : List ℕ) → k < length bytes → number_of (take (suc k) bytes) ≡ get_or bytes k 0 * 256 ^ k + number_of (take k bytes)

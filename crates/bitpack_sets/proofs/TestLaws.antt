@@ -1,32 +1,29 @@
 -- The tests of slices and blocks, as faults have them, say what bytes are. The blocks of numbers pass them.
-use Rattle.std.proofs.Common.{◌≡◌, ℕ, zero, suc, ◌+◌, ◌-◌, ◌*◌, ◌<◌, ◌≤◌, Bool, true, false, ◌&&◌, ltb, leb, eqb, List, [], ◌∷◌, ◌++◌, map, take, drop, length, get_or, Option, None, refl, sym, ap, ◌∙◌, arith, cond, inl, inr, subst, eqb-true, eq-eqb, length-append, append_assoc, lit≤}
+use Rattle.std.proofs.Common.{◌≡◌, ℕ, zero, suc, ◌+◌, ◌-◌, ◌*◌, ◌<◌, ◌≤◌, Bool, true, false, ◌&&◌, eqb, List, [], ◌∷◌, ◌++◌, map, take, drop, length, get_or, Option, None, refl, sym, ap, ◌∙◌, arith, inl, inr, subst, eqb-true, eq-eqb, length-append, append_assoc}
 use Rattle.std.specs.Bool.{Decides}
 use Rattle.std.specs.List.{flat_map}
 use Rattle.std.specs.Option.{is_none}
-use Rattle.std.proofs.lemmas.Bool.{cases_lt, cond_above, cond_below, lt-ltb, le-ltb, le-leb, lt-leb, true≢false}
-use Rattle.std.proofs.lemmas.List.{drop_at, length-map, take_at}
+use Rattle.std.proofs.lemmas.Bool.{cases_lt, cond_above, cond_below, le-leb, leb-true, lt-ltb, true≢false}
+use Rattle.std.proofs.lemmas.List.{drop_at, length-map, nil_from_length, take_at}
 use Rattle.bitpack_groups.proofs.ForCallers.{little_len}
 use Rattle.bitpack_sets.proofs.ArrayLaws.{no_fall, rises_from}
 use Rattle.bitpack_sets.proofs.CountLaws.{few_numbers, few_slice, full_slice, some_counted, some_slice}
 use Rattle.bitpack_sets.proofs.DecodeLaws.{bytes_dropped}
-use Rattle.bitpack_sets.proofs.FaultLaws.{is_below, not_below}
+use Rattle.bitpack_sets.proofs.FaultLaws.{is_below}
 use Rattle.bitpack_sets.proofs.LongLaws.{Below}
 use Rattle.bitpack_sets.proofs.PartLaws.{AreParts, join, join_parts, parts_are}
-use Rattle.bitpack_sets.proofs.SliceLaws.{rising_room, slice_few, slice_many, slice_some}
+use Rattle.bitpack_sets.proofs.SliceLaws.{slice_few, slice_many, slice_some}
 use Rattle.bitpack_sets.proofs.ToldLaws.{told}
 use Rattle.bitpack_sets.proofs.Words.{EachByte}
-use Rattle.bitpack_sets.specs.Sets.{IsRising, bits, blocks, blocks_of, le_bytes, parts, slice}
-use Rattle.bitpack_sets.specs.Slices.{AreSlices, IsBlocks, IsSlice, are_blocks, are_slices, bits_in, counts_in, first_fall, high_count, highs_in, is_slice, numbers_in, rises, slice_len, slice_numbers, slices_in}
+use Rattle.bitpack_sets.specs.Sets.{IsRising, bits, blocks, blocks_of, parts, slice}
+use Rattle.bitpack_sets.specs.Slices.{AreSlices, IsBlocks, IsSlice, are_blocks, are_slices, bits_in, counts_in, first_fall, high_count, highs_in, is_slice, numbers_in, rises, slice_len, slices_in}
 
-both_true : (a b : Bool) → (a && b) ≡ true → (a ≡ true) × (b ≡ true)
+pub both_true : (a b : Bool) → (a && b) ≡ true → (a ≡ true) × (b ≡ true)
 both_true true b e = (refl, e)
 both_true false b e = absurd (true≢false (sym e))
 
-true_both : (a b : Bool) → a ≡ true → b ≡ true → (a && b) ≡ true
+pub true_both : (a b : Bool) → a ≡ true → b ≡ true → (a && b) ≡ true
 true_both a b e f = ap (λ (x : Bool). x && b) e ∙ f
-
-at_most : (x y : ℕ) → leb x y ≡ true → x ≤ y
-at_most x y e = elim (cases_lt y x) [ inl less ↦ absurd (true≢false (sym e ∙ lt-leb x y less)) | inr more ↦ more ]
 
 none_is : (o : Option ℕ) → is_none o ≡ true → o ≡ None
 none_is None e = refl
@@ -71,13 +68,9 @@ taken zero bytes h = refl
 taken (suc n) [] h = absurd (omega arith)
 taken (suc n) (byte ∷ bytes) h = ap suc (taken n bytes (omega arith))
 
-none_left : (bytes : List ℕ) → length bytes ≡ 0 → bytes ≡ []
-none_left [] e = refl
-none_left (byte ∷ bytes) e = absurd (omega arith)
-
 pub slices_tested : (counts bytes : List ℕ) → EachByte counts → EachByte bytes → Decides (are_slices counts bytes) (AreSlices counts bytes)
 unfolding are_slices
-slices_tested [] bytes small are = (λ e. none_left bytes (eqb-true (length bytes) 0 e), λ e. eq-eqb (length bytes) 0 (ap length e))
+slices_tested [] bytes small are = (λ e. nil_from_length bytes (eqb-true (length bytes) 0 e), λ e. eq-eqb (length bytes) 0 (ap length e))
 slices_tested (less ∷ counts) bytes (a, small) are =
     let len : ℕ = slice_len (less + 1) in
     let front : List ℕ = take len bytes in
@@ -86,7 +79,7 @@ slices_tested (less ∷ counts) bytes (a, small) are =
     let (yields, needs) = slices_tested counts (drop len bytes) small (bytes_dropped len bytes are) in (
       λ e. let (p, rest) = both_true _ _ e in
           let (room, is) = both_true _ _ p in
-          (at_most len (length bytes) room, (one (at_most len (length bytes) room)).0 is, yields rest),
+          (leb-true len (length bytes) room, (one (leb-true len (length bytes) room)).0 is, yields rest),
       λ (room, is, rest). true_both _ _ (true_both _ _ (le-leb len (length bytes) room) ((one room).1 is)) (needs rest),
     )
 
@@ -117,7 +110,7 @@ blocks_tested count body are =
           let (e2, counted) = both_true _ _ e1 in
           let (e3, highs) = both_true _ _ e2 in
           let (some, room) = both_true _ _ e3 in
-          let wide = at_most (1 + slice_len many + many) (length body) room in
+          let wide = leb-true (1 + slice_len many + many) (length body) room in
           record {
             some = is_below 0 (length body) some;
             room = wide;

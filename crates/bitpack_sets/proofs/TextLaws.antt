@@ -1,28 +1,29 @@
 -- Bytes have no fault exactly if they encode a set, which is read from them; and an encoding is that of one set.
-use Rattle.std.proofs.Common.{◌≡◌, ◌↔◌, ℕ, zero, suc, ◌+◌, ◌-◌, ◌*◌, ◌^◌, ◌<◌, ◌≤◌, Bool, true, false, ◌||◌, eqb, ltb, cond, List, [], ◌∷◌, ◌++◌, take, drop, length, get_or, Option, Some, None, refl, sym, ap, ◌∙◌, arith, inl, inr, subst, length-append, take-append-drop}
-use Rattle.std.proofs.lemmas.Bool.{cases_lt, cond_above, cond_below, eq-eqb, le-ltb, lt-ltb, ne_eqb, true≢false}
+use Rattle.std.proofs.Common.{◌≡◌, ℕ, zero, suc, ◌+◌, ◌-◌, ◌*◌, ◌^◌, ◌<◌, ◌≤◌, Bool, true, false, ◌||◌, eqb, ltb, cond, List, [], ◌∷◌, ◌++◌, drop, length, get_or, Option, Some, None, refl, sym, ap, ◌∙◌, arith, inl, inr, subst, take-append-drop}
+use Rattle.std.proofs.lemmas.Bool.{cases_lt, cond_above, cond_below, le-ltb, lt-ltb, ne_eqb, true≢false}
 use Rattle.std.proofs.lemmas.Bool.Decides.{eqb_tells}
-use Rattle.std.proofs.lemmas.List.{append_cancel_left, drop_at}
+use Rattle.std.proofs.lemmas.List.{drop_at}
 use Rattle.std.specs.List.{concat, flat_map}
-use Rattle.std.specs.Option.{is_some, option_or}
-use Rattle.bitpack_groups.proofs.ForCallers.{AreBytes-append, AreBytes-cons, AreBytes-number_in, groups_read_back, groups_run, number_reads_back, one_number}
+use Rattle.std.specs.Option.{is_some}
+use Rattle.bitpack_groups.proofs.ForCallers.{AreBytes-append, AreBytes-cons, AreBytes-drop, AreBytes-number_in, groups_read_back, groups_run, number_reads_back, one_number, passed}
 use Rattle.bitpacking.specs.Bits.{AreBytes}
-use Rattle.bitpack_sets.proofs.ArrayLaws.{array_no_fault, no_fault_array}
+use Rattle.bitpack_sets.proofs.ArrayLaws.{array_no_fault, count_none, no_fault_array, none_count}
 use Rattle.bitpack_sets.proofs.ByteLaws.{byte_of, each_append, each_bodies, each_flat}
 use Rattle.bitpack_sets.proofs.ChunkLaws.{ids_count, ids_parts, ids_rise, ids_text, count_is}
 use Rattle.bitpack_sets.proofs.ChunkTexts.{count_bytes, rest_sound}
 use Rattle.bitpack_sets.proofs.CountLaws.{bytes_are}
 use Rattle.bitpack_sets.proofs.DecodeLaws.{bytes_dropped}
 use Rattle.bitpack_sets.proofs.EntryLaws.{neither, not_zero, rest_none}
-use Rattle.bitpack_sets.proofs.FaultLaws.{if_some, map_none, none_map, none_or, not_below, or_none, some_not}
-use Rattle.bitpack_sets.proofs.GapLaws.{are_dropped, gaps_below, gaps_len, ids_back, below_words, later_bytes, later_text, none_short, short_is, short_none}
-use Rattle.bitpack_sets.proofs.LongLaws.{after_counts, bodies, counts, count_room, ends, join_len, keys, key_count, long_array, long_chunks, long_parts, numbers_part, one_long, small, total}
+use Rattle.bitpack_sets.proofs.FaultLaws.{map_none, none_map, none_or, not_below, or_none, some_not}
+use Rattle.bitpack_sets.proofs.FrontLaws.{short_first}
+use Rattle.bitpack_sets.proofs.GapLaws.{below_words, gaps_below, gaps_len, ids_back, later_bytes, later_text, no_bytes, none_short, short_is, short_none}
+use Rattle.bitpack_sets.proofs.LongLaws.{after_counts, bodies, count_room, counts, ends, heads, join_len, keys, long_array, long_chunks, long_parts, numbers_part, one_long, small, total}
 use Rattle.bitpack_sets.proofs.LongLaws as texts
 use Rattle.bitpack_sets.proofs.PartLaws.{AreParts, join, join_parts, parts_are}
 use Rattle.bitpack_sets.proofs.SliceLaws.{rising_room}
 use Rattle.bitpack_sets.proofs.Words.{EachByte, IsArray}
 use Rattle.bitpack_sets.specs.Directory.{chunk_ids}
-use Rattle.bitpack_sets.specs.Faults.{array_fault, chunk_count_fault, chunks_fault, count_fault, fault, ids_from, in_chunks_fault, short_fault, short_ids}
+use Rattle.bitpack_sets.specs.Faults.{array_fault, chunk_count_fault, chunks_fault, fault, ids_from, in_chunks_fault, short_fault, short_ids}
 use Rattle.bitpack_sets.specs.Laws.{IdsAreRead, NoFault, OneSet, TextIsRead}
 use Rattle.bitpack_sets.specs.Reads.{few_ids, ids_in, ids_in_array, ids_in_chunks}
 use Rattle.bitpack_sets.specs.Sets.{IsRising, IsSet, array, gaps, groups, in_chunks, le_bytes, long, parts, short, sums, text}
@@ -31,9 +32,9 @@ use Rattle.bitpack_sets.specs.Sound.{IsRest}
 use Rattle.bitpack_sets.specs.Stated.{stated_count}
 use Rattle.bitpack_sets.specs.Varints.{byte_count, groups_codes, groups_of, number, number_end, number_fault, number_value, set_error}
 use Rattle.bitpack_sets.specs.declared.set_error.SetError.{SetError}
-use Rattle.bitpack_sets.specs.declared.set_error.SetError.TheVariants.{BadNumber, BadVersion, TooLong}
+use Rattle.bitpack_sets.specs.declared.set_error.SetError.TheVariants.{BadNumber, BadVersion}
 
-some_not_none : {T : Type 0} (e : T) → Some e ≡ None → ⊥
+pub some_not_none : {T : Type 0} (e : T) → Some e ≡ None → ⊥
 some_not_none e h = true≢false (ap is_some h)
 
 text_short : (ids : List ℕ) → length ids < 128 → text ids ≡ short ids
@@ -46,29 +47,15 @@ text_long ids h = sym (cond_above (length ids) 128 (short ids) (long ids) _ h re
 
 -- ---- what the counts say
 
-count_none : (bytes : List ℕ) → count_fault bytes ≡ None → (number_fault bytes ≡ None) × (128 ≤ number_value bytes) × (number_value bytes ≤ 2 ^ 28)
-unfolding count_fault
-count_none bytes h =
-    let (a, b) = or_none _ _ h in
-    let (c, d) = if_some _ _ _ b in
-    let (e, f) = if_some _ _ _ d in
-    (map_none set_error _ a, not_below (number_value bytes) 128 c, not_below (2 ^ 28) (number_value bytes) e)
-
 pub chunks_none : (ids : ℕ) (bytes : List ℕ) → chunk_count_fault ids bytes ≡ None
     → (number_fault bytes ≡ None) × (0 < number_value bytes) × (4 * number_value bytes ≤ ids) × (number_value bytes ≤ 65536)
 unfolding chunk_count_fault
 chunks_none ids bytes h =
     let (a, b) = or_none _ _ h in
-    let (c, d) = if_some _ _ _ b in
+    let (c, d) = passed _ _ _ b in
     let (e, f) = neither _ _ c in
     let (g, i) = neither _ _ e in
     (map_none set_error _ a, not_zero (number_value bytes) g, not_below ids (4 * number_value bytes) i, not_below 65536 (number_value bytes) f)
-
-none_count : (bytes : List ℕ) → number_fault bytes ≡ None → 128 ≤ number_value bytes → number_value bytes ≤ 2 ^ 28 → count_fault bytes ≡ None
-unfolding count_fault
-none_count bytes a b c =
-    none_or _ _ (none_map set_error (number_fault bytes) a) (some_not (ltb (number_value bytes) 128) BadNumber _ (le-ltb (number_value bytes) 128 b)
-    (some_not (ltb (2 ^ 28) (number_value bytes)) (TooLong (number_value bytes)) None (le-ltb (2 ^ 28) (number_value bytes) c) refl))
 
 none_chunks : (ids : ℕ) (bytes : List ℕ) → number_fault bytes ≡ None → 0 < number_value bytes → 4 * number_value bytes ≤ ids → number_value bytes ≤ 65536
     → chunk_count_fault ids bytes ≡ None
@@ -97,7 +84,7 @@ read_chunks bytes are h =
     let c : ℕ = number_value later in
     let (sound, many, few) = count_none bytes h1 in
     let (sound', some, apart, most) = chunks_none n later h3 in
-    let are' : AreBytes later = are_dropped (number_end bytes) bytes are in
+    let are' : AreBytes later = AreBytes-drop (number_end bytes) bytes are in
     let each : EachByte rest = bytes_dropped (number_end later) later (bytes_are later are') in
     let (small', front, only) = one_number bytes are sound in
     let (small'', front', only') = one_number later are' sound' in
@@ -121,14 +108,10 @@ read_array bytes are h =
     let ids : List ℕ = quads_of (drop (number_end bytes) bytes) in
     (record { few = few; rising = is.rising }, text_long ids many ∙ long_array ids apart ∙ is.text)
 
-no_bytes : (bytes : List ℕ) → length bytes ≤ 0 → bytes ≡ []
-no_bytes [] h = refl
-no_bytes (byte ∷ bytes) h = absurd (omega arith)
-
 read_few : (count : ℕ) (bytes : List ℕ) → count < 128 → AreBytes bytes → short_fault count bytes ≡ None → IsTextOf ((128 + count) ∷ bytes) (few_ids count bytes)
 unfolding short_fault text short
 read_few zero bytes small are h =
-    let none : bytes ≡ [] = no_bytes bytes (not_below 0 (length bytes) (if_some _ _ _ h).0) in
+    let none : bytes ≡ [] = no_bytes bytes (not_below 0 (length bytes) (passed _ _ _ h).0) in
     (record { few = omega arith; rising = omega arith }, ap (λ (l : List ℕ). 128 ∷ l) (sym none))
 read_few (suc more) bytes small are h =
     let (rising, size, is) = short_none more bytes are h in
@@ -160,7 +143,7 @@ ids_are_read (form ∷ bytes) are h =
             | inr (not_six, isnt') ↦
                 let left : cond (ltb form 128) (Some (BadVersion form)) (short_fault (form - 128) bytes) ≡ None =
                 sym (ap (λ (b : Bool). cond b (array_fault bytes) (cond (ltb form 128) (Some (BadVersion form)) (short_fault (form - 128) bytes))) not_six) ∙ here in
-                let (high, none) = if_some (ltb form 128) (BadVersion form) (short_fault (form - 128) bytes) left in
+                let (high, none) = passed (ltb form 128) (BadVersion form) (short_fault (form - 128) bytes) left in
                 let more = not_below form 128 high in
                 let whole : 128 + (form - 128) ≡ form = omega arith in
                 let same : few_ids (form - 128) bytes ≡ others = sym (ap (λ (b : Bool). cond b (ids_in_array bytes) (few_ids (form - 128) bytes)) not_six) in
@@ -174,17 +157,13 @@ ids_are_read (form ∷ bytes) are h =
 abbrev IsSound : List ℕ → Type 0
 IsSound bytes = AreBytes bytes × (fault bytes ≡ None)
 
-cons_bytes : (x : ℕ) (bytes : List ℕ) → x < 2 ^ 8 → AreBytes bytes → AreBytes (x ∷ bytes)
-cons_bytes x bytes h are zero = h
-cons_bytes x bytes h are (suc k) = are k
-
 array_bytes : (ids : List ℕ) → AreBytes (number (length ids) ++ flat_map (le_bytes 4) ids)
 array_bytes ids = AreBytes-append (number (length ids)) (flat_map (le_bytes 4) ids) (AreBytes-number_in 5 (length ids)) (byte_of (flat_map (le_bytes 4) ids) (each_flat 4 ids))
 
 sound_array : (ids : List ℕ) → IsSet ids → 128 ≤ length ids → length ids < 4 * length (parts (2 ^ 16) ids) → IsSound (array ids)
 unfolding fault array
 sound_array ids is many apart = (
-  cons_bytes 6 (number (length ids) ++ flat_map (le_bytes 4) ids) (omega arith) (array_bytes ids),
+  AreBytes-cons 6 (number (length ids) ++ flat_map (le_bytes 4) ids) (omega arith) (array_bytes ids),
   no_fault_array number_reads_back (number (length ids) ++ flat_map (le_bytes 4) ids) ids
       (record { rising = is.rising; many = many; few = is.few; apart = apart; text = refl }),
 )
@@ -229,7 +208,7 @@ sound_chunks ids is many near =
     (ap (λ (m : ℕ). chunks_fault m (number_value (drop (number_end bytes) bytes)) (drop (number_end (drop (number_end bytes) bytes)) (drop (number_end bytes) bytes))) value
     ∙ ap (λ (l : List ℕ). chunks_fault n (number_value l) (drop (number_end l) l)) later
     ∙ ap (λ (m : ℕ). chunks_fault n m (drop (number_end (number c ++ rest)) (number c ++ rest))) value' ∙ ap (chunks_fault n c) last ∙ rest_sound n ps are some few all)) in
-    subst IsSound (sym (long_parts ids)) (cons_bytes 5 bytes (omega arith) small_bytes, none)
+    subst IsSound (sym (long_parts ids)) (AreBytes-cons 5 bytes (omega arith) small_bytes, none)
 
 sound_few : (x : ℕ) (xs : List ℕ) → IsRising 0 (2 ^ 32) (x ∷ xs) → length xs < 127 → IsSound (short (x ∷ xs))
 unfolding fault
@@ -247,11 +226,11 @@ sound_few x xs (zero', r) few =
     ∙ ap (λ (b : Bool). cond b (array_fault bytes) left) not_six ∙ ap (λ (b : Bool). cond b (Some (BadVersion form)) (short_fault (form - 128) bytes)) high
     ∙ ap (λ (m : ℕ). short_fault m bytes) less ∙ none_short x xs (zero', r) in
     let small_bytes : AreBytes bytes = AreBytes-append (number x) (groups (groups_of (length xs)) (gaps x xs)) (AreBytes-number_in 5 x) (later_bytes x xs r) in
-    subst IsSound (sym (short_is x xs)) (cons_bytes form bytes (omega arith) small_bytes, none)
+    subst IsSound (sym (short_is x xs)) (AreBytes-cons form bytes (omega arith) small_bytes, none)
 
 sound_short : (ids : List ℕ) → IsRising 0 (2 ^ 32) ids → length ids < 128 → IsSound (short ids)
 unfolding fault short short_fault
-sound_short [] r few = (cons_bytes 128 [] (omega arith) (λ k. omega arith), refl)
+sound_short [] r few = (AreBytes-cons 128 [] (omega arith) (λ k. omega arith), refl)
 sound_short (x ∷ xs) r few = sound_few x xs r (omega arith)
 
 pub text_sound : (ids : List ℕ) → IsSet ids → IsSound (text ids)
@@ -264,9 +243,6 @@ text_sound ids is = elim (cases_lt (length ids) 128) [
 ]
 
 -- ---- one set an encoding
-
-heads : (m n : ℕ) (xs ys : List ℕ) → m ∷ xs ≡ n ∷ ys → m ≡ n
-heads m n xs ys e = cc
 
 tails : (m n : ℕ) (xs ys : List ℕ) → m ∷ xs ≡ n ∷ ys → xs ≡ ys
 tails m n xs ys e = cc
@@ -295,11 +271,6 @@ one_few (x ∷ xs) (y ∷ ys) (a, r) (b, s) few few' e =
     (ap (λ (n : ℕ). groups (groups_of n) (gaps x xs)) (gaps_len x xs) ∙ run ∙ ap (λ (n : ℕ). groups (groups_of n) (gaps y ys)) (sym (gaps_len y ys))) in
     sym (ids_back x xs r) ∙ ap (λ (n : ℕ). ids_from n (gaps x xs)) first ∙ ap (ids_from y) codes ∙ ids_back y ys s
 
-short_form : (ids : List ℕ) → 128 ≤ get_or (short ids) 0 0
-unfolding short
-short_form [] = omega arith
-short_form (x ∷ xs) = omega arith
-
 long_form : (ids : List ℕ) → get_or (long ids) 0 0 ≤ 6
 long_form ids = elim (cases_lt (length ids) (4 * length (parts (2 ^ 16) ids))) [
   | inl apart ↦ (let e = ap (λ (l : List ℕ). get_or l 0 0) (long_array ids apart ∙ texts.array_parts ids) in omega arith)
@@ -310,10 +281,10 @@ pub one_set : OneSet
 one_set xs ys is are e = elim (cases_lt (length xs) 128) [
   | inl few ↦ elim (cases_lt (length ys) 128) [
     | inl few' ↦ one_few xs ys is.rising are.rising few few' (sym (text_short xs few) ∙ e ∙ text_short ys few')
-    | inr many' ↦ (let f = ap (λ (l : List ℕ). get_or l 0 0) (sym (text_short xs few) ∙ e ∙ text_long ys many') in let a = short_form xs in let b = long_form ys in absurd (omega arith))
+    | inr many' ↦ (let f = ap (λ (l : List ℕ). get_or l 0 0) (sym (text_short xs few) ∙ e ∙ text_long ys many') in let a = short_first xs in let b = long_form ys in absurd (omega arith))
   ]
   | inr many ↦ elim (cases_lt (length ys) 128) [
-    | inl few' ↦ (let f = ap (λ (l : List ℕ). get_or l 0 0) (sym (text_long xs many) ∙ e ∙ text_short ys few') in let a = short_form ys in let b = long_form xs in absurd (omega arith))
+    | inl few' ↦ (let f = ap (λ (l : List ℕ). get_or l 0 0) (sym (text_long xs many) ∙ e ∙ text_short ys few') in let a = short_first ys in let b = long_form xs in absurd (omega arith))
     | inr many' ↦ one_long number_reads_back xs ys is.rising are.rising is.few are.few (sym (text_long xs many) ∙ e ∙ text_long ys many')
   ]
 ]
@@ -342,7 +313,7 @@ count_chunks bytes are h =
     let later : List ℕ = drop (number_end bytes) bytes in
     let rest : List ℕ = drop (number_end later) later in
     let (sound', some, apart, most) = chunks_none (number_value bytes) later h3 in
-    let each : EachByte rest = bytes_dropped (number_end later) later (bytes_are later (are_dropped (number_end bytes) bytes are)) in
+    let each : EachByte rest = bytes_dropped (number_end later) later (bytes_are later (AreBytes-drop (number_end bytes) bytes are)) in
     ids_count (number_value bytes) (number_value later) rest each (rest_none (number_value bytes) (number_value later) rest each some h4)
 
 count_array : (bytes : List ℕ) → AreBytes bytes → array_fault bytes ≡ None → length (ids_in_array bytes) ≡ number_value bytes
@@ -383,7 +354,7 @@ count_stated (form ∷ bytes) are h =
             | inr (not_six, isnt') ↦
                 let left : cond (ltb form 128) (Some (BadVersion form)) (short_fault (form - 128) bytes) ≡ None =
                 sym (ap (λ (b : Bool). cond b (array_fault bytes) (cond (ltb form 128) (Some (BadVersion form)) (short_fault (form - 128) bytes))) not_six) ∙ here in
-                let (high, none) = if_some (ltb form 128) (BadVersion form) (short_fault (form - 128) bytes) left in
+                let (high, none) = passed (ltb form 128) (BadVersion form) (short_fault (form - 128) bytes) left in
                 ap (λ (b : Bool). cond b (number_value bytes) (form - 128)) high ∙ sym (count_few (form - 128) bytes later none)
                 ∙ sym (ap (λ (b : Bool). length (cond b (ids_in_array bytes) (few_ids (form - 128) bytes))) not_six) ∙ at
           ]

@@ -1,11 +1,11 @@
 -- Slices and bodies are exactly those of some numbers.
-use Rattle.std.proofs.Common.{◌≡◌, ℕ, zero, suc, ◌+◌, ◌*◌, ◌/◌, ◌%◌, ◌<◌, ◌≤◌, ◌↔◌, List, [], ◌∷◌, ◌++◌, take, drop, length, get_or, refl, sym, ap, ◌∙◌, arith, subst, Bool, false, cond, ltb, eq-eqb, inl, inr, Option, Some, None}
+use Rattle.std.proofs.Common.{◌≡◌, ℕ, zero, suc, ◌+◌, ◌*◌, ◌/◌, ◌%◌, ◌<◌, ◌≤◌, List, [], ◌∷◌, ◌++◌, take, drop, length, get_or, refl, sym, ap, ◌∙◌, arith, subst, Bool, false, cond, ltb, eq-eqb, inl, inr, Option, Some, None}
 use Rattle.std.proofs.lemmas.Bool.{cases_lt, le-ltb}
 use Rattle.bitpack_sets.specs.declared.set_error.SetError.TheVariants.{BadBody, LooseBody, NotSorted}
 use Rattle.bitpack_sets.specs.declared.set_error.SetError.{SetError}
 use Rattle.std.specs.Option.{option_map, option_or}
 use Rattle.bitpack_sets.proofs.ArrayLaws.{no_fall, rises_from}
-use Rattle.bitpack_sets.proofs.FaultLaws.{if_some, map_none, none_map, none_or, not_below, or_none, some_not}
+use Rattle.bitpack_sets.proofs.FaultLaws.{map_none, none_map, none_or, not_below, or_none, some_not}
 use Rattle.bitpack_sets.proofs.BodyLaws.{body_blocks, body_numbers}
 use Rattle.bitpack_sets.proofs.LongLaws.{Below}
 use Rattle.bitpack_sets.proofs.CountLaws.{slice_back}
@@ -16,19 +16,13 @@ use Rattle.bitpack_sets.proofs.Words.{EachByte}
 use Rattle.bitpack_sets.specs.Faults.{body_fault}
 use Rattle.bitpack_sets.specs.Sets.{IsRising, blocks, body, le_bytes, numbers, slice}
 use Rattle.bitpack_sets.specs.Slices.{IsBlocks, IsSlice, block_numbers, are_blocks, first_fall, pairs_of, slice_len, slice_numbers}
+use Rattle.bitpack_groups.proofs.ForCallers.{passed}
 
 pub told : (count : ℕ) (bytes xs : List ℕ) → IsRising 0 256 xs → length xs ≡ count → slice xs ≡ bytes → IsSlice count bytes
 told count bytes xs rises size text =
     let back : slice_numbers count bytes ≡ xs =
     ap (λ (n : ℕ). slice_numbers n bytes) (sym size) ∙ ap (slice_numbers (length xs)) (sym text) ∙ slice_back xs rises in
     record { rising = subst (IsRising 0 256) (sym back) rises; count_is = ap length back ∙ size; text = ap slice back ∙ text }
-
--- bytes are a slice of a count of numbers exactly if they are that of some numbers
-pub slice_told : (count : ℕ) (bytes : List ℕ) → IsSlice count bytes ↔ ((xs : List ℕ) × IsRising 0 256 xs × (length xs ≡ count) × (slice xs ≡ bytes))
-slice_told count bytes = (
-  λ is. (slice_numbers count bytes, is.rising, is.count_is, is.text),
-  λ (xs, rises, size, text). told count bytes xs rises size text,
-)
 
 -- what is tested as blocks is the blocks of as many numbers, which are read
 pub blocks_told : (count : ℕ) (body : List ℕ) → IsBlocks count body
@@ -95,7 +89,7 @@ body_none m before count bytes are size h =
     let xs : List ℕ = pairs_of bytes in
     let here : of_numbers m before count bytes ≡ None = sym (is_numbers m before count bytes size) ∙ h in
     let (falls, loose) = or_none _ _ here in
-    let (shorter, _) = if_some (ltb (length (blocks (pairs_of bytes))) (2 * count)) (LooseBody m) None loose in
+    let (shorter, _) = passed (ltb (length (blocks (pairs_of bytes))) (2 * count)) (LooseBody m) None loose in
     let (many, back) = pairs_back bytes count are size in
     let more = not_below (length (blocks xs)) (2 * count) shorter in (
       rises_from before 65536 xs (pairs_below bytes are) (map_none NotSorted (first_fall before (pairs_of bytes)) falls),

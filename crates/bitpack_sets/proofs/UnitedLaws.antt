@@ -1,5 +1,6 @@
 -- The ids of an array united with a set: what is done, what is left of the array, and what is left of the set.
 use Rattle.std.proofs.Common.{◌≡◌, ℕ, suc, ◌+◌, ◌-◌, ◌^◌, ◌<◌, ◌≤◌, Bool, true, false, ◌||◌, ◌&&◌, eqb, cond, List, [], ◌∷◌, ◌++◌, length, take, drop, get_or, refl, sym, ap, subst, ◌∙◌, arith, append-nil, append_assoc, eq-eqb, eqb-true}
+use Rattle.std.proofs.Math.Bool.{or-false}
 use Rattle.std.specs.List.{copy_within, filter, range_with_len}
 use Rattle.std.proofs.lemmas.List.{drop_all, drop_at, length-take-le}
 use Rattle.std.proofs.lemmas.Bool.{ne_eqb}
@@ -59,11 +60,11 @@ others_in y low high (x ∷ xs) ys (a, r) h =
     ap (λ (t : Bool). cond (t || has x ys) (x ∷ filter (λ z. has z (y ∷ ys)) xs) (filter (λ z. has z (y ∷ ys)) xs)) (ne_eqb y x (λ e. omega arith))
     ∙ ap (λ (zs : List ℕ). cond (has x ys) (x ∷ zs) zs) (others_in y (x + 1) high xs ys r (omega arith))
 
-rising_choice : (t : Bool) (low high x : ℕ) (xs : List ℕ) → low ≤ x → IsRising (x + 1) high xs → IsRising low high (cond t (x ∷ xs) xs)
+pub rising_choice : (t : Bool) (low high x : ℕ) (xs : List ℕ) → low ≤ x → IsRising (x + 1) high xs → IsRising low high (cond t (x ∷ xs) xs)
 rising_choice true low high x xs h r = (h, r)
 rising_choice false low high x xs h r = rising_lower (x + 1) low high xs (omega arith) r
 
-rising_filter : (test : ℕ → Bool) (low high : ℕ) (xs : List ℕ) → IsRising low high xs → IsRising low high (filter test xs)
+pub rising_filter : (test : ℕ → Bool) (low high : ℕ) (xs : List ℕ) → IsRising low high xs → IsRising low high (filter test xs)
 rising_filter test low high [] r = r
 rising_filter test low high (x ∷ xs) (a, r) = rising_choice (test x) low high x (filter test xs) a (rising_filter test (x + 1) high xs r)
 
@@ -229,14 +230,10 @@ none_has : (xs : List ℕ) → filter (λ x. has x []) xs ≡ []
 none_has [] = refl
 none_has (x ∷ xs) = none_has xs
 
-or_false : (t : Bool) → (t || false) ≡ t
-or_false true = refl
-or_false false = refl
-
 -- all is done, and what is left of the array is in its place
 pub united : (own set done rest : List ℕ) (written from : ℕ) → IsUniting own set done rest [] written from
     → (done ++ rest ≡ those (2 ^ 32) (λ x. has x own || has x set)) × (written ≡ from)
 united own set done rest written from so = (
-  sym (those_are (λ x. has x own || has x set) (2 ^ 32) (done ++ rest) so.rises (λ x h. sym (so.all x) ∙ or_false (has x (done ++ rest)))),
+  sym (those_are (λ x. has x own || has x set) (2 ^ 32) (done ++ rest) so.rises (λ x h. sym (so.all x) ∙ or-false (has x (done ++ rest)))),
   (let none : length (filter (λ x. has x []) rest) ≡ 0 = ap length (none_has rest) in let room = so.room in omega arith),
 )

@@ -1,12 +1,13 @@
 -- Increasing ids from a place on, place by place.
 use Rattle.std.proofs.Common.{◌≡◌, ℕ, zero, suc, ◌+◌, ◌-◌, ◌*◌, ◌/◌, ◌%◌, ◌^◌, ◌<◌, ◌≤◌, Bool, false, ◌||◌, List, [], ◌∷◌, map, drop, length, get_or, refl, ap, subst, ◌∙◌, arith}
+use Rattle.std.proofs.Math.Bool.{or-false}
 use Rattle.std.proofs.lemmas.Bool.{ne_eqb}
 use Rattle.std.proofs.lemmas.List.{drop_all, drop_more}
 use Rattle.bitpack_sets.proofs.JoinLaws.{join_rises}
 use Rattle.bitpack_sets.proofs.JoinReads.{has_other, has_same}
 use Rattle.bitpack_sets.proofs.OnesLaws.{rising_lower}
 use Rattle.bitpack_sets.proofs.PartLaws.{AreParts, join}
-use Rattle.bitpack_sets.proofs.ReadLaws.{has_append, has_below, lowest, or_false}
+use Rattle.bitpack_sets.proofs.ReadLaws.{has_append, has_below, lowest}
 use Rattle.bitpack_sets.proofs.SliceLaws.{rising_room}
 use Rattle.bitpack_sets.specs.Chunks.{first_key}
 use Rattle.bitpack_sets.specs.Reads.{has}
@@ -87,7 +88,7 @@ part_own low x part ps (a, some, r, later) e =
     let up = part_up low part ps (a, some, r, later) in
     has_append x (map (λ low. part.0 * 65536 + low) part.1) (join 65536 ps)
     ∙ ap (λ (b : Bool). has x (map (λ low. part.0 * 65536 + low) part.1) || b) (part_under (part.0 + 1) x ps later (omega arith))
-    ∙ or_false (has x (map (λ low. part.0 * 65536 + low) part.1)) ∙ has_same 65536 x part.0 0 part.1 r e
+    ∙ or-false (has x (map (λ low. part.0 * 65536 + low) part.1)) ∙ has_same 65536 x part.0 0 part.1 r e
 
 -- ---- places are passed
 
@@ -131,6 +132,3 @@ sought_right n ids w place key low left half s h less =
       reached = subst (λ (m : ℕ). key ≤ first_key (ids m)) all s.reached;
       same = λ x most. s.same x most ∙ walk_pass n ids w x key low half (low + half) refl (omega arith) less (omega arith) ∙ ap (λ (m : ℕ). has x (ids m)) next;
     }
-
-pub sought_left : (n : ℕ) (ids : ℕ → List ℕ) (place key low left half : ℕ) → IsSought n ids place key low left → half < left → key ≤ first_key (ids (low + half)) → IsSought n ids place key low half
-sought_left n ids place key low left half s h most = let within = s.within in record { within = omega arith; later = s.later; lower = s.lower; reached = most; same = s.same }

@@ -1,5 +1,5 @@
 -- What the lemmas of this crate speak of.
-use Rattle.std.proofs.Common.{◌≡◌, ℕ, ◌+◌, ◌*◌, ◌^◌, ◌<◌, ◌≤◌, List, [], ◌∷◌, ◌++◌, length}
+use Rattle.std.proofs.Common.{◌≡◌, ℕ, ◌*◌, ◌^◌, ◌<◌, ◌≤◌, List, [], ◌∷◌, ◌++◌, length}
 use Rattle.bitpack_sets.specs.Sets.{IsRising, array, body, le_bytes, long, parts, slice}
 use Rattle.bitpack_sets.specs.Varints.{number}
 

@@ -1,5 +1,5 @@
 -- The chunks of a set of any form. A position is the index of a chunk, or the index of an id in an array.
-use Rattle.std.specs.Prelude.{◌≡◌, ◌≢◌, ℕ, ◌+◌, ◌-◌, ◌*◌, ◌<◌, ◌≤◌, true, false, ◌/◌, ◌%◌, ◌==◌, if◌then◌else◌, List, [], ◌∷◌, map, length, take, drop}
+use Rattle.std.specs.Prelude.{◌≡◌, ◌≢◌, ℕ, ◌+◌, ◌-◌, ◌*◌, ◌<◌, ◌≤◌, false, ◌/◌, ◌%◌, ◌==◌, if◌then◌else◌, List, [], ◌∷◌, map, length, slice_index, take, drop}
 use Rattle.std.specs.List.{range_with_len}
 use Rattle.bitpack_sets.specs.Directory.{chunk_at, ids_of_chunks}
 use Rattle.bitpack_sets.specs.Reads.{has}
@@ -40,6 +40,7 @@ pub record AreBetween (set : Chunks) (key place end : ℕ) : Type 0 where
   pub later : place ≤ end
   pub within : end ≤ places set
   pub one : set.count ≢ 0 → end ≤ place + 1
+  pub shared : set.count ≡ 0 → (k : ℕ) → place ≤ k → k < end → slice_index (quads_of set.rest.now) k / 65536 ≡ key
   pub passed : (x : ℕ) → key * 65536 ≤ x → has x (ids_from set 0) ≡ has x (ids_from set place)
   pub own : (x : ℕ) → x / 65536 ≡ key → has x (ids_from set place) ≡ has (x % 65536) (lows_between set place end)
   pub none : (x : ℕ) → x / 65536 ≡ key → has x (ids_from set end) ≡ false

@@ -1,5 +1,5 @@
 -- What a set that was opened shows: its bytes and its ids; and where its parts begin.
-use Rattle.std.specs.Prelude.{◌≡◌, ℕ, ◌-◌, nat_lt, if◌then◌else◌, List, drop, slice_index, Option, None}
+use Rattle.std.specs.Prelude.{ℕ, List}
 use Rattle.bitpack_sets.specs.declared.id_set.IdSet.{IdSet}
 use Rattle.bitpack_sets.specs.Reads.{ids_in}
 

@@ -1,5 +1,5 @@
 -- Id sets: the one encoding of a set of ids. A set is the increasing list of its ids.
-use Rattle.std.specs.Prelude.{ℕ, zero, suc, ◌+◌, ◌-◌, ◌*◌, ◌/◌, ◌%◌, ◌^◌, ◌≤◌, ◌==◌, nat_lt, if◌then◌else◌, List, [], ◌∷◌, ◌++◌, map, length}
+use Rattle.std.specs.Prelude.{ℕ, ◌+◌, ◌-◌, ◌*◌, ◌/◌, ◌%◌, ◌^◌, ◌≤◌, ◌==◌, nat_lt, if◌then◌else◌, List, [], ◌∷◌, ◌++◌, map, length}
 use Rattle.std.specs.List.{concat, flat_map}
 pub use Rattle.bitpack_groups.specs.Packed.{least_width}
 unfoldable pub use Rattle.bitpack_groups.specs.Packed.{group, groups, le_bytes, packed, width_from}

@@ -1,5 +1,5 @@
 -- What the first bytes of an encoding state.
-use Rattle.std.specs.Prelude.{◌≡◌, ℕ, ◌-◌, Bool, false, nat_lt, if◌then◌else◌, List, drop, slice_index, None}
+use Rattle.std.specs.Prelude.{◌≡◌, ℕ, ◌-◌, false, nat_lt, if◌then◌else◌, List, drop, slice_index, None}
 use Rattle.bitpack_sets.specs.Faults.{fault}
 use Rattle.bitpack_sets.specs.Varints.{number_end, number_value}
 

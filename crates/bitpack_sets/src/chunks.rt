@@ -5,7 +5,7 @@ ghost use Rattle.std.proofs.Props.{props};
 ghost use Rattle.bitpacking.specs.Bits.{AreBytes};
 ghost use Rattle.bitpack_sets.specs.Props.{rising_prop};
 ghost use Rattle.bitpack_sets.specs.Sets.{IsRising};
-ghost use Rattle.bitpack_sets.specs.Slices.{IsBlocks, block_numbers, quads_of};
+ghost use Rattle.bitpack_sets.specs.Slices.{quads_of};
 ghost use Rattle.bitpack_sets.specs.Sound.{IsRest};
 
 use crate::array::{id_at, in_array};
@@ -99,7 +99,7 @@ impl<'a> Chunks<'a> {
         ensures later { place ≤ result }
         ensures lower { (p : ℕ) → place ≤ p → p < result → first_key (ids_from self.now p) < key }
         ensures reached { key ≤ first_key (ids_from self.now result) }
-        // It passes over ids of lower keys alone.
+        // It passes over only ids of lower keys.
         ensures ids { (x : ℕ) → key * 65536 ≤ x → has x (ids_from self.now place) ≡ has x (ids_from self.now result) }
     {
         let mut low = place;
@@ -207,24 +207,6 @@ impl<'a> Chunks<'a> {
             Body::Ids(Listed::numbers(key * 65536, body))
         } else {
             Body::Blocks(body)
-        }
-    }
-
-    /// The body of the ids between two positions, which share a key, if it is one of blocks.
-    pub(crate) fn blocks(&self, place: usize, end: usize) -> Option<&'a [u8]>
-        requires within { (place ≤ end) × (end ≤ places self.now) }
-        requires one { self.now.count ≢ 0 → end ≤ place + 1 }
-        ensures blocks { IfSome result (λ body. IsBlocks (length (block_numbers body.now)) body.now) }
-        ensures numbers { IfSome result (λ body. block_numbers body.now ≡ lows_between self.now place end) }
-    {
-        if place == end || self.count == 0 {
-            return None;
-        }
-        let body = body_of(self.ids, self.count, self.rest, place);
-        if self.is_numbers(place, body) {
-            None
-        } else {
-            Some(body)
         }
     }
 

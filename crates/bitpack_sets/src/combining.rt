@@ -27,6 +27,7 @@ pub fn combine(
     ensures memory { IfErr result (λ e. e ≡ SetError.Memory) }
     ensures room { OnErr result (vec_capacity out.old < vec_len out.old + length (answer operation (ids a.now) (ids b.now))) }
     ensures unchanged { OnErr result (out.new.items ≡ out.old.items) }
+    ensures kept { OnErr result (vec_capacity out.new ≡ vec_capacity out.old) }
 {
     let count = combine_count(operation, a, b);
     append_combined(operation, a, b, count, out)
@@ -45,6 +46,7 @@ pub(crate) fn append_combined(
     ensures memory { IfErr result (λ e. e ≡ SetError.Memory) }
     ensures room { OnErr result (vec_capacity out.old < vec_len out.old + length (answer operation (ids a.now) (ids b.now))) }
     ensures unchanged { OnErr result (out.new.items ≡ out.old.items) }
+    ensures kept { OnErr result (vec_capacity out.new ≡ vec_capacity out.old) }
 {
     let from = out.len();
     if out.reserve(count).is_err() {
@@ -138,7 +140,8 @@ fn write_chunks(mut pair: Pair, out: &mut [u32]) -> usize
     at
 }
 
-/// Writes the ids of a key that are in the answer, if there is room for all. Returns where they end, which is past the end if not.
+/// Writes the ids of a key that are in the answer, if there is room for all. Returns the index after the last, past the
+/// slice if there is no room.
 fn write_meeting(pair: &Pair, meeting: Meeting, out: &mut [u32], at: usize) -> usize
     requires meeting { IsMeeting pair.now meeting }
     requires start { at ≤ 2 ^ 32 }

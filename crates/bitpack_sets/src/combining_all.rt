@@ -17,10 +17,10 @@ use crate::set_error::SetError;
 /// The most ids that are written to be counted.
 const MOST_WRITTEN: usize = 4096;
 
-/// Writes the ids of the first set, combined with each other set in turn, at the start of the slice, and returns their number. No set
-/// gives no id. Allocates nothing.
+/// Writes the ids of the first set, combined with each other set in turn, at the start of the slice, and returns their number. If
+/// there is no set, it writes no id. Allocates nothing.
 ///
-/// Fails only with `Short`, if the slice has no room for them; what it holds then says nothing.
+/// Fails only with `Short`, if the slice has no room for them; what it holds then says nothing. Items after the ids may change.
 pub fn combine_all_to<S: AsSet>(
     operation: Operation,
     sets: &[S],
@@ -43,21 +43,21 @@ pub fn combine_all_to<S: AsSet>(
     }
 }
 
-/// How many ids the first set gives, combined with each other set in turn. Allocates nothing.
-pub fn combine_all_count<S: AsSet>(operation: Operation, sets: &[S]) -> usize
+/// How many ids the first set gives, combined with each other set in turn: 2 to the power of 32 at most. Allocates nothing.
+pub fn combine_all_count<S: AsSet>(operation: Operation, sets: &[S]) -> u64
     ensures { result ≡ length (answer_all operation (map S.its_ids sets.now)) }
 {
     if sets.is_empty() {
         return 0;
     }
     if sets.len() == 2 {
-        return combine_count(operation, &sets[0].as_set(), &sets[1].as_set());
+        return combine_count(operation, &sets[0].as_set(), &sets[1].as_set()) as u64;
     }
     if operation.keeps_right() {
         return fold_count(operation, sets);
     }
     match count_ids(operation, sets) {
-        Some(count) => count,
+        Some(count) => count as u64,
         None => fold_count(operation, sets),
     }
 }
@@ -101,7 +101,7 @@ fn is_sparse(set: &IdSet, room: usize) -> bool {
     parts.count <= room && parts.count / 1024 <= parts.chunks
 }
 
-/// The indexes of the two shortest sets, or 0 twice if there is one set alone.
+/// The indexes of the two shortest sets, or 0 twice if there is only one set.
 fn shortest<S: AsSet>(sets: &[S]) -> (usize, usize)
     requires { 0 < length sets.now }
     ensures within { (result.0 < length sets.now) × (result.1 < length sets.now) }
@@ -219,7 +219,7 @@ fn unpack_keys(
 
 /// How many ids the answer has, some keys at a time.
 #[inline(never)]
-fn fold_count<S: AsSet>(operation: Operation, sets: &[S]) -> usize
+fn fold_count<S: AsSet>(operation: Operation, sets: &[S]) -> u64
     requires some { 0 < length sets.now }
     ensures { result ≡ length (answer_all operation (map S.its_ids sets.now)) }
 {
@@ -237,7 +237,7 @@ fn fold_count<S: AsSet>(operation: Operation, sets: &[S]) -> usize
 }
 
 /// How many ids several keys have.
-fn count_keys(highs: &[[u64; 4]; KEYS], words: &[[u64; 1024]; KEYS]) -> usize
+fn count_keys(highs: &[[u64; 4]; KEYS], words: &[[u64; 1024]; KEYS]) -> u64
     ensures { result ≡ length (those 524288 (found highs.now words.now)) }
 {
     let mut list = [0; 256];
@@ -246,5 +246,5 @@ fn count_keys(highs: &[[u64; 4]; KEYS], words: &[[u64; 1024]; KEYS]) -> usize
         let many = unpack_bits(&highs[k], 0, &mut list, 0);
         count += count_bitmap(&list[..many], &words[k]);
     }
-    count
+    count as u64
 }

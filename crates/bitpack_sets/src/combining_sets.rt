@@ -16,7 +16,7 @@ use std::alloc::Global;
 
 /// Appends the encoding of the set that an operation on two sets gives.
 ///
-/// The answer has at most 268,435,456 ids: with more it fails with `TooLong`, and counts them alone. It fails with `Memory` if the vector
+/// The answer has at most 268,435,456 ids: with more it fails with `TooLong`, and only counts them. It fails with `Memory` if the vector
 /// cannot grow, or if there is no memory for the ids of the answer, 4 bytes for each, which it needs until they are encoded.
 pub fn combine_set(
     alloc: Global,

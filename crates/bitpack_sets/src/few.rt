@@ -195,7 +195,7 @@ fn test_groups<'a>(bytes: &'a [u8], codes: &mut [u32]) -> Result<&'a [u8], SetEr
     Ok(rest)
 }
 
-/// The first position whose id is above `u32::MAX`, of an id and others that are as far above the one before as their codes say.
+/// The first position of an id above `u32::MAX`. Each id after the first is its code and 1 above the one before.
 fn first_over(first: u32, codes: &[u32]) -> Option<usize>
     ensures { result ≡ Rattle.bitpack_sets.specs.Faults.first_over 0 (ids_from first codes.now) }
 {

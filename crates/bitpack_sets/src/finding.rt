@@ -4,13 +4,11 @@ ghost use Rattle.std.specs.Prelude.{◌≡◌, ℕ, ◌/◌, ◌<◌, length};
 ghost use Rattle.std.specs.List.{range_with_len};
 ghost use Rattle.bitpack_sets.specs.Chunks.{AreBetween, Knows, ids_from};
 ghost use Rattle.bitpack_sets.specs.Reads.{has};
-ghost use Rattle.bitpack_sets.specs.Selections.{parts_numbers};
 
 use crate::bitmap::marking::test_bit;
 use crate::blocks::Blocks;
 use crate::chunks::Chunks;
-use crate::slice::byte_len;
-use crate::slice::search::in_slice;
+use crate::listed::filtering::is_among;
 
 /// The ids of a key.
 #[derive(Clone, Copy)]
@@ -33,25 +31,10 @@ impl<'a> Own<'a> {
         let low = (id % 65536) as usize;
         match self {
             Own::Between(place, end) => set.has_between(place, end, id),
-            Own::Blocks(blocks) => in_one(blocks, low),
+            Own::Blocks(blocks) => is_among(&blocks, low),
             Own::Bits(words) => test_bit(words, low),
         }
     }
-}
-
-/// Whether a number is in the slice of its high byte.
-#[inline(always)]
-fn in_one(blocks: Blocks, low: usize) -> bool
-    requires { low < 65536 }
-    ensures { result ≡ has low (parts_numbers blocks.entry) }
-{
-    let slice = blocks.slice(low / 256);
-    let end = slice.start + byte_len(slice.count);
-    in_slice(
-        slice.count,
-        &slice.slices[slice.start..end],
-        (low % 256) as u8,
-    )
 }
 
 /// Between which positions the ids of a key are.

@@ -180,16 +180,11 @@ fn add_chunk(
     let own = set.highs(place, end);
     if operation.keeps_right() {
         let mut fresh = [0; 256];
-        let count = unpack_bits(
-            &combine_highs(Operation::AndNot, &own, highs),
-            0,
-            &mut fresh,
-            0,
-        );
+        let count = unpack_bits(&Operation::AndNot.words(own, *highs), 0, &mut fresh, 0);
         clear_highs(&fresh[..count], words, others);
         combine_words(operation, set, place, end, &own, words, others);
     } else {
-        let shared = combine_highs(Operation::And, highs, &own);
+        let shared = Operation::And.words(*highs, own);
         combine_words(operation, set, place, end, &shared, words, others);
     }
     *highs = next_highs(operation, highs, &own);
@@ -222,7 +217,7 @@ fn combine_words(
     combine(operation, highs, words, others);
 }
 
-/// Clears the bits of these high bytes alone.
+/// Clears only the bits of these high bytes.
 #[inline(always)]
 fn clear_highs(highs: &[u32], words: &mut [u64; 1024], others: &mut [u64; 1024])
     requires { IsRising 0 256 highs.now }
@@ -239,21 +234,8 @@ fn next_highs(operation: Operation, a: &[u64; 4], b: &[u64; 4]) -> [u64; 4]
     ensures { (h : ℕ) → h < 256 → has_bit result h ≡ high_of operation (has_bit a.now h) (has_bit b.now h) }
 {
     match operation {
-        Operation::And => combine_highs(Operation::And, a, b),
+        Operation::And => Operation::And.words(*a, *b),
         Operation::AndNot => *a,
-        _ => combine_highs(Operation::Or, a, b),
+        _ => Operation::Or.words(*a, *b),
     }
-}
-
-/// Combines bits.
-#[inline(always)]
-fn combine_highs(operation: Operation, a: &[u64; 4], b: &[u64; 4]) -> [u64; 4]
-    ensures { (h : ℕ) → h < 256 → has_bit result h ≡ holds operation (has_bit a.now h) (has_bit b.now h) }
-{
-    [
-        operation.word(a[0], b[0]),
-        operation.word(a[1], b[1]),
-        operation.word(a[2], b[2]),
-        operation.word(a[3], b[3]),
-    ]
 }

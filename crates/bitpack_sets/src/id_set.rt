@@ -17,10 +17,10 @@ use crate::reserved::append_zeros;
 use crate::searching::{in_chunks, rank_in_chunks, select_in_chunks};
 use crate::set_error::SetError;
 
-/// How many bytes the ids of a set of few take as an array, at most.
+/// The most bytes that the ids of a set of few take as an array.
 pub(crate) const ROOM: usize = 4 * MOST_FEW;
 
-/// A set of ids whose bytes were tested when it was opened, so that reading it tests nothing again and cannot fail.
+/// A set of ids. Its bytes were tested when it was opened: reading it tests nothing again and cannot fail.
 #[derive(Clone, Copy)]
 pub struct IdSet<'a> {
     bytes: &'a [u8],
@@ -72,7 +72,7 @@ impl<'a> IdSet<'a> {
         IdSet::from_parts(bytes, read_parts(bytes))
     }
 
-    /// The set of these bytes, whose parts were taken from it when they were opened. Reads none of the bytes.
+    /// The set of these bytes, by the parts that [`parts`](IdSet::parts) returned of it. Reads none of the bytes.
     pub fn from_parts(bytes: &'a [u8], parts: Parts<'a>) -> IdSet<'a>
         requires { States bytes.now parts.count parts.chunks parts.rest.now }
         ensures bytes { text_of result ≡ bytes.now }
@@ -215,6 +215,7 @@ impl<'a> IdSet<'a> {
         ensures memory { IfErr result (λ e. e ≡ SetError.Memory) }
         ensures room { OnErr result (vec_capacity out.old < vec_len out.old + length (ids self.now)) }
         ensures unchanged { OnErr result (out.new.items ≡ out.old.items) }
+        ensures kept { OnErr result (vec_capacity out.new ≡ vec_capacity out.old) }
     {
         let from = out.len();
         let count = self.len();
@@ -258,7 +259,7 @@ impl<'a> IdSet<'a> {
         }
     }
 
-    /// The chunks of the set, whose room was filled before.
+    /// The chunks of the set. Its room was filled before.
     pub(crate) fn filled_chunks<'b>(&'b self, room: &'b [u8; ROOM]) -> Chunks<'b>
         requires { HoldsFew self.now room.now }
         ensures { ids_from result 0 ≡ ids self.now }

@@ -11,6 +11,7 @@ ghost use Rattle.bitpack_sets.specs.Sets.{IsRising};
 ghost use Rattle.bitpack_sets.specs.Slices.{first_fall};
 
 use crate::blocks::Blocks;
+use crate::body::Body;
 use crate::chunks::Chunks;
 use crate::encoding::order::first_unsorted;
 use crate::finding::{Own, load, many_from, span};
@@ -137,7 +138,7 @@ fn count_run(values: &[u32], index: usize, count: usize, set: &Chunks, own: Own)
     (count, values.len())
 }
 
-/// Unites the first `count` ids with a set. There is room for the union alone.
+/// Unites the first `count` ids with a set. There is room for exactly the union.
 fn unite_first(values: &mut [u32], count: usize, set: &IdSet)
     requires increasing { IsRising 0 (2 ^ 32) (take count values.old) }
     requires room { length values.old ≡ length (those (2 ^ 32) (λ x. has x (take count values.old) || has x (ids set.now))) }
@@ -234,7 +235,7 @@ fn keep_many(
     keep_run(values, index, kept, set, own, there)
 }
 
-/// Moves them as they are found in the body of the key, whose slices are found before if many are looked up.
+/// Moves them, and looks each up in the body of the key. If these are many, it finds the slices of the body before.
 fn keep_few(
     values: &mut [u32],
     index: usize,
@@ -246,9 +247,10 @@ fn keep_few(
     requires behind { kept ≤ index }
     ensures { Moves there (ids_from set.now 0) values.old values.new kept index result.0 result.1 }
 {
-    let (place, end) = span(set, values[index] >> 16);
+    let key = values[index] >> 16;
+    let (place, end) = span(set, key);
     if many_from(values, index, MANY)
-        && let Some(body) = set.blocks(place, end)
+        && let Body::Blocks(body) = set.body(key, place, end)
     {
         let mut starts = [0; 257];
         let own = Own::Blocks(Blocks::new(body, &mut starts));

@@ -96,7 +96,7 @@ impl<'a> Listed<'a> {
     }
 }
 
-/// Writes an id if it is in the answer. Returns where the next one comes, which is past the end if there is no room.
+/// Writes an id if it is in the answer. Returns the index of the next one, past the slice if there was no room.
 ///
 /// Without a branch that depends on the ids: an id that is not in the answer is written too, and the next one over it.
 #[inline(always)]

@@ -11,7 +11,7 @@ pub enum Operation {
     And,
     /// Those in one or both.
     Or,
-    /// Those in the first alone.
+    /// Those only in the first.
     AndNot,
     /// Those in one of the two, and not in both.
     Xor,
@@ -46,7 +46,7 @@ impl Operation {
         ]
     }
 
-    /// Whether the answer has ids that are in the first set alone.
+    /// Whether the answer has ids that only the first set has.
     #[inline(always)]
     pub(crate) fn keeps_left(self) -> bool
         ensures { result ≡ holds self true false }
@@ -57,7 +57,7 @@ impl Operation {
         }
     }
 
-    /// Whether the answer has ids that are in the second set alone.
+    /// Whether the answer has ids that only the second set has.
     #[inline(always)]
     pub(crate) fn keeps_right(self) -> bool
         ensures { result ≡ holds self false true }
@@ -88,7 +88,7 @@ impl Operation {
         ensures both { (h : ℕ) → h < 256 → has_bit result h ≡ false → holds self (has_bit a.now h) (has_bit b.now h) ≡ false }
         ensures left { (h : ℕ) → h < 256 → has_bit result h ≡ false → holds self (has_bit a.now h) false ≡ false }
         ensures right { (h : ℕ) → h < 256 → has_bit result h ≡ false → holds self false (has_bit b.now h) ≡ false }
-        // If it has no ids of the second alone, the first has the high bytes, and likewise the second.
+        // If the answer has no ids that only the second has, the first has all these high bytes. Likewise for the second.
         ensures in_left { holds self false true ≡ false → (h : ℕ) → h < 256 → has_bit result h ≡ true → has_bit a.now h ≡ true }
         ensures in_right { holds self true false ≡ false → (h : ℕ) → h < 256 → has_bit result h ≡ true → has_bit b.now h ≡ true }
     {

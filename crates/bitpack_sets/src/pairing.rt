@@ -68,7 +68,7 @@ impl<'a> Pair<'a> {
         Some(Meeting { key, a, b })
     }
 
-    // Passes over chunks of one set alone, if their ids are not in the answer.
+    // Passes over chunks that only one set has, if their ids are not in the answer.
     fn skip(&mut self)
         ensures left { (x : ℕ) → left self.old x ≡ left self.new x }
         ensures fewer { places_left self.new ≤ places_left self.old }

@@ -1,4 +1,4 @@
-//! Queries: trees of operations on sets, whose ids come part by part.
+//! Queries: trees of operations on sets. Their ids come part by part.
 
 ghost use Rattle.std.specs.Prelude.{◌≡◌, ◌^◌, ◌≤◌, None, length};
 ghost use Rattle.bitpack_sets.specs.Queries.{IsLoaded, fault_from};

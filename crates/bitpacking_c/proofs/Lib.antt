@@ -2,6 +2,7 @@ pub mod ArraySteps
 pub mod BlockSteps
 pub mod ChainLengths
 pub mod ChunkSteps
+pub mod ColumnSteps
 pub mod CountSteps
 pub mod CursorPlaces
 pub mod GatherSteps

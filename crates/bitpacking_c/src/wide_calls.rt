@@ -12,7 +12,7 @@ use bitpack_lists::list2::{PackedList, Reads};
 use bitpacking::{BitPacker, BitPacker1x, BitPacker4x, BitPacker8x, MAX_BLOCK_LEN};
 
 /// The greatest base: no value passes 64 bits with it.
-const MOST_BASE: u64 = 18_446_744_069_414_584_320;
+pub(crate) const MOST_BASE: u64 = 18_446_744_069_414_584_320;
 
 /// Writes the sum of a base and the value at a position and returns 1. From the length on it returns 0 and writes nothing. If the base is
 /// above 2^64 - 2^32 it returns -7 and writes nothing. At most one block is unpacked.
@@ -93,7 +93,7 @@ fn copy_sums<P: BitPacker>(list: &PackedList<'_, P>, base: u64, out: &mut [u64])
 }
 
 /// Writes the sums of a base and some values to a slice, from an index on.
-fn add_base(base: u64, values: &[u32], at: usize, out: &mut [u64])
+pub(crate) fn add_base(base: u64, values: &[u32], at: usize, out: &mut [u64])
     requires base { base ≤ most_base }
     requires room { at + length values.now ≤ length out.old }
     ensures sums { (k : ℕ) → k < length values.now → slice_index out.new (at + k) ≡ base + slice_index values.now k }

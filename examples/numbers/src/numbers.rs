@@ -1,92 +1,96 @@
-//! Reads files, and numbers as text or as bytes.
+//! Numbers as text and as bytes.
 
 use std::ffi::OsStr;
-use std::fmt::Display;
-use std::fs::File;
-use std::io::{self, Read};
-use std::os::fd::AsFd;
 
-use crate::progress::Progress;
 use crate::Result;
+use crate::files::{Output, PIECE, read};
+use crate::progress::Progress;
 
-/// A message about a file.
-pub fn about(file: &OsStr, what: impl Display) -> String {
-    let name = if file == "-" { "standard input".into() } else { file.to_string_lossy() };
-    format!("{name}: {what}")
+/// The numbers of a set or a column are at most this many.
+const MOST: usize = 1 << 28;
+/// The longest number as text, with its line end, in bytes.
+const LINE: usize = 11;
+
+/// The number that decimal digits say.
+pub fn parsed(digits: &[u8]) -> Result<u32> {
+    let add = |number: u32, digit: &u8| match digit {
+        b'0'..=b'9' => number.checked_mul(10)?.checked_add(u32::from(digit - b'0')),
+        _ => None,
+    };
+    digits.iter().try_fold(0, add).filter(|_| (1..PIECE).contains(&digits.len())).ok_or_else(|| {
+        let (shown, more) = if digits.len() > 20 { (&digits[..20], "..") } else { (digits, "") };
+        format!("'{}{more}' is not a number from 0 to {}", shown.escape_ascii(), u32::MAX)
+    })
 }
 
-/// Reads a file, or standard input, piece by piece.
-fn each_piece(file: &OsStr, mut take: impl FnMut(&[u8]) -> Result<()>) -> Result<()> {
-    let opened = if file == "-" { io::stdin().as_fd().try_clone_to_owned().map(File::from) } else { File::open(file) };
-    let mut opened = opened.map_err(|error| about(file, error))?;
-    let total = opened.metadata().ok().filter(|it| it.is_file()).map(|it| it.len());
-    let (mut progress, mut done, mut buffer) = (Progress::new(total), 0, vec![0; 1 << 16]);
-    loop {
-        let count = opened.read(&mut buffer).map_err(|error| about(file, error))?;
-        if count == 0 {
-            return Ok(());
+/// Adds the numbers of a piece of text that has `line` lines before it. Returns how many bytes they take: the next piece may have the rest of
+/// the last word, which is not read then.
+fn add_text(piece: &[u8], is_last: bool, line: &mut usize, values: &mut Vec<u32>) -> Result<usize> {
+    let lines = |text: &[u8]| text.iter().filter(|&&byte| byte == b'\n').count();
+    let spaced = piece.iter().rposition(u8::is_ascii_whitespace).map_or(0, |at| at + 1);
+    let (end, mut at) = (if is_last || spaced == 0 && piece.len() == PIECE { piece.len() } else { spaced }, 0);
+    for word in piece[..end].split(u8::is_ascii_whitespace) {
+        if !word.is_empty() {
+            values.push(parsed(word).map_err(|what| format!("line {}: {what}", *line + lines(&piece[..at]) + 1))?);
         }
-        take(&buffer[..count]).map_err(|what| about(file, what))?;
-        done += count as u64;
-        progress.show(done);
+        at += word.len() + 1;
     }
+    *line += lines(&piece[..end]);
+    Ok(end)
 }
 
-/// The bytes of a file.
-pub fn bytes_of(file: &OsStr) -> Result<Vec<u8>> {
-    let mut bytes = Vec::new();
-    each_piece(file, |piece| Ok(bytes.extend_from_slice(piece)))?;
-    Ok(bytes)
-}
-
-/// Numbers that are read, what was read of the next one, and how many digits or bytes of it.
-#[derive(Default)]
-struct Reader {
-    values: Vec<u32>,
-    next: u64,
-    read: usize,
-    line: usize,
-}
-
-impl Reader {
-    fn take(&mut self, byte: u8, binary: bool) -> Result<()> {
-        let ended = if binary {
-            self.next |= u64::from(byte) << (8 * self.read);
-            self.read += 1;
-            self.read == 4
-        } else if byte.is_ascii_digit() {
-            self.next = 10 * self.next + u64::from(byte - b'0');
-            self.read += 1;
-            false
-        } else if byte.is_ascii_whitespace() {
-            self.read > 0
-        } else {
-            return Err(format!("line {}: '{}' is no digit, space or line end", self.line + 1, byte.escape_ascii()));
-        };
-        if self.next > u32::MAX.into() {
-            return Err(format!("line {}: a number is above {}", self.line + 1, u32::MAX));
-        }
-        if ended {
-            if self.values.len() == 1 << 28 {
-                return Err("there are more than 268435456 numbers, which no list has".into());
-            }
-            self.values.push(self.next as u32);
-            (self.next, self.read) = (0, 0);
-        }
-        self.line += usize::from(byte == b'\n');
-        Ok(())
+/// Adds the numbers of a piece of bytes. Returns how many bytes they take.
+fn add_bytes(piece: &[u8], is_last: bool, _: &mut usize, values: &mut Vec<u32>) -> Result<usize> {
+    let words = piece.chunks_exact(4);
+    let left = words.remainder().len();
+    if is_last && left > 0 {
+        return Err(format!("the last number has {left} bytes of 4"));
     }
+    values.extend(words.map(|word| u32::from_le_bytes([word[0], word[1], word[2], word[3]])));
+    Ok(piece.len() - left)
 }
 
 /// The numbers of a file.
-pub fn numbers_of(file: &OsStr, binary: bool) -> Result<Vec<u32>> {
-    let mut reader = Reader::default();
-    each_piece(file, |piece| piece.iter().try_for_each(|&byte| reader.take(byte, binary)))?;
-    if binary && reader.read > 0 {
-        return Err(about(file, format!("the last number has {} bytes of 4", reader.read)));
+pub fn numbers_of(file: &OsStr, is_binary: bool) -> Result<Vec<u32>> {
+    let (mut values, mut line) = (Vec::new(), 0);
+    read(file, |piece, is_last| {
+        let add = if is_binary { add_bytes } else { add_text };
+        let taken = add(piece, is_last, &mut line, &mut values);
+        if values.len() > MOST { Err(format!("there are more than {MOST} numbers")) } else { taken }
+    })?;
+    Ok(values)
+}
+
+/// Writes numbers as lines of text at the end of a buffer, from the last number to the first. Returns the index of its first byte.
+fn write_text(values: &[u32], buffer: &mut [u8]) -> usize {
+    let mut at = buffer.len();
+    for &value in values.iter().rev() {
+        at -= 1;
+        buffer[at] = b'\n';
+        for rest in std::iter::successors(Some(value), |rest| (*rest > 9).then_some(rest / 10)) {
+            at -= 1;
+            buffer[at] = b'0' + (rest % 10) as u8;
+        }
     }
-    if !binary {
-        reader.take(b'\n', binary).map_err(|what| about(file, what))?;
+    at
+}
+
+/// Writes numbers as bytes at the end of a buffer. Returns the index of the first.
+fn write_bytes(values: &[u32], buffer: &mut [u8]) -> usize {
+    let start = buffer.len() - 4 * values.len();
+    buffer[start..].chunks_exact_mut(4).zip(values).for_each(|(bytes, value)| bytes.copy_from_slice(&value.to_le_bytes()));
+    start
+}
+
+/// Writes `len` numbers, as text or as bytes. `copy` copies them from a position on.
+pub fn write(mut output: Output, len: usize, is_binary: bool, mut copy: impl FnMut(usize, &mut [u32])) -> Result<()> {
+    let (mut progress, mut values, mut buffer) = (Progress::new(Some(len as u64)), vec![0; PIECE / 4], vec![0; LINE * PIECE / 4]);
+    for from in (0..len).step_by(PIECE / 4) {
+        let values = &mut values[..(PIECE / 4).min(len - from)];
+        copy(from, values);
+        let start = if is_binary { write_bytes(values, &mut buffer) } else { write_text(values, &mut buffer) };
+        output.write(&buffer[start..])?;
+        progress.show((from + values.len()) as u64);
     }
-    Ok(reader.values)
+    output.end(&[])
 }

@@ -1,40 +1,91 @@
-//! `translate CRATES OUT [CHANGELOG]` writes the crate of stable Rust into OUT, with the version of the first release in CHANGELOG.
+//! Translates the Rattle sources of the packers into modules of stable Rust, with the comments, and without what only the proofs read. What it has
+//! no rule for is refused, with its file and line.
+//!
+//! It is the build script of the crate `bitpacking`, and so has no other crate. `translate CRATES OUT` writes the modules into a folder.
+
+mod c_calls;
+mod checks;
+mod files;
+mod ghosts;
+mod items;
+mod layout;
+mod paths;
+mod rules;
+#[cfg(test)]
+mod tests;
+mod tokens;
+mod unchecked;
 
 use std::path::Path;
 use std::process::ExitCode;
-use std::{env, fs};
+use std::{env, fmt};
+
+use files::translate;
+use paths::Module;
+
+/// Why there is no translation: what is wrong, the file, and the line, counted from 1, or 0 for all of the file.
+#[derive(Debug, PartialEq, Eq)]
+struct Wrong {
+    file: String,
+    line: usize,
+    what: String,
+}
+
+impl Wrong {
+    fn at(line: usize, what: impl Into<String>) -> Wrong {
+        let (file, what) = (String::new(), what.into());
+        Wrong { file, line, what }
+    }
+}
+
+impl fmt::Display for Wrong {
+    fn fmt(&self, f: &mut fmt::Formatter<'_>) -> fmt::Result {
+        match self.line {
+            0 => write!(f, "{}: {}", self.file, self.what),
+            line => write!(f, "{}:{line}: {}", self.file, self.what),
+        }
+    }
+}
+
+impl std::error::Error for Wrong {}
+
+/// The Rust of a source of a crate, with or without tests of its indexes.
+fn in_rust(source: &str, module: Module, tests_indexes: bool) -> Result<String, Wrong> {
+    let tokens = tokens::tokens(source)?;
+    let tokens = ghosts::without_ghosts(&tokens)?;
+    checks::checked(&tokens)?;
+    let tokens = rules::in_rust(&tokens)?;
+    let tokens = if tests_indexes { tokens } else { unchecked::in_calls(&tokens)? };
+    let tokens = paths::in_one_crate(&tokens, module)?;
+    let tokens = if module.name == "c" { rules::applied(&tokens, &[&c_calls::calls])? } else { tokens };
+    let made = layout::text(&tokens);
+    items::compared(source, &made)?;
+    Ok(made)
+}
 
 fn main() -> ExitCode {
     let given: Vec<String> = env::args().skip(1).collect();
-    let (crates, out, changelog) = match given.as_slice() {
-        [crates, out] => (crates, out, None),
-        [crates, out, changelog] => (crates, out, Some(changelog)),
-        _ => return failed("translate CRATES OUT [CHANGELOG]"),
+    let made = match (given.as_slice(), env::var("CARGO_MANIFEST_DIR"), env::var("OUT_DIR")) {
+        ([crates, out], _, _) => translate(Path::new(crates), Path::new(out)),
+        ([], Ok(package), Ok(out)) => {
+            let crates = Path::new(&package).join("crates");
+            println!("cargo::rerun-if-changed={}", crates.display());
+            println!("cargo::rerun-if-changed={}", Path::new(&package).join("rust/translate/src").display());
+            translate(&crates, Path::new(&out))
+        }
+        _ => {
+            eprintln!("translate CRATES OUT");
+            return ExitCode::FAILURE;
+        }
     };
-    let version = match changelog.map(fs::read_to_string) {
-        None => Some("0.0.0".to_string()),
-        Some(read) => read.ok().and_then(|it| version(&it)),
-    };
-    let Some(version) = version else {
-        return failed(&format!("no version in {}", changelog.map_or("", |it| it)));
-    };
-    match translate::translate(Path::new(crates), Path::new(out), &version) {
+    match made {
         Ok(files) => {
             println!("{files} files");
             ExitCode::SUCCESS
         }
-        Err(wrong) => failed(&wrong.to_string()),
+        Err(wrong) => {
+            eprintln!("{wrong}");
+            ExitCode::FAILURE
+        }
     }
-}
-
-fn failed(why: &str) -> ExitCode {
-    eprintln!("{why}");
-    ExitCode::FAILURE
-}
-
-/// The version of the first release in a change log.
-fn version(changelog: &str) -> Option<String> {
-    let heads = changelog.lines().filter_map(|it| it.strip_prefix("## ")?.split(' ').next());
-    let is_version = |it: &&str| it.split('.').count() == 3 && it.split('.').all(|part| part.parse::<u32>().is_ok());
-    heads.filter(is_version).map(str::to_string).next()
 }

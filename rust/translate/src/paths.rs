@@ -8,14 +8,26 @@ use crate::tokens::{Kind, Token, last_code, phrase};
 
 /// The crates, the lowest first, with their modules.
 pub const CRATES: [Module; 8] = [
-    Module { of: "bitpacking_register", name: "register", path: "crate::register", within: "pub(in crate::register)" },
-    Module { of: "bitpacking", name: "bitpacking", path: "crate::bitpacking", within: "pub(in crate::bitpacking)" },
-    Module { of: "bitpack_groups", name: "groups", path: "crate::groups", within: "pub(in crate::groups)" },
-    Module { of: "bitpack_sets", name: "sets", path: "crate::sets", within: "pub(in crate::sets)" },
-    Module { of: "bitpack_columns", name: "columns", path: "crate::columns", within: "pub(in crate::columns)" },
-    Module { of: "bitpack_lists", name: "lists", path: "crate::lists", within: "pub(in crate::lists)" },
-    Module { of: "bitpack_sorted", name: "sorted", path: "crate::sorted", within: "pub(in crate::sorted)" },
-    Module { of: "bitpacking_c", name: "c", path: "crate::c", within: "pub(in crate::c)" },
+    Module {
+        of: "bitpacking_register",
+        name: "register",
+        path: "crate::register",
+        within: "pub(in crate::register)",
+        is_for_c: false,
+    },
+    Module {
+        of: "bitpacking",
+        name: "bitpacking",
+        path: "crate::bitpacking",
+        within: "pub(in crate::bitpacking)",
+        is_for_c: false,
+    },
+    Module { of: "bitpack_groups", name: "groups", path: "crate::groups", within: "pub(in crate::groups)", is_for_c: false },
+    Module { of: "bitpack_sets", name: "sets", path: "crate::sets", within: "pub(in crate::sets)", is_for_c: false },
+    Module { of: "bitpack_columns", name: "columns", path: "crate::columns", within: "pub(in crate::columns)", is_for_c: false },
+    Module { of: "bitpack_lists", name: "lists", path: "crate::lists", within: "pub(in crate::lists)", is_for_c: false },
+    Module { of: "bitpack_sorted", name: "sorted", path: "crate::sorted", within: "pub(in crate::sorted)", is_for_c: true },
+    Module { of: "bitpacking_c", name: "c", path: "crate::c", within: "pub(in crate::c)", is_for_c: true },
 ];
 /// A crate, and what it is in the one crate.
 #[derive(Clone, Copy)]
@@ -24,6 +36,8 @@ pub struct Module {
     pub name: &'static str,
     path: &'static str,
     within: &'static str,
+    /// Whether only the functions for C call it.
+    pub is_for_c: bool,
 }
 
 /// The tokens of a file of a crate with the paths of the one crate.

@@ -25,16 +25,29 @@ const PHRASES: [(&str, &str); 11] = [
 ];
 /// Calls of a vector that say whether there is memory.
 const GROWING: [&str; 4] = ["push", "extend_from_slice", "reserve", "resize"];
+/// Enums of errors, to which a later version may add one.
+const ERRORS: [&str; 3] = ["SetError", "ColumnError", "QueryError"];
 /// Words that only the phrases above may have.
 const LEFT: [&str; 6] = ["Drop", "Global", "Model", "alloc", "prove", "std"];
 
 /// The tokens with each rule applied.
 pub fn in_rust<'a>(tokens: &[Token<'a>]) -> Result<Vec<Token<'a>>, Wrong> {
-    let tokens = applied(tokens, &[&drops, &models, &allocators, &phrases, &clones])?;
+    let tokens = applied(tokens, &[&drops, &models, &errors, &allocators, &phrases, &clones])?;
     let tokens = applied(&tokens, &[&growing, &pushes, &slices, &shifts, &shuffles])?;
     match tokens.iter().find(|it| it.kind == Kind::Word && LEFT.contains(&it.text)) {
         Some(left) => Err(left.wrong(format!("no rule for '{}' here", left.text))),
-        None => Ok(tokens),
+        None => tokens.into_iter().map(example).collect(),
+    }
+}
+
+/// An example in a comment is one of Rattle, which is not to be run as a test.
+fn example(token: Token) -> Result<Token, Wrong> {
+    let opened = token.kind == Kind::Comment && token.text.contains("```rust");
+    match token.text {
+        _ if !opened => Ok(token),
+        "/// ```rust" => Ok(Token { text: "/// ```text", ..token }),
+        "//! ```rust" => Ok(Token { text: "//! ```text", ..token }),
+        _ => Err(token.wrong("no rule for an example here")),
     }
 }
 
@@ -92,6 +105,16 @@ fn models<'a>(tokens: &[Token<'a>], at: usize) -> Change<'a> {
         Some(end) => Ok(Some((vec![], end))),
         None => Err(tokens[at].wrong("no rule for a model with more than ghosts")),
     }
+}
+
+/// An enum of errors that users cannot match without an arm for others.
+fn errors<'a>(tokens: &[Token<'a>], at: usize) -> Change<'a> {
+    let named = phrase(tokens, at, "pub enum $").filter(|end| ERRORS.contains(&tokens[end - 1].text));
+    Ok(named.map(|end| {
+        let mut made = vec![Token::made("#[non_exhaustive]\n", tokens[at].line)];
+        made.extend(&tokens[at..end]);
+        (made, end)
+    }))
 }
 
 /// A parameter for the allocator, of which Rust has one.
@@ -161,7 +184,9 @@ fn shifts<'a>(tokens: &[Token<'a>], at: usize) -> Change<'a> {
     if !tokens[at].is("<") && !tokens[at].is(">") {
         return Ok(None);
     }
-    for (vector, shift) in [("< < u32x4", "<< "), ("> > u32x4", ">> "), ("< < u32x8", "<< "), ("> > u32x8", ">> "), ("> > u8x16", ">> ")] {
+    for (vector, shift) in
+        [("< < u32x4", "<< "), ("> > u32x4", ">> "), ("< < u32x8", "<< "), ("> > u32x8", ">> "), ("> > u8x16", ">> ")]
+    {
         let Some(name) = phrase(tokens, at, &format!("{vector} : : splat (")) else {
             continue;
         };

@@ -7,6 +7,7 @@ mod ghosts;
 mod items;
 mod refusals;
 mod rules;
+mod unchecked;
 
 use crate::paths::{CRATES, Module};
 use crate::{Wrong, in_rust};
@@ -17,11 +18,11 @@ fn module(name: &str) -> Module {
 
 /// The Rust of a source of `bitpack_lists`.
 fn rust(source: &str) -> String {
-    in_rust(source, module("lists")).unwrap_or_else(|it| panic!("{it}: {source}"))
+    in_rust(source, module("lists"), true).unwrap_or_else(|it| panic!("{it}: {source}"))
 }
 
 fn refusal(source: &str) -> Wrong {
-    in_rust(source, module("lists")).expect_err(source)
+    in_rust(source, module("lists"), true).expect_err(source)
 }
 
 /// Tests that a source is refused at a line, for a reason that has these words.

@@ -3,7 +3,6 @@
 #include "store.hpp"
 #include "ranked.hpp"
 
-#include <deque>
 #include <fcntl.h>
 #include <sys/mman.h>
 #include <sys/stat.h>
@@ -162,7 +161,7 @@ class RankedSession : public Session {
         out = ranker_.out;
         return ranker_.rank_terms(these_, sets ? &documents : nullptr, false);
     }
-    std::pair<size_t, size_t> blocks() const override { return {ranker_.unpacked, ranker_.blocks}; }
+    std::pair<size_t, size_t> counts() const override { return {ranker_.counts_read, ranker_.counts}; }
 
   private:
     Ranker ranker_;
@@ -204,12 +203,15 @@ class Arrays : public Engine {
             return;
         size_t start = words_.list_start(place), len = words_.list_len(place) / 4;
         const uint32_t *counts = reinterpret_cast<const uint32_t *>(counts_ + start);
-        std::vector<uint32_t> &greatest = greatest_.emplace_back();
-        for (size_t i = 0; i + BLOCK <= len; i += BLOCK)
-            greatest.push_back(*std::max_element(counts + i, counts + i + BLOCK));
-        bitpacking_list documents = {reinterpret_cast<const uint32_t *>(lists_ + start), nullptr, len};
-        bitpacking_list its = {counts, greatest.data(), len};
-        terms_.emplace(place, term_of(classes_.get(), &documents, &its));
+        const uint32_t *ids = reinterpret_cast<const uint32_t *>(lists_ + start);
+        std::vector<uint32_t> blocks(len / BLOCK * 2);
+        for (size_t i = 0; i < len / BLOCK; i++) {
+            blocks[i] = ids[BLOCK * (i + 1) - 1];
+            blocks[len / BLOCK + i] = *std::max_element(counts + BLOCK * i, counts + BLOCK * (i + 1));
+        }
+        bitpacking_set documents = {ids, len};
+        bitpacking_column its = {counts, len}, of_blocks = {blocks.data(), blocks.size()};
+        terms_.emplace(place, term_of(classes_.get(), &documents, &its, &of_blocks));
     }
 
   private:
@@ -226,7 +228,6 @@ class Arrays : public Engine {
     const char *lists_, *counts_;
     Classes classes_;
     std::unordered_map<size_t, term> terms_;
-    std::deque<std::vector<uint32_t>> greatest_; // of the blocks of counts of each term
 };
 
 } // namespace

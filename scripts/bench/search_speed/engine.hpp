@@ -54,8 +54,8 @@ class Session {
     // The number of documents that answer. Their numbers are at `out`, in order, or that is null in a mode that only counts.
     virtual size_t answer(const Query &query) = 0;
     const uint32_t *out = nullptr;
-    // Of a session that ranks: how many blocks it unpacked at most, and how many the lists have.
-    virtual std::pair<size_t, size_t> blocks() const { return {0, 0}; }
+    // Of a session that ranks: how many counts of words it read, and how many its words have.
+    virtual std::pair<size_t, size_t> counts() const { return {0, 0}; }
 };
 
 class Engine {

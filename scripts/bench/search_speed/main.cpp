@@ -87,18 +87,18 @@ struct Answer {
     }
 };
 
-// Answers each query once. The answers go to a file if there is one. How many blocks were unpacked goes to the output, if that is known.
+// Answers each query once. The answers go to a file if there is one. How many counts were read goes to the output, if that is known.
 std::vector<Answer> first_answers(Engine &engine, const std::string &mode, std::vector<Query> &queries, const char *path)
 {
     std::unique_ptr<Session> session = engine.session(mode);
     FILE *file = path ? fopen(path, "w") : nullptr;
     std::vector<Answer> answers;
-    std::map<std::string, std::pair<size_t, size_t>> blocks;
+    std::map<std::string, std::pair<size_t, size_t>> counts;
     for (Query &query : queries) {
-        auto [unpacked, all] = session->blocks();
+        auto [read, all] = session->counts();
         size_t count = answer(engine, *session, query, false);
-        blocks[query.set].first += session->blocks().first - unpacked;
-        blocks[query.set].second += session->blocks().second - all;
+        counts[query.set].first += session->counts().first - read;
+        counts[query.set].second += session->counts().second - all;
         uint64_t hash = NOT_FETCHED;
         for (size_t i = 0; i < count && session->out; i++)
             hash = (hash ^ session->out[i]) * 1099511628211u;
@@ -108,9 +108,9 @@ std::vector<Answer> first_answers(Engine &engine, const std::string &mode, std::
     }
     if (file)
         fclose(file);
-    for (const auto &[set, its] : blocks)
+    for (const auto &[set, its] : counts)
         if (path && its.second > 0)
-            printf("blocks\t%s\t%zu\t%zu\n", set.c_str(), its.first, its.second);
+            printf("counts\t%s\t%zu\t%zu\n", set.c_str(), its.first, its.second);
     return answers;
 }
 

@@ -1,4 +1,4 @@
-// The ranking of examples/search/ over the lists of the bitpacking.h that is included: packed lists, or arrays.
+// The ranking of examples/search/ over the sets and columns of the bitpacking.h that is included: packed, or arrays.
 #pragma once
 #include "engine.hpp"
 
@@ -10,18 +10,10 @@ extern "C" {
 #include "search.h"
 }
 
-// What the ranking calls: room, and the values of a list.
+// What the ranking calls: room.
 void *grown(void *, size_t len, size_t size)
 {
     return malloc(len * size + 1);
-}
-
-numbers unpack(bitpacking_list list)
-{
-    numbers values = {nullptr, bitpacking_list_len(&list)};
-    values.items = static_cast<uint32_t *>(grown(nullptr, values.len, sizeof *values.items));
-    bitpacking_list_unpack(&list, values.items, values.len);
-    return values;
 }
 
 // How many documents are wanted.
@@ -53,15 +45,9 @@ class Ranker {
     size_t rank_terms(const std::vector<const term *> &terms, const numbers *documents, bool scans)
     {
         terms_.clear();
-        size_t shortest = SIZE_MAX;
         for (const term *it : terms) {
             terms_.push_back(*it);
-            shortest = std::min(shortest, bitpacking_list_len(&it->documents));
-        }
-        for (const term *it : terms) {
-            size_t all = (bitpacking_list_len(&it->documents) + BLOCK - 1) / BLOCK;
-            blocks += 2 * all;
-            unpacked += documents ? std::min(all, 2 * shortest + 1) : 0; // what an intersection unpacks at most
+            counts += it->len;
         }
         ranking ranking = {};
         ranking.lengths = lengths_;
@@ -70,11 +56,11 @@ class Ranker {
         ranking.room = BEST;
         if (scans)
             scan_terms(ranking, *documents);
-        else if (documents)
-            rank_these(&ranking, *documents);
         else
-            rank_any(&ranking);
-        unpacked += ranking.unpacked;
+            rank(&ranking, documents);
+        for (const term &it : terms_)
+            free(it.ids);
+        counts_read += ranking.counts_read;
         for (size_t i = 0; i < ranking.len; i++) {
             uint64_t bits;
             memcpy(&bits, &best_[i].score, sizeof bits);
@@ -86,7 +72,7 @@ class Ranker {
     }
 
     uint32_t out[3 * BEST];
-    size_t unpacked = 0, blocks = 0;
+    size_t counts_read = 0, counts = 0;
 
   private:
     // Scores are zero before and after.
@@ -94,12 +80,9 @@ class Ranker {
     {
         scores_.resize(lengths_->documents);
         scan(&ranking, documents, scores_.data());
-        for (const term &it : terms_) {
-            numbers ids = unpack(it.documents);
-            for (size_t i = 0; i < ids.len; i++)
-                scores_[ids.items[i]] = 0;
-            free(ids.items);
-        }
+        for (const term &it : terms_)
+            for (size_t i = 0; i < it.len; i++)
+                scores_[it.ids[i]] = 0;
     }
 
     const lengths *lengths_;

@@ -11,7 +11,7 @@ ghost use Rattle.bitpack_columns.specs.Reads;
 use crate::column::{BLOCK_LEN, Column};
 use crate::column_kind::ColumnKind;
 use crate::entries::{begin_at, bodies_start, end_at, mark_at, tail_start};
-use crate::tail::{to_values, unpack_tail_values};
+use crate::tail::{end_of_group, left_out, to_values, unpack_tail_front, unpack_tail_values};
 use bitpack_groups::unpack_number;
 use bitpacking::{BitPacker, BitPacker4x, Kind};
 
@@ -121,6 +121,28 @@ impl<'a> Column<'a> {
             ColumnKind::Plain => unpack_number(tail),
             ColumnKind::Sorted => (self.value_before(self.blocks()), 0),
         }
+    }
+
+    /// The value at an index of the tail. Unpacks the groups up to the value's.
+    pub(crate) fn value_in_tail(&self, index: usize) -> u32
+        requires { index < length (values self.now) % 128 }
+        ensures { result ≡ slice_index (tail_of (blocks_of self.now) (values self.now)) index }
+    {
+        let blocks = self.blocks();
+        let count = self.count % BLOCK_LEN;
+        let tail = &self.rest[tail_start(blocks, self.rest)..];
+        let (base, end) = self.tail_base(tail);
+        let len = end_of_group(left_out(self.kind, blocks, count), count, index);
+        let mut values = [0; BLOCK_LEN];
+        unpack_tail_front(
+            self.kind,
+            blocks,
+            count,
+            base,
+            &tail[end..],
+            &mut values[..len],
+        );
+        values[index]
     }
 
     /// Unpacks a block at the start of a slice, or the tail if the block is the one after the last. Returns how many values these are.

@@ -2,12 +2,14 @@
 
 ghost use Rattle.std.specs.Prelude.{◌≡◌, ◌+◌, ◌^◌, ◌<◌, ◌≤◌};
 ghost use Rattle.bitpack_columns.specs.declared.column_kind.ColumnKind.TheVariants.{Plain};
+ghost use Rattle.bitpack_columns.specs.Counted.{ReadsMarks};
 ghost use Rattle.bitpack_columns.specs.Opened.{blocks_of, kind_of, values};
 ghost use Rattle.bitpack_columns.specs.Ranges.{AreBounds};
 ghost use Rattle.bitpack_columns.specs.Searches.{greatest_in, least_in};
 
 use crate::column::Column;
 use crate::column_kind::ColumnKind;
+use crate::reads::Reads;
 
 impl<'a> Column<'a> {
     /// Bounds of the values of a block: no value is below the first, or above the second. It unpacks nothing.
@@ -18,21 +20,31 @@ impl<'a> Column<'a> {
         requires { block < blocks_of self.now }
         ensures { AreBounds (kind_of self.now) (values self.now) block result.0 result.1 }
     {
+        self.bounds_counted(block, &mut Reads::new())
+    }
+
+    // As `bounds`.
+    fn bounds_counted(&self, block: usize, reads: &mut Reads) -> (u32, u32)
+        requires { block < blocks_of self.now }
+        ensures bounds { AreBounds (kind_of self.now) (values self.now) block result.0 result.1 }
+        ensures reads { ReadsMarks 2 reads.old reads.new }
+    {
         match self.kind {
-            ColumnKind::Plain => self.plain_bounds(block),
-            ColumnKind::Sorted => (self.value_before(block), self.mark(block)),
+            ColumnKind::Plain => self.plain_bounds(block, reads),
+            ColumnKind::Sorted => (reads.read_before(self, block), reads.read_mark(self, block)),
         }
     }
 
     /// The bounds of a block of a plain column, exactly.
-    pub(crate) fn plain_bounds(&self, block: usize) -> (u32, u32)
+    pub(super) fn plain_bounds(&self, block: usize, reads: &mut Reads) -> (u32, u32)
         requires plain { kind_of self.now ≡ Plain }
         requires block { block < blocks_of self.now }
         ensures bounds { AreBounds Plain (values self.now) block result.0 result.1 }
         ensures least { result.0 ≡ least_in self.now block }
         ensures greatest { result.1 ≡ greatest_in self.now block }
+        ensures reads { ReadsMarks 1 reads.old reads.new }
     {
-        let mark = self.mark(block);
+        let mark = reads.read_mark(self, block);
         (mark, mark.saturating_add(greatest_code(self.width(block))))
     }
 }

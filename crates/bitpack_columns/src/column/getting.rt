@@ -1,20 +1,19 @@
 //! The values at positions of a column.
 
-ghost use Rattle.std.specs.Prelude.{◌≡◌, ℕ, ◌+◌, ◌-◌, ◌*◌, ◌%◌, ◌^◌, ◌<◌, ◌≤◌, IfErr, MatchOption, OnErr, OnOk, drop, length, slice_get, slice_index, true};
+ghost use Rattle.std.specs.Prelude.{◌≡◌, ℕ, ◌+◌, ◌-◌, ◌*◌, ◌/◌, ◌%◌, ◌^◌, ◌<◌, ◌≤◌, IfErr, MatchOption, OnErr, OnOk, drop, length, slice_get, slice_index, true};
 ghost use Rattle.bitpacking.specs.Layout.{codes_of};
-ghost use Rattle.bitpack_columns.specs.declared.column_kind.ColumnKind.TheVariants.{Sorted};
-ghost use Rattle.bitpack_columns.specs.Gathering.{AreWithin, HasValues};
-ghost use Rattle.bitpack_columns.specs.Columns.{block_of, tail_of};
-ghost use Rattle.bitpack_columns.specs.Opened.{blocks_of, values};
+ghost use Rattle.bitpack_columns.specs.declared.column_kind.ColumnKind.TheVariants.{Plain, Sorted};
+ghost use Rattle.bitpack_columns.specs.Gathering.{AreWithin, HasValues, HoldsBlock};
+ghost use Rattle.bitpack_columns.specs.Columns.{block_of};
+ghost use Rattle.bitpack_columns.specs.Counted.{runs};
+ghost use Rattle.bitpack_columns.specs.Opened.{blocks_of, kind_of, values};
 ghost use Rattle.bitpack_columns.specs.Ranges.{HasAll, IsFirstBeyond};
 ghost use Rattle.bitpack_columns.specs.Reads.{values_of};
 
 use crate::code::code_at;
 use crate::column::{BLOCK_LEN, Column};
 use crate::column_kind::ColumnKind;
-use crate::entries::tail_start;
-use crate::tail::{end_of_group, left_out, unpack_tail_front};
-use bitpacking::{BitPacker, BitPacker4x, Kind};
+use crate::reads::Reads;
 
 /// A block of a plain column is unpacked only if this many positions after each other may be in it.
 const FEW: usize = 8;
@@ -29,54 +28,43 @@ impl<'a> Column<'a> {
         if position >= self.count {
             return None;
         }
-        Some(self.value_at(position))
+        Some(self.value_at(position, &mut Reads::new()))
     }
 
-    fn value_at(&self, position: usize) -> u32
+    fn value_at(&self, position: usize, reads: &mut Reads) -> u32
         requires { position < length (values self.now) }
-        ensures { result ≡ slice_index (values self.now) position }
+        ensures value { result ≡ slice_index (values self.now) position }
+        ensures blocks { reads.new.blocks ≤ reads.old.blocks + 1 }
+        ensures plain { kind_of self.now ≡ Plain → position < 128 * blocks_of self.now
+            → reads.new.blocks ≡ reads.old.blocks }
     {
         let block = position / BLOCK_LEN;
         if block < self.blocks() {
-            return self.value_in_block(block, position % BLOCK_LEN);
+            return self.value_in_block(block, position % BLOCK_LEN, reads);
         }
-        self.value_in_tail(position % BLOCK_LEN)
-    }
-
-    // The value at an index of the tail. Unpacks the groups up to the value's.
-    fn value_in_tail(&self, index: usize) -> u32
-        requires { index < length (values self.now) % 128 }
-        ensures { result ≡ slice_index (tail_of (blocks_of self.now) (values self.now)) index }
-    {
-        let blocks = self.blocks();
-        let count = self.count % BLOCK_LEN;
-        let tail = &self.rest[tail_start(blocks, self.rest)..];
-        let (base, end) = self.tail_base(tail);
-        let len = end_of_group(left_out(self.kind, blocks, count), count, index);
-        let mut values = [0; BLOCK_LEN];
-        unpack_tail_front(
-            self.kind,
-            blocks,
-            count,
-            base,
-            &tail[end..],
-            &mut values[..len],
-        );
-        values[index]
+        reads.value_in_tail(self, position % BLOCK_LEN)
     }
 
     // The value at an index of a block.
     #[inline(always)]
-    fn value_in_block(&self, block: usize, index: usize) -> u32
+    fn value_in_block(&self, block: usize, index: usize, reads: &mut Reads) -> u32
         requires block { block < blocks_of self.now }
         requires index { index < 128 }
-        ensures { result ≡ slice_index (block_of block (values self.now)) index }
+        ensures value { result ≡ slice_index (block_of block (values self.now)) index }
+        ensures blocks { reads.new.blocks ≤ reads.old.blocks + 1 }
+        ensures plain { kind_of self.now ≡ Plain → reads.new.blocks ≡ reads.old.blocks }
     {
         let width = self.width(block);
         let body = self.body(block);
         match self.kind {
-            ColumnKind::Plain => self.mark(block).wrapping_add(code_at(width, body, index)),
-            ColumnKind::Sorted => sum_of_codes(self.value_before(block), width, body, index),
+            ColumnKind::Plain => {
+                let mark = reads.read_mark(self, block);
+                mark.wrapping_add(code_at(width, body, index))
+            }
+            ColumnKind::Sorted => {
+                let before = reads.read_before(self, block);
+                sum_of_codes(before, width, body, index, reads)
+            }
         }
     }
 
@@ -89,6 +77,7 @@ impl<'a> Column<'a> {
     pub fn gather(&self, positions: &[usize], out: &mut [u32]) -> Result<(), usize>
         requires room { length positions.now ≤ length out.old }
         ensures ok { OnOk result (HasAll (values self.now) positions.now out.new) }
+        ensures within { OnOk result (AreWithin (length (values self.now)) positions.now) }
         ensures err { IfErr result (λ index. IsFirstBeyond (values self.now) positions.now index) }
         ensures rest { drop (length positions.now) out.new ≡ drop (length positions.now) out.old }
         ensures unchanged { OnErr result (out.new ≡ out.old) }
@@ -96,45 +85,51 @@ impl<'a> Column<'a> {
         if let Some(index) = first_beyond(positions, self.count) {
             return Err(index);
         }
-        self.gather_all(positions, out);
+        self.gather_all(positions, out, &mut Reads::new());
         Ok(())
     }
 
     // Writes the values at these positions, which are all in the column.
-    fn gather_all(&self, positions: &[usize], out: &mut [u32])
+    fn gather_all(&self, positions: &[usize], out: &mut [u32], reads: &mut Reads)
         requires within { AreWithin self.now.count positions.now }
         requires room { length positions.now ≤ length out.old }
         ensures all { HasAll (values self.now) positions.now out.new }
         ensures rest { drop (length positions.now) out.new ≡ drop (length positions.now) out.old }
+        ensures reads { reads.new.blocks ≤ reads.old.blocks + runs positions.now }
     {
         let mut last = LastBlock::none();
         for index in 0..positions.len() {
-            out[index] = self.next_value(&positions[index..], &mut last);
+            out[index] = self.next_value(&positions[index..], &mut last, reads);
         }
     }
 
     // The value at the first of these positions. Unless it is alone, its block is unpacked, if it was not the last.
     #[inline(always)]
-    fn next_value(&self, positions: &[usize], last: &mut LastBlock) -> u32
+    fn next_value(&self, positions: &[usize], last: &mut LastBlock, reads: &mut Reads) -> u32
         requires some { 0 < length positions.now }
         requires within { slice_index positions.now 0 < length (values self.now) }
         requires last { HasValues (values self.now) last.old }
         ensures value { result ≡ slice_index (values self.now) (slice_index positions.now 0) }
         ensures last { HasValues (values self.now) last.new }
+        ensures reads { HoldsBlock (slice_index positions.now 0 / 128) last.old last.new reads.old reads.new }
     {
         let block = positions[0] / BLOCK_LEN;
         let index = positions[0] % BLOCK_LEN;
-        if last.block != block && self.is_alone(block, positions) {
-            return self.value_in_block(block, index);
+        if last.block == block {
+            return last.values[index];
         }
-        self.hold(block, last);
+        if self.is_alone(block, positions) {
+            return self.value_in_block(block, index, reads);
+        }
+        self.hold(block, last, reads);
         last.values[index]
     }
 
     // Whether the first of these positions is in a block of a plain column, and a position soon after it is not.
     #[inline(always)]
     fn is_alone(&self, block: usize, positions: &[usize]) -> bool
-        ensures { result ≡ true → block < blocks_of self.now }
+        ensures plain { result ≡ true → kind_of self.now ≡ Plain }
+        ensures block { result ≡ true → block < blocks_of self.now }
     {
         self.kind == ColumnKind::Plain
             && block < self.blocks()
@@ -143,14 +138,15 @@ impl<'a> Column<'a> {
 
     // Unpacks a block, or the tail, unless it was unpacked last.
     #[inline(always)]
-    fn hold(&self, block: usize, last: &mut LastBlock)
+    fn hold(&self, block: usize, last: &mut LastBlock, reads: &mut Reads)
         requires block { block ≤ blocks_of self.now }
         requires values { HasValues (values self.now) last.old }
         ensures block { last.new.block ≡ block }
         ensures values { HasValues (values self.now) last.new }
+        ensures reads { HoldsBlock block last.old last.new reads.old reads.new }
     {
         if last.block != block {
-            self.read_block(block, &mut last.values);
+            reads.unpack_block(self, block, &mut last.values);
             last.block = block;
         }
     }
@@ -175,14 +171,15 @@ impl LastBlock {
 }
 
 /// The value at an index of a block of a sorted column: the codes up to it are added to the value before the block.
-fn sum_of_codes(before: u32, width: u8, body: &[u8], index: usize) -> u32
+fn sum_of_codes(before: u32, width: u8, body: &[u8], index: usize, reads: &mut Reads) -> u32
     requires width { width ≤ 32 }
     requires body { length body.now ≡ 16 * width }
     requires index { index < 128 }
-    ensures { result ≡ slice_index (values_of Sorted before (codes_of 4 width body.now)) index }
+    ensures value { result ≡ slice_index (values_of Sorted before (codes_of 4 width body.now)) index }
+    ensures blocks { reads.new.blocks ≡ reads.old.blocks + 1 }
 {
     let mut codes = [0; BLOCK_LEN];
-    BitPacker4x::new().decompress_kind(Kind::Plain, body, &mut codes, width);
+    reads.unpack_codes(width, body, &mut codes);
     sum(before, &codes[..index + 1])
 }
 

@@ -1,7 +1,8 @@
 //! Where the values of a column are that are within a range, both ends included.
 
-ghost use Rattle.std.specs.Prelude.{◌≡◌, Some, None, true, false, ◌+◌, ◌-◌, ◌*◌, ◌<◌, ◌≤◌, length, min, take};
+ghost use Rattle.std.specs.Prelude.{◌≡◌, Some, None, true, false, ◌+◌, ◌-◌, ◌*◌, ◌/◌, ◌<◌, ◌≤◌, length, min, take};
 ghost use Rattle.bitpack_columns.specs.declared.column_kind.ColumnKind.TheVariants.{Plain, Sorted};
+ghost use Rattle.bitpack_columns.specs.Counted.{ReadsRange, ReadsSearches, UnpacksUntold};
 ghost use Rattle.bitpack_columns.specs.Opened.{blocks_of, kind_of, values};
 ghost use Rattle.bitpack_columns.specs.Ranges.{positions_between};
 ghost use Rattle.bitpack_columns.specs.Searches.{AreWithin, FindsPositions, IsLowerBound, greatest_in, least_in, positions_among, told};
@@ -9,6 +10,7 @@ ghost use Rattle.bitpack_columns.specs.Searches.{AreWithin, FindsPositions, IsLo
 use crate::column::within::{count_in, count_up, find_in};
 use crate::column::{BLOCK_LEN, Column};
 use crate::column_kind::ColumnKind;
+use crate::reads::Reads;
 
 impl<'a> Column<'a> {
     /// Returns how many values are within a range, both ends included.
@@ -17,10 +19,18 @@ impl<'a> Column<'a> {
     pub fn count_between(&self, low: u32, high: u32) -> usize
         ensures { result ≡ length (positions_between low high 0 (values self.now)) }
     {
+        self.count_between_counted(low, high, &mut Reads::new())
+    }
+
+    // As `count_between`.
+    fn count_between_counted(&self, low: u32, high: u32, reads: &mut Reads) -> usize
+        ensures count { result ≡ length (positions_between low high 0 (values self.now)) }
+        ensures reads { ReadsRange self.now low high 0 reads.old reads.new }
+    {
         match self.kind {
-            ColumnKind::Plain => self.count_by_blocks(low, high),
+            ColumnKind::Plain => self.count_by_blocks(low, high, reads),
             ColumnKind::Sorted => {
-                let (from, end) = self.ends_of(low, high);
+                let (from, end) = self.ends_of(low, high, reads);
                 end.saturating_sub(from)
             }
         }
@@ -34,9 +44,28 @@ impl<'a> Column<'a> {
     pub fn positions_between(&self, low: u32, high: u32, from: usize, out: &mut [usize]) -> usize
         ensures { FindsPositions low high from (values self.now) result out.old out.new }
     {
+        self.positions_between_counted(low, high, from, out, &mut Reads::new())
+    }
+
+    // As `positions_between`.
+    fn positions_between_counted(
+        &self,
+        low: u32,
+        high: u32,
+        from: usize,
+        out: &mut [usize],
+        reads: &mut Reads,
+    ) -> usize
+        ensures found { FindsPositions low high from (values self.now) result out.old out.new }
+        ensures reads { ReadsRange self.now low high (from / 128) reads.old reads.new }
+        ensures none { length out.old ≡ 0 → reads.new.blocks ≡ reads.old.blocks }
+    {
+        if out.is_empty() {
+            return 0;
+        }
         match self.kind {
-            ColumnKind::Plain => self.find_by_blocks(low, high, from, out),
-            ColumnKind::Sorted => self.find_by_ends(low, high, from, out),
+            ColumnKind::Plain => self.find_by_blocks(low, high, from, out, reads),
+            ColumnKind::Sorted => self.find_by_ends(low, high, from, out, reads),
         }
     }
 
@@ -44,23 +73,32 @@ impl<'a> Column<'a> {
 
     // The position of the first value that is within the range, and of the first after it that is above: the first may be greater if no
     // value is within.
-    fn ends_of(&self, low: u32, high: u32) -> (usize, usize)
+    fn ends_of(&self, low: u32, high: u32, reads: &mut Reads) -> (usize, usize)
         requires { kind_of self.now ≡ Sorted }
         ensures from { IsLowerBound (values self.now) low result.0 }
         ensures end { IsLowerBound (values self.now) (high + 1) result.1 }
+        ensures reads { ReadsSearches 2 self.now reads.old reads.new }
     {
         let mut block = [0; BLOCK_LEN];
-        let from = self.lower_bound(low as u64, &mut block);
-        let end = self.lower_bound(high as u64 + 1, &mut block);
+        let from = self.lower_bound(low as u64, &mut block, reads);
+        let end = self.lower_bound(high as u64 + 1, &mut block, reads);
         (from, end)
     }
 
     // As `positions_between`.
-    fn find_by_ends(&self, low: u32, high: u32, from: usize, out: &mut [usize]) -> usize
+    fn find_by_ends(
+        &self,
+        low: u32,
+        high: u32,
+        from: usize,
+        out: &mut [usize],
+        reads: &mut Reads,
+    ) -> usize
         requires { kind_of self.now ≡ Sorted }
-        ensures { FindsPositions low high from (values self.now) result out.old out.new }
+        ensures found { FindsPositions low high from (values self.now) result out.old out.new }
+        ensures reads { ReadsSearches 2 self.now reads.old reads.new }
     {
-        let (first, end) = self.ends_of(low, high);
+        let (first, end) = self.ends_of(low, high, reads);
         let start = first.max(from);
         let count = end.saturating_sub(start).min(out.len());
         count_up(start, &mut out[..count]);
@@ -70,39 +108,57 @@ impl<'a> Column<'a> {
     // ---- plain columns
 
     // As `count_between`.
-    fn count_by_blocks(&self, low: u32, high: u32) -> usize
+    fn count_by_blocks(&self, low: u32, high: u32, reads: &mut Reads) -> usize
         requires { kind_of self.now ≡ Plain }
-        ensures { result ≡ length (positions_between low high 0 (values self.now)) }
+        ensures count { result ≡ length (positions_between low high 0 (values self.now)) }
+        ensures reads { UnpacksUntold self.now low high 0 (blocks_of self.now + 1) reads.old reads.new }
     {
         let mut room = [0; BLOCK_LEN];
         let mut count = 0;
         for block in 0..self.blocks() + 1 {
-            count += self.count_in_block(block, low, high, &mut room);
+            count += self.count_in_block(block, low, high, &mut room, reads);
         }
         count
     }
 
     // How many values of a block are within the range. The count of blocks means the tail.
-    fn count_in_block(&self, block: usize, low: u32, high: u32, room: &mut [u32; 128]) -> usize
+    fn count_in_block(
+        &self,
+        block: usize,
+        low: u32,
+        high: u32,
+        room: &mut [u32; 128],
+        reads: &mut Reads,
+    ) -> usize
         requires plain { kind_of self.now ≡ Plain }
         requires block { block ≤ blocks_of self.now }
-        ensures { result ≡ length (positions_among low high
+        ensures count { result ≡ length (positions_among low high
             (128 * block) (min 128 (length (values self.now) - 128 * block)) (values self.now)) }
+        ensures reads { UnpacksUntold self.now low high block 1 reads.old reads.new }
     {
-        match self.settled(block, low, high) {
+        match self.settled(block, low, high, reads) {
             Some(true) => BLOCK_LEN,
             Some(false) => 0,
             None => {
-                let len = self.read_block(block, room);
+                let len = reads.unpack_block(self, block, room);
                 count_in(&room[..len], low, high)
             }
         }
     }
 
     // As `positions_between`.
-    fn find_by_blocks(&self, low: u32, high: u32, from: usize, out: &mut [usize]) -> usize
+    fn find_by_blocks(
+        &self,
+        low: u32,
+        high: u32,
+        from: usize,
+        out: &mut [usize],
+        reads: &mut Reads,
+    ) -> usize
         requires { kind_of self.now ≡ Plain }
-        ensures { FindsPositions low high from (values self.now) result out.old out.new }
+        ensures found { FindsPositions low high from (values self.now) result out.old out.new }
+        ensures reads { UnpacksUntold self.now low high
+            (from / 128) (blocks_of self.now + 1 - from / 128) reads.old reads.new }
     {
         if from >= self.len() {
             return 0;
@@ -115,7 +171,7 @@ impl<'a> Column<'a> {
                 return done;
             }
             let index = from.saturating_sub(BLOCK_LEN * block);
-            let more = self.find_in_block(block, index, low, high, &mut room, &mut found);
+            let more = self.find_in_block(block, index, low, high, &mut room, &mut found, reads);
             let fits = more.min(out.len() - done);
             out[done..done + fits].copy_from_slice(&found[..fits]);
             done += fits;
@@ -133,6 +189,7 @@ impl<'a> Column<'a> {
         high: u32,
         room: &mut [u32; 128],
         found: &mut [usize; 128],
+        reads: &mut Reads,
     ) -> usize
         requires plain { kind_of self.now ≡ Plain }
         requires block { block ≤ blocks_of self.now }
@@ -140,16 +197,17 @@ impl<'a> Column<'a> {
         ensures few { result ≤ 128 }
         ensures found { take result found.new ≡ positions_among low high
             (128 * block + index) (min 128 (length (values self.now) - 128 * block) - index) (values self.now) }
+        ensures reads { UnpacksUntold self.now low high block 1 reads.old reads.new }
     {
         let start = BLOCK_LEN * block + index;
-        match self.settled(block, low, high) {
+        match self.settled(block, low, high, reads) {
             Some(true) => {
                 count_up(start, &mut found[..BLOCK_LEN - index]);
                 BLOCK_LEN - index
             }
             Some(false) => 0,
             None => {
-                let len = self.read_block(block, room);
+                let len = reads.unpack_block(self, block, room);
                 find_in(&room[index..len], start, low, high, found)
             }
         }
@@ -157,7 +215,7 @@ impl<'a> Column<'a> {
 
     // Whether all values of a block are within the range, or none is, if its bounds tell. Of the tail, which has the count of blocks,
     // nothing is told.
-    fn settled(&self, block: usize, low: u32, high: u32) -> Option<bool>
+    fn settled(&self, block: usize, low: u32, high: u32, reads: &mut Reads) -> Option<bool>
         requires plain { kind_of self.now ≡ Plain }
         requires block { block ≤ blocks_of self.now }
         ensures block { block < blocks_of self.now
@@ -165,11 +223,12 @@ impl<'a> Column<'a> {
         ensures tail { block ≡ blocks_of self.now → result ≡ None }
         ensures all { result ≡ Some true → AreWithin true low high block (values self.now) }
         ensures none { result ≡ Some false → AreWithin false low high block (values self.now) }
+        ensures reads { reads.new.blocks ≡ reads.old.blocks }
     {
         if block >= self.blocks() {
             return None;
         }
-        let (least, greatest) = self.plain_bounds(block);
+        let (least, greatest) = self.plain_bounds(block, reads);
         if greatest < low || high < least {
             Some(false)
         } else if low <= least && greatest <= high {

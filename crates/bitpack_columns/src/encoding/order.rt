@@ -55,11 +55,7 @@ fn test_sorted(
 }
 
 /// Tests that values can follow a column: all are not too many, and in a sorted column none is below the one before it.
-pub(crate) fn test_pushed(
-    kind: ColumnKind,
-    so_far: &[u32],
-    pushed: &[u32],
-) -> Result<(), ColumnError>
+pub fn test_pushed(kind: ColumnKind, so_far: &[u32], pushed: &[u32]) -> Result<(), ColumnError>
     requires few { length so_far.now ≤ 2 ^ 28 }
     requires ordered { first_out kind (slice_index so_far.now 0) so_far.now ≡ None }
     ensures { Finds result (refusal kind (so_far.now ++ pushed.now)) }

@@ -18,7 +18,7 @@ fn rows() -> &'static [[u64; 4]; 256]
     &ROWS
 }
 
-/// For each byte the bit of its number alone.
+/// For each byte only the bit of its number.
 static ROWS: [[u64; 4]; 256] = [
     [1, 0, 0, 0],
     [2, 0, 0, 0],

@@ -69,6 +69,18 @@ fn unpack_bits_within(bits: &[u64], base: u32, out: &mut [u32], at: usize) -> us
     if out.len() - at >= 256 {
         return unpack_bits(bits, base, out, at);
     }
+    unpack_last(bits, base, out, at)
+}
+
+/// Writes them if there is room for them alone. Not inlined, since the room of its own is cleared at each call.
+#[inline(never)]
+fn unpack_last(bits: &[u64], base: u32, out: &mut [u32], at: usize) -> usize
+    requires size { length bits.now ≡ 4 }
+    requires fits { base + 256 ≤ 2 ^ 32 }
+    requires room { at + length (those 256 (has_bit bits.now)) ≤ length out.old }
+    ensures end { result ≡ at + length (those 256 (has_bit bits.now)) }
+    ensures values { take result out.new ≡ take at out.old ++ map (λ i. base + i) (those 256 (has_bit bits.now)) }
+{
     let mut numbers = [0; 256];
     let end = unpack_bits(bits, base, &mut numbers, 0);
     out[at..at + end].copy_from_slice(&numbers[..end]);

@@ -16,7 +16,7 @@ use crate::slice::Slice;
 use crate::slice::selecting::{Selection, select};
 
 /// Writes the numbers that an operation on blocks and on a bitmap of these high bytes gives, each with `base` added, if there is room for all.
-/// Returns where they end, which is past the end if not.
+/// Returns the index after the last, past the slice if there is no room.
 pub(crate) fn mix(
     operation: Operation,
     blocks: &Blocks,
@@ -104,7 +104,8 @@ fn mix_bits<'a>(operation: Operation, x: [u64; 4], y: &[u64]) -> Selection<'a>
     ])
 }
 
-/// Writes selected numbers, each with `base` added, if there is room for all. Returns where they end, which is past the end if not.
+/// Writes selected numbers, each with `base` added, if there is room for all. Returns the index after the last,
+/// past the slice if there is no room.
 #[inline(always)]
 fn put_selected(selection: Selection, base: u32, out: &mut [u32], at: usize) -> usize
     requires marks { AreMarks selection }

@@ -21,7 +21,7 @@ pub(crate) fn array_len(count: usize) -> usize
     1 + number_len(count as u32) + 4 * count
 }
 
-/// How many bytes the encoding of `count` ids in chunks has, whose bodies have `size` bytes.
+/// How many bytes the encoding of `count` ids in chunks has, if the bodies have `size` bytes.
 pub(crate) fn chunks_len(count: usize, chunks: usize, size: usize) -> usize
     requires count { count ≤ 2 ^ 28 }
     requires chunks { chunks ≤ count }
@@ -48,7 +48,7 @@ pub(crate) fn write_array(ids: &[u32], out: &mut [u8])
     write_integers(4, ids, integers);
 }
 
-/// Writes the encoding of ids in chunks, whose bodies have `size` bytes.
+/// Writes the encoding of ids in `chunks` chunks. Their bodies have `size` bytes.
 pub(crate) fn write_chunks(ids: &[u32], chunks: usize, size: usize, out: &mut [u8])
     requires set { IsSet ids.now }
     requires chunks { chunks ≡ length (parts 65536 ids.now) }

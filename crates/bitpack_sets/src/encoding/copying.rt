@@ -195,7 +195,8 @@ impl<'a> Front<'a> {
         self.write_entries(ids, end_size, sum_size, keys, ends, sums, last);
     }
 
-    /// Writes the set of the ids of these chunks and of ids after them, of `chunks` chunks whose bodies have `size` bytes.
+    /// Writes the set of the ids of these chunks and of ids after them. It has `chunks` chunks, and their bodies have
+    /// `size` bytes.
     pub(crate) fn write(&self, ids: &[u32], chunks: usize, size: usize, out: &mut [u8])
         requires set { IsSet ids.now }
         requires next { IsNext (front_ids self.now) ids.now }

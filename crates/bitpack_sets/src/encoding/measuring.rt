@@ -77,7 +77,7 @@ fn count_within(most: usize, ids: &[u32]) -> usize
     most + count as usize
 }
 
-/// How many bytes the body of a chunk of `len` ids has, whose slices are `count`, of `size` bytes.
+/// How many bytes the body of a chunk has, of `len` ids in `count` slices, which have `size` bytes.
 pub(crate) fn body_len(len: usize, count: usize, size: usize) -> usize
     requires len { len ≤ 65536 }
     requires count { count ≤ len }

@@ -13,8 +13,8 @@ use crate::slice::byte_len;
 use crate::slice::marks::{bytes_from, marks_among};
 use crate::slice::search::in_slice;
 
-/// Writes the ids whose low 16 bits are in blocks, or those whose low 16 bits are not, if there is room for all. Returns where they end, which is
-/// past the end if not.
+/// Writes the ids whose low 16 bits blocks have, or lack, if there is room for all. Returns the index after the last, past the slice if there
+/// is no room.
 pub(crate) fn filter(
     list: &Listed,
     blocks: &Blocks,
@@ -36,7 +36,7 @@ pub(crate) fn filter(
 
 /// Whether blocks have a number.
 #[inline(always)]
-fn is_among(blocks: &Blocks, number: usize) -> bool
+pub(crate) fn is_among(blocks: &Blocks, number: usize) -> bool
     requires { number < 65536 }
     ensures { result ≡ has number (parts_numbers blocks.now) }
 {

@@ -9,7 +9,7 @@ use crate::step::Step;
 /// The most operands that wait at once.
 pub(crate) const MOST_WAITING: usize = 64;
 
-/// Tests the steps of a query over this many sets. Returns how many operands wait at once, at most.
+/// Tests the steps of a query over this many sets. Returns the most operands that wait at once.
 pub(crate) fn test_steps(steps: &[Step], sets: usize) -> Result<usize, QueryError>
     ensures fault { FindsFault result (fault_from 64 sets 0 0 steps.now) }
     ensures most { IfOk result (λ most. most ≤ 64) }

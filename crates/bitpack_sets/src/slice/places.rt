@@ -78,6 +78,38 @@ fn unpack_eight(bytes: u8x8, marks: u8, base: u32x8, out: &mut [u32], at: usize)
     at + marks.count_ones() as usize
 }
 
+/// Writes 32 bytes, each with `base` added.
+///
+/// Does so by vectors, since a compiler that cannot tell that the slices lie apart makes none of a loop over bytes.
+#[inline(always)]
+pub(crate) fn unpack_32(bytes: &[u8], base: u32, out: &mut [u32], at: usize)
+    requires size { length bytes.now ≡ 32 }
+    requires fits { base + 256 ≤ 2 ^ 32 }
+    requires room { at + 32 ≤ length out.old }
+    ensures { take (at + 32) out.new ≡ take at out.old ++ map (λ i. base + i) bytes.now }
+{
+    for i in 0..4 {
+        put_eight(
+            u8x8::from_slice(&bytes[8 * i..]),
+            u32x8::splat(base),
+            out,
+            at + 8 * i,
+        );
+    }
+}
+
+/// Writes eight bytes, in order. Each lane of `base` is added to one.
+#[inline(always)]
+fn put_eight(bytes: u8x8, base: u32x8, out: &mut [u32], at: usize)
+    requires base { base ≡ replicate 8 (slice_index base 0) }
+    requires fits { slice_index base 0 + 256 ≤ 2 ^ 32 }
+    requires room { at + 8 ≤ length out.old }
+    ensures { take (at + 8) out.new ≡ take at out.old ++ map (λ i. slice_index base 0 + i) bytes }
+{
+    let eight: u32x8 = bytes.cast();
+    (eight + base).copy_to_slice(&mut out[at..]);
+}
+
 /// Writes the bytes whose mark is 1, in order, each with `base` added. Returns where they end.
 ///
 /// Does so by eight bytes, which takes the same time for any marks.

@@ -8,6 +8,7 @@ ghost use Rattle.bitpack_sets.specs.Slices.{IsSlice, number_of, ones_from, slice
 
 use crate::bitmap::unpacking::unpack_many;
 use crate::slice::byte_len;
+use crate::slice::places::unpack_32;
 
 /// Writes the numbers of the slice of `count` that begins at `start`, each with `base` added. Returns where they end.
 ///
@@ -31,7 +32,7 @@ pub(crate) fn unpack_from(
         ≡ take at out.old ++ map (λ i. base + i) (slice_numbers count (take (slice_len count) (drop start slices.now))) }
 {
     if count < 32 && slices.len() - start >= 32 && out.len() - at >= 32 {
-        unpack_bytes(&slices[start..start + 32], base, out, at);
+        unpack_32(&slices[start..start + 32], base, out, at);
         return at + count;
     }
     unpack_within(
@@ -65,6 +66,20 @@ pub(crate) fn unpack_within(
     if out.len() - at >= 256 {
         return unpack_slice(count, bytes, base, out, at);
     }
+    unpack_last(count, bytes, base, out, at)
+}
+
+/// Writes them if there is room for them alone. Not inlined, since the room of its own is cleared at each call.
+#[inline(never)]
+fn unpack_last(count: usize, bytes: &[u8], base: u32, out: &mut [u32], at: usize) -> usize
+    requires count { count ≤ 256 }
+    requires size { length bytes.now ≡ slice_len count }
+    requires slice { IsSlice count bytes.now }
+    requires fits { base + 256 ≤ 2 ^ 32 }
+    requires room { at + count ≤ length out.old }
+    ensures end { result ≡ at + count }
+    ensures values { take result out.new ≡ take at out.old ++ map (λ i. base + i) (slice_numbers count bytes.now) }
+{
     let mut numbers = [0; 256];
     let end = unpack_slice(count, bytes, base, &mut numbers, 0);
     out[at..at + end].copy_from_slice(&numbers[..end]);

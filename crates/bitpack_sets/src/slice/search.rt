@@ -8,6 +8,7 @@ use crate::slice::reading::word_at;
 use crate::slice::testing::count_bits;
 
 /// Whether a slice of `count` numbers has this one.
+#[inline(always)]
 pub(crate) fn in_slice(count: usize, bytes: &[u8], number: u8) -> bool
     requires count { count ≤ 256 }
     requires size { length bytes.now ≡ slice_len count }

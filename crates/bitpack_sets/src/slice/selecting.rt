@@ -1,8 +1,8 @@
 //! Combines slices.
 
-ghost use Rattle.std.specs.Prelude.{◌≡◌, ℕ, None, ◌+◌, ◌^◌, ◌<◌, ◌≤◌, ◌&&◌, ◌==◌, ◌++◌, IfSome, List, not, length, map, nat_lt, slice_index, take};
+ghost use Rattle.std.specs.Prelude.{◌≡◌, ℕ, None, ◌+◌, ◌^◌, ◌<◌, ◌≤◌, ◌&&◌, ◌==◌, ◌++◌, IfSome, List, false, true, length, map, nat_lt, slice_index, take};
 ghost use Rattle.std.specs.Int.{bit_at};
-ghost use Rattle.bitpack_sets.specs.Operations.{combined, those};
+ghost use Rattle.bitpack_sets.specs.Operations.{combined, holds, those};
 ghost use Rattle.bitpack_sets.specs.Reads.{has};
 ghost use Rattle.bitpack_sets.specs.Selections.{AreMarks, bytes_of, marked, numbers_at, selected};
 
@@ -36,13 +36,22 @@ pub(crate) fn select<'a>(operation: Operation, a: Slice<'a>, b: Slice<'a>) -> Se
     if a.count == 0 && operation.keeps_right() {
         return Selection::All(b);
     }
+    let (few, other) = fewer_first(operation, a, b);
+    if few.count < 32 && !operation.keeps_right() {
+        return select_marked(operation, few, other);
+    }
+    select_bits(operation, a, b)
+}
+
+/// The slices in the order in which the bytes of the first are marked: AND can mark the bytes of either.
+#[inline(always)]
+fn fewer_first<'a>(operation: Operation, a: Slice<'a>, b: Slice<'a>) -> (Slice<'a>, Slice<'a>)
+    ensures numbers { combined 256 operation (numbers_at result.0) (numbers_at result.1)
+        ≡ combined 256 operation (numbers_at a.entry) (numbers_at b.entry) }
+{
     match operation {
-        Operation::And if a.count < 32 && (b.count <= a.count || b.count >= 32) => select_common(
-            a, b,
-        ),
-        Operation::And if b.count < 32 => select_common(b, a),
-        Operation::AndNot if a.count < 32 => select_alone(a, b),
-        _ => select_bits(operation, a, b),
+        Operation::And if a.count >= 32 || b.count < 32 && a.count < b.count => (b, a),
+        _ => (a, b),
     }
 }
 
@@ -62,24 +71,19 @@ fn marks_of(a: Slice, b: Slice) -> u32
     }
 }
 
-/// The bytes of a slice that another slice has.
+/// The bytes of a slice that another slice has, or lacks.
 #[inline(always)]
-fn select_common<'a>(a: Slice<'a>, b: Slice<'a>) -> Selection<'a>
-    requires { a.count < 32 }
+fn select_marked<'a>(operation: Operation, a: Slice<'a>, b: Slice<'a>) -> Selection<'a>
+    requires few { a.count < 32 }
+    requires operation { holds operation false true ≡ false }
     ensures marks { AreMarks result }
-    ensures numbers { selected result ≡ those 256 (λ i. has i (numbers_at a.entry) && has i (numbers_at b.entry)) }
+    ensures numbers { selected result ≡ combined 256 operation (numbers_at a.entry) (numbers_at b.entry) }
 {
-    Selection::Bytes(a, marks_of(a, b))
-}
-
-/// The bytes of a slice that another slice lacks.
-#[inline(always)]
-fn select_alone<'a>(a: Slice<'a>, b: Slice<'a>) -> Selection<'a>
-    requires { a.count < 32 }
-    ensures marks { AreMarks result }
-    ensures numbers { selected result ≡ those 256 (λ i. has i (numbers_at a.entry) && not (has i (numbers_at b.entry))) }
-{
-    Selection::Bytes(a, ((1 << a.count) - 1) & !marks_of(a, b))
+    let marks = marks_of(a, b);
+    if operation.keeps_left() {
+        return Selection::Bytes(a, ((1 << a.count) - 1) & !marks);
+    }
+    Selection::Bytes(a, marks)
 }
 
 /// Combines the bits of two slices.
@@ -126,6 +130,20 @@ impl<'a> Selection<'a> {
         if out.len() - at >= 256 {
             return Some(at + self.unpack(base, &mut out[at..at + 256], 0));
         }
+        self.unpack_last(base, out, at)
+    }
+
+    /// Writes them if there may be no room for 256. Not inlined, since the room of its own is cleared at each call.
+    #[inline(never)]
+    fn unpack_last(self, base: u32, out: &mut [u32], at: usize) -> Option<usize>
+        requires marks { AreMarks self }
+        requires fits { base + 256 ≤ 2 ^ 32 }
+        requires start { at ≤ length out.old }
+        ensures room { IfSome result (λ end. end ≤ length out.old) }
+        ensures end { IfSome result (λ end. end ≡ at + length (selected self.entry)) }
+        ensures values { IfSome result (λ end. take end out.new ≡ take at out.old ++ map (λ i. base + i) (selected self.entry)) }
+        ensures none { result ≡ None → length out.old < at + length (selected self.entry) }
+    {
         let mut numbers = [0; 256];
         let count = self.unpack(base, &mut numbers, 0);
         if out.len() - at < count {

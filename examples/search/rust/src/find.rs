@@ -1,14 +1,15 @@
 //! `find`: opens an index, and answers a query while it reads it.
 
-use std::borrow::Cow;
 use std::fs;
 use std::io::Write;
+use std::ops::Deref;
 use std::path::Path;
 
-use bitpacking::list::{difference, encode, intersect, union, Kind, ListBuf, PackedList};
+use bitpacking::column::{Column, ColumnBuf, Kind};
+use bitpacking::set::{IdSet, IdSetBuf, intersect_all, subtract_all, unite_all};
 
-use crate::best::{Lengths, Ranking, Term, BLOCK, MOST_TERMS};
-use crate::{about, Options, Result, MAGIC};
+use crate::best::{BLOCK, Lengths, MOST_TERMS, Ranking, Term};
+use crate::{MAGIC, Options, Result, about};
 
 /// The most signs of a query.
 const LONGEST_QUERY: usize = 1000;
@@ -17,51 +18,50 @@ fn damaged<T>(what: &str) -> Result<T> {
     Err(format!("the index is damaged: {what}").into())
 }
 
-fn open<'a>(bytes: &'a [u8], kind: Kind, name: &str) -> Result<PackedList<'a>> {
-    match PackedList::open(bytes) {
-        Err(error) => damaged(&format!("a list of {name}: {error}")),
-        Ok(list) if list.kind() != kind || list.block_len() != BLOCK => {
-            damaged(&format!("a list of {name}: wrong kind or blocks"))
-        }
-        Ok(list) => Ok(list),
+fn open_set<'a>(bytes: &'a [u8], name: &str) -> Result<IdSetBuf<&'a [u8]>> {
+    IdSet::open(bytes).or_else(|error| damaged(&format!("the set of {name}: {error}")))
+}
+
+fn open_column<'a>(bytes: &'a [u8], kind: Kind, name: &str) -> Result<ColumnBuf<&'a [u8]>> {
+    match Column::open(bytes) {
+        Err(error) => damaged(&format!("a column of {name}: {error}")),
+        Ok(column) if column.kind() != kind => damaged(&format!("a column of {name}: wrong kind")),
+        Ok(column) => Ok(column),
     }
 }
 
-/// An index file and where its items begin: the names of documents, the words, two lists for each word, and the list of
-/// the classes of the lengths of documents.
+/// An index file and where its items begin: the names of documents, the words, a set and two columns for each word, and the classes of the
+/// lengths of documents.
 struct Index<'a> {
     bytes: &'a [u8],
     bounds: Vec<u32>,
-    lengths: Lengths,
+    lengths: Lengths<'a>,
     documents: usize,
     words: usize,
 }
 
 impl<'a> Index<'a> {
-    /// Tests all of an index but for the lists of words.
+    /// Tests all of an index but for the sets and columns of words.
     fn open(bytes: &'a [u8]) -> Result<Self> {
         let Some((items, &start)) = bytes.split_last_chunk().filter(|(items, _)| items.starts_with(MAGIC)) else {
-            return Err("this is no index: it does not begin with 'search2'".into());
+            return Err("this is no index: it does not begin with 'search3'".into());
         };
         let start = u32::from_le_bytes(start) as usize;
-        let Some(list) = items.get(start..) else { return damaged("it is cut") };
-        let bounds = open(list, Kind::StrictlySorted, "bounds")?.to_vec();
-        let [.., last, end] = bounds[..] else { return damaged("the bounds are of other items") };
-        if bounds[0] as usize != MAGIC.len() || end as usize != start {
+        let Some(column) = items.get(start..) else { return damaged("it is cut") };
+        let bounds = open_column(column, Kind::Sorted, "bounds")?.unpack();
+        let [first, .., last, end] = bounds[..] else { return damaged("the bounds are of other items") };
+        if first as usize != MAGIC.len() || end as usize != start {
             return damaged("the bounds are of other items");
         }
-        let classes = open(&bytes[last as usize..start], Kind::Plain, "classes")?.to_vec();
-        let (documents, lists) = (classes.len(), (bounds.len() - 2).wrapping_sub(classes.len()));
-        if lists > bounds.len() || lists % 3 != 0 {
+        let classes = &bytes[last as usize..start];
+        let (documents, of_words) = (classes.len(), (bounds.len() - 2).wrapping_sub(classes.len()));
+        if of_words > bounds.len() || of_words % 4 != 0 {
             return damaged("the number of items is wrong");
         }
-        let Ok(classes) = classes.into_iter().map(u8::try_from).collect() else { return damaged("a length has no class") };
-        let index = Index { bytes, bounds, lengths: Lengths::new(classes), documents, words: lists / 3 };
+        let index = Index { bytes, bounds, lengths: Lengths::new(classes), documents, words: of_words / 4 };
         for word in 0..index.words {
-            let right = match index.item(index.documents + word) {
-                [letters @ .., 0] => letters.iter().all(|it| it.is_ascii_lowercase() || it.is_ascii_digit()),
-                _ => false,
-            };
+            let letters = |signs: &[u8]| signs.iter().all(|it| it.is_ascii_lowercase() || it.is_ascii_digit());
+            let right = matches!(index.item(documents + word), [signs @ .., 0] if letters(signs));
             if !right || word > 0 && index.word(word - 1) >= index.word(word) {
                 return damaged(&format!("word {word} has a wrong sign, or is not in order"));
             }
@@ -90,15 +90,8 @@ impl<'a> Index<'a> {
     }
 }
 
-/// A list of documents, of a word or of an answer.
-type List<'a> = ListBuf<Cow<'a, [u8]>>;
-
-/// The functions of the library that make one list of many.
-enum Combine {
-    All,
-    Any,
-    Without,
-}
+/// A set of documents, of a word or of an answer.
+type Set<'a> = Box<dyn Deref<Target = IdSet> + 'a>;
 
 /// A query, and how far it is read.
 struct Search<'a> {
@@ -107,8 +100,8 @@ struct Search<'a> {
     at: usize,
     /// The words that count for the order of documents, if that is wanted.
     terms: Vec<Term<'a>>,
-    /// Whether any of words are wanted: their lists are ranked without making one of them.
-    alone: bool,
+    /// How many times sets became one.
+    combined: usize,
     options: &'a Options,
 }
 
@@ -129,7 +122,7 @@ impl<'a> Search<'a> {
     }
 
     /// Reads a query, or what is in brackets: alternatives, each of which has parts with and parts without a minus.
-    fn query(&mut self, negative: bool, end: Option<u8>) -> Result<List<'a>> {
+    fn query(&mut self, negative: bool, end: Option<u8>) -> Result<Vec<Set<'a>>> {
         let mut any = Vec::new();
         while any.is_empty() || self.next() == Some(b'|') {
             self.skip(usize::from(end.is_some() || !any.is_empty())); // a bracket or a line
@@ -138,102 +131,87 @@ impl<'a> Search<'a> {
                 let minus = self.next() == Some(b'-');
                 self.skip(usize::from(minus));
                 let parts = if minus { &mut without } else { &mut with };
-                parts.push(self.term(negative || minus)?);
+                if self.next() == Some(b'(') {
+                    let inner = self.query(negative || minus, Some(b')'))?;
+                    parts.push(self.combine("unite", unite_all, inner)?);
+                } else {
+                    parts.extend(self.words(negative || minus)?);
+                }
             }
             if with.is_empty() {
                 return self.wrong("a word is missing, or one without a minus");
             }
-            without.insert(0, self.combine(Combine::All, with)?);
-            any.push(self.combine(Combine::Without, without)?);
+            without.insert(0, self.combine("intersect", intersect_all, with)?);
+            any.push(self.combine("subtract", subtract_all, without)?);
         }
         if self.next() != end {
             return self.wrong(if end.is_some() { "a bracket is not closed" } else { "no bracket is open" });
         }
         self.skip(usize::from(end.is_some()));
-        self.combine(Combine::Any, any)
+        Ok(any)
     }
 
-    /// Reads a bracket, a word, or the first letters of words.
-    fn term(&mut self, negative: bool) -> Result<List<'a>> {
-        if self.next() == Some(b'(') {
-            return self.query(negative, Some(b')'));
-        }
+    /// Reads words up to a space, a bar or a bracket, as they are read in documents. The last one may be the first letters of words. Returns
+    /// the documents that have all, if there is a word.
+    fn words(&mut self, negative: bool) -> Result<Option<Set<'a>>> {
         let rest = &self.query[self.at..];
-        let len = rest.iter().take_while(|sign| sign.is_ascii_alphanumeric()).count();
-        let word = String::from_utf8_lossy(&rest[..len]).to_lowercase();
-        let prefix = rest.get(len) == Some(&b'*');
-        let after = rest.get(len + usize::from(prefix));
-        self.skip(len + usize::from(prefix));
-        if len == 0 || after.is_some_and(|sign| !b" \t\n\x0C\r|()".contains(sign)) {
-            return self.wrong("a word is missing, or a space after it");
+        let len = rest.iter().take_while(|sign| !b" \t\n\x0C\r|()".contains(sign)).count();
+        let (signs, prefix) = match &rest[..len] {
+            [signs @ .., last, b'*'] if last.is_ascii_alphanumeric() => ([signs, &[*last]].concat(), true),
+            signs => (signs.to_vec(), false),
+        };
+        let words: Vec<_> = signs.split(|sign| !sign.is_ascii_alphanumeric()).filter(|word| !word.is_empty()).collect();
+        let mut sets = Vec::new();
+        for (number, word) in (1..).zip(&words) {
+            sets.push(self.find(&String::from_utf8_lossy(word).to_lowercase(), prefix && number == words.len(), negative)?);
         }
-        let first = self.index.first(|it| it < &word[..]);
-        let end = self.index.first(|it| it <= &word[..] || prefix && it.starts_with(&word));
-        let lists = (first..end).map(|word| self.word(word, negative)).collect::<Result<Vec<_>>>()?;
-        self.combine(Combine::Any, lists)
+        self.skip(len);
+        Ok(if sets.is_empty() { None } else { Some(self.combine("intersect", intersect_all, sets)?) })
     }
 
-    /// The documents that have a word. Unless it is negative it counts for their order.
-    fn word(&mut self, word: usize, negative: bool) -> Result<List<'a>> {
+    /// The documents that have a word, or one that begins so.
+    fn find(&mut self, letters: &str, prefix: bool, negative: bool) -> Result<Set<'a>> {
+        let first = self.index.first(|it| it < letters);
+        let end = self.index.first(|it| it <= letters || prefix && it.starts_with(letters));
+        let sets = (first..end).map(|word| self.open(word, negative)).collect::<Result<_>>()?;
+        self.combine("unite", unite_all, sets)
+    }
+
+    /// Opens the set of the documents that have a word. Unless it is negative it counts for their order.
+    fn open(&mut self, word: usize, negative: bool) -> Result<Set<'a>> {
         let (index, name) = (self.index, self.index.word(word));
-        let item = index.documents + index.words + 2 * word;
-        let documents = open(index.item(item), Kind::StrictlySorted, name)?;
-        if documents.last().map_or(true, |last| last as usize >= index.documents) {
+        let item = index.documents + index.words + 3 * word;
+        let documents = open_set(index.item(item), name)?;
+        if documents.max().is_none_or(|last| last as usize >= index.documents) {
             return damaged(&format!("'{name}' is in no document, or in one that is not there"));
         }
         if self.options.explain {
             eprintln!("{name}: {} documents in {} blocks", documents.len(), documents.len().div_ceil(BLOCK));
         }
         if !negative && self.options.best > 0 {
-            let counts = open(index.item(item + 1), Kind::Plain, name)?;
-            if documents.len() != counts.len() {
+            let counts = open_column(index.item(item + 1), Kind::Plain, name)?;
+            let blocks = open_column(index.item(item + 2), Kind::Plain, name)?;
+            if documents.len() != counts.len() || blocks.len() != 2 * (documents.len() / BLOCK) {
                 return damaged("a word has more or fewer counts than documents");
             }
-            self.terms.push(Term::new(&index.lengths, documents, counts));
+            self.terms.push(Term::new(&index.lengths, documents.clone(), counts, &blocks));
         }
-        Ok(ListBuf::open(index.item(item).into())?)
+        Ok(Box::new(documents))
     }
 
-    /// What a function of the library makes of lists. One list stays as it is.
-    fn combine(&mut self, combine: Combine, mut lists: Vec<List<'a>>) -> Result<List<'a>> {
-        if lists.len() == 1 || self.alone && !lists.is_empty() {
-            return Ok(lists.swap_remove(0));
+    /// What a function of the library makes of sets. One set stays as it is.
+    fn combine(&mut self, name: &str, call: fn(&[&IdSet]) -> Vec<u32>, mut sets: Vec<Set<'a>>) -> Result<Set<'a>> {
+        if sets.len() == 1 {
+            return Ok(sets.remove(0));
         }
-        let opened: Vec<_> = lists.iter().map(ListBuf::as_list).collect();
-        let lens = || opened.iter().map(PackedList::len);
-        let (name, values, sought) = match combine {
-            Combine::All => ("intersect", intersect(&opened)?, lens().min()),
-            Combine::Any => ("unite", union(&opened)?, None),
-            Combine::Without => ("subtract", difference(&opened)?, lens().next()),
-        };
-        if self.options.explain && !self.alone {
-            // One block for each value that is sought, and one for the value after it.
-            let blocks = lens().max().unwrap_or(0).div_ceil(BLOCK);
-            let most = sought.map_or(blocks, |values| blocks.min(2 * values + 1));
-            eprintln!("{name} of {} lists: at most {most} blocks of each unpacked", opened.len());
+        let ids = call(&sets.iter().map(|set| &***set).collect::<Vec<_>>());
+        if sets.len() > 1 {
+            self.combined += 1;
+            if self.options.explain {
+                eprintln!("{name} of {} sets: {} documents", sets.len(), ids.len());
+            }
         }
-        Ok(ListBuf::open(encode(Kind::StrictlySorted, &values)?.into())?)
-    }
-
-    /// Ranks the documents that answer. Any of words are ranked by their lists; for other queries the documents are found first.
-    fn best(mut self) -> Result<Vec<(f64, u32)>> {
-        let words = self.query.split(|sign| !sign.is_ascii_alphanumeric()).filter(|word| !word.is_empty()).count();
-        let bars = self.query.iter().filter(|&&sign| sign == b'|').count();
-        let plain = !self.query.iter().any(|sign| b"-(*".contains(sign));
-        self.alone = !self.options.scan && plain && words == bars + 1 && words <= MOST_TERMS;
-        let (index, options, documents) = (self.index, self.options, self.query(false, None)?);
-        let scans = options.scan || self.terms.len() > MOST_TERMS;
-        let mut ranking = Ranking::new(&index.lengths, self.terms, options.best);
-        match (scans, self.alone) {
-            (true, _) => ranking.scan(&documents.as_list().to_vec()),
-            (false, true) => ranking.rank_any()?,
-            (false, false) => ranking.rank_these(&documents.as_list().to_vec())?,
-        }
-        ranking.restart();
-        if options.explain {
-            eprintln!("{} blocks unpacked to rank", ranking.unpacked);
-        }
-        Ok(ranking.best)
+        Ok(Box::new(IdSetBuf::pack(&ids)?))
     }
 }
 
@@ -243,13 +221,26 @@ fn answer(bytes: &[u8], query: &[u8], options: &Options) -> Result<(Vec<u8>, boo
         return Err("the query is too long".into());
     }
     let index = &Index::open(bytes)?;
-    let mut search = Search { index, query, at: 0, terms: Vec::new(), alone: false, options };
-    if options.best == 0 {
-        let found = search.query(false, None)?.as_list().len();
+    let mut search = Search { index, query, at: 0, terms: Vec::new(), combined: 0, options };
+    let any = search.query(false, None)?;
+    let scan = options.scan || search.terms.len() > MOST_TERMS;
+    // Any of these words, whose sets need not become one?
+    let documents =
+        if scan || search.combined > 0 || options.best == 0 { Some(search.combine("unite", unite_all, any)?) } else { None };
+    if let Some(found) = documents.as_ref().map(|set| set.len()).filter(|_| options.best == 0) {
         return Ok((format!("{found} of {} documents\n", index.documents).into(), found > 0));
     }
-    let (best, mut text) = (search.best()?, Vec::new());
-    for &(score, document) in &best {
+    let documents = documents.map(|set| set.unpack());
+    let mut ranking = Ranking::new(&index.lengths, search.terms, options.best);
+    match documents {
+        Some(documents) if scan => ranking.scan(&documents),
+        documents => ranking.rank(documents.as_deref()),
+    }
+    if options.explain {
+        eprintln!("{} counts read to rank", ranking.counts_read);
+    }
+    let mut text = Vec::new();
+    for &(score, document) in &ranking.best {
         write!(text, "{score:7.3}  ")?;
         // A terminal could take these bytes for commands.
         text.extend(index.item(document as usize).iter().map(|byte| if byte.is_ascii_control() { b'?' } else { *byte }));
@@ -258,7 +249,7 @@ fn answer(bytes: &[u8], query: &[u8], options: &Options) -> Result<(Vec<u8>, boo
             eprintln!("document {document}: {score}");
         }
     }
-    Ok((text, !best.is_empty()))
+    Ok((text, !ranking.best.is_empty()))
 }
 
 /// Answers a query from an index file. Returns what to print, and whether there is a document.

@@ -6,10 +6,11 @@ use std::io::{self, IsTerminal, Write};
 use std::os::unix::ffi::OsStrExt;
 use std::path::{Path, PathBuf};
 
-use bitpacking::list::{encode_into, Kind};
+use bitpacking::column::{self, Kind};
+use bitpacking::set;
 
-use crate::best::class_of;
-use crate::{about, Result, MAGIC};
+use crate::best::{BLOCK, class_of};
+use crate::{MAGIC, Result, about};
 
 /// The longest run of letters and digits that is a word.
 const LONGEST_WORD: usize = 64;
@@ -31,9 +32,19 @@ impl Items {
         Ok(())
     }
 
-    fn list(&mut self, kind: Kind, values: &[u32]) -> Result<()> {
-        encode_into(kind, values, &mut self.bytes)?;
+    fn column(&mut self, kind: Kind, values: &[u32]) -> Result<()> {
+        column::pack_into(kind, values, &mut self.bytes)?;
         self.end(&[])
+    }
+
+    /// Writes what the index has of a word: its documents, its counts, and the last document and the greatest count of each whole block.
+    fn word(&mut self, documents: &[u32], counts: &[u32]) -> Result<()> {
+        let lasts = documents.chunks_exact(BLOCK).map(|block| block[BLOCK - 1]);
+        let greatest = counts.chunks_exact(BLOCK).filter_map(|block| block.iter().copied().max());
+        set::pack_into(documents, &mut self.bytes)?;
+        self.end(&[])?;
+        self.column(Kind::Plain, counts)?;
+        self.column(Kind::Plain, &lasts.chain(greatest).collect::<Vec<_>>())
     }
 }
 
@@ -41,7 +52,7 @@ impl Items {
 #[derive(Default)]
 struct Builder {
     items: Items,
-    classes: Vec<u32>,
+    classes: Vec<u8>,
     words: HashMap<Vec<u8>, (Vec<u32>, Vec<u32>)>,
 }
 
@@ -66,7 +77,7 @@ impl Builder {
         }
         self.classes.push(class_of(length));
         let first = text.split(|byte| b"\r\n".contains(byte)).next().unwrap_or_default();
-        let ends = |at: &usize| text.get(*at).map_or(true, |byte| byte & 0xC0 != 0x80); // no character of UTF-8 is cut
+        let ends = |at: &usize| text.get(*at).is_none_or(|byte| byte & 0xC0 != 0x80); // no character of UTF-8 is cut
         let kept = (0..=first.len().min(LONGEST_LINE)).rev().find(ends).unwrap_or(0);
         self.items.end(&[path.as_os_str().as_bytes(), format!(":{line}  ").as_bytes(), &first[..kept]].concat())
     }
@@ -106,7 +117,7 @@ impl Builder {
         Ok(())
     }
 
-    /// Adds the words in their order, the lists of each, the classes of lengths, and where all these items begin.
+    /// Adds the words in their order, the set and the columns of each, the classes of lengths, and where all these items begin.
     fn add_words(&mut self) -> Result<()> {
         let mut words: Vec<_> = self.words.iter().collect();
         words.sort_unstable_by_key(|(word, _)| *word);
@@ -114,12 +125,11 @@ impl Builder {
             self.items.end(&[word, &[0][..]].concat())?;
         }
         for (_, (documents, counts)) in &words {
-            self.items.list(Kind::StrictlySorted, documents)?;
-            self.items.list(Kind::Plain, counts)?;
+            self.items.word(documents, counts)?;
         }
-        self.items.list(Kind::Plain, &self.classes)?;
+        self.items.end(&self.classes)?;
         let start = self.items.bytes.len() as u32;
-        encode_into(Kind::StrictlySorted, &self.items.bounds, &mut self.items.bytes)?;
+        column::pack_into(Kind::Sorted, &self.items.bounds, &mut self.items.bytes)?;
         self.items.end(&start.to_le_bytes())
     }
 }
@@ -137,8 +147,27 @@ fn read(path: &Path, kind: FileType, left: &mut Vec<PathBuf>) -> io::Result<Vec<
     Ok(Vec::new())
 }
 
+/// Refuses to replace what is no regular file, and removes the files that runs left beside it if they were killed.
+fn prepare(file: &Path) -> Result<()> {
+    if fs::symlink_metadata(file).is_ok_and(|status| !status.is_file()) {
+        return Err(about(file, "it is no regular file, and is not replaced").into());
+    }
+    let folder = file.parent().filter(|folder| *folder != Path::new("")).unwrap_or(Path::new("."));
+    for entry in fs::read_dir(folder).into_iter().flatten().flatten() {
+        let name = entry.file_name();
+        let rest = file.file_name().and_then(|file| name.as_bytes().strip_prefix(file.as_bytes()));
+        let process = rest.and_then(|rest| rest.strip_prefix(b".")?.strip_suffix(b".tmp"));
+        let number = process.and_then(|process| str::from_utf8(process).ok()?.parse::<u32>().ok());
+        if number.is_some_and(|number| !Path::new(&format!("/proc/{number}")).exists()) {
+            fs::remove_file(entry.path())?;
+        }
+    }
+    Ok(())
+}
+
 /// Writes an index of the text files below a folder. Returns what to print.
 pub fn index(folder: &Path, file: &Path, paragraphs: bool) -> Result<(Vec<u8>, bool)> {
+    prepare(file)?;
     let mut builder = Builder::default();
     builder.items.end(MAGIC)?;
     builder.add_folder(folder, paragraphs)?;

@@ -1,4 +1,4 @@
-//! A small search engine over packed lists. `../README.md` describes its queries and its file.
+//! A small search engine over id sets and columns. `../README.md` describes its queries and its file.
 //!
 //! This file has the command line. `index.rs` has `index`, `find.rs` has `find`, and `best.rs` ranks documents.
 
@@ -14,22 +14,22 @@ use std::path::Path;
 use std::process::ExitCode;
 
 const HELP: &str = "\
-A small search engine over packed lists.
+A small search engine over id sets and columns.
 
     search index [--paragraphs] FOLDER FILE
         writes an index of the text files below FOLDER to FILE; a document is a file, or a paragraph
     search find [--best N] [--scan] [--count] [--explain] FILE QUERY
-        prints the 10 best documents that answer QUERY, or the N best up to 999, without reading all its lists, or with
-        reading all (--scan); or how many answer (--count); and which lists and how many of their blocks it reads (--explain)
+        prints the 10 best documents that answer QUERY, or the N best up to 999, without reading all counts of its words,
+        or with reading all (--scan); or how many answer (--count); and which sets and how many counts it reads (--explain)
 
 A query has words next to each other (documents with all of them), a | b (with one of them), -c (without it),
-pre* (all words that begin so), and brackets: 'packed (list | block) -chain*'
+pre* (all words that begin so), and brackets: 'packed (list | block) -chain*'. All signs but letters and digits end a word.
 
 The status is 0 if a document was found, 1 if none was, and 2 if something is wrong.
 ";
 
 /// An index file begins with this. It has a zero, which no text has.
-const MAGIC: &[u8; 8] = b"search2\0";
+const MAGIC: &[u8; 8] = b"search3\0";
 
 /// What the command line asks for.
 struct Options {

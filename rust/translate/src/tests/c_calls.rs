@@ -3,7 +3,7 @@
 use super::{Wrong, in_rust, module, rust};
 
 fn c(source: &str) -> Result<String, Wrong> {
-    in_rust(source, module("c"))
+    in_rust(source, module("c"), true)
 }
 
 #[test]

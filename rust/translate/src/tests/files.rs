@@ -29,7 +29,7 @@ impl Folder {
     }
 
     fn translate(&self) -> Result<usize, String> {
-        translate(&self.0.join("crates"), &self.0.join("made"), "1.2.3").map_err(|it| it.to_string())
+        translate(&self.0.join("crates"), &self.0.join("made")).map_err(|it| it.to_string())
     }
 }
 
@@ -47,13 +47,12 @@ fn each_file_has_its_place() {
     folder.write("inner/two.rt", "fn two() {}\n");
     folder.write("notes.txt", "fn three() {}\n");
     let made = folder.translate().unwrap();
-    assert_eq!(fs::read_to_string(folder.made("src/lists.rs")).unwrap(), "mod one;\nmod inner;\n");
-    assert_eq!(fs::read_to_string(folder.made("src/lists/inner/two.rs")).unwrap(), "fn two() {}\n");
-    assert!(!folder.made("src/lists/notes.rs").exists());
-    assert!(fs::read_to_string(folder.made("Cargo.toml")).unwrap().contains("version = \"1.2.3\""));
+    assert_eq!(fs::read_to_string(folder.made("lists.rs")).unwrap(), "mod one;\nmod inner;\n");
+    assert_eq!(fs::read_to_string(folder.made("lists/inner/two.rs")).unwrap(), "fn two() {}\n");
+    assert!(!folder.made("lists/notes.rs").exists());
     fs::remove_file(folder.0.join("crates/bitpack_lists/src/one.rt")).unwrap();
     assert_eq!(folder.translate(), Ok(made - 1));
-    assert!(!folder.made("src/lists/one.rs").exists());
+    assert!(!folder.made("lists/one.rs").exists());
 }
 
 #[test]
@@ -63,10 +62,23 @@ fn each_crate_is_a_module() {
     fs::write(folder.0.join("crates/bitpack_sets/src/one.rt"), source).unwrap();
     folder.translate().unwrap();
     let made = "use crate::groups::GroupError;\n\npub(in crate::sets) fn one() {\n    crate::sets::two::three();\n}\n";
-    assert_eq!(fs::read_to_string(folder.made("src/sets/one.rs")).unwrap(), made);
+    assert_eq!(fs::read_to_string(folder.made("sets/one.rs")).unwrap(), made);
+    let declared = fs::read_to_string(folder.made("modules.rs")).unwrap();
     for module in CRATES {
-        let head = include_str!("../../made/src/lib.rs");
-        assert!(head.lines().any(|it| it.trim_start_matches("pub ") == format!("mod {};", module.name)), "{}", module.name);
+        assert_eq!(declared.lines().filter(|it| *it == format!("mod {};", module.name)).count(), 1, "{}", module.name);
+        assert_eq!(declared.lines().filter(|it| *it == format!("pub mod {};", module.name)).count(), 1, "{}", module.name);
+    }
+}
+
+#[test]
+fn modules_are_private_to_users() {
+    let folder = Folder::new("private");
+    folder.translate().unwrap();
+    let declared = fs::read_to_string(folder.made("modules.rs")).unwrap();
+    let lines: Vec<&str> = declared.lines().collect();
+    for at in (0..lines.len()).filter(|it| lines[*it].starts_with("pub mod")) {
+        assert!(lines[at - 3].starts_with("#[cfg(all(") && lines[at - 3].ends_with("feature = \"__source\"))]"), "{}", lines[at]);
+        assert!(!lines[at - 3].contains("not("), "{}", lines[at]);
     }
 }
 
@@ -77,13 +89,11 @@ fn only_what_changes_is_written() {
     folder.write("two.rt", "fn two() {}\n");
     folder.translate().unwrap();
     let time = |path: &str| fs::metadata(folder.made(path)).unwrap().modified().unwrap();
-    let before = ["src/lists/one.rs", "src/lists/two.rs", "Cargo.toml"].map(time);
-    fs::write(folder.made("Cargo.lock"), "").unwrap();
+    let before = ["lists/one.rs", "lists/two.rs", "modules.rs"].map(time);
     folder.write("two.rt", "fn two() {\n    1\n}\n");
     folder.translate().unwrap();
-    assert_eq!([before[0], before[2]], ["src/lists/one.rs", "Cargo.toml"].map(time));
-    assert_eq!(fs::read_to_string(folder.made("src/lists/two.rs")).unwrap(), "fn two() {\n    1\n}\n");
-    assert!(folder.made("Cargo.lock").exists(), "only sources are removed");
+    assert_eq!([before[0], before[2]], ["lists/one.rs", "modules.rs"].map(time));
+    assert_eq!(fs::read_to_string(folder.made("lists/two.rs")).unwrap(), "fn two() {\n    1\n}\n");
 }
 
 #[test]
@@ -93,7 +103,7 @@ fn a_refusal_names_its_file_and_writes_nothing() {
     folder.write("two.rt", "\nghost fn two() {}\n");
     let why = folder.translate().unwrap_err();
     assert!(why.ends_with("bitpack_lists/src/two.rt:2: no rule for this form of 'ghost'"), "{why}");
-    assert!(!folder.made("src").exists());
+    assert!(!folder.made("").exists());
 }
 
 #[test]
@@ -105,10 +115,10 @@ fn a_crate_that_is_not_there_is_named() {
 
 #[test]
 fn two_translations_are_the_same() {
-    let crates = Path::new(env!("CARGO_MANIFEST_DIR")).join("../../crates");
+    let crates = Path::new(env!("CARGO_MANIFEST_DIR")).join("../../../crates");
     let (one, other) = (Folder::new("one"), Folder::new("other"));
-    let made = translate(&crates, &one.made(""), "1.2.3").unwrap();
-    assert_eq!(translate(&crates, &other.made(""), "1.2.3"), Ok(made));
+    let made = translate(&crates, &one.made("")).unwrap();
+    assert_eq!(translate(&crates, &other.made("")), Ok(made));
     let same = process::Command::new("diff").arg("-r").args([one.made(""), other.made("")]).status().unwrap();
     assert!(same.success() && made > 200);
 }

@@ -42,6 +42,17 @@ fn shown_text() {
 }
 
 #[test]
+fn errors_that_may_be_more() {
+    for name in ["SetError", "ColumnError", "QueryError"] {
+        let source = format!("#[derive(Clone, Copy)]\npub enum {name} {{\n    A,\n}}\n");
+        becomes(&source, &source.replace("pub enum", "#[non_exhaustive]\npub enum"));
+    }
+    for other in ["pub enum ColumnKind {\n    A,\n}\n", "pub struct SetError;\n", "impl SetError {}\n"] {
+        becomes(other, other);
+    }
+}
+
+#[test]
 fn constants_that_are_proved() {
     becomes("const _: () = prove!(A == 1);\n", "const _: () = assert!(A == 1);\n");
     refused("fn one() {\n    prove!(1 == 1);\n}\n", 2, "'prove!' outside");
@@ -122,4 +133,14 @@ fn paths() {
     refused("use hex::digits;\n", 1, "the crate or module 'hex'");
     refused("mod a;\n\nfn one() {\n    hex::digits();\n}\n", 4, "the crate or module 'hex'");
     refused("pub(in crate) fn one() {}\n", 1, "'in' before 'fn'");
+}
+
+#[test]
+fn examples_in_comments() {
+    becomes(
+        "/// Adds.\n///\n/// ```rust\n/// add(1);\n/// ```\nfn add() {}\n",
+        "/// Adds.\n///\n/// ```text\n/// add(1);\n/// ```\nfn add() {}\n",
+    );
+    becomes("//! Adds.\n//! ```rust\n//! ```\n", "//! Adds.\n//! ```text\n//! ```\n");
+    refused("fn add() {\n    // ```rust\n}\n", 2, "no rule for an example here");
 }

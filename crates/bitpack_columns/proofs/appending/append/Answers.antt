@@ -1,30 +1,40 @@
 -- The tail and more values are packed after the whole blocks.
-use Rattle.std.proofs.Common.{◌≡◌, ◌*◌, ◌++◌, ℕ, List, OnOk, take, sym, ap, ◌∙◌, rules, subst}
-use Rattle.bitpack_columns.specs.Columns.{IsColumn, text}
+use Rattle.std.proofs.Common.{◌≡◌, ◌+◌, ◌*◌, ◌%◌, ◌≤◌, ℕ, List, length, take, sym, arith, rules, subst}
+use Rattle.std.proofs.lemmas.List.{length-take-le}
+use Rattle.bitpack_columns.specs.Columns.{IsColumn}
 use Rattle.bitpack_columns.specs.Opened.{blocks_of, values}
+use Rattle.bitpack_columns.specs.Written.{AppendsColumn}
 use Rattle.bitpack_columns.proofs.OpenedLaws.{count_is}
-use Rattle.bitpack_columns.proofs.SplitLaws.{rejoined}
+use Rattle.bitpack_columns.proofs.SplitLaws.{none_later, repacked}
 use Rattle.bitpack_columns.proofs.appending.append.Goals as goal
 
-pub unpack_tail-requires : goal.unpack_tail-requires
-unpack_tail-requires c = rw (count_is c.args.column.now) (search rules)
+pub slice_bounds-room-end : goal.slice_bounds-room-end
+slice_bounds-room-end c =
+    let within : c.args.column.now.count % 128 + c.in_ok-taken.taken ≤ 128 = omega (arith, c.in_ok-taken.ensures.taken, count_is c.args.column.now) in
+    search rules
 
-pub append_packed-requires : goal.append_packed-requires
-append_packed-requires c =
-    let column = c.args.column.now in
-    let more : List ℕ = c.args.more.now in
-    let n : ℕ = 128 * blocks_of column in
-    let same : take n (values column) ++ c.as_slice.result.now ≡ values column ++ more =
-    ap (λ (l : List ℕ). take n (values column) ++ l) (c.as_slice.ensures.value ∙ c.in_ok-collect.ensures.ok ∙ ap (λ (l : List ℕ). l ++ more) c.unpack_tail.ensures)
-    ∙ rejoined (values column) more n in
-    subst (IsColumn column.kind) (sym same) c.in_ok-test_after.ensures.column
+pub slice_bounds-whole-end : goal.slice_bounds-whole-end
+slice_bounds-whole-end c =
+    let filled : ℕ = c.args.column.now.count % 128 + c.in_ok-taken.taken in
+    let within : filled ≤ length c.fill.new.room = omega (arith, c.in_ok-taken.ensures.taken, count_is c.args.column.now, c.fill.auto.room) in
+    let long : length (take filled c.fill.new.room) ≡ filled = length-take-le filled c.fill.new.room within in
+    search rules
 
-pub returns-clause-ok : goal.returns-clause-ok
-returns-clause-ok c =
+pub whole-requires-clause-all : goal.whole-requires-clause-all
+whole-requires-clause-all c =
     let column = c.args.column.now in
-    let more : List ℕ = c.args.more.now in
-    let n : ℕ = 128 * blocks_of column in
-    let same : take n (values column) ++ c.as_slice.result.now ≡ values column ++ more =
-    ap (λ (l : List ℕ). take n (values column) ++ l) (c.as_slice.ensures.value ∙ c.in_ok-collect.ensures.ok ∙ ap (λ (l : List ℕ). l ++ more) c.unpack_tail.ensures)
-    ∙ rejoined (values column) more n in
-    subst (λ (l : List ℕ). OnOk c.append_packed.result (c.append_packed.new.out.items ≡ c.args.out.now.items ++ text column.kind l)) same c.append_packed.ensures.ok
+    none_later (values column) c.args.more.now _ c.in_ok-taken.taken column.count (count_is column) c.in_ok-taken.ensures.filled c.in_ok-taken.ensures.taken
+
+pub append_packed-requires-clause-column : goal.append_packed-requires-clause-column
+append_packed-requires-clause-column c =
+    let column = c.args.column.now in
+    let same = repacked (values column) c.args.more.now _ c.whole.result.0.now c.whole.result.1.now (128 * blocks_of column) c.in_ok-taken.taken (length (values column)) column.count (count_is column)
+    c.in_ok-taken.ensures.filled c.whole.ensures.all in
+    subst (IsColumn column.kind) (sym same) c.in_ok-taken.ensures.column
+
+pub returns : goal.returns
+returns c =
+    let column = c.args.column.now in
+    let same = repacked (values column) c.args.more.now _ c.whole.result.0.now c.whole.result.1.now (128 * blocks_of column) c.in_ok-taken.taken (length (values column)) column.count (count_is column)
+    c.in_ok-taken.ensures.filled c.whole.ensures.all in
+    subst (λ (l : List ℕ). AppendsColumn column.kind l c.append_packed.result c.args.out.now c.append_packed.new.out) same c.append_packed.ensures

@@ -1,5 +1,4 @@
 -- The bits of a code are in two words.
-use Rattle.std.proofs.Common.{arith}
 use Rattle.bitpacking.proofs.ForCallers.{AreBytes-from_slice}
 use Rattle.bitpack_columns.proofs.CodeWords.{code_by_words, no_code}
 use Rattle.bitpack_columns.proofs.code.code_at.Goals as goal

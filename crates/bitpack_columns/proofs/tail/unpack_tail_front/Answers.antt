@@ -1,5 +1,5 @@
 -- The codes of the first groups are the first codes.
-use Rattle.std.proofs.Common.{◌≡◌, ◌-◌, ◌≤◌, ◌<◌, ◌%◌, ℕ, List, length, take, ◌∙◌, ap, arith}
+use Rattle.std.proofs.Common.{◌-◌, ℕ, List, length, ◌∙◌, arith}
 use Rattle.bitpacking.proofs.ForCallers.{AreBytes-from_slice}
 use Rattle.bitpack_columns.specs.Columns.{left_out}
 use Rattle.bitpack_columns.specs.Numbers.{groups_codes, groups_of}

@@ -1,6 +1,5 @@
 -- The integer is written at its place.
-use Rattle.std.proofs.Common.{◌≡◌, ℕ, ◌+◌, ◌-◌, ◌*◌, ◌≤◌, ◌++◌, List, length, take, drop, ap, sym, arith, ◌∙◌}
-use borrow.Rule.Slice.PartMut.{put_mid}
+use Rattle.std.proofs.Common.{◌≡◌, ℕ, ◌+◌, ◌-◌, ◌*◌, ◌++◌, List, length, take, ap, arith, ◌∙◌}
 use Rattle.std.proofs.lemmas.Slice.{take-put_mid}
 use Rattle.bitpack_groups.proofs.IntegerLaws.{lent_len, little_len, product_more}
 use Rattle.bitpack_groups.proofs.SliceLemmas.{length-written}

@@ -1,5 +1,5 @@
 -- The ids after the copied chunks are a set, and all of them are the ids.
-use Rattle.std.proofs.Common.{◌≡◌, ◌+◌, ◌++◌, [], ℕ, List, arith, ap, drop, length, subst, sym, ◌∙◌, length-append}
+use Rattle.std.proofs.Common.{◌≡◌, ◌++◌, [], ℕ, List, arith, ap, drop, length, subst, sym, ◌∙◌, length-append}
 use Rattle.bitpack_sets.proofs.EncodeLaws.{chunks_is}
 use Rattle.bitpack_sets.proofs.FrontLaws.{all_ids, later_set}
 use Rattle.bitpack_sets.proofs.appending.append_after.Goals as goal

@@ -1,5 +1,5 @@
 -- One number more.
-use Rattle.std.proofs.Common.{◌≡◌, ◌+◌, ◌<◌, ℕ, List, Some, ap, arith, length, ◌∙◌, sym}
+use Rattle.std.proofs.Common.{◌≡◌, ◌+◌, ℕ, List, Some, ap, arith, ◌∙◌, sym}
 use Rattle.bitpack_sets.specs.Slices.{quads_of}
 use Rattle.bitpack_sets.proofs.FallLaws.{fall_here, fall_later, fall_none, fall_start}
 use Rattle.bitpack_sets.proofs.NumberReads.{quads_len}

@@ -1,14 +1,15 @@
 -- The middle one tells which half has the rank.
 use Rattle.std.proofs.Common.{◌+◌, ◌/◌, ◌^◌, arith}
-use Rattle.bitpack_sets.proofs.HalfLaws.{rank_above, rank_most, rank_under}
+use Rattle.bitpack_sets.proofs.HalfLaws.{rank_above, rank_under}
 use Rattle.bitpack_sets.proofs.NumberReads.{quads_len}
+use Rattle.bitpack_sets.proofs.ReadLaws.{rank_le}
 use Rattle.bitpack_sets.proofs.array.rank_in_array.Goals as goal
 use Rattle.bitpack_sets.specs.Slices.{quads_of}
 
 pub loop-left-init : goal.loop-left-init
 loop-left-init c =
     let size = quads_len c.args.rest.now in
-    let most = rank_most c.args.id (quads_of c.args.rest.now) in
+    let most = rank_le c.args.id (quads_of c.args.rest.now) in
     record { within = omega arith; low_is = omega arith; high_is = omega arith }
 
 pub loop-left-preserved-then-id_at-id : goal.loop-left-preserved-then-id_at-id

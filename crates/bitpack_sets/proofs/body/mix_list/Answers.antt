@@ -1,15 +1,15 @@
 -- The bitmap has the low 16 bits of the list.
 use Rattle.std.proofs.Common.{List, ℕ, ◌∙◌, ◌+◌, ◌*◌, ap, map}
+use Rattle.bitpack_sets.proofs.BitmapLaws.{has_none}
 use Rattle.bitpack_sets.proofs.FollowLaws.{follow_as}
 use Rattle.bitpack_sets.proofs.KeyLaws.{lows_in, mixed_of_key}
-use Rattle.bitpack_sets.proofs.MixLaws.{no_bits}
 use Rattle.bitpack_sets.proofs.body.mix_list.Goals as goal
 use Rattle.bitpack_sets.specs.Lists.{listed_ids}
 use Rattle.bitpack_sets.specs.Operations.{combined}
 use Rattle.bitpack_sets.specs.Selections.{parts_numbers}
 
 pub mark-highs-requires : goal.mark-highs-requires
-mark-highs-requires c x = no_bits 1024 x
+mark-highs-requires c x = has_none 1024 x
 
 pub returns : goal.returns
 returns c =

@@ -1,5 +1,5 @@
 -- The ids of one key more are counted.
-use Rattle.std.proofs.Common.{◌≡◌, ◌/◌, ◌+◌, ◌*◌, ◌&&◌, ℕ, List, [], get_or, length, take, ap, sym, ◌∙◌, arith}
+use Rattle.std.proofs.Common.{◌/◌, ◌+◌, ◌*◌, ◌&&◌, ℕ, List, [], get_or, length, take, ap, sym, ◌∙◌, arith}
 use Rattle.bitpack_sets.specs.Bitmaps.{has_bit}
 use Rattle.bitpack_sets.specs.Folds.{found}
 use Rattle.bitpack_sets.specs.Operations.{those}

@@ -1,5 +1,5 @@
 -- The ids of several keys more are counted.
-use Rattle.std.proofs.Common.{◌≡◌, ◌+◌, ◌*◌, ◌/◌, ◌^◌, ◌≤◌, ℕ, List, length, map, ap, sym, ◌∙◌, arith, refl}
+use Rattle.std.proofs.Common.{◌+◌, ◌*◌, ◌/◌, ◌^◌, ℕ, length, map, ap, arith, refl}
 use Rattle.std.proofs.lemmas.List.{length-map}
 use Rattle.bitpack_sets.specs.Folds.{found}
 use Rattle.bitpack_sets.specs.Operations.{folded}

@@ -1,5 +1,5 @@
 -- The ids of several keys more are written.
-use Rattle.std.proofs.Common.{◌≡◌, ◌+◌, ◌*◌, ◌/◌, ◌^◌, ◌≤◌, ℕ, length, length-append, map, ap, sym, ◌∙◌, arith, refl}
+use Rattle.std.proofs.Common.{◌+◌, ◌*◌, ◌/◌, ◌^◌, ℕ, length, length-append, map, ap, sym, ◌∙◌, arith, refl}
 use Rattle.std.proofs.lemmas.List.{length-map}
 use Rattle.bitpack_sets.specs.Folds.{found, ids_of_keys}
 use Rattle.bitpack_sets.specs.Operations.{those}

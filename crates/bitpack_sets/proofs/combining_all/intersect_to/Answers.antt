@@ -1,12 +1,10 @@
 -- A set more picks the ids that it has. The two sets that are combined before need not.
-use Rattle.std.proofs.Common.{◌≡◌, ◌+◌, ◌^◌, ℕ, List, [], drop, get_or, length, length-append, map, take, ap, sym, ◌∙◌, arith}
+use Rattle.std.proofs.Common.{◌^◌, ℕ, List, [], drop, get_or, length, length-append, map, take, ap, sym, ◌∙◌, arith}
 use Rattle.std.proofs.lemmas.List.{length-map, length-take-le, take-append-le}
 use Rattle.bitpack_sets.specs.Opened.{ids}
-use Rattle.bitpack_sets.specs.Operations.{answer_all, those}
-use Rattle.bitpack_sets.specs.declared.operation.Operation.TheVariants.{And}
 use Rattle.bitpack_sets.proofs.AnswerLaws.{those_same}
 use Rattle.bitpack_sets.proofs.FoldLaws.{set_ids}
-use Rattle.bitpack_sets.proofs.PickLaws.{common, common_all, common_first, common_second, pick_more}
+use Rattle.bitpack_sets.proofs.PickLaws.{common_all, common_first, common_second, pick_more}
 use Rattle.bitpack_sets.proofs.combining_all.intersect_to.Goals as goal
 use Rattle.bitpack_sets.proofs.combining_all.intersect_to.Goals.{then-i-a+then-i-b, else-i-a, else-i-a-via-then-i-a+else-i-b, else-i-a-via-else-i-a}
 

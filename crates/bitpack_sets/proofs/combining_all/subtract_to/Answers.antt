@@ -1,5 +1,5 @@
 -- A set more drops the ids that it has.
-use Rattle.std.proofs.Common.{◌≡◌, ◌+◌, ◌^◌, ℕ, List, [], drop, get_or, length, length-append, map, take, sym, ◌∙◌, arith}
+use Rattle.std.proofs.Common.{ℕ, List, drop, length-append, map, take, sym, ◌∙◌, arith}
 use Rattle.std.proofs.lemmas.List.{length-map, take-append-le}
 use Rattle.bitpack_sets.specs.Opened.{ids}
 use Rattle.bitpack_sets.proofs.FoldLaws.{set_ids}

@@ -1,5 +1,5 @@
 -- The ids of one key more are written.
-use Rattle.std.proofs.Common.{◌≡◌, ◌/◌, ◌+◌, ◌*◌, ◌≤◌, ◌&&◌, ◌++◌, ℕ, List, [], get_or, length, map, take, refl, ap, sym, ◌∙◌, append-nil, append_assoc, arith}
+use Rattle.std.proofs.Common.{◌/◌, ◌+◌, ◌*◌, ◌≤◌, ◌&&◌, ◌++◌, ℕ, List, [], get_or, length, map, take, refl, ap, sym, ◌∙◌, append-nil, append_assoc, arith}
 use Rattle.bitpack_sets.specs.Bitmaps.{bitmap_numbers, has_bit}
 use Rattle.bitpack_sets.specs.Folds.{found}
 use Rattle.bitpack_sets.specs.Operations.{those}

@@ -1,10 +1,9 @@
 -- The body of a chunk is numbers or blocks.
-use Rattle.std.proofs.Common.{◌≡◌, ◌+◌, ◌-◌, ◌*◌, ◌/◌, ◌<◌, ◌≤◌, ◌++◌, ℕ, List, drop, length, map, take, arith, ap, sym, ◌∙◌, subst}
-use Rattle.bitpack_sets.specs.Directory.{before, bodies_end, bodies_start, body_at, body_numbers_of, count_at, end_at, key_at, sum_at}
+use Rattle.std.proofs.Common.{◌≡◌, ◌+◌, ◌-◌, ◌*◌, ◌<◌, ◌++◌, ℕ, List, drop, length, take, arith, ap, sym, ◌∙◌, subst}
+use Rattle.bitpack_sets.specs.Directory.{before, bodies_start, body_at, body_numbers_of, count_at, end_at, key_at, sum_at}
 use Rattle.bitpack_sets.specs.Slices.{IsBlocks, block_numbers, pairs_of}
 use Rattle.bitpack_sets.specs.Sound.{IsRest}
 use Rattle.bitpack_sets.proofs.ChunkReads.{blocks_read, body_cut, body_end, numbers_read, raised_same}
-use Rattle.bitpack_sets.proofs.EntryLaws.{body_len}
 use Rattle.bitpack_sets.proofs.decoding.unpack_chunk.Goals as goal
 
 pub slice_bounds-body-end : goal.slice_bounds-body-end

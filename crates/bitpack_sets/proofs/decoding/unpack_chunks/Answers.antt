@@ -1,8 +1,8 @@
 -- The ids of one chunk more are written.
-use Rattle.std.proofs.Common.{◌≡◌, ◌+◌, ◌-◌, ◌*◌, ◌<◌, ◌≤◌, ◌++◌, ℕ, List, length, map, take, arith, ap, sym, ◌∙◌, append_assoc, refl, subst}
+use Rattle.std.proofs.Common.{◌≡◌, ◌-◌, ℕ, List, map, take, arith, ap, sym, ◌∙◌, refl}
 use Rattle.std.specs.List.{range_with_len}
-use Rattle.std.proofs.lemmas.List.{append-nil, take_all}
-use Rattle.bitpack_sets.specs.Directory.{before, chunk_at, chunk_ids, ids_of_chunks, sum_at}
+use Rattle.std.proofs.lemmas.List.{take_all}
+use Rattle.bitpack_sets.specs.Directory.{chunk_at, ids_of_chunks}
 use Rattle.bitpack_sets.proofs.ChunkReads.{chunks_done, chunks_next, count_next, count_within, sum_all}
 use Rattle.bitpack_sets.proofs.decoding.unpack_chunks.Goals as goal
 

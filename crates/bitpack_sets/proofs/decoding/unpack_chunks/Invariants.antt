@@ -1,5 +1,5 @@
 -- The ids of the chunks that are left are still to be written.
-use Rattle.std.proofs.Common.{◌≡◌, ◌+◌, ◌-◌, ◌++◌, length, map, take}
+use Rattle.std.proofs.Common.{◌≡◌, ◌-◌, ◌++◌, length, map, take}
 use Rattle.std.specs.List.{range_with_len}
 use Rattle.bitpack_sets.specs.Directory.{before, chunk_at, chunk_ids, ids_of_chunks, sum_at}
 use Rattle.bitpack_sets.proofs.decoding.unpack_chunks.Given as goal

@@ -5,8 +5,9 @@ use Rattle.std.proofs.lemmas.List.{take_all}
 use borrow.Rule.Slice.PartMut.{same_len_mid}
 use Rattle.bitpack_sets.specs.Directory.{body_at, body_numbers_of, chunk_ids, count_at, key_at}
 use Rattle.bitpack_sets.proofs.CountLaws.{bytes_are}
-use Rattle.bitpack_sets.proofs.RangeLaws.{AtChunk, chunk_passed, chunk_range, min_less, part_len, part_written}
+use Rattle.bitpack_sets.proofs.RangeLaws.{AtChunk, chunk_passed, chunk_range, min_less, part_written}
 use Rattle.bitpack_sets.proofs.decoding.unpack_chunks_from.Goals as goal
+use Rattle.bitpack_groups.proofs.ForCallers.{lent_len}
 
 pub loop-next-init : goal.loop-next-init
 loop-next-init c =
@@ -38,7 +39,7 @@ loop-next-preserved c =
     let few : wanted ≡ min (count_at chunks rest m - left) (length out - next) = c.min-wanted.ensures ∙ ap (λ (k : ℕ). min (k - left) (length out - next)) all in
     let low = min-le_left (count_at chunks rest m - left) (length out - next) in
     let high = min-le_right (count_at chunks rest m - left) (length out - next) in
-    let mid : length (take (next + wanted - next) (drop next out)) ≡ wanted = part_len next wanted out (omega arith) in
+    let mid : length (take (next + wanted - next) (drop next out)) ≡ wanted = lent_len next wanted out (omega arith) in
     let same = same_len_mid next (next + wanted - next) out c.unpack_chunk_from.new.out c.unpack_chunk_from.auto.out in
     let part = c.unpack_chunk_from.ensures
     ∙ ap (λ (k : ℕ). map (λ low. key_at rest m * 65536 + low) (take k (drop left (body_numbers_of (count_at chunks rest m) (body_at chunks rest m))))) mid

@@ -1,5 +1,5 @@
 -- The end of a chunk is within the ends.
-use Rattle.std.proofs.Common.{◌%◌, ◌*◌, ◌+◌, ◌≡◌, ℕ, arith, get_or}
+use Rattle.std.proofs.Common.{◌%◌, ℕ, arith, get_or}
 use Rattle.bitpack_groups.proofs.ForCallers.{within_all}
 use Rattle.bitpack_sets.proofs.directory.end_at.Goals as goal
 

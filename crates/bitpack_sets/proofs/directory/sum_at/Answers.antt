@@ -1,5 +1,5 @@
 -- The sum of a chunk is within the sums.
-use Rattle.std.proofs.Common.{◌/◌, ◌*◌, ◌+◌, ◌≡◌, ℕ, arith, get_or}
+use Rattle.std.proofs.Common.{◌/◌, ℕ, arith, get_or}
 use Rattle.bitpack_groups.proofs.ForCallers.{within_all}
 use Rattle.bitpack_sets.proofs.directory.sum_at.Goals as goal
 

@@ -1,5 +1,5 @@
 -- The zeros in the room that is reserved become the encoding.
-use Rattle.std.proofs.Common.{◌≡◌, ◌++◌, ◌+◌, ℕ, List, length, replicate, ap, sym, ◌∙◌, arith}
+use Rattle.std.proofs.Common.{◌≡◌, ◌++◌, ℕ, List, length, replicate, ap, sym, ◌∙◌, arith}
 use Rattle.std.proofs.lemmas.List.{length-replicate}
 use Rattle.bitpack_sets.proofs.EncodeLaws.{on_err, written_over}
 use Rattle.bitpack_sets.proofs.encoding.append_set.Goals as goal

@@ -1,5 +1,5 @@
 -- One id more.
-use Rattle.std.proofs.Common.{◌≡◌, ◌+◌, ◌-◌, ◌^◌, ◌<◌, ◌≤◌, ◌++◌, ◌∷◌, [], ℕ, List, None, arith, ap, drop, get_or, length, refl, set, sym, take, length-set, ◌∙◌}
+use Rattle.std.proofs.Common.{arith, refl, sym, length-set, ◌∙◌}
 use Rattle.bitpack_sets.proofs.GapLaws.{ids_done, ids_first, ids_next, over_next, over_small}
 use Rattle.bitpack_sets.proofs.few.add_up.Goals as goal
 

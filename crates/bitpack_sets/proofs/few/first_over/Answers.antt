@@ -1,5 +1,5 @@
 -- One id more.
-use Rattle.std.proofs.Common.{◌≡◌, ◌+◌, ℕ, List, arith, get_or, refl, sym, ◌∙◌}
+use Rattle.std.proofs.Common.{◌+◌, arith, refl, sym, ◌∙◌}
 use Rattle.bitpack_sets.proofs.GapLaws.{over_done, over_found, over_next}
 use Rattle.bitpack_sets.proofs.few.first_over.Goals as goal
 

@@ -1,10 +1,10 @@
 -- One group more is read.
-use Rattle.std.proofs.Common.{◌≡◌, ℕ, List, ◌+◌, ◌-◌, ◌*◌, ◌<◌, ◌≤◌, ◌++◌, min, Some, None, length, take, drop, sym, ◌∙◌, ap, arith}
+use Rattle.std.proofs.Common.{◌≡◌, ℕ, List, ◌+◌, ◌-◌, ◌*◌, ◌<◌, ◌++◌, min, length, take, drop, sym, ◌∙◌, ap, arith}
 use Rattle.std.proofs.lemmas.List.{append-nil, length-drop, length-take-le, take_all, take_rest}
 use Rattle.std.proofs.lemmas.Result.{err_from_is_err_and}
 use Rattle.bitpack_groups.specs.Groups.{group_end}
 use Rattle.bitpack_groups.proofs.ForCallers.{after-next, codes_step, no_groups-after, no_groups-codes, no_groups-fault}
-use Rattle.bitpack_sets.specs.Varints.{after_groups, groups_codes, groups_fault, groups_of, of}
+use Rattle.bitpack_sets.specs.Varints.{after_groups, groups_fault, groups_of, of}
 use Rattle.bitpack_sets.proofs.GapLaws.{of_here, of_later}
 use Rattle.bitpack_sets.proofs.few.test_groups.Goals as goal
 

@@ -1,5 +1,5 @@
 -- What is left of the groups has their first fault, and the codes so far and those that are left are those of the groups.
-use Rattle.std.proofs.Common.{◌≡◌, ◌+◌, ◌-◌, ◌*◌, ◌++◌, ℕ, length, take}
+use Rattle.std.proofs.Common.{◌≡◌, ◌+◌, ◌-◌, ◌*◌, ◌++◌, length, take}
 use Rattle.bitpack_sets.specs.Varints.{after_groups, groups_codes, groups_fault, groups_of}
 use Rattle.bitpack_sets.proofs.few.test_groups.Given as goal
 

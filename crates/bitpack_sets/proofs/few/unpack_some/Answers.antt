@@ -1,5 +1,5 @@
 -- What one id and others without a fault have.
-use Rattle.std.proofs.Common.{◌≡◌, ◌+◌, ◌-◌, ℕ, List, None, ap, drop, length, sym, take, ◌∙◌}
+use Rattle.std.proofs.Common.{◌≡◌, ◌-◌, ℕ, List, ap, drop, length, take, ◌∙◌}
 use Rattle.std.proofs.lemmas.List.{take_rest}
 use Rattle.bitpack_sets.specs.Faults.{first_over, ids_from, short_ids}
 use Rattle.bitpack_sets.specs.Varints.{groups_codes, groups_fault, groups_of, number_end, number_value}

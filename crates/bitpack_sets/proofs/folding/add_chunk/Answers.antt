@@ -23,13 +23,13 @@ returns c x small =
           ap (λ (ws : List ℕ). has_bit c.next_highs.result (x / 256) && has_bit ws x) w.words-is
           ∙ joined_marked c.args.operation (has_bit c.args.highs.now (x / 256)) (has_bit c.highs-own.result (x / 256)) (has_bit c.args.words.now x) (has_bit w.clear_highs.new.words x)
           (has_bit w.combine_words.new.words x) (has x lows) (has_bit c.next_highs.result (x / 256)) (sym c.keeps_right.ensures ∙ w.if-keeps_right.true) next none
-          (λ e. w.clear_highs.ensures.own x small (listed_has _ _ (x / 256) w.unpack_bits-count.ensures.values (omega arith) ∙ w.combine_highs.ensures (x / 256) (omega arith) ∙ e))
-          (λ e. w.clear_highs.ensures.rest x small (listed_has _ _ (x / 256) w.unpack_bits-count.ensures.values (omega arith) ∙ w.combine_highs.ensures (x / 256) (omega arith) ∙ e))
+          (λ e. w.clear_highs.ensures.own x small (listed_has _ _ (x / 256) w.unpack_bits-count.ensures.values (omega arith) ∙ w.words.ensures (x / 256) (omega arith) ∙ e))
+          (λ e. w.clear_highs.ensures.rest x small (listed_has _ _ (x / 256) w.unpack_bits-count.ensures.values (omega arith) ∙ w.words.ensures (x / 256) (omega arith) ∙ e))
           (w.combine_words.ensures.own x small) (w.combine_words.ensures.rest x small)
       | else-keeps_right w ↦
           ap (λ (ws : List ℕ). has_bit c.next_highs.result (x / 256) && has_bit ws x) w.words-is
           ∙ cut_marked c.args.operation (has_bit c.args.highs.now (x / 256)) (has_bit c.highs-own.result (x / 256)) (has_bit c.args.words.now x)
           (has_bit w.combine_words-else-keeps_right.new.words x) (has x lows) (has_bit c.next_highs.result (x / 256)) (sym c.keeps_right.ensures ∙ w.if-keeps_right.false) next none
-          (λ e. w.combine_words-else-keeps_right.ensures.own x small (w.combine_highs-shared.ensures (x / 256) (omega arith) ∙ e))
-          (λ e. w.combine_words-else-keeps_right.ensures.rest x small (w.combine_highs-shared.ensures (x / 256) (omega arith) ∙ e))
+          (λ e. w.combine_words-else-keeps_right.ensures.own x small (w.words-shared.ensures (x / 256) (omega arith) ∙ e))
+          (λ e. w.combine_words-else-keeps_right.ensures.rest x small (w.words-shared.ensures (x / 256) (omega arith) ∙ e))
     ]

@@ -1,5 +1,5 @@
 -- One key more is combined.
-use Rattle.std.proofs.Common.{◌≡◌, ◌+◌, ◌*◌, ◌/◌, ◌%◌, ◌<◌, ◌≤◌, ℕ, Bool, List, [], get_or, length, ap, sym, ◌∙◌, arith}
+use Rattle.std.proofs.Common.{◌+◌, ◌*◌, ℕ, Bool, List, [], get_or, ap, sym, ◌∙◌, arith}
 use Rattle.std.proofs.lemmas.List.{get_or-set_other, length-set}
 use Rattle.bitpack_sets.specs.Chunks.{ids_from, lows_between}
 use Rattle.bitpack_sets.specs.Folds.{found, joined, marked}

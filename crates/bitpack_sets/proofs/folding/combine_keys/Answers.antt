@@ -1,5 +1,5 @@
 -- One set more is combined.
-use Rattle.std.proofs.Common.{◌≡◌, ◌+◌, ◌*◌, ◌/◌, ◌<◌, ◌≤◌, ℕ, Bool, List, [], false, get_or, length, map, take, inl, inr, ap, sym, ◌∙◌, arith}
+use Rattle.std.proofs.Common.{◌≡◌, ◌+◌, ◌*◌, ◌/◌, ◌<◌, ℕ, Bool, List, [], get_or, length, map, take, inl, inr, ap, sym, ◌∙◌, arith}
 use Rattle.std.proofs.lemmas.List.{length-map}
 use Rattle.bitpack_sets.specs.Folds.{swapped}
 use Rattle.bitpack_sets.specs.Opened.{ids}

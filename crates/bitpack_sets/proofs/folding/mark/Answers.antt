@@ -1,5 +1,5 @@
 -- The bits of the high byte are cleared before, if it does not occur.
-use Rattle.std.proofs.Common.{◌≡◌, ◌/◌, ◌||◌, ◌==◌, ℕ, Bool, List, false, eq-eqb, ap, sym, ◌∙◌, arith}
+use Rattle.std.proofs.Common.{◌/◌, ◌||◌, ◌==◌, ℕ, Bool, List, false, eq-eqb, ap, sym, ◌∙◌}
 use Rattle.std.proofs.lemmas.Bool.{ne_eqb}
 use Rattle.bitpack_sets.specs.Bitmaps.{has_bit}
 use Rattle.bitpack_sets.specs.Folds.{marked}

@@ -1,5 +1,5 @@
 -- One id more is marked, if it has one of the keys.
-use Rattle.std.proofs.Common.{◌≡◌, ◌+◌, ◌*◌, ◌/◌, ◌^◌, ◌<◌, ◌≤◌, ◌||◌, ℕ, Bool, List, false, get_or, length, take, ap, sym, ◌∙◌, arith}
+use Rattle.std.proofs.Common.{◌≡◌, ◌+◌, ◌*◌, ◌/◌, ◌^◌, ◌<◌, ◌≤◌, ◌||◌, ℕ, Bool, List, get_or, length, take, ap, sym, ◌∙◌, arith}
 use Rattle.std.proofs.lemmas.List.{get_or-take, length-set, length-take-le, take-take}
 use Rattle.std.proofs.lemmas.List.Elements.{All-more}
 use Rattle.bitpack_sets.specs.Folds.{found}

@@ -1,5 +1,5 @@
 -- The bits of the high bytes that occur are loaded.
-use Rattle.std.proofs.Common.{◌/◌, ap, sym, ◌∙◌, arith}
+use Rattle.std.proofs.Common.{◌/◌, sym, ◌∙◌, arith}
 use Rattle.bitpack_sets.specs.Folds.{marked}
 use Rattle.bitpack_sets.proofs.AnswerLaws.{listed_has, listed_rise}
 use Rattle.bitpack_sets.proofs.FoldLaws.{no_high, part_own}

@@ -1,8 +1,6 @@
-use Rattle.std.proofs.Common.{◌≡◌, ◌<◌, ◌≤◌, ◌/◌, ℕ, get_or, length, length-set, inl, inr, refl, subst, sym, ◌∙◌, ◌+◌, ap, arith, rules}
-use Rattle.std.proofs.lemmas.Bool.{cases_lt}
+use Rattle.std.proofs.Common.{length-set, refl, ◌∙◌, ◌+◌, arith, rules}
 use Rattle.std.proofs.lemmas.List.{drop-set-lt}
-use Rattle.bitpack_sets.specs.Chunks.{Knows}
-use Rattle.bitpack_sets.proofs.PlacedLaws.{byte_small, keep_more, next_same, same_at}
+use Rattle.bitpack_sets.proofs.PlacedLaws.{byte_small, keep_more, next_same}
 use Rattle.bitpack_sets.proofs.in_place.keep_run.Goals as goal
 
 pub loop-i-init : goal.loop-i-init

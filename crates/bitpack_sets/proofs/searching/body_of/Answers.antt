@@ -1,5 +1,5 @@
 -- The body is cut from the rest.
-use Rattle.std.proofs.Common.{◌+◌, ◌≤◌, arith}
+use Rattle.std.proofs.Common.{arith}
 use Rattle.bitpack_sets.proofs.ChunkReads.{body_cut, body_end}
 use Rattle.bitpack_sets.proofs.searching.body_of.Goals as goal
 

@@ -1,33 +1,22 @@
 -- An id is looked up in the chunk of its key.
-use Rattle.std.proofs.Common.{◌≡◌, ◌+◌, ◌-◌, ◌*◌, ◌/◌, ◌%◌, ◌<◌, ◌≤◌, ℕ, List, Bool, true, false, ap, arith, drop, eqb, get_or, length, subst, sym, take, ◌∙◌, eq-eqb}
+use Rattle.std.proofs.Common.{◌≡◌, ◌*◌, ◌/◌, ℕ, List, true, false, ap, arith, drop, get_or, subst, sym, take, ◌∙◌, eq-eqb}
 use Rattle.std.proofs.lemmas.Bool.{ne_eqb}
-use Rattle.std.proofs.lemmas.List.{length-drop, length-take-le}
 use Rattle.bitpack_sets.specs.Reads.{has, rank}
 use Rattle.bitpack_sets.specs.Sets.{IsRising}
 use Rattle.bitpack_sets.specs.Slices.{pairs_of}
 use Rattle.bitpack_sets.proofs.ChunkReads.{has_in, has_not_in, keys_rise_in}
 use Rattle.bitpack_sets.proofs.CountLaws.{bytes_are}
-use Rattle.bitpack_sets.proofs.HalfLaws.{has_at_rank, has_not, pairs_len}
+use Rattle.bitpack_sets.proofs.HalfLaws.{cut_keys, has_at_rank, has_not, keys_len}
 use Rattle.bitpack_sets.proofs.searching.in_chunks.Goals as goal
 
 pub slice_bounds-keys-end : goal.slice_bounds-keys-end
 slice_bounds-keys-end c = let room = c.requires.rest.directory.room in omega arith
 
--- the keys as they are cut
-cut : (chunks : ℕ) (rest : List ℕ) → take (1 + 2 * chunks - 1) (drop 1 rest) ≡ take (2 * chunks) (drop 1 rest)
-cut chunks rest = let e : 1 + 2 * chunks - 1 ≡ 2 * chunks = omega arith in ap (λ (n : ℕ). take n (drop 1 rest)) e
-
-many : (chunks : ℕ) (rest : List ℕ) → 1 + 2 * chunks ≤ length rest → length (pairs_of (take (2 * chunks) (drop 1 rest))) ≡ chunks
-many chunks rest h =
-    let a = pairs_len (take (2 * chunks) (drop 1 rest)) in
-    let b = length-take-le (2 * chunks) (drop 1 rest) (omega (arith, length-drop 1 rest)) in
-    omega arith
-
 pub rank_in_numbers-chunk-requires : goal.rank_in_numbers-chunk-requires
 rank_in_numbers-chunk-requires c =
     let rest : List ℕ = c.args.rest.now in
     let are = bytes_are rest (λ k. (c.type_inv.rest k).fits) in
-    subst (λ (l : List ℕ). IsRising 0 65536 (pairs_of l)) (sym (cut c.args.chunks rest)) (keys_rise_in c.args.count c.args.chunks rest are c.requires.rest)
+    subst (λ (l : List ℕ). IsRising 0 65536 (pairs_of l)) (sym (cut_keys c.args.chunks rest)) (keys_rise_in c.args.count c.args.chunks rest are c.requires.rest)
 
 pub returns-then-chunk-chunks : goal.returns-then-chunk-chunks
 returns-then-chunk-chunks c =
@@ -35,8 +24,8 @@ returns-then-chunk-chunks c =
     let chunks : ℕ = c.args.chunks in
     let are = bytes_are rest (λ k. (c.type_inv.rest k).fits) in
     let room = c.requires.rest.directory.room in
-    let size = many chunks rest (omega arith) in
-    let at = c.rank_in_numbers-chunk.ensures ∙ ap (λ (l : List ℕ). rank (c.args.id / 65536) (pairs_of l)) (cut chunks rest) in
+    let size = keys_len chunks rest (omega arith) in
+    let at = c.rank_in_numbers-chunk.ensures ∙ ap (λ (l : List ℕ). rank (c.args.id / 65536) (pairs_of l)) (cut_keys chunks rest) in
     sym (has_not_in c.args.count chunks c.args.id rest are c.requires.rest (has_not (c.args.id / 65536) c.rank_in_numbers-chunk.result (pairs_of (take (2 * chunks) (drop 1 rest))) at (omega arith)))
 
 pub returns-then-number_at-key : goal.returns-then-number_at-key
@@ -46,10 +35,10 @@ returns-then-number_at-key c =
     let m : ℕ = c.rank_in_numbers-chunk.result in
     let are = bytes_are rest (λ k. (c.type_inv.rest k).fits) in
     let room = c.requires.rest.directory.room in
-    let size = many chunks rest (omega arith) in
+    let size = keys_len chunks rest (omega arith) in
     let keys : List ℕ = pairs_of (take (2 * chunks) (drop 1 rest)) in
-    let at = c.rank_in_numbers-chunk.ensures ∙ ap (λ (l : List ℕ). rank (c.args.id / 65536) (pairs_of l)) (cut chunks rest) in
-    let here = c.number_at.ensures ∙ ap (λ (l : List ℕ). get_or (pairs_of l) m 0) (cut chunks rest) in
+    let at = c.rank_in_numbers-chunk.ensures ∙ ap (λ (l : List ℕ). rank (c.args.id / 65536) (pairs_of l)) (cut_keys chunks rest) in
+    let here = c.number_at.ensures ∙ ap (λ (l : List ℕ). get_or (pairs_of l) m 0) (cut_keys chunks rest) in
     let other : has (c.args.id / 65536) keys ≡ false =
     has_at_rank (c.args.id / 65536) 0 65536 m keys (keys_rise_in c.args.count chunks rest are c.requires.rest) at (omega arith) ∙ ne_eqb (get_or keys m 0) (c.args.id / 65536) (λ e. c.if-number_at-key.true (here ∙ e)) in
     sym (has_not_in c.args.count chunks c.args.id rest are c.requires.rest other)
@@ -61,10 +50,10 @@ returns c =
     let m : ℕ = c.rank_in_numbers-chunk.result in
     let are = bytes_are rest (λ k. (c.type_inv.rest k).fits) in
     let room = c.requires.rest.directory.room in
-    let size = many chunks rest (omega arith) in
+    let size = keys_len chunks rest (omega arith) in
     let keys : List ℕ = pairs_of (take (2 * chunks) (drop 1 rest)) in
-    let at = c.rank_in_numbers-chunk.ensures ∙ ap (λ (l : List ℕ). rank (c.args.id / 65536) (pairs_of l)) (cut chunks rest) in
-    let here = c.number_at.ensures ∙ ap (λ (l : List ℕ). get_or (pairs_of l) m 0) (cut chunks rest) in
+    let at = c.rank_in_numbers-chunk.ensures ∙ ap (λ (l : List ℕ). rank (c.args.id / 65536) (pairs_of l)) (cut_keys chunks rest) in
+    let here = c.number_at.ensures ∙ ap (λ (l : List ℕ). get_or (pairs_of l) m 0) (cut_keys chunks rest) in
     let found : has (c.args.id / 65536) keys ≡ true =
     has_at_rank (c.args.id / 65536) 0 65536 m keys (keys_rise_in c.args.count chunks rest are c.requires.rest) at (omega arith) ∙ eq-eqb (get_or keys m 0) (c.args.id / 65536) (sym here ∙ c.if-number_at-key.false) in
     c.in_chunk.ensures ∙ sym (has_in c.args.count chunks c.args.id m rest are c.requires.rest c.if-chunk-chunks.false at found)

@@ -1,44 +1,34 @@
 -- The ids of the chunks before that of the key, and those of its own.
-use Rattle.std.proofs.Common.{◌≡◌, ◌+◌, ◌-◌, ◌*◌, ◌/◌, ◌%◌, ◌<◌, ◌≤◌, ℕ, List, Bool, true, false, ap, arith, drop, eqb, get_or, length, subst, sym, take, ◌∙◌, eq-eqb}
+use Rattle.std.proofs.Common.{◌≡◌, ◌+◌, ◌*◌, ◌/◌, ◌%◌, ◌≤◌, ℕ, List, true, false, ap, arith, drop, get_or, length, subst, sym, take, ◌∙◌, eq-eqb}
 use Rattle.std.proofs.lemmas.Bool.{ne_eqb}
-use Rattle.std.proofs.lemmas.List.{length-drop, length-take-le}
 use Rattle.bitpack_sets.specs.Directory.{before, body_at, body_numbers_of, count_at, sum_at}
 use Rattle.bitpack_sets.specs.Reads.{has, rank}
 use Rattle.bitpack_sets.specs.Sets.{IsRising}
 use Rattle.bitpack_sets.specs.Slices.{pairs_of}
 use Rattle.bitpack_sets.proofs.ChunkReads.{keys_rise_in, rank_in, rank_not_in}
 use Rattle.bitpack_sets.proofs.CountLaws.{bytes_are}
-use Rattle.bitpack_sets.proofs.HalfLaws.{has_at_rank, has_not, pairs_len, rank_most}
+use Rattle.bitpack_sets.proofs.HalfLaws.{cut_keys, has_at_rank, has_not, keys_len}
+use Rattle.bitpack_sets.proofs.ReadLaws.{rank_le}
 use Rattle.bitpack_sets.proofs.searching.rank_in_chunks.Goals as goal
 
 pub slice_bounds-keys-end : goal.slice_bounds-keys-end
 slice_bounds-keys-end c = let room = c.requires.rest.directory.room in omega arith
 
--- the keys as they are cut
-cut : (chunks : ℕ) (rest : List ℕ) → take (1 + 2 * chunks - 1) (drop 1 rest) ≡ take (2 * chunks) (drop 1 rest)
-cut chunks rest = let e : 1 + 2 * chunks - 1 ≡ 2 * chunks = omega arith in ap (λ (n : ℕ). take n (drop 1 rest)) e
-
-many : (chunks : ℕ) (rest : List ℕ) → 1 + 2 * chunks ≤ length rest → length (pairs_of (take (2 * chunks) (drop 1 rest))) ≡ chunks
-many chunks rest h =
-    let a = pairs_len (take (2 * chunks) (drop 1 rest)) in
-    let b = length-take-le (2 * chunks) (drop 1 rest) (omega (arith, length-drop 1 rest)) in
-    omega arith
-
 most : (chunks x : ℕ) (rest : List ℕ) (m : ℕ) → m ≡ rank (x / 65536) (pairs_of (take (2 * chunks) (drop 1 rest))) → 1 + 2 * chunks ≤ length rest → m ≤ chunks
 most chunks x rest m e room =
-    let a = rank_most (x / 65536) (pairs_of (take (2 * chunks) (drop 1 rest))) in
-    let b = many chunks rest room in
+    let a = rank_le (x / 65536) (pairs_of (take (2 * chunks) (drop 1 rest))) in
+    let b = keys_len chunks rest room in
     omega arith
 
 pub count_before-before-requires-clause-within : goal.count_before-before-requires-clause-within
 count_before-before-requires-clause-within c =
     let rest : List ℕ = c.args.rest.now in
     let room = c.requires.rest.directory.room in
-    most c.args.chunks c.args.id rest c.rank_in_numbers-chunk.result (c.rank_in_numbers-chunk.ensures ∙ ap (λ (l : List ℕ). rank (c.args.id / 65536) (pairs_of l)) (cut c.args.chunks rest)) (omega arith)
+    most c.args.chunks c.args.id rest c.rank_in_numbers-chunk.result (c.rank_in_numbers-chunk.ensures ∙ ap (λ (l : List ℕ). rank (c.args.id / 65536) (pairs_of l)) (cut_keys c.args.chunks rest)) (omega arith)
 
 pub overflow_add-result : goal.overflow_add-result
 overflow_add-result c =
-    let few = rank_most (c.args.id % 65536) (body_numbers_of (count_at c.args.chunks c.args.rest.now c.rank_in_numbers-chunk.result) (body_at c.args.chunks c.args.rest.now c.rank_in_numbers-chunk.result)) in
+    let few = rank_le (c.args.id % 65536) (body_numbers_of (count_at c.args.chunks c.args.rest.now c.rank_in_numbers-chunk.result) (body_at c.args.chunks c.args.rest.now c.rank_in_numbers-chunk.result)) in
     let size = (c.requires.rest.bodies c.rank_in_numbers-chunk.result c.if-chunk-chunks.false).count_is in
     let most' = (c.requires.rest.entries c.rank_in_numbers-chunk.result c.if-chunk-chunks.false).few in
     omega (arith, c.rank_in_chunk.ensures)
@@ -47,7 +37,7 @@ pub rank_in_numbers-chunk-requires : goal.rank_in_numbers-chunk-requires
 rank_in_numbers-chunk-requires c =
     let rest : List ℕ = c.args.rest.now in
     let are = bytes_are rest (λ k. (c.type_inv.rest k).fits) in
-    subst (λ (l : List ℕ). IsRising 0 65536 (pairs_of l)) (sym (cut c.args.chunks rest)) (keys_rise_in c.args.count c.args.chunks rest are c.requires.rest)
+    subst (λ (l : List ℕ). IsRising 0 65536 (pairs_of l)) (sym (cut_keys c.args.chunks rest)) (keys_rise_in c.args.count c.args.chunks rest are c.requires.rest)
 
 pub returns-then-chunk-chunks : goal.returns-then-chunk-chunks
 returns-then-chunk-chunks c =
@@ -55,8 +45,8 @@ returns-then-chunk-chunks c =
     let chunks : ℕ = c.args.chunks in
     let are = bytes_are rest (λ k. (c.type_inv.rest k).fits) in
     let room = c.requires.rest.directory.room in
-    let size = many chunks rest (omega arith) in
-    let at = c.rank_in_numbers-chunk.ensures ∙ ap (λ (l : List ℕ). rank (c.args.id / 65536) (pairs_of l)) (cut chunks rest) in
+    let size = keys_len chunks rest (omega arith) in
+    let at = c.rank_in_numbers-chunk.ensures ∙ ap (λ (l : List ℕ). rank (c.args.id / 65536) (pairs_of l)) (cut_keys chunks rest) in
     c.count_before-before.ensures ∙ sym (rank_not_in c.args.count chunks c.args.id c.rank_in_numbers-chunk.result rest are c.requires.rest (omega (arith, most chunks c.args.id rest c.rank_in_numbers-chunk.result at (omega arith))) at (has_not (c.args.id / 65536) c.rank_in_numbers-chunk.result (pairs_of (take (2 * chunks) (drop 1 rest))) at (omega arith)))
 
 pub returns-then-number_at-key : goal.returns-then-number_at-key
@@ -66,10 +56,10 @@ returns-then-number_at-key c =
     let m : ℕ = c.rank_in_numbers-chunk.result in
     let are = bytes_are rest (λ k. (c.type_inv.rest k).fits) in
     let room = c.requires.rest.directory.room in
-    let size = many chunks rest (omega arith) in
+    let size = keys_len chunks rest (omega arith) in
     let keys : List ℕ = pairs_of (take (2 * chunks) (drop 1 rest)) in
-    let at = c.rank_in_numbers-chunk.ensures ∙ ap (λ (l : List ℕ). rank (c.args.id / 65536) (pairs_of l)) (cut chunks rest) in
-    let here = c.number_at.ensures ∙ ap (λ (l : List ℕ). get_or (pairs_of l) m 0) (cut chunks rest) in
+    let at = c.rank_in_numbers-chunk.ensures ∙ ap (λ (l : List ℕ). rank (c.args.id / 65536) (pairs_of l)) (cut_keys chunks rest) in
+    let here = c.number_at.ensures ∙ ap (λ (l : List ℕ). get_or (pairs_of l) m 0) (cut_keys chunks rest) in
     let other : has (c.args.id / 65536) keys ≡ false =
     has_at_rank (c.args.id / 65536) 0 65536 m keys (keys_rise_in c.args.count chunks rest are c.requires.rest) at (omega arith) ∙ ne_eqb (get_or keys m 0) (c.args.id / 65536) (λ e. c.if-number_at-key.true (here ∙ e)) in
     c.count_before-before.ensures ∙ sym (rank_not_in c.args.count chunks c.args.id m rest are c.requires.rest (omega arith) at other)
@@ -81,10 +71,10 @@ returns c =
     let m : ℕ = c.rank_in_numbers-chunk.result in
     let are = bytes_are rest (λ k. (c.type_inv.rest k).fits) in
     let room = c.requires.rest.directory.room in
-    let size = many chunks rest (omega arith) in
+    let size = keys_len chunks rest (omega arith) in
     let keys : List ℕ = pairs_of (take (2 * chunks) (drop 1 rest)) in
-    let at = c.rank_in_numbers-chunk.ensures ∙ ap (λ (l : List ℕ). rank (c.args.id / 65536) (pairs_of l)) (cut chunks rest) in
-    let here = c.number_at.ensures ∙ ap (λ (l : List ℕ). get_or (pairs_of l) m 0) (cut chunks rest) in
+    let at = c.rank_in_numbers-chunk.ensures ∙ ap (λ (l : List ℕ). rank (c.args.id / 65536) (pairs_of l)) (cut_keys chunks rest) in
+    let here = c.number_at.ensures ∙ ap (λ (l : List ℕ). get_or (pairs_of l) m 0) (cut_keys chunks rest) in
     let found : has (c.args.id / 65536) keys ≡ true =
     has_at_rank (c.args.id / 65536) 0 65536 m keys (keys_rise_in c.args.count chunks rest are c.requires.rest) at (omega arith) ∙ eq-eqb (get_or keys m 0) (c.args.id / 65536) (sym here ∙ c.if-number_at-key.false) in
     ap (λ (n : ℕ). n + c.rank_in_chunk.result) c.count_before-before.ensures ∙ ap (λ (n : ℕ). before (sum_at chunks rest) m + n) c.rank_in_chunk.ensures

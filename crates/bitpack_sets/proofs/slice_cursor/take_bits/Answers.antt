@@ -1,9 +1,7 @@
 -- Each id of the slice is passed and marked, up to the first of another one.
-use Rattle.std.proofs.Common.{◌≡◌, ◌+◌, ◌*◌, ◌-◌, ◌/◌, ◌%◌, ◌^◌, ◌<◌, ◌≤◌, ◌∙◌, ℕ, List, ap, arith, get_or, length, refl, subst, sym}
+use Rattle.std.proofs.Common.{◌≡◌, ◌+◌, ◌/◌, ◌%◌, ◌<◌, ◌≤◌, ◌∙◌, ℕ, ap, arith, get_or, length, refl, subst, sym}
 use Rattle.bitpack_sets.specs.declared.id_set.IdSet.{IdSet}
 use Rattle.bitpack_sets.specs.Opened.{ids}
-use Rattle.bitpack_sets.specs.Reads.{rank}
-use Rattle.bitpack_sets.specs.Sets.{IsRising}
 use Rattle.bitpack_sets.proofs.BitmapLaws.{has_none}
 use Rattle.bitpack_sets.proofs.CursorLaws.{IsMarked, marked_all, marked_end, marked_more, marked_start}
 use Rattle.bitpack_sets.proofs.TextLaws.{ids_are_read}

@@ -1,9 +1,9 @@
 -- The room that is reserved is that of all values, and some values more are appended.
-use Rattle.std.proofs.Common.{◌≡◌, ◌+◌, ◌≤◌, ◌++◌, ℕ, List, length, take, take-add, drop, ◌∙◌, ap, sym, arith, append_assoc}
-use Rattle.std.proofs.lemmas.List.{append-nil, length-append, length-take, length-take-le, take_all}
+use Rattle.std.proofs.Common.{◌++◌, ℕ, List, take, take-add, drop, ◌∙◌, ap, sym, arith, append_assoc}
+use Rattle.std.proofs.lemmas.List.{append-nil, take_all}
 use Rattle.bitpack_columns.specs.Opened.{values}
 use Rattle.bitpack_columns.proofs.CopyLaws.{on_err, on_ok}
-use Rattle.bitpack_columns.proofs.OpenedLaws.{count_is, few_values}
+use Rattle.bitpack_columns.proofs.OpenedLaws.{count_is}
 use Rattle.bitpack_columns.proofs.column.Column.append_to.Goals as goal
 
 pub returns-then-is_err-clause-room : goal.returns-then-is_err-clause-room

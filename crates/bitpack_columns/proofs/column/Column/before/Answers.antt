@@ -1,5 +1,5 @@
 -- What is before a block of a sorted column.
-use Rattle.std.proofs.Common.{◌≤◌, arith}
+use Rattle.std.proofs.Common.{arith}
 use Rattle.bitpack_columns.proofs.OpenedLaws.{before_block}
 use Rattle.bitpack_columns.proofs.column.Column.before.Goals as goal
 

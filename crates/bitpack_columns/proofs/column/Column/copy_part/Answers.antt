@@ -1,9 +1,8 @@
 -- A whole block goes straight to its position, and a part of one by way of the block.
 use Rattle.std.proofs.Common.{◌≡◌, ◌+◌, ◌-◌, ◌*◌, ◌/◌, ◌%◌, ◌≤◌, ℕ, List, length, take, drop, ◌∙◌, ap, arith}
-use Rattle.std.proofs.lemmas.List.{drop_at, length-drop, length-take, length-take-le, take_at}
-use Rattle.bitpack_columns.specs.Opened.{blocks_of, values}
+use Rattle.std.proofs.lemmas.List.{drop_at, length-take, length-take-le, take_at}
+use Rattle.bitpack_columns.specs.Opened.{values}
 use Rattle.bitpack_columns.proofs.CopyLaws.{part_unpacked}
-use Rattle.bitpack_columns.proofs.OpenedLaws.{length-block_of}
 use Rattle.bitpack_columns.proofs.column.Column.copy_part.Goals as goal
 
 pub unpack_blocks-requires-clause-within : goal.unpack_blocks-requires-clause-within

@@ -1,5 +1,5 @@
 -- The values of one block more are written.
-use Rattle.std.proofs.Common.{◌≡◌, ◌+◌, ◌-◌, ◌≤◌, ℕ, List, length, drop, ◌∙◌, arith}
+use Rattle.std.proofs.Common.{◌≡◌, ◌-◌, ◌≤◌, ℕ, List, length, drop, ◌∙◌, arith}
 use Rattle.std.proofs.lemmas.List.{length-drop, length-take}
 use Rattle.bitpack_groups.proofs.ForCallers.{length-written}
 use Rattle.std.proofs.lemmas.Slice.{drop-put_mid}

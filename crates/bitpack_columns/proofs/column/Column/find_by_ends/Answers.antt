@@ -6,8 +6,8 @@ use Rattle.bitpack_columns.specs.Opened.{values}
 use Rattle.bitpack_columns.proofs.WithinLaws.{ends_written}
 use Rattle.bitpack_columns.proofs.column.Column.find_by_ends.Goals as goal
 
-pub returns : goal.returns
-returns c =
+pub returns-clause-found : goal.returns-clause-found
+returns-clause-found c =
     let ends = c.ends_of-first in
     let count : ℕ = c.min-count.result in
     let start : c.max-start.result ≡ max ends.result.0 c.args.from = omega (arith, c.max-start.ensures) in

@@ -4,6 +4,7 @@ use Rattle.std.specs.List.{range_with_len}
 use Rattle.std.proofs.lemmas.List.{length-take, length-take-le}
 use Rattle.bitpack_columns.specs.Opened.{blocks_of, values}
 use Rattle.bitpack_columns.proofs.OpenedLaws.{few_values}
+use Rattle.bitpack_columns.proofs.CountedLaws.{untold_one}
 use Rattle.bitpack_columns.proofs.WithinLaws.{all_found, block_found, none_found, told_whole}
 use Rattle.bitpack_columns.proofs.column.Column.find_in_block.Goals as goal
 
@@ -19,7 +20,7 @@ count_up-requires c =
 
 pub find_in-requires-clause-start : goal.find_in-requires-clause-start
 find_in-requires-clause-start c =
-    let read = c.read_block-len in
+    let read = c.unpack_block-len in
     omega (
       arith,
       few_values c.args.self.now,
@@ -52,7 +53,13 @@ returns-in-Some-false-clause-found c =
 
 pub returns-in-None-clause-found : goal.returns-in-None-clause-found
 returns-in-None-clause-found c =
-    let read = c.read_block-len in
+    let read = c.unpack_block-len in
     c.find_in.ensures.positions
     ∙ block_found c.args.low c.args.high (values c.args.self.now) c.args.block read.result read.new.out read.ensures.len read.ensures.values c.args.index
     (omega (arith, read.ensures.len, c.requires.index))
+
+pub returns-in-None-clause-reads : goal.returns-in-None-clause-reads
+returns-in-None-clause-reads c =
+    let told = c.settled.ensures in
+    let one = untold_one c.args.self.now c.args.low c.args.high c.args.block c.settled.result told.block c.in-None.is in
+    omega (arith, one, c.unpack_block-len.ensures.reads.blocks, told.reads)

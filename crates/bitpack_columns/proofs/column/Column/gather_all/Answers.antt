@@ -1,9 +1,10 @@
 -- The value at the next position is written.
-use Rattle.std.proofs.Common.{◌≡◌, ◌+◌, ◌-◌, ◌<◌, ℕ, List, length, take, drop, get_or, set, refl, sym, ◌∙◌, ap, arith, inl, inr}
+use Rattle.std.proofs.Common.{◌≡◌, ◌+◌, ◌-◌, ◌<◌, ℕ, List, length, take, drop, get_or, set, refl, ◌∙◌, ap, arith, inl, inr}
 use Rattle.std.proofs.lemmas.Bool.{cases_lt}
 use Rattle.std.proofs.lemmas.List.{drop-set-lt, get_or-drop, get_or-set_other, get_or-set_same, length-drop, length-set, take_rest}
 use Rattle.bitpack_columns.specs.Opened.{values}
 use Rattle.bitpack_columns.proofs.OpenedLaws.{count_is, few_values}
+use Rattle.bitpack_columns.proofs.RunLaws.{read_more, runs_before}
 use Rattle.bitpack_columns.proofs.column.Column.gather_all.Goals as goal
 
 -- the first of the positions from an index on
@@ -27,6 +28,10 @@ loop-index-init c = record {
   last = λ position lt here. absurd (omega (arith, few_values c.args.self.now, c.none-last.ensures));
   long = refl;
   written = λ k lt. absurd (omega arith);
+  read = record {
+    few = omega arith;
+    held = λ some. absurd (omega (arith, some));
+  };
   rest = refl;
 }
 
@@ -56,6 +61,8 @@ loop-index-preserved c =
       long = length-set out index value ∙ before.long;
       written = written_more (values self) positions out index value room before.written
           (c.next_value.ensures.value ∙ ap (λ n. get_or (values self) n 0) (first_lent positions index));
+      read = read_more positions index c.args.reads.now.blocks c.loop-index.last c.next_value.new.last c.loop-index.reads c.next_value.new.reads before.read
+          (rw (first_lent positions index) at c.next_value.ensures.reads);
       rest = drop-set-lt (length positions) out index value lt ∙ before.rest;
     }
 
@@ -64,3 +71,8 @@ returns-clause-all c = record {
   within = omega (arith, c.loop-index.invariant.long, c.requires.room);
   each = λ k lt. c.loop-index.invariant.written k (omega arith);
 }
+
+pub returns-clause-reads : goal.returns-clause-reads
+returns-clause-reads c =
+    let all : c.loop-index.index ≡ length c.args.positions.now = omega (arith, c.loop-index-test.false, c.loop-index.auto.index-end) in
+    omega (arith, c.loop-index.invariant.read.few, ap (runs_before c.args.positions.now) all)

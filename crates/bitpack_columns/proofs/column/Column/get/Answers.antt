@@ -14,4 +14,4 @@ value_at-requires c = omega (arith, count_is c.args.self.now)
 pub returns : goal.returns
 returns c =
     let lt : c.args.position < length (values c.args.self.now) = omega (arith, count_is c.args.self.now) in
-    ap Some c.value_at.ensures ∙ sym (slice_get-get_or (values c.args.self.now) c.args.position 0 lt)
+    ap Some c.value_at.ensures.value ∙ sym (slice_get-get_or (values c.args.self.now) c.args.position 0 lt)

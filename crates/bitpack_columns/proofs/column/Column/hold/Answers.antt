@@ -5,5 +5,5 @@ use Rattle.bitpack_columns.proofs.column.Column.hold.Goals as goal
 
 pub returns-then-last-block-clause-values : goal.returns-then-last-block-clause-values
 returns-then-last-block-clause-values c = λ position lt here.
-    value_unpacked (values c.args.self.now) c.read_block.new.out c.args.block c.read_block.result position c.read_block.ensures.values
-    c.read_block.ensures.len lt here
+    value_unpacked (values c.args.self.now) c.unpack_block.new.out c.args.block c.unpack_block.result position c.unpack_block.ensures.values
+    c.unpack_block.ensures.len lt here

@@ -1,5 +1,5 @@
 -- One block more is written.
-use Rattle.std.proofs.Common.{◌≡◌, ◌+◌, ◌-◌, ◌*◌, ◌/◌, ◌<◌, ◌≤◌, ℕ, List, length, take, drop, ◌∙◌, ap, sym, refl, arith}
+use Rattle.std.proofs.Common.{◌≡◌, ◌+◌, ◌-◌, ◌*◌, ◌<◌, ◌≤◌, ℕ, List, length, take, drop, ◌∙◌, ap, sym, arith}
 use Rattle.std.proofs.lemmas.List.{drop-drop, nil_from_length, take_all}
 use Rattle.bitpack_groups.proofs.ForCallers.{lent_after}
 use Rattle.bitpack_columns.specs.declared.column_kind.ColumnKind.TheVariants.{Sorted}

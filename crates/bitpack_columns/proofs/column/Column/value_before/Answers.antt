@@ -1,5 +1,5 @@
 -- The value before a block is the last of the block before it.
-use Rattle.std.proofs.Common.{◌≡◌, ◌+◌, ◌-◌, ◌*◌, ◌∙◌, ap, get_or, arith, sym}
+use Rattle.std.proofs.Common.{◌≡◌, ◌+◌, ◌-◌, ◌*◌, ◌∙◌, ap, get_or, arith}
 use Rattle.bitpack_columns.specs.Opened.{values}
 use Rattle.bitpack_columns.proofs.OpenedLaws.{first_is, last_is, mark_is}
 use Rattle.bitpack_columns.proofs.column.Column.value_before.Goals as goal

@@ -1,5 +1,5 @@
 -- The first values of the tail have the value.
-use Rattle.std.proofs.Common.{◌≡◌, ◌-◌, ◌<◌, ◌%◌, ℕ, List, length, take, drop, get_or, refl, ◌∙◌, ap, arith}
+use Rattle.std.proofs.Common.{◌-◌, ◌<◌, ◌%◌, ℕ, List, length, take, drop, get_or, refl, ◌∙◌, ap, arith}
 use Rattle.std.proofs.lemmas.List.{get_or_append_left, length-replicate, length-take}
 use Rattle.bitpack_columns.specs.Opened.{blocks_of}
 use Rattle.bitpack_columns.proofs.FrontGroups.{value_of_front}

@@ -1,7 +1,5 @@
 -- The end of a block is at or after the one before, by at most 32, and its codes fit its width.
-use Rattle.std.proofs.Common.{◌∙◌, ◌-◌, ◌^◌, ◌+◌, ap, arith}
-use Rattle.bitpack_columns.specs.Columns.{block_of, least}
-use Rattle.bitpack_columns.specs.Opened.{values}
+use Rattle.std.proofs.Common.{arith}
 use Rattle.bitpack_columns.proofs.OpenedLaws.{entries, narrow, plain_fits, rising}
 use Rattle.bitpack_columns.proofs.column.Column.width.Goals as goal
 

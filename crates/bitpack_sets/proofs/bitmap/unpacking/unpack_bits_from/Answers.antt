@@ -1,4 +1,4 @@
-use Rattle.std.proofs.Common.{◌≡◌, ◌+◌, ◌-◌, length, take, refl, arith}
+use Rattle.std.proofs.Common.{◌≡◌, ◌+◌, length, take, refl, arith}
 use Rattle.bitpack_sets.specs.Bitmaps.{has_bit}
 use Rattle.bitpack_sets.proofs.QueryIds.{all_written, copied, numbers_count, rest_written, some_written, stops_after, stops_within}
 use Rattle.bitpack_sets.proofs.bitmap.unpacking.unpack_bits_from.Goals as goal

@@ -1,6 +1,6 @@
 -- The numbers of the lowest high byte that is left are written.
-use Rattle.std.proofs.Common.{Bool, List, ℕ, true, false, ◌+◌, ◌*◌, ◌++◌, ◌<◌, ◌≡◌, ◌∙◌, ap, append-nil, append_assoc, arith, eqb, length, map, not, refl, sym, take, w64}
-use Rattle.std.proofs.lemmas.Bool.{true≢false}
+use Rattle.std.proofs.Common.{List, ℕ, ◌+◌, ◌*◌, ◌++◌, ◌<◌, ◌∙◌, ap, append-nil, append_assoc, arith, eqb, length, map, refl, sym, take, w64}
+use Rattle.std.proofs.lemmas.Bool.{not-true}
 use Rattle.std.specs.Int.{trailing_zeros}
 use Rattle.bitpack_sets.proofs.FourLaws.{cleared, next_is}
 use Rattle.bitpack_sets.proofs.SelectionLaws.{lows_combined, passes}
@@ -8,10 +8,6 @@ use Rattle.bitpack_sets.proofs.UnpackLaws.{by_high, lows}
 use Rattle.bitpack_sets.proofs.WordLaws.{none_left, still_there, word_counted, word_numbers, word_written}
 use Rattle.bitpack_sets.proofs.blocks.combining.unpack_word.Goals as goal
 use Rattle.bitpack_sets.specs.Selections.{numbers_at, parts_numbers, word_highs}
-
-not_true : (b : Bool) → not b ≡ true → b ≡ false
-not_true true e = absurd (true≢false (sym e))
-not_true false e = refl
 
 pub overflow_add-high : goal.overflow_add-high
 overflow_add-high c = let next = next_is c.loop-left.left (omega (arith, c.loop-left-test.true)) c.loop-left.auto.left-fits.fits in omega (arith, next.within, c.requires.within)
@@ -24,11 +20,11 @@ slice_of-y-requires-clause-within c = let next = next_is c.loop-left.left (omega
 
 pub slice_of-x-requires-clause-occurs : goal.slice_of-x-requires-clause-occurs
 slice_of-x-requires-clause-occurs c = λ e. let next = next_is c.loop-left.left (omega (arith, c.loop-left-test.true)) c.loop-left.auto.left-fits.fits in
-    c.requires.in_left (sym c.keeps_right.ensures ∙ not_true _ e) (trailing_zeros w64 c.loop-left.left) next.within (c.loop-left.invariant.bits (trailing_zeros w64 c.loop-left.left) (ap (λ (n : ℕ). eqb n 1) next.one))
+    c.requires.in_left (sym c.keeps_right.ensures ∙ not-true _ e) (trailing_zeros w64 c.loop-left.left) next.within (c.loop-left.invariant.bits (trailing_zeros w64 c.loop-left.left) (ap (λ (n : ℕ). eqb n 1) next.one))
 
 pub slice_of-y-requires-clause-occurs : goal.slice_of-y-requires-clause-occurs
 slice_of-y-requires-clause-occurs c = λ e. let next = next_is c.loop-left.left (omega (arith, c.loop-left-test.true)) c.loop-left.auto.left-fits.fits in
-    c.requires.in_right (sym c.keeps_left.ensures ∙ not_true _ e) (trailing_zeros w64 c.loop-left.left) next.within (c.loop-left.invariant.bits (trailing_zeros w64 c.loop-left.left) (ap (λ (n : ℕ). eqb n 1) next.one))
+    c.requires.in_right (sym c.keeps_left.ensures ∙ not-true _ e) (trailing_zeros w64 c.loop-left.left) next.within (c.loop-left.invariant.bits (trailing_zeros w64 c.loop-left.left) (ap (λ (n : ℕ). eqb n 1) next.one))
 
 pub loop-left-smaller : goal.loop-left-smaller
 loop-left-smaller c = let next = next_is c.loop-left.left (omega (arith, c.loop-left-test.true)) c.loop-left.auto.left-fits.fits in next.less

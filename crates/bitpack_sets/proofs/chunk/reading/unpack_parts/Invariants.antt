@@ -1,5 +1,5 @@
 -- The numbers of the slices that are left are still to be written.
-use Rattle.std.proofs.Common.{◌≡◌, ◌+◌, ◌*◌, ◌≤◌, ◌++◌, length, map, take, drop}
+use Rattle.std.proofs.Common.{◌≡◌, ◌+◌, ◌≤◌, ◌++◌, length, map, take, drop}
 use Rattle.bitpack_sets.proofs.chunk.reading.unpack_parts.Given as goal
 use Rattle.bitpack_sets.specs.Slices.{AreSlices, numbers_in, numbers_of, slice_numbers, slices_len}
 

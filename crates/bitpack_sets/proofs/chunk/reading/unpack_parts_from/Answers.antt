@@ -6,9 +6,10 @@ use borrow.Rule.Slice.PartMut.{same_len_mid}
 use Rattle.bitpack_sets.proofs.BlockReads.{slice_there}
 use Rattle.bitpack_sets.proofs.CutLaws.{slice_cut}
 use Rattle.bitpack_sets.proofs.ReadLaws.{place_fits}
-use Rattle.bitpack_sets.proofs.RangeLaws.{AtSlice, map_range, min_less, part_len, part_written, slice_passed, slice_range}
+use Rattle.bitpack_sets.proofs.RangeLaws.{AtSlice, map_range, min_less, part_written, slice_passed, slice_range}
 use Rattle.bitpack_sets.proofs.chunk.reading.unpack_parts_from.Goals as goal
 use Rattle.bitpack_sets.specs.Slices.{IsSlice, numbers_of, slice_numbers, slices_len}
+use Rattle.bitpack_groups.proofs.ForCallers.{lent_len}
 
 pub overflow_add-slice : goal.overflow_add-slice
 overflow_add-slice c =
@@ -64,7 +65,7 @@ loop-next-preserved c =
     let low = min-le_left (count - left) (length out - next) in
     let high = min-le_right (count - left) (length out - next) in
     let few = c.min-wanted.ensures in
-    let mid : length (take (next + wanted - next) (drop next out)) ≡ wanted = part_len next wanted out (omega arith) in
+    let mid : length (take (next + wanted - next) (drop next out)) ≡ wanted = lent_len next wanted out (omega arith) in
     let same = same_len_mid next (next + wanted - next) out c.unpack_slice_from.new.out c.unpack_slice_from.auto.out in
     let cut = slice_cut count place size (slices_len (take index counts)) slices at.place_is c.byte_len-size.ensures in
     let part = c.unpack_slice_from.ensures

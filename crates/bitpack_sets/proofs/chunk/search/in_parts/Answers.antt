@@ -1,5 +1,5 @@
 -- The rank of the high byte is the place of its slice.
-use Rattle.std.proofs.Common.{◌≡◌, ◌∙◌, ◌+◌, ◌-◌, ◌/◌, ◌%◌, ℕ, List, ap, sym, arith, length, take, get_or}
+use Rattle.std.proofs.Common.{◌≡◌, ◌∙◌, ◌+◌, ◌/◌, ◌%◌, ℕ, List, ap, sym, arith, length, take, get_or}
 use Rattle.bitpack_sets.proofs.CutLaws.{slice_cut}
 use Rattle.bitpack_sets.proofs.ReadLaws.{in_numbers, not_in, place_fits, rank_less}
 use Rattle.bitpack_sets.proofs.chunk.search.in_parts.Goals as goal

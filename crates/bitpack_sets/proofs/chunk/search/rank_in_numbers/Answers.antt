@@ -1,13 +1,14 @@
 -- The middle one tells which half has the rank.
 use Rattle.std.proofs.Common.{◌+◌, ◌/◌, arith}
-use Rattle.bitpack_sets.proofs.HalfLaws.{pairs_len, rank_above, rank_most, rank_under}
+use Rattle.bitpack_sets.proofs.HalfLaws.{pairs_len, rank_above, rank_under}
+use Rattle.bitpack_sets.proofs.ReadLaws.{rank_le}
 use Rattle.bitpack_sets.proofs.chunk.search.rank_in_numbers.Goals as goal
 use Rattle.bitpack_sets.specs.Slices.{pairs_of}
 
 pub loop-left-init : goal.loop-left-init
 loop-left-init c =
     let size = pairs_len c.args.body.now in
-    let most = rank_most c.args.number (pairs_of c.args.body.now) in
+    let most = rank_le c.args.number (pairs_of c.args.body.now) in
     record { within = omega arith; low_is = omega arith; high_is = omega arith }
 
 pub loop-left-preserved-then-number_at-number : goal.loop-left-preserved-then-number_at-number

@@ -4,8 +4,7 @@ use Rattle.std.proofs.lemmas.List.{length-take-le}
 use Rattle.bitpack_sets.proofs.BlockReads.{numbers_few, rank_not_there, rank_there, slice_there}
 use Rattle.bitpack_sets.proofs.CountLaws.{bytes_are}
 use Rattle.bitpack_sets.proofs.CutLaws.{slice_cut}
-use Rattle.bitpack_sets.proofs.HalfLaws.{rank_most}
-use Rattle.bitpack_sets.proofs.ReadLaws.{place_fits, rank_less}
+use Rattle.bitpack_sets.proofs.ReadLaws.{place_fits, rank_le, rank_less}
 use Rattle.bitpack_sets.proofs.TestLaws.{bytes_taken}
 use Rattle.bitpack_sets.proofs.chunk.search.rank_in_parts.Goals as goal
 use Rattle.bitpack_sets.specs.Reads.{rank}
@@ -13,7 +12,7 @@ use Rattle.bitpack_sets.specs.Slices.{AreSlices, numbers_in, slice_len, slice_nu
 
 -- the place of the high byte is among the counts
 at_most : (i x : ℕ) (hs counts : List ℕ) → i ≡ rank x hs → length hs ≡ length counts → i ≤ length counts
-at_most i x hs counts e size = let most = rank_most x hs in omega arith
+at_most i x hs counts e size = let most = rank_le x hs in omega arith
 
 below_counts : (i x : ℕ) (hs counts : List ℕ) → i ≡ rank x hs → rank x hs < length hs → length hs ≡ length counts → i < length counts
 below_counts i x hs counts e less size = omega arith
@@ -70,7 +69,7 @@ overflow_add-result c =
     let most = at_most index (c.args.number / 256) (slice_numbers (length counts) c.args.highs.now) counts c.rank_in_slice-index.ensures c.requires.highs.count_is in
     let few = numbers_few (take index counts) are in
     let long = length-take-le index counts most in
-    let less = rank_most (c.args.number % 256) (slice_numbers (get_or counts index 0 + 1) (take (c.place_of_slice-place.result + c.byte_len-size.result - c.place_of_slice-place.result) (drop c.place_of_slice-place.result c.args.slices.now))) in
+    let less = rank_le (c.args.number % 256) (slice_numbers (get_or counts index 0 + 1) (take (c.place_of_slice-place.result + c.byte_len-size.result - c.place_of_slice-place.result) (drop c.place_of_slice-place.result c.args.slices.now))) in
     let own = own_few index c.place_of_slice-place.result c.byte_len-size.result counts c.args.slices.now c.requires.slices c.place_of_slice-place.ensures c.byte_len-size.ensures
     (let small = rank_less (c.args.number / 256) (slice_numbers (length counts) c.args.highs.now) (sym c.in_slice.ensures ∙ c.if-not-in_slice.false) in let size = c.requires.highs.count_is in omega (arith, c.rank_in_slice-index.ensures)) in
     let byte = (c.type_inv.counts index).fits in

@@ -1,5 +1,5 @@
 -- The number is that of its slice.
-use Rattle.std.proofs.Common.{◌+◌, ◌-◌, ◌*◌, ◌∙◌, ℕ, List, ap, arith, get_or, length, subst, sym, take}
+use Rattle.std.proofs.Common.{◌+◌, ◌*◌, ◌∙◌, ℕ, List, ap, arith, get_or, length, subst, sym, take}
 use Rattle.bitpack_sets.proofs.BlockReads.{slice_there}
 use Rattle.bitpack_sets.proofs.CutLaws.{slice_cut}
 use Rattle.bitpack_sets.proofs.ReadLaws.{place_fits}

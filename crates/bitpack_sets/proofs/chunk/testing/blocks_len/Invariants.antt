@@ -1,5 +1,5 @@
 -- What is counted of the numbers from an index on.
-use Rattle.std.proofs.Common.{◌≡◌, ◌+◌, ◌*◌, ◌/◌, ◌<◌, ◌≤◌, drop, length}
+use Rattle.std.proofs.Common.{◌+◌, ◌*◌, ◌/◌, ◌<◌, ◌≤◌, drop, length}
 use Rattle.bitpack_sets.specs.Slices.{pairs_of}
 use Rattle.bitpack_sets.proofs.FallLaws.{IsRun}
 use Rattle.bitpack_sets.proofs.chunk.testing.blocks_len.Given as goal

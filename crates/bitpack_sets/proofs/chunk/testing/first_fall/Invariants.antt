@@ -1,5 +1,5 @@
 -- None falls before the index.
-use Rattle.std.proofs.Common.{◌≡◌, ◌+◌, ◌-◌, ◌≤◌, drop}
+use Rattle.std.proofs.Common.{◌≡◌, ◌+◌, ◌-◌, drop}
 use Rattle.bitpack_sets.specs.Slices.{first_fall, pairs_of}
 use Rattle.bitpack_sets.proofs.chunk.testing.first_fall.Given as goal
 

@@ -1,8 +1,8 @@
 -- One body more.
-use Rattle.std.proofs.Common.{◌≡◌, ◌+◌, ◌-◌, ◌<◌, ◌≤◌, ℕ, List, arith, drop, length, sym, take, ◌∙◌}
+use Rattle.std.proofs.Common.{ℕ, List, arith, ◌∙◌}
 use Rattle.std.proofs.lemmas.Result.{err_from_is_err_and}
-use Rattle.bitpack_sets.specs.Directory.{before, bodies_end, bodies_start, end_at, sum_at}
-use Rattle.bitpack_sets.specs.Faults.{body_fault, body_fault_at}
+use Rattle.bitpack_sets.specs.Directory.{end_at}
+use Rattle.bitpack_sets.specs.Faults.{body_fault_at}
 use Rattle.bitpack_sets.proofs.EntryLaws.{body_there, ends_grow, first_found, first_more, first_start, grown_to}
 use Rattle.bitpack_sets.proofs.chunk.testing.test_bodies.Goals as goal
 

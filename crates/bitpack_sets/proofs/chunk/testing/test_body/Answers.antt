@@ -1,8 +1,7 @@
 -- A body of another size is blocks, or is none.
-use Rattle.std.proofs.Common.{◌≡◌, ◌*◌, ℕ, List, Bool, false, true, Some, None, ap, ◌∙◌, cond, sym}
+use Rattle.std.proofs.Common.{◌≡◌, ℕ, List, Bool, false, Some, None, ap, ◌∙◌, cond, sym}
 use Rattle.std.proofs.lemmas.Bool.{false_from_ne_true, true≢false}
 use Rattle.bitpack_sets.specs.Slices.{are_blocks}
-use Rattle.bitpack_sets.specs.declared.set_error.SetError.{SetError}
 use Rattle.bitpack_sets.specs.declared.set_error.SetError.TheVariants.{BadBody}
 use Rattle.bitpack_sets.proofs.BodyFaults.{blocks_fault}
 use Rattle.bitpack_sets.proofs.CountLaws.{bytes_are}

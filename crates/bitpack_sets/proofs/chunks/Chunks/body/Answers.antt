@@ -4,7 +4,8 @@ use Rattle.std.proofs.lemmas.List.{get_or-drop, get_or-take, length-take}
 use Rattle.bitpack_sets.proofs.KeyLaws.{AreOf, lows_in, lows_raised, of_raised, of_shared}
 use Rattle.bitpack_sets.proofs.ListLaws.{no_quads}
 use Rattle.bitpack_sets.proofs.PlaceLaws.{between_array, between_chunk, between_none, blocks_body, numbers_body, places_array, places_chunks, quads_cut}
-use Rattle.bitpack_sets.proofs.RunLaws.{rising_front, rising_rest}
+use Rattle.bitpack_sets.proofs.RunLaws.{rising_front}
+use Rattle.bitpack_sets.proofs.WalkLaws.{rising_from}
 use Rattle.bitpack_sets.proofs.chunks.Chunks.body.Goals as goal
 use Rattle.bitpack_sets.specs.Chunks.{lows_between}
 use Rattle.bitpack_sets.specs.Sets.{IsRising}
@@ -30,7 +31,7 @@ ids-requires-then-self-eq0 c =
     let within = span.within in
     let cut = quads_cut c.args.place c.args.end set.rest.now span.later (omega arith) in
     subst (IsRising 0 (2 ^ 32)) (sym cut)
-    (rising_front 0 (2 ^ 32) (c.args.end - c.args.place) (drop c.args.place (quads_of set.rest.now)) (rising_rest 0 (2 ^ 32) c.args.place (quads_of set.rest.now) (set.rising none)))
+    (rising_front 0 (2 ^ 32) (c.args.end - c.args.place) (drop c.args.place (quads_of set.rest.now)) (rising_from 0 (2 ^ 32) c.args.place (quads_of set.rest.now) (set.rising none)))
 
 pub returns-then-self-eq0-clause-key : goal.returns-then-self-eq0-clause-key
 returns-then-self-eq0-clause-key c =

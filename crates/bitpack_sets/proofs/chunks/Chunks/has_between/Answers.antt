@@ -1,9 +1,11 @@
 -- The ids between two positions are those of a chunk, or some of an array.
-use Rattle.std.proofs.Common.{◌≡◌, ◌∙◌, ◌+◌, ◌-◌, ◌%◌, ◌^◌, ◌||◌, Bool, ℕ, List, [], take, drop, ap, arith, refl, subst, sym, true, false}
+use Rattle.std.proofs.Common.{◌≡◌, ◌∙◌, ◌+◌, ◌-◌, ◌%◌, ◌^◌, ◌||◌, Bool, ℕ, List, [], take, drop, ap, arith, refl, subst, sym, false}
+use Rattle.std.proofs.Math.Bool.{or-false}
 use Rattle.std.proofs.lemmas.List.{drop-drop, take-append-drop}
 use Rattle.bitpack_sets.proofs.PlaceLaws.{between_chunk, between_none, from_array, places_array, places_chunks, quads_cut}
 use Rattle.bitpack_sets.proofs.ReadLaws.{has_append}
-use Rattle.bitpack_sets.proofs.RunLaws.{rising_front, rising_rest}
+use Rattle.bitpack_sets.proofs.RunLaws.{rising_front}
+use Rattle.bitpack_sets.proofs.WalkLaws.{rising_from}
 use Rattle.bitpack_sets.proofs.chunks.Chunks.has_between.Goals as goal
 use Rattle.bitpack_sets.specs.Chunks.{lows_between}
 use Rattle.bitpack_sets.specs.Reads.{has}
@@ -27,11 +29,7 @@ in_array-requires c =
     let within = are.within in
     let cut = quads_cut c.args.place c.args.end set.rest.now are.later (omega arith) in
     subst (IsRising 0 (2 ^ 32)) (sym cut)
-    (rising_front 0 (2 ^ 32) (c.args.end - c.args.place) (drop c.args.place (quads_of set.rest.now)) (rising_rest 0 (2 ^ 32) c.args.place (quads_of set.rest.now) (set.rising none)))
-
-or_false : (t : Bool) → (t || false) ≡ t
-or_false true = refl
-or_false false = refl
+    (rising_front 0 (2 ^ 32) (c.args.end - c.args.place) (drop c.args.place (quads_of set.rest.now)) (rising_from 0 (2 ^ 32) c.args.place (quads_of set.rest.now) (set.rising none)))
 
 pub returns-then-self-eq0 : goal.returns-then-self-eq0
 returns-then-self-eq0 c =
@@ -50,7 +48,7 @@ returns-then-self-eq0 c =
     let past : has x rest ≡ false =
     ap (has x) (drop-drop (c.args.end - c.args.place) c.args.place xs ∙ ap (λ (k : ℕ). drop k xs) end ∙ sym (from_array set c.args.end none)) ∙ are.none x refl in
     let parts : has x (drop c.args.place xs) ≡ has x some =
-    ap (has x) (sym (take-append-drop (c.args.end - c.args.place) (drop c.args.place xs))) ∙ has_append x some rest ∙ ap (λ (b : Bool). has x some || b) past ∙ or_false (has x some) in
+    ap (has x) (sym (take-append-drop (c.args.end - c.args.place) (drop c.args.place xs))) ∙ has_append x some rest ∙ ap (λ (b : Bool). has x some || b) past ∙ or-false (has x some) in
     c.in_array.ensures ∙ ap (has x) cut ∙ sym parts ∙ sym (ap (has x) (from_array set c.args.place none)) ∙ sym (are.passed x (omega arith))
 
 pub in_chunk-requires-clause-within : goal.in_chunk-requires-clause-within

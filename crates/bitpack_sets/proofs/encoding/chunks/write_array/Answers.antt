@@ -1,5 +1,5 @@
 -- The parts of the array have their places.
-use Rattle.std.proofs.Common.{◌≡◌, ◌+◌, ◌*◌, ◌≤◌, List, ℕ, arith, length, ap}
+use Rattle.std.proofs.Common.{arith, length}
 use Rattle.bitpack_sets.proofs.FewLaws.{all_of}
 use Rattle.bitpack_sets.proofs.LongFilled.{array_joined, array_size}
 use Rattle.bitpack_sets.proofs.encoding.chunks.write_array.Goals as goal

@@ -1,13 +1,13 @@
 -- The parts of the encoding have their places.
 use Rattle.std.proofs.Common.{◌≡◌, length, ap, arith, ◌∙◌, refl}
-use Rattle.bitpack_sets.proofs.FrontLaws.{bodies_small}
 use Rattle.bitpack_sets.proofs.LongFilled.{chunks_joined, chunks_size}
+use Rattle.bitpack_sets.proofs.RoomLaws.{bodies_few}
 use Rattle.bitpack_sets.proofs.encoding.chunks.write_chunks.Goals as goal
 use Rattle.bitpack_sets.specs.Varints.{byte_count}
 use Rattle.bitpack_sets.specs.Written.{directory}
 
 pub overflow_cast-size : goal.overflow_cast-size
-overflow_cast-size c = let few = c.requires.set.few in let size = c.requires.size in let small = bodies_small c.args.ids.now in omega arith
+overflow_cast-size c = let few = c.requires.set.few in let size = c.requires.size in let small = bodies_few c.args.ids.now in omega arith
 
 pub split_at_mut-head-requires : goal.split_at_mut-head-requires
 split_at_mut-head-requires c =

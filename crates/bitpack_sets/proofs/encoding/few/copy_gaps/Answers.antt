@@ -1,5 +1,5 @@
 -- One code more is written.
-use Rattle.std.proofs.Common.{◌≡◌, ◌+◌, ◌-◌, ◌^◌, ◌<◌, ◌≤◌, List, length, sym, arith}
+use Rattle.std.proofs.Common.{◌^◌, arith}
 use Rattle.bitpack_groups.proofs.ForCallers.{fill_done, fill_start}
 use Rattle.bitpack_sets.proofs.FewLaws.{codes_len, codes_of, gap_more, gap_none, id_above}
 use Rattle.bitpack_sets.proofs.encoding.few.copy_gaps.Goals as goal

@@ -1,7 +1,7 @@
 -- One id more.
 use Rattle.std.proofs.Common.{◌≡◌, ◌-◌, ◌/◌, ℕ, List, [], ap, refl, ◌∙◌, get_or, length, arith, sym}
+use Rattle.std.proofs.lemmas.List.{nil_from_length}
 use Rattle.bitpack_sets.specs.Sets.{parts}
-use Rattle.bitpack_sets.proofs.AnswerLaws.{no_items}
 use Rattle.bitpack_sets.proofs.CountedRuns.{counted_next, step_few}
 use Rattle.bitpack_sets.proofs.FallLaws.{counted_done, counted_start}
 use Rattle.bitpack_sets.proofs.encoding.measuring.count_chunks.Goals as goal
@@ -32,4 +32,4 @@ unfolding parts
 none_counted = refl
 
 pub returns-then-ids-eq0-clause-count : goal.returns-then-ids-eq0-clause-count
-returns-then-ids-eq0-clause-count c = none_counted ∙ sym (ap (λ (l : List ℕ). length (parts 65536 l)) (no_items c.args.ids.now (omega arith)))
+returns-then-ids-eq0-clause-count c = none_counted ∙ sym (ap (λ (l : List ℕ). length (parts 65536 l)) (nil_from_length c.args.ids.now (omega arith)))

@@ -1,7 +1,8 @@
 -- An id more is counted if the one so far after it has another quotient.
 use Rattle.std.proofs.Common.{◌≡◌, ℕ, ◌+◌, ◌-◌, ◌/◌, List, length, get_or, take, drop, eqb, cond, sym, ap, arith, ◌∙◌, length-drop}
 use Rattle.bitpack_sets.proofs.CountedRuns.{lasts_are, lasts_few, lasts_more, step_few, step_is}
-use Rattle.bitpack_sets.proofs.RunLaws.{chunk_few, get_drop, rest_is}
+use Rattle.bitpack_sets.proofs.EqualLaws.{tail_whole}
+use Rattle.bitpack_sets.proofs.RunLaws.{chunk_few, get_drop}
 use Rattle.bitpack_sets.proofs.encoding.measuring.count_within.Goals as goal
 
 pub returns-then-ids-most : goal.returns-then-ids-most
@@ -21,7 +22,7 @@ loop-index-preserved c =
     let ids : List ℕ = c.args.ids.now in
     let later : List ℕ = take (length ids - most) (drop most ids) in
     let one = step_few (get_or later i 0 / 256) (get_or ids i 0 / 256) in
-    let there : get_or later i 0 ≡ get_or ids (most + i) 0 = ap (λ (l : List ℕ). get_or l i 0) (rest_is most ids) ∙ get_drop most i ids in
+    let there : get_or later i 0 ≡ get_or ids (most + i) 0 = ap (λ (l : List ℕ). get_or l i 0) (tail_whole most ids) ∙ get_drop most i ids in
     let step = step_is (get_or later i 0 / 256) (get_or ids i 0 / 256) ∙ ap (λ n. cond (eqb (n / 256) (get_or ids i 0 / 256)) 0 1) there in
     let next = lasts_more most i ids c.requires.some (omega arith) in
     record { few = omega arith; counted = omega arith }

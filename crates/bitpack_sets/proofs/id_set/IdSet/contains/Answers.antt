@@ -1,5 +1,5 @@
 -- Each form of a set is searched.
-use Rattle.std.proofs.Common.{◌≡◌, ◌^◌, ap, subst, sym, ◌∙◌}
+use Rattle.std.proofs.Common.{◌^◌, ap, subst, sym, ◌∙◌}
 use Rattle.bitpack_sets.specs.Reads.{has}
 use Rattle.bitpack_sets.specs.Sets.{IsRising}
 use Rattle.bitpack_sets.proofs.FormLaws.{some_bytes, stated_array, stated_chunks, stated_few}

@@ -1,15 +1,12 @@
 -- The count is that of the ids.
-use Rattle.std.proofs.Common.{◌≡◌, ℕ, List, [], ◌∷◌, length, refl, arith, ap, ◌∙◌, sym, eqb-true, eq-eqb}
+use Rattle.std.proofs.Common.{◌≡◌, length, ap, ◌∙◌, sym, eqb-true, eq-eqb}
+use Rattle.std.proofs.lemmas.List.{nil_from_length}
 use Rattle.bitpack_sets.specs.Opened.{ids}
 use Rattle.bitpack_sets.proofs.TextLaws.{count_stated}
 use Rattle.bitpack_sets.proofs.id_set.IdSet.is_empty.Goals as goal
-
-none : (xs : List ℕ) → length xs ≡ 0 → xs ≡ []
-none [] e = refl
-none (x ∷ xs) e = absurd (omega arith)
 
 pub returns : goal.returns
 returns c =
     let set = c.args.self.now in
     let e : set.count ≡ length (ids set) = set.states.count_is ∙ count_stated set.bytes.now set.are_bytes set.states.none in
-    (λ h. none (ids set) (sym e ∙ eqb-true set.count 0 h), λ h. eq-eqb set.count 0 (e ∙ ap length h))
+    (λ h. nil_from_length (ids set) (sym e ∙ eqb-true set.count 0 h), λ h. eq-eqb set.count 0 (e ∙ ap length h))

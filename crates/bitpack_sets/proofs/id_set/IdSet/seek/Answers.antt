@@ -5,13 +5,14 @@ use Rattle.std.proofs.lemmas.Option.{slice_get-get_or}
 use Rattle.bitpack_sets.specs.Opened.{ids}
 use Rattle.bitpack_sets.specs.Reads.{rank}
 use Rattle.bitpack_sets.specs.Sets.{IsRising}
-use Rattle.bitpack_sets.proofs.HalfLaws.{rank_above, rank_most}
+use Rattle.bitpack_sets.proofs.HalfLaws.{rank_above}
+use Rattle.bitpack_sets.proofs.ReadLaws.{rank_le}
 use Rattle.bitpack_sets.proofs.TextLaws.{ids_are_read}
 use Rattle.bitpack_sets.proofs.id_set.IdSet.seek.Goals as goal
 
 pub returns-then-position-len-clause-found : goal.returns-then-position-len-clause-found
 returns-then-position-len-clause-found c =
-    let most = rank_most c.args.target (ids c.args.self.now) in
+    let most = rank_le c.args.target (ids c.args.self.now) in
     omega (arith, c.rank-position.ensures, c.len.ensures, c.if-position-len.true)
 
 pub returns-clause-found : goal.returns-clause-found

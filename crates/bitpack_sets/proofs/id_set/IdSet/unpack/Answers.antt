@@ -1,5 +1,5 @@
 -- Each form of a set has its ids.
-use Rattle.std.proofs.Common.{◌≡◌, ◌*◌, ◌≤◌, ℕ, List, arith, ap, length, subst, sym, ◌∙◌}
+use Rattle.std.proofs.Common.{◌≡◌, ◌*◌, ◌≤◌, ℕ, ap, length, subst, sym, ◌∙◌}
 use Rattle.bitpack_sets.specs.Faults.{short_fault}
 use Rattle.bitpack_sets.specs.Opened.{ids}
 use Rattle.bitpack_sets.specs.Reads.{few_ids}

@@ -1,5 +1,5 @@
 -- An id more is marked.
-use Rattle.std.proofs.Common.{◌≡◌, ◌∙◌, ◌/◌, ◌%◌, ◌<◌, ap, arith, false, get_or, length, refl, sym}
+use Rattle.std.proofs.Common.{◌≡◌, ◌∙◌, ◌/◌, ◌%◌, ◌<◌, ap, arith, get_or, length, refl, sym}
 use Rattle.std.proofs.lemmas.List.{get_or-map, length-map, take_all}
 use Rattle.bitpack_sets.proofs.KeyLaws.{lows_in}
 use Rattle.bitpack_sets.proofs.ListLaws.{high_more_none, mark_more}

@@ -1,6 +1,7 @@
 -- Numbers increase when the same is added to each.
 use Rattle.std.proofs.Common.{◌+◌, ◌^◌, arith}
-use Rattle.bitpack_sets.proofs.ListLaws.{rising_raised, rising_within}
+use Rattle.bitpack_sets.proofs.ListLaws.{rising_within}
+use Rattle.bitpack_sets.proofs.RaisedLaws.{rising_raised}
 use Rattle.bitpack_sets.proofs.listed.Listed.numbers.Goals as goal
 use Rattle.bitpack_sets.specs.Slices.{pairs_of}
 

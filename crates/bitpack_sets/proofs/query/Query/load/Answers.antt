@@ -5,7 +5,8 @@ use Rattle.bitpack_sets.specs.Operations.{those}
 use Rattle.bitpack_sets.specs.Queries.{IsLoaded, fault_from}
 use Rattle.bitpack_sets.specs.Reads.{has}
 use Rattle.bitpack_sets.specs.Sets.{IsRising}
-use Rattle.bitpack_sets.proofs.FoldLaws.{has_those, listed, part_own, those_rise}
+use Rattle.bitpack_sets.proofs.FoldLaws.{listed, part_own}
+use Rattle.bitpack_sets.proofs.LoadLaws.{has_those, those_rise}
 use Rattle.bitpack_sets.proofs.query.Query.load.Goals as goal
 
 pub load_answer-requires-clause-highs : goal.load_answer-requires-clause-highs

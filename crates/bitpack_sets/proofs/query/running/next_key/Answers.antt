@@ -1,4 +1,4 @@
-use Rattle.std.proofs.Common.{◌-◌, ◌*◌, length-set, refl, ◌∙◌, arith, rules}
+use Rattle.std.proofs.Common.{◌*◌, length-set, refl, ◌∙◌, arith, rules}
 use Rattle.bitpack_sets.proofs.QueryLaws.{Before, before_joined, combine_at, held_after_combine, held_after_set, held_found, set_at}
 use Rattle.bitpack_sets.proofs.query.running.next_key.Goals as goal
 use Rattle.bitpack_sets.proofs.query.running.next_key.Goals.{in-Set, in-Combine}

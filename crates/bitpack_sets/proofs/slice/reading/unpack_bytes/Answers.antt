@@ -1,10 +1,11 @@
 -- One byte more is written.
 use Rattle.std.proofs.Common.{◌+◌, length-set, refl, ◌∙◌, arith}
-use Rattle.bitpack_sets.proofs.BytesWritten.{one_set, part_long, part_set}
+use Rattle.bitpack_sets.proofs.BytesWritten.{one_set, part_set}
 use Rattle.bitpack_sets.proofs.slice.reading.unpack_bytes.Goals as goal
+use Rattle.bitpack_groups.proofs.ForCallers.{lent_len}
 
 pub loop-i-init : goal.loop-i-init
-loop-i-init c = record { size = part_long c.args.at _ c.args.out.now (omega arith); values = refl }
+loop-i-init c = record { size = lent_len c.args.at _ c.args.out.now (omega arith); values = refl }
 
 pub loop-i-preserved : goal.loop-i-preserved
 loop-i-preserved c =

@@ -1,13 +1,15 @@
 -- Of 32 bytes the first few are the numbers.
-use Rattle.std.proofs.Common.{ℕ, ◌≡◌, ◌+◌, ◌-◌, ◌++◌, take, drop, map, ap, ◌∙◌, arith}
+use Rattle.std.proofs.Common.{ℕ, ◌≡◌, ◌+◌, ◌-◌, ◌++◌, ◌≤◌, length, take, drop, map, ap, ◌∙◌, arith}
+use Rattle.bitpack_groups.proofs.ForCallers.{lent_len}
 use Rattle.bitpack_sets.proofs.BytesWritten.{first_few}
 use Rattle.bitpack_sets.proofs.slice.reading.unpack_from.Goals as goal
 use Rattle.bitpack_sets.specs.Slices.{slice_len, slice_numbers}
 
 pub returns-then-out-at-ge32-clause-values : goal.returns-then-out-at-ge32-clause-values
 returns-then-out-at-ge32-clause-values c =
-    first_few c.args.base c.args.count c.args.start c.args.at c.unpack_bytes.result c.args.out.now c.args.slices.now c.unpack_bytes.new.out c.if-count-lt32.true (omega arith)
-    c.unpack_bytes.ensures.end (omega arith) c.unpack_bytes.ensures.values
+    let room : c.args.start + 32 ≤ length c.args.slices.now = omega arith in
+    first_few c.args.base c.args.count c.args.start c.args.at (c.args.at + 32) c.args.out.now c.args.slices.now c.unpack_32.new.out c.if-count-lt32.true (omega arith)
+    (omega (arith, lent_len c.args.start 32 c.args.slices.now room)) room c.unpack_32.ensures
 
 pub returns-clause-values : goal.returns-clause-values
 returns-clause-values c =

@@ -1,5 +1,5 @@
 -- The ids after a slice are those from the next one on.
-use Rattle.std.proofs.Common.{◌≡◌, ◌+◌, ◌*◌, ◌^◌, ◌<◌, ◌∙◌, ℕ, IfSome, ap, arith, drop, length, subst, sym}
+use Rattle.std.proofs.Common.{◌≡◌, ◌+◌, ◌*◌, ◌<◌, ◌∙◌, ℕ, IfSome, ap, arith, drop, length, subst, sym}
 use Rattle.bitpack_sets.specs.declared.id_set.IdSet.{IdSet}
 use Rattle.bitpack_sets.specs.declared.slice_cursor.SliceCursor.{SliceCursor}
 use Rattle.bitpack_sets.specs.Cursors.{first_slice, from_slice, left_of}

@@ -1,11 +1,11 @@
 -- The ids below a slice are passed over, by its rank.
-use Rattle.std.proofs.Common.{◌≡◌, ◌+◌, ◌*◌, ◌/◌, ◌%◌, ◌^◌, ◌<◌, ◌≤◌, ◌∙◌, ℕ, ap, arith, drop, length, subst, sym}
+use Rattle.std.proofs.Common.{◌≡◌, ◌+◌, ◌*◌, ◌/◌, ◌%◌, ◌^◌, ◌<◌, ◌∙◌, ℕ, ap, arith, drop, subst, sym}
 use Rattle.bitpack_sets.specs.declared.id_set.IdSet.{IdSet}
 use Rattle.bitpack_sets.specs.declared.slice_cursor.SliceCursor.{SliceCursor}
 use Rattle.bitpack_sets.specs.Opened.{ids}
 use Rattle.bitpack_sets.specs.Reads.{rank, slice_or_end}
 use Rattle.bitpack_sets.proofs.CursorLaws.{moved, rank_up, seam, stands, stayed}
-use Rattle.bitpack_sets.proofs.HalfLaws.{rank_most}
+use Rattle.bitpack_sets.proofs.ReadLaws.{rank_le}
 use Rattle.bitpack_sets.proofs.TextLaws.{ids_are_read}
 use Rattle.bitpack_sets.proofs.slice_cursor.SliceCursor.seek.Goals as goal
 
@@ -18,7 +18,7 @@ returns-then-least-self-clause-left c =
 pub skip_to-requires-clause-within : goal.skip_to-requires-clause-within
 skip_to-requires-clause-within c =
     let set = c.args.self.now.later.set in
-    let most = rank_most (c.args.target / 256 * 256 % 2 ^ 32) (ids set) in
+    let most = rank_le (c.args.target / 256 * 256 % 2 ^ 32) (ids set) in
     omega (arith, c.rank-self.ensures)
 
 pub skip_to-requires-clause-later : goal.skip_to-requires-clause-later

@@ -1,5 +1,5 @@
 -- The slice after all is one of no id.
-use Rattle.std.proofs.Common.{◌^◌, eqb-true}
+use Rattle.std.proofs.Common.{◌^◌}
 use Rattle.bitpack_sets.specs.Opened.{ids}
 use Rattle.bitpack_sets.specs.Cursors.{left_of}
 use Rattle.bitpack_sets.proofs.CursorLaws.{none_first, small_first}

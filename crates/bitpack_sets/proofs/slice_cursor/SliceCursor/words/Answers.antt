@@ -1,5 +1,5 @@
 -- At the end the numbers of the slice are above all ids.
-use Rattle.std.proofs.Common.{◌^◌, ◌∙◌, ap}
+use Rattle.std.proofs.Common.{◌∙◌, ap}
 use Rattle.bitpack_sets.specs.Opened.{ids}
 use Rattle.bitpack_sets.specs.Reads.{slice_or_end}
 use Rattle.bitpack_sets.proofs.CursorLaws.{end_bits}

@@ -1,8 +1,8 @@
 -- No chunk has ids of both.
-use Rattle.std.proofs.Common.{◌+◌, ◌-◌, ◌++◌, ℕ, List, length, arith, ap, length-append}
+use Rattle.std.proofs.Common.{◌++◌, ℕ, List, length, arith, ap, length-append}
 use Rattle.std.specs.List.{concat}
-use Rattle.bitpack_sets.proofs.FrontLaws.{bodies_small}
 use Rattle.bitpack_sets.proofs.FrontTexts.{concat_both, count_both, parts_most}
+use Rattle.bitpack_sets.proofs.RoomLaws.{bodies_few}
 use Rattle.bitpack_sets.proofs.encoding.copying.Front.measure.Goals as goal
 use Rattle.bitpack_sets.specs.Fronts.{front_ids}
 use Rattle.bitpack_sets.specs.Written.{bodies}
@@ -26,5 +26,5 @@ returns-clause-few c =
 pub returns-clause-small : goal.returns-clause-small
 returns-clause-small c =
     let all : List ℕ = front_ids c.args.self.now ++ c.args.ids.now in
-    let small = bodies_small all in
+    let small = bodies_few all in
     omega (arith, small, returns-clause-bodies c)

@@ -1,7 +1,7 @@
 -- The parts of the encoding have their places.
 use Rattle.std.proofs.Common.{◌≡◌, ℕ, ◌+◌, ◌++◌, List, length, ap, sym, arith, ◌∙◌, length-append}
-use Rattle.bitpack_sets.proofs.FrontLaws.{bodies_small}
 use Rattle.bitpack_sets.proofs.LongFilled.{chunks_joined, chunks_size}
+use Rattle.bitpack_sets.proofs.RoomLaws.{bodies_few}
 use Rattle.bitpack_sets.proofs.encoding.copying.Front.write.Goals as goal
 use Rattle.bitpack_sets.specs.Fronts.{front_ids}
 use Rattle.bitpack_sets.specs.Varints.{byte_count, number}
@@ -13,7 +13,7 @@ count_is n first later e = ap (λ (m : ℕ). m + length later) e ∙ sym (length
 pub overflow_cast-size : goal.overflow_cast-size
 overflow_cast-size c =
     let all : List ℕ = front_ids c.args.self.now ++ c.args.ids.now in
-    omega (arith, c.requires.most, c.requires.size, bodies_small all)
+    omega (arith, c.requires.most, c.requires.size, bodies_few all)
 
 pub split_at_mut-head-requires : goal.split_at_mut-head-requires
 split_at_mut-head-requires c =

@@ -1,5 +1,5 @@
 -- Keys, ends, sums and bodies have their places.
-use Rattle.std.proofs.Common.{◌+◌, ◌*◌, ◌++◌, ap, sym, arith, ◌∙◌}
+use Rattle.std.proofs.Common.{◌*◌, ◌++◌, ap, sym, arith, ◌∙◌}
 use Rattle.bitpack_sets.specs.Fronts.{front_ids}
 use Rattle.bitpack_sets.proofs.LongFilled.{directory_size, ends_size, keys_size, sums_size}
 use Rattle.bitpack_sets.proofs.encoding.copying.Front.write_directory.Goals as goal

@@ -1,5 +1,5 @@
 -- Each part of the directory begins with that of the chunks that are copied.
-use Rattle.std.proofs.Common.{◌≡◌, ◌+◌, ◌++◌, ℕ, List, length, arith, ap, sym, ◌∙◌, refl, length-append}
+use Rattle.std.proofs.Common.{◌≡◌, ◌++◌, ℕ, List, length, arith, ap, sym, ◌∙◌, refl, length-append}
 use Rattle.std.specs.List.{concat}
 use Rattle.bitpack_sets.proofs.FrontTexts.{concat_both, ends_split, keys_split, sums_split}
 use Rattle.bitpack_sets.proofs.encoding.copying.Front.write_entries.Goals as goal

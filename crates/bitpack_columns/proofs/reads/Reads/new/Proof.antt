@@ -1,0 +1,40 @@
+-- A value of no bytes is made, and the walk picks zeros.
+use Rattle.std.proofs.Common.{[], ◌∷◌, refl}
+use Rattle.std.proofs.raw_atomic.Walks.{proved}
+use mir.Val.{Val, vstruct, vcons, vnil}
+use contract.Running.{tables}
+use types.Kit.{raw, ◌$◌, ◌∵◌, !, qed, keep, join, frame, suffices}
+use types.Run.{enter, no_more, and_then, returns}
+use types.Part.{agg}
+use types.ByLocal.{alloc_all, pass_all, free_all, look_at, get, sets}
+use denote.Shadow.{pure_i}
+use denote.Steps.{nothing}
+use denote.Triple.Entry.{on_entry}
+use denote.Triple.Walked.{ends_at}
+use Rattle.bitpacking.proofs.ForCallers.{tells, tells_last}
+use Rattle.bitpack_columns.specs.declared.reads.Reads.{Reads}
+use Rattle.bitpack_columns.specs.contracts.reads.Reads as T
+use Rattle.bitpack_columns.specs.contracts.reads.Reads.new as f
+use Rattle.bitpack_columns.proofs.reads.Reads.new.Statement.{statement}
+use Rattle.bitpack_columns.proofs.reads.Reads.new.Code as code
+
+abbrev made : Val
+made = vstruct (vcons (vstruct vnil) vnil)
+
+abbrev zeros : Reads
+zeros = record { marker = record {}; marks = 0; blocks = 0 }
+
+pub new_spec : {M : Type 1} → statement M
+new_spec 𝓤 𝓛 𝓜 𝓡 wired =
+    let c = f.clauses 𝓛 𝓜.mem 𝓡.returns in let 𝓣 = tables 𝓤 𝓛.H 𝓜 𝓡 𝓡.env in
+    proved 𝓛 f.ended tt c 𝓜 𝓡 tt
+    f.Key.name code.function (code.unfolded 𝓤 𝓛.H 𝓜 𝓡 wired)
+    (λ κs. tt) (λ κs. tt) (λ κs qs bounds a g are.
+    qed 𝓛 (raw (on_entry 𝓛 f.signature κs qs a tt) ∷ raw ((c κs a).requires g) ∷ []) ∵ keep ! [] $
+    enter ! _ _ _ _ _ $ alloc_all ! (λ l. pass_all ! refl tt $
+    sets ! (agg ! (no_more !)) refl (tt, tt) $ sets ! (agg ! (and_then ! (get ! refl) (no_more !))) refl (tt, (tt, tt)) $
+    returns ! (look_at ! 0 refl) $ free_all ! refl $
+    suffices ! _ (ends_at 𝓛 f.ended tt c ((κs, qs, bounds, a, tt), g) made zeros tt tt) $
+    pure_i ! (T.the_row.own_val zeros (made ∷ [])) ((λ vss. (tt, ((λ uss. (tt, tt)), tt))), tt) (((vstruct vnil ∷ [], tt), (refl, ((tt, (refl, tt)), tt))), tt) $
+    nothing ! $ join ! $ nothing ! $ join ! $ frame ! $
+    tells ! refl $ tells_last ! refl))

@@ -1,0 +1,260 @@
+//! Two sets combined, and what combines any number of them.
+
+use alloc::vec::Vec;
+
+use super::packing::packed;
+use super::{IdSet, IdSetBuf};
+use crate::growing::resize;
+use crate::sets;
+use crate::sets::Operation;
+
+/// The most ids for which a call makes room without counting the ids of the answer first: 16 MB.
+const MOST_UNCOUNTED: usize = 1 << 22;
+
+/// How many ids the first set gives, combined with each other set in turn.
+pub(super) fn count(operation: Operation, sets: &[&IdSet]) -> usize {
+    usize::try_from(sets::combine_all_count(operation, sets)).expect("a count of ids that fits `usize`")
+}
+
+/// How many ids an operation on sets gives at most. It counts them if the bound may be far too high: many sets can share most of their ids.
+fn room(operation: Operation, sets: &[&IdSet]) -> usize {
+    let lens = sets.iter().map(|set| set.len());
+    match operation {
+        Operation::And => lens.min().unwrap_or(0),
+        Operation::AndNot => sets.first().map_or(0, |set| set.len()),
+        Operation::Or | Operation::Xor => {
+            let all = lens.clone().fold(0, usize::saturating_add);
+            let longest = lens.max().unwrap_or(0);
+            if all <= MOST_UNCOUNTED || all / 2 <= longest { all } else { count(operation, sets) }
+        }
+    }
+}
+
+/// Replaces the values of a vector by the ids of the first set, combined with each other set in turn.
+pub(super) fn combine_into(operation: Operation, sets: &[&IdSet], ids: &mut Vec<u32>) {
+    resize(ids, room(operation, sets));
+    let len = sets::combine_all_to(operation, sets, ids).expect("room for all ids");
+    ids.truncate(len);
+}
+
+/// The ids of the first set, combined with each other set in turn, in a vector with at most as much room again, and room for 32 more: to free
+/// less takes longer than to combine short sets.
+pub(super) fn combine(operation: Operation, sets: &[&IdSet]) -> Vec<u32> {
+    let mut ids = Vec::new();
+    combine_into(operation, sets, &mut ids);
+    if ids.capacity() > 2 * ids.len() + 32 { ids.as_slice().to_vec() } else { ids }
+}
+
+/// The set that an operation on two sets gives.
+pub(super) fn combine_set(operation: Operation, one: &IdSet, other: &IdSet) -> IdSetBuf {
+    packed(|bytes| sets::combine_set(operation, &one.code(), &other.code(), bytes)).unwrap_or_else(|error| panic!("{error}"))
+}
+
+/// Two sets combined. A call that returns a set allocates 4 bytes for each id of the answer, and the bytes of its encoding.
+impl IdSet {
+    /// Returns the set of the ids that both have, also as `&`.
+    ///
+    /// ```
+    /// use bitpacking::set::IdSetBuf;
+    ///
+    /// let (cats, dogs) = (IdSetBuf::pack(&[1, 4, 6, 9])?, IdSetBuf::pack(&[4, 6, 7])?);
+    /// assert_eq!(cats.intersect(&dogs).unpack(), [4, 6]);
+    /// # Ok::<(), bitpacking::set::Error>(())
+    /// ```
+    #[must_use]
+    pub fn intersect(&self, other: &IdSet) -> IdSetBuf {
+        combine_set(Operation::And, self, other)
+    }
+
+    /// Returns the set of the ids that at least one of the two has, also as `|`.
+    ///
+    /// # Panics
+    ///
+    /// If there are more than 268,435,456 ids. [`unite_len`](IdSet::unite_len) returns their number.
+    ///
+    /// ```
+    /// use bitpacking::set::IdSetBuf;
+    ///
+    /// let (cats, dogs) = (IdSetBuf::pack(&[1, 4, 6, 9])?, IdSetBuf::pack(&[4, 6, 7])?);
+    /// assert_eq!(cats.unite(&dogs).unpack(), [1, 4, 6, 7, 9]);
+    /// # Ok::<(), bitpacking::set::Error>(())
+    /// ```
+    #[must_use]
+    pub fn unite(&self, other: &IdSet) -> IdSetBuf {
+        combine_set(Operation::Or, self, other)
+    }
+
+    /// Returns the set of the ids that this set has and the other lacks, also as `-`.
+    ///
+    /// ```
+    /// use bitpacking::set::IdSetBuf;
+    ///
+    /// let (cats, dogs) = (IdSetBuf::pack(&[1, 4, 6, 9])?, IdSetBuf::pack(&[4, 6, 7])?);
+    /// assert_eq!(cats.subtract(&dogs).unpack(), [1, 9]);
+    /// # Ok::<(), bitpacking::set::Error>(())
+    /// ```
+    #[must_use]
+    pub fn subtract(&self, other: &IdSet) -> IdSetBuf {
+        combine_set(Operation::AndNot, self, other)
+    }
+
+    /// Returns the set of the ids that exactly one of the two has, also as `^`.
+    ///
+    /// # Panics
+    ///
+    /// If there are more than 268,435,456 ids.
+    ///
+    /// ```
+    /// use bitpacking::set::IdSetBuf;
+    ///
+    /// let (cats, dogs) = (IdSetBuf::pack(&[1, 4, 6, 9])?, IdSetBuf::pack(&[4, 6, 7])?);
+    /// assert_eq!(cats.symmetric_difference(&dogs).unpack(), [1, 7, 9]);
+    /// # Ok::<(), bitpacking::set::Error>(())
+    /// ```
+    #[must_use]
+    pub fn symmetric_difference(&self, other: &IdSet) -> IdSetBuf {
+        combine_set(Operation::Xor, self, other)
+    }
+
+    /// Replaces the values of a vector by the ids that both have, in increasing order. Allocates only if the capacity of the vector is below the
+    /// length of the shorter set.
+    ///
+    /// ```
+    /// use bitpacking::set::IdSetBuf;
+    ///
+    /// let (cats, dogs) = (IdSetBuf::pack(&[1, 4, 6, 9])?, IdSetBuf::pack(&[4, 6, 7])?);
+    /// let mut ids = vec![8, 3];
+    /// cats.intersect_into(&dogs, &mut ids);
+    /// assert_eq!(ids, [4, 6]);
+    /// # Ok::<(), bitpacking::set::Error>(())
+    /// ```
+    pub fn intersect_into(&self, other: &IdSet, ids: &mut Vec<u32>) {
+        combine_into(Operation::And, &[self, other], ids);
+    }
+
+    /// Replaces the values of a vector by the ids that at least one of the two has, in increasing order. Allocates only if the capacity of the
+    /// vector is below the sum of the lengths.
+    ///
+    /// ```
+    /// use bitpacking::set::IdSetBuf;
+    ///
+    /// let (cats, dogs) = (IdSetBuf::pack(&[1, 4, 6, 9])?, IdSetBuf::pack(&[4, 6, 7])?);
+    /// let mut ids = vec![8, 3];
+    /// cats.unite_into(&dogs, &mut ids);
+    /// assert_eq!(ids, [1, 4, 6, 7, 9]);
+    /// # Ok::<(), bitpacking::set::Error>(())
+    /// ```
+    pub fn unite_into(&self, other: &IdSet, ids: &mut Vec<u32>) {
+        combine_into(Operation::Or, &[self, other], ids);
+    }
+
+    /// Replaces the values of a vector by the ids that this set has and the other lacks, in increasing order. Allocates only if the capacity of
+    /// the vector is below the length of this set.
+    ///
+    /// ```
+    /// use bitpacking::set::IdSetBuf;
+    ///
+    /// let (cats, dogs) = (IdSetBuf::pack(&[1, 4, 6, 9])?, IdSetBuf::pack(&[4, 6, 7])?);
+    /// let mut ids = vec![8, 3];
+    /// cats.subtract_into(&dogs, &mut ids);
+    /// assert_eq!(ids, [1, 9]);
+    /// # Ok::<(), bitpacking::set::Error>(())
+    /// ```
+    pub fn subtract_into(&self, other: &IdSet, ids: &mut Vec<u32>) {
+        combine_into(Operation::AndNot, &[self, other], ids);
+    }
+
+    /// Replaces the values of a vector by the ids that exactly one of the two has, in increasing order. Allocates only if the capacity of the
+    /// vector is below the sum of the lengths.
+    ///
+    /// ```
+    /// use bitpacking::set::IdSetBuf;
+    ///
+    /// let (cats, dogs) = (IdSetBuf::pack(&[1, 4, 6, 9])?, IdSetBuf::pack(&[4, 6, 7])?);
+    /// let mut ids = vec![8, 3];
+    /// cats.symmetric_difference_into(&dogs, &mut ids);
+    /// assert_eq!(ids, [1, 7, 9]);
+    /// # Ok::<(), bitpacking::set::Error>(())
+    /// ```
+    pub fn symmetric_difference_into(&self, other: &IdSet, ids: &mut Vec<u32>) {
+        combine_into(Operation::Xor, &[self, other], ids);
+    }
+
+    /// Returns how many ids both have. Allocates nothing.
+    ///
+    /// ```
+    /// use bitpacking::set::IdSetBuf;
+    ///
+    /// let (cats, dogs) = (IdSetBuf::pack(&[1, 4, 6, 9])?, IdSetBuf::pack(&[4, 6, 7])?);
+    /// assert_eq!(cats.intersect_len(&dogs), 2);
+    /// # Ok::<(), bitpacking::set::Error>(())
+    /// ```
+    pub fn intersect_len(&self, other: &IdSet) -> usize {
+        sets::combine_count(Operation::And, &self.code(), &other.code())
+    }
+
+    /// Returns how many ids at least one of the two has. Allocates nothing.
+    ///
+    /// ```
+    /// use bitpacking::set::IdSetBuf;
+    ///
+    /// let (cats, dogs) = (IdSetBuf::pack(&[1, 4, 6, 9])?, IdSetBuf::pack(&[4, 6, 7])?);
+    /// assert_eq!(cats.unite_len(&dogs), 5);
+    /// # Ok::<(), bitpacking::set::Error>(())
+    /// ```
+    pub fn unite_len(&self, other: &IdSet) -> usize {
+        sets::combine_count(Operation::Or, &self.code(), &other.code())
+    }
+
+    /// Returns how many ids this set has and the other lacks. Allocates nothing.
+    ///
+    /// ```
+    /// use bitpacking::set::IdSetBuf;
+    ///
+    /// let (cats, dogs) = (IdSetBuf::pack(&[1, 4, 6, 9])?, IdSetBuf::pack(&[4, 6, 7])?);
+    /// assert_eq!(cats.subtract_len(&dogs), 2);
+    /// # Ok::<(), bitpacking::set::Error>(())
+    /// ```
+    pub fn subtract_len(&self, other: &IdSet) -> usize {
+        sets::combine_count(Operation::AndNot, &self.code(), &other.code())
+    }
+
+    /// Returns how many ids exactly one of the two has. Allocates nothing.
+    ///
+    /// ```
+    /// use bitpacking::set::IdSetBuf;
+    ///
+    /// let (cats, dogs) = (IdSetBuf::pack(&[1, 4, 6, 9])?, IdSetBuf::pack(&[4, 6, 7])?);
+    /// assert_eq!(cats.symmetric_difference_len(&dogs), 3);
+    /// # Ok::<(), bitpacking::set::Error>(())
+    /// ```
+    pub fn symmetric_difference_len(&self, other: &IdSet) -> usize {
+        sets::combine_count(Operation::Xor, &self.code(), &other.code())
+    }
+
+    /// Returns whether the other set has each id of this one. Stops at the first chunk with an id that it lacks, and allocates nothing.
+    ///
+    /// ```
+    /// use bitpacking::set::IdSetBuf;
+    ///
+    /// let (cats, dogs) = (IdSetBuf::pack(&[1, 4, 6, 9])?, IdSetBuf::pack(&[4, 6])?);
+    /// assert!(dogs.is_subset(&cats) && !cats.is_subset(&dogs));
+    /// # Ok::<(), bitpacking::set::Error>(())
+    /// ```
+    pub fn is_subset(&self, other: &IdSet) -> bool {
+        sets::is_subset(&self.code(), &other.code())
+    }
+
+    /// Returns whether no id is in both sets. Stops at the first chunk that has such an id, and allocates nothing.
+    ///
+    /// ```
+    /// use bitpacking::set::IdSetBuf;
+    ///
+    /// let (cats, dogs) = (IdSetBuf::pack(&[1, 4, 6, 9])?, IdSetBuf::pack(&[2, 7])?);
+    /// assert!(cats.is_disjoint(&dogs));
+    /// # Ok::<(), bitpacking::set::Error>(())
+    /// ```
+    pub fn is_disjoint(&self, other: &IdSet) -> bool {
+        sets::is_disjoint(&self.code(), &other.code())
+    }
+}

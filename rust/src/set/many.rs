@@ -1,0 +1,136 @@
+//! What any number of sets have in common, together, and one without the others.
+
+use alloc::vec::Vec;
+
+use super::IdSet;
+use super::combining::{combine, combine_into, count};
+use crate::sets::Operation;
+
+/// Returns the ids that all sets have, in increasing order. Of no sets there are none. Allocates 4 bytes for each id of the shortest set.
+///
+/// ```
+/// use bitpacking::set::{IdSetBuf, intersect_all};
+///
+/// let [cats, dogs, old] = [[1, 4, 6, 9], [4, 6, 7, 9], [2, 6, 8, 9]].map(|ids| IdSetBuf::pack(&ids).unwrap());
+/// assert_eq!(intersect_all(&[&cats, &dogs, &old]), [6, 9]);
+/// ```
+#[must_use]
+pub fn intersect_all(sets: &[&IdSet]) -> Vec<u32> {
+    combine(Operation::And, sets)
+}
+
+/// Replaces the values of a vector by the ids that [`intersect_all`] returns. Allocates only if the capacity of the vector is below the length of
+/// the shortest set.
+///
+/// ```
+/// use bitpacking::set::{IdSetBuf, intersect_all_into};
+///
+/// let [cats, dogs, old] = [[1, 4, 6, 9], [4, 6, 7, 9], [2, 6, 8, 9]].map(|ids| IdSetBuf::pack(&ids).unwrap());
+/// let mut ids = Vec::new();
+/// for sets in [[&*cats, &*dogs], [&*cats, &*old]] {
+///     intersect_all_into(&sets, &mut ids);
+///     println!("{ids:?}");
+/// }
+/// assert_eq!(ids, [6, 9]);
+/// ```
+pub fn intersect_all_into(sets: &[&IdSet], ids: &mut Vec<u32>) {
+    combine_into(Operation::And, sets, ids);
+}
+
+/// Returns how many ids [`intersect_all`] returns. Allocates nothing.
+///
+/// ```
+/// use bitpacking::set::{IdSetBuf, intersect_all_len};
+///
+/// let [cats, dogs, old] = [[1, 4, 6, 9], [4, 6, 7, 9], [2, 6, 8, 9]].map(|ids| IdSetBuf::pack(&ids).unwrap());
+/// assert_eq!(intersect_all_len(&[&cats, &dogs, &old]), 2);
+/// ```
+pub fn intersect_all_len(sets: &[&IdSet]) -> usize {
+    count(Operation::And, sets)
+}
+
+/// Returns the ids that at least one set has, in increasing order. Allocates 4 bytes for each id of all sets. If these are more than 4,194,304,
+/// and the longest set has less than half of them, it counts the ids of the answer first and allocates 4 bytes for each of these.
+///
+/// ```
+/// use bitpacking::set::{IdSetBuf, unite_all};
+///
+/// let [cats, dogs, old] = [[1, 4, 6, 9], [4, 6, 7, 9], [2, 6, 8, 9]].map(|ids| IdSetBuf::pack(&ids).unwrap());
+/// assert_eq!(unite_all(&[&cats, &dogs, &old]), [1, 2, 4, 6, 7, 8, 9]);
+/// ```
+#[must_use]
+pub fn unite_all(sets: &[&IdSet]) -> Vec<u32> {
+    combine(Operation::Or, sets)
+}
+
+/// Replaces the values of a vector by the ids that [`unite_all`] returns. Allocates only if the capacity of the vector is below what `unite_all`
+/// allocates.
+///
+/// ```
+/// use bitpacking::set::{IdSetBuf, unite_all_into};
+///
+/// let [cats, dogs] = [[1, 4, 6, 9], [4, 6, 7, 9]].map(|ids| IdSetBuf::pack(&ids).unwrap());
+/// let mut ids = vec![7, 8];
+/// unite_all_into(&[&cats, &dogs], &mut ids);
+/// assert_eq!(ids, [1, 4, 6, 7, 9]);
+/// ```
+pub fn unite_all_into(sets: &[&IdSet], ids: &mut Vec<u32>) {
+    combine_into(Operation::Or, sets, ids);
+}
+
+/// Returns how many ids [`unite_all`] returns. Allocates nothing.
+///
+/// # Panics
+///
+/// On a machine of 32 bits, if the sets have all 2^32 ids.
+///
+/// ```
+/// use bitpacking::set::{IdSetBuf, unite_all_len};
+///
+/// let [cats, dogs] = [[1, 4, 6, 9], [4, 6, 7, 9]].map(|ids| IdSetBuf::pack(&ids).unwrap());
+/// assert_eq!(unite_all_len(&[&cats, &dogs]), 5);
+/// ```
+pub fn unite_all_len(sets: &[&IdSet]) -> usize {
+    count(Operation::Or, sets)
+}
+
+/// Returns the ids of the first set that none of the others has, in increasing order. Of no sets there are none. Allocates 4 bytes for each id of
+/// the first set.
+///
+/// ```
+/// use bitpacking::set::{IdSetBuf, subtract_all};
+///
+/// let [cats, dogs, old] = [[1, 4, 6, 9], [4, 5, 7, 8], [2, 6, 8, 10]].map(|ids| IdSetBuf::pack(&ids).unwrap());
+/// assert_eq!(subtract_all(&[&cats, &dogs, &old]), [1, 9]);
+/// ```
+#[must_use]
+pub fn subtract_all(sets: &[&IdSet]) -> Vec<u32> {
+    combine(Operation::AndNot, sets)
+}
+
+/// Replaces the values of a vector by the ids that [`subtract_all`] returns. Allocates only if the capacity of the vector is below the length of
+/// the first set.
+///
+/// ```
+/// use bitpacking::set::{IdSetBuf, subtract_all_into};
+///
+/// let [cats, dogs] = [[1, 4, 6, 9], [4, 6, 7, 9]].map(|ids| IdSetBuf::pack(&ids).unwrap());
+/// let mut ids = vec![7, 8];
+/// subtract_all_into(&[&cats, &dogs], &mut ids);
+/// assert_eq!(ids, [1]);
+/// ```
+pub fn subtract_all_into(sets: &[&IdSet], ids: &mut Vec<u32>) {
+    combine_into(Operation::AndNot, sets, ids);
+}
+
+/// Returns how many ids [`subtract_all`] returns. Allocates nothing.
+///
+/// ```
+/// use bitpacking::set::{IdSetBuf, subtract_all_len};
+///
+/// let [cats, dogs] = [[1, 4, 6, 9], [4, 6, 7, 9]].map(|ids| IdSetBuf::pack(&ids).unwrap());
+/// assert_eq!(subtract_all_len(&[&cats, &dogs]), 1);
+/// ```
+pub fn subtract_all_len(sets: &[&IdSet]) -> usize {
+    count(Operation::AndNot, sets)
+}

@@ -1,0 +1,144 @@
+//! Sets combined, against plain sets.
+
+use alloc::vec;
+use alloc::vec::Vec;
+use std::panic::catch_unwind;
+
+use super::set_models::{FORMS, Model, Numbers, listed, packed, some_ids, used};
+use super::set_reading::longest;
+use crate::set::{
+    Error, IdSet, IdSetBuf, intersect_all, intersect_all_into, intersect_all_len, subtract_all, subtract_all_into,
+    subtract_all_len, unite_all, unite_all_into, unite_all_len,
+};
+
+/// A pair of sets of all forms, some of them alike.
+fn pair(numbers: &mut Numbers, round: u32) -> (Model, Model) {
+    let (form, other) = (round % FORMS, round / FORMS % FORMS);
+    let one = some_ids(numbers, form);
+    let mut two = some_ids(numbers, other);
+    if numbers.below(2) == 0 {
+        two.extend(one.iter().copied().filter(|_| numbers.below(3) > 0));
+    }
+    (one, two)
+}
+
+/// The answers in the order AND, OR, AND NOT, XOR.
+fn answers(one: &Model, other: &Model) -> [Vec<u32>; 4] {
+    [one & other, one | other, one - other, one ^ other].map(|model| listed(&model))
+}
+
+#[test]
+fn two_sets() {
+    let mut numbers = Numbers(4);
+    for round in 0..FORMS * FORMS {
+        let (one, other) = pair(&mut numbers, round);
+        let right = answers(&one, &other);
+        let (a, b) = (packed(&one), packed(&other));
+        let borrowed = IdSet::open(b.as_bytes()).unwrap();
+        let sets = [a.intersect(&b), a.unite(&b), a.subtract(&b), a.symmetric_difference(&b)];
+        assert_eq!(sets.each_ref().map(|set| set.unpack()), right);
+        // The bytes are the ids packed.
+        assert!(sets.iter().zip(&right).all(|(set, ids)| set.as_bytes() == IdSetBuf::pack(ids).unwrap().as_bytes()));
+        assert_eq!([&a & &b, &a | &b, &a - &b, &a ^ &b], sets);
+        assert_eq!([&a & &borrowed, &*a | &borrowed, &a - &*borrowed, &*a ^ &*borrowed], sets);
+        let mut changed = [a.clone(), a.clone(), a.clone(), a.clone()];
+        changed[0] &= &borrowed;
+        changed[1] |= &*b;
+        changed[2] -= &b;
+        changed[3] ^= &borrowed;
+        assert_eq!(changed, sets);
+        let lens = [a.intersect_len(&b), a.unite_len(&b), a.subtract_len(&b), a.symmetric_difference_len(&b)];
+        assert_eq!(lens, right.each_ref().map(Vec::len));
+        let into = [IdSet::intersect_into, IdSet::unite_into, IdSet::subtract_into, IdSet::symmetric_difference_into];
+        for (into, right) in into.iter().zip(&right) {
+            let mut ids = used(&mut numbers);
+            let before = (ids.as_ptr(), ids.capacity());
+            into(&a, &b, &mut ids);
+            assert!(ids == *right && (ids.as_ptr() == before.0 || ids.capacity() > before.1));
+        }
+        assert_eq!((a.is_subset(&b), a.is_disjoint(&b)), (one.is_subset(&other), one.is_disjoint(&other)));
+        assert!(sets[0].is_subset(&a) && a.is_subset(&sets[1]) && sets[2].is_disjoint(&b));
+    }
+}
+
+#[test]
+fn many_sets() {
+    let mut numbers = Numbers(5);
+    let mut ids = Vec::new();
+    for count in (0..=6).chain([20, 70]).cycle().take(40) {
+        let forms = if count > 6 { 8 } else { FORMS };
+        let models: Vec<Model> = (0..count)
+            .map(|_| {
+                let form = numbers.below(forms);
+                some_ids(&mut numbers, form)
+            })
+            .collect();
+        let sets: Vec<IdSetBuf> = models.iter().map(packed).collect();
+        let sets: Vec<&IdSet> = sets.iter().map(|set| &**set).collect();
+        let first = models.first().cloned().unwrap_or_default();
+        let rest = models.get(1..).unwrap_or_default();
+        let shared: Vec<u32> = first.iter().copied().filter(|id| rest.iter().all(|model| model.contains(id))).collect();
+        let any = listed(&models.iter().flatten().copied().collect());
+        let alone: Vec<u32> = first.iter().copied().filter(|id| rest.iter().all(|model| !model.contains(id))).collect();
+        assert_eq!([intersect_all(&sets), unite_all(&sets), subtract_all(&sets)], [shared.clone(), any.clone(), alone.clone()]);
+        assert_eq!(
+            [intersect_all_len(&sets), unite_all_len(&sets), subtract_all_len(&sets)],
+            [shared.len(), any.len(), alone.len()]
+        );
+        let calls = [intersect_all_into, unite_all_into, subtract_all_into];
+        for (into, right) in calls.iter().zip([shared, any, alone]) {
+            // The vector of the call before.
+            into(&sets, &mut ids);
+            assert_eq!(ids, right);
+        }
+    }
+}
+
+/// Sets of one range, whose union would have room for far too many ids: the call counts first. Their sum is above 4,194,304.
+#[test]
+fn a_union_of_sets_that_are_alike() {
+    let set: IdSetBuf = (0..600_000).collect();
+    let sets = vec![&*set; 8];
+    let ids = unite_all(&sets);
+    assert!(ids.capacity() < 1_300_000 && ids.into_iter().eq(0..600_000));
+}
+
+/// A returned vector has little more room than ids.
+#[test]
+fn short_answers_of_long_sets() {
+    let (even, odd): (IdSetBuf, IdSetBuf) = ((0..50_000).step_by(2).collect(), (1..50_000).step_by(2).collect());
+    assert!(intersect_all(&[&even, &odd]).capacity() <= 32 && subtract_all(&[&even, &even, &odd]).capacity() <= 32);
+}
+
+#[test]
+fn more_ids_than_a_set_has() {
+    let (one, other) = (IdSetBuf::open(longest(0)).unwrap(), IdSetBuf::open(longest(4096)).unwrap());
+    assert_eq!((one.unite_len(&other), one.intersect_len(&other)), (1 << 29, 0));
+    for call in [IdSet::unite, IdSet::symmetric_difference] {
+        let panic = catch_unwind(|| call(&one, &other)).err().unwrap();
+        assert!(panic.downcast_ref::<std::string::String>().unwrap().contains("536870912 ids are more than 268435456"));
+    }
+    assert_eq!(one.subtract(&one), IdSetBuf::default());
+}
+
+#[test]
+fn vectors_in_place() {
+    let mut numbers = Numbers(6);
+    for round in 0..FORMS * FORMS {
+        let (one, other) = pair(&mut numbers, round);
+        let (ids, set) = (listed(&one), packed(&other));
+        let [shared, any, alone, _] = answers(&one, &other);
+        let calls = [IdSet::retain_in, IdSet::remove_from, IdSet::add_to];
+        for (call, right) in calls.iter().zip([shared, alone, any]) {
+            let mut found = ids.clone();
+            assert_eq!((call(&set, &mut found), found), (Ok(()), right));
+        }
+    }
+    let set = IdSetBuf::pack(&[1, 4]).unwrap();
+    for (ids, position) in [(&[1, 1][..], 1), (&[0, 9, 4], 2), (&[5, 6, 7, 7], 3)] {
+        for call in [IdSet::retain_in, IdSet::remove_from, IdSet::add_to] {
+            let mut vector = ids.to_vec();
+            assert_eq!((call(&set, &mut vector), &vector[..]), (Err(Error::NotSorted(position)), ids));
+        }
+    }
+}

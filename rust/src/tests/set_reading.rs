@@ -1,0 +1,196 @@
+//! What opened sets have, against plain sets; worked bytes; refused bytes.
+
+use alloc::vec;
+use alloc::vec::Vec;
+
+use super::set_models::{FORMS, Model, Numbers, bytes_of, ids_of, listed, packed, rows, some_ids, used};
+use crate::set::{Error, IdSet, IdSetBuf, pack_into, pack_to, packed_len};
+
+const CANARY: u32 = 0xA5A5_A5A5;
+
+/// Ids of a set, those beside them, and some others.
+fn targets(numbers: &mut Numbers, ids: &[u32]) -> Vec<u32> {
+    let mut targets = vec![0, 1, u32::MAX - 1, u32::MAX];
+    for _ in 0..60 {
+        targets.push(numbers.next());
+        if !ids.is_empty() {
+            let id = ids[numbers.below(ids.len() as u32) as usize];
+            targets.extend([id, id.wrapping_add(1), id.wrapping_sub(1), id ^ 65_536]);
+        }
+    }
+    targets
+}
+
+fn reads(set: &IdSet, model: &Model, numbers: &mut Numbers) {
+    let ids = listed(model);
+    assert_eq!((set.len(), set.is_empty()), (ids.len(), ids.is_empty()));
+    assert_eq!((set.min(), set.max()), (ids.first().copied(), ids.last().copied()));
+    assert_eq!(set.unpack(), ids);
+    for target in targets(numbers, &ids) {
+        let rank = ids.partition_point(|id| *id < target);
+        assert_eq!((set.contains(target), set.rank(target)), (model.contains(&target), rank));
+        assert_eq!(set.seek(target), ids.get(rank).map(|id| (rank, *id)));
+    }
+    for _ in 0..60 {
+        let position = numbers.below(ids.len() as u32 + 3) as usize;
+        assert_eq!(set.select(position), ids.get(position).copied());
+        let mut page = vec![CANARY; [0, 1, 40, 700][numbers.below(4) as usize]];
+        let wanted: Vec<u32> = ids.iter().skip(position).take(page.len()).copied().collect();
+        assert_eq!(set.unpack_range(position, &mut page), wanted.len());
+        assert_eq!(page[..wanted.len()], wanted);
+        assert!(page[wanted.len()..].iter().all(|id| *id == CANARY));
+    }
+    assert_eq!((set.select(usize::MAX), set.unpack_range(usize::MAX, &mut [CANARY])), (None, 0));
+    let mut vector = used(numbers);
+    let before = (vector.as_ptr(), vector.capacity());
+    set.unpack_into(&mut vector);
+    assert!(vector == ids && (before.1 < ids.len() || (vector.as_ptr(), vector.capacity()) == before));
+}
+
+#[test]
+fn sets_of_each_form() {
+    let mut numbers = Numbers(1);
+    for form in (0..FORMS).cycle().take(40) {
+        let model = some_ids(&mut numbers, form);
+        let set = packed(&model);
+        reads(&set, &model, &mut numbers);
+        reads(&IdSet::open(set.as_bytes()).unwrap(), &model, &mut numbers);
+    }
+}
+
+/// The sets that docs/FORMAT.md works byte by byte.
+#[test]
+fn worked_bytes() {
+    let (ones, zeros) = ("{ff*16}", "{00*16}");
+    let rows: [(Vec<u32>, &str); 14] = [
+        (vec![], "80"),
+        (vec![5], "8105"),
+        (vec![u32::MAX], "81FFFFFFFF0F"),
+        (vec![7, 9, 10, 300], "84070901008404"),
+        (vec![0, u32::MAX], "820020FEFFFFFF"),
+        ((0..=32).collect(), "A10000"),
+        ((0..=33).collect(), "A2000000"),
+        ((0..=68).step_by(2).collect(), "A30001FFFFFFFF0103"),
+        ((0..=127).collect(), "0580010111000023800000 7F ONES ZEROS"),
+        ((0..=254).step_by(2).collect(), "0580010111000023800000 7F {55*32}"),
+        ((0..=255).collect(), "058002012100000300010000FF"),
+        ((0..=65_535).collect(), "0580800401320000010100 0001 {ff*257}"),
+        ((65_530..=65_657).collect(), "05800102110000 0100092C0680 00FF05FAFBFCFDFEFF 000079 {ff*15}03 ZEROS"),
+        (
+            (0..=30).chain(256..=352).collect(),
+            "05800101110000 4480 0100011E60 000102030405060708090A0B0C0D0E0F101112131415161718191A1B1C1D1E {ff*12}01{00*19}",
+        ),
+    ];
+    for (ids, field) in rows {
+        let set = IdSetBuf::pack(&ids).unwrap();
+        let field = field.replace("ONES", ones).replace("ZEROS", zeros).replace(' ', "");
+        assert_eq!(set.as_bytes(), bytes_of(&field), "{field}");
+        assert_eq!(IdSet::open(set.as_bytes()).unwrap().unpack(), ids);
+    }
+}
+
+/// The sets there whose bytes count: numbers in one chunk, an array, and many chunks.
+#[test]
+fn worked_bytes_that_count() {
+    let numbers = (0..128).flat_map(|k| [3, 2 * k]);
+    let array = (0..128_u32).flat_map(|k| (32_768 * k).to_le_bytes());
+    let keys = (0..32).flat_map(|k| [k, 0]);
+    let ends = (1..=32_u16).flat_map(|k| (8 * k).to_le_bytes());
+    let sums = (1..=32).map(|k| 4 * k);
+    let bodies = [0, 0, 0, 0x40, 0, 0x80, 0, 0xC0].repeat(32);
+    let rows: [(u32, usize, u32, Vec<u8>); 3] = [
+        (3, 512, 65_027, [5, 0x80, 1, 1, 0x12, 0, 0, 0, 1, 0x80].into_iter().chain(numbers).collect()),
+        (0, 32_768, 4_161_536, [6, 0x80, 1].into_iter().chain(array).collect()),
+        (0, 16_384, 2_080_768, [5, 0x80, 1, 0x20, 0x12].into_iter().chain(keys).chain(ends).chain(sums).chain(bodies).collect()),
+    ];
+    for (first, step, last, bytes) in rows {
+        let ids: Vec<u32> = (first..=last).step_by(step).collect();
+        assert_eq!(IdSetBuf::pack(&ids).unwrap().as_bytes(), bytes);
+        assert_eq!(IdSet::open(&bytes).unwrap().unpack(), ids);
+    }
+}
+
+#[test]
+fn each_set_of_the_vectors() {
+    let rows = rows("id_sets");
+    assert_eq!(rows.len(), 360);
+    for row in rows {
+        let (ids, bytes) = (ids_of(&row[0]), bytes_of(&row[1]));
+        assert_eq!(packed_len(&ids), Ok(bytes.len()));
+        assert_eq!(IdSetBuf::pack(&ids).unwrap().as_bytes(), bytes);
+        assert_eq!(IdSet::open(&bytes).unwrap().unpack(), ids);
+        let mut slice = vec![0xA5; bytes.len() + 2];
+        assert_eq!(pack_to(&ids, &mut slice), Ok(bytes.len()));
+        assert_eq!((&slice[..bytes.len()], &slice[bytes.len()..]), (&bytes[..], &[0xA5; 2][..]));
+        let mut short = vec![0xA5; bytes.len() - 1];
+        assert_eq!(pack_to(&ids, &mut short), Err(Error::Short));
+        assert!(short.iter().all(|byte| *byte == 0xA5));
+        let mut vector = vec![7, 8];
+        assert_eq!(pack_into(&ids, &mut vector), Ok(bytes.len()));
+        assert_eq!((&vector[..2], &vector[2..]), (&[7, 8][..], &bytes[..]));
+    }
+}
+
+#[test]
+fn refused_bytes() {
+    let rows = rows("refused_id_sets");
+    assert_eq!(rows.len(), 2052);
+    for row in rows {
+        let bytes = bytes_of(&row[2]);
+        let numbers = [
+            IdSet::open(&bytes).err(),
+            IdSetBuf::open(bytes.clone()).err(),
+            IdSetBuf::try_from(bytes.clone()).err(),
+            IdSetBuf::try_from(&bytes[..]).err(),
+        ];
+        let number: u8 = row[0].parse().unwrap();
+        assert!(numbers.iter().all(|error| error.map(|error| error.number()) == Some(number)), "{row:?}");
+    }
+}
+
+/// Faults that docs/FORMAT.md works.
+#[test]
+fn worked_faults() {
+    for (field, error) in [
+        ("-", Error::Short),
+        ("05", Error::Short),
+        ("7F", Error::BadVersion(127)),
+        ("8185", Error::Short),
+        ("818500", Error::BadNumber),
+        ("820021", Error::BadWidth(0, 33)),
+        ("82000200", Error::LooseWidth(0, 2)),
+        ("82050121", Error::Padding),
+        ("82FFFFFFFF0F0000", Error::NotSorted(1)),
+        ("82050001", Error::Trailing),
+        ("057F", Error::BadNumber),
+        ("058180808001", Error::TooLong(268_435_457)),
+        ("05800100", Error::BadNumber),
+        ("0580010110", Error::BadSizes(16)),
+        ("0580010181", Error::BadSizes(129)),
+        ("0580010112000000 0080", Error::BadOffset(0)),
+        ("0580010112000023 0080", Error::BadSizes(18)),
+        ("058001011100 0023 7F", Error::BadSum(0)),
+    ] {
+        assert_eq!(IdSet::open(&bytes_of(&field.replace(' ', ""))).err(), Some(error), "{field}");
+    }
+}
+
+/// A set of 2^28 ids, in 4,096 full chunks from a key on: the longest one.
+pub(super) fn longest(first_key: u16) -> Vec<u8> {
+    let mut bytes = vec![5, 0x80, 0x80, 0x80, 0x80, 0x01, 0x80, 0x20, 0x43];
+    let chunks = 4096;
+    bytes.extend((0..chunks).flat_map(|chunk| (first_key + chunk as u16).to_le_bytes()));
+    bytes.extend((1..=chunks).flat_map(|chunk: u32| (257 * chunk).to_le_bytes().into_iter().take(3)));
+    bytes.extend((1..=chunks).flat_map(|chunk: u32| (65_536 * chunk).to_le_bytes()));
+    bytes.resize(bytes.len() + 257 * chunks as usize, 0xFF);
+    bytes
+}
+
+#[test]
+fn the_longest_set() {
+    let set = IdSetBuf::open(longest(4096)).unwrap();
+    assert_eq!((set.len(), set.min(), set.max()), (1 << 28, Some(1 << 28), Some((1 << 29) - 1)));
+    assert_eq!((set.rank(1 << 28), set.rank(u32::MAX), set.select((1 << 28) - 1)), (0, 1 << 28, Some((1 << 29) - 1)));
+    assert_eq!(set.append(&[1 << 29]).err(), Some(Error::TooLong((1 << 28) + 1)));
+    assert_eq!(set.iter().nth_back(5), Some((1 << 29) - 6));
+}

@@ -1,0 +1,102 @@
+#!/usr/bin/env python3
+"""Opens any bytes as sets and columns of the Rust crate for a minute, and reads and combines those that open: rust/fuzz/, with libFuzzer
+and AddressSanitizer, since indexes are unchecked. It begins with the bytes of vectors/, alone and in pairs. It needs
+
+    cargo and rustc of a nightly toolchain    rustup toolchain install nightly
+    clang++ and libclang_rt.fuzzer            apt-get install clang
+
+It installs nothing, and is left out for want of one. `--seconds` and a number is another time. The last line is 'N passed, M failed'.
+"""
+import os
+import re
+import subprocess
+import sys
+import tempfile
+
+sys.path.insert(1, f"{sys.path[0]}/..")
+from common import ROOT, ended, leave_out, missing, report, run, source, words
+
+OUT = f"{ROOT}/target/fuzz"
+TARGET = "x86_64-unknown-linux-gnu"
+# By file of vectors/, whose column is `bytes`: each row or each 16th, since all refused ones take longer than the minute.
+SEEDS = {"id_sets": 1, "columns": 1, "refused_id_sets": 16, "refused_columns": 16}
+# Longer bytes are no seeds, and none are made.
+MOST = 4096
+COVERAGE = ["level=4", "inline-8bit-counters", "pc-table", "trace-compares"]
+FLAGS = ["-Z sanitizer=address", "-C passes=sancov-module", *(f"-C llvm-args=-sanitizer-coverage-{it}" for it in COVERAGE)]
+
+
+def libraries():
+    """The library of libFuzzer, and that of the sanitizer, which the nightly toolchain has; None for one that is not there."""
+    clang = run("clang", "-print-resource-dir").stdout.strip()
+    rust = run("rustc", "+nightly", "--print", "target-libdir").stdout.strip()
+    found = [f"{clang}/lib/linux/libclang_rt.fuzzer-x86_64.a", f"{rust}/librustc-nightly_rt.asan.a"]
+    return [it if os.path.isfile(it) else None for it in found]
+
+
+def build(folder, fuzzer, sanitizer):
+    """Builds the program. Returns what is wrong, or None."""
+    env = dict(os.environ, CARGO_TARGET_DIR=OUT, RUSTFLAGS=" ".join(FLAGS))
+    command = ["cargo", "+nightly", "build", "--release", "--offline", "--locked", "--manifest-path", f"{ROOT}/rust/fuzz/Cargo.toml"]
+    built = run(*command, "--target", TARGET, env=env)
+    if built.returncode != 0:
+        return built.stdout[-4000:]
+    library = f"{OUT}/{TARGET}/release/libfuzz.a"
+    parts = ["-Wl,--whole-archive", fuzzer, sanitizer, "-Wl,--no-whole-archive", library, "-lstdc++", "-lm", "-ldl", "-lpthread", "-lrt"]
+    linked = run("clang++", "-o", f"{folder}/fuzz", *parts)
+    return None if linked.returncode == 0 else linked.stdout[-4000:]
+
+
+def unpacked(text):
+    """The bytes of a field of vectors/: `{00*16}` is a byte 16 times."""
+    return bytes.fromhex(re.sub(r"\{(..)\*(\d+)\}", lambda run: run[1] * int(run[2]), text.strip("-")))
+
+
+def seeds():
+    """The bytes of vectors/, and each two that are of neighbours, with the length of the first: rust/fuzz/lib.rs cuts them."""
+    for name, step in SEEDS.items():
+        head, *rows = [it.split("\t") for it in source(f"vectors/{name}.tsv").splitlines()]
+        found = [unpacked(it[head.index("bytes")]) for it in rows[::step]]
+        short = [it for it in found if 0 < len(it) < MOST // 2]
+        yield from short
+        yield from (one + other + len(one).to_bytes(2, "little") for one, other in zip(short, short[1:]))
+
+
+def checks(seconds, fuzzer, sanitizer):
+    with tempfile.TemporaryDirectory(prefix="fuzz-") as folder:
+        wrong = build(folder, fuzzer, sanitizer)
+        yield "the build", wrong
+        if wrong:
+            return
+        every = list(seeds())
+        # All seeds once, however long that takes; and others made of some of them, for as long as was asked.
+        for name, some, time in [("all", every, "-runs=0"), ("some", every[::10], f"-max_total_time={seconds}")]:
+            os.mkdir(f"{folder}/{name}")
+            for number, seed in enumerate(some):
+                with open(f"{folder}/{name}/{number}", "wb") as file:
+                    file.write(seed)
+            limits = [time, f"-max_len={MOST}", "-timeout=60", "-rss_limit_mb=4096", f"-artifact_prefix={folder}/found-"]
+            done = run(f"{folder}/fuzz", *limits, f"{folder}/{name}", stderr=subprocess.STDOUT)
+            counts = re.findall(r"^(?:Done |#)(\d+)\b", done.stdout, re.M)
+            count = max(map(int, counts), default=0)
+            bad = [open(f"{folder}/{it}", "rb").read().hex() for it in os.listdir(folder) if it.startswith("found-")]
+            yield f"{name} seeds", f"{done.stdout[-4000:]}\nof the bytes {' '.join(bad)}" if done.returncode != 0 or bad else None
+            print(f"{count} runs from {len(some)} seeds")
+            yield f"{name} seeds are run", None if count >= len(some) > 100 else f"{count} runs from {len(some)} seeds"
+
+
+def main():
+    given = words("--seconds")
+    lacking = [f"no {it}" for it in missing("cargo", "rustc", "clang", "clang++")]
+    if not lacking and run("rustc", "+nightly", "--version").returncode != 0:
+        lacking = ["no nightly compiler of Rust"]
+    found = [] if lacking else libraries()
+    lacking += [f"no {name}" for name, it in zip(["libclang_rt.fuzzer", "librustc-nightly_rt.asan"], found) if not it]
+    if lacking:
+        leave_out("any bytes as sets and columns", f"since there is {' and '.join(lacking)}")
+        return ended(0, 0)
+    return report(checks(given[given.index("--seconds") + 1] if "--seconds" in given else 60, *found))
+
+
+if __name__ == "__main__":
+    sys.exit(main())

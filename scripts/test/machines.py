@@ -1,0 +1,276 @@
+#!/usr/bin/env python3
+"""Runs the Rust crate for other machines: the tests of its vectors of words (rust/src/simd/), and all of vectors/, on
+
+    x86-64, x86-64-v2, x86-64-v3      SSE2, SSE4.1 and AVX2, on this machine
+    i686                              SSE2 and 32 bits, on this machine        gcc-i686-linux-gnu
+    aarch64                           NEON, in qemu                            gcc-aarch64-linux-gnu qemu-user-static
+    s390x                             arrays and big-endian, in qemu           gcc-s390x-linux-gnu qemu-user-static
+    wasm32, wasm32-simd128            arrays and SIMD128, 32 bits, in node     nodejs lld wasi-libc
+
+with these packages of Debian. For other targets it checks that the crate compiles without `std`. `machines.py NAME ..` runs these alone.
+
+A target needs the library of Rust: `rustup target add TARGET` brings it. Without it, the script builds one of source with Debian's packages
+rustc-web, cargo-web, libstd-rust-web-dev and rust-web-src, of bookworm-security. They may be installed, but not beside Debian's rustc or
+rustup. Or they are unpacked in a folder that BITPACKING_RUSTC_WEB names, and nothing is installed:
+
+    apt-get download rustc-web cargo-web libstd-rust-web-dev libstd-rust-web-1.96 rust-web-src libllvm22
+    for it in *.deb; do dpkg -x "$it" FOLDER; done
+
+wasi-libc may be unpacked there too. A library takes about two minutes of a processor, and is built once, in out/machines/. The last line is
+'N passed, M failed': each test of the vectors of words, each check of vectors/ and each target that compiles counts.
+"""
+import concurrent.futures
+import glob
+import os
+import platform
+import re
+import shutil
+import sys
+import threading
+import time
+from typing import NamedTuple
+
+sys.path.insert(1, f"{sys.path[0]}/..")
+from common import ROOT, ended, leave_out, left_out_without, missing, run, words
+import fast
+
+OUT = f"{ROOT}/out/machines"
+PACKAGES = "rustc-web cargo-web libstd-rust-web-dev rust-web-src"
+NATIVE = "x86_64-unknown-linux-gnu"
+# With the vectors of lists there are more checks than this.
+LISTS = 500_000
+QUICK = {"OPT_LEVEL": "1", "LTO": "off", "CODEGEN_UNITS": "16"}
+
+
+class Machine(NamedTuple):
+    """A target, flags of its compiler, what links and what runs a program, and features that this processor needs to run it."""
+
+    target: str
+    flags: tuple = ()
+    linker: str = "cc"
+    runner: tuple = ()
+    features: tuple = ()
+
+
+STATIC = ("-Ctarget-feature=+crt-static",)
+NODE = ("node", "--no-warnings", f"{ROOT}/scripts/test/wasi.mjs")
+MACHINES = {
+    "x86-64": Machine(NATIVE, features=("sse2",)),
+    "x86-64-v2": Machine(NATIVE, ("-Ctarget-cpu=x86-64-v2",), features=("sse4_2",)),
+    "x86-64-v3": Machine(NATIVE, ("-Ctarget-cpu=x86-64-v3",), features=("avx2", "bmi2")),
+    "i686": Machine("i686-unknown-linux-gnu", STATIC, "i686-linux-gnu-gcc", features=("sse2",)),
+    "aarch64": Machine("aarch64-unknown-linux-gnu", STATIC, "aarch64-linux-gnu-gcc", ("qemu-aarch64-static",)),
+    "s390x": Machine("s390x-unknown-linux-gnu", STATIC, "s390x-linux-gnu-gcc", ("qemu-s390x-static",)),
+    "wasm32": Machine("wasm32-wasip1", (), "wasm-ld", NODE),
+    "wasm32-simd128": Machine("wasm32-wasip1", ("-Ctarget-feature=+simd128",), "wasm-ld", NODE),
+}
+CHECKED = [
+    "x86_64-pc-windows-msvc",
+    "x86_64-apple-darwin",
+    "aarch64-apple-darwin",
+    "x86_64-unknown-linux-musl",
+    "riscv64gc-unknown-linux-gnu",
+    "wasm32-unknown-unknown",
+    "thumbv7em-none-eabihf",
+]
+
+
+class Rust(NamedTuple):
+    """The programs of Rust, their flags for a target, and the environment that they run in."""
+
+    cargo: str
+    rustc: str
+    env: dict
+    flags: tuple = ()
+
+
+# One library is built at a time.
+BUILDING = threading.Lock()
+# The library for WebAssembly names functions of threads that wasi-libc does not have. Without threads nothing calls them, and a call would trap.
+WASM = ("-Clink-arg=--unresolved-symbols=ignore-all",)
+
+
+def has_library(target):
+    """Whether the compiler on this machine has the library of a target."""
+    found = run("rustc", "--print", "target-libdir", "--target", target).stdout.strip()
+    return bool(glob.glob(f"{found}/libstd-*"))
+
+
+def web():
+    """The folder of Debian's packages, or None."""
+    folder = os.environ.get("BITPACKING_RUSTC_WEB", "/")
+    names = ["usr/bin/rustc", "usr/bin/cargo", "usr/lib/rustlib/src/rust/library/vendor"]
+    return folder if all(os.path.exists(f"{folder}/{name}") for name in names) else None
+
+
+def of_web(*flags):
+    """The programs of Debian's packages."""
+    rustc = f"{web()}/usr/bin/rustc"
+    env = dict(os.environ, RUSTC_BOOTSTRAP="1", RUSTC=rustc, LD_LIBRARY_PATH=f"{web()}/usr/lib/x86_64-linux-gnu")
+    return Rust(f"{web()}/usr/bin/cargo", rustc, env, flags)
+
+
+def from_source(word, crates, target, folder, built, *more, **variables):
+    """Calls cargo in a folder, with these crates of Rust's library built from source for a target. Returns how it ended."""
+    rust, vendored = of_web(), f"{web()}/usr/lib/rustlib/src/rust/library/vendor"
+    sources = ["source.crates-io.replace-with='vendored'", f"source.vendored.directory='{vendored}'"]
+    words = [it for source in sources for it in ("--config", source)]
+    env = dict(rust.env, CARGO_TARGET_DIR=built, **variables)
+    return run(rust.cargo, word, "--quiet", "--offline", *words, f"-Zbuild-std={crates}", "--target", target, *more, folder=folder, env=env)
+
+
+def rust_for(target):
+    """The compiler that has the library of a target."""
+    if has_library(target):
+        return Rust("cargo", "rustc", dict(os.environ))
+    with BUILDING:
+        return of_web(f"--sysroot={library(target)}", *(WASM if target.startswith("wasm32") else ()))
+
+
+def wasi_libc():
+    """The folder of wasi-libc, or None."""
+    folders = [f"{os.environ.get('BITPACKING_RUSTC_WEB', '/')}/usr/lib/wasm32-wasi", "/usr/lib/wasm32-wasi"]
+    return next((it for it in folders if os.path.exists(f"{it}/libc.a")), None)
+
+
+def library(target):
+    """The folder of the library of a target, which is built once by each version of the compiler."""
+    version = run(of_web().rustc, "--version", env=of_web().env).stdout.split()[1]
+    folder, build = f"{OUT}/std-{version}/{target}", f"{OUT}/build-{target}"
+    if os.path.exists(f"{folder}/built"):
+        return folder
+    print(f"builds the library of Rust for {target}", flush=True)
+    os.makedirs(build, exist_ok=True)
+    with open(f"{build}/Cargo.toml", "w", encoding="utf-8") as file:
+        file.write('[package]\nname = "nothing"\nedition = "2024"\n[lib]\npath = "nothing.rs"\n[workspace]\n')
+    with open(f"{build}/nothing.rs", "w", encoding="utf-8") as file:
+        file.write("#![no_std]\n")
+    more = ["--release", "-Zbuild-std-features=panic-unwind"]
+    crates = "core,alloc,std,panic_abort,test"
+    done = from_source("build", crates, target, build, f"{build}/target", *more, CARGO_PROFILE_RELEASE_OPT_LEVEL="1")
+    if done.returncode != 0:
+        raise fast.Failed(done.stdout[-3000:])
+    libraries = f"{folder}/lib/rustlib/{target}/lib"
+    os.makedirs(f"{libraries}/self-contained", exist_ok=True)
+    for path in glob.glob(f"{build}/target/{target}/release/deps/*.rlib"):
+        shutil.copy(path, libraries)
+    for name in ["crt1-command.o", "libc.a"] if target.startswith("wasm32") else []:
+        shutil.copy(f"{wasi_libc()}/{name}", f"{libraries}/self-contained")
+    shutil.rmtree(build)
+    with open(f"{folder}/built", "w", encoding="utf-8"):
+        return folder
+
+
+def lack(machine):
+    """Why a machine cannot run, or None."""
+    lacking = missing(*{machine.linker, *machine.runner[:1]})
+    if lacking:
+        return f"since there is no {' and no '.join(lacking)}"
+    if machine.features:
+        with open("/proc/cpuinfo", encoding="utf-8") as file:
+            given = file.read().split()
+        without = [it for it in machine.features if it not in given]
+        if without or platform.machine() != "x86_64":
+            return f"since this processor has no {' and no '.join(without or ['x86-64'])}"
+    if has_library(machine.target):
+        return None
+    if not web():
+        return f"since there is no library of Rust: rustup target add {machine.target}, or unpack {PACKAGES}"
+    return "since there is no wasi-libc" if machine.target.startswith("wasm32") and not wasi_libc() else None
+
+
+def panic(target):
+    """What a panic does on a target: what it does in the library that cargo builds from source."""
+    return "abort" if target.startswith("wasm32") else "unwind"
+
+
+def tests_of_simd(name, machine, rust):
+    """How many tests of the vectors of words passed on a machine, and why they failed, or None."""
+    source, program = f"{OUT}/{name}/simd.rs", f"{OUT}/{name}/simd"
+    with open(source, "w", encoding="utf-8") as file:
+        file.write(f'#![no_std]\nextern crate alloc;\n#[path = "{ROOT}/rust/src"]\nmod of_crate {{\n    mod simd;\n}}\n')
+    flags = [*rust.flags, *machine.flags, f"-Clinker={machine.linker}", "--target", machine.target, "-Aunused"]
+    fast.called(rust.rustc, "--edition=2024", "--test", *flags, source, "-o", program, env=rust.env)
+    done = run(*machine.runner, program)
+    found = re.search(r"^test result: ok\. (\d+) passed; 0 failed", done.stdout, re.M)
+    passed = int(found[1]) if found and done.returncode == 0 else 0
+    return passed, None if passed else done.stdout[-3000:]
+
+
+def checks_of_vectors(name, machine, rust):
+    """How many checks of vectors/ passed on a machine, how many failed, and why, or None."""
+    target = machine.target.upper().replace("-", "_")
+    flags = " ".join(["-Dwarnings", *rust.flags, *machine.flags])
+    # Quick to compile, and as for users: no overflow is tested.
+    profile = {f"CARGO_PROFILE_RELEASE_{it}": value for it, value in {**QUICK, "PANIC": panic(machine.target)}.items()}
+    more = {"CARGO_TARGET_DIR": f"{OUT}/{name}", f"CARGO_TARGET_{target}_LINKER": machine.linker, **profile}
+    command = [rust.cargo, "build", "--quiet", "--release", "--offline", "--locked", "--features", "__source", "--example", "vectors"]
+    fast.called(*command, "--target", machine.target, folder=ROOT, env={**rust.env, "RUSTFLAGS": flags, **more})
+    program = f"{OUT}/{name}/{machine.target}/release/examples/vectors"
+    done = run(*machine.runner, program + ".wasm" * machine.target.startswith("wasm32"), f"{ROOT}/vectors")
+    counts = re.findall(r"^(\d+) passed, (\d+) failed$", done.stdout, re.M)
+    passed, failed = map(int, counts[-1]) if counts else (0, 1)
+    right = done.returncode == 0 and passed > 0 and failed == 0
+    return passed, max(failed, not right), None if right else done.stdout[-3000:]
+
+
+def on_machine(name):
+    """What a machine passed: tests, checks of vectors/, and what failed with why."""
+    machine, start = MACHINES[name], time.time()
+    os.makedirs(f"{OUT}/{name}", exist_ok=True)
+    try:
+        rust = rust_for(machine.target)
+        tests, why_tests = tests_of_simd(name, machine, rust)
+        checks, failed, why_checks = checks_of_vectors(name, machine, rust)
+    except fast.Failed as why:
+        return 0, 0, 1, [f"FAILED: {name}: {why}"]
+    whys = [f"FAILED: {name}, {part}: {why}" for part, why in [("simd", why_tests), ("vectors", why_checks)] if why]
+    print(f"{name}: {tests} tests of simd and {checks} checks of vectors passed, {time.time() - start:.0f} s", flush=True)
+    return tests, checks, failed + bool(why_tests), whys
+
+
+def compiles(target):
+    """Why the crate does not compile for a target without `std`, or None."""
+    more = ["--no-default-features", "--lib"]
+    done = from_source("check", "core,alloc", target, ROOT, f"{OUT}/check", *more, RUSTFLAGS="-Dwarnings")
+    return done.stdout[-3000:] if done.returncode else None
+
+
+def checked(targets):
+    """Checks that the crate compiles for each target. Returns how many passed, and what failed."""
+    if targets and not web():
+        leave_out(", ".join(targets), f"since there is no source of Rust's library: unpack {PACKAGES}")
+        return 0, []
+    failed = [f"FAILED: {target}: {why}" for target in targets for why in [compiles(target)] if why]
+    return len(targets) - len(failed), failed
+
+
+def able(names):
+    """The machines that can run. It says which cannot."""
+    lacks = {name: lack(MACHINES[name]) for name in names}
+    for name in [it for it in lacks if lacks[it]]:
+        leave_out(name, lacks[name])
+    return [name for name in names if not lacks[name]]
+
+
+def main():
+    wanted = words() or [*MACHINES, *CHECKED]
+    unknown = [it for it in wanted if it not in MACHINES and it not in CHECKED]
+    if unknown:
+        sys.exit(f"machines.py: no machine {unknown[0]}")
+    if left_out_without("all machines", "cargo", "rustc"):
+        return 0
+    with concurrent.futures.ThreadPoolExecutor(max(1, (os.cpu_count() or 1) // 2)) as pool:
+        results = [*pool.map(on_machine, able([it for it in wanted if it in MACHINES]))]
+    compiled, whys = checked([it for it in wanted if it in CHECKED])
+    # On 32 bits no vectors of lists run.
+    right = [(result[0], result[1] < LISTS, result[1]) for result in results if not result[3]]
+    for counts in [{it[0] for it in right}, *({it[2] for it in right if it[1] == few} for few in (False, True))]:
+        if len(counts) > 1:
+            whys.append(f"FAILED: machines passed different numbers of checks: {sorted(counts)}")
+    print("".join(f"{why}\n" for why in [*(why for result in results for why in result[3]), *whys]), end="")
+    return ended(sum(tests + checks for tests, checks, _, _ in results) + compiled, sum(result[2] for result in results) + len(whys))
+
+
+if __name__ == "__main__":
+    sys.exit(main())
