@@ -1,50 +1,37 @@
-/* An id set, written, opened and read, and what it has in common with another one. */
+/* Two sets of ids: packed, opened, searched, and combined by AND. */
 #include "bitpacking.h"
 
 #include <stdio.h>
-#include <stdlib.h>
 
-enum { COUNT = 1000 };
-
-/* Writes the set of 0, gap, 2 * gap and so on, and opens it. Returns its length, or a negative number. */
-static ptrdiff_t multiples(uint32_t gap, uint8_t *bytes, size_t bytes_len, bitpacking_set *set)
+/* Packs increasing ids, and opens the set. Returns the number of its bytes, or an error. */
+static ptrdiff_t pack(const uint32_t *ids, size_t ids_len, uint8_t *bytes, size_t bytes_len, bitpacking_set *set)
 {
-    uint32_t ids[COUNT];
-    size_t i, position;
-    ptrdiff_t size, fault;
+    const ptrdiff_t size = bitpacking_set_pack(ids, ids_len, bytes, bytes_len, NULL);
+    const ptrdiff_t fault = size < 0 ? size : bitpacking_set_open(bytes, (size_t)size, set);
 
-    for (i = 0; i < COUNT; i++)
-        ids[i] = (uint32_t)(gap * i);
-    size = bitpacking_set_pack(ids, COUNT, bytes, bytes_len, &position);
-    if (size < 0)
-        return size;
-    fault = bitpacking_set_open(bytes, (size_t)size, set);
     return fault < 0 ? fault : size;
 }
 
 int main(void)
 {
-    uint32_t ids[COUNT], id = 0;
-    uint8_t bytes[BITPACKING_SET_ROOM(COUNT)], other_bytes[BITPACKING_SET_ROOM(COUNT)]; /* always enough */
-    bitpacking_set set = BITPACKING_SET_EMPTY, other = BITPACKING_SET_EMPTY, sets[2];
+    const uint32_t cats[] = {7, 9, 10, 300}, dogs[] = {9, 11, 300};
+    uint8_t cat_bytes[BITPACKING_SET_ROOM(4)], dog_bytes[BITPACKING_SET_ROOM(3)]; /* always enough */
+    bitpacking_set sets[2] = {BITPACKING_SET_EMPTY, BITPACKING_SET_EMPTY};
+    const ptrdiff_t size = pack(cats, 4, cat_bytes, sizeof cat_bytes, &sets[0]);
+    const ptrdiff_t other = pack(dogs, 3, dog_bytes, sizeof dog_bytes, &sets[1]);
+    uint32_t both[3], id;
     size_t position;
-    const ptrdiff_t size = multiples(3, bytes, sizeof bytes, &set), other_size = multiples(2, other_bytes, sizeof other_bytes, &other);
-    ptrdiff_t count;
+    ptrdiff_t count, i;
 
-    if (size < 0 || other_size < 0) {
-        fprintf(stderr, "%s\n", bitpacking_error_text(size < 0 ? size : other_size));
-        return EXIT_FAILURE;
+    if (size < 0 || other < 0) {
+        fprintf(stderr, "%s\n", bitpacking_error_text(size < 0 ? size : other));
+        return 1;
     }
-    printf("%u ids in %u bytes\n", (unsigned)bitpacking_set_len(&set), (unsigned)size);
-    printf("600: %s, 601: %s\n", bitpacking_set_contains(&set, 600) ? "yes" : "no", bitpacking_set_contains(&set, 601) ? "yes" : "no");
-    if (bitpacking_set_seek(&set, 601, &position, &id))
-        printf("the first from 601 on is %u, at position %u\n", (unsigned)id, (unsigned)position);
-
-    sets[0] = set;
-    sets[1] = other;
-    count = bitpacking_set_intersect(sets, 2, ids, COUNT);
-    if (count > 0)
-        printf("%u ids are in both sets, the last is %u\n", (unsigned)count, (unsigned)ids[count - 1]);
-    printf("%u ids are in one or both\n", (unsigned)bitpacking_set_count_any(sets, 2));
-    return EXIT_SUCCESS;
+    printf("%u ids in %d bytes\n", (unsigned)bitpacking_set_len(&sets[0]), (int)size);
+    if (bitpacking_set_seek(&sets[0], 100, &position, &id))
+        printf("the first from 100 on is %u, at position %u\n", (unsigned)id, (unsigned)position);
+    count = bitpacking_set_intersect(sets, 2, both, 3);
+    for (i = 0; i < count; i++)
+        printf("in both: %u\n", (unsigned)both[i]);
+    return 0;
 }

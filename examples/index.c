@@ -1,19 +1,19 @@
-/* A small index: for each word a packed list of the documents that have it, and queries with AND, OR and NOT over these lists. */
+/* A small index: for each word the set of the documents that have it, and queries with AND, OR and NOT over these sets. */
 #include "bitpacking.h"
 
 #include <stdio.h>
 #include <stdlib.h>
 
-enum { VERSION = BITPACKING_LIST_NEWEST, KIND = BITPACKING_STRICTLY_SORTED, DOCUMENTS = 1000 };
+enum { DOCUMENTS = 1000 };
 
 /* The words. A document has a word if this number divides its own, which is from 1 on. */
 enum { EVEN, FIZZ, BUZZ, WORDS };
 static const uint32_t numbers[WORDS] = {2, 3, 5};
 
-/* A packed list and its bytes, which are the caller's to free. */
-struct list {
+/* A set and its bytes, which are the caller's to free. */
+struct documents {
     uint8_t *bytes;
-    bitpacking_list view;
+    bitpacking_set view;
 };
 
 static void *checked(void *memory)
@@ -26,66 +26,68 @@ static void *checked(void *memory)
 }
 
 /* Packs increasing document numbers, and opens the result. Returns the number of bytes. */
-static size_t pack(const uint32_t *documents, size_t count, struct list *list)
+static size_t pack(const uint32_t *ids, size_t count, struct documents *documents)
 {
-    const bitpacking_list empty = BITPACKING_LIST_EMPTY;
+    const bitpacking_set empty = BITPACKING_SET_EMPTY;
+    const size_t room = BITPACKING_SET_ROOM(count);
     size_t position;
-    ptrdiff_t size = bitpacking_4x_list_size(VERSION, KIND, documents, count, &position);
+    ptrdiff_t size;
 
+    documents->bytes = checked(malloc(room));
+    documents->view = empty;
+    size = bitpacking_set_pack(ids, count, documents->bytes, room, &position);
     if (size < 0) {
-        fprintf(stderr, "document %u of a list is out of order\n", (unsigned)position);
+        fprintf(stderr, "document %u of a word is out of order\n", (unsigned)position);
         exit(EXIT_FAILURE);
     }
-    list->bytes = checked(malloc((size_t)size));
-    list->view = empty;
-    bitpacking_4x_list_pack(VERSION, KIND, documents, count, list->bytes, (size_t)size, &position);
-    bitpacking_list_open(list->bytes, (size_t)size, &list->view); /* neither fails: the size was right, and this is a list */
+    documents->bytes = checked(realloc(documents->bytes, (size_t)size));
+    bitpacking_set_open(documents->bytes, (size_t)size, &documents->view); /* it does not fail: this is a set */
     return (size_t)size;
 }
 
-/* The list of the documents that have a word. */
-static size_t pack_word(int word, struct list *list)
+/* The set of the documents that have a word. */
+static size_t pack_word(int word, struct documents *documents)
 {
-    uint32_t documents[DOCUMENTS], k;
+    uint32_t ids[DOCUMENTS], k;
     size_t count = 0;
 
     for (k = 1; k <= DOCUMENTS; k++)
         if (k % numbers[word] == 0)
-            documents[count++] = k;
-    return pack(documents, count, list);
+            ids[count++] = k;
+    return pack(ids, count, documents);
 }
 
-typedef ptrdiff_t (*operation)(const bitpacking_list *views, size_t views_len, uint32_t *out, size_t out_len);
+typedef ptrdiff_t (*operation)(const bitpacking_set *views, size_t views_len, uint32_t *ids, size_t ids_len);
 
-/* The list that an operation makes of others. Returns the number of its bytes. */
-static size_t combine(operation operation, const bitpacking_list *views, size_t count, struct list *list)
+/* The set that an operation makes of others. Returns the number of its bytes. */
+static size_t combine(operation operation, const bitpacking_set *views, size_t count, struct documents *documents)
 {
     size_t room = 0, i, size;
-    uint32_t *documents;
+    uint32_t *ids;
 
     for (i = 0; i < count; i++)
-        room += bitpacking_list_len(&views[i]); /* enough for each of the operations */
-    documents = checked(malloc((room + 1) * sizeof *documents));
-    size = pack(documents, (size_t)operation(views, count, documents, room), list); /* not negative: there is room, and an order */
-    free(documents);
+        room += bitpacking_set_len(&views[i]); /* enough for each of the operations */
+    ids = checked(malloc((room + 1) * sizeof *ids));
+    size = pack(ids, (size_t)operation(views, count, ids, room), documents); /* not negative: there is room */
+    free(ids);
     return size;
 }
 
-static void print(const char *query, size_t size, const struct list *list)
+static void print(const char *query, size_t size, const struct documents *documents)
 {
-    uint32_t first[4] = {0, 0, 0, 0};
-    size_t count = (size_t)bitpacking_list_range(&list->view, 0, first, 4), i;
+    uint32_t id;
+    size_t i;
 
-    printf("%s: %u documents in %u bytes, [", query, (unsigned)bitpacking_list_len(&list->view), (unsigned)size);
-    for (i = 0; i < count; i++)
-        printf(i == 0 ? "%u" : ", %u", (unsigned)first[i]);
+    printf("%s: %u documents in %u bytes, [", query, (unsigned)bitpacking_set_len(&documents->view), (unsigned)size);
+    for (i = 0; i < 4 && bitpacking_set_get(&documents->view, i, &id); i++)
+        printf(i == 0 ? "%u" : ", %u", (unsigned)id);
     printf("] ..\n");
 }
 
-/* Answers a query over lists, and prints the answer. */
-static struct list ask(const char *query, operation operation, const bitpacking_list *views, size_t count)
+/* Answers a query over sets, and prints the answer. */
+static struct documents ask(const char *query, operation operation, const bitpacking_set *views, size_t count)
 {
-    struct list answer;
+    struct documents answer;
     size_t size = combine(operation, views, count, &answer);
 
     print(query, size, &answer);
@@ -94,8 +96,8 @@ static struct list ask(const char *query, operation operation, const bitpacking_
 
 int main(void)
 {
-    struct list index[WORDS], none, answers[5];
-    bitpacking_list views[3];
+    struct documents index[WORDS], none, answers[5];
+    bitpacking_set views[3];
     size_t size = 0;
     int i;
 
@@ -105,14 +107,14 @@ int main(void)
     printf("%d words in %u bytes\n", WORDS, (unsigned)size);
 
     views[0] = index[FIZZ].view, views[1] = index[BUZZ].view, views[2] = index[EVEN].view;
-    answers[0] = ask("fizz AND buzz AND even", bitpacking_list_intersect, views, 3);
-    answers[1] = ask("fizz OR buzz", bitpacking_list_unite, views, 2);
+    answers[0] = ask("fizz AND buzz AND even", bitpacking_set_intersect, views, 3);
+    answers[1] = ask("fizz OR buzz", bitpacking_set_unite, views, 2);
     views[0] = index[EVEN].view, views[1] = index[FIZZ].view;
-    answers[2] = ask("even NOT fizz", bitpacking_list_subtract, views, 2);
+    answers[2] = ask("even NOT fizz", bitpacking_set_subtract, views, 2);
     views[0] = answers[1].view, views[1] = index[EVEN].view;
-    answers[3] = ask("(fizz OR buzz) NOT even", bitpacking_list_subtract, views, 2);
+    answers[3] = ask("(fizz OR buzz) NOT even", bitpacking_set_subtract, views, 2);
     views[0] = index[FIZZ].view, views[1] = none.view;
-    answers[4] = ask("fizz AND odd", bitpacking_list_intersect, views, 2);
+    answers[4] = ask("fizz AND odd", bitpacking_set_intersect, views, 2);
 
     for (i = 0; i < WORDS; i++)
         free(index[i].bytes);

@@ -17,16 +17,12 @@ from columns import columns
 from combined_id_sets import combined_id_sets
 from id_sets import id_sets, spelled_bytes, spelled_ids
 from lists import digest_lists, digests, edge_lists, long_lists, made_lists, single_lists, worked_lists, worked_lists2
-from lists3 import counted_lists, greatest_lists, tail_lists, upgrades3, worked_lists3
-from lists4 import lists4, upgrades4
 from parts import FOLDER, KINDS, LANES, body_of, list_text, plain_blocks
 from refusals import number_of, refused_rows
-from refusals3 import refused_rows3
-from refusals4 import refused_rows4
 from refused_columns import damaged_columns, refused_columns
 from refused_id_sets import damaged_sets, refused_id_sets
 from rules import rule_of
-from sets import combinations, intersections, refused_values, searches
+from sets import intersections, refused_values, searches
 
 
 def field(value):
@@ -83,13 +79,9 @@ def tables(blocks):
         "loose.tsv": table("packer kind initial least width values bytes", loose_blocks(blocks)),
         "refused_blocks.tsv": table("call packer kind initial width given number", refused_calls(blocks)),
         "single.tsv": table("packer kind initial width values bytes", single_blocks()),
-        "seek.tsv": table("lanes bytes targets found", searches(2, blocks)),
-        "seek3.tsv": table("lanes bytes targets found", searches(3, blocks)),
-        "seek4.tsv": table("lanes bytes targets found", searches(4, blocks)),
+        "seek.tsv": table("lanes bytes targets found", searches(blocks)),
         "intersect.tsv": table("lanes bytes other_lanes other_bytes shared", intersections()),
-        "union.tsv": table("lanes bytes other_lanes other_bytes united", combinations(set.union)),
-        "difference.tsv": table("lanes bytes other_lanes other_bytes left", combinations(set.difference)),
-        "refused_values.tsv": table("version kind lanes values position", refused_values()),
+        "refused_values.tsv": table("kind lanes values position", refused_values()),
         "id_sets.tsv": table("ids bytes", set_rows()),
         "refused_id_sets.tsv": table("number fault bytes", refused_set_rows()),
         "combined_id_sets.tsv": table("ids others both", (map(spelled_ids, it) for it in combined_id_sets())),
@@ -97,29 +89,22 @@ def tables(blocks):
         "refused_columns.tsv": table("number fault bytes", refused_column_rows()),
         "digests.tsv": table("kind lanes count bits version length sha256", digests()),
     }
-    for name, rows in [("", upgrades(blocks)), ("3", upgrades3(blocks)), ("4", upgrades4(blocks))]:
-        upgraded = [(lanes, text, fault_number(fault), fault, after) for lanes, text, fault, after in rows]
-        found[f"upgrade{name}.tsv"] = table("lanes bytes number fault upgraded", upgraded)
+    upgraded = [(lanes, text, fault_number(fault), fault, after) for lanes, text, fault, after in upgrades(blocks)]
+    found["upgrade.tsv"] = table("lanes bytes number fault upgraded", upgraded)
     plain = [*worked_lists(), *single_lists(1), *made_lists(blocks, 1), *edge_lists(1)]
-    longer = [*worked_lists2(), *single_lists(2), *long_lists(blocks, 2), *made_lists(blocks, 2), *edge_lists(2)]
-    short = [*worked_lists3(), *counted_lists(), *tail_lists(), *greatest_lists(), *long_lists(blocks, 3)]
-    short += [*made_lists(blocks, 3), *edge_lists(3)]
-    for version, name, lists, rows in [
-        (1, "", plain, refused_rows(1, blocks)),
-        (2, "2", longer, refused_rows(2, blocks)),
-        (3, "3", short, refused_rows3(blocks)),
-        (4, "4", [*lists4(blocks)], refused_rows4(blocks)),
-    ]:
+    longer = [*worked_lists2(), *single_lists(2), *long_lists(blocks), *made_lists(blocks, 2), *edge_lists(2)]
+    for version, name, lists in [(1, "", plain), (2, "2", longer)]:
         found[f"lists{name}.tsv"] = table("kind lanes values bytes", lists)
-        refused = [(lanes, number_of(fault), fault, text, rule_of(version, lanes, fault, text)) for lanes, fault, text in rows]
+        refused = [
+            (lanes, number_of(fault), fault, text, rule_of(version, lanes, fault, text))
+            for lanes, fault, text in refused_rows(version, blocks)
+        ]
         found[f"refused{name}.tsv"] = table("lanes number fault bytes rule", refused)
     return found
 
 
 def digested_lists(version):
-    lists = (
-        (name, lanes, values, list_text(version, lanes, KINDS.index(name), values)) for name, lanes, _, values in digest_lists(version)
-    )
+    lists = ((name, lanes, values, list_text(version, lanes, KINDS.index(name), values)) for name, lanes, _, values in digest_lists())
     return table("kind lanes values bytes", lists)
 
 

@@ -98,6 +98,3 @@ def upgrades(blocks):
         loose = list_text(1, lanes, 1, [5, *zeros[1:], *zeros])[:-1] + bytes([1]) + bytes(4 * lanes)
         yield lanes, loose, "LooseWidth(1, 1)", b""  # before NotSorted
         yield lanes, list_text(2, lanes, 1, [4, 5]), "BadVersion(2)", b""
-        text = list_text(3, lanes, 2, [*range(32 * lanes + 1)])
-        yield lanes, text, f"BadVersion({text[0]})", b""
-        yield lanes, list_text(3, lanes, 2, []), "Short", b""

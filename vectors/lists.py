@@ -1,4 +1,4 @@
-"""Lists with their texts, of every version."""
+"""Lists with their texts, of both versions."""
 
 from hashlib import sha256
 
@@ -19,7 +19,7 @@ def chained(blocks, kind, lanes, widths):
 def made_lists(blocks, version):
     """Lists of every kind and lanes. Their blocks go through the widths: the next is 20 more, modulo 33.
 
-    In versions 2 and 3 the blocks of values that have to be in order go through the widths to 22, so that no sum wraps.
+    In version 2 the blocks of values that have to be in order go through the widths to 22, so that no sum wraps.
     """
     width = {33: 0, 23: 0}
     for lanes in LANES:
@@ -44,32 +44,30 @@ def single_lists(version):
             yield KINDS[kind], lanes, values, text_of(version, lanes, kind, [(1, values[-1], body_of(lanes, 1, codes))], [])
 
 
-def digest_lists(version):
-    """Lists of more than 65,535 values, or more than 65,535 bytes of bodies: kind, lanes, width of the codes, values. In version 4 also two
-    with a last end of 65,535 and 65,536."""
-    some = [("plain", 8, 16645, 32), ("plain", 1, 65605, 32), ("strict", 4, 65605, 15)]
-    for name, lanes, count, width in some + [("plain", 1, 123360, 17), ("plain", 1, 65536, 32)] * (version == 4):
+def digest_lists():
+    """Lists of more than 65,535 values, or more than 65,535 bytes of bodies: kind, lanes, width of the codes, values."""
+    for name, lanes, count, width in [("plain", 8, 16645, 32), ("plain", 1, 65605, 32), ("strict", 4, 65605, 15)]:
         codes = [x >> 32 - width for x in drawn(count)]
         yield name, lanes, width, summed(name, STARTS[KINDS.index(name)], codes)
 
 
 def digests():
     """Kind, lanes, count, width of the codes, version, and the length and SHA-256 of the text."""
-    for version in [1, 2, 3, 4]:
-        for name, lanes, width, values in digest_lists(version):
+    for version in [1, 2]:
+        for name, lanes, width, values in digest_lists():
             text = list_text(version, lanes, KINDS.index(name), values)
             yield name, lanes, len(values), width, version, len(text), sha256(text).hexdigest()
 
 
-def long_lists(blocks, version):
-    """Lists of version 2 or 3 with three blocks, and with thirteen and forty, whose offsets go above 255."""
+def long_lists(blocks):
+    """Lists of version 2 with three blocks, and with thirteen and forty, whose offsets go above 255."""
     some = [(name, lanes, [7, 0, 12]) for lanes in LANES for name in KINDS]
     some += [(name, 1, [20 * block % bound for block in range(40)]) for name, bound in zip(KINDS, [33, 23, 23])]
     some += [("sorted", 4, [22] * 12 + [0])]
     for name, lanes, widths in some:
         values, bodies = chained(blocks, name, lanes, widths)
         tail = [values[-1] + 9, values[-1] + 10]
-        yield name, lanes, values + tail, text_of(version, lanes, KINDS.index(name), bodies, tail)
+        yield name, lanes, values + tail, text_of(2, lanes, KINDS.index(name), bodies, tail)
 
 
 def changed(values, position, value):
@@ -93,10 +91,10 @@ def values_in_order(kind, lanes):
 
 
 def edge_lists(version):
-    """Lists of two blocks and more: of versions 2 and 3 in order, and of version 1 also out of order."""
+    """Lists of two blocks and more: of version 2 in order, and of version 1 also out of order."""
     for lanes, count in zip(LANES, [8, 5, 1]):
         for kind in [1, 2]:
-            some = [*values_in_order(kind, lanes)] if version > 1 or lanes == 1 else []
+            some = [*values_in_order(kind, lanes)] if version == 2 or lanes == 1 else []
             if version == 1:
                 some += [*values_out_of_order(kind, lanes)][:count]
             for values in some:

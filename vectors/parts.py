@@ -9,6 +9,12 @@ MOST = 268_435_456
 STARTS = [0, 0, 2**32 - 1]  # of the first block of a list, by its kind
 
 
+# Bytes that are no varint, and bytes that end within one.
+NO_NUMBERS = ["8F 00", "8F 80 00", "80 80 80 80 10", "FF FF FF FF 1F", "80 80 80 80 80", "8F 80 80 80 80 00", "FF FF FF FF 8F 00"]
+NO_NUMBERS += ["80 80 80 80 00", "8F 80 80 80 00"]
+CUT_NUMBERS = ["", "80", "FF FF", "80 80 80", "FF FF FF FF"]
+
+
 def rows(name):
     """The lines of a table below its head, as lists of fields."""
     with open(f"{FOLDER}/{name}", encoding="ascii") as file:
@@ -56,33 +62,15 @@ def summed(name, last, codes):
 
 
 def number(value):
-    """A number of version 3: seven bits a byte, the lowest first, with 128 added to every byte but the last."""
+    """A varint: seven bits a byte, the lowest first, with 128 added to every byte but the last."""
     return bytes([value]) if value < 128 else bytes([value % 128 + 128]) + number(value // 128)
 
 
-def header3(lanes, count, kind=0):
-    return bytes([64 * (LANES.index(lanes) + 1) + 16 * kind + min(count, 15)]) + (number(count) if count >= 15 else b"")
-
-
 def group(codes):
-    """A group of version 3, of 1 to 32 codes: the body of a block of one lane, cut after its last code."""
+    """A group of 1 to 32 codes: the body of a block of one lane, cut after its last code."""
     width = max(codes).bit_length()
     body = body_of(1, width, [*codes, *[0] * (32 - len(codes))])
     return bytes([width]) + body[: (len(codes) * width + 7) // 8]
-
-
-def tail_of(version, kind, bodies, values):
-    """The bytes of a tail after blocks of these widths, last values and bodies."""
-    if version < 3:
-        return b"".join(map(word, values))
-    codes, first = codes_after(kind, bodies[-1][1] if bodies else STARTS[kind], values), b""
-    if codes and not bodies:
-        first, codes = number(codes[0]), codes[1:]
-    return first + b"".join(group(codes[at : at + 32]) for at in range(0, len(codes), 32))
-
-
-def header4(lanes, count, kind):
-    return bytes([16 * (LANES.index(lanes) + 1) + 4 + kind]) + number(count)
 
 
 def least_bytes(value):
@@ -97,55 +85,10 @@ def front_sizes(ends, marks, sizes=None):
     return bytes([sizes]) + b"".join(short)
 
 
-def front4(lanes, count, kind, ends, marks, sizes=None):
-    """What is before the bodies of version 4: with this byte of sizes, or with the least sizes."""
-    return header4(lanes, count, kind) + front_sizes(ends, marks, sizes)
-
-
-def bits_size(lanes, start, last):
-    """The size of a bit set of the numbers after a start, up to the last value."""
-    span = (last - start - 1) % 2**32 + 1
-    return span // (32 * lanes) + (span % (32 * lanes) > 0)
-
-
-def bit_set(lanes, size, start, values):
-    """A bit set of this size: the number after the start is bit 0."""
-    body = bytearray(4 * lanes * size)
-    for value in values:
-        bit = (value - start - 1) % 2**32
-        body[bit // 8] |= 1 << bit % 8
-    return bytes(body)
-
-
-def block4(lanes, kind, start, values):
-    """The size, mark and body of a block of version 4."""
-    mark = values[-1] if kind else min(values)
-    codes = codes_after(kind, start, values) if kind else [value - mark for value in values]
-    width, bits = max(codes).bit_length(), bits_size(lanes, start, mark)
-    if kind == 2 and bits <= width:
-        return bits, mark, bit_set(lanes, bits, start, values)
-    return width, mark, body_of(lanes, width, codes)
-
-
-def text4(lanes, kind, values):
-    """The text of version 4 of a block or more."""
-    block, start, ends, marks, bodies = 32 * lanes, STARTS[kind], [], [], b""
-    whole = len(values) // block * block
-    for place in range(0, whole, block):
-        size, mark, body = block4(lanes, kind, start, values[place : place + block])
-        ends.append(sum(ends[-1:]) + size)
-        marks.append(mark)
-        start, bodies = mark, bodies + body
-    codes = codes_after(kind, start, values[whole:])
-    groups = b"".join(group(codes[at : at + 32]) for at in range(0, len(codes), 32))
-    return front4(lanes, len(values), kind, ends, marks) + bodies + groups
-
-
 def text_of(version, lanes, kind, bodies, tail):
     """A text, from the width, last value and body of each block, and the values of the tail."""
-    count, offset = 32 * lanes * len(bodies) + len(tail), 0
-    text = header3(lanes, count, kind) if version == 3 else header(lanes, count, kind, version)
-    end = tail_of(version, kind, bodies, tail)
+    text, offset = header(lanes, 32 * lanes * len(bodies) + len(tail), kind, version), 0
+    end = b"".join(map(word, tail))
     if version == 1:
         return text + b"".join(bytes([width]) + body for width, _, body in bodies) + end
     for width, last, _ in bodies:
@@ -184,11 +127,7 @@ def split(lanes, kind, values):
 
 
 def list_text(version, lanes, kind, values):
-    """The text of the values, by the number of their kind. Their order is not tested. A list without a block has no text of version 4, and
-    that of version 3 is in its place."""
-    if version == 4 and len(values) >= 32 * lanes:
-        return text4(lanes, kind, values)
-    version = min(version, 3)
+    """The text of the values, by the number of their kind. Their order is not tested."""
     return text_of(version, lanes, kind, *split(lanes, kind, values))
 
 

@@ -18,7 +18,6 @@ NUMBERS = {
     "BadNumber": 13,
     "Padding": 14,
     "BadSizes": 16,
-    "BadBits": 17,
     "BadKey": 18,
     "BadSum": 19,
     "BadBody": 20,

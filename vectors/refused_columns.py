@@ -2,8 +2,7 @@
 texts with drawn bytes are found by the decoder of that page."""
 
 from columns import WORKED, blocks_text, column_text, header
-from parts import MOST, body_of, drawn, group, number
-from refusals3 import CUT_NUMBERS, NO_NUMBERS
+from parts import CUT_NUMBERS, MOST, NO_NUMBERS, body_of, drawn, group, number
 from refused_id_sets import decoder, fault_of
 
 # Bytes worked by hand.

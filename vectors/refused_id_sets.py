@@ -4,8 +4,7 @@ texts with drawn bytes are found by the decoder of that page."""
 import re
 
 from id_sets import FILL, WORKED, array_of, chunked, few_of, pairs_of, placed, set_text, spread
-from parts import FOLDER, MOST, drawn, group, number
-from refusals3 import CUT_NUMBERS, NO_NUMBERS
+from parts import CUT_NUMBERS, FOLDER, MOST, NO_NUMBERS, drawn, group, number
 
 # Bytes worked by hand.
 WORKED_REFUSALS = {

@@ -5,7 +5,7 @@
     index.py ask ADDRESS FOLDER [--ids] [--batch N]        reads queries, one on each line, and prints how many documents each has, or their ids
 
 ADDRESS is that of the scheduler. The workers need this folder in PYTHONPATH, and have to see all files under the same names. The status is 0,
-or 2 if something is wrong, which standard error then says.
+or 2 if something is wrong, which standard error then says. For a line that is no query `ask` prints `?`, and answers the others.
 """
 import argparse
 import contextlib
@@ -13,6 +13,8 @@ import glob
 import itertools
 import json
 import os
+import re
+import shutil
 import sys
 import uuid
 import zlib
@@ -25,6 +27,7 @@ import shards
 from shards import ShardError
 
 NAME = "index.json"
+GENERATION = re.compile(r"[0-9a-f]{32}")
 
 
 def shown(tasks):
@@ -45,26 +48,60 @@ def gathered(client, files):
 
 
 def build(client, files, folder, first=0):
-    """Writes an index. The ids count from `first` on, through the files in their order. The index is there when all its shards are."""
+    """Writes an index. The ids count from `first` on, through the files in their order.
+
+    The index is there when all its shards are: if a build fails, an index that was there before stays as it was. The shards of a
+    build are in a folder of their own, its generation."""
     if not files or not 0 <= first < 2**63:
         raise ValueError("an index needs a file, and a first id from 0 to 2**63 - 1")
-    os.makedirs(folder, exist_ok=True)
-    names = [f"{number:05}.shard" for number in range(len(files))]
-    keys = [f"{name}-{uuid.uuid4()}" for name in names]
+    generation = uuid.uuid4().hex
+    names = [f"{generation}/{number:05}.shard" for number in range(len(files))]
     paths = [f"{os.path.abspath(folder)}/{it}" for it in names]
-    tasks = [client.submit(shards.write_lines, os.path.abspath(it), path, key=key) for it, path, key in zip(files, paths, keys)]
-    done = gathered(client, dict(zip(paths, shown(tasks))))
-    firsts = itertools.accumulate((it["documents"] for it in done), initial=first)
-    table = [{"file": name, "first": id, **it} for name, id, it in zip(names, firsts, done)]
+    os.makedirs(f"{folder}/{generation}")
+    tasks = [
+        client.submit(shards.write_lines, os.path.abspath(it), path, key=f"{os.path.basename(path)}-{generation}")
+        for it, path in zip(files, paths)
+    ]
+    try:
+        done = gathered(client, dict(zip(paths, shown(tasks))))
+        firsts = itertools.accumulate((it["documents"] for it in done), initial=first)
+        before = switched(folder, [{"file": name, "first": id, **it} for name, id, it in zip(names, firsts, done)])
+    except BaseException:
+        client.cancel(tasks)
+        shutil.rmtree(f"{folder}/{generation}", ignore_errors=True)
+        raise
+    for part in glob.glob(f"{glob.escape(str(folder))}/{generation}/*.part"):  # of workers that died
+        os.remove(part)
+    for it in before:
+        shutil.rmtree(f"{folder}/{it}", ignore_errors=True)  # what a worker has mapped can still be read there
+    return Index(client, folder)
+
+
+def switched(folder, table):
+    """Makes these the shards of the index. Returns the generations that it had before."""
+    try:
+        before = {os.path.dirname(it["file"]) for it in read(f"{folder}/{NAME}")}
+    except (FileNotFoundError, ShardError):
+        before = set()
     with shards.replacing(f"{folder}/{NAME}") as file:
         file.write(json.dumps({"shards": table, "crc": crc_of(table)}, indent=1).encode())
-    for part in glob.glob(f"{glob.escape(folder)}/*.part"):  # of workers that died
-        os.remove(part)
-    return Index(client, folder)
+    return {it for it in before if GENERATION.fullmatch(it)}
 
 
 def crc_of(table):
     return zlib.crc32(json.dumps(table).encode())
+
+
+def read(path):
+    """The shards of an index, by its file."""
+    try:
+        with open(path, encoding="utf-8") as file:
+            found = json.load(file)
+        if crc_of(found["shards"]) == found["crc"]:
+            return found["shards"]
+    except (ValueError, KeyError, TypeError):
+        pass
+    raise ShardError(path, None, "it is damaged")
 
 
 class Index:
@@ -72,16 +109,7 @@ class Index:
 
     def __init__(self, client, folder):
         self.client, self.folder = client, os.path.abspath(folder)
-        path = f"{self.folder}/{NAME}"
-        try:
-            with open(path, encoding="utf-8") as file:
-                found = json.load(file)
-            self.shards = found["shards"]
-            same = crc_of(self.shards) == found["crc"]
-        except (ValueError, KeyError, TypeError):
-            same = False
-        if not same:
-            raise ShardError(path, None, "it is damaged")
+        self.shards = read(f"{self.folder}/{NAME}")
 
     def submit(self, texts, counted=False):
         """Starts a batch of queries: a task for each shard, by its file.
@@ -90,7 +118,7 @@ class Index:
         asked = [queries.parsed(it) for it in texts]
         paths = {f"{self.folder}/{it['file']}": it for it in self.shards}
         return {
-            path: self.client.submit(shards.answers, path, it["crc"], asked, counted, key=f"{it['file']}-{uuid.uuid4()}")
+            path: self.client.submit(shards.answers, path, it["crc"], asked, counted, key=f"{os.path.basename(path)}-{uuid.uuid4()}")
             for path, it in paths.items()
         }
 
@@ -107,11 +135,11 @@ class Index:
         parts = gathered(self.client, tasks)
         return [sum(it) if counted else self.ids(it) for it in zip(*parts)]
 
-    def ids(self, lists):
+    def ids(self, sets):
         """The ids of what each shard answered to one query."""
-        out, end = np.empty(sum(map(len, lists)), np.uint64), 0
-        for shard, found in zip(self.shards, lists):
-            part = found.to_numpy(out[end:])
+        out, end = np.empty(sum(map(len, sets)), np.uint64), 0
+        for shard, found in zip(self.shards, sets):
+            part = found.unpack(out[end:])
             part += np.uint64(shard["first"])
             end += len(part)
         return out
@@ -121,13 +149,30 @@ class Index:
         return self.join(self.submit(texts, counted), counted, patience)
 
 
-def answered(index, texts, batch, ids):
-    """The lines that answer queries. All batches are begun before the first is printed."""
-    begun = [index.submit(texts[at : at + batch], not ids) for at in range(0, len(texts), batch)]
+def answered(index, texts, batch, ids, refuse):
+    """The lines that answer queries, `?` for one that is none, after a call of `refuse` with its number and what is wrong. All batches are begun
+    before the first is printed."""
+    wrong = {number: why for number, text in enumerate(texts, 1) if (why := fault_of(text))}
+    for number, why in wrong.items():
+        refuse(number, why)
+    good = [text for number, text in enumerate(texts, 1) if number not in wrong]
+    begun = [index.submit(good[at : at + batch], not ids) for at in range(0, len(good), batch)]
     shown([task for tasks in begun for task in tasks.values()])
-    while begun:
-        for found in index.join(begun.pop(0), not ids):
-            yield " ".join(map(str, found.tolist())) if ids else str(found)
+    found = (it for _ in range(len(begun)) for it in index.join(begun.pop(0), not ids))
+    for number in range(1, len(texts) + 1):
+        if number in wrong:
+            yield "?"
+        else:
+            yield " ".join(map(str, next(found).tolist())) if ids else str(next(found))
+
+
+def fault_of(text):
+    """What is wrong with a query, or None."""
+    try:
+        queries.parsed(text)
+    except ValueError as why:
+        return str(why)
+    return None
 
 
 def words_given():
@@ -145,7 +190,12 @@ def words_given():
 
 
 def main():
-    given = words_given()
+    given, wrong = words_given(), []
+
+    def refuse(number, why):
+        wrong.append(number)
+        print(f"index.py: line {number}: {why}", file=sys.stderr)
+
     try:
         with Client(given.address, timeout=30) as client:
             if given.command == "build":
@@ -153,12 +203,13 @@ def main():
                 total = {it: sum(size[it] for size in sizes) for it in ("documents", "postings", "bytes")}
                 print(f"{len(sizes)} shards, " + ", ".join(f"{count} {it}" for it, count in total.items()))
             else:
-                for line in answered(Index(client, given.folder), sys.stdin.read().splitlines(), given.batch, given.ids):
+                texts = sys.stdin.read().split("\n")
+                for line in answered(Index(client, given.folder), texts[: -1 if texts[-1] == "" else None], given.batch, given.ids, refuse):
                     print(line)
     except (OSError, ValueError, ShardError) as why:
         print(f"index.py: {why}", file=sys.stderr)
         return 2
-    return 0
+    return 2 if wrong else 0
 
 
 if __name__ == "__main__":

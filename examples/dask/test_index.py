@@ -2,22 +2,20 @@
 cut, swapped or not there. It takes about a minute."""
 import collections
 import concurrent.futures
+import json
 import os
 import random
 import re
+import shutil
 import signal
-import struct
 import subprocess
 import sys
 import threading
 import time
-import zlib
 
-import fimulowen
 import pytest
 
 import index
-import queries
 import shards
 from processes import HERE, PATIENCE, Cluster
 from shards import ShardError
@@ -98,9 +96,12 @@ def folder(cluster, texts, tmp_path_factory):
 @pytest.fixture
 def copied(folder, tmp_path):
     """The folder of an index that a test may damage."""
-    for path in folder.iterdir():
-        (tmp_path / path.name).write_bytes(path.read_bytes())
-    return tmp_path
+    return shutil.copytree(folder, tmp_path / "index")
+
+
+def contents(folder):
+    """The bytes of all files in the folders of a folder, by their names there."""
+    return {it.name: it.read_bytes() for it in folder.glob("*/*")}
 
 
 def right(found, sets, asked):
@@ -139,64 +140,49 @@ def test_what_is_not_built(cluster, texts, tmp_path):
     assert not any(tmp_path.iterdir())
 
 
-def test_parsed():
-    for text, query in {
-        "Bees": "bees",
-        "a b": ("and", "a", "b"),
-        "a b | c": ("or", ("and", "a", "b"), "c"),
-        "a (b | c) -d -(e f)": ("not", ("and", "a", ("or", "b", "c")), "d", ("and", "e", "f")),
-        "-a b": ("not", "b", "a"),
-    }.items():
-        assert queries.parsed(text) == query
-    for text in "", "-a", "a |", "a)", "(a", "a & b", "a - - b", "a -":
-        with pytest.raises(ValueError, match="the query"):
-            queries.parsed(text)
+def test_a_build_that_fails(cluster, texts, copied, sets):
+    """The index that was there stays, for workers that did not map it too, and nothing is left of the build."""
+    before = sorted(map(str, copied.rglob("*")))
+    with pytest.raises(OSError, match="none.txt"):
+        index.build(cluster.client, [*texts[:3], "/none.txt"], copied)
+    cluster.kill(*cluster.workers)
+    cluster.add(3)
+    assert index.Index(cluster.client, copied).ask(["w5 w6"], counted=True, patience=LIMIT) == [len(sets["w5"] & sets["w6"])]
+    deadline = time.monotonic() + LIMIT
+    while sorted(map(str, copied.rglob("*"))) != before and time.monotonic() < deadline:
+        time.sleep(0.1)
+    assert sorted(map(str, copied.rglob("*"))) == before
 
 
-def test_words():
-    lines = ["Bees, bees!\n", "\n", "caf\u00e9 B_1 it's", ""]
-    count, found = shards.postings_of(lines)
-    assert count == 4 and {name: list(it) for name, it in found.items()} == {
-        "bees": [0],
-        "caf\u00e9": [2],
-        "b_1": [2],
-        "it": [2],
-        "s": [2],
-    }
+def test_a_build_over_an_index(cluster, texts, copied, sets):
+    """It takes the place of the one before at once. Whoever had opened that one is answered from its shards as long as workers have them mapped."""
+    for _ in range(4):
+        index.Index(cluster.client, copied).ask(["w1"], patience=LIMIT)
+    (copied / "mine.txt").write_text("of somebody else")
+    found = index.build(cluster.client, texts[:2], copied, FIRST)
+    wanted = [it for it in sorted(sets["w1"]) if it < FIRST + 2 * DOCUMENTS]
+    assert found.ask(["w1"])[0].tolist() == wanted == index.Index(cluster.client, copied).ask(["w1"])[0].tolist()
+    assert sorted(it.name for it in copied.iterdir()) == sorted([os.path.dirname(found.shards[0]["file"]), "mine.txt", index.NAME])
+    assert sorted(contents(copied)) == ["00000.shard", "00001.shard"]
 
 
-def test_bytes(tmp_path):
-    """A shard by hand, from the table of the page."""
-    (tmp_path / "lines").write_bytes(b"b a\nb")
-    sizes = shards.write_lines(tmp_path / "lines", f"{tmp_path}/shard")
-    a, b = fimulowen.pack([0]).tobytes(), fimulowen.pack([0, 1]).tobytes()
-    rows = struct.pack("<6I", 1, len(a), zlib.crc32(a), 2, len(a + b), zlib.crc32(b))
-    table = b"shard1\0\0" + struct.pack("<2Q", 2, 2) + rows + b"ab"
-    assert (tmp_path / "shard").read_bytes() == table + a + b
-    assert sizes == {"documents": 2, "postings": 3, "bytes": len(table + a + b), "crc": zlib.crc32(table)}
-    (tmp_path / "lines").write_bytes(b"")
-    sizes = shards.write_lines(tmp_path / "lines", f"{tmp_path}/shard")
-    assert len(shards.Shard(f"{tmp_path}/shard", sizes["crc"]).list("a")) == 0 and sizes["documents"] == 0
+def test_only_generations_are_removed(cluster, texts, tmp_path):
+    """An index that names other folders costs no file of others."""
+    (tmp_path / "index" / "mine").mkdir(parents=True)
+    (tmp_path / "index" / "mine" / "00000.shard").write_bytes(b"1")
+    table = [{"file": it, "first": 0} for it in ("mine/00000.shard", "00001.shard", "../index/00002.shard", "/tmp/00003.shard")]
+    (tmp_path / "index" / index.NAME).write_text(json.dumps({"shards": table, "crc": index.crc_of(table)}))
+    index.build(cluster.client, texts[:1], tmp_path / "index")
+    assert (tmp_path / "index" / "mine" / "00000.shard").read_bytes() == b"1"
 
 
-def test_each_bit(tmp_path):
-    """Each flipped bit of a shard is found, and the word is named if it is in a list."""
-    path, crc = f"{tmp_path}/shard", shards.write(f"{tmp_path}/shard", 900, {"a": [0], "bee": range(0, 900, 3), "c": [5, 899]})["crc"]
-    with open(path, "rb") as file:
-        whole = file.read()
-    shard = shards.Shard(path, crc)
-    ends = [shard.lists + int(it) for it in shard.rows["list"]]
-    for bit in range(8 * len(whole)):
-        data = bytearray(whole)
-        data[bit // 8] ^= 1 << bit % 8
-        (tmp_path / "damaged").write_bytes(data)
-        os.replace(tmp_path / "damaged", path)
-        named = None if bit // 8 < shard.lists else ["a", "bee", "c"][sum(end <= bit // 8 for end in ends)]
-        with pytest.raises(ShardError) as error:
-            damaged = shards.Shard(path, crc)
-            for it in "a", "bee", "c":
-                damaged.list(it)
-        assert error.value.args[:2] == (path, named)
+def test_two_builds_at_once(cluster, texts, sets, tmp_path):
+    """They share no task, though their shards have the same names."""
+    with concurrent.futures.ThreadPoolExecutor(2) as pool:
+        one = pool.submit(index.build, cluster.client, texts[:4], tmp_path / "one", FIRST)
+        two = pool.submit(index.build, cluster.client, texts[4:], tmp_path / "two", FIRST + 4 * DOCUMENTS)
+        found = [it.result(timeout=PATIENCE).ask(["w3"])[0].tolist() for it in (one, two)]
+    assert found[0] + found[1] == sorted(sets["w3"]) and min(map(len, found)) > 0
 
 
 def flipped(path, at):
@@ -205,20 +191,20 @@ def flipped(path, at):
     path.write_bytes(data)
 
 
-def test_damaged_list(cluster, copied, sets):
+def test_damaged_set(cluster, copied, sets):
     """The error names the file, the word and the fault, and other words still have answers."""
     built = index.Index(cluster.client, copied)
     path = copied / built.shards[5]["file"]
     shard = shards.Shard(str(path), built.shards[5]["crc"])
-    start = len(path.read_bytes()) - shard.map.size() + shard.lists
+    start = len(path.read_bytes()) - shard.map.size() + shard.sets
     place = [bytes(shard.bytes_of("word", it)) for it in range(len(shard.rows))].index(b"w7")
-    flipped(path, start + int(shard.rows["list"][place]) - 1)
+    flipped(path, start + int(shard.rows["set"][place]) - 1)
     assert built.ask(["w6 w8"], counted=True) == [len(sets["w6"] & sets["w8"])]
     for counted in False, True:
         with pytest.raises(ShardError) as error:
             built.ask(["w6", "w6 | w7"], counted)
         assert error.value.args[:2] == (str(path), "w7") and error.value.fault
-        assert str(error.value).startswith(f"{path}: the list of 'w7': ")
+        assert str(error.value).startswith(f"{path}: the set of 'w7': ")
 
 
 def test_damaged_files(cluster, copied):
@@ -277,14 +263,14 @@ def test_a_worker_is_killed_while_it_builds(cluster, folder, texts, tmp_path):
     pool = concurrent.futures.ThreadPoolExecutor(1)
     done = pool.submit(index.build, cluster.client, texts, tmp_path, FIRST)
     deadline = time.monotonic() + PATIENCE
-    while not any(tmp_path.glob("*.shard")) and time.monotonic() < deadline:
+    while not any(tmp_path.glob("*/*.shard")) and time.monotonic() < deadline:
         time.sleep(0.05)
     time.sleep(1.5)
-    assert not done.done() and any(tmp_path.glob("*.shard")) and not (tmp_path / index.NAME).exists()
+    assert not done.done() and any(tmp_path.glob("*/*.shard")) and not (tmp_path / index.NAME).exists()
     cluster.kill(cluster.workers[1])
     done.result(timeout=PATIENCE)
     cluster.add(1)
-    assert {it.name: it.read_bytes() for it in tmp_path.iterdir()} == {it.name: it.read_bytes() for it in folder.iterdir()}
+    assert contents(tmp_path) == contents(folder)
 
 
 def test_all_workers_are_killed(cluster, folder, sets):
@@ -365,9 +351,13 @@ def test_command(cluster, texts, sets, tmp_path):
     _, printed, status = called(cluster, "ask", "--ids", tmp_path / "it", given="w9 w5\n")
     assert printed == " ".join(map(str, sorted(sets["w9"] & sets["w5"]))) + "\n" and status == 0
     for words, given, message in (
-        (["ask", tmp_path / "it"], "w1\n(w2\n", "the query '(w2': a bracket is not closed"),
+        (["ask", tmp_path / "none"], "w1\n", index.NAME),
         (["build", tmp_path / "new", tmp_path / "none.txt"], "", "none.txt"),
     ):
         seen, printed, status = called(cluster, *words, given=given)
         said = seen.rpartition("\33[2K\r")[2]  # after the bar
         assert (printed, status) == ("", 2) and said.startswith("index.py: ") and message in said
+    seen, printed, status = called(cluster, "ask", "--batch", 2, tmp_path / "it", given="w1\n(w2\n\nw3 -w4\nw5")
+    counts = [len(it) for it in (sets["w1"], sets["w3"] - sets["w4"], sets["w5"])]
+    assert printed == f"{counts[0]}\n?\n?\n{counts[1]}\n{counts[2]}\n" and status == 2
+    assert "index.py: line 2: the query '(w2': a bracket is not closed" in seen and "index.py: line 3: the query ''" in seen

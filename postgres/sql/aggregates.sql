@@ -3,16 +3,20 @@
 \pset tuples_only on
 SELECT pack_agg(i) FROM unnest(ARRAY[300, 7, 9, NULL, 10, 7]) i;
 SELECT pack_agg(i) FROM unnest(ARRAY[4294967295, 7, NULL]) i;
+SELECT pack_agg(i) FROM unnest(ARRAY[32767, 7, NULL]::int2[]) i;
 SELECT pack_agg(i) IS NULL FROM unnest(ARRAY[]::int4[]) i;
-SELECT pack_agg(NULL::int8) IS NULL, list_or_agg(NULL::packed_list) IS NULL, list_and_agg(NULL::packed_list) IS NULL;
-SELECT list_or_agg(l), list_and_agg(l) FROM (VALUES ('{1,2,5}'::packed_list), (NULL), ('{2,5,9}'), ('{5,2}')) v(l);
-SELECT list_or_agg(l), list_and_agg(l) FROM (VALUES ('{}'::packed_list), ('{2}')) v(l);
-SELECT list_or_agg(l), list_and_agg(l) FROM (VALUES ('{7,8}'::packed_list)) v(l);
+SELECT pack_agg(NULL::int8) IS NULL, unite_agg(NULL::idset) IS NULL, intersect_agg(NULL::idset) IS NULL,
+    symmetric_difference_agg(NULL::idset) IS NULL, unite_len_agg(NULL::idset) IS NULL;
+SELECT unite_agg(l), intersect_agg(l) FROM (VALUES ('{1,2,5}'::idset), (NULL), ('{2,5,9}'), ('{5,2}')) v(l);
+SELECT unite_agg(l), intersect_agg(l) FROM (VALUES ('{}'::idset), ('{2}')) v(l);
+SELECT unite_agg(l), intersect_agg(l) FROM (VALUES ('{7,8}'::idset)) v(l);
+SELECT symmetric_difference_agg(l), unite_len_agg(l), intersect_len_agg(l), symmetric_difference_len_agg(l)
+    FROM (VALUES ('{1,2,5}'::idset), (NULL), ('{2,5,9}'), ('{5,2}'), ('{}')) v(l);
 SELECT pack_agg(i) FROM unnest(ARRAY[1, -1]) i;
 SELECT pack_agg(i) FROM unnest(ARRAY[1, 4294967296]) i;
 -- FILTER, DISTINCT, groups and windows.
 SELECT g, pack_agg(i) FILTER (WHERE i > 2) FROM (VALUES (1, 1), (1, 5), (1, 3), (2, 4), (2, 2), (3, 1)) v(g, i) GROUP BY g ORDER BY g;
-SELECT i, pack_agg(i) OVER (ORDER BY i DESC), list_and_agg(l) OVER (ORDER BY i) FROM (VALUES (1, '{1,2,3}'::packed_list), (2, '{2,3}'),
+SELECT i, pack_agg(i) OVER (ORDER BY i DESC), intersect_agg(l) OVER (ORDER BY i) FROM (VALUES (1, '{1,2,3}'::idset), (2, '{2,3}'),
     (3, '{3,4}')) v(i, l) ORDER BY i;
 -- Many rows: values that come often, out of order, and beyond 31 bits.
 CREATE TABLE many AS SELECT i, i % 7 AS g, (i::int8 * 2654435761) % 4294967296 AS big, (i * 7919) % 10007 AS often FROM generate_series(1,
@@ -21,10 +25,10 @@ SELECT pack_agg(big)::int8[] = ARRAY(SELECT DISTINCT big FROM many ORDER BY 1), 
     FROM many ORDER BY 1) FROM many;
 CREATE TABLE grouped AS SELECT g, pack_agg(often) AS l, pack_agg(i) AS own FROM many GROUP BY g;
 SELECT bool_and(l::int4[] = ARRAY(SELECT DISTINCT often FROM many m WHERE m.g = q.g ORDER BY 1)) FROM grouped q;
-SELECT list_or_agg(own)::int4[] = ARRAY(SELECT i FROM generate_series(1, 200000) i), cardinality(list_and_agg(own)),
-    list_and_agg(l)::int4[] = ARRAY(SELECT often FROM many GROUP BY often HAVING count(DISTINCT g) = 7 ORDER BY 1) FROM grouped;
+SELECT unite_agg(own)::int4[] = ARRAY(SELECT i FROM generate_series(1, 200000) i), cardinality(intersect_agg(own)),
+    intersect_agg(l)::int4[] = ARRAY(SELECT often FROM many GROUP BY often HAVING count(DISTINCT g) = 7 ORDER BY 1) FROM grouped;
 -- In parallel.
-CREATE TABLE parts AS SELECT i, packed_list(ARRAY(SELECT j FROM generate_series(1, 60) j WHERE j % (i % 5 + 1) = 0 OR j = i)) AS l
+CREATE TABLE parts AS SELECT i, idset(ARRAY(SELECT j FROM generate_series(1, 60) j WHERE j % (i % 5 + 1) = 0 OR j = i)) AS l
     FROM generate_series(1, 20000) i;
 ALTER TABLE many SET (parallel_workers = 3);
 ALTER TABLE parts SET (parallel_workers = 3);
@@ -33,10 +37,13 @@ SET parallel_setup_cost = 0; SET parallel_tuple_cost = 0; SET min_parallel_table
 EXPLAIN (COSTS off) SELECT pack_agg(big) FROM many;
 SELECT pack_agg(big)::int8[] = ARRAY(SELECT DISTINCT big FROM many ORDER BY 1), pack_agg(often)::int4[] = ARRAY(SELECT DISTINCT often
     FROM many ORDER BY 1) FROM many;
-EXPLAIN (COSTS off) SELECT list_or_agg(l), list_and_agg(l) FROM parts;
+EXPLAIN (COSTS off) SELECT unite_agg(l), intersect_agg(l) FROM parts;
 -- By hand: rows with i % 5 = 0 have all of 1 to 60; 60 is the multiple of 1, 2, 3, 4 and 5; the multiples of 1, 2 and 3 are those of 6.
-SELECT list_or_agg(l)::int4[] = ARRAY(SELECT j FROM generate_series(1, 60) j), list_and_agg(l), list_and_agg(l) FILTER (WHERE i % 5 < 3)
+SELECT unite_agg(l)::int4[] = ARRAY(SELECT j FROM generate_series(1, 60) j), intersect_agg(l), intersect_agg(l) FILTER (WHERE i % 5 < 3)
     FROM parts WHERE i > 60;
-SELECT pack_agg(big) IS NULL, list_or_agg(l) IS NULL, list_and_agg(l) IS NULL FROM many m JOIN parts USING (i) WHERE i < 0;
+SELECT symmetric_difference_agg(l), unite_len_agg(l), intersect_len_agg(l), symmetric_difference_len_agg(l),
+    symmetric_difference_agg(l)::int8[] = ARRAY(SELECT x FROM parts p, unnest(p.l) x WHERE i > 60 GROUP BY x HAVING count(*) % 2 = 1 ORDER BY 1)
+    FROM parts WHERE i > 60;
+SELECT pack_agg(big) IS NULL, unite_agg(l) IS NULL, intersect_agg(l) IS NULL FROM many m JOIN parts USING (i) WHERE i < 0;
 SELECT bool_and(p.l = q.l) FROM (SELECT g, pack_agg(often) AS l FROM many GROUP BY g) p JOIN grouped q USING (g);
 DROP TABLE many, grouped, parts;

@@ -1,61 +1,92 @@
-/* From the bytes of a value to an opened list, from values to bytes, and the binary form. */
-#include "packed_list.h"
+/* From the bytes of a value to an opened set, from ids to bytes, and the binary form. */
+#include "idset.h"
 
+#include "access/xlog.h"
 #include "libpq/pqformat.h"
 #include "nodes/primnodes.h"
-#include "utils/builtins.h"
 #include "utils/memutils.h"
 
 PG_MODULE_MAGIC;
 
-/* A list that was opened in an earlier call of a query. */
+/* A setting of the server, in none of its headers: pages with a wrong checksum are read all the same. */
+extern PGDLLIMPORT bool ignore_checksum_failure;
+
+/* The longest text of a value, in bytes. A row with it still has room for others in the 1 GB that PostgreSQL gives a line of COPY. */
+enum { MAX_TEXT = 1000000000, LONGEST_ID = 11 };
+
+/* A set that was opened in an earlier call of a query, over a copy of its bytes. */
 typedef struct {
-    bitpacking_list list;
+    bitpacking_set set;
     struct varlena *value;
     bool constant;
-} kept_list;
+} kept_set;
 
-/* Fails with an error of the library that is about values, and not about bytes. */
-void refuse(ptrdiff_t number)
+/* A text of the library without the point at its end. */
+static char *text_of(ptrdiff_t number)
 {
-    int code = number == BITPACKING_LIST_TOO_LONG ? ERRCODE_PROGRAM_LIMIT_EXCEEDED : ERRCODE_INTERNAL_ERROR;
     const char *text = bitpacking_error_text(number);
 
-    ereport(ERROR, (errcode(code), errmsg("packed_list: %.*s", (int)strlen(text) - 1, text)));
+    return pnstrdup(text, strlen(text) - 1);
 }
 
-/* Fails with what is wrong with bytes, and in which block. Stored bytes were tested before: then the page is damaged. */
-static void pg_attribute_noreturn() refuse_bytes(const uint8_t *bytes, size_t len, ptrdiff_t number, bool stored)
+/* Fails with an error of the library that is about ids, and not about bytes. */
+void refuse(ptrdiff_t number)
 {
-    size_t block = BITPACKING_NOWHERE, position = BITPACKING_NOWHERE;
-    const char *text = bitpacking_error_text(number);
+    int code = number == BITPACKING_TOO_LONG ? ERRCODE_PROGRAM_LIMIT_EXCEEDED : ERRCODE_INTERNAL_ERROR;
 
-    bitpacking_list_fault(bytes, len, &block, &position);
+    ereport(ERROR, (errcode(code), errmsg("idset: %s", text_of(number))));
+}
+
+/* Fails with what is wrong with bytes. Stored bytes were tested before: then the page is damaged. */
+static void pg_attribute_noreturn() refuse_bytes(ptrdiff_t number, bool stored)
+{
     ereport(ERROR, (errcode(stored ? ERRCODE_DATA_CORRUPTED : ERRCODE_INVALID_BINARY_REPRESENTATION),
-                    errmsg("%s packed_list: %.*s", stored ? "damaged" : "invalid", (int)strlen(text) - 1, text),
-                    block == BITPACKING_NOWHERE ? 0 : errdetail("The fault is in block %zu, counted from 0.", block),
+                    errmsg("%s idset: %s", stored ? "damaged" : "invalid", text_of(number)),
                     stored ? errhint("Restore the row from a backup. Data checksums find damage that has no other sign.") : 0));
 }
 
-/* Opens bytes. Other kinds than the strictly sorted one are refused, since they may have a value twice. */
-static bitpacking_list opened_bytes(const uint8_t *bytes, size_t len, bool stored)
+/* Fails if the text of a set is too long for COPY, and so for pg_dump. It has two brackets, the digits of each id, and commas. */
+static void limit_text(const bitpacking_set *set)
 {
-    bitpacking_list list = BITPACKING_LIST_EMPTY;
-    ptrdiff_t fault = bitpacking_list_open(bytes, len, &list);
+    size_t len = bitpacking_set_len(set), size = 1 + 2 * len;
 
-    if (fault < 0)
-        refuse_bytes(bytes, len, fault, stored);
-    if (bitpacking_list_kind(&list) != BITPACKING_STRICTLY_SORTED)
-        ereport(ERROR, (errcode(stored ? ERRCODE_DATA_CORRUPTED : ERRCODE_INVALID_BINARY_REPRESENTATION),
-                        errmsg("%s packed_list: The list is not strictly sorted", stored ? "damaged" : "invalid"),
-                        stored ? 0 : errhint("Pack the values as a strictly sorted list, each value once.")));
-    return list;
+    if (len <= MAX_TEXT / LONGEST_ID)
+        return;
+    for (int64 power = 10; power <= UINT32_MAX; power *= 10)
+        size += len - rank_of(set, power);
+    if (size > MAX_TEXT)
+        ereport(ERROR, (errcode(ERRCODE_PROGRAM_LIMIT_EXCEEDED), errmsg("the text of the idset would have %zu bytes", size),
+                        errdetail("It may have %d, so that COPY and pg_dump can write it.", MAX_TEXT),
+                        errhint("Store the ids in several rows.")));
 }
 
-/* Opens a value of the type, whose header may be short. */
-bitpacking_list opened(struct varlena *value)
+/* Opens bytes, which tests all of them. */
+static bitpacking_set opened_bytes(const uint8_t *bytes, size_t len, bool stored)
 {
-    return opened_bytes((const uint8_t *)VARDATA_ANY(value), VARSIZE_ANY_EXHDR(value), true);
+    bitpacking_set set = BITPACKING_SET_EMPTY;
+    ptrdiff_t fault = bitpacking_set_open(bytes, len, &set);
+
+    if (fault < 0)
+        refuse_bytes(fault, stored);
+    return set;
+}
+
+static bitpacking_set opened_tested(struct varlena *value)
+{
+    bitpacking_set set = BITPACKING_SET_EMPTY;
+
+    bitpacking_set_open_tested((const uint8_t *)VARDATA_ANY(value), VARSIZE_ANY_EXHDR(value), &set);
+    return set;
+}
+
+/* Whether values need no further test: they were tested when they came in, and with data checksums PostgreSQL refuses a page that was
+ * damaged since. */
+static bool are_trusted(void) { return DataChecksumsEnabled() && !ignore_checksum_failure; }
+
+/* Opens a value of the type, whose header may be short. */
+bitpacking_set opened(struct varlena *value)
+{
+    return are_trusted() ? opened_tested(value) : opened_bytes((const uint8_t *)VARDATA_ANY(value), VARSIZE_ANY_EXHDR(value), true);
 }
 
 /* The node of an argument, if the call has one. An element of an array in `= ANY` has none. */
@@ -70,89 +101,89 @@ static Node *argument_node(FmgrInfo *call, int number)
     return number < list_length(nodes) ? list_nth(nodes, number) : NULL;
 }
 
-/* Opens an argument and keeps the list, and a copy of its bytes, for the next call. */
-static bitpacking_list opened_to_keep(FmgrInfo *call, struct varlena *value, bool constant)
+/* Opens an argument and keeps the set, and a copy of its bytes, for the next call. A call has at most two sets. */
+static bitpacking_set opened_to_keep(FmgrInfo *call, int number, struct varlena *value, bool constant)
 {
-    bitpacking_list list = opened(value);
-    kept_list *kept = call->fn_extra;
+    kept_set *kept;
+    struct varlena *before;
 
-    if (kept)
-        pfree(kept->value);
-    else
-        kept = MemoryContextAllocZero(call->fn_mcxt, sizeof *kept);
-    call->fn_extra = NULL;
-    kept->value = MemoryContextAlloc(call->fn_mcxt, VARSIZE_ANY(value));
-    memcpy(kept->value, value, VARSIZE_ANY(value));
-    kept->constant = constant;
-    bitpacking_list_open_tested((const uint8_t *)VARDATA_ANY(kept->value), VARSIZE_ANY_EXHDR(kept->value), &kept->list);
-    call->fn_extra = kept;
-    return list;
+    opened(value);
+    if (!call->fn_extra)
+        call->fn_extra = MemoryContextAllocZero(call->fn_mcxt, 2 * sizeof *kept);
+    kept = (kept_set *)call->fn_extra + number;
+    before = kept->value;
+    kept->value = NULL;
+    if (before)
+        pfree(before);
+    before = MemoryContextAlloc(call->fn_mcxt, VARSIZE_ANY(value));
+    memcpy(before, value, VARSIZE_ANY(value));
+    *kept = (kept_set){opened_tested(before), before, constant};
+    return kept->set;
 }
 
-/* Opens an argument. The list of a constant is opened once for all rows of a query. A parameter is compared with the one before, since a
+/* Opens an argument. The set of a constant is opened once for all rows of a query. A parameter is compared with the one before, since a
  * function may call with another. */
-bitpacking_list opened_argument(FunctionCallInfo fcinfo, int number)
+bitpacking_set opened_argument(FunctionCallInfo fcinfo, int number)
 {
     FmgrInfo *call = fcinfo->flinfo;
     Node *node = call ? argument_node(call, number) : NULL;
-    kept_list *kept = node ? call->fn_extra : NULL;
+    bool constant = node && IsA(node, Const), parameter = node && IsA(node, Param) && ((Param *)node)->paramkind == PARAM_EXTERN;
+    kept_set *kept = (constant || parameter) && call->fn_extra ? (kept_set *)call->fn_extra + number : NULL;
     struct varlena *value;
 
-    if (kept && kept->constant)
-        return kept->list;
+    if (kept && kept->value && kept->constant)
+        return kept->set;
     value = PG_GETARG_VARLENA_PP(number);
-    if (kept && VARSIZE_ANY(value) == VARSIZE_ANY(kept->value) && memcmp(value, kept->value, VARSIZE_ANY(value)) == 0)
-        return kept->list;
-    if (node && IsA(node, Const))
-        return opened_to_keep(call, value, true);
-    if (node && IsA(node, Param) && ((Param *)node)->paramkind == PARAM_EXTERN)
-        return opened_to_keep(call, value, false);
-    return opened(value);
+    if (kept && kept->value && VARSIZE_ANY(value) == VARSIZE_ANY(kept->value) && memcmp(value, kept->value, VARSIZE_ANY(value)) == 0)
+        return kept->set;
+    return constant || (parameter && !are_trusted()) ? opened_to_keep(call, number, value, constant) : opened(value);
 }
 
-/* Packs a set of values, which are strictly increasing. */
-struct varlena *packed(const uint32 *values, size_t len)
+/* Packs a set of ids, which increase. */
+struct varlena *packed(const uint32 *ids, size_t len)
 {
-    size_t room = BITPACKING_LIST_ROOM(len);
+    size_t room = BITPACKING_SET_ROOM(len);
     struct varlena *value = palloc_extended(VARHDRSZ + room, MCXT_ALLOC_HUGE);
-    uint8_t *bytes = (uint8_t *)VARDATA(value);
-    ptrdiff_t size = bitpacking_4x_list_pack(BITPACKING_LIST_NEWEST, BITPACKING_STRICTLY_SORTED, values, len, bytes, room, NULL);
+    ptrdiff_t size = bitpacking_set_pack(ids, len, (uint8_t *)VARDATA(value), room, NULL);
+    bitpacking_set set = BITPACKING_SET_EMPTY;
 
     if (size < 0)
         refuse(size);
-    if (!AllocSizeIsValid(VARHDRSZ + (size_t)size))
-        ereport(ERROR, (errcode(ERRCODE_PROGRAM_LIMIT_EXCEEDED),
-                        errmsg("packed_list: %zu values take %td bytes, which is too long", len, size)));
+    bitpacking_set_open_tested((const uint8_t *)VARDATA(value), (size_t)size, &set);
+    limit_text(&set);
     SET_VARSIZE(value, VARHDRSZ + size);
     return repalloc(value, VARHDRSZ + (size_t)size);
 }
 
-PG_FUNCTION_INFO_V1(packed_list_recv);
-Datum packed_list_recv(PG_FUNCTION_ARGS)
+PG_FUNCTION_INFO_V1(idset_recv);
+Datum idset_recv(PG_FUNCTION_ARGS)
 {
     StringInfo from = (StringInfo)PG_GETARG_POINTER(0);
     int len = from->len - from->cursor;
     struct varlena *value = palloc(VARHDRSZ + (size_t)len);
+    bitpacking_set set;
 
     SET_VARSIZE(value, VARHDRSZ + len);
     pq_copymsgbytes(from, VARDATA(value), len);
-    opened_bytes((const uint8_t *)VARDATA(value), (size_t)len, false);
+    set = opened_bytes((const uint8_t *)VARDATA(value), (size_t)len, false);
+    limit_text(&set);
     PG_RETURN_POINTER(value);
 }
 
 /* The bytes, once they are tested: the cast from bytea. */
-PG_FUNCTION_INFO_V1(packed_list_of_bytea);
-Datum packed_list_of_bytea(PG_FUNCTION_ARGS)
+PG_FUNCTION_INFO_V1(idset_of_bytea);
+Datum idset_of_bytea(PG_FUNCTION_ARGS)
 {
     struct varlena *value = PG_GETARG_VARLENA_PP(0);
+    bitpacking_set set = opened_bytes((const uint8_t *)VARDATA_ANY(value), VARSIZE_ANY_EXHDR(value), false);
 
-    opened_bytes((const uint8_t *)VARDATA_ANY(value), VARSIZE_ANY_EXHDR(value), false);
+    limit_text(&set);
     PG_RETURN_POINTER(value);
 }
 
 /* The bytes: the cast to bytea, and what is sent in the binary form. */
-PG_FUNCTION_INFO_V1(packed_list_send);
-Datum packed_list_send(PG_FUNCTION_ARGS)
+PG_FUNCTION_INFO_V1(idset_send);
+Datum idset_send(PG_FUNCTION_ARGS)
 {
     struct varlena *value = PG_GETARG_VARLENA_PP(0);
 

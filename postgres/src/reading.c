@@ -1,103 +1,154 @@
-/* What a list answers: its values, by value, by position and one after the other. */
-#include "packed_list.h"
+/* What a set answers: its ids, by number, by position and one after the other. */
+#include "idset.h"
 
 #include "funcapi.h"
 #include "miscadmin.h"
 #include "nodes/nodeFuncs.h"
 #include "nodes/supportnodes.h"
 
-PG_FUNCTION_INFO_V1(packed_list_cardinality);
-Datum packed_list_cardinality(PG_FUNCTION_ARGS)
+PG_FUNCTION_INFO_V1(idset_cardinality);
+Datum idset_cardinality(PG_FUNCTION_ARGS)
 {
-    bitpacking_list list = opened(PG_GETARG_VARLENA_PP(0));
+    bitpacking_set set = opened(PG_GETARG_VARLENA_PP(0));
 
-    PG_RETURN_INT64((int64)bitpacking_list_len(&list));
+    PG_RETURN_INT64((int64)bitpacking_set_len(&set));
 }
 
-static bool contains(const bitpacking_list *list, int64 number)
+static bool contains(const bitpacking_set *set, int64 number)
 {
-    size_t position;
-    uint32 value;
-
-    return number >= 0 && number <= UINT32_MAX && bitpacking_list_seek(list, (uint32)number, &position, &value) == 1 &&
-           value == (uint32)number;
+    return number >= 0 && number <= UINT32_MAX && bitpacking_set_contains(set, (uint32)number) == 1;
 }
 
-PG_FUNCTION_INFO_V1(packed_list_contains);
-Datum packed_list_contains(PG_FUNCTION_ARGS)
+PG_FUNCTION_INFO_V1(idset_contains);
+Datum idset_contains(PG_FUNCTION_ARGS)
 {
-    bitpacking_list list = opened_argument(fcinfo, 0);
+    bitpacking_set set = opened_argument(fcinfo, 0);
 
-    PG_RETURN_BOOL(contains(&list, PG_GETARG_INT64(1)));
+    PG_RETURN_BOOL(contains(&set, PG_GETARG_INT64(1)));
 }
 
-PG_FUNCTION_INFO_V1(packed_list_is_in);
-Datum packed_list_is_in(PG_FUNCTION_ARGS)
+PG_FUNCTION_INFO_V1(idset_is_in);
+Datum idset_is_in(PG_FUNCTION_ARGS)
 {
-    bitpacking_list list = opened_argument(fcinfo, 1);
+    bitpacking_set set = opened_argument(fcinfo, 1);
 
-    PG_RETURN_BOOL(contains(&list, PG_GETARG_INT64(0)));
+    PG_RETURN_BOOL(contains(&set, PG_GETARG_INT64(0)));
 }
 
-/* The first value that is at least a number, or null. */
-PG_FUNCTION_INFO_V1(packed_list_seek);
-Datum packed_list_seek(PG_FUNCTION_ARGS)
+/* How many ids are below a number. */
+PG_FUNCTION_INFO_V1(idset_rank);
+Datum idset_rank(PG_FUNCTION_ARGS)
 {
-    bitpacking_list list = opened_argument(fcinfo, 0);
+    bitpacking_set set = opened_argument(fcinfo, 0);
+
+    PG_RETURN_INT64((int64)rank_of(&set, PG_GETARG_INT64(1)));
+}
+
+/* The first id that is at least a number, or null. */
+PG_FUNCTION_INFO_V1(idset_seek);
+Datum idset_seek(PG_FUNCTION_ARGS)
+{
+    bitpacking_set set = opened_argument(fcinfo, 0);
     int64 number = PG_GETARG_INT64(1);
-    uint32 target = number < 0 ? 0 : (uint32)number, value;
     size_t position;
+    uint32 id;
 
-    if (number > UINT32_MAX || bitpacking_list_seek(&list, target, &position, &value) != 1)
+    if (number > UINT32_MAX || bitpacking_set_seek(&set, (uint32)Max(number, 0), &position, &id) != 1)
         PG_RETURN_NULL();
-    PG_RETURN_INT64(value);
+    PG_RETURN_INT64(id);
 }
 
-/* The value at a position, counted from 1 as in an array, or null. */
-PG_FUNCTION_INFO_V1(packed_list_get);
-Datum packed_list_get(PG_FUNCTION_ARGS)
+/* The id at a position, counted from 0, or null. */
+static Datum id_at(FunctionCallInfo fcinfo, const bitpacking_set *set, size_t position)
 {
-    bitpacking_list list = opened_argument(fcinfo, 0);
+    uint32 id;
+
+    if (bitpacking_set_get(set, position, &id) != 1)
+        PG_RETURN_NULL();
+    PG_RETURN_INT64(id);
+}
+
+/* The id at a position, counted from 1 as in an array, or null. */
+PG_FUNCTION_INFO_V1(idset_get);
+Datum idset_get(PG_FUNCTION_ARGS)
+{
+    bitpacking_set set = opened_argument(fcinfo, 0);
     int64 position = PG_GETARG_INT64(1);
-    uint32 value;
 
-    if (position < 1 || bitpacking_list_get(&list, (size_t)position - 1, &value) != 1)
+    if (position < 1)
         PG_RETURN_NULL();
-    PG_RETURN_INT64(value);
+    return id_at(fcinfo, &set, (size_t)position - 1);
 }
 
-PG_FUNCTION_INFO_V1(packed_list_count_between);
-Datum packed_list_count_between(PG_FUNCTION_ARGS)
+PG_FUNCTION_INFO_V1(idset_min);
+Datum idset_min(PG_FUNCTION_ARGS)
 {
-    bitpacking_list list = opened_argument(fcinfo, 0);
-    uint32 least, greatest;
+    bitpacking_set set = opened_argument(fcinfo, 0);
 
-    if (!as_range(PG_GETARG_INT64(1), PG_GETARG_INT64(2), &least, &greatest))
-        PG_RETURN_INT64(0);
-    PG_RETURN_INT64((int64)bitpacking_list_count_between(&list, least, greatest));
+    return id_at(fcinfo, &set, 0);
 }
 
-/* The values from one number to another, as a list. */
-PG_FUNCTION_INFO_V1(packed_list_between);
-Datum packed_list_between(PG_FUNCTION_ARGS)
+PG_FUNCTION_INFO_V1(idset_max);
+Datum idset_max(PG_FUNCTION_ARGS)
 {
-    bitpacking_list list = opened_argument(fcinfo, 0);
-    uint32 least, greatest, first, *values;
-    size_t from, len;
+    bitpacking_set set = opened_argument(fcinfo, 0);
 
-    if (!as_range(PG_GETARG_INT64(1), PG_GETARG_INT64(2), &least, &greatest) ||
-        (len = bitpacking_list_count_between(&list, least, greatest)) == 0)
-        PG_RETURN_POINTER(packed(NULL, 0));
-    values = new_values(len);
-    bitpacking_list_seek(&list, least, &from, &first);
-    PG_RETURN_POINTER(packed(values, bitpacking_list_range(&list, from, values, len)));
+    return id_at(fcinfo, &set, bitpacking_set_len(&set) - 1);
 }
 
-/* How far unnest has read, and the values at hand. */
+/* Of the ids from one number to another, both included: the position of the first, and how many they are. */
+static size_t between(FunctionCallInfo fcinfo, const bitpacking_set *set, size_t *from)
+{
+    int64 low = PG_GETARG_INT64(1), high = PG_GETARG_INT64(2);
+
+    *from = rank_of(set, low);
+    return low > high ? 0 : rank_of(set, Min(high, UINT32_MAX) + 1) - *from;
+}
+
+PG_FUNCTION_INFO_V1(idset_count_between);
+Datum idset_count_between(PG_FUNCTION_ARGS)
+{
+    bitpacking_set set = opened_argument(fcinfo, 0);
+    size_t from;
+
+    PG_RETURN_INT64((int64)between(fcinfo, &set, &from));
+}
+
+/* The ids at some positions, as a set. */
+static Datum part(const bitpacking_set *set, size_t from, size_t len)
+{
+    uint32 *ids = new_ids(len);
+    struct varlena *value = packed(ids, (size_t)bitpacking_set_range(set, from, ids, len));
+
+    pfree(ids);
+    PG_RETURN_POINTER(value);
+}
+
+/* The ids from one number to another, both included. */
+PG_FUNCTION_INFO_V1(idset_range);
+Datum idset_range(PG_FUNCTION_ARGS)
+{
+    bitpacking_set set = opened_argument(fcinfo, 0);
+    size_t from, len = between(fcinfo, &set, &from);
+
+    return part(&set, from, len);
+}
+
+/* The ids from one position to another, both included and counted from 1, as the slice of an array. */
+PG_FUNCTION_INFO_V1(idset_slice);
+Datum idset_slice(PG_FUNCTION_ARGS)
+{
+    bitpacking_set set = opened_argument(fcinfo, 0);
+    int64 first = Max(PG_GETARG_INT64(1), 1), last = Min(PG_GETARG_INT64(2), (int64)bitpacking_set_len(&set));
+
+    return first > last ? part(&set, 0, 0) : part(&set, (size_t)first - 1, (size_t)(last - first + 1));
+}
+
+/* How far unnest has read, and the ids at hand. */
 typedef struct {
-    bitpacking_list list;
+    bitpacking_set set;
     size_t from, index, count;
-    uint32 values[PIECE];
+    uint32 ids[PIECE];
 } reading;
 
 /* Starts unnest: a copy of the bytes stays for all calls. */
@@ -107,14 +158,14 @@ static void start_reading(FunctionCallInfo fcinfo)
     MemoryContext before = MemoryContextSwitchTo(calls->multi_call_memory_ctx);
     reading *it = palloc0(sizeof *it);
 
-    it->list = opened((struct varlena *)PG_DETOAST_DATUM_COPY(PG_GETARG_DATUM(0)));
+    it->set = opened((struct varlena *)PG_DETOAST_DATUM_COPY(PG_GETARG_DATUM(0)));
     calls->user_fctx = it;
     MemoryContextSwitchTo(before);
 }
 
-/* All values, a row each. It unpacks some blocks at a time. */
-PG_FUNCTION_INFO_V1(packed_list_unnest);
-Datum packed_list_unnest(PG_FUNCTION_ARGS)
+/* All ids, a row each. It unpacks a piece at a time. */
+PG_FUNCTION_INFO_V1(idset_unnest);
+Datum idset_unnest(PG_FUNCTION_ARGS)
 {
     FuncCallContext *calls;
     reading *it;
@@ -126,26 +177,26 @@ Datum packed_list_unnest(PG_FUNCTION_ARGS)
     if (it->index == it->count) {
         CHECK_FOR_INTERRUPTS();
         it->from += it->count;
-        it->count = bitpacking_list_range(&it->list, it->from, it->values, PIECE);
+        it->count = (size_t)bitpacking_set_range(&it->set, it->from, it->ids, PIECE);
         it->index = 0;
     }
     if (it->count == 0)
         SRF_RETURN_DONE(calls);
-    SRF_RETURN_NEXT(calls, Int64GetDatum(it->values[it->index++]));
+    SRF_RETURN_NEXT(calls, Int64GetDatum(it->ids[it->index++]));
 }
 
 /* Tells the planner how many rows unnest of a constant returns. */
-PG_FUNCTION_INFO_V1(packed_list_rows);
-Datum packed_list_rows(PG_FUNCTION_ARGS)
+PG_FUNCTION_INFO_V1(idset_rows);
+Datum idset_rows(PG_FUNCTION_ARGS)
 {
-    Node *asked = (Node *)PG_GETARG_POINTER(0), *list = NULL;
-    bitpacking_list view;
+    Node *asked = (Node *)PG_GETARG_POINTER(0), *set = NULL;
+    bitpacking_set view;
 
     if (IsA(asked, SupportRequestRows) && is_funcclause(((SupportRequestRows *)asked)->node))
-        list = linitial(((FuncExpr *)((SupportRequestRows *)asked)->node)->args);
-    if (!list || !IsA(list, Const) || ((Const *)list)->constisnull)
+        set = linitial(((FuncExpr *)((SupportRequestRows *)asked)->node)->args);
+    if (!set || !IsA(set, Const) || ((Const *)set)->constisnull)
         PG_RETURN_POINTER(NULL);
-    view = opened(PG_DETOAST_DATUM_PACKED(((Const *)list)->constvalue));
-    ((SupportRequestRows *)asked)->rows = (double)bitpacking_list_len(&view);
+    view = opened(PG_DETOAST_DATUM_PACKED(((Const *)set)->constvalue));
+    ((SupportRequestRows *)asked)->rows = (double)bitpacking_set_len(&view);
     PG_RETURN_POINTER(asked);
 }

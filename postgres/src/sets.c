@@ -1,105 +1,189 @@
-/* AND, OR and NOT of two lists, and what one list has of another. */
-#include "packed_list.h"
+/* What two sets have together: AND, OR, NOT and XOR as sets and as counts, and whether one is within the other. */
+#include "idset.h"
 
-typedef ptrdiff_t set_call(const bitpacking_list *, size_t, uint32_t *, size_t);
+typedef ptrdiff_t set_call(const bitpacking_set *, size_t, uint32_t *, size_t);
 
-/* The lists of the two arguments. */
+/* The sets of the two arguments. */
 typedef struct {
-    bitpacking_list views[2];
+    bitpacking_set sets[2];
     size_t len[2];
-} two_lists;
+} two_sets;
 
-static two_lists opened_two(FunctionCallInfo fcinfo)
+static two_sets both(bitpacking_set one, bitpacking_set other)
 {
-    two_lists it = {.views = {opened(PG_GETARG_VARLENA_PP(0)), opened(PG_GETARG_VARLENA_PP(1))}};
-
-    it.len[0] = bitpacking_list_len(&it.views[0]);
-    it.len[1] = bitpacking_list_len(&it.views[1]);
-    return it;
+    return (two_sets){{one, other}, {bitpacking_set_len(&one), bitpacking_set_len(&other)}};
 }
 
-/* The values that a call writes into so much room, packed. */
-static struct varlena *combined(const two_lists *it, set_call *call, size_t room)
+static two_sets opened_two(FunctionCallInfo fcinfo)
 {
-    uint32 *values = new_values(room);
-    ptrdiff_t len = call(it->views, 2, values, room);
+    bitpacking_set one = opened_argument(fcinfo, 0);
+
+    return both(one, opened_argument(fcinfo, 1));
+}
+
+/* The ids that a call writes into so much room, packed. */
+static Datum combined(const two_sets *it, set_call *call, size_t room)
+{
+    uint32 *ids = new_ids(room);
+    ptrdiff_t len = call(it->sets, 2, ids, room);
     struct varlena *value;
 
     if (len < 0)
         refuse(len);
-    value = packed(values, (size_t)len);
-    pfree(values);
-    return value;
+    value = packed(ids, (size_t)len);
+    pfree(ids);
+    PG_RETURN_POINTER(value);
 }
 
-PG_FUNCTION_INFO_V1(packed_list_and);
-Datum packed_list_and(PG_FUNCTION_ARGS)
+/* The library takes two sets for a XOR, and any number for other calls. */
+static ptrdiff_t xor_call(const bitpacking_set *sets, size_t count, uint32_t *ids, size_t room)
 {
-    two_lists it = opened_two(fcinfo);
-
-    PG_RETURN_POINTER(combined(&it, bitpacking_list_intersect, Min(it.len[0], it.len[1])));
+    Assert(count == 2);
+    return bitpacking_set_symmetric_difference(&sets[0], &sets[1], ids, room);
 }
 
-PG_FUNCTION_INFO_V1(packed_list_or);
-Datum packed_list_or(PG_FUNCTION_ARGS)
-{
-    two_lists it = opened_two(fcinfo);
+static Datum united(const two_sets *it) { return combined(it, bitpacking_set_unite, it->len[0] + it->len[1]); }
 
-    PG_RETURN_POINTER(combined(&it, bitpacking_list_unite, it.len[0] + it.len[1]));
+static Datum subtracted(const two_sets *it) { return combined(it, bitpacking_set_subtract, it->len[0]); }
+
+PG_FUNCTION_INFO_V1(idset_intersect);
+Datum idset_intersect(PG_FUNCTION_ARGS)
+{
+    two_sets it = opened_two(fcinfo);
+
+    return combined(&it, bitpacking_set_intersect, Min(it.len[0], it.len[1]));
 }
 
-PG_FUNCTION_INFO_V1(packed_list_minus);
-Datum packed_list_minus(PG_FUNCTION_ARGS)
+PG_FUNCTION_INFO_V1(idset_unite);
+Datum idset_unite(PG_FUNCTION_ARGS)
 {
-    two_lists it = opened_two(fcinfo);
+    two_sets it = opened_two(fcinfo);
 
-    PG_RETURN_POINTER(combined(&it, bitpacking_list_subtract, it.len[0]));
+    return united(&it);
 }
 
-/* How many values both lists have. Lists of at most 4 bits a value are sets of bits, which are counted as such. Others are faster found. */
-static size_t common(const two_lists *it)
+PG_FUNCTION_INFO_V1(idset_subtract);
+Datum idset_subtract(PG_FUNCTION_ARGS)
 {
-    int shorter = it->len[1] < it->len[0];
-    size_t room = it->len[shorter];
-    bool dense = it->views[shorter].bytes_len <= room / 2;
-    uint32 *values = new_values(dense ? 0 : room);
-    ptrdiff_t count = dense ? bitpacking_list_count_common(it->views, 2) : bitpacking_list_intersect(it->views, 2, values, room);
+    two_sets it = opened_two(fcinfo);
+
+    return subtracted(&it);
+}
+
+PG_FUNCTION_INFO_V1(idset_symmetric_difference);
+Datum idset_symmetric_difference(PG_FUNCTION_ARGS)
+{
+    two_sets it = opened_two(fcinfo);
+
+    return combined(&it, xor_call, it.len[0] + it.len[1]);
+}
+
+/* A set of one id, over bytes of the caller. */
+static bitpacking_set set_of(uint32 id, uint8_t bytes[BITPACKING_SET_ROOM(1)])
+{
+    bitpacking_set set = BITPACKING_SET_EMPTY;
+    ptrdiff_t size = bitpacking_set_pack(&id, 1, bytes, BITPACKING_SET_ROOM(1), NULL);
+
+    bitpacking_set_open_tested(bytes, (size_t)size, &set);
+    return set;
+}
+
+PG_FUNCTION_INFO_V1(idset_add);
+Datum idset_add(PG_FUNCTION_ARGS)
+{
+    uint8_t bytes[BITPACKING_SET_ROOM(1)];
+    two_sets it = both(opened_argument(fcinfo, 0), set_of(as_id(PG_GETARG_INT64(1)), bytes));
+
+    return united(&it);
+}
+
+/* The set without a number. No set has a number that is out of range. */
+PG_FUNCTION_INFO_V1(idset_remove);
+Datum idset_remove(PG_FUNCTION_ARGS)
+{
+    int64 number = PG_GETARG_INT64(1);
+    uint8_t bytes[BITPACKING_SET_ROOM(1)];
+    two_sets it;
+
+    if (number < 0 || number > UINT32_MAX)
+        PG_RETURN_DATUM(PG_GETARG_DATUM(0));
+    it = both(opened_argument(fcinfo, 0), set_of((uint32)number, bytes));
+    return subtracted(&it);
+}
+
+/* How many ids both sets have. */
+static size_t common(const two_sets *it)
+{
+    ptrdiff_t count = bitpacking_set_count_common(it->sets, 2);
 
     if (count < 0)
         refuse(count);
-    pfree(values);
     return (size_t)count;
 }
 
-PG_FUNCTION_INFO_V1(packed_list_count_common);
-Datum packed_list_count_common(PG_FUNCTION_ARGS)
+PG_FUNCTION_INFO_V1(idset_intersect_len);
+Datum idset_intersect_len(PG_FUNCTION_ARGS)
 {
-    two_lists it = opened_two(fcinfo);
+    two_sets it = opened_two(fcinfo);
 
     PG_RETURN_INT64((int64)common(&it));
 }
 
-PG_FUNCTION_INFO_V1(packed_list_overlaps);
-Datum packed_list_overlaps(PG_FUNCTION_ARGS)
+PG_FUNCTION_INFO_V1(idset_unite_len);
+Datum idset_unite_len(PG_FUNCTION_ARGS)
 {
-    two_lists it = opened_two(fcinfo);
+    two_sets it = opened_two(fcinfo);
 
-    PG_RETURN_BOOL(common(&it) > 0);
+    PG_RETURN_INT64((int64)(it.len[0] + it.len[1] - common(&it)));
 }
 
-/* Whether a list has all values of the other. */
-PG_FUNCTION_INFO_V1(packed_list_contains_all);
-Datum packed_list_contains_all(PG_FUNCTION_ARGS)
+PG_FUNCTION_INFO_V1(idset_subtract_len);
+Datum idset_subtract_len(PG_FUNCTION_ARGS)
 {
-    two_lists it = opened_two(fcinfo);
+    two_sets it = opened_two(fcinfo);
 
-    PG_RETURN_BOOL(it.len[1] <= it.len[0] && common(&it) == it.len[1]);
+    PG_RETURN_INT64((int64)(it.len[0] - common(&it)));
 }
 
-PG_FUNCTION_INFO_V1(packed_list_contained);
-Datum packed_list_contained(PG_FUNCTION_ARGS)
+PG_FUNCTION_INFO_V1(idset_symmetric_difference_len);
+Datum idset_symmetric_difference_len(PG_FUNCTION_ARGS)
 {
-    two_lists it = opened_two(fcinfo);
+    two_sets it = opened_two(fcinfo);
 
-    PG_RETURN_BOOL(it.len[0] <= it.len[1] && common(&it) == it.len[0]);
+    PG_RETURN_INT64((int64)(it.len[0] + it.len[1] - 2 * common(&it)));
+}
+
+/* How many ids both have, of those that any has; 1 for two empty sets, which are equal. */
+PG_FUNCTION_INFO_V1(idset_jaccard);
+Datum idset_jaccard(PG_FUNCTION_ARGS)
+{
+    two_sets it = opened_two(fcinfo);
+    size_t shared = common(&it), any = it.len[0] + it.len[1] - shared;
+
+    PG_RETURN_FLOAT8(any ? (float8)shared / (float8)any : 1.0);
+}
+
+PG_FUNCTION_INFO_V1(idset_overlaps);
+Datum idset_overlaps(PG_FUNCTION_ARGS)
+{
+    two_sets it = opened_two(fcinfo);
+
+    PG_RETURN_BOOL(bitpacking_set_is_disjoint(&it.sets[0], &it.sets[1]) == 0);
+}
+
+/* Whether a set has all ids of the other. */
+PG_FUNCTION_INFO_V1(idset_contains_all);
+Datum idset_contains_all(PG_FUNCTION_ARGS)
+{
+    two_sets it = opened_two(fcinfo);
+
+    PG_RETURN_BOOL(bitpacking_set_is_subset(&it.sets[1], &it.sets[0]) == 1);
+}
+
+PG_FUNCTION_INFO_V1(idset_contained);
+Datum idset_contained(PG_FUNCTION_ARGS)
+{
+    two_sets it = opened_two(fcinfo);
+
+    PG_RETURN_BOOL(bitpacking_set_is_subset(&it.sets[0], &it.sets[1]) == 1);
 }

@@ -1,5 +1,5 @@
-/* The text of a list, as the text of an array: {7,9,10,300}. */
-#include "packed_list.h"
+/* The text of a set, as the text of an array: {7,9,10,300}. */
+#include "idset.h"
 
 #include "lib/stringinfo.h"
 #include "miscadmin.h"
@@ -8,7 +8,7 @@
 
 static void pg_attribute_noreturn() refuse_text(const char *text, const char *why)
 {
-    ereport(ERROR, (errcode(ERRCODE_INVALID_TEXT_REPRESENTATION), errmsg("invalid input syntax for type packed_list: \"%s\"", text),
+    ereport(ERROR, (errcode(ERRCODE_INVALID_TEXT_REPRESENTATION), errmsg("invalid input syntax for type idset: \"%s\"", text),
                     errdetail("%s", why)));
 }
 
@@ -19,8 +19,8 @@ static const char *after_spaces(const char *at)
     return at;
 }
 
-/* Reads a number, and returns what is after it. */
-static const char *read_value(const char *at, const char *text, uint32 *value)
+/* Reads an id, and returns what is after it. */
+static const char *read_id(const char *at, const char *text, uint32 *id)
 {
     const char *start = at = after_spaces(at);
     bool negative = *at == '-';
@@ -32,18 +32,18 @@ static const char *read_value(const char *at, const char *text, uint32 *value)
         refuse_text(text, "A number is missing.");
     if (number > UINT32_MAX || (negative && number > 0))
         ereport(ERROR, (errcode(ERRCODE_NUMERIC_VALUE_OUT_OF_RANGE),
-                        errmsg("value \"%.*s\" is out of range for packed_list", (int)(at - start < 40 ? at - start : 40), start),
-                        errdetail("The values of a packed_list are from 0 to 4294967295.")));
-    *value = (uint32)number;
+                        errmsg("value \"%.*s\" is out of range for idset", (int)(at - start < 40 ? at - start : 40), start),
+                        errdetail("The ids of an idset are from 0 to 4294967295.")));
+    *id = (uint32)number;
     return after_spaces(at);
 }
 
-/* Takes numbers in any order, also one twice. */
-PG_FUNCTION_INFO_V1(packed_list_in);
-Datum packed_list_in(PG_FUNCTION_ARGS)
+/* Takes ids in any order, also one twice. */
+PG_FUNCTION_INFO_V1(idset_in);
+Datum idset_in(PG_FUNCTION_ARGS)
 {
     const char *text = PG_GETARG_CSTRING(0), *at = after_spaces(text);
-    uint32 *values = new_values(strlen(text) / 2);
+    uint32 *ids = new_ids(strlen(text) / 2);
     size_t len = 0;
 
     if (*at != '{')
@@ -51,7 +51,7 @@ Datum packed_list_in(PG_FUNCTION_ARGS)
     at = after_spaces(at + 1);
     for (bool more = *at != '}'; more; len++) {
         CHECK_FOR_INTERRUPTS();
-        at = read_value(at, text, &values[len]);
+        at = read_id(at, text, &ids[len]);
         if (*at != ',' && *at != '}')
             refuse_text(text, "After a number there has to be \",\" or \"}\".");
         more = *at == ',';
@@ -59,26 +59,26 @@ Datum packed_list_in(PG_FUNCTION_ARGS)
     }
     if (*after_spaces(at + 1))
         refuse_text(text, "There is something after \"}\".");
-    PG_RETURN_POINTER(packed(values, made_set(values, len)));
+    PG_RETURN_POINTER(packed(ids, made_set(ids, len)));
 }
 
-PG_FUNCTION_INFO_V1(packed_list_out);
-Datum packed_list_out(PG_FUNCTION_ARGS)
+PG_FUNCTION_INFO_V1(idset_out);
+Datum idset_out(PG_FUNCTION_ARGS)
 {
-    bitpacking_list list = opened(PG_GETARG_VARLENA_PP(0));
-    uint32 values[PIECE];
+    bitpacking_set set = opened(PG_GETARG_VARLENA_PP(0));
+    uint32 ids[PIECE];
     size_t from, count, i;
     StringInfoData text;
 
     initStringInfo(&text);
     appendStringInfoChar(&text, '{');
-    for (from = 0; (count = bitpacking_list_range(&list, from, values, PIECE)) > 0; from += count) {
+    for (from = 0; (count = (size_t)bitpacking_set_range(&set, from, ids, PIECE)) > 0; from += count) {
         CHECK_FOR_INTERRUPTS();
         enlargeStringInfo(&text, (int)(11 * count));
         for (i = 0; i < count; i++) {
             if (from + i > 0)
                 text.data[text.len++] = ',';
-            text.len += pg_ultoa_n(values[i], text.data + text.len);
+            text.len += pg_ultoa_n(ids[i], text.data + text.len);
         }
     }
     appendStringInfoChar(&text, '}');

@@ -1,10 +1,10 @@
-/* Arrays of values, and the numbers of PostgreSQL, which have a sign. */
-#include "packed_list.h"
+/* Arrays of ids, and the numbers of PostgreSQL, which have a sign. */
+#include "idset.h"
 
 #include "miscadmin.h"
 #include "utils/memutils.h"
 
-#define ST_SORT sort_values
+#define ST_SORT sort_ids
 #define ST_ELEMENT_TYPE uint32
 #define ST_COMPARE(a, b) (*(a) < *(b) ? -1 : *(a) > *(b))
 #define ST_SCOPE static
@@ -12,55 +12,75 @@
 #define ST_DEFINE
 #include "lib/sort_template.h"
 
-/* Room for values, which may take more than PostgreSQL's usual limit of 1 GB. */
-uint32 *new_values(size_t len)
+/* Room for ids, which may take more than PostgreSQL's usual limit of 1 GB. */
+uint32 *new_ids(size_t len)
 {
     return palloc_extended(sizeof(uint32) * (len ? len : 1), MCXT_ALLOC_HUGE);
 }
 
-uint32 *unpacked(const bitpacking_list *list)
+uint32 *unpacked(const bitpacking_set *set)
 {
-    size_t len = bitpacking_list_len(list);
-    uint32 *values = new_values(len);
-    ptrdiff_t count = bitpacking_list_unpack(list, values, len);
+    size_t len = bitpacking_set_len(set);
+    uint32 *ids = new_ids(len);
+    ptrdiff_t count = bitpacking_set_unpack(set, ids, len);
 
     if (count < 0)
         refuse(count);
-    return values;
+    return ids;
 }
 
-/* Sorts values and leaves each once. Returns how many there are then. */
-size_t made_set(uint32 *values, size_t len)
+static bool increases(const uint32 *ids, size_t len)
 {
-    size_t count = len > 0, i;
+    size_t i;
 
-    for (i = 1; i < len && values[i - 1] < values[i]; i++)
+    for (i = 1; i < len && ids[i - 1] < ids[i]; i++)
         ;
-    if (i >= len)
+    return i >= len;
+}
+
+/* Sorts ids and leaves each once. Returns how many there are then. */
+size_t made_set(uint32 *ids, size_t len)
+{
+    size_t count = 1, i;
+
+    if (increases(ids, len))
         return len;
-    sort_values(values, len);
+    sort_ids(ids, len);
     for (i = 1; i < len; i++)
-        if (values[i] != values[count - 1])
-            values[count++] = values[i];
+        if (ids[i] != ids[count - 1])
+            ids[count++] = ids[i];
     return count;
 }
 
-/* A number that is to be a value of a list. */
-uint32 as_value(int64 number)
+/* Sorts ids and leaves once each that is there an odd number of times. Returns how many there are then. */
+size_t kept_odd(uint32 *ids, size_t len)
+{
+    size_t count = 0, i;
+
+    if (increases(ids, len))
+        return len;
+    sort_ids(ids, len);
+    for (i = 0; i < len; i++)
+        if (i + 1 < len && ids[i] == ids[i + 1])
+            i++;
+        else
+            ids[count++] = ids[i];
+    return count;
+}
+
+/* A number that is to be an id of a set. */
+uint32 as_id(int64 number)
 {
     if (number < 0 || number > UINT32_MAX)
-        ereport(ERROR, (errcode(ERRCODE_NUMERIC_VALUE_OUT_OF_RANGE),
-                        errmsg("value %lld is out of range for packed_list", (long long)number),
-                        errdetail("The values of a packed_list are from 0 to 4294967295.")));
+        ereport(ERROR, (errcode(ERRCODE_NUMERIC_VALUE_OUT_OF_RANGE), errmsg("value %lld is out of range for idset", (long long)number),
+                        errdetail("The ids of an idset are from 0 to 4294967295.")));
     return (uint32)number;
 }
 
-/* Cuts a range of numbers to those that a list can have. Returns whether there are any. */
-bool as_range(int64 low, int64 high, uint32 *least, uint32 *greatest)
+/* How many ids of a set are below a number. */
+size_t rank_of(const bitpacking_set *set, int64 number)
 {
-    if (high < 0 || low > UINT32_MAX || low > high)
-        return false;
-    *least = low < 0 ? 0 : (uint32)low;
-    *greatest = high > UINT32_MAX ? UINT32_MAX : (uint32)high;
-    return true;
+    if (number > UINT32_MAX)
+        return bitpacking_set_len(set);
+    return number <= 0 ? 0 : bitpacking_set_rank(set, (uint32)number);
 }

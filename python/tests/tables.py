@@ -13,19 +13,20 @@ def rows(name):
 
 
 def data(text):
-    return b"" if text == "-" else bytes.fromhex(text)
+    """Bytes: `{00*16}` is a byte 16 times."""
+    return b"" if text == "-" else bytes.fromhex(re.sub(r"\{(\w+)\*(\d+)\}", lambda it: it[1] * int(it[2]), text))
 
 
 def numbers(text):
-    return [] if text == "-" else [int(it) for it in text.split(",")]
+    """Integers: `5-9` is 5 to 9, and `0-8/2` is 0 to 8 in steps of 2."""
+    found = []
+    for part in text.split(",") if text != "-" else ():
+        first, last, step = re.fullmatch(r"(\d+)(?:-(\d+))?(?:/(\d+))?", part).groups()
+        found.extend(range(int(first), int(last or first) + 1, int(step or 1)))
+    return found
 
 
 def fault(written):
-    """The name of a fault in the C header, and its numbers: `BadWidth(1, 33)` is LIST_BAD_WIDTH with 1 and 33."""
+    """The name of a fault, and its numbers: `BadWidth(1, 33)` is BadWidth with 1 and 33."""
     name, _, more = written.partition("(")
-    return "LIST" + re.sub("[A-Z]", lambda it: f"_{it[0]}", name).upper(), [int(it) for it in re.findall(r"\d+", more)]
-
-
-def version_of(text):
-    """The version whose faults a reader of versions 2 to 4 answers, by byte 0."""
-    return 2 if not text or text[0] < 16 else 4 if text[0] < 64 else 3
+    return name, [int(it) for it in re.findall(r"\d+", more)]

@@ -3,16 +3,23 @@
 import fimulowen
 import numpy as np
 import pytest
-from fimulowen import PackedListError, chain
+from fimulowen import Error, chain
 from hypothesis import given
 from hypothesis import strategies as st
 
-from test_lists import KINDS, LANES, arrays
+from test_id_set import RANDOM, arrays
+
+LANES, KINDS = (1, 4, 8), ("plain", "sorted", "strict")
 
 
-@given(arrays(most=3000), st.sampled_from(LANES), st.sampled_from([None, 0, 5, 2**32 - 1]))
-def test_back(array, lanes, initial):
-    kind, values = array
+def values_of(kind, ids):
+    """Values of a kind: some again, or in any order."""
+    return {"strict": ids, "sorted": np.sort(np.concatenate([ids, ids[::2]])), "plain": RANDOM.permutation(ids)}[kind]
+
+
+@given(arrays(), st.sampled_from(KINDS), st.sampled_from(LANES), st.sampled_from([None, 0, 5, 2**32 - 1]))
+def test_back(ids, kind, lanes, initial):
+    values = values_of(kind, ids)
     values = values[: len(values) // chain.BLOCK_LEN[lanes] * chain.BLOCK_LEN[lanes]]
     given_initial = None if kind == "plain" else initial
     widths, data = chain.pack(values, kind=kind, initial=given_initial, lanes=lanes)
@@ -38,15 +45,15 @@ def test_by_hand():
 @pytest.mark.parametrize("kind", KINDS)
 def test_refused(kind):
     for count in (1, 127, 129):
-        with pytest.raises(PackedListError) as raised:
+        with pytest.raises(Error) as raised:
             chain.pack(range(count), kind=kind)
-        assert raised.value.fault == "BAD_LENGTH"
-    with pytest.raises(PackedListError) as raised:
+        assert raised.value.fault == "BadLength"
+    with pytest.raises(Error) as raised:
         chain.unpack(b"\x20\x21", bytes(2000), kind=kind)
-    assert raised.value.fault == "BAD_WIDTH"
-    with pytest.raises(PackedListError) as raised:
+    assert raised.value.fault == "BadWidth"
+    with pytest.raises(Error) as raised:
         chain.unpack(b"\x01", bytes(15), kind=kind)
-    assert raised.value.fault == "SHORT"
+    assert raised.value.fault == "Short"
     for lanes in (0, 2, 16):
         with pytest.raises(ValueError):
             chain.pack([], kind=kind, lanes=lanes)

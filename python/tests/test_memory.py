@@ -1,12 +1,13 @@
 """Memory stays the same over rounds of calls and errors, and no object is left over."""
 
+import copy
 import gc
 import pickle
 import sys
 
 import fimulowen
 import numpy as np
-from fimulowen import PackedList, PackedListError, chain
+from fimulowen import Error, IdSet, Query, chain
 
 
 def resident():
@@ -18,81 +19,112 @@ def resident():
 def refused(call):
     try:
         call()
-    except (PackedListError, IndexError, TypeError, ValueError, OverflowError, AttributeError):
+    except (Error, IndexError, TypeError, ValueError, OverflowError, AttributeError):
         return
     raise AssertionError("it was not refused")
 
 
-def one_round(values, text, bounds):
-    packed, other = fimulowen.pack(values), fimulowen.pack(values[::3], lanes=8)
-    plain, out = fimulowen.pack(values, "plain", version=3), np.empty(len(values), "i8")
-    packed.to_numpy(), packed.to_numpy(out), packed[3:900:7], packed[-1], list(other), values[5] in packed, values[5] in plain
-    packed.seek(500), packed.seek(1 << 40), packed.take([3, -1]), packed.between(5, 5000), packed.bounds(), plain.between(5, 5000)
-    packed & other, packed | other, packed - other, fimulowen.intersect(packed, other, other), fimulowen.unite_count(packed, other)
-    fimulowen.open_many(*fimulowen.pack_many(values, bounds)), PackedList(bytearray(text)), PackedList(packed.data) == packed, repr(packed)
-    pickle.loads(pickle.dumps(packed, 5)), packed.data.tobytes(), packed.nbytes, packed.kind, packed._repr_svg_()
-    chain.unpack(*chain.pack(values[:1024], kind="strict"), kind="strict")
-    column = fimulowen.pack_column(values.astype("i8") - 700, values % 7 == 0)
-    column.to_numpy(), column[3], column.between(-50, 900), column.take([5, 7]), fimulowen.Column(column.data)
-    builder = fimulowen.Builder()
-    builder.extend(values), builder.finish()
+def sets_round(ids, text, bounds):
+    """Each call of sets, also with an answer that is shorter than its room."""
+    packed, other, alone, out = IdSet(ids), IdSet(ids[::3]), IdSet(ids[1::2] + 1), np.empty(len(ids), "i8")
+    packed.unpack(), packed.unpack(out), packed.unpack(dtype="f8"), packed[3:900:7], packed[-1], list(other), ids[5] in packed
+    packed.seek(500), packed.seek(1 << 40), packed.rank(70), packed.range(50, 9000), packed.min(), packed.max(), len(packed)
+    packed.gather([3, -1]), packed.contains(ids), packed.contains([5, -1]), packed.append(ids + ids[-1] + 1), "a" in packed
+    packed & other, packed | alone, packed - other, packed ^ alone, packed & [5, 7], ids - other, {5} | packed, packed & IdSet()
+    for call in (fimulowen.intersect, fimulowen.unite, fimulowen.subtract, fimulowen.symmetric_difference):
+        call(packed, other), call(packed, alone), call(alone, other, packed), call(packed)
+    for call in (fimulowen.intersect_len, fimulowen.unite_len, fimulowen.subtract_len, fimulowen.symmetric_difference_len):
+        call(packed, other), call(packed, alone), call(alone, other, packed), call(packed)
+    packed == other, packed == IdSet(ids), packed <= other, other < packed, packed >= other, packed > other, packed != other
+    packed.isdisjoint(alone), packed.issubset(ids), packed.issuperset([5]), hash(packed), repr(packed), np.asarray(packed)
+    IdSet.open_many(*IdSet.pack_many(ids, bounds)), IdSet.open(bytearray(text)), IdSet.open(packed.data), IdSet(packed)
+    pickle.loads(pickle.dumps(packed, 5)), pickle.loads(pickle.dumps(packed, 2)), copy.copy(packed), packed.data.tobytes(), packed.nbytes
+    packed.__arrow_c_array__(), packed.__arrow_c_schema__(), IdSet(ids[::-1]), IdSet(ids.tolist()), IdSet(iter(ids.tolist())), IdSet(
+        range(9)
+    )
+    query = (Query(packed) & other | alone) - packed ^ [5]
+    list(query), len(query), query.seek(70), query.unpack()
+    chain.unpack(*chain.pack(ids[:1024], kind="strict"), kind="strict")
+
+
+def refused_round(ids, text, bounds):
+    """Each error of a call of sets."""
+    packed, core = IdSet(ids), fimulowen._core
     for call in [
-        lambda: PackedList(text[:-1]),
-        lambda: PackedList(bytearray(text[:-1])),
-        lambda: PackedList(None),
-        lambda: fimulowen.pack([3, 2], "strict"),
-        lambda: fimulowen.pack([-1]),
-        lambda: fimulowen.pack([1], lanes=3),
+        lambda: IdSet.open(text[:-1]),
+        lambda: IdSet.open(bytearray(text[:-1])),
+        lambda: IdSet.open(None),
+        lambda: IdSet([-1]),
+        lambda: IdSet(["a"]),
+        lambda: IdSet(np.array([1, 1 << 40])),
+        lambda: IdSet(range(1 << 40)),
         lambda: packed[1 << 40],
         lambda: packed["a"],
-        lambda: packed.take([1 << 40]),
+        lambda: packed.gather([1 << 40]),
+        lambda: packed.gather([len(ids)]),
         lambda: packed.seek("a"),
-        lambda: plain.seek(1),
-        lambda: plain & packed,
+        lambda: packed.rank("a"),
+        lambda: packed.append([5]),
+        lambda: packed & 5,
+        lambda: packed < 5,
         lambda: fimulowen.intersect(packed, 5),
-        lambda: fimulowen.pack_many(values, [0, 5, 4]),
-        lambda: fimulowen.pack_many(values[::-1], bounds),
-        lambda: fimulowen.open_many(text, [0, 4]),
-        lambda: fimulowen.open_many(text, [0, len(text) + 1]),
-        lambda: packed.to_numpy(np.empty(3, "u4")),
-        lambda: packed.to_numpy(np.empty(len(values), "f4")),
-        lambda: chain.pack(values[:5]),
+        lambda: IdSet.pack_many(ids, [0, 5, 4]),
+        lambda: IdSet.pack_many(ids[::-1], bounds),
+        lambda: IdSet.open_many(text, [0, 4]),
+        lambda: IdSet.open_many(text, [0, len(text) + 1]),
+        lambda: IdSet.open_many(text, [0, len(text), len(text)]),
+        lambda: packed.unpack(np.empty(3, "u4")),
+        lambda: packed.unpack(np.empty(len(ids), "f4")),
+        lambda: chain.pack(ids[:5]),
         lambda: chain.unpack(b"\x21", b""),
-        lambda: fimulowen.Column(column.tobytes()[:-1]),
-        lambda: fimulowen._core.pack(np.arange(3), 0, 4, 4),
+        lambda: core.set_pack(IdSet, np.arange(3)),
+        lambda: core.set_pack(int, ids.copy()),
+        lambda: core.set_append(IdSet, packed, np.arange(3)),
+        lambda: core.set_combine(9, (packed,)),
+        lambda: core.set_combine(0, (packed, 5)),
+        lambda: core.set_count(0, (packed, 5)),
+        lambda: core.set_pack_many(ids.copy(), ids),
+        lambda: core.arrow_array(None, None, 0),
+        lambda: core.arrow_array(ids.copy(), 5, 0),
     ]:
         refused(call)
 
 
+ROUNDS = [sets_round, refused_round]
+
+
 def test_constant():
-    values = np.unique(np.random.default_rng(5).integers(0, 90_000, 9000)).astype("u4")
-    text, bounds = fimulowen.pack(values).tobytes(), np.arange(0, len(values), 500)
-    for _ in range(60):
-        one_round(values, text, bounds)
-    gc.collect()
-    before, blocks = resident(), sys.getallocatedblocks()
-    for _ in range(300):
-        one_round(values, text, bounds)
-    gc.collect()
-    assert sys.getallocatedblocks() - blocks < 300  # not one for each round
-    assert resident() - before < 1 << 20
+    ids = np.unique(np.random.default_rng(5).integers(0, 90_000, 9000)).astype("u4")
+    text, bounds = IdSet(ids).tobytes(), np.arange(0, len(ids), 500)
+
+    def grown():
+        """The blocks and the bytes that are more after some rounds than before them."""
+        blocks, before = sys.getallocatedblocks(), resident()
+        for _ in range(60):
+            for one in ROUNDS:
+                one(ids, text, bounds)
+        gc.collect()
+        return sys.getallocatedblocks() - blocks, resident() - before
+
+    # Caches of numpy grow for a while. What a call leaks grows in each round.
+    assert any(blocks < 50 and size < 60 * 1024 for blocks, size in (grown() for _ in range(16)))
 
 
 def test_references():
-    """A list gives its buffer back, and keeps no more of it than one."""
-    text = fimulowen.pack(range(1000)).tobytes()
+    """A set gives its buffer back, and keeps no more of it than one."""
+    text = IdSet(range(1000)).tobytes()
     before = sys.getrefcount(text)
-    packed = PackedList(text)
+    packed = IdSet.open(text)
     assert sys.getrefcount(text) > before
     view = packed.data
     del packed
-    assert sys.getrefcount(text) > before and PackedList(view)[-1] == 999
+    assert sys.getrefcount(text) > before and IdSet.open(view)[-1] == 999
     del view
     assert sys.getrefcount(text) == before
-    many = fimulowen.open_many(text, [0, len(text)])
+    many = IdSet.open_many(text, [0, len(text)])
     del many
     assert sys.getrefcount(text) == before
-    types = [sys.getrefcount(it) for it in (PackedList, fimulowen._core.List)]
+    types = [sys.getrefcount(it) for it in (IdSet, fimulowen._core.Set, fimulowen._core.Packed)]
     for _ in range(100):
-        PackedList(text), fimulowen.pack([1]).data
-    assert [sys.getrefcount(it) for it in (PackedList, fimulowen._core.List)] == types
+        IdSet.open(text), IdSet([1]).data
+    assert [sys.getrefcount(it) for it in (IdSet, fimulowen._core.Set, fimulowen._core.Packed)] == types

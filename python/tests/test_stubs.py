@@ -9,7 +9,7 @@ import pytest
 from fimulowen import _core
 
 STUB = ast.parse((pathlib.Path(fimulowen.__file__).parent / "_core.pyi").read_text(encoding="ascii"))
-LIST = next(it for it in STUB.body if isinstance(it, ast.ClassDef))
+CLASSES = {it.name: it for it in STUB.body if isinstance(it, ast.ClassDef)}
 
 
 def functions(body):
@@ -35,16 +35,23 @@ def test_functions():
         assert named(arguments) == real(getattr(_core, name)), name
 
 
-def test_list():
-    stubs = functions(LIST.body)
-    inherited = [*dir(object), "__module__"]
-    assert {it for it in dir(_core.List) if it not in inherited} == {it for it in stubs if it not in inherited}
+@pytest.mark.parametrize("name", CLASSES)
+def test_classes(name):
+    stubs, it = functions(CLASSES[name].body), getattr(_core, name)
+    inherited = {*dir(object), "__module__", *(dir(_core.Packed) if name != "Packed" else ())}
+    assert set(dir(it)) - inherited == set(stubs) - inherited
     for name, arguments in stubs.items():
-        found = getattr(_core.List, name)
+        found = getattr(it, name)
         if inspect.ismethoddescriptor(found) and not name.startswith("__"):
             before, after = named(arguments)
             assert real(found) == [before + after, []] and after in ([], ["self"]), name
-    assert str(inspect.signature(fimulowen.PackedList)) == "(data)"
+
+
+def test_signatures():
+    """Arguments are named as users are told."""
+    assert str(inspect.signature(fimulowen.IdSet)).startswith("(ids:") and list(inspect.signature(fimulowen.IdSet.open).parameters) == [
+        "data"
+    ]
 
 
 @pytest.mark.parametrize("name", fimulowen.__all__)

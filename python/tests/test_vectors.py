@@ -1,81 +1,52 @@
 """The package over the tables of vectors/."""
 
+import operator
+
 import fimulowen
 import numpy as np
 import pytest
-from fimulowen import PackedList, PackedListError, chain
+from fimulowen import Error, IdSet, chain
 
-from tables import data, fault, numbers, rows, version_of
+from tables import data, fault, numbers, rows
+
+# The number of a fault says which part, or which position.
+PARTS = ("BadWidth", "LooseWidth", "BadKey", "BadSum", "BadOffset", "BadBody", "LooseBody")
 
 
-@pytest.mark.parametrize("version", [2, 3, 4])
-def test_lists(version):
-    found = rows(f"lists{version}")
-    assert len(found) > 150
+def test_sets():
+    found = rows("id_sets")
+    assert len(found) > 300
     for row in found:
-        values, text = numbers(row["values"]), data(row["bytes"])
-        packed = fimulowen.pack(values, row["kind"], int(row["lanes"]), version=version)
-        assert packed.tobytes() == text
-        opened = PackedList(text)
-        assert (opened.kind, opened.lanes, opened.nbytes) == (row["kind"], int(row["lanes"]), len(text))
-        assert opened.to_numpy().tolist() == values == list(opened)
-        assert opened.version == packed.version == (version if version < 4 or len(values) >= 32 * opened.lanes else 3)
+        ids, text = numbers(row["ids"]), data(row["bytes"])
+        packed = IdSet(np.array(ids, "u4"))
+        assert packed.tobytes() == text and IdSet.open(text) == packed
+        assert packed.unpack().tolist() == ids and packed.nbytes == len(text)
 
 
-@pytest.mark.parametrize("version", [2, 3, 4])
-def test_refused_bytes(version):
-    """Each fault by its name, and the block or the position that the table says."""
+def test_refused_sets():
+    """Each fault by its name, and the part or the position that the table says."""
     tried = set()
-    for row in rows(f"refused{version}"):
+    for row in rows("refused_id_sets"):
         text, (name, more) = data(row["bytes"]), fault(row["fault"])
-        if version_of(text) != version or name == "LIST_WRONG_LANES" and more[0] in (1, 4, 8):
-            continue  # another reader's answer: this one reads every version and all lanes
-        with pytest.raises(PackedListError) as raised:
-            PackedList(text)
+        with pytest.raises(Error) as raised:
+            IdSet.open(text)
         error = raised.value
         assert error.fault == name, row
-        if name == "LIST_NOT_SORTED":
-            assert error.position == more[0], row
-        elif name in ("LIST_BAD_WIDTH", "LIST_LOOSE_WIDTH", "LIST_BAD_OFFSET", "LIST_BAD_LAST", "LIST_BAD_BITS"):
-            assert error.block == more[0], row
+        assert name != "NotSorted" or error.position == more[0], row
+        assert name not in PARTS or error.part == more[0], row
         assert error.position is not None or 0 <= error.byte <= len(text), row
         tried.add(name)
-    assert len(tried) >= 10
+    assert len(tried) >= 15
 
 
-def test_refused_values():
-    for row in rows("refused_values"):
-        for version in {int(row["version"]), 4 if row["version"] == "3" else 2}:
-            with pytest.raises(PackedListError) as raised:
-                fimulowen.pack(numbers(row["values"]), row["kind"], int(row["lanes"]), version=version)
-            assert (raised.value.fault, raised.value.position) == ("LIST_NOT_SORTED", int(row["position"]))
-
-
-@pytest.mark.parametrize("name", ["seek", "seek3", "seek4"])
-def test_searches(name):
-    for row in rows(name):
-        packed = PackedList(data(row["bytes"]))
-        for target, found in zip(numbers(row["targets"]), row["found"].split(",")):
-            wanted = None if found == "none" else tuple(int(it) for it in found.split(":"))
-            assert packed.seek(target) == wanted
-            assert (target in packed) == (wanted is not None and wanted[1] == target)
-
-
-@pytest.mark.parametrize("name, call, operator", [("intersect", fimulowen.intersect, "__and__"), ("union", fimulowen.unite, "__or__")])
-def test_two_lists(name, call, operator):
-    for row in rows(name):
-        one, other = PackedList(data(row["bytes"])), PackedList(data(row["other_bytes"]))
-        wanted = numbers(list(row.values())[-1])
-        assert call(one, other).tolist() == wanted == list(getattr(one, operator)(other)) == call(other, one).tolist()
-        count = fimulowen.intersect_count if name == "intersect" else fimulowen.unite_count
-        assert count(one, other) == len(wanted)
-
-
-def test_differences():
-    for row in rows("difference"):
-        one, other = PackedList(data(row["bytes"])), PackedList(data(row["other_bytes"]))
-        wanted = numbers(list(row.values())[-1])
-        assert fimulowen.subtract(one, other).tolist() == wanted == list(one - other)
+def test_two_sets():
+    calls = {"both": (operator.and_, fimulowen.intersect)}
+    for row in rows("combined_id_sets"):
+        one, other = (IdSet(np.array(numbers(row[name]), "u4")) for name in ("ids", "others"))
+        for name, (joined, call) in calls.items():
+            wanted = numbers(row[name])
+            assert list(joined(one, other)) == wanted == call(other, one).tolist()
+        assert fimulowen.intersect_len(one, other) == len(numbers(row["both"]))
 
 
 @pytest.mark.parametrize("name", ["blocks", "single", "loose"])

@@ -173,7 +173,7 @@ impl Column {
 
     /// The proved column, which borrows the bytes as long as this one is borrowed.
     #[inline(always)]
-    fn code(&self) -> columns::Column<'_> {
+    pub(crate) fn code(&self) -> columns::Column<'_> {
         self.code
     }
 

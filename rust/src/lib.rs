@@ -37,6 +37,7 @@ pub mod column;
 mod growing;
 mod index;
 mod packers;
+pub mod ranked;
 mod room;
 pub mod set;
 // Not each feature calls each operation.

@@ -198,7 +198,7 @@ impl IdSet {
 
     /// The proved set, which borrows the bytes as long as this one is borrowed.
     #[inline(always)]
-    fn code(&self) -> sets::IdSet<'_> {
+    pub(crate) fn code(&self) -> sets::IdSet<'_> {
         self.code
     }
 }

@@ -8,6 +8,7 @@ mod column_packing;
 mod column_reading;
 mod column_searching;
 mod packers;
+mod ranked;
 mod set_combining;
 mod set_iter;
 mod set_models;

@@ -1,10 +1,9 @@
 //! Long lists, whose values follow a rule and whose texts are known by their SHA-256.
 
 use bitpacking::bitpacking::BitPacker;
-use bitpacking::lists::list2::PackedList;
-use bitpacking::lists::{ListError, ListKind, Version, list};
+use bitpacking::lists::list2::{self, PackedList};
+use bitpacking::lists::{ListError, ListKind, list};
 
-use crate::lists::text;
 use crate::report::Report;
 use crate::rows::{Row, with_packer};
 
@@ -18,29 +17,20 @@ pub fn long(row: &Row, report: &mut Report) {
     report.check(&row.name, "values", read, Ok(values));
 }
 
-fn version(row: &Row) -> Option<Version> {
-    match row.text("version") {
-        "1" => None,
-        "2" => Some(Version::Two),
-        "3" => Some(Version::Three),
-        "4" => Some(Version::Four),
-        other => panic!("version {other}"),
-    }
-}
-
 fn written<P: BitPacker>(packer: &P, row: &Row, values: &[u32]) -> Result<Vec<u8>, ListError> {
-    let mut bytes = Vec::new();
-    match version(row) {
-        None => list::encode(packer, row.list_kind(), values, &mut bytes).map(|()| bytes),
-        Some(version) => text(version, packer, row.list_kind(), values),
+    let (mut bytes, kind) = (Vec::new(), row.list_kind());
+    match row.number("version") {
+        1 => list::encode(packer, kind, values, &mut bytes)?,
+        _ => list2::encode(packer, kind, values, &mut bytes)?,
     }
+    Ok(bytes)
 }
 
 fn read<P: BitPacker>(packer: P, row: &Row, bytes: &[u8]) -> Result<Vec<u32>, ListError> {
     let mut values = Vec::new();
-    match version(row) {
-        None => list::decode(&packer, bytes, &mut values).map(|_| ())?,
-        Some(_) => PackedList::open_any(packer, bytes)?.append_to(&mut values)?,
+    match row.number("version") {
+        1 => list::decode(&packer, bytes, &mut values).map(|_| ())?,
+        _ => PackedList::open(packer, bytes)?.append_to(&mut values)?,
     }
     Ok(values)
 }

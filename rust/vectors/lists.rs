@@ -1,10 +1,8 @@
-//! Lists: from values to bytes and back, what is refused, and from a version to a later one.
+//! Lists: from values to bytes and back, what is refused, from version 1 to 2, searches, and what two lists share.
 
 use bitpacking::bitpacking::BitPacker;
-use bitpacking::lists::list2::PackedList;
-use bitpacking::lists::list4::ListBuilder;
-use bitpacking::lists::writing::{list_len, write_list};
-use bitpacking::lists::{ListError, ListKind, Version, list, list2, list3, list4};
+use bitpacking::lists::list2::{PackedList, Reads, intersect};
+use bitpacking::lists::{ListError, list, list2};
 
 use crate::report::Report;
 use crate::rows::{Row, with_packer};
@@ -19,56 +17,25 @@ pub fn version1(row: &Row, report: &mut Report) {
     report.check(&row.name, "values", read, values);
 }
 
-pub fn written(row: &Row, version: Version, report: &mut Report) {
-    with_packer!(row.lanes(), packer, written_by(packer, row, version, report));
+pub fn version2(row: &Row, report: &mut Report) {
+    with_packer!(row.lanes(), packer, version2_by(packer, row, report));
 }
 
-/// A list of version 4, also by a builder.
-pub fn newest(row: &Row, report: &mut Report) {
-    written(row, Version::Four, report);
-    let built = with_packer!(row.lanes(), packer, built(packer, row.list_kind(), &row.numbers("values")));
-    report.check(&row.name, "built text", built, Ok(row.bytes("bytes")));
-}
-
-fn built<P: BitPacker>(packer: P, kind: ListKind, values: &[u32]) -> Result<Vec<u8>, ListError> {
-    let (mut builder, mut bytes) = (ListBuilder::new(packer, kind), Vec::new());
-    let (one_by_one, rest) = values.split_at(values.len() / 2);
-    one_by_one.iter().try_for_each(|it| builder.push(*it))?;
-    builder.extend(rest)?;
-    builder.finish(&mut bytes).map(|()| bytes)
-}
-
-/// The text of values.
-pub fn text<P: BitPacker>(version: Version, packer: &P, kind: ListKind, values: &[u32]) -> Result<Vec<u8>, ListError> {
-    let mut bytes = vec![0; list_len(version, packer, kind, values)?];
-    let len = write_list(version, packer, kind, values, &mut bytes)?;
-    bytes.truncate(len);
-    Ok(bytes)
-}
-
-fn opened<P: BitPacker>(version: Version, packer: P, bytes: &[u8]) -> Result<PackedList<'_, P>, ListError> {
-    match version {
-        Version::Two => PackedList::open(packer, bytes),
-        Version::Three => PackedList::open3(packer, bytes),
-        Version::Four => PackedList::open4(packer, bytes),
-    }
-}
-
-fn written_by<P: BitPacker>(packer: P, row: &Row, version: Version, report: &mut Report) {
+fn version2_by<P: BitPacker>(packer: P, row: &Row, report: &mut Report) {
     let (kind, values, bytes) = (row.list_kind(), row.numbers("values"), row.bytes("bytes"));
-    report.check(&row.name, "text", text(version, &packer, kind, &values), Ok(bytes.clone()));
-    for (way, list) in [("open", opened(version, packer, &bytes)), ("open_any", PackedList::open_any(packer, &bytes))] {
-        let list = match list {
-            Ok(list) => list,
-            Err(fault) => return report.check(&row.name, way, Some(fault), None),
-        };
-        let mut read = Vec::new();
-        report.check(&row.name, way, list.append_to(&mut read), Ok(()));
-        report.check(&row.name, way, &read, &values);
-        report.check(&row.name, way, (list.kind(), list.len()), (kind, values.len()));
-        for at in 0..=values.len() {
-            report.check(&row.name, &format!("{way}, get({at})"), list.get(at), values.get(at).copied());
-        }
+    let mut written = Vec::new();
+    let wrote = list2::encode(&packer, kind, &values, &mut written);
+    report.check(&row.name, "text", wrote.map(|()| written), Ok(bytes.clone()));
+    let list = match PackedList::open(packer, &bytes) {
+        Ok(list) => list,
+        Err(fault) => return report.check(&row.name, "open", Some(fault), None),
+    };
+    let mut read = Vec::new();
+    report.check(&row.name, "append_to", list.append_to(&mut read), Ok(()));
+    report.check(&row.name, "append_to", &read, &values);
+    report.check(&row.name, "kind and length", (list.kind(), list.len()), (kind, values.len()));
+    for at in 0..=values.len() {
+        report.check(&row.name, &format!("get({at})"), list.get(at), values.get(at).copied());
     }
 }
 
@@ -79,9 +46,9 @@ pub fn refused1(row: &Row, report: &mut Report) {
     report.check(&row.name, "values", read, vec![]);
 }
 
-pub fn refused(row: &Row, version: Version, report: &mut Report) {
+pub fn refused2(row: &Row, report: &mut Report) {
     let bytes = row.bytes("bytes");
-    check_fault(row, with_packer!(row.lanes(), packer, opened(version, packer, &bytes).err()), report);
+    check_fault(row, with_packer!(row.lanes(), packer, PackedList::open(packer, &bytes).err()), report);
 }
 
 /// A fault is spelled as Rust shows it.
@@ -90,36 +57,52 @@ fn check_fault(row: &Row, fault: Option<ListError>, report: &mut Report) {
     report.check(&row.name, "fault", found, (row.number("number"), row.text("fault").to_string()));
 }
 
-/// Values that are out of order, also in version 4 if they are in version 3.
+/// Values that are out of order.
 pub fn refused_values(row: &Row, report: &mut Report) {
     let (kind, values, position) = (row.list_kind(), row.numbers("values"), row.number("position"));
-    let versions: &[Version] = match row.text("version") {
-        "2" => &[Version::Two],
-        "3" => &[Version::Three, Version::Four],
-        other => panic!("version {other}"),
-    };
-    for version in versions {
-        let found = with_packer!(row.lanes(), packer, text(*version, &packer, kind, &values));
-        report.check(&row.name, "refusal", found, Err(ListError::NotSorted(position)));
+    let mut text = Vec::new();
+    let found = with_packer!(row.lanes(), packer, list2::encode(&packer, kind, &values, &mut text));
+    report.check(&row.name, "refusal", found, Err(ListError::NotSorted(position)));
+    report.check(&row.name, "text", text, vec![]);
+}
+
+pub fn upgraded(row: &Row, report: &mut Report) {
+    let mut text = Vec::new();
+    let fault = with_packer!(row.lanes(), packer, list2::upgrade(&packer, &row.bytes("bytes"), &mut text).err());
+    check_fault(row, fault, report);
+    report.check(&row.name, "text", text, row.bytes("upgraded"));
+}
+
+pub fn sought(row: &Row, report: &mut Report) {
+    let bytes = row.bytes("bytes");
+    with_packer!(row.lanes(), packer, sought_in(&opened(packer, &bytes), row, report));
+}
+
+fn opened<P: BitPacker>(packer: P, bytes: &[u8]) -> PackedList<'_, P> {
+    PackedList::open(packer, bytes).unwrap_or_else(|fault| panic!("{fault:?}"))
+}
+
+fn sought_in<P: BitPacker>(list: &PackedList<'_, P>, row: &Row, report: &mut Report) {
+    let (targets, found) = (row.numbers("targets"), row.text("found").split(','));
+    report.check(&row.name, "how many are found", found.clone().count(), targets.len());
+    for (target, right) in targets.into_iter().zip(found) {
+        let first = list.seek(target, &mut Reads::new());
+        let first = first.map_or("none".to_string(), |(position, value)| format!("{position}:{value}"));
+        report.check(&row.name, &format!("seek({target})"), first, right.to_string());
     }
 }
 
-pub fn upgraded2(row: &Row, report: &mut Report) {
-    upgraded(row, report, |out| with_packer!(row.lanes(), packer, list2::upgrade(&packer, &row.bytes("bytes"), out)));
-}
-
-pub fn upgraded3(row: &Row, report: &mut Report) {
-    upgraded(row, report, |out| with_packer!(row.lanes(), packer, list3::upgrade(&packer, &row.bytes("bytes"), out)));
-}
-
-pub fn upgraded4(row: &Row, report: &mut Report) {
-    upgraded(row, report, |out| {
-        with_packer!(row.lanes(), packer, list4::upgrade(&packer, &row.bytes("bytes"), &mut Vec::new(), out))
+pub fn intersected(row: &Row, report: &mut Report) {
+    let (bytes, others) = (row.bytes("bytes"), row.bytes("other_bytes"));
+    let (mut found, mut exchanged) = (Vec::new(), Vec::new());
+    with_packer!(row.number("lanes"), packer, {
+        let one = opened(packer, &bytes);
+        with_packer!(row.number("other_lanes"), other, {
+            let two = opened(other, &others);
+            intersect(&one, &two, &mut found, &mut Reads::new(), &mut Reads::new()).expect("memory");
+            intersect(&two, &one, &mut exchanged, &mut Reads::new(), &mut Reads::new()).expect("memory");
+        })
     });
-}
-
-fn upgraded(row: &Row, report: &mut Report, upgrade: impl Fn(&mut Vec<u8>) -> Result<(), ListError>) {
-    let mut text = Vec::new();
-    check_fault(row, upgrade(&mut text).err(), report);
-    report.check(&row.name, "text", text, row.bytes("upgraded"));
+    report.check(&row.name, "intersect", found, row.numbers("shared"));
+    report.check(&row.name, "intersect, exchanged", exchanged, row.numbers("shared"));
 }

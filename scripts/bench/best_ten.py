@@ -37,25 +37,3 @@ def add_gains(machine, ways, numbers):
             its = times(machine, way, "scan" if way == "sets" else "best", name)
             best = times(machine, "sets", "best", name, one_of)
             numbers.add("best: times of a median query", way, statistics.median(a / b for a, b in zip(its, best)), name)
-
-
-def title(name):
-    """What a page calls a set."""
-    return "a word" if name == "1" else f"{'AND' if name.startswith('and') else 'OR'} of {name[-1]}"
-
-
-def page_rows(get, engine):
-    """The rows of the table of a page, from numbers by measure, way, set and threads. The way of the engine was `lists` until 2026-11-28."""
-    read = "best: blocks unpacked of 100" if engine == "lists" else "best: counts read of 100"
-
-    def rounded(number):
-        return f"{float(f'{number:.3g}'):,.0f}" if number >= 10 else f"{number:.1f}"
-
-    for name in SETS:
-        cells = [rounded(get(read, engine, name, ""))]
-        for mode, way in [("best", engine), ("scan", engine), ("best", "arrays"), ("best", "xapian")]:
-            cells.append(rounded(1 / get(f"{mode}: processor seconds", way, name, "1")))
-        cells += [rounded(1 / get(f"{mode}: seconds", engine, name, "4")) for mode in ("best", "scan")]
-        cells.append(rounded(1e6 * get("best: seconds of a median query", engine, name, "1")))
-        cells += [rounded(get("best: times of a median query", way, name, "")) for way in (engine, "arrays", "xapian")]
-        yield f"| {title(name)} | {' | '.join(cells)} |"

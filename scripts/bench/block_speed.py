@@ -1,5 +1,5 @@
 #!/usr/bin/env python3
-"""Times blocks and lists: how many integers a second are packed, unpacked and measured, for a table and a picture of docs/SPEED.md:
+"""Times blocks and columns: how many integers a second are packed, unpacked and measured, for a table and a picture of docs/SPEED.md:
 
     block_speed.py [--core N] [--rounds N]
 
@@ -19,7 +19,7 @@ import measured
 
 PROGRAM, TABLE = "scripts/bench/blocks.c", "docs/speed/blocks.tsv"
 KINDS = ["plain", "sorted", "strict"]
-# The last call measures the least width of a block, and opens a list.
+# The last call measures the least width of a block, and opens a column.
 CALLS = ["pack", "unpack", "width"]
 
 

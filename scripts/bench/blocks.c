@@ -1,7 +1,7 @@
-/* Times blocks and lists: for scripts/bench/block_speed.py, which compiles it over the archive of one level. Prints for each packer, kind and call
+/* Times blocks and columns: for scripts/bench/block_speed.py, which compiles it over the archive of one level. Prints for each packer, kind and call
    how many integers a second it works on: over 2,048 integers in the first cache, the harmonic mean over the widths 1 to 32, and of each width the
-   best of as many rounds as its argument says. A list of four lanes is packed, opened and unpacked whole, in place of its blocks; in order at the widths 1 to 20. After `#` it says
-   what a list that grows costs. */
+   best of as many rounds as its argument says. A column is packed, opened and unpacked whole, in place of its blocks; a sorted one at the widths 1 to 20.
+   After `#` it says what a column that grows costs. */
 #define _POSIX_C_SOURCE 199309L
 #include "bitpacking.h"
 
@@ -14,7 +14,7 @@
 #define AGAIN 40
 
 static uint32_t values[MOST], back[MOST];
-static uint8_t bytes[BITPACKING_LIST_ROOM(MOST)];
+static uint8_t bytes[BITPACKING_COLUMN_ROOM(MOST)];
 static uint64_t state = 1;
 static volatile ptrdiff_t seen;
 
@@ -85,69 +85,63 @@ static void fill(int kind, int width)
         printf(#name "\t" #kind "\t%.9g\t%.9g\t%.9g\n", 32 * MOST / sums[0], 32 * MOST / sums[1], 32 * MOST / sums[2]); \
     } while (0)
 
-/* A list of a kind. Values in order have codes of at most 20 bits, so that they do not pass 2^32. */
-static void time_list(uint8_t kind, int rounds)
+/* A column of a kind. Sorted values have codes of at most 20 bits, so that they do not pass 2^32. */
+static void time_column(uint8_t kind, int rounds)
 {
-    const int widths = kind == 0 ? 32 : 20;
-    bitpacking_list list = BITPACKING_LIST_EMPTY;
+    const int widths = kind == BITPACKING_PLAIN ? 32 : 20;
+    bitpacking_column column = BITPACKING_COLUMN_EMPTY;
     double least = 0, sums[3] = {0, 0, 0};
     ptrdiff_t size;
     int width;
 
     for (width = 1; width <= widths; width++) {
         fill(kind, width);
-        size = bitpacking_4x_list_pack(BITPACKING_LIST_NEWEST, kind, values, MOST, bytes, sizeof bytes, NULL);
+        size = bitpacking_column_pack(kind, values, MOST, bytes, sizeof bytes, NULL);
         if (size < 0)
             exit(EXIT_FAILURE);
-        LEAST(rounds, MOST, bitpacking_4x_list_pack(BITPACKING_LIST_NEWEST, kind, values, MOST, bytes, sizeof bytes, NULL));
+        LEAST(rounds, MOST, bitpacking_column_pack(kind, values, MOST, bytes, sizeof bytes, NULL));
         sums[0] += least;
-        LEAST(rounds, MOST, bitpacking_list_open(bytes, (size_t)size, &list));
+        LEAST(rounds, MOST, bitpacking_column_open(bytes, (size_t)size, &column));
         sums[2] += least;
-        LEAST(rounds, MOST, bitpacking_list_unpack(&list, back, MOST));
+        LEAST(rounds, MOST, bitpacking_column_unpack(&column, back, MOST));
         sums[1] += least;
     }
-    printf("list\t%d\t%.9g\t%.9g\t%.9g\n", kind, widths * MOST / sums[0], widths * MOST / sums[1], widths * MOST / sums[2]);
+    printf("column\t%d\t%.9g\t%.9g\t%.9g\n", kind, widths * MOST / sums[0], widths * MOST / sums[1], widths * MOST / sums[2]);
 }
 
-/* A strictly sorted list of a million values with gaps to 16, and 1,000 more, or as many more by a list of their own: in microseconds, by append,
-   by join, by join if the first list has whole blocks alone, and if the first list is unpacked and all values are packed. The values after it are
-   an array then. */
+/* A sorted column of a million values with gaps to 16, and 1,000 more, or as many more by a column of their own: in microseconds, by append, by join,
+   and if the first column is unpacked and all values are packed. */
 static void time_growth(int rounds)
 {
-    enum { MANY = 1000000, FEW = 1000, WHOLE = MANY - MANY % 128 };
+    enum { MANY = 1000000, FEW = 1000 };
+    const size_t room_len = BITPACKING_COLUMN_ROOM(2 * MANY);
     uint32_t *all = malloc(8 * MANY), *room = malloc(8 * MANY);
-    uint8_t *first = malloc(BITPACKING_LIST_ROOM(MANY)), *even = malloc(BITPACKING_LIST_ROOM(WHOLE)), *grown = malloc(BITPACKING_LIST_ROOM(2 * MANY));
-    bitpacking_list list = BITPACKING_LIST_EMPTY, whole = BITPACKING_LIST_EMPTY;
-    double least = 0, found[5];
+    uint8_t *first = malloc(BITPACKING_COLUMN_ROOM(MANY)), *grown = malloc(room_len);
+    bitpacking_column column = BITPACKING_COLUMN_EMPTY;
+    double least = 0, found[4];
     size_t i, more;
     ptrdiff_t size;
 
-    if (all == NULL || room == NULL || first == NULL || even == NULL || grown == NULL)
+    if (all == NULL || room == NULL || first == NULL || grown == NULL)
         exit(EXIT_FAILURE);
     for (i = 0; i < 2 * MANY; i++)
         all[i] = (i > 0 ? all[i - 1] : 0) + 1 + number() % 16;
-    size = bitpacking_4x_list_pack(BITPACKING_LIST_NEWEST, BITPACKING_STRICTLY_SORTED, all, MANY, first, BITPACKING_LIST_ROOM(MANY), NULL);
-    if (bitpacking_list_open(first, (size_t)size, &list) != 0)
+    size = bitpacking_column_pack(BITPACKING_SORTED, all, MANY, first, BITPACKING_COLUMN_ROOM(MANY), NULL);
+    if (size < 0 || bitpacking_column_open(first, (size_t)size, &column) != 0)
         exit(EXIT_FAILURE);
-    size = bitpacking_4x_list_pack(BITPACKING_LIST_NEWEST, BITPACKING_STRICTLY_SORTED, all, WHOLE, even, BITPACKING_LIST_ROOM(WHOLE), NULL);
-    if (bitpacking_list_open(even, (size_t)size, &whole) != 0)
-        exit(EXIT_FAILURE);
-    for (i = 0; i < 5; i++) {
+    for (i = 0; i < 4; i++) {
         more = i < 2 ? FEW : MANY;
-        LEAST(rounds, MOST, at > 0 ? 0 : i == 0 ? bitpacking_list_append(&list, all + MANY, more, grown, BITPACKING_LIST_ROOM(2 * MANY), NULL)
-            : i == 2 ? bitpacking_list_join(&list, all[MANY - 1] + 1, &list, room, MANY, grown, BITPACKING_LIST_ROOM(2 * MANY), NULL)
-            : i == 3 ? bitpacking_list_join(&whole, all[MANY - 1] + 1, &list, room, MANY, grown, BITPACKING_LIST_ROOM(2 * MANY), NULL)
-            : (bitpacking_list_unpack(&list, room, MANY), memcpy(room + MANY, all + MANY, 4 * more),
-               bitpacking_4x_list_pack(BITPACKING_LIST_NEWEST, BITPACKING_STRICTLY_SORTED, room, MANY + more, grown,
-                                       BITPACKING_LIST_ROOM(2 * MANY), NULL)));
+        LEAST(rounds, MOST, at > 0 ? 0 : i == 0 ? bitpacking_column_append(&column, all + MANY, more, grown, room_len, NULL)
+            : i == 2 ? bitpacking_column_join(&column, all[MANY - 1] + 1, &column, room, MANY, grown, room_len, NULL)
+            : (bitpacking_column_unpack(&column, room, MANY), memcpy(room + MANY, all + MANY, 4 * more),
+               bitpacking_column_pack(BITPACKING_SORTED, room, MANY + more, grown, room_len, NULL)));
         found[i] = 1e6 * least;
     }
-    printf("# 1,000 values: append %.0f, unpacked and packed %.0f; a million: join %.0f, after whole blocks %.0f, unpacked and packed %.0f microseconds\n",
-           found[0], found[1], found[2], found[3], found[4]);
+    printf("# 1,000 values: append %.0f, unpacked and packed %.0f; a million: join %.0f, unpacked and packed %.0f microseconds\n",
+           found[0], found[1], found[2], found[3]);
     free(all);
     free(room);
     free(first);
-    free(even);
     free(grown);
 }
 
@@ -167,9 +161,8 @@ int main(int count, char **words)
     TIME(8, 8x, , 0, );
     TIME(8, 8x, _sorted, 1, SORTED_BEFORE);
     TIME(8, 8x, _strictly_sorted, 2, BEFORE);
-    time_list(BITPACKING_PLAIN, rounds);
-    time_list(BITPACKING_SORTED, rounds);
-    time_list(BITPACKING_STRICTLY_SORTED, rounds);
+    time_column(BITPACKING_PLAIN, rounds);
+    time_column(BITPACKING_SORTED, rounds);
     time_growth(rounds);
     return EXIT_SUCCESS;
 }

@@ -20,7 +20,7 @@ import tempfile
 import time
 
 ROOT = os.path.dirname(os.path.dirname(os.path.dirname(os.path.realpath(__file__))))
-sys.path[1:1] = [f"{ROOT}/examples/dask", f"{ROOT}/scripts/bench"]
+sys.path[1:1] = [f"{ROOT}/examples/dask", f"{ROOT}/scripts", f"{ROOT}/scripts/bench", f"{ROOT}/scripts/build"]
 import psutil
 
 import index

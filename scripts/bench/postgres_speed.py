@@ -3,10 +3,10 @@
 
     postgres_speed.py [--rounds N] [--seconds N]
 
-It starts a server of its own, as scripts/test/postgres.py does, and fills a table of each with the same posting lists: two words of about
+It starts a server of its own, as scripts/test/postgres.py does, and fills a table of each with the same sets: two words of about
 100,000 documents among 1,000,000, and 400 words of 100 to 20,000. First all ways have to give the same answers. Then they take turns, and
 the least time of the rounds counts, as EXPLAIN ANALYZE says it. Last 100 clients of pgbench ask for AND of two random words, for some
-seconds each, and the same of two servers with half of each list. It prints a table for docs/POSTGRES.md, with the processor and the load. The bitmaps are left out without libroaring-dev.
+seconds each, and the same of two servers with half of each set. It prints a table for docs/POSTGRES.md, with the processor and the load. The bitmaps are left out without libroaring-dev.
 """
 import argparse
 import json
@@ -23,7 +23,7 @@ import pg_server
 import postgres
 
 WORDS, CLIENTS = 402, 100
-ROWS = f"""CREATE EXTENSION intarray; CREATE EXTENSION packed_list; SELECT setseed(0.5);
+ROWS = f"""CREATE EXTENSION intarray; CREATE EXTENSION idset; SELECT setseed(0.5);
 CREATE TABLE postings AS SELECT DISTINCT w AS word, (random() * 1000000)::int AS doc FROM generate_series(0, {WORDS - 1}) w,
     LATERAL generate_series(1, CASE WHEN w < 2 THEN 105000 ELSE 100 + (w * 7919) % 20000 END) g ORDER BY 1, 2;
 ALTER TABLE postings ADD PRIMARY KEY (word, doc);
@@ -43,27 +43,27 @@ CREATE TABLE bitmaps AS SELECT word, roaring_pack(ids) AS ids FROM arrays;
 ALTER TABLE bitmaps ALTER ids SET STORAGE EXTERNAL;
 CREATE TABLE copied AS TABLE bitmaps; TRUNCATE bitmaps; INSERT INTO bitmaps TABLE copied; DROP TABLE copied;
 ALTER TABLE bitmaps ADD PRIMARY KEY (word); VACUUM ANALYZE bitmaps;"""
-# The lists in two ranges of documents, the second range on another server.
-SPLIT = """CREATE TABLE split (word int, first int8, ids packed_list) PARTITION BY RANGE (first);
+# The sets in two ranges of documents, the second range on another server.
+SPLIT = """CREATE TABLE split (word int, first int8, ids idset) PARTITION BY RANGE (first);
 CREATE TABLE split_1 PARTITION OF split FOR VALUES FROM (0) TO (500000);
 CREATE FOREIGN TABLE split_2 PARTITION OF split FOR VALUES FROM (500000) TO (1500000) SERVER second;
 INSERT INTO split SELECT word, doc / 500000 * 500000, pack_agg(doc % 500000) FROM postings GROUP BY 1, 2;
 CREATE INDEX ON split_1 (word); ANALYZE split_1; ANALYZE split_2;"""
-BY_BOTH = """SELECT sum(n) FROM (SELECT first, sum(count_common(a.ids, b.ids)) AS n FROM split a JOIN split b USING (first)
+BY_BOTH = """SELECT sum(n) FROM (SELECT first, sum(intersect_len(a.ids, b.ids)) AS n FROM split a JOIN split b USING (first)
 WHERE a.word = {A} AND b.word = {B} GROUP BY first) q"""
 WISE = {"enable_partitionwise_join": "on", "enable_partitionwise_aggregate": "on"}
-WAYS = {"rows": "postings", "int4[] and intarray": "arrays", "CRoaring in bytea": "bitmaps", "packed_list": "packed"}
+WAYS = {"rows": "postings", "int4[] and intarray": "arrays", "CRoaring in bytea": "bitmaps", "idset": "packed"}
 # How each table answers: {A} and {B} are words, {D} a document. A join is how rows answer an AND.
 JOIN = "FROM postings a JOIN postings b USING (doc) WHERE a.word = {A} AND b.word = {B}"
 UNION = "FROM (SELECT doc FROM postings WHERE word = {A} UNION SELECT doc FROM postings WHERE word = {B}) u"
 AND, OR, OUT = "AND, count", "OR, count", "AND, rows"
-HAS, WHICH, ALL = "whether a list has a document", "words of a document, by a scan", "all values of all lists"
+HAS, WHICH, ALL = "whether a set has a document", "words of a document, by a scan", "all values of all sets"
 QUERIES = {
     AND: {
         "postings": f"SELECT count(*) {JOIN}",
         "arrays": "SELECT icount(a.ids & b.ids) FROM {T}",
         "bitmaps": "SELECT roaring_and_count(a.ids, b.ids) FROM {T}",
-        "packed": "SELECT count_common(a.ids, b.ids) FROM {T}",
+        "packed": "SELECT intersect_len(a.ids, b.ids) FROM {T}",
     },
     OUT: {
         "postings": f"SELECT doc {JOIN}",
@@ -125,12 +125,12 @@ def sizes(server, tables):
     """The bytes of each table with its index and TOAST, and the bits of each posting."""
     count = int(server.rows("SELECT count(*) FROM postings"))
     print(
-        f"{count} postings, the longest lists {server.rows('SELECT string_agg(cardinality(ids)::text, chr(32)) FROM packed WHERE word < 2')}"
+        f"{count} postings, the longest sets {server.rows('SELECT string_agg(cardinality(ids)::text, chr(32)) FROM packed WHERE word < 2')}"
     )
     found = {it: int(server.rows(f"SELECT pg_total_relation_size('{it}')")) for it in tables}
-    lists = {it: int(server.rows(f"SELECT sum(pg_column_size(ids)) FROM {it}")) for it in tables if it != "postings"}
+    sizes_of = {it: int(server.rows(f"SELECT sum(pg_column_size(ids)) FROM {it}")) for it in tables if it != "postings"}
     yield "table with its index, MB", {it: f"{found[it] / 1e6:.1f}" for it in tables}
-    yield "bits of a posting in lists", {it: f"{8 * lists[it] / count:.1f}" if it in lists else "" for it in tables}
+    yield "bits of a posting in sets", {it: f"{8 * sizes_of[it] / count:.1f}" if it in sizes_of else "" for it in tables}
 
 
 def timed(server, tables, rounds):
@@ -170,10 +170,10 @@ def rate(server, query, seconds, folder):
 
 
 def two_servers(extension, server, rounds, seconds):
-    """The same lists over two servers: AND of the two long lists, by the clock, and by clients."""
+    """The same sets over two servers: AND of the two long sets, by the clock, and by clients."""
     second = extension.server(2).start(shared_buffers="1GB", max_parallel_workers_per_gather=0)
     try:
-        second.rows("CREATE EXTENSION packed_list; CREATE TABLE split_2 (word int, first int8, ids packed_list, PRIMARY KEY (word, first))")
+        second.rows("CREATE EXTENSION idset; CREATE TABLE split_2 (word int, first int8, ids idset, PRIMARY KEY (word, first))")
         server.rows(pg_faults.FOREIGN.format(second.socket, second.port) + SPLIT)
         second.rows("VACUUM ANALYZE split_2")
         query = BY_BOTH.format(A=0, B=1)

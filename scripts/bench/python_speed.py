@@ -101,7 +101,7 @@ def head(title, columns):
 
 
 def drawn(random, count, most):
-    """Increasing values below a number, as many as asked for."""
+    """Increasing ids below a number, as many as asked for."""
     return np.sort(random.choice(most, count, replace=False)).astype("u4")
 
 
@@ -111,93 +111,94 @@ def saved_by_numpy(values):
     return out
 
 
-def long_lists(roaring, random, rounds):
-    columns = ["packed", "numpy", "Roaring", "sets", "zlib -1 of gaps"]
+def long_sets(roaring, random, rounds):
+    columns = ["IdSet", "numpy", "Roaring", "set", "zlib -1 of gaps"]
     for most in RANGES:
         a, b = drawn(random, COUNT, most), drawn(random, COUNT, most)
-        one, other = fimulowen.pack(a, "strict"), fimulowen.pack(b, "strict")
+        one, other = fimulowen.IdSet(a), fimulowen.IdSet(b)
         assert (fimulowen.intersect(one, other) == np.intersect1d(a, b)).all() and (fimulowen.unite(one, other) == np.union1d(a, b)).all()
         sets, bitmaps = (set(a.tolist()), set(b.tolist())), (roaring.of(a), roaring.of(b))
         text, array, bitmap = one.tobytes(), saved_by_numpy(a), roaring.saved(a)
         gaps = zlib.compress(np.diff(a, prepend=a[:1]).tobytes(), 1)
-        head(f"Two lists of {COUNT:,} below {most:,}", columns)
-        sizes = {"packed": one.nbytes, "numpy": a.nbytes, "Roaring": len(bitmap), "zlib -1 of gaps": len(gaps)}
-        row("bits a value", {name: 8 * it / COUNT for name, it in sizes.items()}, columns, "{:.1f}")
+        head(f"Two sets of {COUNT:,} below {most:,}", columns)
+        sizes = {"IdSet": one.nbytes, "numpy": a.nbytes, "Roaring": len(bitmap), "zlib -1 of gaps": len(gaps)}
+        row("bits an id", {name: 8 * it / COUNT for name, it in sizes.items()}, columns, "{:.1f}")
         rows = {
             "array to bytes, ms": {
-                "packed": lambda: fimulowen.pack(a, "strict").data,
+                "IdSet": lambda: fimulowen.IdSet(a).data,
                 "numpy": lambda: saved_by_numpy(a),
                 "Roaring": lambda: roaring.saved(a),
                 "zlib -1 of gaps": lambda: zlib.compress(np.diff(a, prepend=a[:1]).tobytes(), 1),
             },
             "bytes to array": {
-                "packed": lambda: fimulowen.PackedList(text).to_numpy(),
+                "IdSet": lambda: fimulowen.IdSet.open(text).unpack(),
                 "numpy": lambda: array.seek(0) or np.load(array),
                 "Roaring": lambda: roaring.read(bitmap),
                 "zlib -1 of gaps": lambda: np.cumsum(np.frombuffer(zlib.decompress(gaps), "u4"), dtype="u4"),
             },
-            "opened list to array": {"packed": one.to_numpy, "numpy": a.copy, "Roaring": lambda: roaring.array(bitmaps[0])},
+            "opened set to array": {"IdSet": one.unpack, "numpy": a.copy, "Roaring": lambda: roaring.array(bitmaps[0])},
             "AND to an array": {
-                "packed": lambda: fimulowen.intersect(one, other),
+                "IdSet": lambda: fimulowen.intersect(one, other),
                 "numpy": lambda: np.intersect1d(a, b, assume_unique=True),
                 "Roaring": lambda: roaring.joined("and", *bitmaps),
-                "sets": lambda: sets[0] & sets[1],
+                "set": lambda: sets[0] & sets[1],
             },
-            "AND to a packed list": {"packed": lambda: one & other},
+            "AND to a set": {"IdSet": lambda: one & other},
             "AND to a count": {
-                "packed": lambda: fimulowen.intersect_count(one, other),
+                "IdSet": lambda: fimulowen.intersect_len(one, other),
                 "Roaring": lambda: roaring.calls["and_cardinality"](*bitmaps),
             },
             "OR to an array": {
-                "packed": lambda: fimulowen.unite(one, other),
+                "IdSet": lambda: fimulowen.unite(one, other),
                 "numpy": lambda: np.union1d(a, b),
                 "Roaring": lambda: roaring.joined("or", *bitmaps),
-                "sets": lambda: sets[0] | sets[1],
+                "set": lambda: sets[0] | sets[1],
             },
             "NOT to an array": {
-                "packed": lambda: fimulowen.subtract(one, other),
+                "IdSet": lambda: fimulowen.subtract(one, other),
                 "numpy": lambda: np.setdiff1d(a, b, assume_unique=True),
                 "Roaring": lambda: roaring.joined("andnot", *bitmaps),
-                "sets": lambda: sets[0] - sets[1],
+                "set": lambda: sets[0] - sets[1],
             },
         }
         for name, ways in rows.items():
             row(name, timed(rounds, ways), columns)
 
 
-def single_values(random, rounds):
-    values = drawn(random, COUNT, RANGES[1])
-    packed, at = fimulowen.pack(values, "strict"), random.integers(0, COUNT, 20_000)
-    places, targets, columns = at.tolist(), values[at].tolist(), ["packed", "numpy"]
-    head(f"One of {COUNT:,} values, ns", columns)
+def single_ids(random, rounds):
+    ids = drawn(random, COUNT, RANGES[1])
+    packed, at = fimulowen.IdSet(ids), random.integers(0, COUNT, 20_000)
+    places, targets, columns = at.tolist(), ids[at].tolist(), ["IdSet", "numpy"]
+    head(f"One of {COUNT:,} ids, ns", columns)
     rows = {
-        "`l[i]`": {"packed": lambda: [packed[i] for i in places], "numpy": lambda: [values[i] for i in places]},
-        "`value in l`": {"packed": lambda: [it in packed for it in targets]},
-        "`take`, any order": {"packed": lambda: packed.take(at), "numpy": lambda: values.take(at)},
-        "`take`, increasing": {"packed": lambda: packed.take(np.sort(at)), "numpy": lambda: values.take(np.sort(at))},
-        "`for`": {"packed": lambda: sum(1 for _ in packed), "numpy": lambda: sum(1 for _ in values)},
+        "`s[i]`": {"IdSet": lambda: [packed[i] for i in places], "numpy": lambda: [ids[i] for i in places]},
+        "`id in s`": {"IdSet": lambda: [it in packed for it in targets]},
+        "`contains`": {"IdSet": lambda: packed.contains(targets), "numpy": lambda: np.isin(targets, ids)},
+        "`gather`, any order": {"IdSet": lambda: packed.gather(at), "numpy": lambda: ids.take(at)},
+        "`gather`, increasing": {"IdSet": lambda: packed.gather(np.sort(at)), "numpy": lambda: ids.take(np.sort(at))},
+        "`for`": {"IdSet": lambda: sum(1 for _ in packed), "numpy": lambda: sum(1 for _ in ids)},
     }
     for name, ways in rows.items():
         each = 1e6 / (COUNT if name == "`for`" else len(places))
         row(name, {way: each * it for way, it in timed(rounds, ways).items()}, columns, "{:.0f}")
 
 
-def short_lists(roaring, random, rounds):
+def short_sets(roaring, random, rounds):
     sizes = random.zipf(1.6, SHORT).clip(1, 400)
     bounds = np.concatenate([[0], np.cumsum(sizes)])
     parts = [drawn(random, it, 1_000_000) for it in sizes]
-    values = np.concatenate(parts)
-    text, ends = fimulowen.pack_many(values, bounds)
-    opened, columns = fimulowen.open_many(text, ends), ["packed", "numpy", "Roaring"]
-    head(f"{SHORT:,} lists, {len(values):,} values in all", columns)
-    found = {"packed": len(text), "numpy": 4 * len(values), "Roaring": sum(roaring.size(it) for it in parts)}
+    ids = np.concatenate(parts)
+    text, ends = fimulowen.IdSet.pack_many(ids, bounds)
+    opened, columns = fimulowen.IdSet.open_many(text, ends), ["IdSet", "numpy", "Roaring"]
+    head(f"{SHORT:,} sets, {len(ids):,} ids in all", columns)
+    found = {"IdSet": len(text), "numpy": 4 * len(ids), "Roaring": sum(roaring.size(it) for it in parts)}
     row("MB", {name: it / 1e6 for name, it in found.items()}, columns, "{:.1f}")
     rows = {
-        "pack all, ms": {"packed": lambda: fimulowen.pack_many(values, bounds), "Roaring": lambda: [roaring.saved(it) for it in parts]},
-        "open all": {"packed": lambda: fimulowen.open_many(text, ends)},
-        "unpack each": {"packed": lambda: [it.to_numpy() for it in opened], "numpy": lambda: [it.copy() for it in parts]},
+        "pack all, ms": {"IdSet": lambda: fimulowen.IdSet.pack_many(ids, bounds), "Roaring": lambda: [roaring.saved(it) for it in parts]},
+        "open all": {"IdSet": lambda: fimulowen.IdSet.open_many(text, ends)},
+        "unpack each": {"IdSet": lambda: [it.unpack() for it in opened], "numpy": lambda: [it.copy() for it in parts]},
         "AND of each two": {
-            "packed": lambda: [fimulowen.intersect(*it) for it in zip(opened, opened[1:])],
+            "IdSet": lambda: [fimulowen.intersect(*it) for it in zip(opened, opened[1:])],
             "numpy": lambda: [np.intersect1d(*it, assume_unique=True) for it in zip(parts, parts[1:])],
         },
     }
@@ -213,9 +214,9 @@ def main():
         model = re.search(r"model name\s*: (.*)", file.read())
     print(f"{model[1] if model else 'unknown processor'}, load {os.getloadavg()[0]:.1f}, numpy {np.__version__}, {rounds} rounds")
     roaring, random = Roaring(), np.random.default_rng(1)
-    long_lists(roaring, random, rounds)
-    single_values(random, rounds)
-    short_lists(roaring, random, rounds)
+    long_sets(roaring, random, rounds)
+    single_ids(random, rounds)
+    short_sets(roaring, random, rounds)
     print(f"load {os.getloadavg()[0]:.1f}")
 
 

@@ -1,5 +1,5 @@
 #!/usr/bin/env python3
-"""Measures the id sets of the search engine of examples/search/ beside packed lists, plain arrays, CRoaring and Xapian, from nothing:
+"""Measures the id sets of the search engine of examples/search/ beside plain arrays, CRoaring and Xapian, from nothing:
 
     scripts/bench/search_speed.py [--core N] [--passes N] [--tsv FILE] [--keep FOLDER] [--roaring FOLDER] [--ways WAY,WAY ..]
                                   [--threads N,N ..] [--ranked] [--archive FILE] [FOLDER ..]
@@ -15,12 +15,11 @@ same. It prints a table, and with --tsv writes all numbers. docs/SPEED.md says w
 It needs 200 MB of text with 500,000 paragraphs; `apt-get install linux-doc` brings 150 MB. It needs g++, taskset, and the packages
 libroaring-dev and libxapian-dev of Debian. Debian's CRoaring is built for any x86-64; --roaring adds one built for this processor, from its
 sources in FOLDER. --keep uses the texts that an earlier run left in FOLDER. The archive is the one of scripts/build/archives.py, which is
-called if it is not there, or the one of --archive. --ways measures only these ways, of which `sets` is always one. `lists3`, which is not
-measured unless it is named, has lists of version 3. --threads says on how many threads, 1,4 if it is left out. --ranked
-measures only the best ten.
+called if it is not there, or the one of --archive. --ways measures only these ways, of which `sets` is always one. --threads says
+on how many threads, 1,4 if it is left out. --ranked measures only the best ten.
 
---try measures nothing: it compiles the programs, compares the answers on examples/search/corpus/, and compares the table of the best ten in
-docs/SPEED.md with docs/speed/best.tsv, which --tsv wrote. Ways that are not installed are left out. The last line is 'N passed, M failed'.
+--try measures nothing: it compiles the programs, and compares the answers on examples/search/corpus/. Ways that are not installed are left
+out. The last line is 'N passed, M failed'.
 """
 import argparse
 import glob
@@ -34,7 +33,7 @@ import tempfile
 import time
 
 sys.path.insert(1, f"{sys.path[0]}/..")
-from common import ROOT, leave_out, missing, report, run, source
+from common import ROOT, leave_out, missing, report, run
 import archives
 import best_ten
 from measured import Numbers
@@ -48,8 +47,6 @@ LEAST = {"bytes": 200_000_000, "paragraphs": 500_000}
 # one. Xapian takes far longer.
 WAYS = {
     "sets": (3, 99, 1),
-    "lists": (3, 99, 1),
-    "lists3": (3, 99, 1),
     "arrays": (3, 99, 1),
     "roaring": (3, 99, 1),
     "roaring_here": (3, 99, 1),
@@ -76,8 +73,7 @@ SETS = {
     "or-1000": ("|", 50, 1000),
 }
 # A word is dense if it is in one of 16 documents or more, which is when Roaring takes bitmaps. It is rare if it is in two documents or
-# more, and in fewer than one of 1,000. The best for packed lists is a rare word AND a dense one, which stays packed but for a few blocks. The
-# worst is OR of many lists: each value is unpacked, and written among all others.
+# more, and in fewer than one of 1,000.
 DENSE, RARE = 16, 1000
 
 
@@ -108,9 +104,6 @@ def commands(folder, ways, roaring, archive, level):
             both = [headers, f"-I{ROOT}/examples/search"]
             yield f"{way}.best", ["cc", "-std=c99", *flags, *both, "-c", f"{ROOT}/examples/search/best.c"]
             yield way, [*cpp, *both, f"{HERE}/{way}.cpp", f"{folder}/{way}.best", *([archive] if way == "sets" else [])]
-    for way, version in ("lists", "BITPACKING_LIST_NEWEST"), ("lists3", "BITPACKING_LIST_VERSION_3"):
-        if way in ways:
-            yield way, [*cpp, include, f"-DVERSION={version}", f"{HERE}/lists.cpp", archive]
     if "roaring" in ways:
         yield "roaring", [*cpp, f"{HERE}/roaring.cpp", "-lroaring"]
     if "roaring_here" in ways:
@@ -190,7 +183,7 @@ def index_of(way):
 
 
 def measure_index(machine, ways, numbers, one_of=200):
-    """Has each way index the texts, and adds what that took, and the bytes of its lists."""
+    """Has each way index the texts, and adds what that took, and the bytes of its documents."""
     for way in ["reading", *(way for way in ways if way not in INDEXES)]:
         shutil.rmtree(f"{machine.folder}/index.{way}", ignore_errors=True)
         command = [f"./{way}", "index", "texts", index_of(way)]
@@ -240,7 +233,7 @@ def measure_way(machine, way, numbers, threads, only_ranked):
 
 
 def measure(machine, ways, numbers, passes, counts_of_threads, only_ranked):
-    """Has the ways answer the queries in turn. Last it opens all sets and lists of documents."""
+    """Has the ways answer the queries in turn. Last it opens all sets."""
     for number in range(passes):
         for threads in counts_of_threads:
             for way in ways:
@@ -250,11 +243,10 @@ def measure(machine, ways, numbers, passes, counts_of_threads, only_ranked):
         print(f"pass {number + 1} of {passes}: the answers are the same; load {os.getloadavg()[0]:.1f}", flush=True)
     if 1 in counts_of_threads:
         best_ten.add_gains(machine, {way: WAYS[way][2] for way in best_ten.WAYS if way in ways}, numbers)
-    for way in [way for way in ways if way in (ENGINE, "lists", "lists3")]:
-        for words in machine.run(f"./{way}", "open", index_of(way), "5")[0]:
-            if words[0] == "open":
-                numbers.add("opening all: lists", way, int(words[1]))
-                numbers.add("opening all: processor seconds", way, float(words[3]))
+    for words in machine.run(f"./{ENGINE}", "open", index_of(ENGINE), "5")[0]:
+        if words[0] == "open":
+            numbers.add("opening all: sets", ENGINE, int(words[1]))
+            numbers.add("opening all: processor seconds", ENGINE, float(words[3]))
     numbers.save()
 
 
@@ -265,10 +257,6 @@ def tried():
         if not os.path.exists(path):
             leave_out(f"the way {way}", f"since there is no {package}")
             ways.remove(way)
-    rows = [line.split("\t") for line in source("docs/speed/best.tsv").split("\n")[2:] if line]
-    written = {tuple(row[:4]): float(row[4]) for row in rows}
-    lacks = [row for row in best_ten.page_rows(lambda *key: written[key], "lists") if row not in source("docs/SPEED.md").split("\n")]
-    yield "the table of the best ten", f"docs/SPEED.md lacks {lacks[0]}" if lacks else None
     with tempfile.TemporaryDirectory(prefix="search-speed-") as folder:
         os.symlink(CORPUS, f"{folder}/texts")
         done = list(built(folder, ways, None, ARCHIVE, "-O1"))
@@ -307,7 +295,7 @@ def main():
     parser.add_argument("folders", nargs="*", default=["/usr/share", "/usr/include"])
     given = parser.parse_args()
     if given.only_try:
-        status = archives.status_without("the ways to keep lists", "g++", "taskset")
+        status = archives.status_without("the ways to keep doc ids", "g++", "taskset")
         return report(tried()) if status is None else status
     ways = chosen_ways(given)
     lacking = missing("g++", "taskset") + [NEEDS[way][1] for way in ways if way in NEEDS and not os.path.exists(NEEDS[way][0])]
@@ -320,7 +308,7 @@ def main():
 
 def chosen_ways(given):
     """The ways that the arguments name, in the order of the table."""
-    named = given.ways.split(",") if given.ways else [way for way in WAYS if way != "lists3"]
+    named = given.ways.split(",") if given.ways else [*WAYS]
     if set(named) - set(WAYS):
         sys.exit(f"there is no way {' and no '.join(sorted(set(named) - set(WAYS)))}")
     named = [way for way in named if way != "roaring_here" or given.roaring]

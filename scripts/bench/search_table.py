@@ -37,12 +37,12 @@ def show(ways, numbers, sets):
     row("bits a posting", number("bytes of documents", "{:.2f}", 8 / postings))
     row("bits of its count", number("bytes of counts", "{:.2f}", 8 / postings))
     row("queries, memory in MB", number("queries: bytes of memory", "{:,.0f}", 1e-6, 1))
-    for mode, threads in [("query", 1), ("lists", 1), ("opening", 1), ("bitmaps", 1), ("counts", 1), ("query", 4)]:
+    for mode, threads in [("query", 1), ("found", 1), ("opening", 1), ("bitmaps", 1), ("counts", 1), ("query", 4)]:
         for part in sets:
             kind = "processor seconds" if threads == 1 else "seconds"
             row(f"{mode}, {part}, {threads} threads, a s", rates(f"{mode}: {kind}", part, threads))
     for part in sets:
-        row(f"{part}, speed left if each query opens its lists, %", left_if_opening(part))
+        row(f"{part}, speed left if each query opens its sets, %", left_if_opening(part))
     for mode, threads in [("best", 1), ("scan", 1), ("best", 4), ("scan", 4)]:
         for part in best_ten.SETS:
             row(f"{mode}, {part}, {threads} threads, a s", rates(f"{mode}: {'processor ' * (threads == 1)}seconds", part, threads))

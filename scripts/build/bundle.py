@@ -26,7 +26,14 @@ FILES += ["Cargo.toml", "Cargo.lock", "crates/*/src/**/*.rt", "rust/c/*.*"]
 FILES += [f"rust/{it}/**/*.rs" for it in ("src", "translate/src", "examples", "vectors")]
 FILES += ["python/*.md", "python/pyproject.toml", "python/setup.py", "python/src/core/*.[ch]", "python/src/fimulowen/*.py*"]
 FILES += ["python/src/fimulowen/py.typed", "python/tests/*.py"]
-FILES += ["postgres/Makefile", "postgres/packed_list*", "postgres/src/*.[ch]", "postgres/sql/*.sql", "postgres/expected/*.out"]
+FILES += [
+    "postgres/Makefile",
+    "postgres/idset*.sql",
+    "postgres/idset.control",
+    "postgres/src/*.[ch]",
+    "postgres/sql/*.sql",
+    "postgres/expected/*.out",
+]
 FILES += ["scripts/common.py", *(f"scripts/build/{it}.py" for it in ("install", "archives", "by_cargo", "choosing", "fast", "proving"))]
 # The archives of each processor, by the name that `uname -m` gives it.
 ARCHIVES = {"x86_64": ["rust/out/libbitpacking.a", "rust/out/x86-64*/*.a"], "aarch64": ["rust/out/aarch64*/*.a"]}

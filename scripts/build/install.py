@@ -1,8 +1,9 @@
 #!/usr/bin/env python3
-"""Installs the library for C under a folder, PREFIX, for programs that ask `pkg-config --cflags --libs bitpacking`:
+"""Installs the library for C under a folder, PREFIX, for programs that ask `pkg-config --cflags --libs bitpacking`, and for CMake's
+`find_package(bitpacking CONFIG)`:
 
     install.py PREFIX [--level LEVEL] [--from cargo]    include/bitpacking.h, lib/libbitpacking.a, a shared library with the link
-                                                        lib/libbitpacking.so, and lib/pkgconfig/bitpacking.pc
+                                                        lib/libbitpacking.so, lib/pkgconfig/bitpacking.pc, and lib/cmake/bitpacking/
     install.py PREFIX --remove                          takes away what it wrote there, with the folders that it made
 
 LEVEL is that of the archive: x86-64, x86-64-v2 or x86-64-v3; without it the archive for all levels is installed; for aarch64 LEVEL is
@@ -11,9 +12,9 @@ They are proved, or else installed as version 0.0.0. If the variable DESTDIR is 
 names PREFIX alone.
 
 With `--from cargo` the library for x86-64 is compiled by cargo from the proved sources, without the prover's compiler: the last line says so, and
-lib/pkgconfig/bitpacking.pc. Its version is the true one.
+lib/pkgconfig/bitpacking.pc, and the variable bitpacking_COMPILER of CMake. Its version is the true one.
 
-The shared library exports each function of the header, the four that are inline there too. Its name ends with the major version: programs need
+The shared library exports each function of the header, the one that is only inline there too. Its name ends with the major version: programs need
 a new link after a change of that. The names of what was written are in share/bitpacking/installed. A file that another program wrote is not
 replaced. The last line says what was installed. The status is 0, 1 if it failed, or 2 if it was called wrongly or lacks a tool.
 """
@@ -33,6 +34,7 @@ import fast
 CC = os.environ.get("CC", "cc")
 HEADER, STATIC, LINK = "include/bitpacking.h", "lib/libbitpacking.a", "lib/libbitpacking.so"
 ASKED, NAMES = "lib/pkgconfig/bitpacking.pc", "share/bitpacking/installed"
+CMAKE, CMAKE_VERSION = (f"lib/cmake/bitpacking/bitpackingConfig{it}.cmake" for it in ("", "Version"))
 SYMBOLS = "c/symbols.c"
 
 # What is said of a library that cargo compiled.
@@ -47,6 +49,34 @@ Description: Blocks of 32-bit integers packed in few bits per value, and sets an
 Version: {version}
 Cflags: -I${{includedir}}
 Libs: -L${{libdir}} -lbitpacking
+"""
+# The folder is found from that of the file, so that it may be moved.
+CONFIG = """# The targets bitpacking::bitpacking, a shared library, and bitpacking::bitpacking_static.
+set(bitpacking_COMPILER {compiler})
+if(NOT TARGET bitpacking::bitpacking)
+    get_filename_component(bitpacking_PREFIX "${{CMAKE_CURRENT_LIST_DIR}}/../../.." ABSOLUTE)
+    add_library(bitpacking::bitpacking SHARED IMPORTED)
+    set_target_properties(bitpacking::bitpacking PROPERTIES
+        IMPORTED_LOCATION "${{bitpacking_PREFIX}}/{library}"
+        IMPORTED_SONAME {soname}
+        INTERFACE_INCLUDE_DIRECTORIES "${{bitpacking_PREFIX}}/include")
+    add_library(bitpacking::bitpacking_static STATIC IMPORTED)
+    set_target_properties(bitpacking::bitpacking_static PROPERTIES
+        IMPORTED_LOCATION "${{bitpacking_PREFIX}}/{static}"
+        INTERFACE_INCLUDE_DIRECTORIES "${{bitpacking_PREFIX}}/include")
+    unset(bitpacking_PREFIX)
+endif()
+"""
+# A program that asks for a version gets this one if it is of the same major version and not older.
+CONFIG_VERSION = """set(PACKAGE_VERSION {version})
+if(CMAKE_SIZEOF_VOID_P AND NOT CMAKE_SIZEOF_VOID_P EQUAL 8)
+    set(PACKAGE_VERSION_UNSUITABLE TRUE)
+elseif(PACKAGE_FIND_VERSION_MAJOR EQUAL {major} AND NOT PACKAGE_VERSION VERSION_LESS PACKAGE_FIND_VERSION)
+    set(PACKAGE_VERSION_COMPATIBLE TRUE)
+    if(PACKAGE_VERSION VERSION_EQUAL PACKAGE_FIND_VERSION)
+        set(PACKAGE_VERSION_EXACT TRUE)
+    endif()
+endif()
 """
 
 
@@ -104,11 +134,11 @@ def install(prefix, archive, by_rustc=False):
     if os.path.exists(f"{root}/{NAMES}"):
         remove(prefix)
     library, header = shared_library(), header_of(archive)
-    files = [HEADER, STATIC, library, LINK, ASKED, NAMES]
+    files = [HEADER, STATIC, library, LINK, ASKED, CMAKE, CMAKE_VERSION, NAMES]
     others = [it for it in files if os.path.lexists(f"{root}/{it}")]
     if others:
         raise Failed(f"{root}/{others[0]} is there, and was not written by this script")
-    written = []
+    written, texts = [], told(prefix, version(header), by_rustc)
     try:
         for path in files:
             written += made_folders(root, path) + [path]
@@ -122,17 +152,22 @@ def install(prefix, archive, by_rustc=False):
                 os.symlink(os.path.basename(library), f"{root}/{path}")
             else:
                 with open(f"{root}/{path}", "w", encoding="utf-8") as file:
-                    file.write(asked(prefix, version(header), by_rustc) if path == ASKED else "\n".join(written))
+                    file.write(texts.get(path) or "\n".join(written))
     except (OSError, Failed):
         taken_away(root, written)
         raise
     return f"installed version {version(header)}{f', {BY_RUSTC},' * by_rustc} under {root}: {' '.join(files)}"
 
 
-def asked(prefix, number, by_rustc):
-    """The text of the file that pkg-config reads."""
+def told(prefix, number, by_rustc):
+    """The texts of the files that pkg-config and CMake read."""
     compiler, by = ("rustc", f", {BY_RUSTC}") if by_rustc else ("rattle", "")
-    return PC.format(prefix=prefix, version=number, compiler=compiler, by=by)
+    library = shared_library()
+    return {
+        ASKED: PC.format(prefix=prefix, version=number, compiler=compiler, by=by),
+        CMAKE: CONFIG.format(compiler=compiler, library=library, soname=os.path.basename(library), static=STATIC),
+        CMAKE_VERSION: CONFIG_VERSION.format(version=number, major=number.split(".")[0]),
+    }
 
 
 def placed(prefix):

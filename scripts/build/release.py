@@ -31,8 +31,8 @@ import rust
 
 OUT = f"{ROOT}/out/release"
 SUMS = "SHA256SUMS"
-PROGRAM, PRINTS = "examples/list.c", c.PROGRAMS["examples/list.c"]
-IN_PYTHON = "import fimulowen; ids = fimulowen.pack([7, 9, 10, 300]); print(fimulowen.__version__, ids.nbytes, ids.seek(100))"
+PROGRAM, PRINTS = "examples/id_set.c", c.PROGRAMS["examples/id_set.c"]
+IN_PYTHON = "import fimulowen; ids = fimulowen.IdSet([7, 9, 10, 300]); print(fimulowen.__version__, ids.nbytes, ids.seek(100))"
 # What compiles C programs for each processor, and what runs them.
 BY_PROCESSOR = {"x86_64": ("cc", []), "aarch64": (arm.CROSS, [arm.QEMU])}
 

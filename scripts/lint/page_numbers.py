@@ -1,10 +1,9 @@
 #!/usr/bin/env python3
 """Computes numbers of the pages again, by the decoders that docs/FORMAT.md shows and the encoders of vectors/model.py.
 
-- README.md: the length of the four ids, the lines of the command line, and the bytes of a block; its measured rows are those of docs/SPEED.md.
+- README.md: the length of the four ids, the lines of the command line, and the bytes of a block; its measured rows are those of the page of sets.
 - docs/FORMAT.md: what a list of each version takes beside its bodies.
-- docs/SCALE.md: which share of single flipped bits a reader finds. The page says what the lists are.
-- What docs/SCALE.md and docs/SPEED.md reckon from measured numbers: bits a value, bytes a posting.
+- docs/SCALE.md: which share of single flipped bits a reader finds. The page says what the values are. And how many postings 10 GB hold.
 
 Then the wrong changes of scripts/mutate/edits/page_numbers/ are tried, as scripts/mutate/changes.py says. The last line is 'N passed, M
 failed'.
@@ -17,14 +16,19 @@ import sys
 sys.path.insert(1, f"{sys.path[0]}/..")
 from texts import results, text_of
 from parts import drawn
-from vectors import KINDS, model, names_of
+from vectors import model, names_of
 
-README, FORMAT, SCALE, SPEED = "README.md", "docs/FORMAT.md", "docs/SCALE.md", "docs/SPEED.md"
+README, FORMAT, SCALE, SETS = "README.md", "docs/FORMAT.md", "docs/SCALE.md", "crates/bitpack_sets/README.md"
 FOUR, STRICT = [7, 9, 10, 300], 2
-# The lanes of the measured lists, and their lengths, each with the distance of the bits that are flipped.
-LANES, STEPS = 4, {20: 1, 1_000: 13, 1_024: 13, 20_000: 101}
-# By row of docs/SPEED.md, the first cell of the same row of README.md, which has the newest version, plain arrays and Roaring.
-MEASURED = {"bits a posting": "bits a posting", "AND of 2 words": "AND of 2 words, queries a second", "OR of 2 to 4": "OR of 2 to 4 words"}
+READERS = ["decode_column", "decode_column", "decode_set"]
+# The lanes of the list of the command line. The lengths of the columns and sets, each with the distance of the bits that are flipped.
+LANES, STEPS = 4, {20: 1, 1_000: 13, 1_024: 13}
+# By row of README.md, the first cell and the last of a row of the page of sets.
+MEASURED = {
+    "bits a posting, of 19.87": "bits a posting (Roaring 19.87)",
+    "speed of AND of 2, 3, 4 words": "AND of 2, 3, 4 words",
+    "speed of OR of 2 to 4 words, of two frequent ones, of 1,000": "OR of 2 to 4 words, of two frequent ones, of 1,000",
+}
 
 
 @functools.cache
@@ -36,12 +40,14 @@ def names():
 
 
 def encoders():
-    return {"1": names()["encode"], "2": names()["convert"], "3": names()["convert3"], "4": names()["encode4"]}
+    return {"1": names()["encode"], "2": names()["encode2"]}
 
 
-def values_of(kind, count):
-    """Plain values, or values with these differences: the numbers of docs/VECTORS.md, as numbers of eight bits."""
-    return names()["block_values"](kind, [0, 0, 2**32 - 1][kind], [x >> 24 for x in drawn(count)])
+def packed(count):
+    """A plain and a sorted column, and a set: of the numbers of docs/VECTORS.md, as numbers of eight bits, or of values with these differences."""
+    codes = [x >> 24 for x in drawn(count)]
+    columns = [names()["encode_column"](kind, names()["block_values"](kind, 0, codes)) for kind in (0, 1)]
+    return [*columns, names()["encode_set"](names()["block_values"](STRICT, 2**32 - 1, codes))]
 
 
 def missing(path, *sentences):
@@ -51,8 +57,8 @@ def missing(path, *sentences):
 
 
 def four_ids():
-    one, newest = (encoders()[version](LANES, STRICT, FOUR) for version in "14")
-    yield from missing(README, f">>> len(ids), ids.nbytes, ids.seek(100) (4, {len(newest)}, (3, 300))")
+    one, packed_set = encoders()["1"](LANES, STRICT, FOUR), names()["encode_set"](FOUR)
+    yield from missing(README, f">>> len(ids), ids.nbytes, ids.seek(100) (4, {len(packed_set)}, (3, 300))")
     spelled = ",".join(map(str, FOUR))
     yield from missing(README, f"$ printf 'enc 4x strict {spelled}\\ndec 4x {one.hex()}\\n' | ./bitpack {one.hex()} strict {spelled}")
 
@@ -67,15 +73,8 @@ def blocks():
 
 
 def beside_bodies(version):
-    """What a list of a version takes beside its bodies, in words. The longest count is that of 2^28 values; in version 4 a block has two
-    short integers of one to four bytes."""
-    counts, longest = [0, 32, 1], len(names()["number_of"](2**28))
-    empty, block, tail = (len(encoders()[version](1, 0, [0] * count)) for count in counts)
-    if version == "4":
-        least = block - 2
-        return f"{least} to {least + longest - 1} bytes, 2 to 8 per block, a packed tail"
-    if version == "3":
-        return f"{empty} to {empty + longest} bytes, {block - empty - 1} per block, a packed tail"
+    """What a list of a version takes beside its bodies, in words."""
+    empty, block, tail = (len(encoders()[version](1, 0, [0] * count)) for count in [0, 32, 1])
     return f"{empty} bytes, {block - empty} per block, {tail - empty} per tail value"
 
 
@@ -85,11 +84,11 @@ def beside():
             yield f"{FORMAT} does not say of version {version}: {beside_bodies(version)}"
 
 
-def is_found(text, bit):
+def is_found(reader, text, bit):
     """Whether a reader refuses the text with one bit flipped."""
     changed = int.from_bytes(text, "little") ^ 1 << bit
     try:
-        names()["decode3"](LANES, changed.to_bytes(len(text), "little"))
+        names()[reader](changed.to_bytes(len(text), "little"))
     except ValueError:
         return True
     return False
@@ -97,13 +96,13 @@ def is_found(text, bit):
 
 @functools.cache
 def shares():
-    """By the length of a list: how many of 100 flipped bits are found in a list of each kind."""
-    texts = {(count, kind): encoders()["3"](LANES, kind, values_of(kind, count)) for count in STEPS for kind in range(len(KINDS))}
-    tried = [(text, bit) for (count, _), text in texts.items() for bit in range(0, 8 * len(text), STEPS[count])]
+    """By the count of values: how many of 100 flipped bits are found in a plain column, a sorted one, and a set."""
+    texts = [(count, reader, text) for count in STEPS for reader, text in zip(READERS, packed(count))]
+    tried = [(reader, text, bit) for count, reader, text in texts for bit in range(0, 8 * len(text), STEPS[count])]
     with multiprocessing.get_context("fork").Pool() as pool:
         found = iter(pool.starmap(is_found, tried, chunksize=64))
     rows = {}
-    for (count, _), text in texts.items():
+    for count, _, text in texts:
         here = [next(found) for _ in range(0, 8 * len(text), STEPS[count])]
         rows.setdefault(count, []).append(100 * sum(here) / len(here))
     return rows
@@ -120,29 +119,15 @@ def cells_of(path, first):
     return [it.strip() for it in row[1].split("|")] if row else []
 
 
-def numbers_of(path, first):
-    """The numbers of the row of a page that begins with this cell."""
-    found = re.findall(r"\d[\d,]*(?:\.\d+)?", " ".join(cells_of(path, first)))
-    return [float(it.replace(",", "")) for it in found]
-
-
 def measured():
-    for first, here in MEASURED.items():
-        newest, _, arrays, roaring, _ = cells_of(SPEED, first)
-        yield from missing(README, f"| {here} | {newest} | {arrays} | {roaring} |")
+    for here, there in MEASURED.items():
+        yield from missing(README, f"| {here} | {cells_of(SETS, there)[-1]} |")
 
 
 def reckoned():
-    """What follows from measured numbers: in an index the bits a value of all lists and of short ones, and the bytes a posting."""
-    (values, of_short), lengths = numbers_of(SPEED, "values"), numbers_of(SPEED, "bytes")
-    bits = [8 * length / count for length, count in zip(lengths, 4 * [values] + 3 * [of_short])]
-    yield from missing(SPEED, "| bits a value | " + " | ".join(f"{it:.1f}" for it in bits) + " |")
-    (postings,), whole = numbers_of(SCALE, "postings"), 0
-    for first in ("lists of documents", "lists of counts"):
-        length = numbers_of(SCALE, first)[0]
-        whole += length / postings
-        yield from missing(SCALE, f"| {first} | {length:,.0f} bytes, {length / postings:.2f} a posting |")
-    yield from missing(SCALE, f"At {whole:.1f} bytes a posting with its count, 10 GB hold {10 / whole:.1f} billion postings")
+    """How many postings 10 GB hold, by the bits of one."""
+    bits = float(cells_of(SETS, "bits a posting (Roaring 19.87)")[-1])
+    yield from missing(SCALE, f"In an index of {bits:.1f} bits a posting 10 GB hold {80 / bits:.1f} billion postings")
 
 
 if __name__ == "__main__":

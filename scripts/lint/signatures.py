@@ -1,7 +1,7 @@
 #!/usr/bin/env python3
 """Compares the types and the names of what the functions for C take: those of crates/bitpacking_c with those that include/bitpacking.h
-declares. A slice `x` is a pointer `x` and a length `x_len`. The fields of the structs of lists, sets and columns are compared with those of
-`STRUCTS` too, and the limits of blocks with those of crates/bitpacking. The header is read as it is written: it has to name each function in a
+declares. A slice `x` is a pointer `x` and a length `x_len`. The fields of the structs of sets and columns are compared with those of `STRUCTS`
+too, and the limits of blocks with those of crates/bitpacking. The header is read as it is written: it has to name each function in a
 prototype, which no macro makes.
 
 The header, the archive, the library by cargo and the Python package have the version of CHANGELOG.md, and the Rust crate that and the version of
@@ -24,24 +24,17 @@ C_TYPES = {
     "usize": "size_t",
     "u64": "uint64_t",
     "isize": "ptrdiff_t",
-    "ListOutline": "bitpacking_list_outline",
-    "ListView": "bitpacking_list",
-    "ListCursor": "bitpacking_cursor",
-    "ListBuilder": "bitpacking_list_builder",
     "SetView": "bitpacking_set",
+    "SetBuilder": "bitpacking_set_builder",
     "ColumnView": "bitpacking_column",
     "ColumnBuilder": "bitpacking_column_builder",
 }
 STRUCTS = {
-    "ListOutline": "crates/bitpack_lists/src/opened/outline.rt",
-    "ListView": "crates/bitpacking_c/src/list_view.rt",
-    "ListCursor": "crates/bitpacking_c/src/list_cursor.rt",
-    "ListBuilder": "crates/bitpacking_c/src/list_builder.rt",
     "SetView": "crates/bitpacking_c/src/set_view.rt",
+    "SetBuilder": "crates/bitpacking_c/src/set_builder.rt",
     "ColumnView": "crates/bitpacking_c/src/column_view.rt",
     "ColumnBuilder": "crates/bitpacking_c/src/column_builder.rt",
 }
-PLACE = "crates/bitpack_lists/src/opened/place.rt"
 HEADER = "include/bitpacking.h"
 LIMITS = "crates/bitpacking/src/limits.rt"
 # Where the version is, beside CHANGELOG.md: as text, or as the number a million times the major one, a thousand times the minor one, and the
@@ -78,9 +71,8 @@ def parameters(text):
 
 
 def fields(name, path):
-    """The fields of a struct as they are written, with those of a place in place of it."""
-    found = re.search(rf"\bstruct {name}(?:<'a>)? \{{(.*?)(?:\bghost\b|\}})", code(path), re.S)[1].removesuffix("pub ")
-    return re.sub(r"\bplace: Place,", lambda _: fields("Place", PLACE), found)
+    """The fields of a struct as they are written."""
+    return re.search(rf"\bstruct {name}(?:<'a>)? \{{(.*?)(?:\bghost\b|\}})", code(path), re.S)[1].removesuffix("pub ")
 
 
 def exported():

@@ -10,19 +10,16 @@
   has `Scalar`.
 - Each kernel of `bitpacking` is named in its own places alone, so that one packer runs no kernel of another; each width from 0 to 31 has
   code of its own.
-- The program's packers `4s` and `8s` are those that `scalar` gives; `bitpacking_c` names no `scalar`; `bitpack_lists` makes no packer but
-  the one for groups, `bitpack_sorted` none, and else they take the one that they are given.
-- Of `bitpack_lists` and `bitpack_sorted`, each function that reads a number or unpacks a block from bytes, sees the bytes or the packer of
-  an opened list, or makes a `Reads`, has a mark in marks.txt; and so has each that calls one, unless a contract counts what that reads, or
-  it is of the tail. Each that measures a block, or calls one that does, has a mark too. A mark names the calls in the order of the text: so
-  those that count read once for each count, `open` tests a text once and each block of it once, and `from_validated` tests none. No other function
-  has a mark, none of a trait needs one, and no code calls `get`.
-- So do the functions of `bitpacking_c` that call these or one with a `Reads`, with what they call in turn. Those for blocks and chains of a
-  packer call one function.
+- The program's packers `4s` and `8s` are those that `scalar` gives; `bitpacking_c` names no `scalar`; `bitpack_lists` makes no packer and takes
+  the one that it is given.
+- `Reads` is the only way to what it counts, in `bitpack_lists` and in `bitpack_columns`. Only its file reads that from the bytes. Each other
+  file names `Reads` as a parameter, or as a new one that a call is lent: one of each function in MAKERS, in no loop. In `bitpack_lists` no code
+  calls these, or the functions of version 1, and the functions of SEEING alone name the bytes or the packer of an opened list.
+- The functions of CALLS make these calls, in this order, with these loops: so a text is tested once, and a block measured once.
+- Those for blocks and chains of a packer in `bitpacking_c` call one function.
 - Of `bitpack_columns`, the files of `column/` for single values, searches, ranges and bounds see the bytes of a column only as bodies, and read
-  marks and unpack only by methods of `Reads`. They name it as a parameter, and in each public call at most once as a new one.
-- A walk reads no entry once nothing is wanted. The items of a vector begin a cursor anew only for one below the last. A list shows
-  its current block. How far searches go step by step, and how many widths are kept, is in bounds.
+  marks and unpack only by methods of `Reads`, and call no function of MAKERS.
+- A walk reads no entry once nothing is wanted. How many widths are kept is in bounds.
 
 Then the wrong changes of scripts/mutate/edits/sources/ are tried, as scripts/mutate/changes.py says. The last line is 'N passed, M failed'.
 """
@@ -30,7 +27,6 @@ import re
 import sys
 
 sys.path.insert(1, f"{sys.path[0]}/..")
-from marks import LISTS, SORTED, marks
 from texts import at, code, end_of_braces, paths, results
 
 SOURCES = "crates/bitpacking/src"
@@ -48,17 +44,98 @@ KERNELS = {
     "pack_at": {"dispatch/by_width.rt": ["pack_codes"]},
     "unpack_at": {"dispatch/by_width.rt": ["unpack_codes"]},
 }
-GROUPS = (f"{LISTS}/v3/group.rt", "BitPacker1x")
+LISTS = "crates/bitpack_lists/src"
 COLUMNS = "crates/bitpack_columns/src"
-# What code of lists and columns has once, by file: the loop of a walk, which reads no entry once nothing is wanted; where a cursor begins
-# anew; the current block of a list, which saves a seek for each of its values; and the cached widths of the blocks of a column.
+C = "crates/bitpacking_c/src"
+# By crate the file of `Reads`, and by file the functions that lend a new one to a call.
+DOORS = {LISTS: "blocks/reads.rt", COLUMNS: "reads.rt"}
+MAKERS = {
+    f"{LISTS}/opened.rt": ["open", "get"],
+    f"{LISTS}/opened/copying.rt": ["append_to"],
+    f"{LISTS}/v2/writing.rt": ["encode"],
+    f"{COLUMNS}/column/getting.rt": ["get", "gather"],
+    f"{COLUMNS}/column/search.rt": ["seek"],
+    f"{COLUMNS}/column/ranges.rt": ["count_between", "positions_between"],
+    f"{COLUMNS}/column/bounds.rt": ["bounds"],
+}
+# What the file of `Reads` may say of it.
+OWN_READS = r"\bstruct Reads \{|\bimpl (Model for )?Reads \{|\bsize_of::<Reads>\(\)|\bfn new\(\) -> Reads\s*\{\s*Reads \{"
+# The calls of `bitpack_lists` that count in no `Reads` of their caller; and where an opened list is read, the functions that see its bytes.
+UNCOUNTED = r"(?<!fn )\b(open|get|append_to|encode|decode|upgrade)\b"
+SEEN = r"\b(rest|bytes|packer|read_one|read_words|\w*compress\w*)\b"
+SEEING = {
+    f"{LISTS}/opened.rt": ["open", "of_text", "mark", "unpack_block_as"],
+    f"{LISTS}/opened/tail.rt": ["value_in_tail", "read_tail"],
+}
+# The calls of functions in the order of the text, with their loops, by file. Of all calls those that one of these files names are looked at.
+CALLS = {
+    f"{LISTS}/blocks/reads.rt": {
+        "read_entry": "record read",
+        "read_last": "record read_one",
+        "unpack_block": "unpack_body read",
+        "unpack_body": "record body decompress_kind",
+    },
+    f"{LISTS}/blocks/testing.rt": {
+        "test_blocks": "test_entries test_bodies",
+        "test_entries": "for read_entry",
+        "test_bodies": "for read_entry unpack_body test_block unpack_body",
+    },
+    f"{LISTS}/blocks/measuring.rt": {"blocks_len": "for num_bits_kind", "text_len": "blocks_len", "width_of": "num_bits_kind"},
+    f"{LISTS}/v1/reading.rt": {
+        "decode": "test_version1 read_blocks",
+        "test_version1": "test_chain",
+        "test_chain": "for test_first_block",
+        "read_blocks": "for read_block",
+        "read_block": "unpack_block",
+        "unpack_block": "decompress_kind",
+    },
+    f"{LISTS}/v1/writing.rt": {
+        "encode": "text_len write_blocks",
+        "write_blocks": "for width_of write_block",
+        "write_block": "compress_kind",
+    },
+    f"{LISTS}/v2/opening.rt": {"test_version2": "test_blocks_and_words", "test_blocks_and_words": "test_blocks"},
+    f"{LISTS}/v2/upgrading.rt": {
+        "upgrade": "test_version1 test_order write_entries copy_bodies",
+        "test_order": "for unpack_block",
+        "write_entries": "for unpack_block",
+        "copy_bodies": "for",
+    },
+    f"{LISTS}/v2/writing.rt": {
+        "encode": "text_len write_entries write_bodies",
+        "text_len": "blocks_len",
+        "write_entries": "for width_of",
+        "write_bodies": "for read_entry write_body",
+        "write_body": "compress_kind",
+    },
+    f"{LISTS}/opened.rt": {
+        "open": "test_version2",
+        "of_text": "",
+        "get": "value_in_block value_in_tail",
+        "mark": "read_last",
+        "unpack_block_as": "unpack_block",
+    },
+    f"{LISTS}/opened/tail.rt": {"value_in_tail": "read_one", "read_tail": "read_words"},
+    f"{LISTS}/opened/copying.rt": {"append_to": "copy_values"},
+    f"{LISTS}/chain.rt": {
+        "pack_all": "pack_measured",
+        "pack_measured": "for num_bits_kind compress_kind",
+        "unpack_all": "for decompress_kind",
+    },
+    f"{C}/block.rt": {
+        "compress": "width_counted pack_counted",
+        "decompress": "unpack_counted",
+        "num_bits": "width_counted",
+        "pack": "width_counted pack_counted",
+    },
+    f"{C}/chain.rt": {"pack_all": "pack_all packed_len pack_measured", "unpack_all": "unpack_all"},
+}
+# The files of `bitpacking_c` that only pass on: each of their functions calls one of block.rt or chain.rt.
+PASS_ON = f"{C}/bitpacker?x.rt"
+# What code of lists and columns has once, by file: the loop of a walk, which reads no entry once nothing is wanted; and the cached widths of
+# the blocks of a column.
 SHAPES = {
     f"{LISTS}/opened/intersection.rt": ["for number in 0..one.count / P::BLOCK_LEN { if walk.want > u32::MAX as u64 { return; }"],
-    f"{SORTED}/distinct_values.rt": [
-        "fn block(&self) -> &[u32] { match self.bits { Some(_) => &self.low, None => self.cursor.block(), } }",
-        "self.cursor.seek_ahead(target, ahead); self.cursor.value()",
-        "match self.cursor.seek_to_bits(self.bits, target, ahead) {",
-    ],
     f"{COLUMNS}/encoding/measuring.rt": [
         "if index < widths.len() { widths[index] = width; }",
         "if index < widths.len() { return (mark_of_block(kind, block), widths[index]); }",
@@ -67,13 +144,9 @@ SHAPES = {
 # Of `bitpack_columns`, the files of the calls that count what they read; and what reads a mark or unpacks, if not by `Reads`, or sees all bytes.
 COUNTING = [f"crates/bitpack_columns/src/column/{name}.rt" for name in ["getting", "search", "ranges", "bounds"]]
 NOT_COUNTED = r"(?<!reads\.)\b(?:(mark|mark_at|\w*base|value_before|value_in_tail|read_block|copy_to|copy_range|copy_part|append_to|cursor|\w*unpack\w*|decompress\w*)\(|rest\b|bytes\b)"
-# By file and name, the least and the most that a constant may be: how far a search goes step by step, how many values show whether it
-# pays to merge, and how many widths are kept to be measured once.
+# By file and name, the least and the most that a constant may be: how many widths are kept to be measured once.
 BOUNDS = {
-    (f"{LISTS}/opened/in_slice.rt", "NEAR"): (4, 64),
-    (f"{SORTED}/and.rt", "FEW"): (4, 64),
     (f"{LISTS}/blocks/measuring.rt", "KEPT_WIDTHS"): (256, 4096),
-    (f"{LISTS}/blocks/measuring.rt", "MANY_WIDTHS"): (4096, 16384),
     (f"{COLUMNS}/encoding.rt", "FEW_WIDTHS"): (32, 256),
     (f"{COLUMNS}/encoding.rt", "MANY_WIDTHS"): (4096, 16384),
 }
@@ -209,16 +282,83 @@ def kernels():
 
 
 def packers():
-    for path in paths("crates/bitpacking_c/src/**/*.rt"):
+    for path in paths(f"{C}/**/*.rt"):
         text = code(path)
         for found in re.finditer(r"\bscalar\b", text):
             yield f"{at(path, text, found.start())}: names scalar"
-    texts = {path: code(path) for folder in (LISTS, SORTED) for path in paths(f"{folder}/**/*.rt")}
+    texts = {path: code(path) for path in paths(f"{LISTS}/**/*.rt")}
     own = {name for text in texts.values() for name in re.findall(r"\bstruct (\w+)", text)} | {"Vec"}
     for path, text in texts.items():
-        for found in re.finditer(r"(\w+>?)(?:::<[^()]*>)?::new\b", text):
-            if found[1] not in own and (path, found[1]) != GROUPS:
+        for found in re.finditer(r"(\w+>?)\)?(?:::<[^()]*>)?::new\b", text):
+            if found[1] not in own:
                 yield f"{at(path, text, found.start())}: makes a new {found[1]}"
+
+
+def inside(text, index):
+    """The function that an index of a text is in, or that is before it."""
+    return (re.findall(r"\bfn (\w+)", text[:index]) or [None])[-1]
+
+
+def in_loop(text, index):
+    """Whether an index of a text is in a loop or a closure of its function."""
+    start = text.rfind("fn ", 0, index)
+    loops = [end_of_braces(text, start + it.end() - 1) for it in re.finditer(r"\b(?:for|while|loop)\b[^{;]*\{", text[start:index])]
+    return any(index < end for end in loops) or "|" in text[start:index].replace("||", "")
+
+
+def parameters_of_reads(path, text):
+    """Yields what names `Reads` as neither a parameter nor a new one for a call, and the functions that make other ones than they may."""
+    made = []
+    for found in re.finditer(r"\bReads\b", text):
+        before, after = text[: found.start()], text[found.end() :]
+        line = before[before.rfind("\n") + 1 :]
+        if after.startswith("::new()") and re.search(r"[(\s]&mut $", before) and re.match(r"\s*,?\s*\)", after[7:]):
+            made.append(inside(text, found.start()))
+            if in_loop(text, found.start()):
+                yield f"{at(path, text, found.start())}: {made[-1]} makes a Reads in a loop"
+        elif re.match(r"\s*(pub )?use\b", line) and not re.match(r"\s+as\b", after):
+            continue
+        elif not (re.search(r"\b\w*reads\w*: &mut $", before) and re.match(r"\s*[,)]", after)):
+            yield f"{at(path, text, found.start())}: {inside(text, found.start())} names Reads as neither a parameter nor a new one"
+    if sorted(made) != sorted(MAKERS.get(path, [])):
+        yield f"{path}: {', '.join(made) or 'nothing'} makes a Reads, and not {', '.join(MAKERS.get(path, [])) or 'nothing'}"
+
+
+def reads():
+    for crate, door in DOORS.items():
+        own = code(f"{crate}/{door}")
+        for found in re.finditer(r"\b(Reads|Self)\b", re.sub(OWN_READS, lambda it: re.sub(r"\w", "-", it[0]), own)):
+            yield f"{at(f'{crate}/{door}', own, found.start())}: {inside(own, found.start())} names {found[1]}"
+        for path in paths(f"{crate}/**/*.rt"):
+            if path != f"{crate}/{door}":
+                yield from parameters_of_reads(path, code(path))
+    for path in paths(f"{LISTS}/**/*.rt"):
+        text = code(path)
+        calls = re.sub(r"(?m)^pub use [\w:]*(\w|\{[^}]*\});", lambda it: " " * len(it[0]), text)
+        for found in re.finditer(UNCOUNTED, calls):
+            yield f"{at(path, text, found.start())}: {inside(text, found.start())} names {found[1]}, which counts for no caller"
+        opened = path.startswith((f"{LISTS}/opened/", f"{LISTS}/opened."))
+        for found in re.finditer(
+            SEEN, re.sub(r"(?m)^(use|(pub )?struct)\b[^;}]*[;}]", lambda it: re.sub(r"[^\n]", " ", it[0]), text) if opened else ""
+        ):
+            if inside(text, found.start()) not in SEEING.get(path, []):
+                yield f"{at(path, text, found.start())}: {inside(text, found.start())} sees {found[1]}"
+
+
+def calls():
+    names = {name for wanted in CALLS.values() for it in wanted.values() for name in it.split()} - {"for"}
+    for path, wanted in CALLS.items():
+        text = code(path)
+        for name, right in wanted.items():
+            found = calls_in(body_of(text, name), names)
+            if found != right:
+                yield f"{path}: {name} calls {found or 'none'}, and not {right}"
+    passed = re.compile(r"\b(?:block|chain)::\w+")
+    for path in paths(PASS_ON):
+        for it in re.finditer(r"\bfn (\w+)[^;{]*(?=\{)", code(path)):
+            found = passed.findall(code(path)[it.end() : end_of_braces(code(path), it.end())])
+            if len(found) != 1:
+                yield f"{path}: {it[1]} calls {', '.join(found) or 'none'}, and not one of block.rt or chain.rt"
 
 
 def shapes():
@@ -228,17 +368,13 @@ def shapes():
 
 
 def columns():
+    makers = sorted({name for path in COUNTING for name in MAKERS[path]})
     for path in COUNTING:
-        text, made = code(path), []
+        text = code(path)
         for found in re.finditer(NOT_COUNTED, text):
             yield f"{at(path, text, found.start())}: {found[1] or found[0]} is not counted"
-        for found in re.finditer(r"\bReads\b", text):
-            before, after = text[: found.start()], text[found.end() :]
-            if after.startswith("::new()") and before.endswith("&mut "):
-                made.append(re.findall(r"(pub )?fn (\w+)", before)[-1])
-            elif not before.endswith(("reads: &mut ", "use crate::reads::")):
-                yield f"{at(path, text, found.start())}: names Reads as neither a parameter nor a new one for a call"
-        yield from (f"{path}: {name} makes a Reads" for public, name in made if not public or made.count((public, name)) > 1)
+        for found in re.finditer(rf"(?<!fn )\b({'|'.join(makers)})\b", text):
+            yield f"{at(path, text, found.start())}: {inside(text, found.start())} names {found[1]}, which counts for no caller"
 
 
 def bounds():
@@ -248,7 +384,7 @@ def bounds():
             yield f"{path}: {name} is {', '.join(found)}, and not from {least} to {most}"
 
 
-PARTS = [proofs_by_hand, slices, steps, registers, kernels, program, packers, marks, shapes, columns, bounds]
+PARTS = [proofs_by_hand, slices, steps, registers, kernels, program, packers, reads, calls, shapes, columns, bounds]
 
 
 if __name__ == "__main__":

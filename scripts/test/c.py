@@ -1,17 +1,14 @@
 #!/usr/bin/env python3
 """Compiles and runs the C programs over the archive for all levels of the processor and the archive of each level: those of examples/,
-whose output is worked by hand, scripts/test/calls.c, list_calls.c, cursor.c, columns.c, blocks.c and builder.c, and scripts/test/tables.c,
-queries.c, sets.c, id_sets.c, column_tables.c, column_parts.c and damaged.c over the tables of vectors/. They are compiled as C99 with every warning an error and
-run with little stack, and once more with the address sanitizer if the compiler has it. The two programs of calls are also compiled as C++11 and C++17, without a cast
-of C in the header; scripts/test/calls.c also runs over the archive for all levels on a processor of each level that qemu gives. It,
-list_calls.c, blocks.c, builder.c, id_sets.c, column_tables.c and column_parts.c have to name every macro of the header. Over that archive scripts/test/damaged.c opens a million damaged
-lists once more.
+whose output is worked by hand, scripts/test/calls.c, and scripts/test/id_sets.c, set_parts.c, column_tables.c and column_parts.c over the tables of
+vectors/. They are compiled as C99 with every warning an error and run with little stack, and once more with the address sanitizer if the compiler has it.
+calls.c is also compiled as C++11 and C++17, and runs over the archive for all levels on a processor of each level that qemu gives. These five
+have to name every macro of the header. The header has no warning of gcc or clang, from C99 to C23 and from C++11 to C++20, for 64 and 32 bits.
 
-Then each program has to fail with another output than it has, or, if it prints nothing, with a function that returns one more. The archives
-are those that scripts/build/archives.py wrote, which is called if they are not there. The last line is 'N passed, M failed'; a part that is
-left out because a tool is missing is named.
+Then each program has to fail with another output than it has, or, if it prints nothing, with a function that returns one more; and the header has
+to be refused with a field that its empty struct lacks. The archives are those that scripts/build/archives.py wrote, which is called if they are not
+there. The last line is 'N passed, M failed'; a part that is left out because a tool is missing is named.
 """
-import functools
 import re
 import resource
 import shutil
@@ -28,86 +25,61 @@ import levels
 STRICT = ["-Wall", "-Wextra", "-Werror", "-pedantic", f"-I{ROOT}/include"]
 C99 = ["cc", "-std=c99", *STRICT]
 CALLS = "scripts/test/calls.c"
-LIST_CALLS = "scripts/test/list_calls.c"
-COLUMNS = "scripts/test/columns.c"
-BLOCKS = "scripts/test/blocks.c"
-BUILDER = "scripts/test/builder.c"
-TABLES = "scripts/test/tables.c"
-SETS = "scripts/test/sets.c"
 ID_SETS = "scripts/test/id_sets.c"
+SET_PARTS = "scripts/test/set_parts.c"
 COLUMN_TABLES = "scripts/test/column_tables.c"
 COLUMN_PARTS = "scripts/test/column_parts.c"
-QUERIES = "scripts/test/queries.c"
-DAMAGED = "scripts/test/damaged.c"
 # Those that name the macros of the header.
-NAMING = [CALLS, LIST_CALLS, BLOCKS, BUILDER, ID_SETS, COLUMN_TABLES, COLUMN_PARTS]
+NAMING = [CALLS, ID_SETS, SET_PARTS, COLUMN_TABLES, COLUMN_PARTS]
 STACK = 256 << 10  # bytes; the sanitizer needs more
 SANITIZED = ["-fsanitize=address,undefined", "-fno-sanitize-recover=all"]
-# The index of the documents 1 to 1000, by hand: 500, 333 and 200 numbers. The codes of the lists are gaps less one: 1 of even (of its
-# first block up to 2), 2 of fizz, 4 of buzz, 29 of the multiples of 30; and up to 2, 3 and 5 of the others. No block is a set of bits, as each
-# spans too many numbers. With the widths 2, 1 and 1, the text of even has a header of 3 bytes, a byte of sizes, 3 ends of 1 and 3 marks of 2,
-# 16 * 4 bytes of blocks, and 116 codes in 4 groups of 5, 5, 5 and 4: 96 bytes. In this way fizz has 97 bytes, and buzz 85.
+# What each compiler is asked for the header, and by language.
+WARNINGS = (
+    "-Wall -Wextra -Wpedantic -Wconversion -Wsign-conversion -Wshadow -Wundef -Wmissing-field-initializers -Werror -fsyntax-only".split()
+)
+WARNINGS_OF = {
+    "c": "-Wcast-qual -Wstrict-prototypes -Wmissing-prototypes -Wc++-compat".split(),
+    "c++": "-Wold-style-cast -Wzero-as-null-pointer-constant".split(),
+}
+STANDARDS = {"c": ["c99", "c11", "c17", "c2x"], "c++": ["c++11", "c++14", "c++17", "c++20"]}
+COMPILERS = {"c": ["gcc", "clang"], "c++": ["g++", "clang++"]}
+# The index of the documents 1 to 1000, by hand: 500, 333 and 200 numbers. Each word has one chunk. Its ids have the high bytes 0 to 3, each with
+# more than 32 low ones, which take 32 bytes of bits: the body is a byte, 4 high bytes, 4 counts and 4 * 32 bytes, 137. Before it are byte 0, 2 bytes
+# for their number, 1 for one chunk, 1 of sizes, 2 for its key, 1 for 137, and the number again, in 2 bytes or in 1 if it is below 256: 10 or 9.
+# So even and fizz have 147 bytes, and buzz 146. Below 128 ids there are byte 0, the first id and groups of 32 codes: the 33 multiples of 30 have
+# a group of 32 codes 29 at width 5, in 1 and 20 bytes.
 INDEX = """\
-3 words in 278 bytes
-fizz AND buzz AND even: 33 documents in 24 bytes, [30, 60, 90, 120] ..
-fizz OR buzz: 467 documents in 133 bytes, [3, 5, 6, 9] ..
-even NOT fizz: 334 documents in 97 bytes, [2, 4, 8, 10] ..
-(fizz OR buzz) NOT even: 234 documents in 99 bytes, [3, 5, 9, 15] ..
+3 words in 440 bytes
+fizz AND buzz AND even: 33 documents in 23 bytes, [30, 60, 90, 120] ..
+fizz OR buzz: 467 documents in 147 bytes, [3, 5, 6, 9] ..
+even NOT fizz: 334 documents in 147 bytes, [2, 4, 8, 10] ..
+(fizz OR buzz) NOT even: 234 documents in 146 bytes, [3, 5, 9, 15] ..
 fizz AND odd: 0 documents in 1 bytes, [] ..
 """
-# Gaps of 2 and 4 in turn: one less are 1 and 3, two bits each, and so 2 * 16 bytes for each block of 128.
 PROGRAMS = {
     # Gaps of 3: two bits each, and so 2 * 16 bytes.
     "examples/block.c": "128 ids in 32 bytes\n",
+    # Gaps of 2 and 4 in turn: one less are 1 and 3, two bits each, and so 2 * 16 bytes for each block of 128.
+    "examples/chain.c": "300 numbers: 2 and 2 bits, 64 bytes, 44 numbers as they are\n",
     # Byte 0, the first id as a number, and a group of the three codes 1, 0 and 289: a byte with their width 9, and 27 bits.
-    "examples/list.c": "4 ids in 7 bytes\n",
-    "examples/posting_list.c": "300 numbers: 2 and 2 bits, 64 bytes, 44 numbers as they are\n",
-    # A header of 7 bytes, 2 entries of 9, those blocks, and 44 numbers of 4 bytes; the last number is 3 * 299 + 1.
-    "examples/packed_list.c": "300 numbers in 265 bytes, the last 898\nthe first from 500 on is 502, at position 167\n",
+    "examples/id_set.c": "4 ids in 7 bytes\nthe first from 100 on is 300, at position 3\nin both: 9\nin both: 300\n",
+    # Those four ids, and a fifth with the code 4: four codes of 9 bits take 5 bytes after the byte with their width.
+    "examples/growing_set.c": "4 and 1 ids in 8 bytes\nleft: 10\nleft: 305\n",
     # Row r costs 5000 and 37 * r, modulo 1000. Since 37 * 973 is 36001, each price from 5000 to 5999 is there once, and 1 more is 27 rows before.
     # 5100 is in row 300. Each block and each group has a price more than 511 above the least, and so 10 bits. The column has byte 0, 2 bytes for
     # 1000, 1 of sizes, 7 ends of 1 and 7 marks of 2, 7 * 160 of blocks, and 2 of the least of the 104 other prices, whose groups have 41, 41, 41
     # and 11 bytes.
     "examples/column.c": "1000 prices in 1281 bytes\nrow 300: 5100\n20 rows: 3 30 57 84 111 138 165 192 219 246 273 300 787 814 841 868 895 922 949 976\n",
-    # The second 10 is refused; the others are those of examples/list.c.
-    "examples/builder.c": "10 is out of order\n4 ids in 7 bytes\n",
-    # The ids up to 2997 have 12 high bytes, each with 85 or 86 low ones, which take 32 bytes of bits. The body is a byte, the 12 high bytes, 12
-    # counts and 12 * 32 bytes: 409. Before it are byte 0, 2 bytes for 1000, 1 for one chunk, 1 of sizes, 2 for its key, and 2 each for 409 and
-    # 1000. 600 is the id at position 200. Both sets have the multiples of 6 up to 1998, which are 334.
-    "examples/id_set.c": "1000 ids in 420 bytes\n600: yes, 601: no\nthe first from 601 on is 603, at position 201\n"
-    "334 ids are in both sets, the last is 1998\n1666 ids are in one or both\n",
     "examples/index.c": INDEX,
     CALLS: "",
-    "scripts/test/cursor.c": "",
-    COLUMNS: "",
-    BLOCKS: "",
-    BUILDER: "",
-    LIST_CALLS: "",
     # Each row of the tables that it is given.
-    TABLES: "1322 lists, 2445 refusals, 116 packed anew\n",
-    QUERIES: "8116 searches, 242 pairs, 156 refusals\n",
-    # Of a fixed seed and these tables: other rows give other numbers.
-    DAMAGED: "50000 damaged lists: "
-    "10450 opened, 11472 Short, 2227 BadVersion, 1760 BadKind, 638 WrongLanes, "
-    "1049 TooLong, 1691 BadWidth, 1025 LooseWidth, 2375 BadOffset, 3165 BadLast, "
-    "1915 NotSorted, 4658 Trailing, 3600 BadNumber, 572 Padding, 2421 BadSizes, 982 BadBits\n",
-    # The lists of the tables that are in order: each alone, n ^ 2 pairs, and as many triples of 17 of them, by three calls; and 4,000 unions.
-    # Then each with the array of each, by three calls, and with no value and four values, by three and two. And so 27 more lists, but each two of
-    # these with six of them.
-    SETS: "580 lists, 953215 combined, 640810 counted, 925994 with an array\n",
     ID_SETS: "360 sets, 2052 refusals, 102 pairs\n",
+    SET_PARTS: "360 sets in parts, 102 pairs\n",
     COLUMN_TABLES: "727 columns, 2605 refusals\n",
     COLUMN_PARTS: "727 columns in parts\n",
 }
 # For each program that prints nothing, a function of the header that it calls, and that function with a wrong answer.
-CALLED = {
-    CALLS: "bitpacking_version",
-    LIST_CALLS: "bitpacking_list_len",
-    "scripts/test/cursor.c": "bitpacking_cursor_position",
-    COLUMNS: "bitpacking_list_count_between",
-    BLOCKS: "bitpacking_list_block_count",
-    BUILDER: "bitpacking_list_builder_len",
-}
+CALLED = {CALLS: "bitpacking_version"}
 ONE_MORE = """#include "bitpacking.h"
 
 {returned}__real_{name}({given});
@@ -118,19 +90,12 @@ ONE_MORE = """#include "bitpacking.h"
     return __real_{name}({passed}) + 1;
 }}
 """
-VECTORS = {SETS: ["lists2", "lists3"], DAMAGED: ["lists2", "lists3", "lists4", "refused2", "refused3", "refused4"]}
-VECTORS[TABLES] = [*VECTORS[DAMAGED], "upgrade4"]
-VECTORS[ID_SETS] = ["id_sets", "refused_id_sets", "combined_id_sets"]
-VECTORS[COLUMN_TABLES] = ["columns", "refused_columns"]
-VECTORS[COLUMN_PARTS] = ["columns"]
-VECTORS[QUERIES] = ["seek", "seek3", "seek4", "intersect", "union", "difference", "refused_values"]
-# The same of a million damaged lists.
-MILLION = (
-    "1000000 damaged lists: "
-    "210108 opened, 232154 Short, 44766 BadVersion, 34475 BadKind, 13457 WrongLanes, "
-    "21273 TooLong, 32585 BadWidth, 18887 LooseWidth, 45691 BadOffset, 62046 BadLast, "
-    "38561 NotSorted, 92427 Trailing, 73754 BadNumber, 11647 Padding, 47760 BadSizes, 20409 BadBits\n"
-)
+VECTORS = {
+    ID_SETS: ["id_sets", "refused_id_sets", "combined_id_sets"],
+    SET_PARTS: ["id_sets", "combined_id_sets"],
+    COLUMN_TABLES: ["columns", "refused_columns"],
+    COLUMN_PARTS: ["columns"],
+}
 
 
 def works(command, **given):
@@ -161,35 +126,22 @@ def places():
             leave_out(f"the C programs at the level {level}", "which this processor does not have")
 
 
-@functools.cache
-def long_lists():
-    """The lists of vectors/digests.tsv that C reads, as vectors/assemble.py prints them."""
-    return "".join(run(sys.executable, f"{ROOT}/vectors/assemble.py", "--long", version).stdout for version in ["2", "3", "4"])
-
-
-def some_lists4():
-    """Every fifth row of vectors/lists4.tsv: each is combined with each."""
-    head, *rows = source("vectors/lists4.tsv").splitlines(keepends=True)
-    return "".join([head, *rows[::5]])
-
-
 def given(program):
     """What a program reads."""
     if program not in VECTORS:
         return {}
-    tables = "".join(source(f"vectors/{table}.tsv") for table in VECTORS[program])
-    return {"input": tables + (long_lists() if program == TABLES else some_lists4() if program == SETS else "")}
+    return {"input": "".join(source(f"vectors/{table}.tsv") for table in VECTORS[program])}
 
 
-def compiled_and_run(archive, path, command, arguments=(), printed=None, **more):
-    """What is wrong with a program over an archive, or None. The command is that of the compiler. It prints what PROGRAMS says, or with
-    arguments what is given here."""
+def compiled_and_run(archive, path, command, printed=None, **more):
+    """What is wrong with a program over an archive, or None. The command is that of the compiler. It prints what PROGRAMS says, or what is
+    given here."""
     with tempfile.TemporaryDirectory(prefix="c-") as folder:
         program = f"{folder}/program"
         right, text = works([*command, f"{ROOT}/{path}", "-x", "none", archive, "-o", program])
         if not right:
             return text
-        right, text = works([program, *arguments], **given(path), **more)
+        right, text = works([program], **given(path), **more)
         wanted = PROGRAMS[path] if printed is None else printed
         return None if right and text == wanted else f"it failed, and printed {text[:2000]}"
 
@@ -238,27 +190,52 @@ def macros_not_named():
     return f"none names {' '.join(sorted(macros - used))}" if macros - used else None
 
 
-def casts_in_the_header():
-    """What a C++ compiler says of casts of C in the header and its macros, or None."""
+def uses():
+    """A program in C and C++ that uses each macro of the header. Its structs begin as they do in a program of a user."""
     macros = re.findall(r"^#define (BITPACKING_\w+)(\(\w+\))? ", source("include/bitpacking.h"), re.M)
-    uses = [f"used({name}{'(1)' if given else ''});" for name, given in macros if not name.endswith("_EMPTY")]
-    lines = ["template <typename Item> static void used(Item) {}", "int main() { bitpacking_list list = BITPACKING_LIST_EMPTY; used(list);"]
-    lines.append("bitpacking_set set = BITPACKING_SET_EMPTY; used(set); bitpacking_column column = BITPACKING_COLUMN_EMPTY; used(column);")
-    text = "\n".join(['#include "bitpacking.h"', *lines, *uses, "used(bitpacking_list_empty()); }", ""])
-    right, said = works(["c++", *STRICT, "-Wold-style-cast", "-x", "c++", "-fsyntax-only", "-"], input=text)
+    names = [(name, name.removesuffix("_EMPTY").lower()) for name, _ in macros if name.endswith("_EMPTY")]
+    empty = [f"    {struct} {struct[11:]} = {name}, two_{struct[11:]}[2] = {{{name}, {name}}};" for name, struct in names]
+    used = [f"    sum += {name}{'(1)' if given else ''} != 0;" for name, given in macros if not name.endswith("_EMPTY")]
+    sizes = [f"    sum += sizeof {struct[11:]} != sizeof two_{struct[11:]};" for _, struct in names]
+    return "\n".join(
+        ['#include "bitpacking.h"', "int main(void)", "{", *empty, "    unsigned sum = 0;", *used, *sizes, "    return sum == 0;", "}", ""]
+    )
+
+
+def warned(compiler, language, standard, header=f"{ROOT}/include", *more):
+    """What a compiler says of the header, or None."""
+    words = [*WARNINGS, *WARNINGS_OF[language], *more]
+    known = [it for it in words if it != "-Wc++-compat" or compiler == "gcc"]
+    right, said = works([compiler, "-x", language, f"-std={standard}", *known, f"-I{header}", "-"], input=uses())
     return None if right else said or "it is refused"
+
+
+def headers():
+    """The header with each compiler, language and size of a pointer: each as a name and what is wrong, or None. Then one that warns."""
+    for language, compilers in COMPILERS.items():
+        for compiler in compilers:
+            if not shutil.which(compiler):
+                leave_out(f"the header with {compiler}", "which is not here")
+                continue
+            for bits in ["-m64", "-m32"]:
+                said = [warned(compiler, language, it, f"{ROOT}/include", bits, "-ffreestanding") for it in STANDARDS[language]]
+                yield f"the header with {compiler} {bits}", "\n".join(filter(None, said)) or None
+    with tempfile.TemporaryDirectory(prefix="c-") as folder:
+        choosing.written(
+            f"{folder}/bitpacking.h", source("include/bitpacking.h").replace("SET_EMPTY {NULL, 0, 0, 0, NULL, 0}", "SET_EMPTY {NULL, 0}")
+        )
+        yield "a header that warns", None if "missing" in (warned("cc", "c", "c99", folder) or "") else "it is not refused"
 
 
 def checks():
     """Each check as a name and what is wrong, or None."""
     yield f"the macros in {', '.join(NAMING)}", macros_not_named()
+    yield from headers()
     sanitizers, in_cpp = has_sanitizers(), shutil.which("c++")
     if not sanitizers:
         leave_out("the C programs under the address sanitizer", "which cc does not have here")
-    if in_cpp:
-        yield "the header without casts of C", casts_in_the_header()
-    else:
-        leave_out(f"{CALLS} and {LIST_CALLS} as C++", "since there is no c++")
+    if not in_cpp:
+        leave_out(f"{CALLS} as C++", "since there is no c++")
     for level, archive in places():
         for program in PROGRAMS:
             yield f"{program} at {level}", compiled_and_run(archive, program, C99, preexec_fn=with_little_stack)
@@ -266,10 +243,7 @@ def checks():
                 yield f"{program} at {level}, sanitized", compiled_and_run(archive, program, [*C99, *SANITIZED])
         for standard in ["c++11", "c++17"] if in_cpp else []:
             command = ["c++", f"-std={standard}", *STRICT, "-x", "c++"]
-            for program in [CALLS, LIST_CALLS]:
-                yield f"{program} as {standard} at {level}", compiled_and_run(archive, program, command)
-    command = [*C99, "-O2"]
-    yield f"{DAMAGED} with a million lists", compiled_and_run(f"{archives.OUT}/{archives.ALL}", DAMAGED, command, ["1000000"], MILLION)
+            yield f"{CALLS} as {standard} at {level}", compiled_and_run(archive, CALLS, command)
     yield from on_other_processors()
     yield from wrong_ones()
 

@@ -72,6 +72,7 @@ def checks():
             yield "the size of the shared library", None if size < SHARED else f"it has {size} bytes"
             yield "the size of a program", small(prefix, folder)
             yield from said(prefix)
+            yield from packaged.by_cmake(prefix, "rustc")
             yield from programs(prefix)
         for words, status in (["--from", "nowhere"], 2), (["--from", "cargo", "--level", archives.ARM], 1):
             done = packaged.by_script(f"{folder}/other", *words)

@@ -57,21 +57,17 @@ static void none(void)
     EXPECT(memcmp(values, back, sizeof values), 0);
 }
 
-/* Versions and kinds are their bytes in a text of version 2. The room of a list is a constant expression. */
+/* Kinds and rooms, whose values programs may store. A room is a constant expression, also of a sum. */
 static void constants(void)
 {
-    uint8_t bytes[BITPACKING_LIST_ROOM(33)];
+    uint8_t set[BITPACKING_SET_ROOM(30 + 3)], column[BITPACKING_COLUMN_ROOM(30 + 3)];
 
     EXPECT(BITPACKING_PLAIN, 0);
     EXPECT(BITPACKING_SORTED, 1);
-    EXPECT(BITPACKING_STRICTLY_SORTED, 2);
-    EXPECT(BITPACKING_LIST_VERSION_2, 2);
-    EXPECT(BITPACKING_LIST_VERSION_3, 3);
-    EXPECT(BITPACKING_LIST_NEWEST, 4);
-    EXPECT(BITPACKING_LIST_ROOM(0), 7);
-    EXPECT(BITPACKING_LIST_ROOM(31), 7 + 31 * 4);
-    EXPECT(BITPACKING_LIST_ROOM(30 + 2), 7 + 32 * 4 + 9);
-    EXPECT(sizeof bytes, 7 + 33 * 4 + 9);
+    EXPECT(BITPACKING_SET_ROOM(0), 10);
+    EXPECT(sizeof set, 10 + 33 * 9 / 2);
+    EXPECT(BITPACKING_COLUMN_ROOM(0), 16);
+    EXPECT(sizeof column, 16 + 33 * 4 + 33 / 4);
 }
 
 /* Each error of the calls on blocks, and that the buffers are as they were. */
@@ -102,6 +98,8 @@ static void errors(void)
     EXPECT(bitpacking_8x_compress(values, 256, bytes, 1024, BITPACKING_MAX_WIDTH), 1024);
     EXPECT(sizeof values / sizeof *values, BITPACKING_8X_BLOCK_LEN);
     EXPECT(BITPACKING_MAX_LANES * BITPACKING_LANE_LEN, BITPACKING_8X_BLOCK_LEN);
+    EXPECT(BITPACKING_1X_BLOCK_LEN + BITPACKING_4X_BLOCK_LEN, 160);
+    EXPECT(BITPACKING_1X_BLOCK_SIZE(1 + 1) + BITPACKING_4X_BLOCK_SIZE(1 + 1) + BITPACKING_8X_BLOCK_SIZE(1 + 1), 8 + 32 + 64);
 }
 
 /* A chain of one lane, worked by hand: 32 gaps of 1 at one bit each, and 32 gaps of 2 at two bits each. */
@@ -141,258 +139,157 @@ static void chains(void)
     EXPECT(bitpacking_1x_unpack_all(NULL, 0, NULL, 0, NULL, 0), 0);
 }
 
-/* A list of version 2, worked by hand: the values 0 to 32, strictly sorted, in one lane. The first 32 are a block of width 0. */
-static void lists(void)
+/* The set of 7, 9, 10, 300, worked by hand: byte 0 says that there are four, then the first, and the codes 1, 0 and 289 at width 9. */
+static void sets(void)
 {
-    static const uint8_t right[20] = {2, 2, 1, 33, 0, 0, 0, /* version, kind, lanes, count */
-                                      0, 0, 0, 0, 0, 31, 0, 0, 0, /* width, offset and last value of the block */
-                                      32, 0, 0, 0}; /* the value after it */
-    static const struct {
-        int index;
-        uint8_t byte;
-        ptrdiff_t fault;
-    } faults[] = {{0, 1, BITPACKING_LIST_BAD_VERSION}, {1, 3, BITPACKING_LIST_BAD_KIND},   {2, 2, BITPACKING_LIST_WRONG_LANES},
-                  {6, 17, BITPACKING_LIST_TOO_LONG},   {7, 33, BITPACKING_LIST_BAD_WIDTH}, {7, 1, BITPACKING_LIST_SHORT},
-                  {8, 1, BITPACKING_LIST_BAD_OFFSET},  {12, 30, BITPACKING_LIST_BAD_LAST}, {16, 31, BITPACKING_LIST_NOT_SORTED}};
-    bitpacking_list list = BITPACKING_LIST_EMPTY;
-    uint8_t text[21], loose[20] = {2, 0, 1, 32, 0, 0, 0, 1}; /* a block of zeros at width 1 */
-    uint32_t value = 77;
-    size_t i, position = 78;
+    static const uint8_t right[7] = {0x84, 7, 9, 1, 0, 0x84, 4};
+    static const uint32_t ids[4] = {7, 9, 10, 300}, twice[3] = {7, 9, 9};
+    bitpacking_set views[2] = {BITPACKING_SET_EMPTY, BITPACKING_SET_EMPTY};
+    uint32_t found[8], id = 77;
+    uint8_t bytes[BITPACKING_SET_ROOM(4)];
+    size_t position = 78, i;
 
-    EXPECT(bitpacking_list_len(&list), 0);
-    EXPECT(bitpacking_list_get(&list, 0, &value), 0);
-    EXPECT(bitpacking_list_seek(&list, 0, &position, &value), BITPACKING_LIST_BAD_KIND); /* the empty list is plain */
-    EXPECT(value, 77);
+    EXPECT(bitpacking_set_pack(ids, 4, bytes, 6, &position), BITPACKING_SHORT);
+    EXPECT(bitpacking_set_pack(twice, 3, bytes, sizeof bytes, NULL), BITPACKING_NOT_SORTED);
     EXPECT(position, 78);
-    memcpy(text, right, sizeof right);
-    text[20] = 0;
-    for (i = 0; i < sizeof faults / sizeof *faults; i++) {
-        text[faults[i].index] = faults[i].byte;
-        EXPECT(bitpacking_list_open(text, 20, &list), faults[i].fault);
-        text[faults[i].index] = right[faults[i].index];
-    }
-    EXPECT(bitpacking_list_open(text, 19, &list), BITPACKING_LIST_SHORT);
-    EXPECT(bitpacking_list_open(text, 21, &list), BITPACKING_LIST_TRAILING);
-    EXPECT(bitpacking_list_open(loose, 20, &list), BITPACKING_LIST_LOOSE_WIDTH);
-    EXPECT(bitpacking_list_open(NULL, 0, &list), BITPACKING_LIST_SHORT);
-    EXPECT(bitpacking_list_len(&list), 0); /* as it was */
-    EXPECT(bitpacking_list_open(text, 20, &list), 0);
-    EXPECT(bitpacking_list_len(&list), 33);
-    EXPECT(bitpacking_list_kind(&list), 2);
-    for (i = 0; i < 33; i++) {
-        EXPECT(bitpacking_list_get(&list, i, &value), 1);
-        EXPECT(value, (ptrdiff_t)i);
-        EXPECT(bitpacking_list_seek(&list, (uint32_t)i, &position, &value), 1);
-        EXPECT(value, (ptrdiff_t)i);
-        EXPECT(position, (ptrdiff_t)i);
-    }
-    EXPECT(bitpacking_list_get(&list, 33, &value), 0);
-    EXPECT(bitpacking_list_get(&list, (size_t)-1, &value), 0);
-    EXPECT(bitpacking_list_seek(&list, 33, &position, &value), 0);
-    EXPECT(bitpacking_list_seek(&list, UINT32_MAX, &position, &value), 0);
-    EXPECT(value, 32);
-    EXPECT(position, 32);
+    EXPECT((bitpacking_set_pack)(twice, 3, bytes, sizeof bytes, &position), BITPACKING_NOT_SORTED);
+    EXPECT(position, 2);
+    EXPECT(bitpacking_set_pack(ids, 4, bytes, sizeof bytes, NULL), 7);
+    EXPECT(memcmp(bytes, right, 7), 0);
+    EXPECT(bitpacking_set_open(bytes, 6, &views[0]), BITPACKING_TRUNCATED);
+    EXPECT(bitpacking_set_len(&views[0]), 0);
+    EXPECT(bitpacking_set_open(bytes, 7, &views[0]), 0);
+    bitpacking_set_open_tested(bytes, 7, &views[1]);
+    EXPECT(bitpacking_set_len(&views[1]), 4);
+    EXPECT(bitpacking_set_contains(&views[0], 10), 1);
+    EXPECT(bitpacking_set_contains(&views[0], 11), 0);
+    EXPECT(bitpacking_set_get(&views[0], 4, &id), 0);
+    EXPECT(bitpacking_set_seek(&views[0], 301, &position, &id), 0);
+    EXPECT(position + id, 79);
+    EXPECT(bitpacking_set_get(&views[0], 1, &id), 1);
+    EXPECT(id, 9);
+    EXPECT(bitpacking_set_seek(&views[0], 11, &position, &id), 1);
+    EXPECT(position, 3);
+    EXPECT(id, 300);
+    EXPECT(bitpacking_set_unpack(&views[0], found, 8), 4);
+    EXPECT(bitpacking_set_intersect(views, 2, found, 8), 4);
+    EXPECT(bitpacking_set_unite(views, 2, found, 8), 4);
+    for (i = 0; i < 4; i++)
+        EXPECT(found[i], (ptrdiff_t)ids[i]);
+    EXPECT(bitpacking_set_subtract(views, 2, found, 8), 0);
+    EXPECT(bitpacking_set_count_common(views, 2), 4);
+    EXPECT(bitpacking_set_count_any(views, 2), 4);
 }
 
-/* The same list in version 3, worked by hand: byte 0 says one lane, strictly sorted and a count that follows. After the block is a group of
-   one code, 0, at width 0. And strictly sorted 7, 9, 10, 300 in four lanes: the first value, and the codes 1, 0 and 289 at width 9. */
-static void lists_of_version_3(void)
+/* The sorted column of 5, 5, 9, worked by hand: byte 0 says sorted and three values, then the first, and the codes 0 and 4 at width 3. */
+static void columns(void)
 {
-    static const uint8_t right[12] = {0x6F, 33, 0, 0, 0, 0, 0, 31, 0, 0, 0, 0}, four[7] = {0xA4, 7, 9, 1, 0, 0x84, 4};
+    static const uint8_t right[4] = {0x63, 5, 3, 0x20};
+    static const uint32_t values[3] = {5, 5, 9}, falls[3] = {5, 9, 8};
+    static const size_t positions[2] = {2, 3};
+    bitpacking_column column = BITPACKING_COLUMN_EMPTY;
+    uint32_t found[4] = {77, 77, 77, 77}, value = 77, greatest = 77;
+    uint64_t sums[3], sum = 77;
+    uint8_t bytes[BITPACKING_COLUMN_ROOM(6)];
+    size_t position = 78, rows[4];
+
+    EXPECT(bitpacking_column_pack(2, values, 3, bytes, sizeof bytes, NULL), BITPACKING_BAD_KIND);
+    EXPECT(bitpacking_column_pack(BITPACKING_SORTED, falls, 3, bytes, sizeof bytes, &position), BITPACKING_NOT_SORTED);
+    EXPECT(position, 2);
+    EXPECT(bitpacking_column_size(BITPACKING_SORTED, values, 3, NULL), 4);
+    EXPECT(bitpacking_column_pack(BITPACKING_SORTED, values, 3, bytes, 4, NULL), 4);
+    EXPECT(memcmp(bytes, right, 4), 0);
+    EXPECT(bitpacking_column_seek(&column, 5, &position, &value), BITPACKING_BAD_KIND);
+    EXPECT(bitpacking_column_open(bytes, 5, &column), BITPACKING_TRAILING);
+    EXPECT(bitpacking_column_open(bytes, 4, &column), 0);
+    EXPECT(bitpacking_column_len(&column), 3);
+    EXPECT(bitpacking_column_kind(&column), BITPACKING_SORTED);
+    EXPECT(bitpacking_column_seek(&column, 6, &position, &value), 1);
+    EXPECT(position, 2);
+    EXPECT(value, 9);
+    EXPECT(bitpacking_column_gather(&column, positions, 2, found, 4), BITPACKING_BAD_POSITION);
+    EXPECT(bitpacking_column_bounds(&column, 0, &value, &greatest), BITPACKING_BAD_BLOCK);
+    EXPECT(found[0], 77);
+    EXPECT(bitpacking_column_gather(&column, positions, 1, found, 4), 1);
+    EXPECT(found[0], 9);
+    EXPECT(bitpacking_column_range(&column, 1, found, 4), 2);
+    EXPECT(found[0], 5);
+    EXPECT(bitpacking_column_unpack(&column, found, 2), BITPACKING_SHORT);
+    EXPECT(bitpacking_column_between(&column, 5, 8, 0, rows, 4), 2);
+    EXPECT(rows[1], 1);
+    EXPECT(bitpacking_column_count_between(&column, 5, 8), 2);
+    EXPECT(bitpacking_column_get_wide(&column, BITPACKING_MAX_BASE + 1, 0, &sum), BITPACKING_BAD_BASE);
+    EXPECT(sum == 77, 1);
+    EXPECT(bitpacking_column_get_wide(&column, BITPACKING_MAX_BASE, 2, &sum), 1);
+    EXPECT(sum == BITPACKING_MAX_BASE + 9, 1);
+    EXPECT(bitpacking_column_unpack_wide(&column, BITPACKING_MAX_BASE, sums, 3), 3);
+    EXPECT(sums[1] == BITPACKING_MAX_BASE + 5, 1);
+    EXPECT(bitpacking_column_join(&column, UINT32_MAX - 8, &column, found, 4, bytes, sizeof bytes, &position), BITPACKING_BAD_BASE);
+    EXPECT(position, 2);
+}
+
+/* A builder without room, and one of the column above. */
+static void builders(void)
+{
+    static const uint8_t right[4] = {0x63, 5, 3, 0x20};
+    static const uint32_t values[2] = {5, 9};
+    bitpacking_column_builder builder = BITPACKING_COLUMN_BUILDER_EMPTY;
+    uint32_t room[3];
+    uint8_t bytes[BITPACKING_COLUMN_ROOM(3)];
+    size_t position = 78;
+
+    EXPECT(bitpacking_column_builder_push(&builder, 5), BITPACKING_SHORT);
+    EXPECT(bitpacking_column_builder_start(&builder, 2, room, 3), BITPACKING_BAD_KIND);
+    EXPECT(bitpacking_column_builder_start(&builder, BITPACKING_SORTED, room, 3), 0);
+    EXPECT(bitpacking_column_builder_push(&builder, 5), 1);
+    EXPECT(bitpacking_column_builder_push(&builder, 4), BITPACKING_NOT_SORTED);
+    EXPECT(bitpacking_column_builder_extend(&builder, values, 2, &position), 3);
+    EXPECT(position, 78);
+    EXPECT(bitpacking_column_builder_len(&builder), 3);
+    EXPECT(bitpacking_column_builder_finish(&builder, bytes, sizeof bytes), 4);
+    EXPECT(memcmp(bytes, right, 4), 0);
+}
+
+/* Each error of the header has its number and its sentence, and no other number has one of these. */
+static void texts(void)
+{
     static const struct {
-        size_t len;
-        uint8_t bytes[3];
-        ptrdiff_t fault;
-    } faults[] = {{0, {0}, BITPACKING_LIST_SHORT},
-                  {1, {0x70}, BITPACKING_LIST_BAD_KIND},
-                  {3, {0x41, 0x85, 0}, BITPACKING_LIST_BAD_NUMBER},
-                  {3, {0x41, 5, 0}, BITPACKING_LIST_TRAILING}};
-    static const uint8_t padded[4] = {0x42, 5, 1, 3}, *no_bytes = NULL;
-    bitpacking_list list;
-    uint32_t values[35], value = 77;
-    size_t i, position = 78;
+        ptrdiff_t number, right;
+    } errors[] = {{BITPACKING_BAD_LENGTH, -1},       {BITPACKING_BAD_WIDTH, -2},    {BITPACKING_SHORT, -3},
+                  {BITPACKING_UNFIT, -4},            {BITPACKING_BAD_POSITION, -5}, {BITPACKING_BAD_BLOCK, -6},
+                  {BITPACKING_BAD_BASE, -7},         {BITPACKING_TRUNCATED, -21},   {BITPACKING_BAD_VERSION, -22},
+                  {BITPACKING_BAD_KIND, -23},        {BITPACKING_TOO_LONG, -25},    {BITPACKING_BAD_GROUP_WIDTH, -26},
+                  {BITPACKING_LOOSE_WIDTH, -27},     {BITPACKING_BAD_OFFSET, -28},  {BITPACKING_BAD_LAST, -29},
+                  {BITPACKING_NOT_SORTED, -30},      {BITPACKING_TRAILING, -31},    {BITPACKING_BAD_NUMBER, -33},
+                  {BITPACKING_PADDING, -34},         {BITPACKING_BAD_SIZES, -36},   {BITPACKING_BAD_KEY, -38},
+                  {BITPACKING_BAD_SUM, -39},         {BITPACKING_BAD_BODY, -40},    {BITPACKING_LOOSE_BODY, -41},
+                  {BITPACKING_LOOSE_FORM, -42}};
+    enum { COUNT = sizeof errors / sizeof *errors };
+    const char *const no_error = "No error has this number.";
+    ptrdiff_t number;
+    size_t others = 0, i, j;
 
-    memset(&list, 0, sizeof list); /* an empty list */
-    EXPECT(bitpacking_list_len(&list), 0);
-    EXPECT(bitpacking_list_kind(&list), 0);
-    EXPECT(bitpacking_list_get(&list, 0, &value), 0);
-    EXPECT(bitpacking_list_seek(&list, 0, &position, &value), BITPACKING_LIST_BAD_KIND);
-    EXPECT(bitpacking_list_unpack(&list, NULL, 0), 0);
-    for (i = 0; i < sizeof faults / sizeof *faults; i++)
-        EXPECT(bitpacking_list_open(i == 0 ? no_bytes : faults[i].bytes, faults[i].len, &list), faults[i].fault);
-    EXPECT(bitpacking_list_open(padded, 4, &list), BITPACKING_LIST_PADDING);
-    EXPECT(list.bytes == NULL && list.bytes_len == 0 && list.lanes == 0, 1);
-    EXPECT(bitpacking_list_open(right, 12, &list), 0);
-    EXPECT(bitpacking_list_len(&list), 33);
-    EXPECT(bitpacking_list_kind(&list), 2);
-    EXPECT(bitpacking_list_get(&list, 32, &value), 1);
-    EXPECT(value, 32);
-    EXPECT(bitpacking_list_seek(&list, 32, &position, &value), 1);
-    EXPECT(position, 32);
-    memset(values, 9, sizeof values);
-    EXPECT(bitpacking_list_unpack(&list, values, 32), BITPACKING_SHORT);
-    EXPECT(values[0], 0x09090909);
-    EXPECT(bitpacking_list_unpack(&list, values, 35), 33);
-    for (i = 0; i < 33; i++)
-        EXPECT(values[i], (ptrdiff_t)i);
-    EXPECT(values[33], 0x09090909);
-    EXPECT(bitpacking_list_open(four, 7, &list), 0);
-    EXPECT(list.lanes, 4);
-    EXPECT(bitpacking_list_get(&list, 3, &value), 1);
-    EXPECT(value, 300);
-}
-
-/* Lists of version 4, worked by hand, in one lane. Strictly sorted 0 to 3, 8 to 11 and so on up to 59, and 70: a block that is a set of bits, which
-   is as long as its codes at 2 bits; and after it a group of one code, 10, at width 4. Plain 1000 to 1003 eight times: codes of 2 bits above the
-   least value. And a list shorter than a block, as in version 3. */
-static void lists_of_version_4(void)
-{
-    static const uint8_t set[15] = {0x16, 33, 0x11, 2, 59, 15, 15, 15, 15, 15, 15, 15, 15, 4, 10};
-    static const uint8_t plain[14] = {0x14, 32, 0x21, 2, 0xE8, 3, 0xE4, 0xE4, 0xE4, 0xE4, 0xE4, 0xE4, 0xE4, 0xE4};
-    static const uint8_t sizes[3] = {0x16, 32, 0x10}, none[9] = {0x16, 32, 0x11, 1, 31, 0, 0, 0, 0};
-    uint32_t values[33], back[33], value = 77;
-    uint8_t bytes[15];
-    bitpacking_list list = BITPACKING_LIST_EMPTY;
-    size_t i, position = 78;
-
-    for (i = 0; i < 33; i++)
-        values[i] = (uint32_t)(i == 32 ? 70 : 8 * (i / 4) + i % 4);
-    EXPECT(bitpacking_1x_list_size(BITPACKING_LIST_VERSION_4, BITPACKING_STRICTLY_SORTED, values, 33, &position), 15);
-    EXPECT(bitpacking_1x_list_pack(BITPACKING_LIST_VERSION_4, BITPACKING_STRICTLY_SORTED, values, 33, bytes, 15, &position), 15);
-    EXPECT(memcmp(bytes, set, 15), 0);
-    EXPECT(bitpacking_list_open(set, 15, &list), 0);
-    EXPECT(bitpacking_list_unpack(&list, back, 33), 33);
-    EXPECT(memcmp(values, back, sizeof values), 0);
-    EXPECT(bitpacking_list_get(&list, 31, &value), 1);
-    EXPECT(value, 59);
-    EXPECT(bitpacking_list_seek(&list, 20, &position, &value), 1);
-    EXPECT(position, 12);
-    EXPECT(value, 24);
-    for (i = 0; i < 32; i++)
-        values[i] = (uint32_t)(1000 + i % 4);
-    EXPECT(bitpacking_1x_list_pack(BITPACKING_LIST_VERSION_4, BITPACKING_PLAIN, values, 32, bytes, 15, &position), 14);
-    EXPECT(memcmp(bytes, plain, 14), 0);
-    EXPECT(bitpacking_1x_list_pack(BITPACKING_LIST_VERSION_4, BITPACKING_PLAIN, values, 2, bytes, 15, &position), 6);
-    EXPECT(bytes[0], 0x42);
-    EXPECT(bitpacking_list_open(sizes, 3, &list), BITPACKING_LIST_BAD_SIZES);
-    EXPECT(bitpacking_list_open(none, 9, &list), BITPACKING_LIST_BAD_BITS);
-}
-
-/* A list worked by hand for each packer: two whole blocks and one value after them, strictly sorted.
-   The gaps of the first block are 1 and 2 in turn, the codes 0 and 1: in one lane the bits 01010101, in more all bits of every other lane.
-   The gaps of the second are 4, the codes 3: each bit is set. */
-static void whole_blocks(uint8_t lanes, size_t len, size_t one_bit, size_t two_bits)
-{
-    enum { LONGEST = BITPACKING_8X_BLOCK_LEN };
-    uint8_t text[7 + 2 * 9 + BITPACKING_8X_BLOCK_SIZE(1 + 2) + 4] = {2, 2, 0, 0, 0, 0, 0, /* version, kind, lanes, count */
-                                                                     1, 0, 0, 0, 0}; /* width and offset of the first block */
-    uint32_t values[2 * LONGEST + 1], value, target;
-    bitpacking_list list = BITPACKING_LIST_EMPTY, copy;
-    size_t i, count = 2 * len + 1, size = 25, position, right;
-
-    for (i = 0; i < count; i++)
-        values[i] = i == 0 ? 0 : values[i - 1] + (i >= len ? 4 : i % 2 == 1 ? 2 : 1);
-    text[2] = lanes;
-    text[3] = (uint8_t)(count % 256);
-    text[4] = (uint8_t)(count / 256);
-    text[12] = (uint8_t)(values[len - 1] % 256);
-    text[13] = (uint8_t)(values[len - 1] / 256);
-    text[16] = 2; /* the width of the second block, and the sum of those before it */
-    text[17] = 1;
-    text[21] = (uint8_t)(values[2 * len - 1] % 256);
-    text[22] = (uint8_t)(values[2 * len - 1] / 256);
-    for (i = 0; i < one_bit; i++)
-        text[size++] = lanes == 1 ? 0xAA : i / 4 % 2 == 1 ? 0xFF : 0;
-    for (i = 0; i < two_bits; i++)
-        text[size++] = 0xFF;
-    text[size++] = (uint8_t)(values[count - 1] % 256);
-    text[size++] = (uint8_t)(values[count - 1] / 256);
-    size += 2;
-    EXPECT(bitpacking_list_open(text, size, &list), 0);
-    EXPECT(bitpacking_list_len(&list), (ptrdiff_t)count);
-    EXPECT(bitpacking_list_kind(&list), 2);
-    for (i = 0; i < count; i++) {
-        EXPECT(bitpacking_list_get(&list, i, &value), 1);
-        EXPECT(value, (ptrdiff_t)values[i]);
+    for (i = 0; i < COUNT; i++) {
+        EXPECT(errors[i].number, errors[i].right);
+        for (j = 0; j < i; j++)
+            EXPECT(strcmp(bitpacking_error_text(errors[i].number), bitpacking_error_text(errors[j].number)) != 0, 1);
     }
-    copy = list;
-    for (target = 0, right = 0; right < count; target++) {
-        EXPECT(bitpacking_list_seek(&copy, target, &position, &value), 1);
-        EXPECT(value, (ptrdiff_t)values[right]);
-        EXPECT(position, (ptrdiff_t)right);
-        right += target == values[right];
-    }
-    EXPECT(bitpacking_list_seek(&copy, target, &position, &value), 0);
-}
-
-/* A cursor over strictly sorted 7, 9, 10, 300 in four lanes of version 3, worked by hand: the inline forms and the functions of the archive
-   give the same. */
-static void cursors(void)
-{
-    static const uint8_t four[7] = {0xA4, 7, 9, 1, 0, 0x84, 4};
-    bitpacking_list list = BITPACKING_LIST_EMPTY;
-    bitpacking_cursor cursor;
-    uint32_t value = 77, other = 78;
-
-    memset(&cursor, 0, sizeof cursor);
-    EXPECT(bitpacking_list_open(four, 7, &list), 0);
-    bitpacking_cursor_start(&cursor, &list);
-    EXPECT(bitpacking_cursor_value(&cursor, &value), 1);
-    EXPECT((bitpacking_cursor_value)(&cursor, &other), 1);
-    EXPECT(value, 7);
-    EXPECT(other, 7);
-    EXPECT(bitpacking_cursor_advance(&cursor), 1);
-    EXPECT(bitpacking_cursor_position(&cursor), 1);
-    EXPECT((bitpacking_cursor_advance)(&cursor), 1);
-    EXPECT((bitpacking_cursor_position)(&cursor), 2);
-    EXPECT(bitpacking_cursor_seek(&cursor, 11), 1);
-    EXPECT((bitpacking_cursor_seek)(&cursor, 300), 1);
-    EXPECT(bitpacking_cursor_value(&cursor, &value), 1);
-    EXPECT(value, 300);
-    EXPECT(bitpacking_cursor_seek(&cursor, 301), 0);
-    EXPECT(bitpacking_cursor_value(&cursor, &value), 0);
-}
-
-/* Positions in strictly sorted 0 to 32 in one lane of version 3, as above, and a position and a block that are not in the list. */
-static void positions(void)
-{
-    static const uint8_t right[12] = {0x6F, 33, 0, 0, 0, 0, 0, 31, 0, 0, 0, 0};
-    static const size_t last = 32, beyond = 33;
-    bitpacking_list list = BITPACKING_LIST_EMPTY;
-    size_t found[2] = {78, 79};
-    uint32_t least = 77, greatest = 78;
-
-    EXPECT(bitpacking_list_bounds(&list, 0, &least, &greatest), BITPACKING_BAD_BLOCK);
-    EXPECT(bitpacking_list_open(right, 12, &list), 0);
-    EXPECT(bitpacking_list_bounds(&list, 1, &least, &greatest), BITPACKING_BAD_BLOCK);
-    EXPECT(least + greatest, 155);
-    EXPECT(bitpacking_list_bounds(&list, 0, &least, &greatest), 0);
-    EXPECT(least, 0);
-    EXPECT(greatest, 31);
-    EXPECT(bitpacking_list_count_between(&list, 30, 40), 3);
-    EXPECT(bitpacking_list_between(&list, 30, 40, 32, found, 2), 1);
-    EXPECT(found[0], 32);
-    EXPECT(found[1], 79);
-    EXPECT(bitpacking_list_gather(&list, &last, 1, &least, 1), 1);
-    EXPECT(least, 32);
-    EXPECT(bitpacking_list_gather(&list, &beyond, 1, &least, 1), BITPACKING_BAD_POSITION);
-    EXPECT(least, 32);
+    EXPECT(strcmp(bitpacking_error_text(BITPACKING_TRUNCATED), "Bytes are missing."), 0);
+    for (number = -100; number <= 100; number++)
+        others += strcmp(bitpacking_error_text(number), no_error) == 0;
+    EXPECT(others, 201 - COUNT);
 }
 
 int main(void)
 {
-    whole_blocks(1, BITPACKING_1X_BLOCK_LEN, BITPACKING_1X_BLOCK_SIZE(1), BITPACKING_1X_BLOCK_SIZE(1 + 1));
-    whole_blocks(4, BITPACKING_4X_BLOCK_LEN, BITPACKING_4X_BLOCK_SIZE(1), BITPACKING_4X_BLOCK_SIZE(1 + 1));
-    whole_blocks(8, BITPACKING_8X_BLOCK_LEN, BITPACKING_8X_BLOCK_SIZE(1), BITPACKING_8X_BLOCK_SIZE(1 + 1));
     worked();
     none();
     constants();
     errors();
     chains();
-    lists();
-    lists_of_version_3();
-    lists_of_version_4();
-    cursors();
-    positions();
+    sets();
+    columns();
+    builders();
+    texts();
     return failed;
 }

@@ -1,12 +1,39 @@
 """The functions of the crates whose source changed since HEAD, and what the prover says of them over the libraries in out/proved/."""
 
+import dataclasses
 import os
 import re
 
 from common import ROOT, leave_out, run
-from marks import functions_of
-from texts import code
+from texts import code, end_of_braces
 import proving
+
+
+@dataclasses.dataclass(frozen=True)
+class Function:
+    path: str
+    name: str
+    start: int  # the index of `fn`
+    ends: int  # the index after its body
+    owner: str  # the type of its impl, its trait, or nothing
+    of_trait: bool  # whether its impl is of a trait
+
+
+def owners_in(text):
+    """The impls and traits of a text: where each begins and ends, its type, and whether it is an impl of a trait."""
+    for found in re.finditer(r"^(?:pub(?:\(\w+\))? )?(impl|trait)\b([^{;]*)\{", text, re.M):
+        head = re.sub(r"^<[^{]*?>(?= )", "", found[2].strip()).strip()
+        of = re.search(r"\bfor (\w+)", head)
+        name = of[1] if of else re.match(r"\w*", head)[0]
+        yield found.start(), end_of_braces(text, found.end() - 1), name, of is not None
+
+
+def functions_of(path, text):
+    """The functions of a text that runs."""
+    owners = list(owners_in(text))
+    for it in re.finditer(r"\bfn (\w+)([^{;]*)\{", text):
+        owner = [(name, of_trait) for start, end, name, of_trait in owners if start < it.start() < end] or [("", False)]
+        yield Function(path, it[1], it.start(), end_of_braces(text, it.end() - 1), *owner[-1])
 
 
 def crates():
@@ -28,11 +55,22 @@ def lines():
     return found | {path: [range(1, 1 << 20)] for path in new}
 
 
-def path_of(function):
-    """How `rattle check --only` names a function: an implementation of a trait by its module."""
-    parts = function.path.split("/", 3)[3][:-3].split("/")
-    module = [] if parts == ["lib"] else parts
-    return "::".join(module if function.of_trait else [*module, *([function.owner] if function.owner else []), function.name])
+def owners_in(text):
+    """The impls and traits of a text: where each begins and ends, its type, and whether it is an impl of a trait."""
+    for found in re.finditer(r"^(?:pub(?:\(\w+\))? )?(impl|trait)\b([^{;]*)\{", text, re.M):
+        head = re.sub(r"^<[^{]*?>(?= )", "", found[2].strip()).strip()
+        of = re.search(r"\bfor (\w+)", head)
+        yield found.start(), end_of_braces(text, found.end() - 1), of[1] if of else re.match(r"\w*", head)[0], of is not None
+
+
+def functions_of(path, text):
+    """Each function as `rattle check --only` names it, with its first and its last line: an implementation of a trait by its module."""
+    parts = path.split("/", 3)[3][:-3].split("/")
+    module, owners = [] if parts == ["lib"] else parts, list(owners_in(text))
+    for it in re.finditer(r"\bfn (\w+)([^{;]*)\{", text):
+        owner, of_trait = next(((name, of_trait) for start, end, name, of_trait in owners if start < it.start() < end), ("", False))
+        name = "::".join(module if of_trait else [*module, *([owner] if owner else []), it[1]])
+        yield name, *(text.count("\n", 0, index) + 1 for index in (it.start(), end_of_braces(text, it.end() - 1)))
 
 
 def by_crate():
@@ -40,11 +78,9 @@ def by_crate():
     found = {}
     for path, ranges in lines().items():
         if os.path.isfile(f"{ROOT}/{path}") and not re.search(r"/src/tests\b", path):
-            text = code(path)
-            for function in functions_of(path, text):
-                first, last = (text.count("\n", 0, index) + 1 for index in (function.start, function.ends))
+            for name, first, last in functions_of(path, code(path)):
                 if any(it.start <= last and first < it.stop for it in ranges):
-                    found.setdefault(path.split("/")[1], set()).add(path_of(function))
+                    found.setdefault(path.split("/")[1], set()).add(name)
     return found
 
 

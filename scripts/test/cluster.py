@@ -27,10 +27,12 @@ import python
 PART = "the index on many machines"
 MODULES = ["distributed", *(it for it in python.MODULES if it not in ("hypothesis", "build"))]
 PACKAGES = "python3-distributed python3-numpy python3-pytest python3-setuptools python3-wheel python3-venv python3-dev"
-EXAMPLE, TESTS = "examples/dask", "../examples/dask/test_index.py"
+EXAMPLE = "examples/dask"
+# The tests over a cluster, and those without one.
+TESTS = ["../examples/dask/test_index.py", "../examples/dask/test_shards.py"]
 PORT, MARK = "8786", "-- the next command --"
 MOST_LINES = 400
-# Wrong changes: a file of the example, lines in it and other lines, and the test that has to fail.
+# Wrong changes: a file of the example, lines in it and other lines, and the tests, of which one has to fail.
 WRONG = [
     ("index.py", 'part += np.uint64(shard["first"])', "pass", "test_answers"),
     ("index.py", "initial=first", "initial=0", "test_answers"),
@@ -41,9 +43,19 @@ WRONG = [
         'client.gather(list(files.values()), errors="skip")',
         "test_death_without_another_try",
     ),
-    ("shards.py", '"not": fimulowen.subtract', '"not": fimulowen.unite', "test_answers"),
+    ("index.py", "generation = uuid.uuid4().hex", 'generation = "0" * 32', "test_a_build_over_an_index"),
+    ("index.py", 'shutil.rmtree(f"{folder}/{generation}", ignore_errors=True)', "pass", "test_a_build_that_fails"),
+    ("index.py", "for it in before if GENERATION.fullmatch(it)", "for it in before", "test_only_generations_are_removed"),
+    ("shards.py", "        os.fsync(file.fileno())\n", "", "test_stored_before_it_is_named"),
+    (
+        "queries.py",
+        'unwanted if token.startswith("-") else wanted',
+        'unwanted if "-" in token else wanted',
+        "test_queries_are_split_as_documents_are",
+    ),
+    ("shards.py", '"not": fimulowen.subtract}', '"not": fimulowen.unite}', "test_answers"),
     ("shards.py", 'if zlib.crc32(text) != self.rows["crc"][at]:', "if False:", "test_each_bit"),
-    ("shards.py", "if zlib.crc32(memoryview(self.map)[: self.lists]) != crc:", "if False:", "test_damaged_files"),
+    ("shards.py", "if zlib.crc32(memoryview(self.map)[: self.sets]) != crc:", "if False:", "test_damaged_files"),
     ("shards.py", "if shard.map.size() != len(shard.map):", "if False:", "test_cut_after_it_was_mapped"),
 ]
 PATIENCE = 900
@@ -106,9 +118,13 @@ def wrong_change(package, number):
     with open(f"{mine.folder}/{name}", "w", encoding="utf-8") as file:
         file.write(text.replace(before, after))
     why = None if text.count(before) == 1 else f"its lines are there {text.count(before)} times"
-    found = [] if why else list(mine.tested("with a wrong change", "-x", f"{mine.folder}/test_index.py::{test}"))
+    found = (
+        []
+        if why
+        else list(mine.tested("with a wrong change", "-x", "-k", test, *(f"{mine.folder}/{os.path.basename(it)}" for it in TESTS)))
+    )
     # A cluster that does not start refuses nothing.
-    refused = any(wrong and not wrong.startswith("failed on setup") for _, wrong in found)
+    refused = any(wrong and test in it and not wrong.startswith("failed on setup") for it, wrong in found)
     return f"a wrong change of {name}: {after}", why or (None if refused else f"{test} does not fail: {found}")
 
 
@@ -123,7 +139,7 @@ def checks(interpreter):
         yield "the lines of the example", None if max(lines.values()) < MOST_LINES else f"there are {lines}"
         if not os.path.exists(f"{package.room}/bin/python"):
             return
-        yield from package.tested("of the index", TESTS)
+        yield from package.tested("of the index", *TESTS)
         with concurrent.futures.ThreadPoolExecutor(2) as pool:
             yield from pool.map(lambda number: wrong_change(package, number), range(len(WRONG)))
 

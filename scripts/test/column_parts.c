@@ -30,8 +30,8 @@ static void appends(uint8_t kind, size_t count, size_t size, size_t cut)
     if (kind == BITPACKING_SORTED && cut > 0 && values[cut - 1] > 0) {
         const uint32_t falls[2] = {values[cut - 1], values[cut - 1] - 1};
 
-        refused(bitpacking_column_append(&first, falls, 2, packed, 0, &position), BITPACKING_LIST_NOT_SORTED, "a fall is appended");
-        refused(bitpacking_column_append(&first, falls, 2, packed, ROOM, NULL), BITPACKING_LIST_NOT_SORTED, "a fall, and no position");
+        refused(bitpacking_column_append(&first, falls, 2, packed, 0, &position), BITPACKING_NOT_SORTED, "a fall is appended");
+        refused(bitpacking_column_append(&first, falls, 2, packed, ROOM, NULL), BITPACKING_NOT_SORTED, "a fall, and no position");
         expect(position == cut + 1, "another position of an appended fall");
     }
 }
@@ -72,7 +72,7 @@ static void joins(uint8_t kind, size_t count, size_t size, size_t cut, uint8_t o
 
         if (low + moved[0] < values[cut - 1]) {
             position = 77;
-            refused(bitpacking_column_join(&first, low, &other, work, left, packed, ROOM, &position), BITPACKING_LIST_NOT_SORTED, "a join falls");
+            refused(bitpacking_column_join(&first, low, &other, work, left, packed, ROOM, &position), BITPACKING_NOT_SORTED, "a join falls");
             expect(position == cut, "another position of a fall");
         }
     }
@@ -90,8 +90,8 @@ static void builds(uint8_t kind, size_t count, size_t size, size_t cut)
     if (kind == BITPACKING_SORTED && cut > 0 && values[cut - 1] > 0) {
         const uint32_t falls[2] = {values[cut - 1], values[cut - 1] - 1};
 
-        expect(bitpacking_column_builder_push(&builder, falls[1]) == BITPACKING_LIST_NOT_SORTED, "a fall is pushed");
-        expect(bitpacking_column_builder_extend(&builder, falls, 2, &position) == BITPACKING_LIST_NOT_SORTED && position == cut + 1, "falls");
+        expect(bitpacking_column_builder_push(&builder, falls[1]) == BITPACKING_NOT_SORTED, "a fall is pushed");
+        expect(bitpacking_column_builder_extend(&builder, falls, 2, &position) == BITPACKING_NOT_SORTED && position == cut + 1, "falls");
         position = 77;
     }
     expect(bitpacking_column_builder_len(&builder) == cut, "another number of pushed values");

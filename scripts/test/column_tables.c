@@ -33,8 +33,8 @@ static void packs(uint8_t kind, size_t count, size_t size)
     refused(bitpacking_column_pack(kind, values, count, packed, size - 1, &position), BITPACKING_SHORT, "it has too much room");
     wrote(bitpacking_column_pack(kind, values, count, packed, size, &position), size, "no room in its own length");
     wrote(bitpacking_column_pack(kind, values, count, packed, room, NULL), size, "other bytes");
-    refused(bitpacking_column_pack((uint8_t)(kind + 2), values, count, packed, room, &position), BITPACKING_LIST_BAD_KIND, "a kind");
-    expect(bitpacking_column_size(BITPACKING_STRICTLY_SORTED, values, count, &position) == BITPACKING_LIST_BAD_KIND, "the size of no kind");
+    refused(bitpacking_column_pack((uint8_t)(kind + 2), values, count, packed, room, &position), BITPACKING_BAD_KIND, "a kind");
+    expect(bitpacking_column_size(BITPACKING_SORTED + 1, values, count, &position) == BITPACKING_BAD_KIND, "the size of no kind");
     expect(position == 77, "a position is written");
 }
 
@@ -47,11 +47,11 @@ static void refuses_order(size_t count, size_t at)
     if (values[at - 1] == 0)
         return;
     values[at] = values[at - 1] - 1;
-    refused(bitpacking_column_pack(BITPACKING_SORTED, values, count, packed, at % 2 ? ROOM : 0, &position), BITPACKING_LIST_NOT_SORTED, "a fall");
+    refused(bitpacking_column_pack(BITPACKING_SORTED, values, count, packed, at % 2 ? ROOM : 0, &position), BITPACKING_NOT_SORTED, "a fall");
     expect(position == at, "another position of a fall");
-    refused(bitpacking_column_pack(BITPACKING_SORTED, values, count, packed, ROOM, NULL), BITPACKING_LIST_NOT_SORTED, "a fall, no position");
+    refused(bitpacking_column_pack(BITPACKING_SORTED, values, count, packed, ROOM, NULL), BITPACKING_NOT_SORTED, "a fall, no position");
     position = 77;
-    expect(bitpacking_column_size(BITPACKING_SORTED, values, count, &position) == BITPACKING_LIST_NOT_SORTED && position == at, "its size");
+    expect(bitpacking_column_size(BITPACKING_SORTED, values, count, &position) == BITPACKING_NOT_SORTED && position == at, "its size");
     values[at] = it;
 }
 
@@ -141,7 +141,7 @@ static void seeks(const bitpacking_column *column, uint8_t kind, size_t count, u
     uint32_t item = 78;
 
     if (kind == BITPACKING_PLAIN) {
-        expect(bitpacking_column_seek(column, target, &position, &item) == BITPACKING_LIST_BAD_KIND, "a plain column is searched");
+        expect(bitpacking_column_seek(column, target, &position, &item) == BITPACKING_BAD_KIND, "a plain column is searched");
         at = count;
     } else {
         while (at < count && values[at] < target)
@@ -252,7 +252,7 @@ static void accepts(uint8_t kind, size_t count, size_t size)
         gathers(&column, count, drawn(200), i % 2);
     searches(&column, kind, count);
     bounds(&column, kind, count);
-    expect(bitpacking_column_open(bytes, size + 1, &column) == BITPACKING_LIST_TRAILING && column.bytes_len == size, "a byte is left over");
+    expect(bitpacking_column_open(bytes, size + 1, &column) == BITPACKING_TRAILING && column.bytes_len == size, "a byte is left over");
     expect(bitpacking_column_open(bytes, size - 1, &column) < 0 && column.bytes_len == size, "its last byte is not needed");
 }
 
@@ -277,7 +277,7 @@ static void empty(void)
 
     expect(bitpacking_column_len(&column) == 0 && bitpacking_column_unpack(&column, NULL, 0) == 0, "a view of zeros has values");
     expect(bitpacking_column_kind(&column) == BITPACKING_PLAIN && bitpacking_column_get(&column, 0, &item) == 0, "a value of zeros");
-    expect(bitpacking_column_seek(&column, 0, &position, &item) == BITPACKING_LIST_BAD_KIND, "zeros are searched");
+    expect(bitpacking_column_seek(&column, 0, &position, &item) == BITPACKING_BAD_KIND, "zeros are searched");
     expect(bitpacking_column_range(&column, 0, NULL, 0) == 0 && bitpacking_column_range(&column, 0, &item, 1) == 0, "a range of zeros");
     expect(bitpacking_column_gather(&column, NULL, 0, NULL, 0) == 0, "values of zeros at no position");
     expect(bitpacking_column_gather(&column, &position, 1, &item, 1) == BITPACKING_BAD_POSITION, "values of zeros at a position");
@@ -287,13 +287,13 @@ static void empty(void)
     expect(bitpacking_column_append(&column, NULL, 0, &byte, 1, NULL) == 1 && byte == 0x40, "no value is not appended to zeros");
     expect(bitpacking_column_join(&column, 9, &column, NULL, 0, &byte, 1, NULL) == 1 && byte == 0x40, "zeros are not joined");
     expect(bitpacking_column_pack(BITPACKING_PLAIN, NULL, 0, NULL, 0, NULL) == BITPACKING_SHORT, "the empty column needs no byte");
-    expect(bitpacking_column_open(NULL, 0, &column) == BITPACKING_LIST_SHORT && column.bytes == NULL, "no bytes are a column");
+    expect(bitpacking_column_open(NULL, 0, &column) == BITPACKING_TRUNCATED && column.bytes == NULL, "no bytes are a column");
     expect(bitpacking_column_pack(BITPACKING_SORTED, NULL, 0, &byte, 1, &position) == 1 && byte == 0x60, "another empty sorted column");
     expect(bitpacking_column_open(&byte, 1, &column) == 0 && bitpacking_column_unpack(&column, NULL, 0) == 0, "an empty column has values");
     expect(bitpacking_column_seek(&column, 0, &position, &item) == 0, "a value of an empty column is found");
     expect(bitpacking_column_builder_push(&builder, 1) == BITPACKING_SHORT && bitpacking_column_builder_len(&builder) == 0, "it is pushed");
     expect(bitpacking_column_builder_extend(&builder, NULL, 0, &position) == 0, "no value is not pushed");
-    expect(bitpacking_column_builder_start(&builder, 2, &item, 1) == BITPACKING_LIST_BAD_KIND && builder.values == NULL, "no kind");
+    expect(bitpacking_column_builder_start(&builder, 2, &item, 1) == BITPACKING_BAD_KIND && builder.values == NULL, "no kind");
     expect(bitpacking_column_builder_finish(&builder, &byte, 1) == 1 && byte == 0x40, "another empty plain column");
     expect(item == 77 && position == 78 && high == 79, "something is written for no value");
 }

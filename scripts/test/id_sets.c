@@ -59,12 +59,12 @@ static void refuses_order(size_t count, size_t at)
 
     memset(packed, 0xA5, room);
     ids[at] = ids[at - 1];
-    expect(bitpacking_set_pack(ids, count, packed, at % 2 ? room : 0, &position) == BITPACKING_LIST_NOT_SORTED, "an id comes twice");
+    expect(bitpacking_set_pack(ids, count, packed, at % 2 ? room : 0, &position) == BITPACKING_NOT_SORTED, "an id comes twice");
     expect(position == at, "another position");
-    expect(bitpacking_set_pack(ids, count, packed, room, NULL) == BITPACKING_LIST_NOT_SORTED, "an id comes twice without a position");
+    expect(bitpacking_set_pack(ids, count, packed, room, NULL) == BITPACKING_NOT_SORTED, "an id comes twice without a position");
     if (at > 1) {
         ids[at] = ids[at - 2];
-        expect(bitpacking_set_pack(ids, count, packed, room, &position) == BITPACKING_LIST_NOT_SORTED && position == at, "ids fall");
+        expect(bitpacking_set_pack(ids, count, packed, room, &position) == BITPACKING_NOT_SORTED && position == at, "ids fall");
     }
     expect(all_are(packed, room, 0xA5), "it is written out of order");
     ids[at] = right;
@@ -129,7 +129,7 @@ static void accepts(size_t count, size_t size)
     reads(&set, count);
     unpacks(&set, count);
     unpacks(&tested, count);
-    expect(bitpacking_set_open(bytes, size + 1, &set) == BITPACKING_LIST_TRAILING && set.bytes_len == size, "a byte is left over");
+    expect(bitpacking_set_open(bytes, size + 1, &set) == BITPACKING_TRAILING && set.bytes_len == size, "a byte is left over");
     expect(bitpacking_set_open(bytes, size - 1, &set) < 0 && set.bytes_len == size, "its last byte is not needed");
 }
 
@@ -141,17 +141,6 @@ static void refuses(int number, size_t size)
     expect(bitpacking_set_open(bytes, size, &set) == -20 - number, "another answer");
     expect(all_are(&set, sizeof set, 0), "it is opened");
     expect(strcmp(bitpacking_error_text(-20 - number), bitpacking_error_text(1)) != 0, "an error without a text");
-}
-
-/* The faults of sets have these names. */
-static void names(void)
-{
-    static const int right[5] = {BITPACKING_SET_BAD_KEY, BITPACKING_SET_BAD_SUM, BITPACKING_SET_BAD_BODY, BITPACKING_SET_LOOSE_BODY,
-                                 BITPACKING_SET_LOOSE_FORM};
-    int i;
-
-    for (i = 0; i < 5; i++)
-        expect(right[i] == -38 - i, "another number of a fault");
 }
 
 /* Nothing is read through a pointer to no items, and a view of zeros is the empty set. */
@@ -167,7 +156,7 @@ static void empty(void)
     expect(bitpacking_set_get(&set, 0, &id) == 0 && bitpacking_set_seek(&set, 0, &position, &id) == 0, "an id of a view of zeros");
     expect(bitpacking_set_pack(NULL, 0, NULL, 0, NULL) == BITPACKING_SHORT, "the empty set needs no byte");
     expect(bitpacking_set_pack(NULL, 0, &byte, 1, &position) == 1 && byte == 0x80, "another empty set");
-    expect(bitpacking_set_open(NULL, 0, &set) == BITPACKING_LIST_SHORT && set.bytes == NULL, "no bytes are a set");
+    expect(bitpacking_set_open(NULL, 0, &set) == BITPACKING_TRUNCATED && set.bytes == NULL, "no bytes are a set");
     expect(bitpacking_set_open(&byte, 1, &set) == 0 && bitpacking_set_unpack(&set, NULL, 0) == 0, "the empty set has ids");
     expect(id == 77 && position == 78, "something is written for no id");
     expect(bitpacking_set_intersect(NULL, 0, NULL, 0) == 0 && bitpacking_set_unite(NULL, 0, NULL, 0) == 0, "no set has ids");
@@ -342,7 +331,6 @@ int main(void)
     size_t sets = 0, refusals = 0, pairs = 0;
     char *column[COLUMNS];
 
-    names();
     empty();
     combines_many(65);
     combines_many(1000);

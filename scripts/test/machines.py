@@ -37,8 +37,6 @@ import fast
 OUT = f"{ROOT}/out/machines"
 PACKAGES = "rustc-web cargo-web libstd-rust-web-dev rust-web-src"
 NATIVE = "x86_64-unknown-linux-gnu"
-# With the vectors of lists there are more checks than this.
-LISTS = 500_000
 QUICK = {"OPT_LEVEL": "1", "LTO": "off", "CODEGEN_UNITS": "16"}
 
 
@@ -263,9 +261,8 @@ def main():
     with concurrent.futures.ThreadPoolExecutor(max(1, (os.cpu_count() or 1) // 2)) as pool:
         results = [*pool.map(on_machine, able([it for it in wanted if it in MACHINES]))]
     compiled, whys = checked([it for it in wanted if it in CHECKED])
-    # On 32 bits no vectors of lists run.
-    right = [(result[0], result[1] < LISTS, result[1]) for result in results if not result[3]]
-    for counts in [{it[0] for it in right}, *({it[2] for it in right if it[1] == few} for few in (False, True))]:
+    right = [result for result in results if not result[3]]
+    for counts in [{it[0] for it in right}, {it[1] for it in right}]:
         if len(counts) > 1:
             whys.append(f"FAILED: machines passed different numbers of checks: {sorted(counts)}")
     print("".join(f"{why}\n" for why in [*(why for result in results for why in result[3]), *whys]), end="")

@@ -1,6 +1,6 @@
 #!/usr/bin/env python3
 """Tests scripts/build/install.py with a folder of its own for PREFIX, and scripts/build/bundle.py with programs in C and Rust outside the
-repository, and with the Python package, that are built from the unpacked bundle. One of the programs gets `bitpacking` through another crate, as
+repository, and with the Python package, that are built from the unpacked bundle. Programs find the library by pkg-config and by CMake. One of the programs gets `bitpacking` through another crate, as
 in scripts/test/rust.py. Nothing is fetched: the folder of cargo is empty. Each program has to fail if another output is wanted. A small program is
 linked with the flag of docs/C.md, by which the linker leaves out what is not called. The last line is 'N passed, M failed'; a part that is left out
 for want of a tool is named.
@@ -25,28 +25,38 @@ import rust
 
 EXAMPLES = [it for it in c.PROGRAMS if it.startswith("examples/")]
 PROCESSOR = "x86_64"
-# The functions that the header defines as `static inline`, and that have a symbol for other languages.
-INLINE = ["bitpacking_cursor_block", "bitpacking_error_text", "bitpacking_list_empty", "bitpacking_list_none"]
+# The function that the header has only as `static inline`, and that has a symbol for other languages.
+INLINE = ["bitpacking_error_text"]
 
-# A program that opens a list and unpacks it, and what it prints.
+# A program that opens a set and unpacks it, and what it prints.
 HELLO = """#include "bitpacking.h"
 #include <stdio.h>
 
 int main(void)
 {
-    const uint8_t bytes[] = {0xA4, 7, 9, 1, 0, 0x84, 4};
+    const uint8_t bytes[] = {0x84, 7, 9, 1, 0, 0x84, 4};
     uint32_t ids[4] = {0};
-    bitpacking_list list = BITPACKING_LIST_EMPTY;
+    bitpacking_set set = BITPACKING_SET_EMPTY;
 
-    if (bitpacking_list_open(bytes, sizeof bytes, &list) != 0 || bitpacking_list_unpack(&list, ids, 4) != 4)
+    if (bitpacking_set_open(bytes, sizeof bytes, &set) != 0 || bitpacking_set_unpack(&set, ids, 4) != 4)
         return 1;
     return printf("4 ids, the last %u\\n", (unsigned)ids[3]) < 0;
 }
 """
 HELLO_PRINTS = "4 ids, the last 300\n"
 # The linker leaves out what is not called, by this flag of docs/C.md. Over the archive of this level that program then has fewer bytes, and
-# examples/list.c over the archive for all levels.
+# examples/id_set.c over the archive for all levels.
 LEAVES_OUT, SMALL_LEVEL, SMALL = "-Wl,--gc-sections", "x86-64-v3", 600_000
+# A program of CMake, over the shared library and the static one.
+BY_CMAKE = """cmake_minimum_required(VERSION 3.10)
+project(it C)
+find_package(bitpacking {version} CONFIG REQUIRED)
+message("compiled by ${{bitpacking_COMPILER}}")
+foreach(library bitpacking bitpacking_static)
+    add_executable(with_${{library}} {program})
+    target_link_libraries(with_${{library}} PRIVATE bitpacking::${{library}})
+endforeach()
+"""
 
 
 def listed(folder):
@@ -83,6 +93,47 @@ def built_and_run(command, program, wanted=None, **more):
 def is_refused(why, printed):
     """None if a program is wrong only since it printed this, and else that it is not."""
     return None if why and why.startswith(f"it printed {printed}") else f"it does not fail so: {why}"
+
+
+def by_cmake(prefix, compiler):
+    """Programs that CMake builds over an installation: each check as a name and what is wrong, or None."""
+    if missing("cmake", "make"):
+        leave_out("programs by CMake", "since there is no cmake or no make")
+        return
+    program, later = "examples/id_set.c", f"{int(version().split('.')[0]) + 1}.0"
+    for wanted, found in {"": True, version(): True, version().rpartition(".")[0]: True, later: False, f"{version()}.1": False}.items():
+        with tempfile.TemporaryDirectory(prefix="cmake-") as folder:
+            rust.written(folder, {"CMakeLists.txt": BY_CMAKE.format(version=wanted, program=f"{ROOT}/{program}")})
+            made = run("cmake", "-S", folder, "-B", f"{folder}/out", f"-DCMAKE_PREFIX_PATH={prefix}")
+            right = made.returncode == 0 and f"compiled by {compiler}" in made.stdout if found else "accepted" in made.stdout
+            yield f"CMake finds version '{wanted}'" if found else f"CMake refuses version {wanted}", None if right else made.stdout[-2000:]
+            if wanted == version():
+                built = run("cmake", "--build", f"{folder}/out")
+                for name in ["with_bitpacking", "with_bitpacking_static"]:
+                    ran = run(f"{folder}/out/{name}").stdout if built.returncode == 0 else built.stdout[-2000:]
+                    yield f"{program} {name} by CMake", None if ran == c.PROGRAMS[program] else f"it printed {ran}"
+
+
+def half_way(prefix):
+    """What is wrong if an installation whose last file cannot be written leaves files, or None."""
+    with open(f"{prefix}/share", "w", encoding="ascii") as file:
+        file.write("a file where a folder is wanted\n")
+    before = listed(prefix)
+    done = by_script(prefix)
+    left = sorted(listed(prefix).keys() - before.keys())
+    os.remove(f"{prefix}/share")
+    return None if done.returncode == 1 and not left else f"it left {left}, and printed {done.stdout}"
+
+
+def by_relative_name(folder):
+    """What is wrong with a PREFIX that is named from the current folder, or None."""
+    done = by_script("near/prefix", folder=folder)
+    if done.returncode or not os.path.isfile(f"{folder}/near/prefix/{install.CMAKE}"):
+        return done.stdout
+    if f"prefix={os.path.realpath(folder)}/near/prefix\n" not in bytes_of(f"{folder}/near/prefix/{install.ASKED}").decode():
+        return "the file of pkg-config names another folder"
+    again = by_script("near/prefix", "--remove", folder=folder)
+    return None if again.returncode == 0 and not os.path.exists(f"{folder}/near/prefix") else f"{again.stdout} left files"
 
 
 def levels_of(prefix):
@@ -133,6 +184,7 @@ def installed(folder):
     os.makedirs(f"{prefix}/lib")
     with open(f"{prefix}/lib/other", "w", encoding="ascii") as file:
         file.write("of another program\n")
+    yield "an installation that fails half-way", half_way(prefix)
     before = listed(prefix)
     done = by_script(prefix)
     said = f"installed version {version()} under {prefix}: {install.HEADER} {install.STATIC} "
@@ -155,10 +207,12 @@ def installed(folder):
         yield f"{program} over the installed archive", built_and_run(command, program)
         why = built_and_run(command, program, c.miscounted(c.PROGRAMS[program]))
         yield f"another output of {program}", is_refused(why, c.PROGRAMS[program])
+    yield from by_cmake(prefix, "rattle")
     yield from levels_of(prefix)
     removed = by_script(prefix, "--remove")
     yield "install.py --remove", None if removed.returncode == 0 and listed(prefix) == before else f"{removed.stdout} left other files"
     yield "install.py with DESTDIR", below_destination(f"{folder}/package", f"{folder}/later")
+    yield "install.py with a relative name", by_relative_name(folder)
     yield "removing nothing", None if by_script(prefix, "--remove").returncode == 1 else "it worked"
     with open(f"{prefix}/{install.STATIC}", "w", encoding="ascii") as file:
         file.write("of another program\n")
@@ -170,7 +224,7 @@ def small(folder):
     """Whether the linker leaves out what programs do not call, and one still works: each check as a name and what is wrong, or None."""
     rust.written(folder, {"hello.c": HELLO})
     command, whole = ["cc", "-std=c99", "-O2", "-s", f"-I{ROOT}/include"], f"{archives.OUT}/{archives.ALL}"
-    for program, archive in [f"{folder}/hello.c", archives.archive(SMALL_LEVEL)], [f"{ROOT}/examples/list.c", whole]:
+    for program, archive in [f"{folder}/hello.c", archives.archive(SMALL_LEVEL)], [f"{ROOT}/examples/id_set.c", whole]:
         sizes = []
         for flags in [], [LEAVES_OUT]:
             built = run(*command, program, archive, *flags, "-o", f"{folder}/program")

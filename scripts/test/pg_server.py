@@ -11,6 +11,7 @@ import subprocess
 import time
 
 from common import ROOT, run
+import bundle
 
 PG_CONFIG = os.environ.get("PG_CONFIG") or "/usr/lib/postgresql/15/bin/pg_config"
 # What `lacking` looks for, and the packages of Debian that have it.
@@ -81,11 +82,11 @@ class Programs:
 
 
 class Server:
-    """One server, with a folder for its data and its socket."""
+    """One server, with a folder for its data and its socket. `more` are variables of its environment."""
 
-    def __init__(self, programs, folder, number=1, like=None, checksums=True):
+    def __init__(self, programs, folder, number=1, like=None, checksums=True, more=None):
         self.programs, self.data, self.port, self.socket = programs, f"{folder}/data{number}", 5430 + number, folder
-        self.log, self.process = f"{folder}/log{number}", None
+        self.log, self.process, self.more = f"{folder}/log{number}", None, more or {}
         self.known = dict(os.environ, PGHOST=folder, PGPORT=str(self.port), PGUSER="postgres", PGDATABASE="postgres", LC_ALL="C")
         if like:
             shutil.copytree(like.data, self.data)
@@ -103,8 +104,19 @@ class Server:
         with open(self.log, "ab") as log:
             command = [self.programs.path("postgres"), "-D", self.data, *words]
             self.process = subprocess.Popen(
-                command, cwd=self.socket, stdin=subprocess.DEVNULL, stdout=log, stderr=log, start_new_session=True, **account()
+                command,
+                cwd=self.socket,
+                env=os.environ | self.more,
+                stdin=subprocess.DEVNULL,
+                stdout=log,
+                stderr=log,
+                start_new_session=True,
+                **account(),
             )
+        return self.ready()
+
+    def ready(self):
+        """Waits until the server answers, at its start or after one of its processes crashed."""
         for _ in range(10 * PATIENCE):
             if run(self.programs.path("pg_isready"), "-q", env=self.known).returncode == 0:
                 return self
@@ -152,6 +164,10 @@ class Server:
 
 
 def copied_sources(to):
-    """Copies the sources of the extension, for a user that is not root."""
-    shutil.copytree(f"{ROOT}/postgres", to, ignore=shutil.ignore_patterns("*.o", "*.so", "*.bc", "results", "regression.*"))
+    """Copies the sources of the extension, as a bundle has them, for a user that is not root."""
+    for path in bundle.paths("x86_64"):
+        if path.startswith("postgres/"):
+            place = f"{to}/{path.removeprefix('postgres/')}"
+            os.makedirs(os.path.dirname(place), exist_ok=True)
+            shutil.copyfile(f"{ROOT}/{path}", place)
     handed_over(to)

@@ -2,16 +2,19 @@
 """Builds the extension of postgres/ as docs/POSTGRES.md says, and installs it in a copy of the server's programs in a temporary folder. There it
 starts servers as a user that is not root, which listen on sockets alone, and
 
-- runs postgres/sql/ by `make installcheck`, the tables of vectors/, and the examples of the page;
+- runs postgres/sql/ by `make installcheck`, with data checksums, without, and with the address sanitizer;
+- reads the tables of vectors/, makes the longest values, and runs the examples of the page;
 - dumps and restores a table, updates the extension to a made-up next version, and reads binary copies, sound and damaged;
 - flips bits in the files of a stopped server, with data checksums and without;
-- kills a server in the middle of updates, and looks at the list after it was started again;
+- kills a server in the middle of updates, and looks at the set after it was started again;
 - asks two servers, which have the partitions of one table, and stops one of them;
-- makes wrong changes of the extension, with each of which a file of postgres/sql/ has to fail.
+- measures the memory and the processor's time of some statements;
+- makes wrong changes of the extension, with each of which a file of postgres/sql/ or a measurement has to fail.
 
 It is left out without PostgreSQL 15 and its header files, and says how to install them. The archive is the one that scripts/build/archives.py
 wrote, which is called if it is not there. The last line is 'N passed, M failed'.
 """
+import fnmatch
 import os
 import re
 import shutil
@@ -21,48 +24,36 @@ import tempfile
 sys.path.insert(1, f"{sys.path[0]}/..")
 from common import ROOT, ended, leave_out, report, run, source
 
-sys.path.append(f"{ROOT}/python/tests")
 import archives
+import bundle
 import install
+import pg_changes
 import pg_faults
+import pg_hash
+import pg_memory
 import pg_server
-import tables
+import rows
 from pg_server import Programs, Server
 
 PARTS = "the PostgreSQL extension"
 PAGE = "docs/POSTGRES.md"
-BLOCK_KNOWN = ["LIST_BAD_WIDTH", "LIST_LOOSE_WIDTH", "LIST_BAD_OFFSET", "LIST_BAD_LAST", "LIST_BAD_BITS"]
 # Catches the error of a cast from bytea.
 SAID = """CREATE FUNCTION said(bytes bytea) RETURNS text LANGUAGE plpgsql AS $$
-DECLARE more text;
 BEGIN
-    RETURN bytes::packed_list::text;
+    RETURN bytes::idset::text;
 EXCEPTION WHEN OTHERS THEN
-    GET STACKED DIAGNOSTICS more = PG_EXCEPTION_DETAIL;
-    RETURN SQLSTATE || ' ' || SQLERRM || ' ' || more;
+    RETURN SQLSTATE || ' ' || SQLERRM;
 END $$;"""
-OPERATOR = """    else if (call->fn_expr && IsA(call->fn_expr, OpExpr))
-        nodes = ((OpExpr *)call->fn_expr)->args;
+# The most ids of ten digits whose text has at most 1,000,000,000 bytes.
+MOST_IDS = 90_909_090
+# What the address sanitizer is told, and functions in place of those that translate, which wait for ever in a program that it was loaded into.
+SANITIZED = {"ASAN_OPTIONS": "detect_leaks=0"}
+UNTRANSLATED = """char *bindtextdomain(const char *domain, const char *folder) { return (char *)folder; }
+char *textdomain(const char *domain) { return (char *)domain; }
+char *gettext(const char *text) { return (char *)text; }
+char *dgettext(const char *domain, const char *text) { return (char *)text; }
+char *dcgettext(const char *domain, const char *text, int kind) { return (char *)text; }
 """
-# Wrong changes: a file, lines in it and other lines, and the file of postgres/sql/ that has to fail.
-WRONG = [
-    ("src/values.c", "number > UINT32_MAX)\n", "number > 2 * (int64)UINT32_MAX)\n", "types"),
-    ("src/values.c", "if (values[i] != values[count - 1])", "if (1)", "types"),
-    ("src/arrays.c", "(uint32)INT32_MAX + 1", "UINT32_MAX", "types"),
-    ("src/bytes.c", "!= BITPACKING_STRICTLY_SORTED)", "== BITPACKING_PLAIN)", "types"),
-    ("src/bytes.c", "if (fault < 0)\n", "if (fault < BITPACKING_LIST_BAD_BITS)\n", "types"),
-    ("src/bytes.c", OPERATOR, OPERATOR.replace("OpExpr", "ScalarArrayOpExpr") + OPERATOR, "reading"),
-    ("src/bytes.c", "memcmp(value, kept->value, VARSIZE_ANY(value)) == 0)", "true)", "reading"),
-    ("src/reading.c", "(size_t)position - 1, &value)", "(size_t)position, &value)", "reading"),
-    ("src/reading.c", "it->from += it->count;", "it->from += it->count > 0 ? PIECE - 1 : 0;", "reading"),
-    ("src/sets.c", "it.len[1] <= it.len[0] && common(&it) == it.len[1]", "common(&it) > 0", "sets"),
-    ("src/order.c", "from += PIECE", "from += 2 * PIECE", "order"),
-    ("src/order.c", "hash = seed;", "hash = seed + list.bytes_len;", "order"),
-    ("src/aggregates.c", "it->len += other->len;", "it->len = Max(it->len, other->len);", "aggregates"),
-    ("src/aggregates.c", "    if (PG_ARGISNULL(0))\n        return with_list(fcinfo, list);\n", "", "aggregates"),
-    ("src/gin.c", "    if (strategy == CONTAINED)\n        return GIN_MAYBE;\n", "", "index"),
-    ("src/gin.c", "*mode = GIN_SEARCH_MODE_ALL;", ";", "index"),
-]
 
 
 class Extension:
@@ -80,10 +71,10 @@ class Extension:
     def make(self, *words, sources=None, **more):
         return self.programs.make(sources or self.sources, *words, prefix=self.prefix, **more)
 
-    def built(self, sources=None):
+    def built(self, sources=None, *more):
         """What is wrong with building and installing, or None. A warning is wrong."""
         for words in [[], ["install"]]:
-            done = self.make(*words, sources=sources)
+            done = self.make(*words, *more, sources=sources)
             if done.returncode != 0 or done.stdout.strip():
                 return done.stdout[-3000:] or "make failed"
         pg_server.handed_over(sources or self.sources)
@@ -93,72 +84,112 @@ class Extension:
         self.servers.append(Server(self.programs, f"{self.folder}/servers", *given, **more))
         return self.servers[-1]
 
+    def installcheck(self, server, sources=None, only=None):
+        """The files of postgres/sql/, each as a name and why it failed, or None."""
+        sources = sources or self.sources
+        done = self.make("installcheck", *[f"REGRESS={only}"] * bool(only), sources=sources, env=server.known, **pg_server.account())
+        found = dict(re.findall(r"^test (\w+) +\.\.\. (\w+)", done.stdout, re.M))
+        differences = f"{sources}/regression.diffs"
+        said = done.stdout[-2000:]
+        if os.path.exists(differences):
+            with open(differences, encoding="utf-8") as file:
+                said = file.read()[:3000] or said
+        for name in [only] if only else re.search(r"^REGRESS = (.*)", source("postgres/Makefile"), re.M)[1].split():
+            yield f"postgres/sql/{name}.sql", None if found.get(name) == "ok" else said
+
 
 def library(extension):
-    """The checks of packed_list.so."""
-    path = f"{extension.programs.folder}{pg_server.config('pkglibdir')}/packed_list.so"
+    """The checks of idset.so."""
+    path = f"{extension.programs.folder}{pg_server.config('pkglibdir')}/idset.so"
     named = run("nm", "-D", "--defined-only", path).stdout.split()[2::3]
-    others = [it for it in named if not re.match(r"(pg_finfo_)?packed_list_|Pg_magic_func$", it)]
-    yield "the names of packed_list.so", f"it exports {others}" if others or not named else None
+    others = [it for it in named if not re.match(r"(pg_finfo_)?idset_|Pg_magic_func$", it)]
+    yield "the names of idset.so", f"it exports {others}" if others or not named else None
     sizes = [os.path.getsize(it) for it in (path, f"{extension.prefix}/{install.STATIC}")]
-    yield "the size of packed_list.so", f"it has {sizes[0]} bytes, and the archive {sizes[1]}" if sizes[0] > sizes[1] else None
+    yield "the size of idset.so", f"it has {sizes[0]} bytes, and the archive {sizes[1]}" if sizes[0] > sizes[1] else None
 
 
-def installcheck(extension, server, sources=None, only=None):
-    """The files of postgres/sql/, each as a name and why it failed, or None."""
-    sources = sources or extension.sources
-    done = extension.make("installcheck", *[f"REGRESS={only}"] * bool(only), sources=sources, env=server.known, **pg_server.account())
-    results = dict(re.findall(r"^test (\w+) +\.\.\. (\w+)", done.stdout, re.M))
-    differences = f"{sources}/regression.diffs"
-    said = done.stdout[-2000:]
-    if os.path.exists(differences):
-        with open(differences, encoding="utf-8") as file:
-            said = file.read()[:3000] or said
-    for name in [only] if only else re.search(r"^REGRESS = (.*)", source("postgres/Makefile"), re.M)[1].split():
-        yield f"postgres/sql/{name}.sql", None if results.get(name) == "ok" else said
+def packaged(extension):
+    """The extension of a bundle, whose sources are built here, has nothing that was built before. PREFIX may be relative."""
+    built = ["postgres/idset.so", "postgres/idset.bc", "postgres/src/text.o", "postgres/results/types.out"]
+    taken = [it for it in built if any(fnmatch.fnmatch(it, form) for form in bundle.FILES)]
+    yield "what was built is in no bundle", f"{taken}" if taken else None
+    words = ["-B", "-n", "-C", "postgres", "BITPACKING=prefix", f"PG_CONFIG={pg_server.PG_CONFIG}", "src/text.o"]
+    said = run("make", *words, folder=extension.folder, env=dict(os.environ, PWD=extension.folder)).stdout
+    yield "a relative PREFIX", None if f"-I{extension.prefix}/include" in said else said[-500:]
 
 
 def fault_texts():
-    """The text of each fault by its name, as the header of C has them, without the point at the end."""
-    return {name: text[:-1] for name, text in re.findall(r'case BITPACKING_(\w+):\s+return "(.*)";', source("include/bitpacking.h"))}
+    """The text of each fault by its number, as the header of C has them, without the point at the end."""
+    header = source("include/bitpacking.h")
+    numbers = dict(re.findall(r"#define (BITPACKING_\w+) \((-\d+)\)", header))
+    return {int(numbers[name]): text[:-1] for name, text in re.findall(r'case (BITPACKING_\w+):\s+return "(.*)";', header)}
 
 
-def refused_bytes():
-    """Bytes that are refused, and the pattern of what has to be said of them: the state, the text, and the block of the fault."""
-    texts = fault_texts()
-    for version in (2, 3, 4):
-        for row in tables.rows(f"refused{version}"):
-            text, (name, more) = tables.data(row["bytes"]), tables.fault(row["fault"])
-            if tables.version_of(text) != version or name == "LIST_WRONG_LANES" and more[0] in (1, 4, 8):
-                continue  # another reader's answer: this one reads every version and all lanes
-            block = more[0] if name in BLOCK_KNOWN else r"\d+"
-            detail = rf"The fault is in block {block}, counted from 0\." if name in (*BLOCK_KNOWN, "LIST_NOT_SORTED") else ""
-            yield text.hex(), f"22P03 invalid packed_list: {re.escape(texts[name])} {detail}"
-
-
-def strict_lists():
-    """Lists of the tables: the version, the lanes, the bytes and the values, as SQL has an array."""
-    for version in (2, 3, 4):
-        for row in tables.rows(f"lists{version}"):
-            if row["kind"] == "strict":
-                yield version, row["lanes"], tables.data(row["bytes"]).hex(), "{" + ",".join(map(str, tables.numbers(row["values"]))) + "}"
+def compared(what, server, before, asked):
+    """Whether each query says what it has to: pairs of a query and an answer."""
+    said = server.rows(before + "".join(f"{sql};\n" for sql, _ in asked)).split("\n")
+    wrong = [(sql[:300], answer[:300]) for (sql, wanted), answer in zip(asked, said) if answer != wanted]
+    few = len(asked) < 300 or len(asked) != len(said)
+    yield what, f"{len(wrong)} of {len(asked)}, {len(said)} answers, first {wrong[:1]}" if wrong or few else None
 
 
 def vectors(server):
-    """The tables of vectors/: lists, and refused bytes with the text and the block of the fault."""
-    asked = list(strict_lists())
-    sql = "".join(
-        f"SELECT '\\x{text}'::bytea::packed_list::int8[] = '{values}' AND ({lanes} <> 4 OR {version} <> 4 OR '{values}'::packed_list::bytea = '\\x{text}');\n"
-        for version, lanes, text, values in asked
-    )
-    said = server.rows(sql).split("\n")
-    wrong = [it for it, answer in zip(asked, said) if answer != "t"]
-    yield "the lists of vectors/", f"{len(wrong)} of {len(asked)}, first {wrong[:1]}" if wrong or len(asked) != len(said) else None
-    asked = list(refused_bytes())
-    said = server.rows(SAID + "".join(f"SELECT said('\\x{text}');\n" for text, _ in asked)).split("\n")
-    wrong = [(it, answer) for it, answer in zip(asked, said) if not re.fullmatch(it[1], answer)]
-    few = len(asked) < 1000 or len(asked) != len(said)
-    yield "the refused bytes of vectors/", f"{len(wrong)} of {len(asked)}, first {wrong[:1]}" if wrong or few else None
+    """The tables of vectors/: sets with their ids, and their hash, and refused bytes with the text of the fault."""
+    asked, hashes = [], []
+    for row in rows.table("id_sets.tsv"):
+        data, ids = rows.octets(row["bytes"]), "{" + ",".join(map(str, rows.spelled_ids(row["ids"]))) + "}"
+        value = f"'\\x{data.hex()}'::bytea::idset"
+        asked.append((f"SELECT {value}::int8[] = '{ids}' AND '{ids}'::idset::bytea = '\\x{data.hex()}'", "t"))
+        hashes.append(
+            (
+                f"SELECT idset_hash(v), idset_hash_extended(v, 77) FROM (SELECT {value}) q(v)",
+                f"{pg_hash.hashed(data)}|{pg_hash.extended(data, 77)}",
+            )
+        )
+    yield from compared("the sets of vectors/", server, "", asked)
+    yield from compared("their hashes", server, "", hashes)
+    texts = fault_texts()
+    refused = [
+        (rows.octets(row["bytes"]), f"22P03 invalid idset: {texts[-20 - int(row['number'])]}") for row in rows.table("refused_id_sets.tsv")
+    ]
+    asked = [(f"SELECT said('\\x{data.hex()}')", wanted) for data, wanted in refused]
+    yield from compared("the refused bytes of vectors/", server, SAID, asked)
+
+
+def varint(number):
+    return bytes([number % 128 + 128]) + varint(number // 128) if number > 127 else bytes([number])
+
+
+def long_set(first):
+    """The bytes of a set of ids of ten digits, as docs/FORMAT.md has them: 10,496 to 10,751 ids of one chunk, as `first` says, and 1,387 whole
+    chunks after it, to the greatest id."""
+    count = 1388
+    slices = [((1 << it) - 1).to_bytes(32, "little") for it in (42, first - 41 * 256)]
+    bodies = [bytes([41]) + slices[0] + bytes([255] * 41 + [first - 41 * 256 - 1]) + slices[1], *[b"\xff" * 257] * (count - 1)]
+    sums = [first + 65536 * it for it in range(count)]
+    ends = [len(bodies[0]) + 257 * it for it in range(count)]
+    parts = [(65536 - count + it).to_bytes(2, "little") for it in range(count)]
+    parts += [it.to_bytes(3, "little") for it in ends] + [it.to_bytes(4, "little") for it in sums]
+    return b"\x05" + varint(sums[-1]) + varint(count) + b"\x43" + b"".join(parts + bodies)
+
+
+def longest(server):
+    """The longest text of a value: one of MOST_IDS ids is made, in each way, and none of an id more."""
+    first = MOST_IDS - 65536 * 1387
+    fits, longer = (f"'\\x{long_set(first + it).hex()}'::bytea" for it in (0, 1))
+    said = server.rows(f"SELECT cardinality({fits}::idset), max({fits}::idset)")
+    yield "the longest text is taken", None if said == f"{MOST_IDS}|4294967295" else said
+    wanted = f"the text of the idset would have {11 * (MOST_IDS + 1) + 1} bytes"
+    for name, sql in {"from bytes": f"{longer}::idset", "by a call": f"{fits}::idset | 1000000000"}.items():
+        said, status = server.psql(f"SELECT cardinality({sql})")
+        yield f"a longer one is refused {name}", None if status != 0 and wanted in said else said[-500:]
+
+
+def owned(server):
+    """The owner of a database may add the extension to it, without other rights."""
+    server.rows("CREATE ROLE owner LOGIN; CREATE DATABASE owned OWNER owner")
+    said = server.psql("SET SESSION AUTHORIZATION owner; CREATE EXTENSION idset; SELECT cardinality('{1,2}'::idset)", "owned")[0]
+    yield "the owner of a database adds the extension", None if said == "2" else said
 
 
 def examples():
@@ -187,21 +218,47 @@ def page(server):
         yield f"{PAGE}: {sql}", None if got == wanted else f"it printed {got}"
 
 
-def wrong_changes(extension, server):
-    """Each wrong change as a name, and None if its file of postgres/sql/ fails."""
-    changed = f"{extension.folder}/changed"
-    for name, before, after, only in WRONG:
-        shutil.rmtree(changed, ignore_errors=True)
-        shutil.copytree(extension.sources, changed)
-        with open(f"{changed}/{name}", encoding="utf-8") as file:
-            text = file.read()
-        with open(f"{changed}/{name}", "w", encoding="utf-8") as file:
-            file.write(text.replace(before, after))
-        why = None if text.count(before) == 1 else f"its lines are there {text.count(before)} times"
-        why = why or extension.built(changed)
-        if not why and all(failed is None for _, failed in installcheck(extension, server, changed, only)):
-            why = f"{only}.sql passes"
-        yield f"a wrong change of {name}: {after.strip()}", why
+def sanitizer(extension):
+    """What a server that the address sanitizer is loaded into needs in its environment, or None if cc has none."""
+    library, plain = run("cc", "-print-file-name=libasan.so").stdout.strip(), f"{extension.folder}/untranslated.so"
+    done = run("cc", "-w", "-shared", "-fPIC", "-xc", "-", "-o", plain, input=UNTRANSLATED)
+    return SANITIZED | {"LD_PRELOAD": f"{os.path.realpath(library)}:{plain}"} if os.path.isabs(library) and done.returncode == 0 else None
+
+
+def reported(server):
+    """What the address sanitizer wrote to the server's log, or None."""
+    with open(server.log, encoding="utf-8", errors="replace") as log:
+        found = re.search(r"AddressSanitizer: .*(\n.*){8}", log.read())
+    return found and found[0]
+
+
+def sanitized(extension):
+    """The files of postgres/sql/ over a build with the address sanitizer, and a wrong change that it has to find."""
+    known, sources = sanitizer(extension), f"{extension.folder}/sanitized"
+    if not known:
+        leave_out("PostgreSQL with the address sanitizer", "since cc has no libasan.so")
+        return
+    shutil.copytree(extension.sources, sources, ignore=shutil.ignore_patterns("*.o", "*.so", "results", "regression.*"))
+    words = "COPT=-Werror -O1 -fsanitize=address -fno-omit-frame-pointer"
+    failed = extension.built(sources, words)
+    yield "building with the address sanitizer", failed
+    if failed:
+        return
+    server = extension.server(9, more=known).start()
+    for name, why in extension.installcheck(server, sources):
+        yield f"{name} with the address sanitizer", why
+    yield "what the address sanitizer found", reported(server)
+    with open(f"{sources}/src/query.c", encoding="utf-8") as file:
+        text = file.read()
+    with open(f"{sources}/src/query.c", "w", encoding="utf-8") as file:
+        file.write(text.replace("sizeof(uint32) * (most + 1)", "sizeof(uint32) * (most / 4)"))
+    failed = extension.built(sources, words)
+    list(extension.installcheck(server, sources, "query"))
+    found = reported(server) or ""
+    server.stop()
+    yield "too little room for a query, with the address sanitizer", failed or (
+        None if "heap-buffer-overflow" in found else f"found: {found}"
+    )
 
 
 def checks():
@@ -212,15 +269,25 @@ def checks():
         if failed:
             return
         yield from library(extension)
+        yield from packaged(extension)
         first = extension.server()
         try:
             first.start()
-            yield from installcheck(extension, first)
-            first.rows("CREATE EXTENSION packed_list")
+            yield from extension.installcheck(first)
+            first.rows("CREATE EXTENSION idset")
             yield from vectors(first)
+            yield from longest(first)
+            yield from owned(first)
             yield from page(first)
             yield from pg_faults.checks(extension, first)
-            yield from wrong_changes(extension, first)
+            first.stop()
+            bare = extension.server(8, checksums=False).start(shared_buffers="16MB", work_mem="64MB")
+            for name, why in extension.installcheck(bare):
+                yield f"{name} without data checksums", why
+            yield from pg_memory.checks(bare)
+            yield from pg_changes.checks(extension, bare)
+            bare.stop()
+            yield from sanitized(extension)
         finally:
             for server in extension.servers:
                 server.stop()

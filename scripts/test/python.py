@@ -27,28 +27,75 @@ PARTS = "the Python package"
 MODULES = ["numpy", "hypothesis", "pytest", "setuptools", "wheel", "build", "pip", "ensurepip"]
 PAGES = ["README.md", "docs/PYTHON.md", "python/README.md", "python/COLUMN.md"]
 # What a wheel has, below the folder of the package.
-FILES = ["__init__", "builder", "chain", "column", "errors", "faults", "lists", "show", "values"]
+FILES = [
+    "__init__",
+    "chain",
+    "column",
+    "column_values",
+    "combining",
+    "errors",
+    "faults",
+    "id_set",
+    "query",
+    "set_faults",
+    "values",
+    "waiting",
+]
 WHEEL = {*(f"{it}.py" for it in FILES), "_core.pyi", "py.typed", "_core.abi3.so"}
 # Wrong changes: a file of the package, lines in it and other lines, and the tests of which one has to fail. A file of C is compiled again.
 WRONG = [
-    ("values.py", "found[found < 0] += length", "found[found < 0] += length - 1", "test_lists.py::test_reading"),
-    ("values.py", '"i8" if greatest < 1 << 63 else "u8"', '"i8" if greatest < 1 << 63 else "f8"', "test_column.py::test_large_integers"),
-    ("values.py", "array.max() <= 0xFFFFFFFF", "array.max() <= 0x1FFFFFFFF", "test_lists.py::test_types_in"),
-    ("builder.py", "wide < before + (self._kind - 1)", "wide < before", "test_many.py::test_builder_refuses"),
-    ("column.py", "out[self.missing.to_numpy()] = fill", "out[self.missing.to_numpy()] = 0", "test_column.py::test_as_numpy"),
-    ("column.py", "return bool((one == two).all())", "return True", "test_column.py::test_forged"),
-    ("column.py", 'zlib.crc32(data) == row["crc"]', "True", "test_column.py::test_damaged"),
-    ("faults.py", "start + 9 * m, m)", "start + 9 * m, m + 1)", "test_vectors.py::test_refused_bytes"),
-    ("show.py", "prepend=0", "prepend=1", "test_show.py::test_bits"),
+    ("values.py", "found[found < 0] += length", "found[found < 0] += length - 1", "test_id_set.py::test_reading"),
+    ("values.py", "found[found < 0] += length", "array[array < 0] += length; found = array", "test_id_set.py::test_arguments_stay"),
+    ("values.py", "aligned and is_constant(array)", "aligned", "test_id_set.py::test_what_is_copied"),
+    ("values.py", "if view.obj is data:", "if True:", "test_id_set.py::test_buffers"),
+    ("values.py", "(part < 0) | (part > _GREATEST)", "part > _GREATEST", "test_id_set.py::test_refused_values"),
+    ("id_set.py", "range(0, len(self), _FEW)", "range(0, len(self))", "test_id_set.py::test_iterates_in_parts"),
+    ("id_set.py", "np.unique(ids[at : at + PART])", "np.sort(ids[at : at + PART])", "test_id_set.py::test_any_order"),
+    ("id_set.py", "(wide >= 0) & (wide <= 0xFFFFFFFF)", "(wide >= 0)", "test_id_set.py::test_reading"),
+    ("combining.py", "- 2 * intersect_len(one, last)", "- intersect_len(one, last)", "test_combining.py::test_any_number"),
+    ("query.py", "low += width", "low += width + 1", "test_query.py::test_trees"),
+    ("query.py", "ends[0] if call == SUBTRACT", "ends[-1] if call == SUBTRACT", "test_query.py::test_trees"),
+    ("set_faults.py", "places[2] + sizes[1] * m, m)", "places[2] + sizes[1] * m, m + 1)", "test_vectors.py::test_refused_sets"),
+    ("waiting.py", "LONG = 1 << 22", "LONG = 1 << 62", "test_threads.py::test_signals_end_calls"),
     ("chain.c", "lanes, bitpacking_##name##_pack_all,", "lanes, bitpacking_1x_pack_all,", "test_chain.py::test_back"),
-    ("errors.c", "NAME(LIST_PADDING)", "", "test_vectors.py::test_refused_bytes"),
-    ("list.c", "if (buffer->readonly)", "if (1)", "test_lists.py::test_buffers"),
-    ("packing.c", "stays |= values[i - 1] == values[i];", "", "test_lists.py::test_kind_that_fits"),
-    ("reading.c", "wide = base + part[i];", "wide = base + (part[i] & 0x7FFFFFFF);", "test_lists.py::test_out"),
-    ("reading.c", "return from != 2 && to != 0 && *low <= *high;", "return *low <= *high;", "test_lists.py::test_ends_of_range"),
-    ("sets.c", "room += its;", "room = its;", "test_sets.py::test_long"),
-    ("core.h", "(size_t)(count) >= MANY ? PyEval_SaveThread() : NULL", "NULL", "test_many.py::test_lock_is_released"),
-    ("list.c", "    PyBuffer_Release(&((List *)self)->buffer);\n", "", "test_memory.py::test_references"),
+    ("errors.c", '{BITPACKING_PADDING, "Padding"},', "", "test_vectors.py::test_refused_sets"),
+    ("errors.c", "READ_AGAIN + 1", "READ_AGAIN", "test_damaged.py::test_places"),
+    ("packed.c", "    PyBuffer_Release(&((Packed *)self)->buffer);\n", "", "test_memory.py::test_references"),
+    ("arrays.c", "    Py_DECREF(array);\n    if (!part", "    if (!part", "test_memory.py::test_constant"),
+    ("set_many.c", "        PyBuffer_Release(&in);\n        return NULL;", "        return NULL;", "test_memory.py::test_constant"),
+    ("set_combining.c", "return all_of(views, len);", "return bitpacking_set_len(views);", "test_combining.py::test_long"),
+    ("set_reading.c", "UNLOCKED(count, bitpacking_set_range(", "((void)0, bitpacking_set_range(", "test_threads.py::test_lock_is_released"),
+    ("set_reading.c", "wide = part[i];", "wide = part[i] & 0x7FFFFFFF;", "test_id_set.py::test_out"),
+    ("core.h", "(size_t)(count) >= MANY ? PyEval_SaveThread() : NULL", "NULL", "test_threads.py::test_lock_is_released"),
+    ("core.h", "PART = 1 << 20", "PART = 1 << 30", "test_threads.py::test_signals_end_calls"),
+    ("arrow.c", "it->null_count = nulls;", "", "test_arrow.py::test_missing_values"),
+    ("column.py", "[starts[number] : starts[number + 1]]) == crc", "[0:0]) == 0", "test_column_damaged.py::test_damaged"),
+    ("column.py", "data = constant(data)", "data = memoryview(data)", "test_column_calls.py::test_memory_that_is_written"),
+    ("column.py", "found < date if step > 0 else found > date", "False", "test_column.py::test_limits_between_units"),
+    ("column.py", "self._need_fit(wanted, fill)", "pass", "test_column.py::test_unpack_to"),
+    ("column_values.py", "np.array(array, stored)", "np.asarray(array, stored)", "test_column_calls.py::test_memory_that_is_written"),
+    ("column_values.py", "is_wide = max(numbers, default=0) >= 1 << 63", "is_wide = False", "test_column.py::test_types_in"),
+    (
+        "column_packing.c",
+        "falls(values, len) ? BITPACKING_PLAIN : BITPACKING_SORTED",
+        "BITPACKING_PLAIN",
+        "test_column.py::test_bytes_of_chunks",
+    ),
+    ("column_packing.c", "return done ? PyErr_CheckSignals() : -1;", "return done ? 0 : -1;", "test_column_calls.py::test_ctrl_c"),
+    ("column_packing.c", "    PyMem_Free(room.low);\n", "", "test_column_calls.py::test_constant"),
+    ("column_reading.c", "UNLOCKED(len, failed = gather(", "((void)len, failed = gather(", "test_column_calls.py::test_lock_is_released"),
+    ("column_reading.c", "    free(ids);\n    return 0;", "    return 0;", "test_column_calls.py::test_constant"),
+    ("column_search.c", "at = at < first ? first : at;", "", "test_column.py::test_positions"),
+    ("column_search.c", "used += !(bits[at / 8] >> at % 8 & 1);", "used++;", "test_column.py::test_searches"),
+    ("column_search.c", "    free(found.at);\n", "", "test_column_calls.py::test_constant"),
+    (
+        "column_testing.c",
+        "        before = code_of(it, &piece, piece.len - 1);\n",
+        "",
+        "test_column_damaged.py::test_only_form_in_pieces",
+    ),
+    ("column_testing.c", "bounds.least == 0 && ", "", "test_column_damaged.py::test_only_form"),
+    ("column.c", "    PyMem_Free(((Column *)self)->chunks);\n", "", "test_column_calls.py::test_constant"),
 ]
 PATIENCE = 600
 
@@ -126,7 +173,7 @@ def wheel_of(package):
     defined = [line.split()[-1] for line in symbols if " T " in line or " D " in line or " B " in line]
     yield "the names of the extension", None if defined == ["PyInit__core"] else f"it exports {defined}"
     needed = [line.split()[-1] for line in symbols if " U " in line]
-    others = [it for it in needed if not re.match(r"_?Py|mem|str|__stack_chk|__memcpy_chk|abort", it)]
+    others = [it for it in needed if not re.match(r"_?Py|mem|str|__stack_chk|__memcpy_chk|abort|(m|c|re)alloc|free", it)]
     yield "what the extension needs", None if not others and needed else f"it needs {others}"
     yield "a new environment", package.call(package.python, "-m", "venv", "--system-site-packages", package.room)
     yield "installing the wheel", package.call(f"{package.room}/bin/python", "-m", "pip", "install", "--no-deps", found[0])
@@ -154,7 +201,8 @@ def sanitized(package):
     known = {"PYTHONPATH": to, "LD_PRELOAD": library, "PYTHONMALLOC": "malloc"}
     known |= {"ASAN_OPTIONS": "detect_leaks=0:exitcode=99", "UBSAN_OPTIONS": "print_stacktrace=1"}
     # Memory that is given back stays with the sanitizer for a while, so that rounds of calls take more.
-    yield from package.tested("under the address sanitizer", "tests", "--deselect=tests/test_memory.py::test_constant", **known)
+    without = [f"--deselect=tests/{it}.py::test_constant" for it in ("test_memory", "test_column_calls")]
+    yield from package.tested("under the address sanitizer", "tests", *without, **known)
 
 
 def compiled(python, prefix, sources, to):
@@ -197,8 +245,8 @@ def built_in_place(folder, python):
     built = run(python, "setup.py", "-q", "build_ext", "--inplace", folder=folder, env=environment)
     if built.returncode != 0:
         return built.stdout[-2000:]
-    done = run(python, "-c", "import fimulowen; print(fimulowen.pack([7, 9, 10, 300]))", env=environment | {"PYTHONPATH": f"{folder}/src"})
-    return None if done.stdout == "<PackedList strict, 4 values in 7 bytes: [7, 9, 10, 300]>\n" else f"it printed {done.stdout[-2000:]}"
+    done = run(python, "-c", "import fimulowen; print(fimulowen.IdSet([7, 9, 10, 300]))", env=environment | {"PYTHONPATH": f"{folder}/src"})
+    return None if done.stdout == "<IdSet of 4 ids in 7 bytes: [7, 9, 10, 300]>\n" else f"it printed {done.stdout[-2000:]}"
 
 
 def checks(python):

@@ -9,36 +9,16 @@
 #include <stdlib.h>
 #include <string.h>
 
-enum { LINE = 1 << 21, COLUMNS = 5, TABLES = 12 };
+enum { LINE = 1 << 21, COLUMNS = 3, TABLES = 4 };
 
 /* The table of the row that was read last. */
 static enum {
-    LISTS,
-    REFUSED,
-    SEARCHES,
-    INTERSECTIONS,
-    UNIONS,
-    DIFFERENCES,
-    REFUSED_VALUES,
-    UPGRADES,
     ID_SETS,
     REFUSED_BYTES, /* of id sets, or of columns */
     COMBINED_ID_SETS,
     VALUES_OF_COLUMNS
 } table;
-static const char *const heads[TABLES] = {
-    "kind\tlanes\tvalues\tbytes",
-    "lanes\tnumber\tfault\tbytes\trule",
-    "lanes\tbytes\ttargets\tfound",
-    "lanes\tbytes\tother_lanes\tother_bytes\tshared",
-    "lanes\tbytes\tother_lanes\tother_bytes\tunited",
-    "lanes\tbytes\tother_lanes\tother_bytes\tleft",
-    "version\tkind\tlanes\tvalues\tposition",
-    "lanes\tbytes\tnumber\tfault\tupgraded",
-    "ids\tbytes",
-    "number\tfault\tbytes",
-    "ids\tothers\tboth",
-    "kind\tvalues\tbytes"};
+static const char *const heads[TABLES] = {"ids\tbytes", "number\tfault\tbytes", "ids\tothers\tboth", "kind\tvalues\tbytes"};
 
 static char line[LINE];
 
@@ -76,7 +56,7 @@ static int next_row(char *column[COLUMNS])
 
 static inline uint8_t kind_of(const char *name)
 {
-    return *name == 'p' ? 0 : name[1] == 'o' ? 1 : 2;
+    return *name != 'p'; /* plain or sorted */
 }
 
 static unsigned digit(char it)

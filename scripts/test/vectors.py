@@ -75,53 +75,10 @@ def list_checks(names):
             yield f"text{version} {row['bytes'][:80]}", answer_of(encode, lanes, kind, values), text
 
 
-def short_list_checks(names):
-    """Lists of version 3. Each reader refuses the texts of the other versions."""
-    decoders = {"": names["decode"], "2": names["decode2"], "3": names["decode3"]}
-    for row in table("refused3.tsv"):
-        found = answer_of(decoders["3"], int(row["lanes"]), octets(row["bytes"]))
-        yield f"refused3 {row['bytes'][:80]}", found, row["fault"]
-    for row in table("lists3.tsv"):
-        lanes, kind = int(row["lanes"]), KINDS.index(row["kind"])
-        values, text = numbers(row["values"]), octets(row["bytes"])
-        yield f"list3 {row['bytes'][:80]}", answer_of(decoders["3"], lanes, text), (kind, values)
-        yield f"text3 {row['bytes'][:80]}", answer_of(names["encode3"], lanes, kind, values), text
-        for version in ["", "2"]:
-            right = f"BadVersion({text[0]})" if len(text) >= 7 else "Short"
-            yield f"list3 {row['bytes'][:80]} as version {version or 1}", answer_of(decoders[version], lanes, text), right
-    for version in ["", "2"]:
-        for row in table(f"lists{version}.tsv"):
-            found = answer_of(decoders["3"], int(row["lanes"]), octets(row["bytes"]))
-            yield f"list{version} {row['bytes'][:80]} as version 3", found, f"BadVersion({version or 1})"
-
-
-def dense_list_checks(names):
-    """Lists of version 4. Each reader refuses the texts of the other versions, and a list without a block is written in version 3."""
-    decoders = {"": names["decode"], "2": names["decode2"], "3": names["decode3"], "4": names["decode4"]}
-    for row in table("refused4.tsv"):
-        found = answer_of(decoders["4"], int(row["lanes"]), octets(row["bytes"]))
-        yield f"refused4 {row['bytes'][:80]}", found, row["fault"]
-    for row in table("lists4.tsv"):
-        lanes, kind = int(row["lanes"]), KINDS.index(row["kind"])
-        values, text = numbers(row["values"]), octets(row["bytes"])
-        yield f"list4 {row['bytes'][:80]}", answer_of(decoders["4"], lanes, text), (kind, values)
-        yield f"text4 {row['bytes'][:80]}", answer_of(names["encode4"], lanes, kind, values), text
-        for version in ["", "2", "3"]:
-            right = f"BadVersion({text[0]})" if len(text) >= 7 or version == "3" else "Short"
-            yield f"list4 {row['bytes'][:80]} as version {version or 1}", answer_of(decoders[version], lanes, text), right
-    for version in ["", "2", "3"]:
-        for row in table(f"lists{version}.tsv"):
-            lanes, text, values = int(row["lanes"]), octets(row["bytes"]), numbers(row["values"])
-            yield f"list{version} {row['bytes'][:80]} as version 4", answer_of(decoders["4"], lanes, text), f"BadVersion({text[0]})"
-            if version == "3" and len(values) < 32 * lanes:
-                yield f"text4 of {row['bytes'][:80]}", answer_of(names["encode4"], lanes, KINDS.index(row["kind"]), values), text
-
-
 def upgrade_checks(names):
-    for name in ["upgrade", "upgrade3", "upgrade4"]:
-        for row in table(f"{name}.tsv"):
-            right = octets(row["upgraded"]) if row["fault"] == "-" else row["fault"]
-            yield f"{name} {row['bytes'][:80]}", answer_of(names[name], int(row["lanes"]), octets(row["bytes"])), right
+    for row in table("upgrade.tsv"):
+        right = octets(row["upgraded"]) if row["fault"] == "-" else row["fault"]
+        yield f"upgrade {row['bytes'][:80]}", answer_of(names["upgrade"], int(row["lanes"]), octets(row["bytes"])), right
     for row in table("refused.tsv"):
         yield f"upgrade {row['bytes'][:80]}", answer_of(names["upgrade"], int(row["lanes"]), octets(row["bytes"])), row["fault"]
 
@@ -129,59 +86,37 @@ def upgrade_checks(names):
 def encoder_checks(names):
     for row in table("refused_values.tsv"):
         lanes, kind, values = int(row["lanes"]), KINDS.index(row["kind"]), numbers(row["values"])
-        for version in [row["version"], "4"][: 1 + (row["version"] == "3")]:  # version 4 refuses the values that version 3 refuses
-            found = answer_of(names[f"encode{version}"], lanes, kind, values)
-            yield f"refused values {version} {row['kind']} {lanes} {row['values'][:80]}", found, f"NotSorted({row['position']})"
-
-
-# What a reader of versions 2 to 4 in one lane answers to one byte, by docs/FORMAT.md.
-BY_BYTE_0 = {"-": "Short", "00": "Short", "01": "Short", "02": "Short", "03": "Short", "0f": "Short", "10": "BadVersion(16)"}
-BY_BYTE_0 |= {"17": "BadKind(3)", "26": "WrongLanes(4)", "3f": "BadVersion(63)", "40": "BadKind(0)", "f0": "BadKind(3)"}
-
-
-def is_read_as(version, text):
-    """Whether a reader of versions 2 to 4 reads a text by the table of this version."""
-    first = int(text[:2], 16) if text != "-" else 0
-    return version == ("3" if first >= 64 else "4" if first >= 16 else "2")
+        found = answer_of(names["encode2"], lanes, kind, values)
+        yield f"refused values {row['kind']} {lanes} {row['values'][:80]}", found, f"NotSorted({row['position']})"
 
 
 def seek_checks(names):
-    """Searches, by a reader of versions 2 to 4."""
-    for row in [*table("seek.tsv"), *table("seek3.tsv"), *table("seek4.tsv")]:
+    """Searches in lists of version 2."""
+    for row in table("seek.tsv"):
         values = answer_of(names["opened"], int(row["lanes"]), octets(row["bytes"]))
         yield f"seek {row['bytes'][:80]}", isinstance(values, list), True
         for target, right in zip(numbers(row["targets"]), row["found"].split(",")):
             found = answer_of(names["seek"], int(row["lanes"]), values, target)
             yield f"seek {target} {row['bytes'][:80]}", ":".join(map(str, found)) if found else "none", right
-    for version in ["2", "3", "4"]:
-        for row in table(f"lists{version}.tsv"):
-            if row["kind"] == "plain":
-                yield f"seek {row['bytes'][:80]}", answer_of(names["opened"], int(row["lanes"]), octets(row["bytes"])), "BadKind(0)"
-        for row in table(f"refused{version}.tsv"):
-            if is_read_as(version, row["bytes"]):
-                yield f"seek {row['bytes'][:80]}", answer_of(names["opened"], int(row["lanes"]), octets(row["bytes"])), row["fault"]
-    for text, right in BY_BYTE_0.items():
-        yield f"seek {text}", answer_of(names["opened"], 1, octets(text)), right
+    for row in table("lists2.tsv"):
+        if row["kind"] == "plain":
+            yield f"seek {row['bytes'][:80]}", answer_of(names["opened"], int(row["lanes"]), octets(row["bytes"])), "BadKind(0)"
+    for row in table("refused2.tsv"):
+        yield f"seek {row['bytes'][:80]}", answer_of(names["opened"], int(row["lanes"]), octets(row["bytes"])), row["fault"]
 
 
-def set_checks(names):
-    for name, column, call, plain in [
-        ("intersect", "shared", lambda one, other: names["intersect"](*one, *other), set.intersection),
-        ("union", "united", lambda one, other: names["unite"](one[1], other[1]), set.union),
-        ("difference", "left", lambda one, other: names["subtract"](one[1], other[1]), set.difference),
-    ]:
-        for row in table(f"{name}.tsv"):
-            one, other = ((int(row[f"{which}lanes"]), octets(row[f"{which}bytes"])) for which in ["", "other_"])
-            one, other = ((lanes, answer_of(names["opened"], lanes, text)) for lanes, text in [one, other])
-            which, right = f"{name} {row['bytes'][:60]} {row['other_bytes'][:60]}", numbers(row[column])
-            yield which, answer_of(call, one, other), right
-            if name != "difference":
-                yield f"{which}, exchanged", answer_of(call, other, one), right
-            yield f"{which}, as sets", sorted(plain(set(one[1]), set(other[1]))), right
+def intersect_checks(names):
+    for row in table("intersect.tsv"):
+        one, other = ((int(row[f"{which}lanes"]), octets(row[f"{which}bytes"])) for which in ["", "other_"])
+        one, other = ((lanes, answer_of(names["opened"], lanes, text)) for lanes, text in [one, other])
+        which, right = f"intersect {row['bytes'][:60]} {row['other_bytes'][:60]}", numbers(row["shared"])
+        yield which, answer_of(names["intersect"], *one, *other), right
+        yield f"{which}, exchanged", answer_of(names["intersect"], *other, *one), right
+        yield f"{which}, as sets", sorted({*one[1]} & {*other[1]}), right
 
 
 def query_checks(names):
-    return itertools.chain(upgrade_checks(names), encoder_checks(names), seek_checks(names))
+    return itertools.chain(upgrade_checks(names), encoder_checks(names), seek_checks(names), intersect_checks(names))
 
 
 def long_list_checks(names):
@@ -233,10 +168,7 @@ def line_checks(names):
 CHECKS = {
     "blocks": block_checks,
     "lists": list_checks,
-    "short_lists": short_list_checks,
-    "dense_lists": dense_list_checks,
     "queries": query_checks,
-    "sets": set_checks,
     "id_sets": id_set_checks,
     "columns": column_checks,
     "lines": line_checks,
@@ -270,7 +202,7 @@ def parquet_checks(names):
 
 def page_checks(names):
     """The texts in the tables of docs/FORMAT.md that show the rules, by the decoder of their version in one lane, of sets, or of columns."""
-    readers = {f"Packed lists, version {it or 1}": functools.partial(names[f"decode{it}"], 1) for it in ["", "2", "3", "4"]}
+    readers = {f"Packed lists, version {it or 1}": functools.partial(names[f"decode{it}"], 1) for it in ["", "2"]}
     for title, decode in [*readers.items(), ("Id sets", names["decode_set"]), ("Columns", names["decode_column"])]:
         shown = source("docs/FORMAT.md").split(f"\n## {title}\n")[1].split("\n## ")[0]
         for text, fault in re.findall(r"^\| `([0-9A-F ]+)` \| (\w+(?:\([\d, ]+\))?) \|", shown, re.M):

@@ -5,10 +5,7 @@
 
 ghost use Rattle.bitpack.specs.Laws.{OneAnswer, OneCommand};
 
-pub use bitpack_lists::laws::{
-    chains_read_back, first_is_found, in_order, one_common, one_group, one_number, one_text,
-    one_version, opened_text, same_blocks, same_bodies, text_exists, text_fits,
-};
+pub use bitpack_lists::laws::{chains_read_back, one_text};
 
 /// A line spells at most one command.
 pub fn one_command()

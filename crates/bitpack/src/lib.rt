@@ -1,8 +1,7 @@
 //! Chains of packed blocks, packed lists, and the line program.
 //!
-//! [`chain`] packs many blocks of one kind end to end. [`list`] encodes a list of any length, and decodes untrusted bytes. [`list2`] encodes
-//! lists in order, and opens them without unpacking. [`list3`] encodes short lists in fewer bytes, and [`list4`] dense lists and columns.
-//! [`sorted`] combines cursors over them. [`run`] reads lines to the end of a reader and writes the answer to each; [`ending`] says how a
+//! [`chain`] packs many blocks of one kind end to end. [`list`] encodes a list of any length, and decodes untrusted bytes. [`list2`] opens
+//! lists in order without unpacking. [`run`] reads lines to the end of a reader and writes the answer to each; [`ending`] says how a
 //! program then ends.
 //!
 //! ```text
@@ -13,6 +12,7 @@
 #![tactic(auto)]
 
 mod answer;
+pub mod chain;
 pub mod laws;
 mod line;
 mod line_loop;
@@ -20,6 +20,6 @@ mod output;
 mod run_error;
 mod writing;
 
-pub use bitpack_lists::{ListError, ListKind, chain, list, list2, list3, list4};
+pub use bitpack_lists::{ListError, ListKind, list, list2};
 pub use line_loop::run;
 pub use run_error::{RunError, ending};

@@ -1,13 +1,11 @@
 //! Each file has tests that refuse memory or run long, with the tests that share its helpers.
 
 mod blocks;
-mod builders;
 mod calls;
 mod chains;
 mod checks;
 mod documented;
 mod fakes;
-mod few_and_long;
 mod intersect;
 mod large;
 mod list2;
@@ -24,6 +22,5 @@ mod running;
 mod seek;
 mod short_of_memory;
 mod texts;
-mod upgrade4_memory;
 mod upgrade_memory;
 mod worked;

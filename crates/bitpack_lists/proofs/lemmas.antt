@@ -4,6 +4,3 @@ pub mod laws
 pub mod opened
 pub mod v1
 pub mod v2
-pub mod v3
-pub mod v4
-pub mod writing

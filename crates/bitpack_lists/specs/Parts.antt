@@ -8,7 +8,7 @@ use Rattle.bitpacking.specs.Layout.{codes_of, size}
 use Rattle.bitpack_lists.specs.declared.list_kind.ListKind.{ListKind}
 use Rattle.bitpack_lists.specs.declared.list_kind.ListKind.TheVariants as lists
 use Rattle.bitpack_lists.specs.declared.list_error.ListError.{ListError}
-use Rattle.bitpack_lists.specs.declared.list_error.ListError.TheVariants.{Short, BadVersion, BadKind, WrongLanes, TooLong, BadWidth, LooseWidth, BadOffset, BadLast, NotSorted, Trailing, Memory, BadNumber, Padding, WrongKind, BadSizes, BadBits}
+use Rattle.bitpack_lists.specs.declared.list_error.ListError.TheVariants.{Short, BadVersion, BadKind, WrongLanes, TooLong, BadWidth, LooseWidth, BadOffset, BadLast, NotSorted, Trailing, Memory}
 use Rattle.bitpack_lists.specs.Chains.{next_kind}
 
 -- the number of a refusal
@@ -25,11 +25,6 @@ number_of (BadLast block) = 9
 number_of (NotSorted position) = 10
 number_of Trailing = 11
 number_of Memory = 12
-number_of BadNumber = 13
-number_of Padding = 14
-number_of (WrongKind found wanted) = 15
-number_of (BadSizes byte) = 16
-number_of (BadBits block) = 17
 
 -- a test finds the fault that there is, if there is one
 abbrev pub FindsFault : {A : Type 0} → Result A ListError → Option ListError → Type 0

@@ -1,6 +1,6 @@
 -- Packed lists of version 2: the header, a skip entry for each whole block, the bodies of the blocks, and the tail's values. The
 -- values are in the order of their kind. What is after the header is called the rest of the bytes.
-use Rattle.std.specs.Prelude.{◌≡◌, ℕ, zero, suc, ◌+◌, ◌-◌, ◌*◌, ◌^◌, ◌<◌, ◌≤◌, Bool, false, not, ◌&&◌, ◌==◌, nat_lt, nat_le, if◌then◌else◌, List, [], ◌∷◌, ◌++◌, length, take, drop, slice_index, Option, Some, None}
+use Rattle.std.specs.Prelude.{◌≡◌, ℕ, zero, suc, ◌+◌, ◌-◌, ◌*◌, ◌<◌, ◌≤◌, Bool, false, not, ◌&&◌, ◌==◌, nat_lt, nat_le, if◌then◌else◌, List, [], ◌∷◌, ◌++◌, length, take, drop, slice_index, Option, Some, None}
 use Rattle.std.specs.Option.{option_or, option_map}
 use Rattle.bitpacking.specs.declared.kind.Kind.{Kind}
 use Rattle.bitpacking.specs.Codes.{AreWords, values_of}
@@ -10,7 +10,7 @@ use Rattle.bitpacking.specs.Words.{bytes_of_words, word}
 use Rattle.bitpack_lists.specs.declared.list_kind.ListKind.{ListKind}
 use Rattle.bitpack_lists.specs.declared.list_kind.ListKind.TheVariants as lists
 use Rattle.bitpack_lists.specs.declared.list_error.ListError.{ListError}
-use Rattle.bitpack_lists.specs.declared.list_error.ListError.TheVariants.{Short, BadWidth, LooseWidth, BadOffset, BadLast, NotSorted, TooLong, Trailing}
+use Rattle.bitpack_lists.specs.declared.list_error.ListError.TheVariants.{Short, BadWidth, LooseWidth, BadOffset, BadLast, NotSorted, Trailing}
 use Rattle.bitpack_lists.specs.Parts.{BeginsWithHeader, count_of, header_fault, is_loose, kind_after, kind_of_byte, tail_values, value_in_parts, whole_blocks}
 
 -- ---- the order of a list
@@ -29,11 +29,6 @@ least_below test (suc bound) = option_or (least_below test bound) (if test bound
 -- the first position out of order
 abbrev pub first_out : ListKind → List ℕ → Option ℕ
 first_out kind values = least_below (is_out kind (slice_index values)) (length values)
-
--- the first fault of values that are to be written: they are too many, or out of order
-unfoldable pub values_fault : ListKind → List ℕ → Option ListError
-values_fault kind values =
-    if nat_lt (2 ^ 28) (length values) then Some (TooLong (length values)) else option_map NotSorted (first_out kind values)
 
 -- ---- the parts of the rest of the bytes, and their offsets
 
@@ -89,7 +84,7 @@ abbrev pub IsBody2 : ℕ → ℕ → ListKind → List ℕ → List ℕ → ℕ 
 IsBody2 lanes blocks kind values rest block =
     Holds lanes (width_at rest block) (kind_at kind rest block) (block_of lanes values block) (body_at lanes blocks rest block)
 
--- `blocks` whole blocks of the values are in the rest of a list, as versions 2 and 3 have them
+-- `blocks` whole blocks of the values are in the rest of a list
 pub record HasBlocks (lanes blocks : ℕ) (kind : ListKind) (values rest : List ℕ) : Type 0 where
   pub entries : (block : ℕ) → block < blocks → IsEntry2 lanes kind values rest block
   pub bodies : (block : ℕ) → block < blocks → IsBody2 lanes blocks kind values rest block

@@ -1,26 +1,10 @@
 -- Definitions that no public contract cites: what inner functions promise each other.
 pub mod Appending
-pub mod BitGaps
-pub mod BitWords
 pub mod BlockCodes
-pub mod BlocksOfBits
 pub mod CodeSteps
-pub mod Copies
 pub mod CountedReads
-pub mod Holding
 pub mod Opening
-pub mod Opening3
-pub mod Opening4
-pub mod Reading4
-pub mod Planned
-pub mod Ranges
 pub mod Searching
 pub mod Seeking
-pub mod ShortHeaders
-pub mod Sizes
-pub mod Sizes4
-pub mod Sources
-pub mod StatedTexts
-pub mod Tails
 pub mod Upgrading
 pub mod Walks

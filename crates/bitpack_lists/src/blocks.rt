@@ -1,4 +1,4 @@
-//! What all versions share of whole blocks: their skip entries, widths and order.
+//! What both versions have of whole blocks: their skip entries, widths and order.
 
 pub(crate) mod measuring;
 pub(crate) mod order;

@@ -1,9 +1,7 @@
 //! Chains: many blocks of one kind. Each goes on from the last value of the one before.
 
-ghost use Rattle.std.specs.Prelude.{◌≡◌, ◌*◌, ◌/◌, ◌≤◌, ℕ, All, length, take, drop, sum};
-ghost use Rattle.bitpacking.specs.Width.{IsWidth};
+ghost use Rattle.std.specs.Prelude.{◌≡◌, ◌*◌, ◌/◌, ◌≤◌, All, length, take, drop, sum};
 ghost use Rattle.bitpacking.specs.Layout.{size};
-ghost use Rattle.bitpacking.specs.Calls.{CanPack, CanUnpack, IsPacked, IsUnpacked};
 ghost use Rattle.bitpack_lists.specs.Chains.{CanPackChain, Chained, IsChainSize, Loose, PacksChain};
 
 use crate::list_kind::next_kind;

@@ -3,7 +3,6 @@
 ghost use Rattle.std.specs.Prelude.{◌≡◌};
 ghost use Rattle.bitpack_lists.specs.Parts.{number_of};
 
-use crate::list_kind::ListKind;
 use std::error::Error;
 use std::fmt;
 
@@ -14,7 +13,7 @@ pub enum ListError {
     Short,
     /// The version byte is another.
     BadVersion(u8),
-    /// The kind is above 2; or it is 0, plain, and the list was to be searched.
+    /// The kind is above 2.
     BadKind(u8),
     /// The list was packed in this many lanes, and not in the packer's.
     WrongLanes(u8),
@@ -22,12 +21,11 @@ pub enum ListError {
     TooLong(usize),
     /// The width byte of this block is above 32.
     BadWidth(usize, u8),
-    /// The block has this width or size, and a smaller one holds it: the codes fit a smaller width, or its other form is shorter.
+    /// The block has this width, and its codes fit a smaller one.
     LooseWidth(usize, u8),
-    /// The offset of this block is not the sum of the widths before it; or in version 4, its end is below the one before it, or more than 32
-    /// above it.
+    /// The offset of this block is not the sum of the widths before it.
     BadOffset(usize),
-    /// The last value of this block is not the one in its skip entry; or in a plain list of version 4, its least value is not its mark.
+    /// The last value of this block is not the one in its skip entry.
     BadLast(usize),
     /// The value at this position is the first out of order.
     NotSorted(usize),
@@ -35,21 +33,10 @@ pub enum ListError {
     Trailing,
     /// The vector could not grow.
     Memory,
-    /// A varint of version 3 is not written in its one form, or is too small or too large here. Or two lists are joined, and a value of the
-    /// second is above `u32::MAX` with the base that is added.
-    BadNumber,
-    /// A bit is set after the last code of a group.
-    Padding,
-    /// The list is of the first kind, and the caller wants the second.
-    WrongKind(ListKind, ListKind),
-    /// The byte of the sizes, in a list of version 4, does not say the least counts of bytes from 1 to 4.
-    BadSizes(u8),
-    /// The bit set of this block does not have as many bits as a block has values, or ends with another value than its mark.
-    BadBits(usize),
 }
 
 impl ListError {
-    /// Returns the number of the refusal: from 1 to 17 in the order of the variants.
+    /// Returns the number of the refusal: from 1 to 12 in the order of the variants.
     pub fn number(&self) -> u8
         ensures { result ≡ number_of self.now }
     {
@@ -66,11 +53,6 @@ impl ListError {
             ListError::NotSorted(_) => 10,
             ListError::Trailing => 11,
             ListError::Memory => 12,
-            ListError::BadNumber => 13,
-            ListError::Padding => 14,
-            ListError::WrongKind(_, _) => 15,
-            ListError::BadSizes(_) => 16,
-            ListError::BadBits(_) => 17,
         }
     }
 }
@@ -111,20 +93,6 @@ impl fmt::Display for ListError {
             }
             ListError::Trailing => write!(f, "bytes are left over after the last value"),
             ListError::Memory => write!(f, "out of memory"),
-            ListError::BadNumber => write!(f, "a number does not have its only form"),
-            ListError::Padding => write!(f, "a bit is set after the last code of a group"),
-            ListError::WrongKind(found, wanted) => {
-                write!(f, "the list is {found}, not {wanted}")
-            }
-            ListError::BadSizes(byte) => {
-                write!(f, "{byte} does not say the least sizes of ends and marks")
-            }
-            ListError::BadBits(block) => {
-                write!(
-                    f,
-                    "the bit set of block {block} is not one of a block that ends with its mark"
-                )
-            }
         }
     }
 }

@@ -2,3 +2,4 @@
 
 pub(crate) mod opening;
 pub(crate) mod upgrading;
+pub(crate) mod writing;

@@ -70,16 +70,3 @@ words_set (a ∷ b ∷ c ∷ d ∷ []) fs ls size = λ i small.
     (four_combined Or fs ls p q r s (word_or (get_or fs 0 0) (get_or ls 0 0)) (word_or (get_or fs 1 0) (get_or ls 1 0)) (word_or (get_or fs 2 0) (get_or ls 2 0))
     (word_or (get_or fs 3 0) (get_or ls 3 0)) i small)
 words_set (a ∷ b ∷ c ∷ d ∷ e ∷ ws) fs ls size = absurd (omega arith)
-
--- ---- four words that are listed
-
-listed_at : (ws : List ℕ) (q : ℕ) → q < 4 → get_or (get_or ws 0 0 ∷ get_or ws 1 0 ∷ get_or ws 2 0 ∷ get_or ws 3 0 ∷ []) q 0 ≡ get_or ws q 0
-listed_at ws zero lt = refl
-listed_at ws (suc zero) lt = refl
-listed_at ws (suc (suc zero)) lt = refl
-listed_at ws (suc (suc (suc zero))) lt = refl
-listed_at ws (suc (suc (suc (suc q)))) lt = absurd (omega arith)
-
-pub four_listed : (ws : List ℕ) (i : ℕ) → i < 256 → has_bit (get_or ws 0 0 ∷ get_or ws 1 0 ∷ get_or ws 2 0 ∷ get_or ws 3 0 ∷ []) i ≡ has_bit ws i
-unfolding has_bit
-four_listed ws i small = ap (λ (w : ℕ). eqb (bit_at w (i % 64)) 1) (listed_at ws (i / 64) (omega arith))

@@ -46,5 +46,8 @@ left_none all old new at next rest e so =
       written = λ h. sym (append-nil (take next new)) ∙ ap (λ (l : List ℕ). take next new ++ l) (sym e) ∙ so.written h;
     }
 
+pub follow_none : (old : List ℕ) (at : ℕ) → Follow [] old old at at
+follow_none old at = record { end_is = omega arith; written = λ h. sym (append-nil (take at old)) }
+
 pub follow_as : (xs ys old new : List ℕ) (at end : ℕ) → xs ≡ ys → Follow xs old new at end → Follow ys old new at end
 follow_as xs ys old new at end e so = subst (λ (l : List ℕ). Follow l old new at end) e so

@@ -1,11 +1,8 @@
 -- Blocks beside a bitmap of others.
-use Rattle.std.proofs.Common.{◌≡◌, ℕ, ◌+◌, ◌*◌, ◌/◌, ◌-◌, ◌<◌, ◌≤◌, Bool, true, false, ◌&&◌, eqb, List, [], map, take, drop, length, get_or, refl, sym, ap, ◌∙◌, arith, subst}
-use Rattle.std.specs.Int.{bit_at}
-use Rattle.std.specs.List.{range_with_len}
-use Rattle.std.proofs.lemmas.List.{length-map}
+use Rattle.std.proofs.Common.{◌≡◌, ℕ, ◌+◌, ◌*◌, ◌/◌, ◌-◌, ◌<◌, Bool, true, false, ◌&&◌, List, [], map, take, drop, refl, sym, ap, ◌∙◌, arith, subst}
 use Rattle.bitpack_sets.proofs.AnswerLaws.{those_same}
-use Rattle.bitpack_sets.proofs.BitmapLaws.{has_part, those_few}
-use Rattle.bitpack_sets.proofs.ListLaws.{filter_few}
+use Rattle.bitpack_sets.proofs.BitmapLaws.{has_part, those_none}
+use Rattle.bitpack_sets.proofs.CombineLaws.{holds_none}
 use Rattle.bitpack_sets.proofs.LoadLaws.{has_those, those_rise}
 use Rattle.bitpack_sets.proofs.SelectionLaws.{both_or_none, map_zero, no_part, out_of}
 use Rattle.bitpack_sets.proofs.UnpackLaws.{by_high, lows, those_by_high}
@@ -13,13 +10,10 @@ use Rattle.bitpack_sets.specs.Bitmaps.{has_bit}
 use Rattle.bitpack_sets.specs.Lists.{in_bitmap}
 use Rattle.bitpack_sets.specs.Operations.{holds, those}
 use Rattle.bitpack_sets.specs.Reads.{has}
-use Rattle.bitpack_sets.specs.Selections.{bytes_of, parts_numbers, selected}
+use Rattle.bitpack_sets.specs.Selections.{parts_numbers}
 use Rattle.bitpack_sets.specs.Sets.{IsRising}
-use Rattle.bitpack_sets.specs.Slices.{ones_from}
 use Rattle.bitpack_sets.specs.declared.blocks.Blocks.{Blocks}
 use Rattle.bitpack_sets.specs.declared.operation.Operation.{Operation}
-use Rattle.bitpack_sets.specs.declared.slice.selecting.Selection.{Selection}
-use Rattle.bitpack_sets.specs.declared.slice.selecting.Selection.TheVariants.{All, Bits, Bytes}
 
 -- whether the answer has a number
 abbrev pub mixes : Operation → Blocks → List ℕ → List ℕ → ℕ → Bool
@@ -82,20 +76,14 @@ none_mixed operation others words own none high out e =
     let at : (256 * high + i) / 256 ≡ high = omega arith in
     ap (holds operation (has i own)) (ap (has i) e ∙ sym (ap (λ (n : ℕ). has_bit others n && has_bit words (256 * high + i)) at ∙ ap (λ (b : Bool). b && has_bit words (256 * high + i)) out)))
 
--- ---- no bits
+left_out : (operation : Operation) (b : Bool) → holds operation true false ≡ false → holds operation b false ≡ false
+left_out operation true e = e
+left_out operation false e = holds_none operation false false refl refl
 
--- ---- numbers that are written or counted
-
--- numbers that are selected are few
-pub selected_few : (selection : Selection) → length (selected selection) ≤ 256
-unfolding ones_from
-selected_few (Bytes slice marks) =
-    let many : length (selected (Bytes slice marks)) ≡ length (ones_from marks 0 32) = length-map (ones_from marks 0 32) (λ i. get_or (bytes_of slice) i 0) in
-    let few : length (ones_from marks 0 32) ≤ length (range_with_len 0 32) = filter_few (λ i. eqb (bit_at marks i) 1) (range_with_len 0 32) in
-    let size : length (range_with_len 0 32) ≡ 32 = refl in
-    omega arith
-selected_few (Bits words) = those_few 256 (has_bit words)
-selected_few (All slice) =
-    let few = slice.there.few in
-    let size = slice.there.slice.count_is in
-    omega arith
+-- no number, if the answer has none that only the first has
+pub none_given : (operation : Operation) (others words own : List ℕ) (high : ℕ) → has_bit others high ≡ false → holds operation true false ≡ false
+    → those 256 (λ i. holds operation (has i own) (in_bitmap others words (256 * high + i))) ≡ []
+unfolding those
+none_given operation others words own high out none =
+    sym (none_mixed operation others words own [] high out refl)
+    ∙ those_none (λ i. holds operation (has i own) false) 0 256 (λ i low few. left_out operation (has i own) none)

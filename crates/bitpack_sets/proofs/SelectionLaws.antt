@@ -276,3 +276,20 @@ marked_first slices start count marks bytes there few small loaded =
     let own : List ℕ = take (slice_len count) (drop start slices) in
     let is = few_there slices start count own there few refl in
     marked_same marks bytes own is.few small (first_bytes slices start count bytes there few loaded)
+
+-- ---- what is written of one high byte
+
+pub record IsUnpacked (base : ℕ) (numbers old new : List ℕ) (at end : ℕ) : Type 0 where
+  pub end_is : end ≡ at + length numbers
+  pub room : end ≤ length old
+  pub written : take end new ≡ take at old ++ map (λ i. base + i) numbers
+
+pub unpacked_as : (base : ℕ) (xs ys old new : List ℕ) (at end : ℕ) → xs ≡ ys → end ≡ at + length xs → end ≤ length old
+    → take end new ≡ take at old ++ map (λ i. base + i) xs → IsUnpacked base ys old new at end
+unpacked_as base xs ys old new at end e size room values =
+    record { end_is = size ∙ ap (λ (l : List ℕ). at + length l) e; room = room; written = values ∙ ap (λ (l : List ℕ). take at old ++ map (λ i. base + i) l) e }
+
+-- where it is, under other names
+pub unpacked_at : (base : ℕ) (numbers old new out : List ℕ) (at end next : ℕ) → out ≡ new → next ≡ end → IsUnpacked base numbers old new at end → IsUnpacked base numbers old out at next
+unpacked_at base numbers old new out at end next e f is =
+    subst (λ (l : List ℕ). IsUnpacked base numbers old l at next) (sym e) (subst (λ (n : ℕ). IsUnpacked base numbers old new at n) (sym f) is)

@@ -1,13 +1,11 @@
--- Slices of a body, and some numbers of a slice: bytes with a mark for each, bits, or all.
-use Rattle.std.specs.Prelude.{ℕ, ◌+◌, ◌/◌, ◌^◌, ◌<◌, ◌&&◌, List, drop, length, map, slice_index, take}
+-- Slices of a body, and some numbers of a slice.
+use Rattle.std.specs.Prelude.{ℕ, ◌+◌, ◌/◌, ◌&&◌, List, drop, map, slice_index, take}
 use Rattle.bitpack_sets.specs.Bitmaps.{has_bit}
 use Rattle.bitpack_sets.specs.Operations.{holds, those}
 use Rattle.bitpack_sets.specs.Reads.{has}
 use Rattle.bitpack_sets.specs.Slices.{numbers_of, ones_from, slice_len, slice_numbers}
 use Rattle.bitpack_sets.specs.declared.blocks.Blocks.{Blocks}
 use Rattle.bitpack_sets.specs.declared.operation.Operation.{Operation}
-use Rattle.bitpack_sets.specs.declared.slice.selecting.Selection.{Selection}
-use Rattle.bitpack_sets.specs.declared.slice.selecting.Selection.TheVariants.{All, Bits, Bytes}
 use Rattle.bitpack_sets.specs.declared.slice.Slice.{Slice}
 
 -- the bytes and the numbers of a slice
@@ -20,18 +18,6 @@ numbers_at slice = slice_numbers slice.count (bytes_of slice)
 -- the bytes whose mark is 1
 abbrev pub marked : ℕ → List ℕ → List ℕ
 marked marks bytes = map (slice_index bytes) (ones_from marks 0 32)
-
--- the bytes are few, and each mark is one of a byte
-abbrev pub AreMarks : Selection → Type 0
-AreMarks (Bytes slice marks) = (slice.count < 32) × (marks < 2 ^ length (bytes_of slice))
-AreMarks (Bits words) = Unit {0}
-AreMarks (All slice) = Unit {0}
-
--- the numbers that are selected
-abbrev pub selected : Selection → List ℕ
-selected (Bytes slice marks) = marked marks (bytes_of slice)
-selected (Bits words) = those 256 (has_bit words)
-selected (All slice) = numbers_at slice
 
 -- the numbers of the parts of a body
 abbrev pub parts_numbers : Blocks → List ℕ

@@ -102,6 +102,15 @@ pub record WritesSet (ids : List ℕ) (result : Result ℕ SetError) (old new : 
   pub room : refusal ids ≡ None → OnErr result (length old < length (text ids))
   pub unchanged : OnErr result (new ≡ old)
 
+-- WritesSet with work space for `space` ids: it is enough if all ids fit in it
+pub record WritesWith (space : ℕ) (ids : List ℕ) (result : Result ℕ SetError) (old new : List ℕ) : Type 0 where
+  pub set : OnOk result (IsSet ids)
+  pub len : IfOk result (λ len. len ≡ length (text ids))
+  pub ok : OnOk result (new ≡ text ids ++ drop (length (text ids)) old)
+  pub fault : MatchOption (refusal ids) (IfErr result (λ e. e ≡ Short)) (λ fault. result ≡ Err fault)
+  pub room : refusal ids ≡ None → length ids ≤ space → OnErr result (length old < length (text ids))
+  pub unchanged : OnErr result (new ≡ old)
+
 -- the encoding of a set is appended; or the ids are none, or the vector has no room and memory runs out, and nothing changed
 pub record AppendsSet {A : Type 0} (ids : List ℕ) (result : Result (Unit {0}) SetError) (old new : Vec ℕ A) : Type 0 where
   pub set : OnOk result (IsSet ids)
@@ -117,3 +126,11 @@ pub record Appends {A : Type 0} (bytes : List ℕ) (result : Result (Unit {0}) S
   pub memory : IfErr result (λ e. e ≡ Memory)
   pub unchanged : OnErr result (new.items ≡ old.items)
   pub kept : OnErr result (vec_capacity new ≡ vec_capacity old)
+
+-- bytes are written, and what is after them is unchanged; or the slice is too short, and nothing changed
+pub record WritesBytes (bytes : List ℕ) (result : Result ℕ SetError) (old new : List ℕ) : Type 0 where
+  pub len : IfOk result (λ len. len ≡ length bytes)
+  pub ok : OnOk result (new ≡ bytes ++ drop (length bytes) old)
+  pub short : IfErr result (λ e. e ≡ Short)
+  pub room : OnErr result (length old < length bytes)
+  pub unchanged : OnErr result (new ≡ old)

@@ -1,17 +1,17 @@
 //! The ids of a set and more ids after them, written as one set.
 
-ghost use Rattle.std.specs.Prelude.{◌≡◌, ◌+◌, ◌-◌, ◌*◌, ◌^◌, ◌≤◌, ◌++◌, [], Err, IfErr, MatchOption, OnErr, OnOk, drop, length, vec_capacity, vec_len};
+ghost use Rattle.std.specs.Prelude.{◌≡◌, ◌+◌, ◌-◌, ◌*◌, ◌^◌, ◌≤◌, ◌<◌, ◌++◌, [], Err, IfErr, IfOk, MatchOption, OnErr, OnOk, drop, length, take, vec_capacity, vec_len};
 ghost use Rattle.std.specs.List.{concat};
 ghost use Rattle.bitpack_sets.specs.Errors.{Finds};
 ghost use Rattle.bitpack_sets.specs.Fronts.{IsFront, IsNext, front_ids};
 ghost use Rattle.bitpack_sets.specs.Opened.{ids};
 ghost use Rattle.bitpack_sets.specs.Sets.{IsSet, in_chunks, parts, text};
-ghost use Rattle.bitpack_sets.specs.Written.{Appends, bodies, refusal};
+ghost use Rattle.bitpack_sets.specs.Written.{Appends, WritesBytes, WritesWith, bodies, refusal};
 
 use crate::encoding::chunks::chunks_len;
 use crate::encoding::copying::Front;
 use crate::encoding::order::test_more;
-use crate::encoding::{append_set, append_zeros};
+use crate::encoding::{append_set, append_zeros, encode_to};
 use crate::id_set::IdSet;
 use crate::reserved;
 use crate::set_error::SetError;
@@ -33,6 +33,26 @@ pub fn append(alloc: Global, set: &IdSet, more: &[u32], out: &mut Vec<u8>) -> Re
     test_after(set, more)?;
     let mut room = Vec::new(alloc);
     append_ids(set, more, &mut room, out)
+}
+
+/// Writes the set of the ids of a set and of more ids after them at the start of the slice, and returns its length in bytes. Allocates nothing:
+/// it unpacks ids into the room. If both sets are in chunks, only the ids of the last chunk are unpacked, and the other bodies are copied.
+///
+/// Fails as [`append`] does, with `Short` if there is no room for the bytes, or for the ids. Room for all ids is always enough. If it fails,
+/// the slice is unchanged. The bytes after the set are unchanged.
+pub fn append_to(
+    set: &IdSet,
+    more: &[u32],
+    room: &mut [u32],
+    out: &mut [u8],
+) -> Result<usize, SetError>
+    ensures { WritesWith (length room.old) (ids set.now ++ more.now) result out.old out.new }
+{
+    test_after(set, more)?;
+    match set.front() {
+        Some(front) => write_after(&front, set, more, room, out),
+        None => write_unpacked(set, more, room, out),
+    }
 }
 
 /// Tests that ids can follow the ids of a set.
@@ -151,4 +171,82 @@ fn append_range(set: &IdSet, from: usize, count: usize, out: &mut Vec<u32>)
     let start = out.len();
     reserved::append_zeros(out, count);
     set.copy_range(from, out.slice_mut(start..));
+}
+
+/// Writes the set of all ids. If it is in chunks, the bodies of the first ones are copied.
+fn write_after(
+    front: &Front,
+    set: &IdSet,
+    more: &[u32],
+    room: &mut [u32],
+    out: &mut [u8],
+) -> Result<usize, SetError>
+    requires set { IsSet (ids set.now ++ more.now) }
+    requires front { IsFront (front_ids front.now) (ids set.now) }
+    ensures { WritesWith (length room.old) (ids set.now ++ more.now) result out.old out.new }
+{
+    let count = unpack_to(set, front.len(), more, room)?;
+    let (chunks, size) = front.measure(&room[..count]);
+    if set.len() + more.len() < 4 * chunks {
+        return write_unpacked(set, more, room, out);
+    }
+    write_copied(front, &room[..count], chunks, size, out)
+}
+
+/// Writes the set of all ids, after it unpacked them.
+fn write_unpacked(
+    set: &IdSet,
+    more: &[u32],
+    room: &mut [u32],
+    out: &mut [u8],
+) -> Result<usize, SetError>
+    requires set { IsSet (ids set.now ++ more.now) }
+    ensures { WritesWith (length room.old) (ids set.now ++ more.now) result out.old out.new }
+{
+    let count = unpack_to(set, 0, more, room)?;
+    encode_to(&room[..count], out)
+}
+
+/// Writes the encoding of the ids of chunks, which are copied, and of ids after them.
+fn write_copied(
+    front: &Front,
+    ids: &[u32],
+    chunks: usize,
+    size: usize,
+    out: &mut [u8],
+) -> Result<usize, SetError>
+    requires set { IsSet ids.now }
+    requires next { IsNext (front_ids front.now) ids.now }
+    requires most { length (front_ids front.now ++ ids.now) ≤ 2 ^ 28 }
+    requires chunks { chunks ≡ length (parts 65536 (front_ids front.now ++ ids.now)) }
+    requires few { chunks ≤ length (front_ids front.now ++ ids.now) }
+    requires size { size ≡ length (concat (bodies (front_ids front.now ++ ids.now))) }
+    requires small { size ≤ 2 * length (front_ids front.now ++ ids.now) }
+    ensures { WritesBytes (in_chunks (front_ids front.now ++ ids.now)) result out.old out.new }
+{
+    let len = chunks_len(front.len() + ids.len(), chunks, size);
+    if out.len() < len {
+        return Err(SetError::Short);
+    }
+    front.write(ids, chunks, size, &mut out[..len]);
+    Ok(len)
+}
+
+/// Writes the ids of a set from a position on, and more ids, at the start of the room. Returns how many these are.
+fn unpack_to(set: &IdSet, from: usize, more: &[u32], room: &mut [u32]) -> Result<usize, SetError>
+    requires from { from ≤ length (ids set.now) }
+    requires few { length (ids set.now) + length more.now ≤ 2 ^ 28 }
+    ensures within { IfOk result (λ count. count ≤ length room.new) }
+    ensures ok { IfOk result (λ count. take count room.new ≡ drop from (ids set.now) ++ more.now) }
+    ensures short { IfErr result (λ e. e ≡ SetError.Short) }
+    ensures room { OnErr result (length room.old < length (ids set.now) + length more.now) }
+{
+    let count = set.len() - from;
+    let end = count + more.len();
+    if end > room.len() {
+        return Err(SetError::Short);
+    }
+    set.copy_range(from, &mut room[..count]);
+    room[count..end].copy_from_slice(more);
+    Ok(end)
 }

@@ -1,4 +1,4 @@
-//! Ids of a vector that a set has or lacks, and the union of both, in the vector.
+//! Ids of a vector or a slice that a set has or lacks, and the union of both, in place.
 
 ghost use Rattle.std.specs.Prelude.{◌≡◌, ℕ, ◌+◌, ◌/◌, ◌^◌, ◌<◌, ◌≤◌, ◌≢◌, ◌||◌, ◌++◌, true, false, Err, None, IfErr, IfOk, IsOk, MatchOption, OnErr, OnOk, drop, length, not, slice_index, take, vec_capacity};
 ghost use Rattle.std.specs.List.{filter};
@@ -62,6 +62,29 @@ pub fn add(values: &mut Vec<u32>, set: &IdSet) -> Result<(), SetError>
     append_zeros(values, more);
     unite_first(values.slice_mut(..), count, set);
     Ok(())
+}
+
+/// Adds the ids of a set to the first `count` ids, which increase, so that the first are all ids of both, in increasing order and each once.
+/// Returns how many these are. Allocates nothing.
+///
+/// Fails with `NotSorted` for the first id that is not above the one before it, then with `Short` only if the slice has no room for the union.
+/// If it fails, the slice is unchanged. Items after the union are unchanged.
+pub fn add_to(values: &mut [u32], count: usize, set: &IdSet) -> Result<usize, SetError>
+    requires within { count ≤ length values.old }
+    ensures fault { MatchOption (first_fall 0 (take count values.old)) (IfErr result (λ e. e ≡ SetError.Short)) (λ position. result ≡ Err (SetError.NotSorted position)) }
+    ensures few { IfOk result (λ len. len ≤ length values.new) }
+    ensures len { IfOk result (λ len. len ≡ length (those (2 ^ 32) (λ x. has x (take count values.old) || has x (ids set.now)))) }
+    ensures ok { IfOk result (λ len. take len values.new ≡ those (2 ^ 32) (λ x. has x (take count values.old) || has x (ids set.now))) }
+    ensures rest { IfOk result (λ len. drop len values.new ≡ drop len values.old) }
+    ensures room { first_fall 0 (take count values.old) ≡ None → OnErr result (length values.old < length (those (2 ^ 32) (λ x. has x (take count values.old) || has x (ids set.now)))) }
+    ensures unchanged { OnErr result (values.new ≡ values.old) }
+{
+    let len = count + count_more(&values[..count], set)?;
+    if len > values.len() {
+        return Err(SetError::Short);
+    }
+    unite_first(&mut values[..len], count, set);
+    Ok(len)
 }
 
 /// How many ids a set adds to ids that increase.
@@ -195,8 +218,9 @@ fn is_at(values: &[u32], index: usize, id: u32) -> bool
     index < values.len() && values[index] == id
 }
 
-/// Moves the ids that a set has, or those that it lacks, to the front, in their order. Returns how many these are.
-pub(crate) fn keep(values: &mut [u32], set: &IdSet, there: bool) -> usize
+/// Moves the ids that a set has, or those that it lacks, to the front, in their order. They need not increase. Returns how many these are.
+/// Allocates nothing.
+pub fn keep(values: &mut [u32], set: &IdSet, there: bool) -> usize
     ensures within { result ≤ length values.new }
     ensures kept { take result values.new ≡ filter (keeps there (ids set.now)) values.old }
 {

@@ -38,15 +38,16 @@ mod step;
 mod varints;
 mod worked_sets;
 
-pub use appending::append;
+pub use appending::{append, append_to};
 pub use as_set::AsSet;
 pub use combining::{combine, combine_count, combine_to, is_disjoint, is_subset};
 pub use combining_all::{combine_all_count, combine_all_to};
 pub use combining_sets::combine_set;
+pub use encoding::order::{first_unsorted, test_pushed};
 pub use encoding::{encode, encode_to, encoded_len};
 pub use id_set::IdSet;
 pub use ids::Ids;
-pub use in_place::{add, remove, retain};
+pub use in_place::{add, add_to, keep, remove, retain};
 pub use opening::Parts;
 pub use operation::Operation;
 pub use query::Query;

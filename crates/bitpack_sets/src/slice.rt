@@ -14,6 +14,7 @@ ghost use Rattle.bitpack_sets.specs.Props.{rising_prop};
 ghost use Rattle.bitpack_sets.specs.Slices.{HasSlice, slice_len};
 
 use crate::bitmap::marking::slice_bits;
+use crate::slice::reading::unpack_from;
 
 /// How many bytes the slice of `count` numbers has.
 #[inline(always)]
@@ -40,7 +41,7 @@ pub(crate) struct Slice<'a> {
 }
 
 impl<'a> Slice<'a> {
-    ghost use Rattle.std.specs.Prelude.{◌≡◌, ℕ, ◌<◌};
+    ghost use Rattle.std.specs.Prelude.{◌≡◌, ℕ, ◌+◌, ◌^◌, ◌<◌, ◌≤◌, ◌++◌, length, map, take};
     ghost use Rattle.bitpack_sets.specs.Bitmaps.{has_bit};
     ghost use Rattle.bitpack_sets.specs.Reads.{has};
     ghost use Rattle.bitpack_sets.specs.Selections.{bytes_of, numbers_at};
@@ -59,5 +60,16 @@ impl<'a> Slice<'a> {
         ensures { (i : ℕ) → i < 256 → has_bit result i ≡ has i (numbers_at self.entry) }
     {
         slice_bits(self.count, self.bytes())
+    }
+
+    /// Writes its numbers, each with `base` added. Returns where they end. Up to 31 numbers after the end change too.
+    #[inline(always)]
+    pub(crate) fn unpack(self, base: u32, out: &mut [u32], at: usize) -> usize
+        requires fits { base + 256 ≤ 2 ^ 32 }
+        requires room { at + self.count ≤ length out.old }
+        ensures end { result ≡ at + self.entry.count }
+        ensures values { take result out.new ≡ take at out.old ++ map (λ i. base + i) (numbers_at self.entry) }
+    {
+        unpack_from(self.count, self.slices, self.start, base, out, at)
     }
 }

@@ -6,8 +6,8 @@ use Rattle.std.proofs.lemmas.Bool.{cases_lt, lt-ltb, le-ltb}
 use Rattle.bitpack_lists.specs.declared.list_error.ListError.{ListError}
 use Rattle.bitpack_lists.specs.declared.list_error.ListError.TheVariants.{Memory, NotSorted, TooLong}
 use Rattle.bitpack_lists.specs.declared.list_kind.ListKind.{ListKind}
-use Rattle.bitpack_lists.specs.Version2.{first_out, values_fault}
-use Rattle.bitpack_uses.specs.Failures.{FailsWith}
+use Rattle.bitpack_lists.specs.Version2.{first_out}
+use Rattle.bitpack_uses.specs.Failures.{FailsWith, values_fault}
 
 -- a call fails with the error that another failed with
 pub fails_alike : (A B : Type 0) (fault : Option ListError) (e : ListError) → FailsWith {A = A} fault (Err e) → FailsWith {A = B} fault (Err e)

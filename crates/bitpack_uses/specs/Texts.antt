@@ -3,7 +3,6 @@ use Rattle.std.specs.Prelude.{ℕ, List}
 use Rattle.bitpack_lists.specs.declared.list_kind.ListKind.{ListKind}
 use Rattle.bitpack_lists.specs.Version1.{List1}
 use Rattle.bitpack_lists.specs.Version2.{List2}
-use Rattle.bitpack_lists.specs.Version3.{List3}
 
 abbrev pub IsText : ℕ → List ℕ → Type 0
 IsText lanes bytes = (kind : ListKind) × (values : List ℕ) × List1 lanes kind values bytes
@@ -11,7 +10,3 @@ IsText lanes bytes = (kind : ListKind) × (values : List ℕ) × List1 lanes kin
 -- as above, of version 2
 abbrev pub IsText2 : ℕ → List ℕ → Type 0
 IsText2 lanes bytes = (kind : ListKind) × (values : List ℕ) × List2 lanes kind values bytes
-
--- and of version 3
-abbrev pub IsText3 : ℕ → List ℕ → Type 0
-IsText3 lanes bytes = (kind : ListKind) × (values : List ℕ) × List3 lanes kind values bytes

@@ -1,20 +1,17 @@
 //! What the laws of lists and of the line language are good for. Each function calls one law, and its contract needs it.
 
-ghost use Rattle.std.specs.Prelude.{◌≡◌, ◌≢◌, ◌<◌, ◌≤◌, ◌^◌, ◌∷◌, ◌++◌, ℕ, List, None, IsTrue, IfOk, IfErr, length, drop};
-ghost use Rattle.std.specs.List.Sorted.{IsNonDecreasing, IsStrictlyIncreasing};
+ghost use Rattle.std.specs.Prelude.{◌≡◌, ◌<◌, ◌≤◌, ◌^◌, ℕ, List, IsTrue, IfOk, IfErr, length};
 ghost use Rattle.bitpacking.specs.Bits.{AreBytes};
 ghost use Rattle.bitpacking.specs.Layout.{Layout};
 ghost use Rattle.bitpacking.specs.Width.{Fits};
 ghost use Rattle.bitpack.specs.Answers.{IsAnswer};
 ghost use Rattle.bitpack.specs.Grammar.{Request, Spells};
 ghost use Rattle.bitpack_lists.specs.declared.list_kind.ListKind.{ListKind};
-ghost use Rattle.bitpack_lists.specs.Opened.{kind_of, values};
 ghost use Rattle.bitpack_lists.specs.Parts.{is_loose};
 ghost use Rattle.bitpack_lists.specs.Version1.{List1};
-ghost use Rattle.bitpack_lists.specs.Version2.{List2, body_at, first_out, tail_start, width_at};
+ghost use Rattle.bitpack_lists.specs.Version2.{List2};
 
-use bitpack::laws::{in_order, one_answer, one_command, one_common, one_text, same_bodies};
-use bitpack::list2::{PackedList, Reads, intersect};
+use bitpack::laws::{one_answer, one_command, one_text};
 use bitpack::{ListError, ListKind, list, list2};
 use bitpacking::BitPacker;
 use std::alloc::Global;
@@ -82,44 +79,6 @@ pub fn a_smaller_width()
         → (width : ℕ) × (width < 7) × Fits codes width }
 {
     one_text();
-}
-
-/// After the header a version 1 list of one whole block has the width, the body and the tail of version 2.
-pub fn parts_of_a_block()
-    ensures { (kind : ListKind) (values text other : List ℕ) → 32 ≤ length values → length values < 64
-        → AreBytes text → AreBytes other → List1 1 kind values text → List2 1 kind values other
-        → drop 7 text ≡ width_at (drop 7 other) 0 ∷ body_at 1 1 (drop 7 other) 0
-        ++ drop (tail_start 1 1 (drop 7 other)) (drop 7 other) }
-{
-    same_bodies();
-}
-
-/// The values of a strictly sorted list increase, and values that do not fall are in the order of a sorted list.
-pub fn texts_in_order()
-    ensures strict { (values text : List ℕ) → List2 4 ListKind.StrictlySorted values text
-        → IsStrictlyIncreasing values }
-    ensures sorted { (values : List ℕ) → IsNonDecreasing values → first_out ListKind.Sorted values ≡ None }
-{
-    in_order();
-}
-
-/// Intersects two lists in both orders. The values are the same, and they are no more than either list has.
-pub fn either_first<P: BitPacker, Q: BitPacker>(
-    alloc: Global,
-    a: &PackedList<'_, P>,
-    b: &PackedList<'_, Q>,
-) -> Result<(Vec<u32>, Vec<u32>), ListError>
-    requires ordered_a { kind_of a.now ≢ ListKind.Plain }
-    requires ordered_b { kind_of b.now ≢ ListKind.Plain }
-    ensures same { IfOk result (λ found. found.1.items ≡ found.0.items) }
-    ensures short { IfOk result (λ found. (length found.0.items ≤ length (values a.now))
-        × (length found.0.items ≤ length (values b.now))) }
-{
-    one_common();
-    let (mut ours, mut theirs) = (Vec::new(alloc), Vec::new(alloc));
-    intersect(a, b, &mut ours, &mut Reads::new(), &mut Reads::new())?;
-    intersect(b, a, &mut theirs, &mut Reads::new(), &mut Reads::new())?;
-    Ok((ours, theirs))
 }
 
 /// A line is not two commands.

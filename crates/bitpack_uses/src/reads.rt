@@ -1,12 +1,11 @@
-//! What searches, cursors, blocks by number, and an intersection of a long list and a short one read, in numbers.
+//! What a search, and an intersection of a long list and a short one, read, in numbers.
 
-ghost use Rattle.std.specs.Prelude.{◌≡◌, ◌≢◌, ◌+◌, ◌<◌, ◌≤◌, IsTrue, length};
+ghost use Rattle.std.specs.Prelude.{◌≡◌, ◌≢◌, ◌+◌, ◌≤◌, IsTrue, length};
 ghost use Rattle.bitpack_lists.specs.declared.list_kind.ListKind.{ListKind};
-ghost use Rattle.bitpack_lists.specs.Cursors.{CanSeek, entries_read, position, unpacked, values_of_cursor};
 ghost use Rattle.bitpack_lists.specs.Opened.{kind_of, values};
 
 use bitpack::ListError;
-use bitpack::list2::{Cursor, PackedList, Reads, intersect};
+use bitpack::list2::{PackedList, Reads, intersect};
 use bitpacking::{BitPacker1x, BitPacker4x};
 
 /// Searches a list of 131,072 values, of 4,096 blocks, and returns what was read.
@@ -65,48 +64,4 @@ pub fn long_first(
         × (long_reads.new.blocks ≤ long_reads.old.blocks + 201) }
 {
     intersect(long, short, out, long_reads, short_reads)
-}
-
-/// Finds the block of a target in a list of 4,096 blocks.
-pub fn find_block(list: &PackedList<'_, BitPacker1x>, target: u32, reads: &mut Reads) -> usize
-    requires { kind_of list.now ≢ ListKind.Plain }
-    ensures entries { length (values list.now) ≡ 131072 → reads.new.entries ≤ reads.old.entries + 27 }
-    ensures blocks { reads.new.blocks ≡ reads.old.blocks }
-{
-    list.find_block(0, target, reads)
-}
-
-/// Unpacks the first block of a list, or its values if it has no whole block.
-pub fn read_block(list: &PackedList<'_, BitPacker1x>, out: &mut [u32; 32]) -> Reads
-    ensures { (result.entries ≤ 2) × (result.blocks ≤ 1) }
-{
-    let mut reads = Reads::new();
-    list.read_block(0, out, &mut reads);
-    reads
-}
-
-/// Copies a page of up to 100 values, which are in at most five blocks. If the page begins after the last value, none is unpacked.
-pub fn copy_page(list: &PackedList<'_, BitPacker1x>, from: usize, page: &mut [u32; 100]) -> Reads
-    ensures page { result.blocks ≤ 5 }
-    ensures past { length (values list.now) ≤ from → result.blocks ≡ 0 }
-{
-    let mut reads = Reads::new();
-    list.copy_from(from, page, &mut reads);
-    reads
-}
-
-/// The position of a cursor over 4,096 blocks. However it moved, it has unpacked no block twice.
-pub fn position_in_blocks(cursor: &Cursor<'_, BitPacker1x>) -> usize
-    ensures { length (values_of_cursor cursor.now) ≡ 131072 → unpacked cursor.now ≤ 4096 }
-{
-    cursor.position()
-}
-
-/// Moves a cursor over 4,096 blocks to a target.
-pub fn seek_with_cursor(cursor: &mut Cursor<'_, BitPacker1x>, target: u32)
-    requires { CanSeek cursor.old }
-    ensures { length (values_of_cursor cursor.old) ≡ 131072 → position cursor.new < 131072
-        → entries_read cursor.new ≤ entries_read cursor.old + 24 }
-{
-    cursor.seek(target);
 }

@@ -8,8 +8,7 @@ ghost use Rattle.bitpack_lists.specs.Chains.{Chained};
 ghost use Rattle.bitpack_lists.specs.declared.list_error.ListError.{ListError};
 ghost use Rattle.bitpack_lists.specs.declared.list_kind.ListKind.{ListKind};
 ghost use Rattle.bitpack_lists.specs.Search.{first_at_least};
-ghost use Rattle.bitpack_lists.specs.Version2.{values_fault};
-ghost use Rattle.bitpack_uses.specs.Failures.{FailsWith};
+ghost use Rattle.bitpack_uses.specs.Failures.{FailsWith, values_fault};
 
 use bitpack::chain::{pack_all, unpack_all};
 use bitpack::laws::{chains_read_back, one_text};

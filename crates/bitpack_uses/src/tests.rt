@@ -4,23 +4,11 @@ mod by_law;
 mod calls;
 mod checks;
 mod counted;
-mod doc_examples;
-mod id_set;
-mod members;
-mod owned_lists;
 mod packed_lists;
-mod positions;
-mod postings;
-mod query;
 mod shared_values;
-mod sorted;
-mod top;
 
-use crate::index::{Builder, Index};
 use crate::stored_blocks::{StoredError, read_block, read_chain};
-use crate::{
-    and_query, by_hand, counts, exact_calls, posting_list, reads, round_trips, sorted_block,
-};
+use crate::{by_hand, counts, exact_calls, posting_list, reads, round_trips, sorted_block};
 use bitpack::list2::{PackedList, Reads};
 use bitpack::{ListError, ListKind};
 use bitpacking::{BitPacker, BitPacker1x, BitPacker4x, BitPacker8x, Kind};
@@ -220,42 +208,6 @@ fn stored_blocks(rt: HostRuntime) {
     chain_is_refused(&rt, rt.alloc(), short, error, "bytes are missing");
 }
 
-fn indexed(rt: &impl Abort, alloc: Global) -> Index<BitPacker8x> {
-    let mut builder = Builder::new(alloc);
-    for text in ["to be or not to be", "not now", "to the point", "not to me"] {
-        holds(rt, builder.add(alloc, text).is_ok(), "memory");
-    }
-    builder
-        .pack(alloc, BitPacker8x::new())
-        .expect(rt, "an index")
-}
-
-/// Both words are in these documents.
-fn both_are_in(
-    rt: &impl Abort,
-    alloc: Global,
-    index: &Index<BitPacker8x>,
-    (first, second): (&str, &str),
-    documents: &[u32],
-) {
-    let both = index.both(alloc, first, second).expect(rt, "documents");
-    same_values(rt, &both, documents);
-}
-
-#[test]
-fn an_index(rt: HostRuntime) {
-    let alloc = rt.alloc();
-    let index = indexed(&rt, alloc);
-    both_are_in(&rt, alloc, &index, ("not", "to"), &[0, 3]);
-    both_are_in(&rt, alloc, &index, ("be", "be"), &[0]);
-    both_are_in(&rt, alloc, &index, ("not", "never"), &[]);
-    // "to" is in 0, 2 and 3, "be" in 0, "point" in 2, and "not" in 0, 1 and 3.
-    let found = index.select(alloc, ["to", "be", "point", "not"]);
-    same_values(&rt, &found.expect(&rt, "documents"), &[2]);
-    let found = index.select(alloc, ["to", "be", "point", "never"]);
-    same_values(&rt, &found.expect(&rt, "documents"), &[0, 2]);
-}
-
 /// The short list comes first.
 fn short_first(
     rt: &impl Abort,
@@ -309,28 +261,4 @@ fn intersections(rt: HostRuntime) {
     same_values(&rt, &out, &[5]);
     two_lengths(&rt, &mut out);
     same_values(&rt, &out, &[5, 5, 5]);
-}
-
-/// The documents that are in all three lists.
-fn in_all_three(
-    rt: &impl Abort,
-    alloc: Global,
-    (first, second, third): (&[u8], &[u8], &[u8]),
-    expected: &[u32],
-) {
-    let documents = and_query::in_all_three(alloc, first, second, third);
-    same_values(rt, &documents.expect(rt, "documents"), expected);
-}
-
-#[test]
-fn a_query(rt: HostRuntime) {
-    // Four lanes: strictly sorted 1, 5, 9; sorted 5, 5, 9; strictly sorted 9; plain 9.
-    let first = [2, 2, 4, 3, 0, 0, 0, 1, 0, 0, 0, 5, 0, 0, 0, 9, 0, 0, 0];
-    let second = [2, 1, 4, 3, 0, 0, 0, 5, 0, 0, 0, 5, 0, 0, 0, 9, 0, 0, 0];
-    let third = [2, 2, 4, 1, 0, 0, 0, 9, 0, 0, 0];
-    let plain = [2, 0, 4, 1, 0, 0, 0, 9, 0, 0, 0];
-    in_all_three(&rt, rt.alloc(), (&first, &second, &third), &[9]);
-    in_all_three(&rt, rt.alloc(), (&first, &second, &second), &[5, 9]);
-    let refused = and_query::in_all_three(rt.alloc(), &first, &plain, &third).err();
-    holds(&rt, refused == Some(ListError::BadKind(0)), "a plain list");
 }

@@ -3,13 +3,12 @@
 ghost use Rattle.std.specs.Prelude.{◌≡◌, ◌↔◌, IfOk, IsTrue, None};
 ghost use Rattle.bitpack_lists.specs.Version1.{fault1};
 ghost use Rattle.bitpack_lists.specs.Version2.{fault2};
-ghost use Rattle.bitpack_lists.specs.Version3.{fault3};
-ghost use Rattle.bitpack_uses.specs.Texts.{IsText, IsText2, IsText3};
+ghost use Rattle.bitpack_uses.specs.Texts.{IsText, IsText2};
 
 use bitpack::laws::one_text;
 use bitpack::list2::PackedList;
 use bitpack::{ListError, list};
-use bitpacking::{BitPacker, BitPacker4x};
+use bitpacking::BitPacker;
 use std::alloc::{AllocError, Global};
 
 /// Whether the bytes encode a list.
@@ -45,19 +44,4 @@ pub fn is_text2<P: BitPacker>(packer: &P, bytes: &[u8]) -> bool
 {
     one_text();
     PackedList::open(*packer, bytes).is_ok()
-}
-
-/// Bytes without a fault of version 3 encode a list of version 3.
-pub fn no_fault_is_a_text3(bytes: &[u8])
-    ensures { fault3 4 bytes.now ≡ None → IsText3 4 bytes.now }
-{
-    one_text();
-}
-
-/// Whether the bytes encode a list of version 3 in four lanes.
-pub fn is_text3(bytes: &[u8]) -> bool
-    ensures { IsTrue result ↔ IsText3 4 bytes.now }
-{
-    one_text();
-    PackedList::open3(BitPacker4x::new(), bytes).is_ok()
 }

@@ -1,6 +1,6 @@
 -- Steps of the calls on many id sets.
-use Rattle.std.proofs.Common.{◌≡◌, ℕ, ◌+◌, ◌^◌, ◌<◌, ◌≤◌, Bool, not, List, length, map, refl, arith}
-use Rattle.std.specs.List.{filter, range_with_len}
+use Rattle.std.proofs.Common.{ℕ, ◌^◌, ◌≤◌, Bool, not, List, length, map, refl, arith}
+use Rattle.std.specs.List.{range_with_len}
 use Rattle.std.proofs.lemmas.List.Filters.{length-filter_both}
 use Rattle.std.proofs.lemmas.List.FromFn.{length-range_with_len}
 use Rattle.bitpack_sets.specs.Operations.{answer_all, folded, those}

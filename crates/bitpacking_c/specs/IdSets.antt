@@ -32,11 +32,18 @@ abbrev pub position_after_set : ℕ → Result ℕ SetError → ℕ
 position_after_set before (Err (NotSorted position)) = position
 position_after_set before answer = before
 
+-- the number stands for a result with this meaning
+abbrev pub NumbersSet : ℤ → (Result ℕ SetError → Type 0) → Type 0
+NumbersSet number Means = (answer : Result ℕ SetError) × (number ≡ number_of_set answer) × Means answer
+
+-- the number and the position stand for a result with this meaning
+abbrev pub AnswersSet : ℤ → ℕ → ℕ → (Result ℕ SetError → Type 0) → Type 0
+AnswersSet number before after Means = NumbersSet number (λ answer. (after ≡ position_after_set before answer) × Means answer)
+
 -- the encoding of the ids is written, or they are refused, or there is no room; the number and the position stand for this
 abbrev pub PacksSet : List ℕ → List ℕ → List ℕ → ℕ → ℕ → ℤ → Type 0
 PacksSet ids old new before after number =
-    (answer : Result ℕ SetError) × (number ≡ number_of_set answer) × (after ≡ position_after_set before answer)
-    × WritesSet ids answer old new
+    AnswersSet number before after (λ answer. WritesSet ids answer old new)
 
 -- how many ids are below the target, and the id at this position, the first that is at least the target, are written, and the result is 1; or
 -- all ids are below it, the result is 0, and nothing is written
@@ -44,3 +51,7 @@ abbrev pub SeeksId : List ℕ → ℕ → ℕ × ℕ → ℕ × ℕ → ℤ → 
 SeeksId ids target before after answer =
     ((answer ≡ pos 1) × (after.0 ≡ rank target ids) × (slice_get ids after.0 ≡ Some after.1) × (target ≤ after.1))
     ⊎ ((answer ≡ pos 0) × (after ≡ before) × (rank target ids ≡ length ids))
+
+-- the result says whether this is so
+abbrev pub SaysWhether : Type 0 → ℤ → Type 0
+SaysWhether is answer = ((answer ≡ pos 1) × is) ⊎ ((answer ≡ pos 0) × (is → ⊥))

@@ -8,8 +8,7 @@ ghost use Rattle.bitpack_columns.specs.Opened.{kind_of, values};
 ghost use Rattle.bitpack_columns.specs.Sound.{States};
 ghost use Rattle.bitpack_columns.specs.Stated.{kind_in, values_in};
 ghost use Rattle.bitpacking_c.specs.Columns.{EncodeColumn, column_fault_number, known_kind};
-ghost use Rattle.bitpacking_c.specs.Cursors.{UnpacksFrom};
-ghost use Rattle.bitpacking_c.specs.Views.{Gets, UnpacksList};
+ghost use Rattle.bitpacking_c.specs.Views.{Gets, UnpacksFrom, UnpacksValues};
 
 use bitpack_columns::{Column, ColumnKind, Parts};
 
@@ -165,7 +164,7 @@ pub extern "C" fn bitpacking_column_get(
 /// The rest of `values` is unchanged.
 #[unsafe(no_mangle)]
 pub extern "C" fn bitpacking_column_unpack(view: &ColumnView<'_>, values: &mut [u32]) -> isize
-    ensures { UnpacksList (values_in view.now.bytes.now) values.old values.new result }
+    ensures { UnpacksValues (values_in view.now.bytes.now) values.old values.new result }
 {
     if values.len() < view.count {
         return -3;

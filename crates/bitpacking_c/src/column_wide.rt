@@ -5,8 +5,8 @@ ghost use Rattle.bitpack_columns.specs.Opened.{values};
 ghost use Rattle.bitpack_columns.specs.Stated.{values_in};
 ghost use Rattle.bitpacking_c.specs.Wide.{GetsSum, HasSums, KeepsFrom, UnpacksSums, most_base};
 
+use crate::bases::{MOST_BASE, add_base};
 use crate::column_view::ColumnView;
-use crate::wide_calls::{MOST_BASE, add_base};
 use bitpack_columns::Column;
 
 /// How many values are unpacked before the base is added: these are whole blocks, in 4 KB.

@@ -1,10 +1,11 @@
 //! Id sets, written into the caller's buffer.
 
 ghost use Rattle.std.specs.Prelude.{◌≡◌, ◌^◌, ◌<◌, IfOk};
-ghost use Rattle.bitpack_sets.specs.Written.{WritesSet};
-ghost use Rattle.bitpacking_c.specs.IdSets.{PacksSet, number_of_set, position_after_set};
+ghost use Rattle.bitpack_sets.specs.Written.{MeasuresSet, WritesSet};
+ghost use Rattle.bitpacking_c.specs.IdSets.{AnswersSet, PacksSet, number_of_set, position_after_set};
 
-use bitpack_sets::{SetError, encode_to};
+use bitpack_sets::laws::longest_text;
+use bitpack_sets::{SetError, encode_to, encoded_len};
 
 /// Writes the id set of these ids at the start of `bytes`, and returns its length. The rest of `bytes` is unchanged. The ids have to
 /// increase, and are at most 268,435,456.
@@ -18,16 +19,33 @@ pub extern "C" fn bitpacking_set_pack(ids: &[u32], bytes: &mut [u8], position: &
     answer(pack(ids, bytes), position)
 }
 
+/// The number of bytes that `bitpacking_set_pack` writes for the ids. It has the faults of that call.
+#[unsafe(no_mangle)]
+pub extern "C" fn bitpacking_set_size(ids: &[u32], position: &mut usize) -> isize
+    ensures { AnswersSet result position.old position.new (MeasuresSet ids.now) }
+{
+    answer(size(ids), position)
+}
+
 /// Writes the id set of these ids.
-fn pack(ids: &[u32], bytes: &mut [u8]) -> Result<usize, SetError>
+pub(crate) fn pack(ids: &[u32], bytes: &mut [u8]) -> Result<usize, SetError>
     ensures writes { WritesSet ids.now result bytes.old bytes.new }
     ensures small { IfOk result (λ size. size < 2 ^ 63) }
 {
     encode_to(ids, bytes)
 }
 
+/// The length of the id set of these ids.
+fn size(ids: &[u32]) -> Result<usize, SetError>
+    ensures size { MeasuresSet ids.now result }
+    ensures small { IfOk result (λ size. size < 2 ^ 63) }
+{
+    longest_text();
+    encoded_len(ids)
+}
+
 /// The number for C. The position of an id out of order is written.
-fn answer(found: Result<usize, SetError>, position: &mut usize) -> isize
+pub(crate) fn answer(found: Result<usize, SetError>, position: &mut usize) -> isize
     requires { IfOk found (λ size. size < 2 ^ 63) }
     ensures number { result ≡ number_of_set found }
     ensures position { position.new ≡ position_after_set position.old found }

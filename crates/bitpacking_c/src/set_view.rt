@@ -6,7 +6,7 @@ ghost use Rattle.bitpack_sets.specs.Opened.{ids};
 ghost use Rattle.bitpack_sets.specs.Reads.{has, ids_in};
 ghost use Rattle.bitpack_sets.specs.Stated.{States};
 ghost use Rattle.bitpacking_c.specs.IdSets.{Encodes, SeeksId, number_of_answer, set_fault_number};
-ghost use Rattle.bitpacking_c.specs.Views.{Gets, UnpacksList};
+ghost use Rattle.bitpacking_c.specs.Views.{Gets, UnpacksValues};
 
 use bitpack_sets::{AsSet, IdSet, Parts};
 
@@ -132,7 +132,7 @@ pub extern "C" fn bitpacking_set_contains(view: &SetView<'_>, id: u32) -> i32
 /// rest of `ids` is unchanged.
 #[unsafe(no_mangle)]
 pub extern "C" fn bitpacking_set_unpack(view: &SetView<'_>, ids: &mut [u32]) -> isize
-    ensures { UnpacksList (ids_in view.now.bytes.now) ids.old ids.new result }
+    ensures { UnpacksValues (ids_in view.now.bytes.now) ids.old ids.new result }
 {
     let Some(set) = view.set() else {
         return 0;

@@ -12,18 +12,23 @@ PyObject *new_array(size_t len, PyObject *type, Py_buffer *out)
     return array;
 }
 
-/* The first len items of an array, which are all or a slice that shares its memory. It releases the array and its buffer. */
+/* The first len items of an array: all of it, a slice that shares its memory, or a copy if that is far too much. It releases the array and its
+ * buffer. */
 PyObject *first_of(PyObject *array, Py_buffer *out, size_t len)
 {
     size_t all = (size_t)(out->len / out->itemsize);
-    PyObject *part;
+    PyObject *part, *copy;
 
     PyBuffer_Release(out);
     if (len == all)
         return array;
     part = PySequence_GetSlice(array, 0, (Py_ssize_t)len);
     Py_DECREF(array);
-    return part;
+    if (!part || len > all / 2)
+        return part;
+    copy = PyObject_CallMethod(part, "copy", NULL);
+    Py_DECREF(part);
+    return copy;
 }
 
 /* A buffer of aligned integers in C order, of 4 or 8 bytes each, or of either if `item` is 0. Those of 4 bytes are without a sign. Other
@@ -65,4 +70,40 @@ int get_target(PyObject *it, uint32_t *value)
         return 0;
     *value = (uint32_t)number;
     return 1;
+}
+
+/* Whether the bounds do not fall, and are bounds of as many items. */
+int are_bounds(const int64_t *bounds, size_t count, size_t len)
+{
+    size_t i;
+
+    for (i = 0; i < count; i++)
+        if (bounds[i] < (i > 0 ? bounds[i - 1] : 0) || (uint64_t)bounds[i] > len)
+            return 0;
+    return count > 0;
+}
+
+/* A list of what a call opens between each two bounds of the data, which is read only. */
+PyObject *opened_parts(PyTypeObject *type, PyObject *data, PyObject *bounds, open_call *open)
+{
+    PyObject *all = NULL;
+    Py_buffer at;
+    Py_ssize_t i;
+
+    if (get_items(bounds, &at, 8, 0) < 0)
+        return NULL;
+    if (!are_bounds(at.buf, (size_t)at.len / 8, PTRDIFF_MAX))
+        PyErr_SetString(PyExc_IndexError, "bounds fall, or there are none");
+    else
+        all = PyList_New(at.len / 8 - 1);
+    for (i = 0; all && i < at.len / 8 - 1; i++) {
+        const int64_t *bound = at.buf;
+        PyObject *it = i % 256 == 0 && PyErr_CheckSignals() < 0 ? NULL : open(type, data, (size_t)bound[i], (size_t)bound[i + 1], i);
+        if (it)
+            PyList_SetItem(all, i, it);
+        else
+            Py_CLEAR(all);
+    }
+    PyBuffer_Release(&at);
+    return all;
 }

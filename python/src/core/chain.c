@@ -1,6 +1,9 @@
 /* Chains: blocks end to end, without a header. */
 #include "core.h"
 
+/* KINDS of fimulowen/values.py. */
+enum { PLAIN, SORTED, STRICTLY_SORTED };
+
 typedef ptrdiff_t plain_pack(const uint32_t *, size_t, uint8_t *, size_t, uint8_t *, size_t);
 typedef ptrdiff_t pack_after(uint32_t, const uint32_t *, size_t, uint8_t *, size_t, uint8_t *, size_t);
 typedef ptrdiff_t plain_unpack(const uint8_t *, size_t, const uint8_t *, size_t, uint32_t *, size_t);
@@ -27,7 +30,7 @@ static const Packer *packer_of(int lanes, int kind)
 {
     size_t i;
 
-    if (kind >= BITPACKING_PLAIN && kind <= BITPACKING_STRICTLY_SORTED)
+    if (kind >= PLAIN && kind <= STRICTLY_SORTED)
         for (i = 0; i < sizeof packers / sizeof *packers; i++)
             if (packers[i].lanes == lanes)
                 return packers + i;
@@ -36,7 +39,7 @@ static const Packer *packer_of(int lanes, int kind)
 }
 
 /* chain_pack(values, kind, lanes, initial): the width of each block, and the bytes. */
-PyObject *core_chain_pack(PyObject *m, PyObject *args)
+static PyObject *chain_pack(PyObject *m, PyObject *args)
 {
     PyObject *values, *answer = NULL;
     const Packer *packer;
@@ -55,7 +58,7 @@ PyObject *core_chain_pack(PyObject *m, PyObject *args)
     blocks = len / (BITPACKING_LANE_LEN * (size_t)lanes);
     to = PyMem_Malloc(4 * len + blocks + 1); /* the bytes, and then the widths */
     if (to) {
-        UNLOCKED(len, size = kind == BITPACKING_PLAIN ? packer->pack(in.buf, len, to + 4 * len, blocks, to, 4 * len)
+        UNLOCKED(len, size = kind == PLAIN ? packer->pack(in.buf, len, to + 4 * len, blocks, to, 4 * len)
                                                       : packer->pack_after[kind - 1]((uint32_t)initial, in.buf, len, to + 4 * len, blocks,
                                                                                      to, 4 * len));
         if (size < 0)
@@ -70,7 +73,7 @@ PyObject *core_chain_pack(PyObject *m, PyObject *args)
 }
 
 /* chain_unpack(widths, bytes, kind, lanes, initial): an array. Both are bytes, which nothing writes. */
-PyObject *core_chain_unpack(PyObject *m, PyObject *args)
+static PyObject *chain_unpack(PyObject *m, PyObject *args)
 {
     const char *widths, *bytes;
     Py_ssize_t blocks, size;
@@ -90,7 +93,7 @@ PyObject *core_chain_unpack(PyObject *m, PyObject *args)
     array = new_array(len, type_u32, &out);
     if (!array)
         return NULL;
-    UNLOCKED(len, answer = kind == BITPACKING_PLAIN
+    UNLOCKED(len, answer = kind == PLAIN
                                ? packer->unpack((const uint8_t *)widths, (size_t)blocks, (const uint8_t *)bytes, (size_t)size, out.buf, len)
                                : packer->unpack_after[kind - 1]((uint32_t)initial, (const uint8_t *)widths, (size_t)blocks,
                                                                 (const uint8_t *)bytes, (size_t)size, out.buf, len));
@@ -100,3 +103,9 @@ PyObject *core_chain_unpack(PyObject *m, PyObject *args)
     Py_DECREF(array);
     return fail(answer);
 }
+
+PyMethodDef chain_functions[] = {
+    {"chain_pack", chain_pack, METH_VARARGS, SIGNED("chain_pack(values, kind, lanes, initial, /)", "Widths and bytes.")},
+    {"chain_unpack", chain_unpack, METH_VARARGS, SIGNED("chain_unpack(widths, data, kind, lanes, initial, /)", "An array.")},
+    {NULL, NULL, 0, NULL},
+};

@@ -11,6 +11,9 @@
 /* From this many values or bytes on a call lets other threads run. */
 enum { MANY = 4096 };
 
+/* A call reads or writes at most PART values at a time, or searches FEW, and looks in between whether Ctrl-C was pressed. */
+enum { PART = 1 << 20, FEW = 1 << 17 };
+
 /* Runs a statement, without the lock of the interpreter if it is about many values. What it reads and writes is private to the call, or
  * immutable, since other threads run meanwhile. */
 #define UNLOCKED(count, statement)                                                                                                     \
@@ -24,54 +27,57 @@ enum { MANY = 4096 };
 /* What help() and inspect.signature() say of a call. */
 #define SIGNED(signature, text) signature "\n--\n\n" text
 
-/* A list in its packed bytes, which the buffer holds unmoved for as long as the object lives. */
+/* Packed bytes, which the buffer holds unmoved for as long as the object lives: the base of sets and columns. */
 typedef struct {
     PyObject_HEAD
     Py_buffer buffer;
-    bitpacking_list view;
-} List;
+    const uint8_t *bytes;
+    size_t len;
+} Packed;
+
+/* An id set in its packed bytes. */
+typedef struct {
+    Packed packed;
+    bitpacking_set view;
+} Set;
 
 /* Set by the module, and never changed after fimulowen is imported. */
-extern PyTypeObject *List_base, *List_type, *Raw_type;
-extern PyObject *numpy_empty, *type_u32, *type_index, *Refusal, *refused;
+extern PyTypeObject *Packed_type, *Raw_type, *Set_type, *Column_type;
+extern PyObject *numpy_empty, *type_u32, *type_index, *type_bool, *Refusal, *refused;
 
-/* errors.c: each sets an exception, and returns NULL. */
-void *fail(ptrdiff_t number);
-void *fail_at(ptrdiff_t number, Py_ssize_t position, Py_ssize_t list);
-void *fail_to_open(ptrdiff_t number, const uint8_t *bytes, size_t len, Py_ssize_t list);
+/* errors.c: each sets an exception, and returns NULL. A position or number below 0 is None. */
+void *fail(ptrdiff_t fault);
+void *fail_at(ptrdiff_t fault, Py_ssize_t position, Py_ssize_t number);
+void *fail_to_open(ptrdiff_t fault, const uint8_t *bytes, size_t len, Py_ssize_t number, const char *format);
+
+/* Opens the bytes of an object from `from` up to `to`. `number` is for an error: which of many these are, or -1. */
+typedef PyObject *open_call(PyTypeObject *type, PyObject *data, size_t from, size_t to, Py_ssize_t number);
 
 /* arrays.c */
 PyObject *new_array(size_t len, PyObject *type, Py_buffer *out);
 PyObject *first_of(PyObject *array, Py_buffer *out, size_t len);
 int get_items(PyObject *from, Py_buffer *to, size_t item, int flags);
 int get_target(PyObject *it, uint32_t *value);
+int are_bounds(const int64_t *bounds, size_t count, size_t len);
+PyObject *opened_parts(PyTypeObject *type, PyObject *data, PyObject *bounds, open_call *open);
 
-/* list.c */
-extern PyType_Spec List_spec, Raw_spec;
-PyObject *opened(PyTypeObject *type, PyObject *data, size_t from, size_t to, Py_ssize_t list);
-PyObject *opened_packed(const uint8_t *bytes, size_t len);
-List *as_list(PyObject *it);
+/* packed.c */
+extern PyType_Spec Packed_spec, Raw_spec;
+PyTypeObject *subtype_of(PyTypeObject *base, PyObject *type);
+Packed *holding(PyTypeObject *type, PyObject *data, size_t from, size_t to);
+Packed *copy_of(PyTypeObject *type, const uint8_t *bytes, size_t len);
+int are_same(const Packed *one, const Packed *other);
 
-/* reading.c: the methods of a list. */
-Py_ssize_t List_length(PyObject *self);
-PyObject *List_item(PyObject *self, Py_ssize_t at);
-PyObject *List_subscript(PyObject *self, PyObject *key);
-int List_contains(PyObject *self, PyObject *it);
-PyObject *List_seek(PyObject *self, PyObject *it);
-PyObject *List_read(PyObject *self, PyObject *args);
-PyObject *List_take(PyObject *self, PyObject *positions);
-PyObject *List_between(PyObject *self, PyObject *args);
-PyObject *List_count_between(PyObject *self, PyObject *args);
-PyObject *List_bounds(PyObject *self, PyObject *unused);
+/* set_reading.c: the methods of a set. */
+Py_ssize_t Set_length(PyObject *self);
+PyObject *Set_item(PyObject *self, Py_ssize_t at);
+PyObject *Set_subscript(PyObject *self, PyObject *key);
+int Set_contains(PyObject *self, PyObject *it);
+PyObject *Set_compare(PyObject *self, PyObject *other, int how);
+extern PyMethodDef Set_methods[];
 
-/* packing.c, sets.c, chain.c: the functions of the module. */
-PyObject *packed_values(const uint32_t *values, size_t len, int kind, int lanes, int version);
-PyObject *core_pack(PyObject *m, PyObject *args);
-PyObject *core_pack_many(PyObject *m, PyObject *args);
-PyObject *core_open_many(PyObject *m, PyObject *args);
-PyObject *core_combine(PyObject *m, PyObject *args);
-PyObject *core_count(PyObject *m, PyObject *args);
-PyObject *core_chain_pack(PyObject *m, PyObject *args);
-PyObject *core_chain_unpack(PyObject *m, PyObject *args);
+/* The types and functions of each file. */
+extern PyType_Spec Set_spec, Column_spec;
+extern PyMethodDef chain_functions[], set_functions[], combining_functions[], many_functions[], column_functions[], arrow_functions[];
 
 #endif

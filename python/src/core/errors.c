@@ -1,74 +1,80 @@
-/* From the numbers of the library to PackedListError, which is in fimulowen/errors.py. */
+/* From the numbers of the library to Error, which is in fimulowen/errors.py. */
 #include "core.h"
 
 /* MOST of fimulowen/faults.py. */
 enum { READ_AGAIN = 1 << 20 };
 
-static const char *fault_name(ptrdiff_t number)
+/* The name of a fault in docs/FORMAT.md, or of an error of blocks. */
+static const char *name_of(ptrdiff_t fault)
 {
-    switch (number) {
-#define NAME(it)                                                                                                                       \
-    case BITPACKING_##it:                                                                                                              \
-        return #it;
-        NAME(BAD_LENGTH)
-        NAME(BAD_WIDTH)
-        NAME(SHORT)
-        NAME(UNFIT)
-        NAME(BAD_POSITION)
-        NAME(BAD_BLOCK)
-        NAME(LIST_SHORT)
-        NAME(LIST_BAD_VERSION)
-        NAME(LIST_BAD_KIND)
-        NAME(LIST_WRONG_LANES)
-        NAME(LIST_TOO_LONG)
-        NAME(LIST_BAD_WIDTH)
-        NAME(LIST_LOOSE_WIDTH)
-        NAME(LIST_BAD_OFFSET)
-        NAME(LIST_BAD_LAST)
-        NAME(LIST_NOT_SORTED)
-        NAME(LIST_TRAILING)
-        NAME(LIST_BAD_NUMBER)
-        NAME(LIST_PADDING)
-        NAME(LIST_BAD_SIZES)
-        NAME(LIST_BAD_BITS)
-#undef NAME
-    default:
-        return "UNKNOWN";
-    }
+    static const struct {
+        ptrdiff_t fault;
+        const char *name;
+    } names[] = {
+        {BITPACKING_BAD_LENGTH, "BadLength"},
+        {BITPACKING_BAD_WIDTH, "BadWidth"},
+        {BITPACKING_SHORT, "Short"},
+        {BITPACKING_TRUNCATED, "Short"},
+        {BITPACKING_BAD_VERSION, "BadVersion"},
+        {BITPACKING_BAD_KIND, "BadKind"},
+        {BITPACKING_TOO_LONG, "TooLong"},
+        {BITPACKING_BAD_GROUP_WIDTH, "BadWidth"},
+        {BITPACKING_LOOSE_WIDTH, "LooseWidth"},
+        {BITPACKING_BAD_OFFSET, "BadOffset"},
+        {BITPACKING_BAD_LAST, "BadLast"},
+        {BITPACKING_NOT_SORTED, "NotSorted"},
+        {BITPACKING_TRAILING, "Trailing"},
+        {BITPACKING_BAD_NUMBER, "BadNumber"},
+        {BITPACKING_PADDING, "Padding"},
+        {BITPACKING_BAD_SIZES, "BadSizes"},
+        {BITPACKING_BAD_KEY, "BadKey"},
+        {BITPACKING_BAD_SUM, "BadSum"},
+        {BITPACKING_BAD_BODY, "BadBody"},
+        {BITPACKING_LOOSE_BODY, "LooseBody"},
+        {BITPACKING_LOOSE_FORM, "LooseForm"},
+    };
+    size_t i;
+
+    for (i = 0; i < sizeof names / sizeof *names; i++)
+        if (names[i].fault == fault)
+            return names[i].name;
+    return "Unknown";
 }
 
-/* Raises PackedListError(text, fault, position, list). A number below 0 is None. */
-void *fail_at(ptrdiff_t number, Py_ssize_t position, Py_ssize_t list)
+static PyObject *number_or_none(Py_ssize_t number) { return number < 0 ? Py_NewRef(Py_None) : PyLong_FromSsize_t(number); }
+
+/* Raises what was made, or leaves the exception that is set. */
+static void *raise(PyObject *made)
 {
-    PyObject *at = position < 0 ? Py_NewRef(Py_None) : PyLong_FromSsize_t(position);
-    PyObject *of = list < 0 ? Py_NewRef(Py_None) : PyLong_FromSsize_t(list);
-    PyObject *raised = NULL;
+    if (made)
+        PyErr_SetObject(Refusal, made);
+    Py_XDECREF(made);
+    return NULL;
+}
+
+/* Raises Error(text, fault, position, number). */
+void *fail_at(ptrdiff_t fault, Py_ssize_t position, Py_ssize_t number)
+{
+    PyObject *at = number_or_none(position), *of = number_or_none(number), *made = NULL;
 
     if (at && of)
-        raised = PyObject_CallFunction(Refusal, "ssOO", bitpacking_error_text(number), fault_name(number), at, of);
-    if (raised)
-        PyErr_SetObject(Refusal, raised);
+        made = PyObject_CallFunction(Refusal, "ssOO", bitpacking_error_text(fault), name_of(fault), at, of);
     Py_XDECREF(at);
     Py_XDECREF(of);
-    Py_XDECREF(raised);
-    return NULL;
+    return raise(made);
 }
 
-void *fail(ptrdiff_t number) { return fail_at(number, -1, -1); }
+void *fail(ptrdiff_t fault) { return fail_at(fault, -1, -1); }
 
-/* Raises what fimulowen.errors.refused makes of the bytes: it looks for the block and the byte of the fault, but not in many bytes. */
-void *fail_to_open(ptrdiff_t number, const uint8_t *bytes, size_t len, Py_ssize_t list)
+/* Raises what fimulowen.errors.refused makes of the bytes of a "set" or a "column": it looks for the place of the fault, but not in many bytes. */
+void *fail_to_open(ptrdiff_t fault, const uint8_t *bytes, size_t len, Py_ssize_t number, const char *format)
 {
-    PyObject *of = list < 0 ? Py_NewRef(Py_None) : PyLong_FromSsize_t(list);
+    PyObject *of = number_or_none(number), *made = NULL;
     PyObject *copy = PyBytes_FromStringAndSize((const char *)bytes, (Py_ssize_t)(len <= READ_AGAIN ? len : READ_AGAIN + 1));
-    PyObject *raised = NULL;
 
     if (of && copy)
-        raised = PyObject_CallFunction(refused, "ssOO", bitpacking_error_text(number), fault_name(number), of, copy);
-    if (raised)
-        PyErr_SetObject(Refusal, raised);
+        made = PyObject_CallFunction(refused, "ssOOs", bitpacking_error_text(fault), name_of(fault), of, copy, format);
     Py_XDECREF(of);
     Py_XDECREF(copy);
-    Py_XDECREF(raised);
-    return NULL;
+    return raise(made);
 }

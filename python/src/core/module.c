@@ -1,37 +1,10 @@
-/* fimulowen._core: packed lists for Python, over the C library. The state is static: it serves one interpreter. */
+/* fimulowen._core: sets, columns and chains for Python, over the C library. The state is static: it serves one interpreter. */
 #include "core.h"
 
-PyTypeObject *List_base, *List_type, *Raw_type;
-PyObject *numpy_empty, *type_u32, *type_index, *Refusal, *refused;
+PyTypeObject *Packed_type, *Raw_type, *Set_type, *Column_type;
+PyObject *numpy_empty, *type_u32, *type_index, *type_bool, *Refusal, *refused;
 
-/* The type of the lists that the functions return: the class in Python, which adds operators. */
-static PyObject *core_use_type(PyObject *m, PyObject *type)
-{
-    PyObject *before = (PyObject *)List_type;
-
-    (void)m;
-    if (!PyType_Check(type) || !PyType_IsSubtype((PyTypeObject *)type, List_base)) {
-        PyErr_SetString(PyExc_TypeError, "a subclass of List expected");
-        return NULL;
-    }
-    List_type = (PyTypeObject *)Py_NewRef(type);
-    Py_DECREF(before);
-    Py_RETURN_NONE;
-}
-
-static PyMethodDef functions[] = {
-    {"pack", core_pack, METH_VARARGS, SIGNED("pack(values, kind, lanes, version, /)", "A list.")},
-    {"pack_many", core_pack_many, METH_VARARGS, SIGNED("pack_many(values, bounds, kind, lanes, version, /)", "Bytes, and bounds in them.")},
-    {"open_many", core_open_many, METH_VARARGS, SIGNED("open_many(data, bounds, /)", "Lists.")},
-    {"combine", core_combine, METH_VARARGS, SIGNED("combine(call, lists, packed, /)", "An array, or a list if it is to be packed.")},
-    {"count", core_count, METH_VARARGS, SIGNED("count(call, lists, /)", "How many values all lists have, or any.")},
-    {"chain_pack", core_chain_pack, METH_VARARGS, SIGNED("chain_pack(values, kind, lanes, initial, /)", "Widths and bytes.")},
-    {"chain_unpack", core_chain_unpack, METH_VARARGS, SIGNED("chain_unpack(widths, data, kind, lanes, initial, /)", "An array.")},
-    {"use_type", core_use_type, METH_O, SIGNED("use_type(type, /)", "Chooses the class of the lists that calls return.")},
-    {NULL, NULL, 0, NULL},
-};
-
-static struct PyModuleDef module = {PyModuleDef_HEAD_INIT, "_core", NULL, -1, functions, NULL, NULL, NULL, NULL};
+static struct PyModuleDef module = {PyModuleDef_HEAD_INIT, "_core", NULL, -1, NULL, NULL, NULL, NULL, NULL};
 
 /* An attribute of a module that is imported. */
 static PyObject *imported(const char *name, const char *attribute)
@@ -50,19 +23,39 @@ static PyObject *type_named(const char *name)
     return made;
 }
 
+/* What the calls need of numpy and of fimulowen.errors. */
+static int have_objects(void)
+{
+    return (numpy_empty = imported("numpy", "empty")) && (type_u32 = type_named("u4")) && (type_index = type_named("i8")) &&
+           (type_bool = type_named("?")) && (Refusal = imported("fimulowen.errors", "Error")) &&
+           (refused = imported("fimulowen.errors", "refused"));
+}
+
+/* A class below Packed, which the module has by this name. */
+static PyTypeObject *added(PyObject *m, const char *name, PyType_Spec *spec)
+{
+    PyObject *type = PyType_FromSpecWithBases(spec, (PyObject *)Packed_type);
+
+    if (type && PyModule_AddObjectRef(m, name, type) < 0)
+        Py_CLEAR(type);
+    return (PyTypeObject *)type;
+}
+
 PyMODINIT_FUNC PyInit__core(void)
 {
+    PyMethodDef *functions[] = {chain_functions, set_functions, combining_functions, many_functions, column_functions, arrow_functions};
     PyObject *m = PyModule_Create(&module);
+    size_t i;
 
     if (m && bitpacking_version() != BITPACKING_VERSION)
         return PyErr_Format(PyExc_ImportError, "fimulowen was built with the header and the archive of two versions");
-    if (!m || !(numpy_empty = imported("numpy", "empty")) || !(type_u32 = type_named("u4")) || !(type_index = type_named("i8")) ||
-        !(Refusal = imported("fimulowen.errors", "PackedListError")) || !(refused = imported("fimulowen.errors", "refused")) ||
-        !(List_base = (PyTypeObject *)PyType_FromSpec(&List_spec)) || !(Raw_type = (PyTypeObject *)PyType_FromSpec(&Raw_spec)))
-        return NULL;
-    List_type = (PyTypeObject *)Py_NewRef((PyObject *)List_base);
-    if (PyModule_AddObjectRef(m, "List", (PyObject *)List_base) < 0 ||
+    if (!m || !have_objects() || !(Packed_type = (PyTypeObject *)PyType_FromSpec(&Packed_spec)) ||
+        !(Raw_type = (PyTypeObject *)PyType_FromSpec(&Raw_spec)) || !(Set_type = added(m, "Set", &Set_spec)) ||
+        !(Column_type = added(m, "Column", &Column_spec)) || PyModule_AddObjectRef(m, "Packed", (PyObject *)Packed_type) < 0 ||
         PyModule_AddIntConstant(m, "VERSION", (long)bitpacking_version()) < 0)
         return NULL;
+    for (i = 0; i < sizeof functions / sizeof *functions; i++)
+        if (PyModule_AddFunctions(m, functions[i]) < 0)
+            return NULL;
     return m;
 }

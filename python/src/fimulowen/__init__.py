@@ -1,42 +1,39 @@
-"""Packed lists of integers, opened without a copy.
+"""Sets of ids and columns of integers in few bytes, read in place.
 
-    ids = fimulowen.pack([7, 9, 10, 300])
-    len(ids), ids[-1], ids[1:3], 9 in ids, ids.seek(100), (ids & others).to_numpy(), ids.tobytes()
+    ids = fimulowen.IdSet([7, 9, 10, 300])
+    len(ids), ids[-1], ids[1:3], 9 in ids, ids.seek(100), (ids & others).unpack(), ids.tobytes()
 
 The library below is proved; this package is tested. docs/PYTHON.md of the repository is the page for users."""
 
 from . import _core, chain
-from .builder import Builder
-from .column import Column, pack_column
-from .errors import PackedListError
-from .lists import (
-    PackedList,
+from .column import Column
+from .errors import Error
+from .id_set import IdSet
+from .combining import (
     intersect,
-    intersect_count,
-    open_many,
-    pack,
-    pack_many,
+    intersect_len,
     subtract,
+    subtract_len,
+    symmetric_difference,
+    symmetric_difference_len,
     unite,
-    unite_count,
+    unite_len,
 )
-from .show import show
+from .query import Query
 
 __version__ = f"{_core.VERSION // 1000000}.{_core.VERSION // 1000 % 1000}.{_core.VERSION % 1000}"
 __all__ = [
-    "Builder",
     "Column",
-    "PackedList",
-    "PackedListError",
+    "Error",
+    "IdSet",
+    "Query",
     "chain",
     "intersect",
-    "intersect_count",
-    "open_many",
-    "pack",
-    "pack_column",
-    "pack_many",
-    "show",
+    "intersect_len",
     "subtract",
+    "subtract_len",
+    "symmetric_difference",
+    "symmetric_difference_len",
     "unite",
-    "unite_count",
+    "unite_len",
 ]

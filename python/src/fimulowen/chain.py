@@ -11,7 +11,7 @@ import numpy as np
 import numpy.typing as npt
 
 from . import _core
-from .values import KINDS, private_u32
+from .values import KINDS, u32
 
 BLOCK_LEN = {1: 32, 4: 128, 8: 256}
 """How many values a block has, by its lanes."""
@@ -21,15 +21,15 @@ def pack(values: npt.ArrayLike, *, kind: str = "plain", initial: Optional[Suppor
     """Packs whole blocks. Returns the width of each, a byte for each, and the bytes of all.
 
     `initial` is the number before the first value of a sorted or strict chain. It is 0 for sorted, and for strict None says that the first
-    value may be 0. PackedListError if the values are not whole blocks; values out of order are packed, in more bits."""
-    return _core.chain_pack(private_u32(values), _kind(kind), lanes, _initial(kind, initial))
+    value may be 0. Error if the values are not whole blocks; values out of order are packed, in more bits."""
+    return _core.chain_pack(u32(values), _kind(kind), lanes, _initial(kind, initial))
 
 
 def unpack(
     widths: Any, data: Any, *, kind: str = "plain", initial: Optional[SupportsIndex] = None, lanes: int = 4
 ) -> npt.NDArray[np.uint32]:
     """Unpacks the blocks of these widths, by the kind, initial number and lanes that they were packed with. `widths` and `data` are objects
-    with a buffer. Any bytes are values, and bytes after the blocks are not read. PackedListError if a width is above 32 or bytes are missing.
+    with a buffer. Any bytes are values, and bytes after the blocks are not read. Error if a width is above 32 or bytes are missing.
     """
     view = memoryview(widths)
     if view.itemsize != 1:

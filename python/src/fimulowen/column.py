@@ -1,300 +1,349 @@
-"""A column of 64-bit integers with missing values, over packed lists. COLUMN.md has its bytes."""
+"""Columns of integers of 64 bits, dates and times, and values that are missing. COLUMN.md has the bytes."""
 
 from __future__ import annotations
 
+import array
+import mmap
 import operator
+import pickle
 import struct
 import zlib
-from typing import Any, Iterator, List, Optional, SupportsIndex, Tuple
+from typing import Any, Iterable, Iterator, List, Literal, Optional, SupportsIndex, Tuple, Union, overload
 
 import numpy as np
 import numpy.typing as npt
 
-from .errors import PackedListError
-from .lists import PackedList, pack
-from .values import integers, private_index
+from . import _core
+from .column_values import STORED, UNITS, Numbers, integers_of
+from .errors import Error
+from .id_set import IdSet
+from .values import constant, index
 
 CHUNK = 1 << 16
-_HEADER, _ROW = struct.Struct("<4sBBHQII"), np.dtype([("least", "<u8"), ("greatest", "<u8"), ("sizes", "<u4", 3), ("crc", "<u4")])
-_NAME, _VERSION, _TYPES = b"FCOL", 1, (np.dtype("i8"), np.dtype("u8"))
+_PART = 4096
+_HEADER, _CRC = struct.Struct("<4sBBBBQII"), struct.Struct("<I")
+_ROW = np.dtype([("least", "<u8"), ("greatest", "<u8"), ("sizes", "<u4", 3), ("crc", "<u4")])
+_NAME, _VERSION, _KINDS = b"FCOL", 2, "iuMm"
+_START = _HEADER.size + _CRC.size
 _TEXTS = {
-    "COLUMN_SHORT": "Bytes of the column are missing, or left over.",
-    "COLUMN_BAD_NAME": "The bytes are no column of this version.",
-    "COLUMN_BAD_CRC": "A checksum of the column is not right.",
-    "COLUMN_BAD_SHAPE": "The lists of the column do not fit its count of values.",
+    "Short": "Bytes of the column are missing.",
+    "Trailing": "Bytes are left over after the column.",
+    "BadName": "The bytes are no column of this version.",
+    "BadChecksum": "A checksum of the column is not right.",
+    "BadShape": "The header of the column does not have its form.",
 }
+_ARROW = {"i": "l", "u": "L", "M": "ts{}:", "m": "tD{}"}
+_ARROW_UNITS = {"s": "s", "ms": "m", "us": "u", "ns": "n"}
+# What can be packed: an array, a masked one, an array or series of pandas, or integers and None. What can be opened.
+Values = Union[np.ndarray, Iterable[Union[SupportsIndex, np.datetime64, np.timedelta64, None]]]
+Bytes = Union[bytes, bytearray, memoryview, mmap.mmap, np.ndarray, array.array]
 
 
-class _Chunk:
-    """At most 65,536 values: the least and the greatest, and the lists of the values less the least. `missing` is a list, or None."""
+class Column(_core.Column):
+    """Integers of 64 bits, with a sign or without, or dates or times of numpy, any of which may be missing. It does not change.
 
-    def __init__(self, least: int, greatest: int, missing: Optional[PackedList], lists: List[PackedList]):
-        self.least, self.greatest, self.missing, self.lists = least, greatest, missing, lists
+    `values` is an array, or any iterable of integers and None. Missing are the values for which `missing` is true, None, NaT, NA of pandas, and
+    what a masked array masks. TypeError or OverflowError, with the position of the first value that is none."""
 
-    def codes(self) -> np.ndarray:
-        """The values of a wide chunk, less the least."""
-        return self.lists[1].to_numpy(dtype="u8") << np.uint64(32) | self.lists[0].to_numpy()
+    __slots__ = ("_dtype",)
+    __array_ufunc__ = None  # array == column must not depend on whether values are missing
 
-    def read(self, out: np.ndarray) -> None:
-        if len(self.lists) == 1:
-            self.lists[0]._read(out, 0, self.least)
-        else:
-            out.view("u8")[:] = self.codes() + np.uint64(self.least % 2**64)
+    def __new__(cls, values: Values = (), missing: Optional[npt.ArrayLike] = None) -> Column:
+        numbers = _numbers_of(values, missing)
+        return _assembled(cls, numbers.dtype, len(numbers.array), _packed(numbers))
 
-    def filled(self, out: np.ndarray, fill: int = 0) -> np.ndarray:
-        """All values, with `fill` for those that are missing."""
-        self.read(out)
-        if self.missing is not None:
-            out[self.missing.to_numpy()] = fill
-        return out
-
-    def same(self, other: _Chunk) -> bool:
-        """Whether another chunk of as many values has the same ones, with the same ones missing."""
-        if self.missing != other.missing:
-            return False
-        one, two = (it.filled(np.empty(len(it.lists[0]), "u8")) for it in (self, other))
-        return bool((one == two).all())
-
-    def take(self, positions: np.ndarray, dtype: np.dtype) -> np.ndarray:
-        codes = self.lists[0].take(positions).astype("u8")
-        if len(self.lists) == 2:
-            codes |= self.lists[1].take(positions).astype("u8") << np.uint64(32)
-        return (codes + np.uint64(self.least % 2**64)).view(dtype)
-
-    def between(self, low: int, high: int) -> np.ndarray:
-        """The positions in the chunk of the values from low to high, with those of missing ones."""
-        if low <= self.least and high >= self.greatest:
-            return np.arange(len(self.lists[0]))
-        if len(self.lists) == 1:
-            return self.lists[0].between(low - self.least, high - self.least)
-        codes = self.codes()
-        return np.flatnonzero((codes >= max(low - self.least, 0)) & (codes <= min(high - self.least, 2**64 - 1)))
-
-
-class Column:
-    """Integers of 64 bits, with a sign or without, any of which may be missing. Made by pack_column. `dtype` is int64 or uint64.
-
-    `Column(data)` opens the bytes of one: it compares each checksum and tests each list, and raises PackedListError. It holds memory that is read
-    only, which must not change, and copies memory that can be written."""
-
-    def __init__(self, data: Any):
+    @classmethod
+    def open(cls, data: Bytes) -> Column:
+        """Opens the bytes of a column, of any object with a buffer. It compares each checksum and tests each byte: Error has the first fault. It
+        holds memory that is read only, which must not change, and copies other memory."""
+        data = constant(data)
         view = memoryview(data).cast("B")
-        self._data = view if view.readonly else memoryview(bytes(view))
-        self.dtype, self._len, table, start = _opened_header(self._data)
-        self._chunks = []
-        for number, row in enumerate(table):
-            end = start + int(row["sizes"].sum())
-            self._chunks.append(
-                _opened_chunk(number, row, self._data[start:end], self.dtype, min(CHUNK, self._len - number * CHUNK), start)
-            )
-            start = end
-
-    def __len__(self) -> int:
-        return self._len
+        dtype, count, table, start = _read_header(view)
+        starts = [start, *(start + table["sizes"].sum(axis=1, dtype="u8").cumsum()).tolist()]
+        for number, crc in enumerate(table["crc"].tolist()):
+            _need(zlib.crc32(view[starts[number] : starts[number + 1]]) == crc, "BadChecksum", starts[number], number)
+        try:
+            made = _core.column_open(cls, view, count, dtype.kind != "u", False)
+        except Error as why:
+            raise Error(why.text, why.fault, part=why.number, byte=starts[why.number or 0]) from None
+        made._dtype = dtype
+        return made
 
     @property
-    def data(self) -> memoryview:
-        """The bytes of the column, as a memoryview that is read only."""
-        return self._data
+    def dtype(self) -> np.dtype:
+        """int64, uint64, or the type of the dates or times."""
+        return self._dtype
 
     @property
-    def nbytes(self) -> int:
-        """How many bytes the column has."""
-        return len(self._data)
+    def kind(self) -> Literal["plain", "sorted"]:
+        """Whether no value is below the one before it: "sorted", or else "plain". Missing values do not count."""
+        return "sorted" if self._sorted else "plain"
 
-    def tobytes(self) -> bytes:
-        """A copy of the bytes of the column."""
-        return self._data.tobytes()
+    @property
+    def missing(self) -> IdSet:
+        """The positions of the values that are missing."""
+        return IdSet(self._absent())
 
     def __reduce_ex__(self, protocol: Any) -> Tuple[Any, ...]:
-        from pickle import PickleBuffer
-
-        return type(self), (PickleBuffer(self._data) if protocol >= 5 else self.tobytes(),)
+        data = pickle.PickleBuffer(self.data) if protocol >= 5 else self.tobytes()
+        return type(self).open, (data,), getattr(self, "__dict__", None)
 
     def __eq__(self, other: Any) -> bool:
-        """Whether both have the same values of the same type, with the same ones missing."""
-        if not isinstance(other, Column):
-            return NotImplemented
-        if (self.dtype, self._len) != (other.dtype, other._len):
-            return False
-        # Another writer may choose other lists for the same values.
-        return self._data == other._data or all(map(_Chunk.same, self._chunks, other._chunks))
+        """Whether both have the same values of the same type, with the same ones missing. A column has one encoding: this compares the bytes."""
+        return self._same(other) if isinstance(other, Column) else NotImplemented
 
-    __array_ufunc__ = None  # array == column must not depend on whether values are missing
-    __hash__ = None  # type: ignore[assignment]
+    def __hash__(self) -> int:
+        return hash(bytes(self.data[:_START]))  # it has the checksum of all checksums
 
     def __repr__(self) -> str:
-        missing = self.missing_count
-        return f"<Column of {self.dtype}, {self._len} values, {missing} missing, in {self.nbytes} bytes>"
+        return f"<Column {self.dtype}, {self.kind}, {len(self)} values, {self._missing} missing, in {self.nbytes} bytes>"
 
-    @property
-    def missing_count(self) -> int:
-        """How many values are missing."""
-        return sum(len(it.missing) for it in self._chunks if it.missing is not None)
+    @overload
+    def __getitem__(self, key: SupportsIndex) -> Any:
+        ...
 
-    def __getitem__(self, at: SupportsIndex) -> Optional[int]:
-        """The value at a position, or None if it is missing. A position below 0 counts from the end."""
-        at = operator.index(at)
-        position = at + self._len if at < 0 else at
-        if not 0 <= position < self._len:
-            raise IndexError("position out of range")
-        chunk, within = self._chunks[position // CHUNK], position % CHUNK
-        if chunk.missing is not None and within in chunk.missing:
-            return None
-        return chunk.least + sum(it[within] << 32 * half for half, it in enumerate(chunk.lists))
+    @overload
+    def __getitem__(self, key: slice) -> np.ndarray:
+        ...
 
-    def __array__(self, dtype: npt.DTypeLike = None, copy: Optional[bool] = None) -> np.ndarray:
-        if self.missing_count:
-            raise ValueError("values are missing: use to_numpy(fill) or to_masked()")
-        if copy is False:
-            raise ValueError("the values of a column are always copied")
-        return np.asarray(self.to_numpy(), dtype)
+    def __getitem__(self, key: Union[SupportsIndex, slice]) -> Any:
+        """The value at a position, or None if it is missing; or the values of a slice, as an array. A position below 0 counts from the end."""
+        if not isinstance(key, slice):
+            return self._scalar(self._get(key))
+        start, stop, step = key.indices(len(self))
+        count = len(range(start, stop, step))
+        if count == 0:
+            return self._range(0, 0)
+        first, last = sorted((start, start + (count - 1) * step))
+        return self._range(first, last + 1 - first)[:: step if step > 0 else step]
 
-    def __iter__(self) -> Iterator[Optional[int]]:
-        for chunk in self._chunks:
-            values: List[Optional[int]] = chunk.filled(np.empty(len(chunk.lists[0]), self.dtype)).tolist()
-            if chunk.missing is not None:
-                for position in chunk.missing:
-                    values[position] = None
+    def __iter__(self) -> Iterator[Any]:
+        for start in range(0, len(self), _PART):
+            numbers, mask = self._numbers(start, min(_PART, len(self) - start))
+            values: List[Any] = numbers.tolist() if self._dtype.kind in "iu" else list(numbers.view(self._dtype))
+            for at in np.flatnonzero(mask).tolist() if mask is not None else ():
+                values[at] = None
             yield from values
 
-    def to_numpy(self, fill: SupportsIndex = 0) -> np.ndarray:
-        """All values, as an array of int64 or uint64, with `fill` for those that are missing."""
-        out, fill = np.empty(self._len, self.dtype), self._fits(fill)
-        for number, chunk in enumerate(self._chunks):
-            chunk.filled(out[number * CHUNK : (number + 1) * CHUNK], fill)
+    def __array__(self, dtype: npt.DTypeLike = None, copy: Optional[bool] = None) -> np.ndarray:
+        if copy is False:
+            raise ValueError("the values of a column are always copied")
+        if self._missing and self._dtype.kind in "iu":
+            raise ValueError("values are missing: unpack(fill=..) names one for them")
+        return np.asarray(self.unpack(), dtype)
+
+    def __arrow_c_schema__(self) -> object:
+        """The type of the column for Arrow, as a capsule."""
+        unit = np.datetime_data(self._dtype)[0] if self._dtype.kind in "Mm" else "s"
+        if unit not in _ARROW_UNITS:
+            raise TypeError(f"Arrow has no type of 64 bits for {self._dtype}")
+        return _core.arrow_schema(_ARROW[self._dtype.kind].format(_ARROW_UNITS[unit]), bool(self._missing))
+
+    def __arrow_c_array__(self, requested_schema: Any = None) -> Tuple[object, object]:
+        """The values as an array of Arrow: two capsules. The values are copied, and have a validity bitmap if some are missing."""
+        numbers, mask = self._numbers(0, len(self))
+        bits = None if mask is None else np.packbits(~mask, bitorder="little")
+        return self.__arrow_c_schema__(), _core.arrow_array(numbers, bits, self._missing)
+
+    def _scalar(self, value: Optional[int]) -> Any:
+        """A number as a value of the column."""
+        return value if value is None or self._dtype.kind in "iu" else np.array(value, "i8").view(self._dtype)[()]
+
+    def _numbers(self, start: int, count: int, fill: int = 0) -> Tuple[np.ndarray, Optional[npt.NDArray[np.bool_]]]:
+        """The values of a range as int64 or uint64, and which are missing, or None if none in the column is."""
+        out = np.empty(count, STORED[self._dtype.kind])
+        self._read(out, start, fill)
+        if not self._missing:
+            return out, None
+        mask = np.zeros(count, bool)
+        self._mark(mask, start)
+        return out, mask
+
+    def _range(self, start: int, count: int) -> np.ndarray:
+        return self._shown(*self._numbers(start, count), None)
+
+    def _shown(self, numbers: np.ndarray, mask: Optional[np.ndarray], fill: Any) -> np.ndarray:
+        """Numbers as an array for a caller, who named a value for those that are missing, or None."""
+        if mask is not None and (fill is not None or self._dtype.kind in "Mm"):
+            numbers[mask] = self._fill(fill)
+        elif mask is not None:
+            return np.ma.MaskedArray(numbers, mask)
+        return numbers.view(self._dtype)
+
+    def _fill(self, fill: Any) -> int:
+        """The number that stands for missing values."""
+        if self._dtype.kind in "Mm":
+            return int(np.array("NaT" if fill is None else fill, self._dtype).view("i8"))
+        value, limits = operator.index(fill), np.iinfo(self._dtype)
+        if not limits.min <= value <= limits.max:
+            raise OverflowError(f"fill does not fit {self._dtype}")
+        return value
+
+    def unpack(self, out: Optional[np.ndarray] = None, dtype: npt.DTypeLike = None, fill: Any = None) -> np.ndarray:
+        """All values, as an array of the type of the column, or of another one. They go to the front of `out` if there is one: the call returns
+        the part of it that has them. OverflowError if a value does not fit another type of integers.
+
+        Missing values are NaT, or `fill`, or the array is a masked one if there is no `fill`; an `out` needs it."""
+        wanted = np.dtype(self._dtype if dtype is None else dtype) if out is None or dtype is not None else out.dtype
+        if out is None and wanted == self._dtype:
+            return self._shown(*self._numbers(0, len(self)), fill)
+        self._need_fit(wanted, fill)
+        if out is None:
+            return self._shown(*self._numbers(0, len(self)), fill).astype(wanted)
+        if not isinstance(out, np.ndarray) or out.dtype != wanted:
+            raise TypeError(f"out is no array of {wanted}")
+        if out.ndim != 1 or len(out) < len(self):
+            raise ValueError(f"out has no room for {len(self)} values in one dimension")
+        if self._missing and fill is None and self._dtype.kind in "iu":
+            raise ValueError("values are missing: fill names one for them")
+        return self._unpack_to(out[: len(self)], fill)
+
+    def _unpack_to(self, out: np.ndarray, fill: Any) -> np.ndarray:
+        if out.dtype == self._dtype and out.flags.c_contiguous and out.flags.aligned:
+            self._read(out.view(STORED[self._dtype.kind]), 0, self._fill(fill) if self._missing else 0)
+            return out
+        for start in range(0, len(out), CHUNK):
+            part = out[start : start + CHUNK]
+            part[:] = self._shown(*self._numbers(start, len(part)), fill)
         return out
 
-    def _fits(self, fill: SupportsIndex) -> int:
-        fill, limits = operator.index(fill), np.iinfo(self.dtype)
-        if not limits.min <= fill <= limits.max:
-            raise OverflowError(f"fill does not fit {self.dtype}")
-        return fill
+    def _need_fit(self, wanted: np.dtype, fill: Any) -> None:
+        limits, both = self._limits(), "iu"
+        if self._dtype.kind not in both or wanted.kind not in both or limits is None:
+            return
+        least, greatest = limits if fill is None else (min(limits[0], fill), max(limits[1], fill))
+        if not np.iinfo(wanted).min <= least <= greatest <= np.iinfo(wanted).max:
+            raise OverflowError(f"the values from {least} to {greatest} do not fit {wanted}")
 
-    def mask(self) -> npt.NDArray[np.bool_]:
-        """An array that is true where a value is missing."""
-        out = np.zeros(self._len, bool)
-        for number, chunk in enumerate(self._chunks):
-            if chunk.missing is not None:
-                out[number * CHUNK + chunk.missing.to_numpy().astype("i8")] = True
-        return out
+    def gather(self, positions: npt.ArrayLike, fill: Any = None) -> np.ndarray:
+        """The values at positions in any order, as an array. A position below 0 counts from the end. Missing values are as in `unpack`.
+        IndexError if a position is not in the column."""
+        at = index(positions, len(self))
+        out, mask = np.empty(len(at), STORED[self._dtype.kind]), np.zeros(len(at), bool) if self._missing else None
+        self._gather(at, out, mask)
+        return self._shown(out, mask, fill)
 
-    def to_masked(self) -> np.ma.MaskedArray:
-        """All values, as a masked array of numpy."""
-        return np.ma.MaskedArray(self.to_numpy(), self.mask())
+    def _limit(self, value: Any, step: int) -> int:
+        """A limit as a number. A date or time between two of the column becomes the next one in the direction of the step."""
+        if self._dtype.kind in "iu":
+            return operator.index(value)
+        date = np.array(value)
+        if date.dtype.kind in "OU":
+            date = np.array(value, f"{self._dtype.kind}8")
+        if date.dtype.kind != self._dtype.kind:
+            raise TypeError(f"a limit of {self._dtype} expected, not {type(value).__name__}")
+        if np.isnat(date):
+            raise ValueError("NaT is no limit")
+        found = date.astype(self._dtype)
+        return int(found.view("i8")) + (step if (found < date if step > 0 else found > date) else 0)
 
-    def take(self, positions: npt.ArrayLike, fill: SupportsIndex = 0) -> np.ndarray:
-        """The values at positions in any order, as an array, with `fill` for those that are missing. A position below 0 counts from the end.
-        IndexError if one is not in the column."""
-        at, fill = private_index(positions, self._len), self._fits(fill)
-        if len(at) and not (at.min() >= 0 and at.max() < self._len):
-            raise IndexError("position out of range")
-        out, numbers = np.empty(len(at), self.dtype), at // CHUNK
-        order = np.argsort(numbers, kind="stable")
-        for part in np.split(order, np.flatnonzero(np.diff(numbers[order])) + 1) if len(at) else ():
-            chunk, within = self._chunks[int(numbers[part[0]])], at[part] % CHUNK
-            values = chunk.take(within, self.dtype)
-            if chunk.missing is not None:
-                values[np.isin(within, chunk.missing.to_numpy())] = fill
-            out[part] = values
-        return out
+    def _within(self, low: Any, high: Any) -> Optional[Tuple[int, int]]:
+        """Limits that fit the type, or None if no value can be within them."""
+        limits = np.iinfo(STORED[self._dtype.kind])
+        least, greatest = max(self._limit(low, 1), limits.min), min(self._limit(high, -1), limits.max)
+        return (least, greatest) if least <= greatest else None
 
-    def between(self, low: SupportsIndex, high: SupportsIndex) -> npt.NDArray[np.int64]:
-        """The positions of the values from low to high, both included, in increasing order, without those that are missing. Chunks and blocks
-        whose bounds tell are not unpacked."""
-        low, high, found = operator.index(low), operator.index(high), [np.empty(0, "i8")]
-        for number, chunk in enumerate(self._chunks):
-            if low <= high and high >= chunk.least and low <= chunk.greatest:
-                at = chunk.between(low, high)
-                if chunk.missing is not None:
-                    at = np.setdiff1d(at, chunk.missing.to_numpy(), assume_unique=True)
-                found.append(at + number * CHUNK)
-        return np.concatenate(found)
+    def between(self, low: Any, high: Any) -> npt.NDArray[np.int64]:
+        """The positions of the values from low to high, both included, in increasing order, without those that are missing. It unpacks no block
+        whose bounds tell."""
+        within = self._within(low, high)
+        return self._between(*within) if within else np.empty(0, np.int64)
 
+    def between_ids(self, low: Any, high: Any) -> IdSet:
+        """The positions that `between` returns, as a set: to be combined with others. OverflowError if one is above 4294967295."""
+        return IdSet(self.between(low, high))
 
-def pack_column(values: npt.ArrayLike, missing: Optional[npt.ArrayLike] = None) -> Column:
-    """Packs integers from -2**63 to 2**63 - 1, or from 0 to 2**64 - 1. `missing` is true where a value is missing; what is there does not
-    count. Without it, the mask of a masked array says that. None among the values is missing too."""
-    if missing is None and isinstance(values, np.ma.MaskedArray):
-        missing = np.ma.getmaskarray(values)
-    array, absent = _array(values)
-    mask = absent if missing is None else np.array(missing, bool)
-    if mask.shape != array.shape:
-        raise ValueError("missing is not as long as the values")
-    mask = mask | absent
-    rows, parts = [], []
-    for start in range(0, len(array), CHUNK):
-        row, lists = _packed_chunk(array[start : start + CHUNK], mask[start : start + CHUNK])
-        rows.append(row)
-        parts.append(lists)
-    table = np.array(rows, _ROW).tobytes()
-    header = _HEADER.pack(_NAME, _VERSION, _TYPES.index(array.dtype), 0, len(array), len(rows), zlib.crc32(table))
-    return Column(b"".join([header, struct.pack("<I", zlib.crc32(header)), table, *parts]))
+    def count_between(self, low: Any, high: Any) -> int:
+        """How many values are from low to high, both included."""
+        within = self._within(low, high)
+        return self._count_between(*within) if within else 0
 
+    def seek(self, target: Any) -> Optional[Tuple[int, Any]]:
+        """The position and the value of the first value that is at least the target, or None. Error if the column is not sorted."""
+        wanted, limits = self._limit(target, 1), np.iinfo(STORED[self._dtype.kind])
+        found = self._seek(max(wanted, limits.min)) if wanted <= limits.max else self._seek(limits.max) and None
+        return found and (found[0], self._scalar(found[1]))
 
-def _array(values: npt.ArrayLike) -> Tuple[np.ndarray, np.ndarray]:
-    """The values as an array of int64 or uint64, and where they are None."""
-    data = np.ma.getdata(values) if isinstance(values, np.ma.MaskedArray) else values
-    objects, absent = np.asarray(data), None
-    if objects.dtype == object and objects.ndim == 1:
-        absent = np.array([it is None for it in objects], bool)
-        data = np.where(absent, 0, objects)
-    array = integers(objects if objects.dtype.kind in "iu" else data)
-    wide = array.dtype.kind == "u" and array.dtype.itemsize == 8
-    return np.array(array, "u8" if wide else "i8"), np.zeros(len(array), bool) if absent is None else absent
+    def min(self) -> Any:
+        """The least value. It unpacks nothing. ValueError if there is none."""
+        return self._scalar(self._known_limits()[0])
+
+    def max(self) -> Any:
+        """The greatest value. It unpacks nothing. ValueError if there is none."""
+        return self._scalar(self._known_limits()[1])
+
+    def _known_limits(self) -> Tuple[int, int]:
+        limits = self._limits()
+        if limits is None:
+            raise ValueError("the column has no value")
+        return limits
+
+    def bounds(self) -> np.ndarray:
+        """The least and the greatest value of each chunk of 65,536 values, as an array of two columns. Both are 0 if all are missing."""
+        table = np.frombuffer(self.data, _ROW, -(-len(self) // CHUNK), _START) if len(self) else np.empty(0, _ROW)
+        return np.stack([table["least"], table["greatest"]], axis=1).astype("=u8").view(self._dtype)
+
+    def append(self, values: Values, missing: Optional[npt.ArrayLike] = None) -> Column:
+        """A new column of these values and more after them. Whole chunks are copied, and only the values after them packed."""
+        whole = len(self) // CHUNK
+        table, start = np.frombuffer(self.data, _ROW, -(-len(self) // CHUNK), _START) if len(self) else np.empty(0, _ROW), whole * CHUNK
+        numbers, mask = self._numbers(start, len(self) - start)
+        more = Numbers(numbers, mask, self._dtype).and_then(_numbers_of(values, missing))
+        first = _START + _ROW.itemsize * len(table)
+        end = first + int(table["sizes"][:whole].sum(dtype="u8"))
+        old = [(table[:whole].tobytes(), self.data[first:end])] if whole else []
+        return _assembled(type(self), self._dtype, start + len(more.array), old + _packed(more))
 
 
-def _packed_chunk(values: np.ndarray, mask: np.ndarray) -> Tuple[tuple, bytes]:
-    """The row of a chunk, and its lists. A missing value becomes the one before it, and the first ones the first that is there, so that values
-    in order stay in order."""
-    lists = [pack(np.flatnonzero(mask), "strict")] if mask.any() else []
-    if mask.all():
-        values = np.zeros_like(values)
-    elif lists:
-        kept = np.maximum.accumulate(np.where(mask, 0, np.arange(len(mask))))
-        values = values[np.maximum(kept, np.argmin(mask))]
-    least, greatest = int(values.min()), int(values.max())
-    codes = values.view("u8") - np.uint64(least % 2**64)  # modulo 2**64, so it holds for every span
-    halves = [codes.astype("u4")]
-    if greatest - least > 0xFFFFFFFF:
-        halves = [(codes & np.uint64(0xFFFFFFFF)).astype("u4"), (codes >> np.uint64(32)).astype("u4")]
-    packed = [pack(it) for it in halves]
-    sizes = [lists[0].nbytes if lists else 0, packed[0].nbytes, packed[1].nbytes if len(packed) > 1 else 0]
-    data = b"".join(it.tobytes() for it in lists + packed)
-    return (least % 2**64, greatest % 2**64, sizes, zlib.crc32(data)), data
+def _numbers_of(values: Values, missing: Optional[npt.ArrayLike]) -> Numbers:
+    if isinstance(values, Column):
+        numbers, mask = values._numbers(0, len(values))
+        values = np.ma.MaskedArray(numbers.view(values.dtype), np.ma.nomask if mask is None else mask)
+    return integers_of(values, missing)
+
+
+def _packed(numbers: Numbers) -> List[Tuple[bytes, Union[bytes, memoryview]]]:
+    """The row and the bytes of each chunk."""
+    parts = _core.column_pack(numbers.array, numbers.mask, numbers.dtype.kind != "u")
+    return [(row + _CRC.pack(zlib.crc32(data)), data) for row, data in zip(parts[::2], parts[1::2])]
+
+
+def _assembled(cls: Any, dtype: np.dtype, count: int, chunks: List[Tuple[bytes, Union[bytes, memoryview]]]) -> Any:
+    table = b"".join(row for row, _ in chunks)
+    unit = UNITS.index(np.datetime_data(dtype)[0]) + 1 if dtype.kind in "Mm" else 0
+    header = _HEADER.pack(_NAME, _VERSION, _KINDS.index(dtype.kind), unit, 0, count, len(table) // _ROW.itemsize, zlib.crc32(table))
+    data = b"".join([header, _CRC.pack(zlib.crc32(header)), table, *(it for _, it in chunks)])
+    made = _core.column_open(cls, data, count, dtype.kind != "u", True)
+    made._dtype = dtype
+    return made
 
 
 def _need(holds: bool, fault: str, byte: int, chunk: Optional[int] = None) -> None:
     if not holds:
-        raise PackedListError(_TEXTS[fault], fault, list=chunk, byte=byte)
+        raise Error(_TEXTS[fault], fault, part=chunk, byte=byte)
 
 
-def _opened_header(data: memoryview) -> Tuple[np.dtype, int, np.ndarray, int]:
+def _dtype_of(kind: int, unit: int) -> Optional[np.dtype]:
+    if kind < 2 and unit == 0:
+        return STORED[_KINDS[kind]]
+    return np.dtype(f"{_KINDS[kind]}8[{UNITS[unit - 1]}]") if kind in (2, 3) and 0 < unit <= len(UNITS) else None
+
+
+def _read_header(data: memoryview) -> Tuple[np.dtype, int, np.ndarray, int]:
     """The type, the count, the table of the chunks, and where the first of them begins."""
-    _need(len(data) >= _HEADER.size + 4, "COLUMN_SHORT", 0)
-    name, version, kind, zero, count, chunks, crc = _HEADER.unpack_from(data)
-    _need((name, version) == (_NAME, _VERSION), "COLUMN_BAD_NAME", 0)
-    _need(zlib.crc32(data[: _HEADER.size]) == struct.unpack_from("<I", data, _HEADER.size)[0], "COLUMN_BAD_CRC", 0)
-    _need(kind < len(_TYPES) and zero == 0 and chunks == -(-count // CHUNK), "COLUMN_BAD_SHAPE", 0)
-    start = _HEADER.size + 4
-    end = start + _ROW.itemsize * chunks
-    _need(len(data) >= end, "COLUMN_SHORT", start)
-    _need(zlib.crc32(data[start:end]) == crc, "COLUMN_BAD_CRC", start)
-    table = np.frombuffer(data[start:end], _ROW)
-    _need(len(data) == end + int(table["sizes"].sum(dtype="u8")), "COLUMN_SHORT", end)
-    return _TYPES[kind], count, table, end
-
-
-def _opened_chunk(number: int, row: np.void, data: memoryview, dtype: np.dtype, count: int, start: int) -> _Chunk:
-    _need(zlib.crc32(data) == row["crc"], "COLUMN_BAD_CRC", start, number)
-    lists, at = [], 0
-    for size in row["sizes"].tolist():
-        lists.append(PackedList(data[at : at + size]) if size else None)
-        at += size
-    missing, low, high = lists
-    fits = low is not None and len(low) == count and (high is None or len(high) == count)
-    if missing is not None:
-        fits = fits and missing.kind == "strict" and len(missing) > 0 and missing[-1] < count
-    _need(fits, "COLUMN_BAD_SHAPE", start, number)
-    least, greatest = (int(np.array(row[name]).astype("u8").view(dtype)) for name in ("least", "greatest"))
-    return _Chunk(least, greatest, missing, [it for it in (low, high) if it is not None])
+    _need(len(data) >= _START, "Short", 0)
+    name, version, kind, unit, zero, count, chunks, crc = _HEADER.unpack_from(data)
+    _need((name, version) == (_NAME, _VERSION), "BadName", 0)
+    _need(zlib.crc32(data[: _HEADER.size]) == _CRC.unpack_from(data, _HEADER.size)[0], "BadChecksum", 0)
+    dtype = _dtype_of(kind, unit)
+    _need(zero == 0 and chunks == -(-count // CHUNK), "BadShape", 0)
+    if dtype is None:
+        raise Error(_TEXTS["BadShape"], "BadShape", byte=5)
+    end = _START + _ROW.itemsize * chunks
+    _need(len(data) >= end, "Short", _START)
+    _need(zlib.crc32(data[_START:end]) == crc, "BadChecksum", _START)
+    table = np.frombuffer(data[_START:end], _ROW) if chunks else np.empty(0, _ROW)
+    size = end + int(table["sizes"].sum(dtype="u8"))
+    _need(len(data) >= size, "Short", end)
+    _need(len(data) == size, "Trailing", size)
+    return dtype, count, table, end

@@ -5,36 +5,36 @@ from __future__ import annotations
 from typing import Optional
 
 
-class PackedListError(ValueError):
-    """Bytes that are no list, or values that make none.
+class Error(ValueError):
+    """Bytes that are no set, column or blocks, or values that make none.
 
-    fault       the name of the fault in the C header, without BITPACKING_: "LIST_BAD_WIDTH"
+    fault       the name of the fault in docs/FORMAT.md: "BadWidth"; of blocks also "BadLength", if the values are not whole blocks
     position    of the first value that is out of order, from 0 on
-    list        the number of the list, of those that were packed or opened by one call; of a column, the number of the chunk
-    block       the number of the block that has the fault; the groups of the tail are counted after the blocks
+    number      which one it is, of the sets or columns that were packed or opened by one call
+    part        the number of the chunk, block or group that has the fault
     byte        the index of the byte at which the part with the fault begins
 
-    Each but fault is None if it does not apply. Block and byte are not looked for in a list of more than 2**20 bytes."""
+    Each but fault is None if it does not apply. Part and byte are not looked for in more than 2**20 bytes."""
 
     def __init__(
         self,
         text: str,
         fault: Optional[str] = None,
         position: Optional[int] = None,
-        list: Optional[int] = None,
-        block: Optional[int] = None,
+        number: Optional[int] = None,
+        part: Optional[int] = None,
         byte: Optional[int] = None,
     ):
-        super().__init__(text)
-        self.text, self.fault, self.position, self.list, self.block, self.byte = text, fault, position, list, block, byte
+        super().__init__(text, fault, position, number, part, byte)
+        self.text, self.fault, self.position, self.number, self.part, self.byte = text, fault, position, number, part, byte
 
     def __str__(self) -> str:
-        places = [f"{name} {getattr(self, name)}" for name in ("list", "block", "byte", "position") if getattr(self, name) is not None]
-        return f"{self.text} ({self.fault}{''.join(f', {it}' for it in places)})"
+        places = [f"{name} {getattr(self, name)}" for name in ("number", "part", "byte", "position") if getattr(self, name) is not None]
+        return f"{self.text} ({', '.join([str(self.fault), *places])})"
 
 
-def refused(text: str, fault: str, number: Optional[int], data: bytes) -> PackedListError:
-    """The error for bytes that do not open, with where it is in them."""
+def refused(text: str, fault: str, number: Optional[int], data: bytes, format: str) -> Error:
+    """The error for bytes that do not open as a "set" or a "column", with where it is in them."""
     from .faults import place
 
-    return PackedListError(text, fault, list=number, **place(data, fault))
+    return Error(text, fault, number=number, **place(data, fault, format))

@@ -1,59 +1,176 @@
-"""Arrays from what a caller passes. Each is a copy, so that another thread cannot change it while the library reads it."""
+"""Arrays from what a caller passes. Another thread cannot change them while the library reads them: each is a copy, or of memory that nothing
+writes."""
 
 from __future__ import annotations
 
-from typing import List
+import mmap
+import operator
+from itertools import islice
+from typing import Any, Iterator, NoReturn, Optional, Tuple
 
 import numpy as np
 import numpy.typing as npt
 
+from .errors import Error
+
 KINDS = {"plain": 0, "sorted": 1, "strict": 2}
+PART, MOST = 1 << 20, 1 << 28
+_GREATEST, _LEAST = 0xFFFFFFFF, -(1 << 63)
 
 
-def private_u32(values: npt.ArrayLike) -> npt.NDArray[np.uint32]:
-    """Integers from 0 to 4294967295 as an array of uint32. Nothing else is converted."""
-    array = integers(values)
-    if array.dtype != np.uint32 and array.size and not (array.min() >= 0 and array.max() <= 0xFFFFFFFF):
-        raise OverflowError("a value is below 0 or above 4294967295")
-    return np.array(array, "=u4", order="C")
+def is_constant(data: Any) -> bool:
+    """Whether no thread can write the memory of an object with a buffer, as of bytes or of a map that is read only. A view that is read only
+    may be of memory that is not."""
+    while True:
+        if isinstance(data, np.ndarray):
+            if data.flags.writeable or data.base is None:
+                return False
+            data = data.base
+        else:
+            view = memoryview(data)
+            if not view.readonly or view.obj is None:
+                return False
+            if view.obj is data:
+                return True
+            data = view.obj
 
 
-def private_index(positions: npt.ArrayLike, length: int = 0) -> npt.NDArray[np.int64]:
-    """Positions or bounds as an array of int64. The length is added to those below 0, which count from the end. One of 2**63 or more becomes
-    -1, which is neither."""
-    try:
-        array = integers(positions)
-    except OverflowError:
-        raise IndexError("position out of range") from None
-    if array.dtype.kind == "u":
-        return np.where(array > 0x7FFFFFFFFFFFFFFF, -1, array.astype("=i8"))
-    found = np.array(array, "=i8", order="C")
+def constant(data: Any) -> Any:
+    """The object, or a copy of its bytes if another thread can write them."""
+    return data if is_constant(data) else memoryview(data).tobytes()
+
+
+def u32(values: Any) -> npt.NDArray[np.uint32]:
+    """Integers from 0 to 4294967295 as an array of uint32. TypeError or OverflowError, with the position and the value of the first that is
+    none. Only memory that nothing can write is not copied."""
+    array = as_array(values)
+    if isinstance(values, range) and len(values) > MOST:
+        raise Error("More than 268,435,456 values.", "TooLong")
+    if array is None:
+        parts = [_u32_of(part, at) for at, part in _parts(values)]
+        return np.concatenate(parts) if parts else np.empty(0, "=u4")
+    if array.dtype == np.dtype("=u4") and array.flags.c_contiguous and array.flags.aligned and is_constant(array):
+        return array
+    out = np.empty(len(array), "=u4")
+    for at in range(0, len(array), PART):
+        out[at : at + PART] = _u32_of(array[at : at + PART], at)
+    return out
+
+
+def index(positions: Any, length: int = 0) -> npt.NDArray[np.int64]:
+    """Positions or bounds as a new array of int64. The length is added to those below 0, which count from the end. One that does not fit becomes
+    a number below 0, which is no position."""
+    array = as_array(positions)
+    parts = _parts(positions) if array is None else [(0, array)]
+    found = np.concatenate([np.empty(0, "=i8"), *(_i64_of(part, at) for at, part in parts)])
     found[found < 0] += length
     return found
 
 
-def integers(values: npt.ArrayLike) -> np.ndarray:
-    """An array of integers of one dimension. An empty one may have any type, as numpy.array([]) has one of floats."""
+def room_for(count: int, out: Any, dtype: npt.DTypeLike = None) -> np.ndarray:
+    """The array to which a caller wants as many values written, whose type is tested where they are."""
+    if not isinstance(out, np.ndarray):
+        raise TypeError("out is an array of numpy")
+    if dtype is not None and out.dtype != np.dtype(dtype):
+        raise TypeError(f"out is of {out.dtype}, not {np.dtype(dtype)}")
+    if out.ndim != 1:
+        raise ValueError(f"out has {out.ndim} dimensions, and not one")
+    if len(out) < count:
+        raise ValueError(f"out has no room for {count} values")
+    return out
+
+
+def as_array(values: Any) -> Optional[np.ndarray]:
+    """What has the interface of arrays as an array of integers of one dimension, or None if its values are objects, or it is another iterable."""
+    if isinstance(values, (bytes, bytearray, mmap.mmap)) or isinstance(values, memoryview) and values.format == "B":
+        raise TypeError(f"integers expected, not {type(values).__name__}: packed bytes are opened by `open`")
     if isinstance(values, np.ma.MaskedArray) and np.ma.is_masked(values):
-        raise ValueError("values are missing: pack_column stores them")
+        raise ValueError("values are missing")
+    if not _has_array(values):
+        iter(values)
+        return None
     array = np.asarray(values)
-    if array.ndim == 0:
-        raise TypeError(f"an array or a sequence of integers expected, not {type(values).__name__}")
     if array.ndim != 1:
-        raise ValueError(f"one dimension expected, not {array.ndim}")
-    if array.dtype.kind in "iu":
-        return array
-    if not array.size:
-        return np.empty(0, "u4")
-    # Of integers that have no type in common numpy makes floats or objects.
-    objects = array if isinstance(values, np.ndarray) else np.array(values, object)
-    if objects.dtype == object and all(isinstance(it, (int, np.integer)) and not isinstance(it, bool) for it in objects):
-        return _of_objects([int(it) for it in objects])
-    raise TypeError(f"integers expected, not {array.dtype}")
+        raise (TypeError if array.ndim == 0 else ValueError)(f"one dimension expected, not {array.ndim}")
+    if array.dtype.kind in "iu" or array.dtype == object:
+        return array if array.dtype != object else None
+    if len(array):
+        _refuse(0, array[0])
+    return np.empty(0, "=u4")
 
 
-def _of_objects(values: List[int]) -> np.ndarray:
-    least, greatest = min(values), max(values)
-    if least < -(1 << 63) or greatest >= (1 << 64 if least >= 0 else 1 << 63):
-        raise OverflowError("the integers do not fit 64 bits")
-    return np.array(values, "i8" if greatest < 1 << 63 else "u8")
+def _has_array(values: Any) -> bool:
+    try:
+        return hasattr(values, "__array__") or hasattr(values, "__array_interface__") or bool(memoryview(values).format)
+    except TypeError:
+        return False
+
+
+def _parts(values: Any) -> Iterator[Tuple[int, np.ndarray]]:
+    """The position and the values of each part of an iterable, as arrays of integers or objects."""
+    at, rest = 0, iter(values)
+    while True:
+        part = values[at : at + PART] if isinstance(values, range) else list(islice(rest, PART))
+        if not part:
+            return
+        yield at, _array_of(part)
+        at += len(part)
+
+
+def _array_of(part: Any) -> np.ndarray:
+    """A range or a list as an array of integers, or of objects if numpy makes another one of it."""
+    try:
+        array = np.arange(part.start, part.stop, part.step) if isinstance(part, range) else np.array(part)
+        if array.dtype.kind in "iu" and array.ndim == 1:
+            return array
+    except (OverflowError, ValueError):
+        pass
+    return _objects(part)
+
+
+def _objects(part: Any) -> np.ndarray:
+    array = np.empty(len(part), object)
+    array[:] = part
+    return array
+
+
+def _u32_of(part: np.ndarray, at: int) -> np.ndarray:
+    """The values of a part as uint32."""
+    if part.dtype == object:
+        return np.array([_id_of(it, at + i) for i, it in enumerate(part)], "=u4")
+    if part.dtype != np.uint32 and part.size and not (part.min() >= 0 and part.max() <= _GREATEST):
+        first = int(np.flatnonzero((part < 0) | (part > _GREATEST))[0])
+        _refuse(at + first, part[first])
+    return part.astype("=u4")
+
+
+def _id_of(it: Any, at: int) -> int:
+    value = _integer(it, at)
+    return value if _fits(value) else _refuse(at, it)
+
+
+def _fits(value: int) -> bool:
+    return 0 <= value <= _GREATEST
+
+
+def _i64_of(part: np.ndarray, at: int) -> np.ndarray:
+    """The values of a part as int64, and the least one in place of one that does not fit."""
+    if part.dtype == object:
+        wide = [_integer(it, at + i) for i, it in enumerate(part)]
+        return np.array([it if _LEAST <= it < -_LEAST else _LEAST for it in wide], "=i8")
+    return np.where(part >= -_LEAST, _LEAST, part.astype("=i8")) if part.dtype.kind == "u" else part.astype("=i8")
+
+
+def _integer(it: Any, at: int) -> int:
+    if isinstance(it, (bool, np.bool_)):
+        _refuse(at, it)
+    try:
+        return operator.index(it)
+    except TypeError:
+        _refuse(at, it)
+
+
+def _refuse(at: int, it: Any) -> NoReturn:
+    if isinstance(it, (bool, np.bool_)) or not hasattr(it, "__index__"):
+        raise TypeError(f"position {at}: {it!r} is not an integer")
+    raise OverflowError(f"position {at}: {it} is below 0 or above {_GREATEST}")

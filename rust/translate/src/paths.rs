@@ -25,8 +25,8 @@ pub const CRATES: [Module; 8] = [
     Module { of: "bitpack_groups", name: "groups", path: "crate::groups", within: "pub(in crate::groups)", is_for_c: false },
     Module { of: "bitpack_sets", name: "sets", path: "crate::sets", within: "pub(in crate::sets)", is_for_c: false },
     Module { of: "bitpack_columns", name: "columns", path: "crate::columns", within: "pub(in crate::columns)", is_for_c: false },
+    Module { of: "bitpack_ranked", name: "ranking", path: "crate::ranking", within: "pub(in crate::ranking)", is_for_c: false },
     Module { of: "bitpack_lists", name: "lists", path: "crate::lists", within: "pub(in crate::lists)", is_for_c: false },
-    Module { of: "bitpack_sorted", name: "sorted", path: "crate::sorted", within: "pub(in crate::sorted)", is_for_c: true },
     Module { of: "bitpacking_c", name: "c", path: "crate::c", within: "pub(in crate::c)", is_for_c: true },
 ];
 /// A crate, and what it is in the one crate.

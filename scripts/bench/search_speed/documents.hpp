@@ -1,5 +1,5 @@
 // Reads the documents and the words of text files as examples/search/README.md says, once more and on its own, so that every way to keep
-// lists has the documents and the words of the search engine.
+// doc ids has the documents and the words of the search engine.
 #pragma once
 #include <algorithm>
 #include <cstdint>

@@ -1,4 +1,4 @@
-// What each way to keep lists implements, so that main.cpp can put the same questions to all of them.
+// What each way to keep doc ids implements, so that main.cpp can put the same questions to all of them.
 #pragma once
 #include <cstddef>
 #include <cstdint>
@@ -63,15 +63,15 @@ class Engine {
     virtual ~Engine() = default;
     // Where a word is, or NO_WORD.
     virtual size_t find(std::string_view word) const = 0;
-    // Opens the list of a word, before threads use it.
+    // Opens the ids of a word, before threads use it.
     virtual void prepare(size_t) {}
-    // "query" looks the words of a query up and answers it; "lists" has them looked up before. Others are an engine's own.
-    virtual std::vector<std::string> modes() const { return {"query", "lists"}; }
+    // "query" looks the words of a query up and answers it; "found" has them looked up before. Others are an engine's own.
+    virtual std::vector<std::string> modes() const { return {"query", "found"}; }
     virtual std::unique_ptr<Session> session(const std::string &mode) = 0;
     // The modes for ranked queries, of which "best" is the first, if there is any; and the same calls for these.
     virtual std::vector<std::string> ranked_modes() const { return {}; }
     virtual void prepare_ranked(size_t) {}
-    // Opens all lists of documents, one after the other. Returns how many values they have, or 0 if nothing is to open.
+    // Opens the ids of all words, one after the other. Returns how many values they have, or 0 if nothing is to open.
     virtual size_t open_all() { return 0; }
     virtual size_t words() const { return 0; }
 };

@@ -1,4 +1,4 @@
-// The program of each way to keep lists:
+// The program of each way to keep doc ids:
 //
 //     PROGRAM index FOLDER INDEX
 //     PROGRAM queries INDEX QUERIES ANSWERS ROUNDS THREADS ONE_OF
@@ -118,7 +118,7 @@ std::vector<Answer> first_answers(Engine &engine, const std::string &mode, std::
 Time round(Engine &engine, const std::string &mode, std::vector<Query> &queries, std::vector<std::unique_ptr<Session>> &sessions)
 {
     std::atomic<size_t> next{0};
-    bool looked_up = mode == "lists";
+    bool looked_up = mode == "found";
     auto run = [&](Session *session) {
         for (size_t at; (at = next.fetch_add(8)) < queries.size();)
             for (size_t i = at; i < at + 8 && i < queries.size(); i++)

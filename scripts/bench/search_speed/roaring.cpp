@@ -22,7 +22,7 @@ class Roaring : public Engine {
 
     size_t find(std::string_view word) const override { return words_.find(word); }
     size_t words() const override { return words_.count(); }
-    std::vector<std::string> modes() const override { return {"query", "lists", "bitmaps"}; }
+    std::vector<std::string> modes() const override { return {"query", "found", "bitmaps"}; }
     std::unique_ptr<Session> session(const std::string &mode) override;
     const roaring_bitmap_t *bitmap(size_t place) const { return bitmaps_[place]; }
     size_t len(size_t place) const { return lens_[place]; }

@@ -101,7 +101,7 @@ class Sets : public Engine {
     const lengths *all_lengths() const { return classes_->get(); }
     std::vector<std::string> ranked_modes() const override { return {"best", "scan"}; }
 
-    std::vector<std::string> modes() const override { return {"query", "lists", "opening"}; }
+    std::vector<std::string> modes() const override { return {"query", "found", "opening"}; }
     std::unique_ptr<Session> session(const std::string &mode) override;
 
     size_t open_all() override

@@ -1,4 +1,4 @@
-// Reads the documents, and keeps no lists: what all the other programs do beside keeping them.
+// Reads the documents, and keeps none: what all the other programs do beside keeping them.
 //
 //     words FOLDER FILE ONE_OF
 //

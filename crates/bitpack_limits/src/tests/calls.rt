@@ -1,11 +1,8 @@
 //! The calls on packed lists, each once and with no contract. The proof of a test does not read what a call promises, so it is short
 //! if the test calls these.
 
-ghost use Rattle.std.specs.Prelude.{IsTrue};
-ghost use Rattle.bitpack_lists.specs.Version3.{HasCode};
-
 use bitpack::list2::{PackedList, Reads, intersect};
-use bitpack::{ListError, ListKind, list, list2, list3, list4};
+use bitpack::{ListError, ListKind, list, list2};
 use bitpacking::BitPacker;
 use std::process::Abort;
 
@@ -38,62 +35,6 @@ pub(super) fn encode2<P: BitPacker>(
     list2::encode(packer, kind, values, out)
 }
 
-/// Whether a version 3 header can state the lanes of the packer, as it can for all packers here.
-fn has_code<P: BitPacker>() -> bool
-    ensures { IsTrue result → HasCode P.lanes }
-{
-    P::BLOCK_LEN == 32 || P::BLOCK_LEN == 128 || P::BLOCK_LEN == 256
-}
-
-/// Encodes in version 3.
-fn encode3<P: BitPacker>(
-    packer: &P,
-    kind: ListKind,
-    values: &[u32],
-    out: &mut Vec<u8>,
-) -> Result<(), ListError> {
-    if !has_code::<P>() {
-        return Err(ListError::BadVersion(3));
-    }
-    list3::encode(packer, kind, values, out)
-}
-
-/// Encodes in version 4, or in version 3 if the list is shorter than a block.
-fn encode4<P: BitPacker>(
-    packer: &P,
-    kind: ListKind,
-    values: &[u32],
-    out: &mut Vec<u8>,
-) -> Result<(), ListError> {
-    if !has_code::<P>() {
-        return Err(ListError::BadVersion(4));
-    }
-    list4::encode(packer, kind, values, out)
-}
-
-/// A version of lists that are written into slices.
-#[derive(Clone, Copy)]
-pub(super) enum Version {
-    Two,
-    Three,
-    Four,
-}
-
-/// Encodes in a version.
-pub(super) fn encode_as<P: BitPacker>(
-    version: Version,
-    packer: &P,
-    kind: ListKind,
-    values: &[u32],
-    out: &mut Vec<u8>,
-) -> Result<(), ListError> {
-    match version {
-        Version::Two => encode2(packer, kind, values, out),
-        Version::Three => encode3(packer, kind, values, out),
-        Version::Four => encode4(packer, kind, values, out),
-    }
-}
-
 /// Converts a version 1 list to version 2.
 pub(super) fn upgrade<P: BitPacker>(
     packer: &P,
@@ -101,19 +42,6 @@ pub(super) fn upgrade<P: BitPacker>(
     out: &mut Vec<u8>,
 ) -> Result<(), ListError> {
     list2::upgrade(packer, text, out)
-}
-
-/// Converts a list of version 1, 2 or 3 to the newest version.
-pub(super) fn upgrade4<P: BitPacker>(
-    packer: &P,
-    text: &[u8],
-    values: &mut Vec<u32>,
-    out: &mut Vec<u8>,
-) -> Result<(), ListError> {
-    if !has_code::<P>() {
-        return Err(ListError::BadVersion(4));
-    }
-    list4::upgrade(packer, text, values, out)
 }
 
 /// Opens a version 2 list.

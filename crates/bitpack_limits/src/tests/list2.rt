@@ -53,7 +53,7 @@ fn has_values<P: BitPacker>(
     has_value(rt, list, usize::MAX, None);
 }
 
-/// The bytes are opened, and have this kind and these values, and so has a clone.
+/// The bytes are opened, and have this kind and these values.
 pub(super) fn is_list<P: BitPacker>(
     rt: &impl Abort,
     packer: &P,
@@ -62,11 +62,7 @@ pub(super) fn is_list<P: BitPacker>(
     text: &[u8],
 ) {
     match open(packer, text) {
-        Ok(list) => {
-            has_values(rt, &list, kind, values);
-            let cloned = list.clone().expect(rt, "a clone");
-            has_values(rt, &cloned, kind, values);
-        }
+        Ok(list) => has_values(rt, &list, kind, values),
         Err(error) => returns(rt, Err(error), Ok(()), text),
     }
 }

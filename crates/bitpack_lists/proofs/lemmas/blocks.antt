@@ -1,11 +1,10 @@
--- Lemmas of what all versions share: parts of an encoded list, whole blocks, skip entries, widths and order.
+-- Lemmas of what both versions have: parts of an encoded list, whole blocks, skip entries, widths and order.
 pub mod BlockLemmas
 pub mod BlockValues
 pub mod ChainLemmas
 pub mod CodeLemmas
 pub mod EntryLemmas
 pub mod FaultLemmas
-pub mod GroupSteps
 pub mod HeaderLemmas
 pub mod ListLemmas
 pub mod LooseLemmas
@@ -13,7 +12,6 @@ pub mod MeasuredLengths
 pub mod Orders
 pub mod PartLemmas
 pub mod PartValues
-pub mod PushLemmas
 pub mod ReadSteps
 pub mod RestFaults
 pub mod RestLemmas
@@ -21,6 +19,5 @@ pub mod RestValues
 pub mod SameBlocks
 pub mod SearchLemmas
 pub mod SumsOfCodes
-pub mod ValueFaults
 pub mod WholeBlocks
 pub mod WriteSteps

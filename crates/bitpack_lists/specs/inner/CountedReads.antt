@@ -22,6 +22,11 @@ pub record UnpacksBlock (old new : Reads) : Type 0 where
   pub entries : new.entries ≡ old.entries
   pub blocks : new.blocks ≡ old.blocks + 1
 
+-- one value of a block was read: at most one skip entry, and one block
+pub record ReadsValue (old new : Reads) : Type 0 where
+  pub entries : new.entries ≤ old.entries + 1
+  pub blocks : new.blocks ≡ old.blocks + 1
+
 -- the kind of a block, and room for its values
 pub record CanUnpack (block_len : ℕ) (kind : Kind) (values : List ℕ) : Type 0 where
   pub start : start kind < 2 ^ 32

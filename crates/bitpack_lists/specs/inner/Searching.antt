@@ -8,7 +8,7 @@ use Rattle.bitpack_lists.specs.declared.opened.PackedList.{PackedList}
 use Rattle.bitpack_lists.specs.declared.blocks.reads.Reads.{Reads}
 pub use Rattle.bitpack_lists.specs.Opened.{blocks_of, rest_of, value_of}
 use Rattle.bitpack_lists.specs.Search.{HasGrown, in_whole_block}
-use Rattle.bitpack_lists.specs.Texts.{block_in, kind_in, mark_in}
+use Rattle.bitpack_lists.specs.Version2.{block_at, kind_at, last_at}
 
 -- only marks were read
 pub record ReadsEntries (old new : Reads) : Type 0 where
@@ -21,24 +21,18 @@ pub record UnpacksOne (old new : Reads) : Type 0 where
   pub blocks : new.blocks ≤ old.blocks + 1
   pub grown : HasGrown old new
 
--- a search that gallops from a number to another reads two marks each time that the distance doubles, and one
-pub record IsNear (from to old new : ℕ) : Type 0 where
-  pub doubled : ℕ
-  pub far : from + 2 ^ doubled ≤ to + 1
-  pub few : new ≤ old + (2 * doubled + 1)
-
 module _ {P : Type 0} {members : Ghosts P} (list : PackedList P members) where
   -- the values of each whole block
   abbrev pub block_of_list : ℕ → List ℕ
-  block_of_list = block_in list.version members.lanes (blocks_of list) list.kind (rest_of list)
+  block_of_list = block_at members.lanes (blocks_of list) list.kind (rest_of list)
 
   -- the mark of each whole block
   abbrev pub mark_of_list : ℕ → ℕ
-  mark_of_list = mark_in list.version (blocks_of list) (rest_of list)
+  mark_of_list = last_at (rest_of list)
 
   -- the kind of each whole block, and of the tail
   abbrev pub kind_of_list : ℕ → Kind
-  kind_of_list = kind_in list.version (blocks_of list) list.kind (rest_of list)
+  kind_of_list = kind_at list.kind (rest_of list)
 
   -- a whole block, with its kind
   pub record IsListBlock (block : ListBlock) : Type 0 where

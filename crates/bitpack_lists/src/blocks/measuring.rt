@@ -12,12 +12,6 @@ use bitpacking::{BitPacker, Kind};
 /// How many widths are cached from the measuring of a list to its writing. Later blocks are measured twice.
 pub(crate) const KEPT_WIDTHS: usize = 1024;
 
-/// How many are cached for a list with at most that many blocks. Little room takes less time to clear.
-pub(crate) const FEW_WIDTHS: usize = 64;
-
-/// How many are cached for a list with more blocks than `KEPT_WIDTHS`, which takes much longer to write than this room to clear.
-pub(crate) const MANY_WIDTHS: usize = 8192;
-
 /// The length in bytes of the encoded list of the values in version 1, which has one byte for each whole block beside its body. Caches
 /// the least widths of the first blocks.
 pub(crate) fn text_len<P: BitPacker>(

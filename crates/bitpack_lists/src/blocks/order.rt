@@ -1,77 +1,15 @@
 //! The order of the values of a list, a part of them at a time.
 
-ghost use Rattle.std.specs.Prelude.{◌≡◌, ◌+◌, ◌-◌, ◌*◌, ◌^◌, ◌<◌, ◌≤◌, ◌++◌, ℕ, List, true, false, length, take, slice_index, IfSome, None};
+ghost use Rattle.std.specs.Prelude.{◌≡◌, ◌+◌, ◌-◌, ◌*◌, ◌^◌, ◌<◌, ◌≤◌, ℕ, List, true, false, length, slice_index, IfSome, None};
 ghost use Rattle.bitpacking.specs.Codes.{codes, start, values_of};
 ghost use Rattle.bitpacking.specs.Width.{Fits};
 ghost use Rattle.bitpacking.specs.Words.{word};
-ghost use Rattle.bitpack_lists.specs.Chains.{LeastWidths};
-ghost use Rattle.bitpack_lists.specs.Parts.{FindsFault, first_kind, whole_blocks};
-ghost use Rattle.bitpack_lists.specs.Version2.{is_out, least_below, values_fault};
-ghost use Rattle.bitpack_lists.specs.inner.Opening.{GoesOn, IsOrdered, IsRising, is_fall};
+ghost use Rattle.bitpack_lists.specs.Version2.{is_out, least_below};
+ghost use Rattle.bitpack_lists.specs.inner.Opening.{IsOrdered, IsRising, is_fall};
 
-use crate::header::LONGEST_LIST;
-use crate::list_error::ListError;
-use crate::list_kind::{ListKind, next_kind};
+use crate::list_kind::ListKind;
 use crate::numbers::read_one;
-use bitpacking::{BitPacker, Kind, MAX_BLOCK_LEN};
-
-/// Tests the order of the values of a list. The least widths of its first blocks are cached. If they show the order of a block, only its
-/// last value is read.
-pub(crate) fn test_values<P: BitPacker>(
-    _packer: &P,
-    kind: ListKind,
-    values: &[u32],
-    widths: &[u8],
-) -> Result<(), ListError>
-    requires few { length values.now ≤ 2 ^ 28 }
-    requires widths { LeastWidths P.lanes (first_kind kind) values.now
-        (take (whole_blocks P.lanes (length values.now)) widths.now) }
-    ensures { FindsFault result (values_fault kind values.now) }
-{
-    let len = P::BLOCK_LEN;
-    let mut block_kind = kind.first();
-    let mut before = 0;
-    let mut left = values;
-    let kept = widths.len().min(values.len() / len);
-    for index in 0..kept {
-        let (block, after) = left.split_at(len);
-        let width = widths[index];
-        let out = first_out_of_block(kind, block_kind, width, len * index, before, block);
-        if let Some(position) = out {
-            return Err(ListError::NotSorted(position));
-        }
-        before = block[len - 1];
-        block_kind = next_kind(block_kind, before);
-        left = after;
-    }
-    if let Some(position) = first_out(kind, values.len() - left.len(), before, left) {
-        return Err(ListError::NotSorted(position));
-    }
-    Ok(())
-}
-
-/// The first position out of order in a block, whose codes fit a width. The values before it are in order, and `before` is the last.
-fn first_out_of_block(
-    list: ListKind,
-    kind: Kind,
-    width: u8,
-    position: usize,
-    before: u32,
-    block: &[u32],
-) -> Option<usize>
-    requires fits { (width ≤ 32) × Fits (codes kind block.now) width }
-    requires len { (1 ≤ length block.now) × (length block.now ≤ MAX_BLOCK_LEN) }
-    requires few { position + length block.now < 2 ^ 64 }
-    requires next { GoesOn list position before kind }
-    ensures { (all : ℕ → ℕ) → IsOrdered list all position before
-        → ((k : ℕ) → k < length block.now → all (position + k) ≡ slice_index block.now k)
-        → result ≡ least_below (Rattle.bitpack_lists.specs.Version2.is_out list all) (position + length block.now) }
-{
-    if ends_in_order(kind, width, block.len(), block[block.len() - 1]) {
-        return None;
-    }
-    first_out(list, position, before, block)
-}
+use bitpacking::{Kind, MAX_BLOCK_LEN};
 
 /// Whether the value at a position is out of order after the one before it.
 fn is_out(kind: ListKind, position: usize, before: u32, value: u32) -> bool
@@ -110,39 +48,6 @@ pub(crate) fn first_out(
         last = value;
     }
     None
-}
-
-/// Tests values that are pushed after the values that a list has so far: whether they are too many together, and then whether one of them is
-/// out of order, whose position is counted from the first value of the list. Reads the last value so far, and the pushed ones.
-#[inline(always)]
-pub fn test_pushed(kind: ListKind, so_far: &[u32], pushed: &[u32]) -> Result<(), ListError>
-    requires few { length so_far.now ≤ 2 ^ 28 }
-    requires ordered { Rattle.bitpack_lists.specs.Version2.first_out kind so_far.now ≡ None }
-    ensures { FindsFault result (values_fault kind (so_far.now ++ pushed.now)) }
-{
-    let len = so_far.len();
-    if pushed.len() > LONGEST_LIST - len {
-        return Err(ListError::TooLong(len + pushed.len()));
-    }
-    let last = last_of(so_far);
-    if are_ordered(kind, len, last, pushed) {
-        return Ok(());
-    }
-    match first_out(kind, len, last, pushed) {
-        Some(position) => Err(ListError::NotSorted(position)),
-        None => Ok(()),
-    }
-}
-
-/// The last value, or 0 if there is none.
-#[inline(always)]
-fn last_of(values: &[u32]) -> u32
-    ensures { 0 < length values.now → slice_index values.now (length values.now - 1) ≡ result }
-{
-    if values.is_empty() {
-        return 0;
-    }
-    values[values.len() - 1]
 }
 
 /// Whether the values are in order after the one before them. Most lists are, so that no position is looked for.

@@ -1,5 +1,5 @@
-//! What is read of a packed list: each skip entry, mark and block counts in `Reads`. No other code reads one of these from the bytes or
-//! unpacks a block.
+//! What is read of a packed list: each skip entry, last value and block counts in `Reads`. No other file reads one of these from the bytes,
+//! or unpacks a block: the methods of `Reads` are the only way to it.
 
 ghost use Rattle.std.specs.Prelude.{◌≡◌, ◌+◌, ◌*◌, ◌≤◌, ◌∷◌, [], length, take, drop, vec_len, vec_capacity, ℕ};
 ghost use Rattle.bitpacking.specs.Layout.{size, codes_of};
@@ -29,8 +29,8 @@ pub(crate) struct Entry {
 impl Entry {
     ghost use Rattle.bitpack_lists.specs.inner.CountedReads.{IsEntryOf};
 
-    /// The body of the block of this skip entry, in a list of `blocks` blocks. The bytes are the ones after a header.
-    pub(crate) fn body(self, lanes: usize, blocks: usize, rest: &[u8]) -> &[u8]
+    // The body of the block of this skip entry, in a list of `blocks` blocks. The bytes are the ones after a header.
+    fn body(self, lanes: usize, blocks: usize, rest: &[u8]) -> &[u8]
         requires lanes { lanes ≤ 8 }
         requires body { ENTRY_LEN * blocks + 4 * lanes * self.offset + size lanes self.width ≤ length rest.now }
         ensures body { result.now
@@ -104,8 +104,8 @@ impl Reads {
         }
     }
 
-    // How many skip entries were read, and how many blocks unpacked. Only functions that read or unpack these call it.
-    pub(crate) fn record(&mut self, entries: u32, blocks: u32)
+    // Counts what the functions of this file read. No other function calls it.
+    fn record(&mut self, entries: u32, blocks: u32)
         ensures entries { self.new.entries ≡ self.old.entries + entries }
         ensures blocks { self.new.blocks ≡ self.old.blocks + blocks }
     {}

@@ -1,4 +1,4 @@
-//! Testing the skip entries and the bodies of whole blocks, which versions 2 and 3 share.
+//! Testing the skip entries and the bodies of whole blocks.
 
 ghost use Rattle.std.specs.Prelude.{◌≡◌, ◌+◌, ◌-◌, ◌*◌, ◌^◌, ◌<◌, ◌≤◌, ◌&&◌, ℕ, List, length, nat_lt, slice_index, sum, IfOk, None, ◌/◌, ◌%◌, Decides};
 ghost use Rattle.bitpacking.specs.declared.kind.Kind.{Kind};
@@ -6,8 +6,7 @@ ghost use Rattle.bitpacking.specs.Codes.{values_of};
 ghost use Rattle.bitpacking.specs.Layout.{codes_of};
 ghost use Rattle.bitpacking.specs.Width.{Fits};
 ghost use Rattle.bitpack_lists.specs.Parts.{FindsFault, IsBody, whole_blocks, is_loose};
-ghost use Rattle.bitpack_lists.specs.Version2.{block_fault2, blocks_fault, body_fault2, entry_fault2, first_fault, is_out, kind_at, least_below, short_of, tail_start, value_with, widths_before};
-ghost use Rattle.bitpack_lists.specs.inner.Opening.{GoesOn};
+ghost use Rattle.bitpack_lists.specs.Version2.{block_fault2, blocks_fault, body_fault2, entry_fault2, first_fault, is_out, least_below, short_of, tail_start, value_with, widths_before};
 ghost use Rattle.bitpacking.specs.Bits.{bit_of};
 
 use super::order::{ends_in_order, first_out};
@@ -17,14 +16,12 @@ use crate::list_error::ListError;
 use crate::list_kind::next_kind;
 use bitpacking::{BitPacker, Kind, MAX_BLOCK_LEN};
 
-/// What the test of the blocks leaves: where their bodies end, the last value, the first position out of order, and the kind of what
-/// follows.
+/// What the test of the blocks leaves: where their bodies end, the last value, and the first position out of order.
 #[derive(Clone, Copy)]
 pub(crate) struct TestedBlocks {
     pub(crate) end: usize,
     pub(crate) last: u32,
     pub(crate) out: Option<usize>,
-    pub(crate) kind: Kind,
 }
 
 /// Tests the blocks of a list, after which come this many bytes or more.
@@ -33,6 +30,7 @@ pub(crate) fn test_blocks<P: BitPacker>(
     header: Header,
     tail: usize,
     rest: &[u8],
+    reads: &mut Reads,
 ) -> Result<TestedBlocks, ListError>
     requires count { header.count ≤ 2 ^ 28 }
     requires tail { tail ≤ 4 * header.count }
@@ -41,8 +39,6 @@ pub(crate) fn test_blocks<P: BitPacker>(
     ensures end { IfOk result (λ tested. tested.end
         ≡ tail_start P.lanes (whole_blocks P.lanes header.count) rest.now) }
     ensures room { IfOk result (λ tested. tested.end + tail ≤ length rest.now) }
-    ensures kind { IfOk result (λ tested. tested.kind
-        ≡ kind_at header.kind rest.now (whole_blocks P.lanes header.count)) }
     // Whatever values follow.
     ensures last { IfOk result (λ tested. (later : ℕ → ℕ) → 0 < whole_blocks P.lanes header.count
         → value_with P.lanes (whole_blocks P.lanes header.count) header.kind rest.now later
@@ -50,22 +46,15 @@ pub(crate) fn test_blocks<P: BitPacker>(
     ensures out { IfOk result (λ tested. (later : ℕ → ℕ) → tested.out ≡ least_below
         (is_out header.kind (value_with P.lanes (whole_blocks P.lanes header.count) header.kind rest.now later))
         (32 * P.lanes * whole_blocks P.lanes header.count)) }
-    ensures next { IfOk result (λ tested.
-        GoesOn header.kind (32 * P.lanes * whole_blocks P.lanes header.count) tested.last tested.kind) }
 {
     let len = P::BLOCK_LEN;
     let blocks = header.count / len;
     test_room(rest, ENTRY_LEN * blocks + tail)?;
-    let widths = test_entries(rest, blocks)?;
+    let widths = test_entries(rest, blocks, reads)?;
     let end = ENTRY_LEN * blocks + len / 8 * widths;
     test_room(rest, end + tail)?;
-    let (last, out, kind) = test_bodies(packer, header, rest)?;
-    Ok(TestedBlocks {
-        end,
-        last,
-        out,
-        kind,
-    })
+    let (last, out) = test_bodies(packer, header, rest, reads)?;
+    Ok(TestedBlocks { end, last, out })
 }
 
 /// Tests that there are at least `end` bytes.
@@ -79,14 +68,13 @@ pub(crate) fn test_room(bytes: &[u8], end: usize) -> Result<(), ListError>
 }
 
 /// Tests the skip entries of all blocks, and returns the sum of their widths.
-fn test_entries(rest: &[u8], blocks: usize) -> Result<usize, ListError>
+fn test_entries(rest: &[u8], blocks: usize, reads: &mut Reads) -> Result<usize, ListError>
     requires few { blocks ≤ 2 ^ 28 }
     requires room { ENTRY_LEN * blocks ≤ length rest.now }
     ensures fault { FindsFault result (first_fault (entry_fault2 rest.now) blocks) }
     ensures widths { IfOk result (λ widths. widths ≡ widths_before rest.now blocks) }
     ensures few { IfOk result (λ widths. widths ≤ 32 * blocks) }
 {
-    let mut reads = Reads::new();
     let mut widths = 0;
     for block in 0..blocks {
         let entry = reads.read_entry(rest, block);
@@ -101,13 +89,14 @@ fn test_entries(rest: &[u8], blocks: usize) -> Result<usize, ListError>
     Ok(widths)
 }
 
-/// Tests the bodies of the blocks, whose skip entries were tested. Returns the last value of the last block, the first position out
-/// of order in the blocks, and the kind of what follows.
+/// Tests the bodies of the blocks, whose skip entries were tested. Returns the last value of the last block, and the first position out
+/// of order in the blocks.
 fn test_bodies<P: BitPacker>(
     packer: &P,
     header: Header,
     rest: &[u8],
-) -> Result<(u32, Option<usize>, Kind), ListError>
+    reads: &mut Reads,
+) -> Result<(u32, Option<usize>), ListError>
     requires few { header.count ≤ 2 ^ 28 }
     requires entries { first_fault (entry_fault2 rest.now) (whole_blocks P.lanes header.count) ≡ None }
     requires room { tail_start P.lanes (whole_blocks P.lanes header.count) rest.now ≤ length rest.now }
@@ -120,18 +109,13 @@ fn test_bodies<P: BitPacker>(
     ensures out { IfOk result (λ found. (later : ℕ → ℕ) → found.1 ≡ least_below
         (is_out header.kind (value_with P.lanes (whole_blocks P.lanes header.count) header.kind rest.now later))
         (32 * P.lanes * whole_blocks P.lanes header.count)) }
-    ensures kind { IfOk result (λ found. found.2
-        ≡ kind_at header.kind rest.now (whole_blocks P.lanes header.count)) }
-    ensures next { IfOk result (λ found.
-        GoesOn header.kind (32 * P.lanes * whole_blocks P.lanes header.count) found.0 found.2) }
 {
     let len = P::BLOCK_LEN;
     let blocks = header.count / len;
     let mut kind = header.kind.first();
     if blocks == 0 {
-        return Ok((0, None, kind));
+        return Ok((0, None));
     }
-    let mut reads = Reads::new();
     let mut last = 0;
     let mut out = None;
     let mut room = [0; MAX_BLOCK_LEN];
@@ -146,7 +130,7 @@ fn test_bodies<P: BitPacker>(
         last = entry.last;
         kind = next_kind(kind, last);
     }
-    Ok((last, out, kind))
+    Ok((last, out))
 }
 
 /// Tests that the width of a block is the least of its codes, and that the block, of this kind, ends with the value of its skip

@@ -1,6 +1,6 @@
-//! All values of an opened list, in a vector or a slice.
+//! All values of an opened list, in a vector.
 
-ghost use Rattle.std.specs.Prelude.{◌≡◌, ◌+◌, ◌<◌, ◌≤◌, ◌++◌, length, take, drop, OnOk, OnErr, IfErr, vec_len, vec_capacity};
+ghost use Rattle.std.specs.Prelude.{◌≡◌, ◌+◌, ◌<◌, ◌++◌, length, OnOk, OnErr, IfErr, vec_len, vec_capacity};
 ghost use Rattle.bitpack_lists.specs.declared.list_error.ListError.{ListError};
 ghost use Rattle.bitpack_lists.specs.Opened.{values};
 ghost use Rattle.bitpack_lists.specs.inner.Searching.{blocks_of};
@@ -28,28 +28,15 @@ impl<'a, P: BitPacker> PackedList<'a, P> {
         }
         let from = out.len();
         append_zeros(out, 0, self.count);
-        self.copy_to(out.slice_mut(from..));
+        self.copy_values(out.slice_mut(from..), &mut Reads::new());
         Ok(())
-    }
-
-    /// Writes all values at the start of the slice, and returns their number. Unpacks each block once, and allocates nothing.
-    ///
-    /// Requires room for all values. The rest of the slice is unchanged.
-    pub fn copy_to(&self, out: &mut [u32]) -> usize
-        requires room { length (values self.now) ≤ length out.old }
-        ensures len { result ≡ length (values self.now) }
-        ensures values { take result out.new ≡ values self.now }
-        ensures rest { drop result out.new ≡ drop result out.old }
-    {
-        let count = self.count;
-        self.copy_values(&mut out[..count], &mut Reads::new());
-        count
     }
 
     // Unpacks each block once, straight to its position, and reads the tail.
     fn copy_values(&self, out: &mut [u32], reads: &mut Reads)
         requires room { length out.old ≡ self.now.count }
         ensures values { out.new ≡ values self.now }
+        ensures entries { reads.new.entries ≡ reads.old.entries + blocks_of self.now }
         ensures blocks { reads.new.blocks ≡ reads.old.blocks + blocks_of self.now }
     {
         let len = P::BLOCK_LEN;

@@ -12,8 +12,7 @@ impl<'a, P: BitPacker> PackedList<'a, P> {
 
     /// The first whole block whose mark is at least the target. Each mark halves the blocks that are left.
     ///
-    /// It always goes on from the number of halves, so that the processor guesses no branch wrong. In a long list `find` is faster: it
-    /// reads marks ahead, which are not in the cache.
+    /// It always goes on from the number of halves, so that the processor guesses no branch wrong.
     pub(super) fn find_by_halves(&self, target: u32, reads: &mut Reads) -> Option<ListBlock>
         ensures { HalvesTo self.now target result reads.old reads.new }
     {

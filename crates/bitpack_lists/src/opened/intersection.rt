@@ -1,6 +1,6 @@
 //! The values that two packed lists share.
 
-ghost use Rattle.std.specs.Prelude.{◌≡◌, ◌≢◌, ◌+◌, ◌<◌, ◌++◌, ℕ, min, List, length, OnOk, OnErr, IfErr, vec_len, vec_capacity, ◌*◌, ◌≤◌, IfSome, slice_index};
+ghost use Rattle.std.specs.Prelude.{◌≡◌, ◌≢◌, ◌+◌, ◌<◌, ◌++◌, ℕ, min, List, length, OnOk, OnErr, IfErr, vec_len, vec_capacity, ◌*◌, ◌≤◌, IfSome};
 ghost use Rattle.bitpack_lists.specs.declared.list_kind.ListKind.{ListKind};
 ghost use Rattle.bitpack_lists.specs.Intersections.{IsCommon, ReadsSearched, ReadsWalked};
 ghost use Rattle.bitpack_lists.specs.Opened.{kind_of, values};

@@ -59,7 +59,7 @@ pub(crate) fn unpack_many(bits: &[u64], base: u32, out: &mut [u32], at: usize) -
 }
 
 /// Writes them also if there is only room for them.
-fn unpack_bits_within(bits: &[u64], base: u32, out: &mut [u32], at: usize) -> usize
+pub(crate) fn unpack_bits_within(bits: &[u64], base: u32, out: &mut [u32], at: usize) -> usize
     requires size { length bits.now ≡ 4 }
     requires fits { base + 256 ≤ 2 ^ 32 }
     requires room { at + length (those 256 (has_bit bits.now)) ≤ length out.old }

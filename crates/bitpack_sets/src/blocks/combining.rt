@@ -6,9 +6,10 @@ ghost use Rattle.bitpack_sets.specs.Bitmaps.{has_bit};
 ghost use Rattle.bitpack_sets.specs.Operations.{combined, holds};
 ghost use Rattle.bitpack_sets.specs.Selections.{answer_with, parts_numbers, word_highs};
 
+use crate::bitmap::unpacking::unpack_bits;
 use crate::blocks::Blocks;
 use crate::operation::Operation;
-use crate::slice::selecting::select;
+use crate::slice::selecting::{combined_bits, count_both, fewer_first, unpack_last, unpack_marked};
 
 /// Writes the numbers that an operation on two bodies gives, each with `base` added. Returns where they end, or None if there is no room.
 pub(crate) fn unpack_combined(
@@ -87,7 +88,19 @@ fn unpack_word(
         let high = first + left.trailing_zeros() as usize;
         let x = a.slice_of(high, !operation.keeps_right());
         let y = b.slice_of(high, !operation.keeps_left());
-        next = select(operation, x, y).unpack_within(base + 256 * high as u32, out, next)?;
+        let start = base + 256 * high as u32;
+        let (few, other) = fewer_first(operation, x, y);
+        next = if out.len() - next < 256 {
+            unpack_last(operation, x, y, start, out, next)?
+        } else if y.count == 0 && operation.keeps_left() {
+            x.unpack(start, out, next)
+        } else if x.count == 0 && operation.keeps_right() {
+            y.unpack(start, out, next)
+        } else if few.count < 32 && !operation.keeps_right() {
+            unpack_marked(operation, few, other, start, out, next)
+        } else {
+            unpack_bits(&combined_bits(operation, x, y), start, out, next)
+        };
         left &= left.wrapping_sub(1);
     }
     Some(next)
@@ -132,7 +145,7 @@ fn count_word(operation: Operation, a: &Blocks, b: &Blocks, first: usize, word: 
         let high = first + left.trailing_zeros() as usize;
         let x = a.slice_of(high, !operation.keeps_right());
         let y = b.slice_of(high, !operation.keeps_left());
-        count += select(operation, x, y).count();
+        count += count_both(operation, x, y);
         left &= left.wrapping_sub(1);
     }
     count

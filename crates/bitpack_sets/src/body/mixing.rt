@@ -6,14 +6,13 @@ ghost use Rattle.bitpack_sets.specs.Follows.{Follow};
 ghost use Rattle.bitpack_sets.specs.Lists.{in_bitmap};
 ghost use Rattle.bitpack_sets.specs.Operations.{holds, those};
 ghost use Rattle.bitpack_sets.specs.Reads.{has};
-ghost use Rattle.bitpack_sets.specs.Selections.{AreMarks, numbers_at, parts_numbers, selected};
+ghost use Rattle.bitpack_sets.specs.Selections.{numbers_at, parts_numbers};
 
 use crate::bitmap::marking::test_bit;
-use crate::bitmap::unpacking::unpack_bits;
+use crate::bitmap::unpacking::{count_bits, unpack_bits, unpack_bits_within};
 use crate::blocks::Blocks;
 use crate::operation::Operation;
 use crate::slice::Slice;
-use crate::slice::selecting::{Selection, select};
 
 /// Writes the numbers that an operation on blocks and on a bitmap of these high bytes gives, each with `base` added, if there is room for all.
 /// Returns the index after the last, past the slice if there is no room.
@@ -58,65 +57,79 @@ fn mix_each(
     let mut next = at;
     for high in &highs[..many] {
         let slice = blocks.slice(*high as usize);
-        let selection = mix_slice(operation, slice, others, words, *high as usize);
-        next = put_selected(selection, base + 256 * *high, out, next);
+        let start = base + 256 * *high;
+        next = put_mixed(operation, slice, others, words, *high as usize, start, out, next);
     }
     next
 }
 
-/// The numbers that an operation gives on a slice and on the bits of its high byte.
+/// Writes the numbers that an operation gives on a slice and on the bits of its high byte, each with `base` added, if there is room for all.
+/// Returns the index after the last, past the slice if there is no room.
 #[inline(always)]
-fn mix_slice<'a>(
+fn put_mixed(
     operation: Operation,
-    slice: Slice<'a>,
+    slice: Slice,
     others: &[u64; 4],
     words: &[u64; 1024],
     high: usize,
-) -> Selection<'a>
-    requires { high < 256 }
-    ensures marks { AreMarks result }
-    ensures numbers { selected result ≡ those 256 (λ i. holds operation (has i (numbers_at slice.entry)) (in_bitmap others.now words.now (256 * high + i))) }
+    base: u32,
+    out: &mut [u32],
+    at: usize,
+) -> usize
+    requires high { high < 256 }
+    requires fits { base + 256 ≤ 2 ^ 32 }
+    requires start { at ≤ 2 ^ 33 }
+    ensures { Follow (map (λ i. base + i) (those 256 (λ i. holds operation (has i (numbers_at slice.entry)) (in_bitmap others.now words.now (256 * high + i))))) out.old out.new at result }
 {
     if test_bit(others, high) {
         let from = 4 * high;
-        return mix_bits(operation, slice.bits(), &words[from..from + 4]);
+        let bits = mix_bits(operation, slice.bits(), &words[from..from + 4]);
+        return put_bits(&bits, base, out, at);
     }
-    let none = Slice {
-        slices: &[],
-        start: 0,
-        count: 0,
-    };
-    select(operation, slice, none)
+    if !operation.keeps_left() {
+        return at;
+    }
+    put_alone(slice, base, out, at)
 }
 
 /// The bits that an operation on two sets of 256 gives.
 #[inline(always)]
-fn mix_bits<'a>(operation: Operation, x: [u64; 4], y: &[u64]) -> Selection<'a>
+fn mix_bits(operation: Operation, x: [u64; 4], y: &[u64]) -> [u64; 4]
     requires { length y.now ≡ 4 }
-    ensures marks { AreMarks result }
-    ensures numbers { selected result ≡ those 256 (λ i. holds operation (has_bit x i) (has_bit y.now i)) }
+    ensures { those 256 (has_bit result) ≡ those 256 (λ i. holds operation (has_bit x i) (has_bit y.now i)) }
 {
-    Selection::Bits([
+    [
         operation.word(x[0], y[0]),
         operation.word(x[1], y[1]),
         operation.word(x[2], y[2]),
         operation.word(x[3], y[3]),
-    ])
+    ]
 }
 
-/// Writes selected numbers, each with `base` added, if there is room for all. Returns the index after the last,
-/// past the slice if there is no room.
+/// Writes the numbers of bits that are 1.
 #[inline(always)]
-fn put_selected(selection: Selection, base: u32, out: &mut [u32], at: usize) -> usize
-    requires marks { AreMarks selection }
+fn put_bits(bits: &[u64; 4], base: u32, out: &mut [u32], at: usize) -> usize
     requires fits { base + 256 ≤ 2 ^ 32 }
     requires start { at ≤ 2 ^ 33 }
-    ensures { Follow (map (λ i. base + i) (selected selection.entry)) out.old out.new at result }
+    ensures { Follow (map (λ i. base + i) (those 256 (has_bit bits.now))) out.old out.new at result }
 {
-    if at < out.len() {
-        if let Some(end) = selection.unpack_within(base, out, at) {
-            return end;
-        }
+    let end = at + count_bits(bits);
+    if end <= out.len() {
+        return unpack_bits_within(bits, base, out, at);
     }
-    at + selection.count()
+    end
+}
+
+/// Writes the numbers of a slice.
+#[inline(always)]
+fn put_alone(slice: Slice, base: u32, out: &mut [u32], at: usize) -> usize
+    requires fits { base + 256 ≤ 2 ^ 32 }
+    requires start { at ≤ 2 ^ 33 }
+    ensures { Follow (map (λ i. base + i) (numbers_at slice.entry)) out.old out.new at result }
+{
+    let end = at + slice.count;
+    if end <= out.len() {
+        return slice.unpack(base, out, at);
+    }
+    end
 }

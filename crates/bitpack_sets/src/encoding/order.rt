@@ -42,7 +42,7 @@ pub(crate) fn test_more(count: usize, last: u32, more: &[u32]) -> Result<(), Set
 }
 
 /// Tests that ids can follow the ids of a set so far.
-pub(crate) fn test_pushed(so_far: &[u32], pushed: &[u32]) -> Result<(), SetError>
+pub fn test_pushed(so_far: &[u32], pushed: &[u32]) -> Result<(), SetError>
     requires { IsSet so_far.now }
     ensures fault { Finds result (refusal (so_far.now ++ pushed.now)) }
     ensures set { OnOk result (IsSet (so_far.now ++ pushed.now)) }
@@ -61,7 +61,7 @@ fn last_of(ids: &[u32]) -> u32
 }
 
 /// The first position whose id is not above the one before it. Most ids increase, so that no position is looked for.
-pub(crate) fn first_unsorted(ids: &[u32]) -> Option<usize>
+pub fn first_unsorted(ids: &[u32]) -> Option<usize>
     ensures found { result ≡ first_fall 0 ids.now }
     ensures within { IfSome result (λ position. position < length ids.now) }
 {

@@ -1,9 +1,6 @@
 //! What the tests assert, each once, and the vectors that they begin with. A proof grows with the assertions and with the early
 //! returns of a function: so a test calls these, and if memory runs out they end it.
 
-ghost use Rattle.std.specs.Prelude.{◌↔◌, IsTrue};
-ghost use Rattle.std.specs.List.Sorted.{IsStrictlyIncreasing};
-
 use bitpack::ListError;
 use std::alloc::Global;
 use std::process::Abort;
@@ -80,18 +77,6 @@ pub(super) fn kept_bytes(rt: &impl Abort, out: &Vec<u8>, room: usize) {
 pub(super) fn kept_values(rt: &impl Abort, out: &Vec<u32>, first: u32, room: usize) {
     same_values(rt, out, &[first]);
     same_number(rt, out.capacity(), room, "room");
-}
-
-/// Whether each value is below the next.
-pub(super) fn is_increasing(values: &[u32]) -> bool
-    ensures { IsTrue result ↔ IsStrictlyIncreasing values.now }
-{
-    for index in 1..values.len() {
-        if values[index] <= values[index - 1] {
-            return false;
-        }
-    }
-    true
 }
 
 /// A vector that holds the byte 9.

@@ -2,9 +2,7 @@
 
 ghost use Rattle.std.proofs.Common.{lit≤, refl, rules};
 
-use super::calls::{
-    Version, decode1, encode_as, encode_to, encode1, open, open_any, retain, unpack, upgrade3, walk,
-};
+use super::calls::{decode1, encode1, encode2, open, unpack, upgrade};
 use super::checks::{holds, same_bytes, same_number, same_values, steps, succeeds};
 use bitpack::ListKind;
 use bitpacking::{BitPacker, BitPacker1x, Kind};
@@ -121,24 +119,13 @@ fn text1(rt: &impl Abort, alloc: Global, values: &[u32], blocks: usize) -> Vec<u
     text
 }
 
-/// Likewise in a later version, also written to a slice.
-fn text_of(
-    rt: &impl Abort,
-    alloc: Global,
-    version: Version,
-    values: &[u32],
-    blocks: usize,
-) -> Vec<u8> {
+/// Likewise in version 2.
+fn text2(rt: &impl Abort, alloc: Global, values: &[u32], blocks: usize) -> Vec<u8> {
     let counts = new_counts(rt, alloc);
     let mut text = Vec::new(alloc);
-    let outcome = encode_as(version, &Counting::of(counts), KIND, values, &mut text);
+    let outcome = encode2(&Counting::of(counts), KIND, values, &mut text);
     succeeds(rt, outcome, &[]);
-    counted(rt, counts, [blocks, blocks, 0], "encode");
-    let mut bytes = [0; 65_536];
-    let len = encode_to(version, &Counting::of(counts), KIND, values, &mut bytes);
-    let twice = blocks.wrapping_mul(2);
-    counted(rt, counts, [twice, twice, 0], "encode_to");
-    same_number(rt, len.unwrap_or(0), text.len(), "bytes");
+    counted(rt, counts, [blocks, blocks, 0], "version 2");
     text
 }
 
@@ -146,24 +133,18 @@ fn text_of(
 fn each_block_is_packed_once(rt: HostRuntime) {
     let values = steps(&rt, rt.alloc(), 0, 3, 32 * 1024 + 7);
     text1(&rt, rt.alloc(), &values, 1024);
-    text_of(&rt, rt.alloc(), Version::Two, &values, 1024);
-    text_of(&rt, rt.alloc(), Version::Three, &values, 1024);
+    text2(&rt, rt.alloc(), &values, 1024);
 }
 
-/// Opening, unpacking, walking and searching in order unpack each of five blocks once.
+/// Opening and copying unpack each of five blocks once.
 fn list_unpacks_once(rt: &impl Abort, alloc: Global, text: &[u8], values: &[u32]) {
     let counts = new_counts(rt, alloc);
-    let list = open_any(&Counting::of(counts), text).expect(rt, "a list");
+    let list = open(&Counting::of(counts), text).expect(rt, "a list");
     counted(rt, counts, [0, 0, 5], "open");
     let mut out = Vec::new(alloc);
     unpack(rt, &list, &mut out);
     same_values(rt, &out, values);
     counted(rt, counts, [0, 0, 10], "append_to");
-    same_number(rt, walk(&list), values.len(), "values");
-    counted(rt, counts, [0, 0, 15], "a cursor");
-    retain(rt, &list, &mut out);
-    same_values(rt, &out, values);
-    counted(rt, counts, [0, 0, 20], "intersect_in_place");
 }
 
 #[test]
@@ -171,17 +152,16 @@ fn each_block_is_unpacked_once(rt: HostRuntime) {
     let alloc = rt.alloc();
     let values = steps(&rt, alloc, 0, 3, 32 * 5 + 7);
     let one = text1(&rt, alloc, &values, 5);
-    let two = text_of(&rt, alloc, Version::Two, &values, 5);
-    let three = text_of(&rt, alloc, Version::Three, &values, 5);
+    let two = text2(&rt, alloc, &values, 5);
     list_unpacks_once(&rt, alloc, &two, &values);
-    list_unpacks_once(&rt, alloc, &three, &values);
     let counts = new_counts(&rt, alloc);
     let mut out = Vec::new(alloc);
     let found = decode1(&Counting::of(counts), &one, &mut out);
     holds(&rt, found == Ok(KIND), "a text of version 1");
     counted(&rt, counts, [0, 0, 5], "decode");
     let mut text = Vec::new(alloc);
-    succeeds(&rt, upgrade3(&Counting::of(counts), &two, &mut text), &two);
-    same_bytes(&rt, &text, &three);
-    counted(&rt, counts, [0, 0, 10], "upgrade");
+    succeeds(&rt, upgrade(&Counting::of(counts), &one, &mut text), &one);
+    same_bytes(&rt, &text, &two);
+    // `upgrade` unpacks each block to test it, and once more for its skip entry.
+    counted(&rt, counts, [0, 0, 15], "upgrade");
 }

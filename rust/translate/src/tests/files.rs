@@ -109,8 +109,8 @@ fn a_refusal_names_its_file_and_writes_nothing() {
 #[test]
 fn a_crate_that_is_not_there_is_named() {
     let folder = Folder::new("missing");
-    fs::remove_dir_all(folder.0.join("crates/bitpack_sorted")).unwrap();
-    assert!(folder.translate().unwrap_err().contains("bitpack_sorted/src: "));
+    fs::remove_dir_all(folder.0.join("crates/bitpack_sets")).unwrap();
+    assert!(folder.translate().unwrap_err().contains("bitpack_sets/src: "));
 }
 
 #[test]
@@ -120,5 +120,5 @@ fn two_translations_are_the_same() {
     let made = translate(&crates, &one.made("")).unwrap();
     assert_eq!(translate(&crates, &other.made("")), Ok(made));
     let same = process::Command::new("diff").arg("-r").args([one.made(""), other.made("")]).status().unwrap();
-    assert!(same.success() && made > 200);
+    assert!(same.success() && made > 100);
 }

@@ -1,7 +1,6 @@
 -- The clauses of the law are lemmas on encoded lists and on loose widths.
 use Rattle.bitpack_lists.proofs.lemmas.v1.Soundness1.{one_text1, one_list1, no_fault1, loose_fits_smaller}
 use Rattle.bitpack_lists.proofs.lemmas.v2.OneText2.{one_text2, one_list2, no_fault2}
-use Rattle.bitpack_lists.proofs.lemmas.v3.Soundness3.{no_fault3, one_list3, one_text3}
 use Rattle.bitpack_lists.proofs.laws.one_text.Goals as goal
 
 pub returns-clause-text : goal.returns-clause-text
@@ -24,12 +23,3 @@ returns-clause-list2 c = one_list2
 
 pub returns-clause-fault2 : goal.returns-clause-fault2
 returns-clause-fault2 c = no_fault2
-
-pub returns-clause-text3 : goal.returns-clause-text3
-returns-clause-text3 c = one_text3
-
-pub returns-clause-list3 : goal.returns-clause-list3
-returns-clause-list3 c = one_list3
-
-pub returns-clause-fault3 : goal.returns-clause-fault3
-returns-clause-fault3 c = no_fault3

@@ -1,5 +1,5 @@
 -- The blocks of values, one after the other: what is left of the values before each, and the kind of the next.
--- Serves blocks, laws, opened, v2, v3, v4.
+-- Serves blocks, laws, opened, v2.
 use Rattle.std.proofs.Common.{◌≡◌, ℕ, zero, suc, ◌+◌, ◌*◌, ◌/◌, ◌^◌, ◌<◌, ◌≤◌, List, length, take, drop, get_or, refl, ◌∙◌, ap, arith, add-one}
 use Rattle.std.proofs.lemmas.List.{drop-drop, length-take, length-drop, get_or-take, get_or-drop}
 use Rattle.std.proofs.lemmas.List.Elements.{All-take, All-drop}
@@ -63,14 +63,8 @@ module _ (lanes len i : ℕ) (values left : List ℕ) (some : 1 ≤ lanes) (whol
   pub next_end : 32 * lanes * (i + 1) ≤ length values
   next_end = block_end (32 * lanes) i (length values) (rw whole at lt)
 
-  pub next_room : len ≤ length left
-  next_room = omega (arith, next_end, ap length is, length-drop (32 * lanes * i) values, whole)
-
   pub next_block : take len left ≡ block_of lanes values i
   next_block = rw (whole, is) refl
 
   pub next_left : drop len left ≡ drop (32 * lanes * (i + 1)) values
   next_left = rw (whole, is) (values_after lanes i values)
-
-  pub next_length : length (take len left) ≡ 32 * lanes
-  next_length = ap length next_block ∙ length-block_of lanes i values next_end

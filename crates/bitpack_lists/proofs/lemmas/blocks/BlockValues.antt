@@ -1,5 +1,5 @@
 -- Version 2: the block of a body.
--- Serves blocks, v4.
+-- Serves blocks.
 use Rattle.std.proofs.Common.{◌≡◌, ℕ, ◌^◌, ◌<◌, ◌≤◌, List, length}
 use Rattle.bitpacking.specs.declared.kind.Kind.{Kind}
 use Rattle.bitpacking.specs.Codes.{AreWords, codes, start, values_of}

@@ -1,5 +1,5 @@
 -- A chain grows by a block at its end, and is read back.
--- Serves chain, laws, opened, v1, v3, v4.
+-- Serves chain, laws, opened, v1.
 use Rattle.std.proofs.Common.{◌≡◌, ℕ, zero, suc, ◌+◌, ◌-◌, ◌*◌, ◌^◌, ◌<◌, ◌≤◌, List, [], ◌∷◌, ◌++◌, length, take, drop, get_or, sum, refl, sym, ◌∙◌, ap, arith, append_assoc}
 use Rattle.std.proofs.lemmas.List.{take_at, drop_at, get_or_append_left, get_or-take, append-nil, take-append-drop, length-take, length-drop, drop-drop, take_all, drop_all}
 use Rattle.std.proofs.lemmas.List.Sums.{sum_by-append, sum_by-cons, sum_by-take-drop}

@@ -1,6 +1,6 @@
 -- Version 2: what is where in the rest of the bytes stays as bytes are appended; skip entries and bodies, one more at a
 -- time.
--- Serves blocks, laws, v2, v3, writing.
+-- Serves blocks, laws, v2.
 use Rattle.std.proofs.Common.{◌≡◌, ℕ, zero, suc, ◌+◌, ◌-◌, ◌*◌, ◌^◌, ◌<◌, ◌≤◌, List, [], ◌∷◌, ◌++◌, length, drop, get_or, refl, sym, ◌∙◌, ap, arith, inl, inr, add-one}
 use Rattle.std.proofs.lemmas.Bool.{cases_lt}
 use Rattle.std.proofs.lemmas.List.{drop-append-le, take-append-le, drop_at, drop-drop, take_all, get_or_append_left, get_or-append-add, length-append, length-drop, append-nil}

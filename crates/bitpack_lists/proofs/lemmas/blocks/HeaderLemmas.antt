@@ -1,5 +1,5 @@
 -- A header without a fault is the header of a kind and a count, and the other way round.
--- Serves ForCallers, blocks, header, laws, opened, v1, v2, v3, v4, writing.
+-- Serves ForCallers, blocks, header, laws, opened, v1, v2.
 use Rattle.std.proofs.Common.{◌≡◌, ℕ, zero, suc, ◌^◌, ◌<◌, ◌≤◌, Bool, true, false, cond, List, [], ◌∷◌, ◌++◌, length, take, drop, get_or, Option, Some, None, refl, sym, ◌∙◌, ap, arith}
 use Rattle.std.proofs.lemmas.Bool.{le-ltb, ltb-false, eq-eqb, eqb-true, not-false}
 use Rattle.std.proofs.lemmas.List.{length-take, take-append-drop}

@@ -1,5 +1,5 @@
 -- Version 1: a header before blocks and tail is an encoded list.
--- Serves ForCallers, blocks, laws, opened, upgrading, v1, v2, v3, v4.
+-- Serves ForCallers, blocks, opened, v1, v2.
 use Rattle.std.proofs.Common.{◌≡◌, ℕ, ◌*◌, ◌/◌, ◌^◌, ◌<◌, ◌≤◌, List, ◌++◌, length, true, false, Result, Ok, Err, OnOk, OnErr, is_err, arith}
 use Rattle.std.proofs.lemmas.List.{take_at, drop_at}
 use Rattle.bitpacking.specs.Bits.{AreBytes}

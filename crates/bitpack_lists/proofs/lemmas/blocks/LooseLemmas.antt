@@ -1,11 +1,11 @@
--- A width is loose exactly where the codes of the bytes fit a smaller one.
--- Serves blocks, laws, v1, v3, v4.
-use Rattle.std.proofs.Common.{◌≡◌, ◌↔◌, ℕ, zero, suc, mul-suc, ◌+◌, ◌-◌, ◌*◌, ◌/◌, ◌%◌, ◌^◌, ◌<◌, ◌≤◌, ◌⊎◌, max, Bool, true, false, ltb, List, length, get_or, bit_or, refl, sym, ◌∙◌, ap, arith, Decides, inl, inr}
+-- A width is loose exactly if the codes of the bytes fit a smaller one.
+-- Serves blocks, laws, v1.
+use Rattle.std.proofs.Common.{◌≡◌, ◌↔◌, ℕ, zero, suc, ◌+◌, ◌-◌, ◌*◌, ◌/◌, ◌%◌, ◌^◌, ◌<◌, ◌≤◌, ◌⊎◌, max, Bool, true, false, ltb, List, length, get_or, bit_or, refl, sym, ◌∙◌, ap, arith, Decides, inl, inr}
 use Rattle.std.proofs.Math.Nat.{div-lt_iff_lt-mul}
 use Rattle.std.specs.Int.{bit_at}
 use Rattle.std.specs.List.{list_all}
 use Rattle.std.proofs.lemmas.Bool.{cases_lt, both_ways, false_from_ne_true, lt-ltb, ltb-true}
-use Rattle.std.proofs.lemmas.Nat.{div-mul-add, mod-mul-add, mul-add-lt, mul-le}
+use Rattle.std.proofs.lemmas.Nat.{div-mul-add, mod-mul-add, mul-add-lt}
 use Rattle.std.proofs.lemmas.Nat.Bits.{bit_at_or, bit_at-lt, bit_at_above}
 use Rattle.std.proofs.lemmas.List.Elements.{All-from_get_or, All-get_or}
 use Rattle.std.proofs.lemmas.Bool.Decides.{Decides-by_and, Decides-ltb, Decides-and, Decides-like}
@@ -163,13 +163,3 @@ rows_step lanes width i body found decides none before row lane lt within has =
           let here : row ≡ i = omega arith in
           both_ways found none (decides.1 (lane, within, rw (← here) has))
     ]
-
--- The bytes of a bit of each lane are within the body.
-pub room-row : (lanes width row : ℕ) (body : List ℕ) → 1 ≤ width → row < 32 → length body ≡ size lanes width
-    → 4 * (lanes * ((row * width + (width - 1)) / 32)) + 4 * lanes ≤ length body
-room-row lanes width row body positive lt long =
-    let bit : ℕ = row * width + (width - 1) in
-    let below : bit < width * 32 = mul-add-lt row width (width - 1) 32 lt (omega arith) in
-    let word : bit / 32 + 1 ≤ width = omega arith in
-    let le : lanes * (bit / 32 + 1) ≤ lanes * width = mul-le lanes (bit / 32 + 1) lanes width (omega arith) word in
-    omega (arith, mul-suc lanes (bit / 32))

@@ -1,5 +1,5 @@
 -- How long an encoded list of either version is, by the least widths of its blocks.
--- Serves blocks, chain, laws, v1, v3, writing.
+-- Serves blocks, chain, v1, v2.
 use Rattle.std.proofs.Common.{◌≡◌, ℕ, zero, suc, ◌+◌, ◌-◌, ◌*◌, ◌%◌, ◌<◌, ◌≤◌, List, [], ◌∷◌, length, take, drop, get_or, sum, refl, sym, ◌∙◌, ap, arith, mul-suc, add-one, zero-add}
 use Rattle.std.proofs.Math.Nat.{mod-eq-sub-mul-div}
 use Rattle.std.proofs.Math.Seq.{drop-cons}
@@ -125,10 +125,3 @@ length-rest2 lanes blocks size_of tail kind values rest some measured are =
     let total : sum (entry_widths rest 0 blocks) ≡ widths_before rest blocks =
     sym (zero-add (sum (entry_widths rest 0 blocks))) ∙ sum-entry_widths rest 0 blocks ∙ ap (widths_before rest) (zero-add blocks) in
     rw total at (measured (entry_widths rest 0 blocks) (length-entry_widths rest 0 blocks) least) ∙ omega arith
-
--- How long the whole blocks are, as they were measured.
-pub blocks_long : (lanes blocks size_of : ℕ) (kind : ListKind) (values rest : List ℕ) → 1 ≤ lanes
-    → ((all : List ℕ) → length all ≡ blocks → LeastWidths lanes (first_kind kind) values all → size_of ≡ 9 * blocks + 4 * lanes * sum all)
-    → AreEntries lanes blocks kind values rest → size_of ≡ tail_start lanes blocks rest
-blocks_long lanes blocks size_of kind values rest some measured are =
-    omega (arith, length-rest2 lanes blocks (7 + size_of) 0 kind values rest some (λ all long least. omega (arith, measured all long least)) are)

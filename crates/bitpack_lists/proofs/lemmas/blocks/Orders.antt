@@ -1,5 +1,5 @@
 -- The first position out of order, a part of a list at a time.
--- Serves blocks, opened, v2, v3, v4.
+-- Serves blocks, v2.
 use Rattle.std.proofs.Common.{◌≡◌, ℕ, zero, suc, ◌+◌, ◌-◌, ◌<◌, ◌≤◌, Bool, true, false, cond, List, length, get_or, Option, Some, None, refl, sym, ◌∙◌, ap, arith, inl, inr, add-one, zero-add}
 use Rattle.std.specs.Option.{option_or}
 use Rattle.std.proofs.lemmas.Bool.{cases_lt}

@@ -1,10 +1,10 @@
 -- Parts of lists of bytes, and the words of bytes.
--- Serves ForCallers, blocks, laws, numbers, opened, v1, v2, v3, v4.
+-- Serves ForCallers, blocks, laws, numbers, opened, v1, v2.
 use Rattle.std.proofs.Common.{◌≡◌, ℕ, zero, suc, ◌+◌, ◌*◌, ◌^◌, ◌<◌, ◌≤◌, List, [], ◌∷◌, ◌++◌, length, take, drop, get_or, refl, sym, ◌∙◌, ap, arith, inl, inr, add-zero}
 use Rattle.std.specs.Int.{w32, from_le_bytes}
 use Rattle.std.proofs.lemmas.Bool.{cases_lt}
 use Rattle.std.proofs.lemmas.List.{ext_get_or, get_or-take, get_or-drop, get_or_past, length-take, length-drop, take-append-drop, drop_at, take_at}
-use Rattle.std.proofs.lemmas.List.Elements.{All-nil, All-cons, All-drop}
+use Rattle.std.proofs.lemmas.List.Elements.{All-nil, All-cons}
 use Rattle.std.proofs.lemmas.Nat.{le_bytes_4, from_le_bytes-to_le_bytes_4}
 use Rattle.bitpacking.specs.Bits.{AreBytes}
 use Rattle.bitpacking.specs.Codes.{AreWords}
@@ -32,9 +32,6 @@ AreBytes-left xs ys small = rw (take_at xs ys (length xs) refl) at (AreBytes-tak
 
 pub AreBytes-right : (xs ys : List ℕ) → AreBytes (xs ++ ys) → AreBytes ys
 AreBytes-right xs ys small = rw (drop_at xs ys (length xs) refl) at (AreBytes-drop (length xs) (xs ++ ys) small)
-
-pub AreWords-right : (xs ys : List ℕ) → AreWords (xs ++ ys) → AreWords ys
-AreWords-right xs ys words = rw (drop_at xs ys (length xs) refl) at (All-drop (λ v. v < 2 ^ 32) (length xs) (xs ++ ys) words)
 
 -- What the type of a vector of bytes says of its items.
 pub AreBytes-from_items : (bytes : List ℕ) → ((k d : ℕ) → k < length bytes → get_or bytes k d < 2 ^ 8) → AreBytes bytes

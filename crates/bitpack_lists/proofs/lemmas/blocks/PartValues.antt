@@ -1,5 +1,5 @@
 -- The values of an encoded list by position: of blocks, which are a parameter, and of a tail.
--- Serves blocks, opened, v3, v4.
+-- Serves blocks, opened, v2.
 use Rattle.std.proofs.Common.{◌≡◌, ℕ, ◌+◌, ◌-◌, ◌*◌, ◌/◌, ◌%◌, ◌^◌, ◌<◌, ◌≤◌, List, map, length, drop, get_or, None, sym, subst, ◌∙◌, ap, arith, refl, inl, inr}
 use Rattle.std.specs.List.{range_with_len}
 use Rattle.std.proofs.Math.Nat.{div-add-mod}

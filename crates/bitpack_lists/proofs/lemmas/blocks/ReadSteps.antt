@@ -1,5 +1,5 @@
 -- The loop that reads bytes without faults: what is after the blocks so far.
--- Serves blocks, opened, v1, v2, v4.
+-- Serves blocks, opened, v1, v2.
 use Rattle.std.proofs.Common.{◌≡◌, ℕ, zero, suc, ◌+◌, ◌-◌, ◌*◌, ◌^◌, ◌<◌, ◌≤◌, List, [], ◌∷◌, ◌++◌, length, take, drop, get_or, None, refl, sym, ◌∙◌, ap, arith, append_assoc, false, mul-suc, one-add}
 use Rattle.std.proofs.lemmas.List.{append-nil, drop_all, take_all, length-append, length-take-le, length-drop, take-append-drop, take_at, drop_at, get_or_append_left, get_or-take}
 use Rattle.std.proofs.lemmas.Bool.{both_ways, false_from_ne_true}

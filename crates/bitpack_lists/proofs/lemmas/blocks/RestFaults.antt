@@ -1,5 +1,5 @@
 -- Version 2: the first fault of many blocks, of an entry and of a body.
--- Serves blocks, opened, v4.
+-- Serves blocks, opened.
 use Rattle.std.proofs.Common.{◌≡◌, ◌≢◌, ℕ, zero, suc, ◌+◌, ◌-◌, ◌*◌, ◌<◌, ◌≤◌, true, false, eqb, List, get_or, Option, Some, None, refl, ap, arith, inl, inr, add-one}
 use Rattle.std.specs.Option.{option_or}
 use Rattle.std.proofs.lemmas.Bool.{cases_lt, lt-ltb, le-ltb, ltb-false, eq-eqb, eqb-true, not-false, false_from_ne_true}

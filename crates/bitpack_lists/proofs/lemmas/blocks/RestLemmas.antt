@@ -1,6 +1,6 @@
 -- Version 2: skip entries and bodies with the tail after them are the rest of the bytes, and with the header before it
 -- an encoded list; how long it is.
--- Serves laws, v2, v3, writing.
+-- Serves laws, v2.
 use Rattle.std.proofs.Common.{◌≡◌, ℕ, ◌+◌, ◌-◌, ◌*◌, ◌/◌, ◌%◌, ◌^◌, ◌≤◌, List, ◌++◌, length, drop, None, refl, sym, ◌∙◌, ap, arith}
 use Rattle.std.proofs.Math.Nat.{mod-eq-sub-mul-div}
 use Rattle.std.proofs.lemmas.List.{take_at, drop_at, length-append, length-drop}

@@ -1,21 +1,20 @@
 -- Version 2: what right skip entries say of the bodies, and the value at each position that the rest of the bytes
 -- encodes.
--- Serves blocks, opened, v3, v4.
+-- Serves blocks, opened.
 use Rattle.std.proofs.Common.{◌≡◌, ℕ, zero, suc, ◌+◌, ◌-◌, ◌*◌, ◌^◌, ◌<◌, ◌≤◌, List, length, drop, get_or, None, sym, ◌∙◌, ap, arith}
 use Rattle.std.proofs.lemmas.List.{length-drop, length-take-le}
 use Rattle.bitpacking.specs.Bits.{AreBytes}
 use Rattle.bitpacking.specs.Codes.{AreWords, start}
 use Rattle.bitpacking.specs.Layout.{size, Holds}
-use Rattle.bitpacking.specs.Words.{word}
 use Rattle.bitpacking.proofs.ForCallers.{as_many_codes}
 use Rattle.bitpack_lists.specs.declared.list_kind.ListKind.{ListKind}
 use Rattle.bitpack_lists.specs.declared.list_kind.ListKind.TheVariants as lists
 use Rattle.bitpack_lists.specs.Parts.{kind_after}
-use Rattle.bitpack_lists.specs.Version2.{block_at, body_at, body_start, entry_fault2, first_fault, kind_at, last_at, offset_at, tail_start, value_at, value_with, width_at, widths_before}
+use Rattle.bitpack_lists.specs.Version2.{block_at, body_at, body_start, entry_fault2, first_fault, kind_at, last_at, offset_at, tail_start, value_with, width_at, widths_before}
 use Rattle.bitpack_lists.proofs.lemmas.blocks.BlockValues.{AreWords-block, Holds-values_of}
 use Rattle.bitpack_lists.proofs.lemmas.blocks.EntryLemmas.{body_end}
 use Rattle.bitpack_lists.proofs.lemmas.blocks.PartLemmas.{AreBytes-drop, word-lt}
-use Rattle.bitpack_lists.proofs.lemmas.blocks.PartValues.{value_in_parts-block, value_in_parts-tail}
+use Rattle.bitpack_lists.proofs.lemmas.blocks.PartValues.{value_in_parts-block}
 use Rattle.bitpack_lists.proofs.lemmas.blocks.RestFaults.{entry_right, first_fault-none}
 
 pub start-kind_after : (kind : ListKind) (last : ℕ → ℕ) (block : ℕ) → ((before : ℕ) → last before < 2 ^ 32) → start (kind_after kind last block) < 2 ^ 32
@@ -72,18 +71,6 @@ module _ (lanes blocks : ℕ) (kind : ListKind) (rest : List ℕ) (tail : ℕ �
   pub value_with-block : (block k : ℕ) → block < blocks → k < 32 * lanes
       → value_with lanes blocks kind rest tail (32 * lanes * block + k) ≡ get_or (block_at lanes blocks kind rest block) k 0
   value_with-block = value_in_parts-block lanes blocks (block_at lanes blocks kind rest) tail some
-
-  pub value_with-tail : (k : ℕ) → value_with lanes blocks kind rest tail (32 * lanes * blocks + k) ≡ tail k
-  value_with-tail = value_in_parts-tail lanes blocks (block_at lanes blocks kind rest) tail some
-
--- The tail of version 2 is words.
-module _ (lanes blocks : ℕ) (kind : ListKind) (rest : List ℕ) (some : 1 ≤ lanes) where
-  pub value_at-block : (block k : ℕ) → block < blocks → k < 32 * lanes
-      → value_at lanes blocks kind rest (32 * lanes * block + k) ≡ get_or (block_at lanes blocks kind rest block) k 0
-  value_at-block = value_with-block lanes blocks kind rest (word (drop (tail_start lanes blocks rest) rest)) some
-
-  pub value_at-tail : (k : ℕ) → value_at lanes blocks kind rest (32 * lanes * blocks + k) ≡ word (drop (tail_start lanes blocks rest) rest) k
-  value_at-tail = value_with-tail lanes blocks kind rest (word (drop (tail_start lanes blocks rest) rest)) some
 
 -- The last value of a block, as the block's kind goes on from it.
 pub value_with-last : (lanes blocks : ℕ) (kind : ListKind) (rest : List ℕ) (tail : ℕ → ℕ) (block last : ℕ) → 1 ≤ lanes → block < blocks

@@ -1,5 +1,5 @@
 -- The skip entries and the bodies of values are one list of bytes in the rest of an encoded list.
--- Serves opened, v2, v3, v4.
+-- Serves v2.
 use Rattle.std.proofs.Common.{◌≡◌, ℕ, zero, suc, ◌+◌, ◌*◌, ◌<◌, ◌≤◌, List, [], ◌∷◌, ◌++◌, length, take, drop, get_or, refl, sym, ◌∙◌, ap, arith, add-zero, take-add}
 use Rattle.std.proofs.lemmas.List.{drop-drop, get_or-drop, length-drop, take-append-drop}
 use Rattle.bitpacking.specs.Bits.{AreBytes}

@@ -1,5 +1,5 @@
 -- Searches: halves of a span, values in order, and the first that reaches a target.
--- Serves blocks, laws, opened, v4.
+-- Serves blocks, opened.
 use Rattle.std.proofs.Common.{◌≡◌, ◌≢◌, ℕ, zero, suc, ◌+◌, ◌-◌, ◌*◌, ◌/◌, ◌^◌, ◌<◌, ◌≤◌, Bool, true, false, cond, leb, List, length, get_or, Option, Some, None, refl, ◌∙◌, ap, arith, inl, inr}
 use Rattle.std.specs.Option.{option_or, option_map}
 use Rattle.std.proofs.lemmas.Bool.{cases_lt, le-leb, leb-false, lt-leb, lt-ltb, ltb-false}
@@ -8,7 +8,7 @@ use Rattle.bitpack_lists.specs.declared.list_kind.ListKind.TheVariants as lists
 use Rattle.bitpack_lists.specs.inner.Opening.{NeverFalls, is_fall}
 use Rattle.bitpack_lists.specs.Search.{first_reaching}
 use Rattle.bitpack_lists.specs.Version2.{is_out, least_below}
-use Rattle.bitpack_lists.proofs.lemmas.blocks.Orders.{least_below-found, least_below-further, least_below-next, least_below-same}
+use Rattle.bitpack_lists.proofs.lemmas.blocks.Orders.{least_below-found, least_below-further, least_below-same}
 
 -- ---- halves
 
@@ -142,9 +142,6 @@ reaches value target position = leb target (value position)
 module _ (value : ℕ → ℕ) (target : ℕ) where
   pub none_before : (bound : ℕ) → ((k : ℕ) → k < bound → value k < target) → least_below (reaches value target) bound ≡ None
   none_before bound below = least_below-all (reaches value target) bound (λ k lt. lt-leb target (value k) (below k lt))
-
-  pub none_next : (bound : ℕ) → least_below (reaches value target) bound ≡ None → value bound < target → least_below (reaches value target) (bound + 1) ≡ None
-  none_next bound none lt = least_below-next (reaches value target) bound none (lt-leb target (value bound) lt)
 
   pub first_none : (bound : ℕ) → least_below (reaches value target) bound ≡ None → None ≡ first_reaching value bound target
   first_none bound none = rw none refl

@@ -1,6 +1,6 @@
 -- Blocks whose steps are at most 2 ^ 32 together wrap at most once, so that the last value shows that they are in order.
--- Serves blocks, v3, v4.
-use Rattle.std.proofs.Common.{◌≡◌, ℕ, zero, suc, ◌+◌, ◌-◌, ◌*◌, ◌%◌, ◌^◌, ◌<◌, ◌≤◌, Bool, cond, List, [], ◌∷◌, ◌++◌, length, get_or, sum, add-one, true, false, Option, Some, None, IfSome, refl, sym, ◌∙◌, ap, arith}
+-- Serves blocks.
+use Rattle.std.proofs.Common.{◌≡◌, ℕ, zero, suc, ◌+◌, ◌-◌, ◌*◌, ◌%◌, ◌^◌, ◌<◌, ◌≤◌, Bool, cond, List, [], ◌∷◌, length, get_or, sum, add-one, true, false, Option, Some, None, IfSome, refl, sym, ◌∙◌, ap, arith}
 use Rattle.std.specs.List.{sum_by}
 use Rattle.std.proofs.lemmas.Bool.{lt-leb, le-ltb}
 use Rattle.std.proofs.lemmas.List.Elements.{All-from_get_or}
@@ -16,7 +16,7 @@ use Rattle.bitpack_lists.specs.Version2.{is_out, least_below}
 use Rattle.bitpack_lists.specs.inner.CodeSteps.{sums}
 use Rattle.bitpack_lists.specs.inner.Opening.{GoesOn, IsOrdered, IsRising, NeverFalls}
 use Rattle.bitpack_lists.proofs.lemmas.blocks.SearchLemmas.{each_in_order, is_out-from_fall, ordered_each}
-use Rattle.bitpack_lists.proofs.lemmas.blocks.CodeLemmas.{length-values_of, sums-sorted, sums-strict, values_of-append}
+use Rattle.bitpack_lists.proofs.lemmas.blocks.CodeLemmas.{sums-sorted, sums-strict}
 
 -- the steps from value to value, together
 abbrev pub steps : ℕ → List ℕ → ℕ
@@ -188,48 +188,8 @@ ordered_block lists.StrictlySorted kind all (suc k) before values goes_on rising
 
 -- ---- codes in two parts
 
-never-append : (strict : Bool) (value last : ℕ) (values others : List ℕ) → last ≡ get_or (value ∷ values) (length values) 0
-    → NeverFalls strict (value ∷ values) → NeverFalls strict (last ∷ others) → NeverFalls strict (value ∷ (values ++ others))
-never-append strict value last [] others ends first second k lt = (rw ends at second) k lt
-never-append strict value last (next ∷ values) others ends first second zero lt = first 0 (omega arith)
-never-append strict value last (next ∷ values) others ends first second (suc k) lt =
-    let here : suc k + 1 ≡ suc (k + 1) = omega arith in
-    rw here (never-append strict next last values others ends (tail_never strict value (next ∷ values) first) second k (omega (arith, lt)))
-
--- Of no codes there is nothing to test.
-pub rising_none : (kind : Kind) → IsRising kind (values_of kind [])
-rising_none Plain = tt
-rising_none (Sorted initial) = λ k lt. absurd (omega arith)
-rising_none (StrictlySorted None) = λ k lt. absurd (omega arith)
-rising_none (StrictlySorted (Some initial)) = λ k lt. absurd (omega arith)
-
 -- What follows starts with a word.
 pub start-next : (kind : Kind) (last : ℕ) → last < 2 ^ 32 → start (next_kind kind last) < 2 ^ 32
 start-next Plain last small = omega arith
 start-next (Sorted initial) last small = small
 start-next (StrictlySorted initial) last small = small
-
--- A first part in order, and a second part in order after its last value.
-rising_both : (kind : Kind) (values others : List ℕ) (last : ℕ) → 1 ≤ length values → last ≡ get_or values (length values - 1) 0
-    → IsRising kind values → IsRising (next_kind kind last) others → IsRising kind (values ++ others)
-rising_both kind [] others last some ends first second = absurd (omega arith)
-rising_both Plain (value ∷ values) others last some ends first second = tt
-rising_both (Sorted initial) (value ∷ values) others last some ends first second =
-    let end : suc (length values) - 1 ≡ length values = omega arith in
-    never-append false initial last (value ∷ values) others (rw end at ends) first second
-rising_both (StrictlySorted None) (value ∷ values) others last some ends first second =
-    let end : suc (length values) - 1 ≡ length values = omega arith in
-    never-append true value last values others (rw end at ends) first second
-rising_both (StrictlySorted (Some initial)) (value ∷ values) others last some ends first second =
-    let end : suc (length values) - 1 ≡ length values = omega arith in
-    never-append true initial last (value ∷ values) others (rw end at ends) first second
-
-pub rising-append : (kind : Kind) (codes others : List ℕ) (last : ℕ) → 1 ≤ length codes → last ≡ get_or (values_of kind codes) (length codes - 1) 0
-    → IsRising kind (values_of kind codes) → IsRising (next_kind kind last) (values_of (next_kind kind last) others) → IsRising kind (values_of kind (codes ++ others))
-rising-append kind codes others last some ends first second =
-    let values : List ℕ = values_of kind codes in
-    let long : length values ≡ length codes = length-values_of kind codes in
-    let same : values ++ values_of (next_kind kind last) others ≡ values_of kind (codes ++ others) =
-    ap (λ l. values ++ values_of (next_kind kind l) others) ends ∙ sym (values_of-append kind codes others (length codes - 1) (omega (arith, some))) in
-    rw same at (rising_both kind values (values_of (next_kind kind last) others) last (omega (arith, long, some))
-    (ends ∙ ap (λ n. get_or values (n - 1) 0) (sym long)) first second)

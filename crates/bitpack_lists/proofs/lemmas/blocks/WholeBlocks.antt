@@ -1,6 +1,6 @@
--- The whole blocks of versions 2 and 3: bytes without a fault there hold the blocks that are read from them, and bytes
+-- The whole blocks of version 2: bytes without a fault there hold the blocks that are read from them, and bytes
 -- that hold blocks have no fault there. The values of a tail are a parameter.
--- Serves opened, v2, v3, v4.
+-- Serves opened, v2.
 use Rattle.std.proofs.Common.{◌≡◌, ℕ, ◌+◌, ◌-◌, ◌*◌, ◌^◌, ◌<◌, ◌≤◌, List, length, drop, get_or, Option, Some, None, refl, sym, ◌∙◌, ap, arith}
 use Rattle.std.specs.Option.{option_map}
 use Rattle.std.proofs.lemmas.Bool.{le-ltb, ltb-false}

@@ -1,10 +1,9 @@
 -- The loops that measure and write a list: what is after the blocks so far, and the cached widths.
--- Serves blocks, chain, v1, v2, v3, v4.
-use Rattle.std.proofs.Common.{◌≡◌, ℕ, suc, ◌+◌, ◌-◌, ◌*◌, ◌/◌, ◌%◌, ◌<◌, ◌≤◌, List, [], ◌∷◌, ◌++◌, length, take, drop, get_or, sym, ◌∙◌, ap, arith, append_assoc, add-one, inl, inr}
-use Rattle.std.proofs.Math.Nat.{mod-eq-sub-mul-div, mul-div-le}
+-- Serves blocks, chain, v1, v2.
+use Rattle.std.proofs.Common.{◌≡◌, ℕ, suc, ◌+◌, ◌-◌, ◌*◌, ◌/◌, ◌<◌, ◌≤◌, List, [], ◌∷◌, ◌++◌, length, take, drop, get_or, sym, ◌∙◌, ap, arith, append_assoc, add-one, inl, inr}
 use Rattle.std.proofs.Math.Seq.{drop-cons}
 use Rattle.std.proofs.lemmas.Bool.{cases_lt}
-use Rattle.std.proofs.lemmas.List.{append-nil, length-append, length-drop, get_or-take, take_all, take_rest, drop_all}
+use Rattle.std.proofs.lemmas.List.{append-nil, length-append, get_or-take, take_all, drop_all}
 use Rattle.std.proofs.lemmas.Nat.{mul-le}
 use Rattle.bitpacking.specs.declared.kind.Kind.{Kind}
 use Rattle.bitpacking.specs.Bits.{AreBytes}
@@ -13,7 +12,6 @@ use Rattle.bitpacking.specs.Width.{IsWidth}
 use Rattle.bitpacking.specs.Layout.{size}
 use Rattle.bitpack_lists.specs.Chains.{next_kind, second_kind, LeastWidths}
 use Rattle.bitpacking.specs.Words.{bytes_of_words}
-use Rattle.bitpack_lists.specs.Parts.{whole_blocks}
 use Rattle.bitpack_lists.specs.Version1.{IsPart1, Blocks1}
 use Rattle.bitpacking.proofs.ForCallers.{length-bytes_of_words}
 use Rattle.bitpack_lists.proofs.lemmas.blocks.PartLemmas.{AreBytes-left, AreBytes-right}
@@ -138,13 +136,3 @@ packable lanes width kind block buffer least whole narrow few room = record {
 }
 
 -- ---- the parts of an encoded list
-
--- Where the whole blocks end.
-pub whole_end : (lanes len count : ℕ) → len ≡ 32 * lanes → count - count % len ≡ 32 * lanes * whole_blocks lanes count
-whole_end lanes len count whole =
-    let n : ℕ = 32 * lanes in
-    rw whole (omega (arith, mod-eq-sub-mul-div count n, mul-div-le count n))
-
--- A slice after its front, and how long that is.
-pub lent_after : (start : ℕ) (xs : List ℕ) → length (take (length xs - start) (drop start xs)) ≡ length xs - start
-lent_after start xs = ap length (take_rest xs start) ∙ length-drop start xs

@@ -1,5 +1,5 @@
 -- Version 2: values in order have an encoded list.
--- Serves ForCallers, laws, writing.
+-- Serves ForCallers.
 use Rattle.std.proofs.Common.{◌≡◌, ℕ, zero, suc, ◌+◌, ◌-◌, ◌*◌, ◌^◌, ◌<◌, ◌≤◌, List, [], ◌∷◌, ◌++◌, length, drop, get_or, None, refl, ◌∙◌, arith, add-one}
 use Rattle.bitpacking.specs.declared.kind.Kind.{Kind}
 use Rattle.bitpacking.specs.Bits.{AreBytes}

@@ -3,11 +3,10 @@
 use Rattle.std.proofs.Common.{◌≡◌, ℕ, ◌+◌, ◌-◌, ◌*◌, ◌<◌, ◌≤◌, ◌++◌, List, length, take, get_or, sym, ◌∙◌, ap, arith, inl, inr}
 use Rattle.std.proofs.lemmas.Bool.{cases_lt}
 use Rattle.std.proofs.lemmas.List.{get_or-append_right, get_or-take, get_or_append_left, length-append, length-take}
-use Rattle.std.proofs.lemmas.Slice.{take-put_mid}
 use borrow.Rule.Slice.PartMut.{put_mid}
 use Rattle.bitpack_lists.specs.Opened.{first_of}
 use Rattle.bitpack_lists.proofs.lemmas.blocks.ChainLemmas.{put_end, take-put_block}
-use Rattle.bitpack_lists.proofs.lemmas.opened.CursorSteps.{first_of-same}
+use Rattle.bitpack_lists.proofs.lemmas.opened.Positions.{first_of-same}
 
 -- the numbers below an index are those that a function returns
 abbrev pub HoldsUpTo : (ℕ → ℕ) → ℕ → List ℕ → Type 0
@@ -38,13 +37,6 @@ copied_block value n len i xs part e within long before here k lt =
     sym (get_or-take (n * (i + 1)) (put_mid (i * len) (i * len + len - i * len) xs part) k 0 lt)
     ∙ ap (λ zs. get_or zs k 0) (take-put_block n len i xs part e within long)
     ∙ joined value (n * i) n xs part within before here k (omega arith)
-
-pub copied_part : (value : ℕ → ℕ) (place more : ℕ) (xs part : List ℕ) → place ≤ length xs → length part ≡ more → HoldsUpTo value place xs
-    → HoldsFrom value place more part → HoldsUpTo value (place + more) (put_mid place (place + more - place) xs part)
-copied_part value place more xs part within long before here k lt =
-    sym (get_or-take (place + more) (put_mid place (place + more - place) xs part) k 0 lt)
-    ∙ ap (λ zs. get_or zs k 0) (take-put_mid place (place + more - place) xs part (place + more) (omega (arith, long)) within)
-    ∙ joined value place more xs part within before here k lt
 
 pub copied_tail : (value : ℕ → ℕ) (start : ℕ) (xs part : List ℕ) → start ≤ length xs → length part ≡ length xs - start
     → HoldsUpTo value start xs → HoldsFrom value start (length xs - start) part

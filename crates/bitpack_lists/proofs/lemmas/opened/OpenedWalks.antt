@@ -9,12 +9,11 @@ use Rattle.bitpack_lists.specs.declared.list_kind.ListKind.TheVariants as lists
 use Rattle.bitpack_lists.specs.Parts.{tail_values}
 use Rattle.bitpack_lists.specs.inner.Searching.{block_of_list, blocks_of, mark_of_list, value_of}
 use Rattle.bitpack_lists.specs.inner.Walks.{AreNext, Begun, values_in}
-use Rattle.bitpack_lists.proofs.lemmas.opened.CursorSteps.{get_or-first_of}
+use Rattle.bitpack_lists.proofs.lemmas.opened.Positions.{get_or-first_of}
 use Rattle.bitpack_lists.proofs.lemmas.opened.OpenedLists.{opened_at, opened_last, opened_length, opened_ordered}
-use Rattle.bitpack_lists.proofs.lemmas.opened.OpenedValues.{length-values, opened_are_words}
+use Rattle.bitpack_lists.proofs.lemmas.opened.OpenedValues.{length-values, opened_list2}
 use Rattle.bitpack_lists.proofs.lemmas.blocks.SearchLemmas.{in_order}
 use Rattle.bitpack_lists.proofs.lemmas.opened.Sharing.{InOrder}
-use Rattle.bitpack_lists.proofs.lemmas.opened.TextBlocks.{marks_last}
 use Rattle.bitpack_lists.proofs.lemmas.opened.Walking.{stage_of}
 
 pub few_in_tail : (lanes count : ℕ) → 1 ≤ lanes → lanes ≤ 8 → tail_values lanes count ≤ 256
@@ -33,7 +32,7 @@ module _ {P : Type 0} {members : Ghosts P} (list : PackedList P members) (some :
   opened_order = in_order list.kind (value_of list) list.count ordered (opened_ordered list some)
 
   pub opened_words : (k : ℕ) → k < list.count → value_of list k < 2 ^ 32
-  opened_words k lt = rw (← get_or-first_of (value_of list) list.count k lt) (opened_are_words list some k 0 (omega (arith, length-values list)))
+  opened_words k lt = rw (← get_or-first_of (value_of list) list.count k lt) ((opened_list2 list some).words k 0 (omega (arith, length-values list)))
 
   pub block_room : (block : ℕ) → block < blocks → n * block + n ≤ list.count
   block_room block lt = omega (arith, mul-le n (block + 1) n blocks (omega arith) (omega arith), div-add-mod list.count n)
@@ -57,7 +56,7 @@ module _ {P : Type 0} {members : Ghosts P} (list : PackedList P members) (some :
   block_below block want last lt is below k within =
       let room = block_room block lt in
       let le = opened_order k (n * block + (n - 1)) (omega arith) (omega arith) in
-      omega (arith, le, opened_last list some (marks_last list.version list.kind ordered) block lt, is, below)
+      omega (arith, le, opened_last list some block lt, is, below)
 
   pub next_tail : (begun : Begun) (unpacked due : ℕ) (values : List ℕ) → length values ≡ tail_values members.lanes list.count
       → ((k : ℕ) → k < length values → get_or values k 0 ≡ value_of list (n * blocks + k)) → AreNext (stage_of (values_in list) begun (n * blocks) unpacked due) values

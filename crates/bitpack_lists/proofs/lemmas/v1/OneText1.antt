@@ -1,5 +1,5 @@
 -- Version 1: parts and encoded lists are one for one block and one list, and each list has an encoded one.
--- Serves blocks, laws, v1, v2.
+-- Serves blocks, v1, v2.
 use Rattle.std.proofs.Common.{◌≡◌, ℕ, zero, suc, ◌+◌, ◌*◌, ◌^◌, ◌<◌, ◌≤◌, List, ◌∷◌, ◌++◌, length, take, drop, get_or, refl, sym, ◌∙◌, ap, arith, mul-suc}
 use Rattle.std.proofs.lemmas.List.{take_at, drop_at, length-take, length-drop, take-append-drop}
 use Rattle.std.proofs.lemmas.List.Elements.{All-take, All-drop}

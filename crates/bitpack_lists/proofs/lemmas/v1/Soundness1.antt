@@ -1,5 +1,5 @@
 -- Version 1: bytes without a fault encode one list, and an encoded list has no fault.
--- Serves ForCallers, laws, upgrading, v1, v2, v3.
+-- Serves ForCallers, laws, v1, v2.
 use Rattle.std.proofs.Common.{◌≡◌, ℕ, ◌+◌, ◌*◌, ◌^◌, ◌<◌, ◌≤◌, List, length, take, drop, None, refl, sym, subst, ◌∙◌, ap, arith}
 use Rattle.std.proofs.lemmas.List.{take-append-drop}
 use Rattle.bitpacking.specs.Bits.{AreBytes}

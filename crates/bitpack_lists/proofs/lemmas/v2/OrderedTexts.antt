@@ -1,6 +1,6 @@
 -- A version 1 list whose order is tested: bytes with a fault are none, and what the header and the test of order say of
 -- its values.
--- Serves upgrading, v2.
+-- Serves v2.
 use Rattle.std.proofs.Common.{◌≡◌, ◌-◌, ◌≤◌, ℕ, List, length, take, drop, true, Some, None, Result, Ok, Err, is_ok, MatchOption, sym, ◌∙◌, arith}
 use Rattle.std.proofs.lemmas.List.{length-drop, take_all}
 use Rattle.bitpacking.specs.declared.kind.Kind.{Kind}

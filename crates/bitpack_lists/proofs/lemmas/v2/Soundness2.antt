@@ -1,5 +1,5 @@
 -- Version 2: bytes without a fault encode one list, and an encoded list has no fault.
--- Serves list_buf, opened, v2, v3, v4.
+-- Serves opened, v2.
 use Rattle.std.proofs.Common.{◌≡◌, ℕ, ◌+◌, ◌*◌, ◌^◌, ◌<◌, ◌≤◌, List, length, drop, get_or, Some, None, refl, sym, subst, ◌∙◌, ap, arith}
 use Rattle.std.proofs.lemmas.Bool.{le-ltb, ltb-false}
 use Rattle.std.proofs.lemmas.List.{length-drop}

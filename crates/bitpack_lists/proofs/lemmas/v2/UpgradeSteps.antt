@@ -1,5 +1,5 @@
 -- The loops that upgrade a version 1 list: the values that are left are those of the bytes that are left.
--- Serves v2, v3.
+-- Serves v2.
 use Rattle.std.proofs.Common.{◌≡◌, ℕ, zero, suc, ◌+◌, ◌-◌, ◌*◌, ◌/◌, ◌%◌, ◌^◌, ◌<◌, ◌≤◌, List, [], ◌∷◌, ◌++◌, length, take, drop, get_or, true, Option, Some, None, Result, Ok, Err, is_ok, MatchOption, refl, sym, ◌∙◌, ap, arith, append_assoc}
 use Rattle.std.proofs.Math.Nat.{div-add-mod, sub-zero}
 use Rattle.std.proofs.lemmas.List.{append-nil, take_at, drop_at, get_or-drop, get_or-take, length-drop}

@@ -1,5 +1,5 @@
 -- A list in both versions: what its version 1 header says, how long it is in both, and the bytes that they share.
--- Serves laws, v2, v3.
+-- Serves v2.
 use Rattle.std.proofs.Common.{◌≡◌, ℕ, zero, suc, ◌+◌, ◌-◌, ◌*◌, ◌<◌, ◌≤◌, List, ◌∷◌, ◌++◌, length, drop, get_or, refl, sym, ◌∙◌, ap, arith, add-one, append_assoc}
 use Rattle.std.proofs.lemmas.List.{get_or-take, length-append, length-drop}
 use Rattle.bitpacking.specs.declared.kind.Kind.{Kind}

@@ -2,7 +2,7 @@
 use Rattle.std.proofs.Common.{◌≡◌, ◌∙◌, sym, ap, None, Some, Err, rules}
 use Rattle.bitpack_lists.specs.declared.list_kind.ListKind.TheVariants as lists
 use Rattle.bitpack_lists.specs.Search.{first_at_least}
-use Rattle.bitpack_lists.specs.Version2.{values_fault}
+use Rattle.bitpack_uses.specs.Failures.{values_fault}
 use Rattle.bitpack_lists.proofs.ForCallers.{no_fault2}
 use Rattle.bitpack_uses.proofs.Failures.{fails_alike, fails_for_values, none_if_ok}
 use Rattle.bitpack_uses.proofs.round_trips.search.Goals as goal

@@ -1,7 +1,7 @@
 -- The bytes encode the list that was packed, and no other. They have no fault, so that the list is opened.
 use Rattle.std.proofs.Common.{◌≡◌, ◌∙◌, ap, sym, None, Some, Err, rules}
 use Rattle.std.specs.List.{slice_get}
-use Rattle.bitpack_lists.specs.Version2.{values_fault}
+use Rattle.bitpack_uses.specs.Failures.{values_fault}
 use Rattle.bitpack_lists.proofs.ForCallers.{no_fault2}
 use Rattle.bitpack_uses.proofs.Failures.{fails_alike, fails_for_values, none_if_ok}
 use Rattle.bitpack_uses.proofs.round_trips.value.Goals as goal

@@ -1,9 +1,8 @@
 //! Packed lists of version 2. The expected bytes, values and refusals were worked by hand from the format: the header, the skip
 //! entries with least width, offset and last value, the layout of each block's bits, the tail. None is the program's own output.
 
-use super::encode_to::is_written_to;
 use super::lists::{before_first, push_block, push_words};
-use crate::tests::calls::{Version, encode2, open, value_at};
+use crate::tests::calls::{encode2, open, value_at};
 use crate::tests::checks::{
     appended_bytes, holds, nine, push, push_bytes, push_steps, returns, same_number, steps,
     succeeds, with_zero,
@@ -60,7 +59,7 @@ fn has_values<P: BitPacker>(
     has_value(rt, list, usize::MAX, None);
 }
 
-/// The bytes are opened, and have this kind and these values, and so has a clone.
+/// The bytes are opened, and have this kind and these values.
 pub(super) fn is_list<P: BitPacker>(
     rt: &impl Abort,
     packer: &P,
@@ -69,16 +68,12 @@ pub(super) fn is_list<P: BitPacker>(
     text: &[u8],
 ) {
     match open(packer, text) {
-        Ok(list) => {
-            has_values(rt, &list, kind, values);
-            let cloned = list.clone().expect(rt, "a clone");
-            has_values(rt, &cloned, kind, values);
-        }
+        Ok(list) => has_values(rt, &list, kind, values),
         Err(error) => returns(rt, Err(error), Ok(()), text),
     }
 }
 
-/// The values have these bytes, which are appended, and written into slices.
+/// The values have these bytes, which are appended.
 pub(super) fn is_written<P: BitPacker>(
     rt: &impl Abort,
     alloc: Global,
@@ -90,7 +85,6 @@ pub(super) fn is_written<P: BitPacker>(
     let mut written = nine(rt, alloc);
     succeeds(rt, encode2(packer, kind, values, &mut written), text);
     appended_bytes(rt, &written, text);
-    is_written_to(rt, alloc, Version::Two, packer, (kind, values), text);
 }
 
 /// The values have these bytes, which are appended, and the bytes have these values. Each proper beginning is refused, and so are
@@ -345,17 +339,4 @@ fn every_shape_of_4x(rt: HostRuntime) {
 fn every_shape_of_8x(rt: HostRuntime) {
     each_shape(&rt, rt.alloc(), &BitPacker8x::new());
     each_shape(&rt, rt.alloc(), &BitPacker8x::scalar());
-}
-
-#[test]
-fn a_copy_is_the_same_list(rt: HostRuntime) {
-    let text = thirty_three(0, 0, 31, 32);
-    match open(&BitPacker1x::new(), &text) {
-        Ok(list) => {
-            let copied = list;
-            has_value(&rt, &copied, 32, Some(32));
-            has_value(&rt, &list, 31, Some(31));
-        }
-        Err(error) => returns(&rt, Err(error), Ok(()), &text),
-    }
 }

@@ -1,10 +1,9 @@
 //! How much room a call makes in an empty vector, with memory to spare: no more than the list has bytes, or the shorter of two
 //! lists.
 
-use crate::tests::calls::{encode1, encode2, intersect_texts, open, unpack, upgrade, upgrade3};
+use crate::tests::calls::{encode1, encode2, intersect_texts, open, unpack, upgrade};
 use crate::tests::checks::{holds, same_number, steps, succeeds};
 use bitpack::ListKind;
-use bitpack_sorted::{IncreasingSlice, collect_into};
 use bitpacking::{BitPacker, BitPacker1x, BitPacker4x, BitPacker8x};
 use std::alloc::Global;
 use std::process::Abort;
@@ -45,25 +44,6 @@ fn upgrades_to<P: BitPacker>(
     is_full(rt, &text, bytes);
 }
 
-/// `upgrade` to version 3 makes room for this number of bytes, from the list of version 1 or 2.
-fn upgrades_to_3<P: BitPacker>(
-    rt: &impl Abort,
-    alloc: Global,
-    packer: &P,
-    values: &[u32],
-    bytes: usize,
-) {
-    let (mut one, mut two) = (Vec::new(alloc), Vec::new(alloc));
-    let kind = ListKind::StrictlySorted;
-    succeeds(rt, encode1(packer, kind, values, &mut one), &[]);
-    succeeds(rt, encode2(packer, kind, values, &mut two), &[]);
-    for old in [one, two] {
-        let mut text = Vec::new(alloc);
-        succeeds(rt, upgrade3(packer, &old, &mut text), &old);
-        is_full(rt, &text, bytes);
-    }
-}
-
 /// Ten blocks and five values, 1, 3, 5 and so on: each code is 1, so that a block has a bit a value.
 fn narrow_blocks<P: BitPacker>(rt: &impl Abort, alloc: Global, packer: &P) {
     let len = P::BLOCK_LEN;
@@ -71,8 +51,6 @@ fn narrow_blocks<P: BitPacker>(rt: &impl Abort, alloc: Global, packer: &P) {
     let bytes = 7 + 90 + len / 8 * 10 + 20;
     encodes_to(rt, alloc, packer, &values, bytes);
     upgrades_to(rt, alloc, packer, &values, bytes);
-    // In version 3 the header has three bytes, and the tail two: its width, and five bits.
-    upgrades_to_3(rt, alloc, packer, &values, 3 + 90 + len / 8 * 10 + 2);
 }
 
 #[test]
@@ -116,7 +94,7 @@ fn room_for_the_shorter_list(rt: HostRuntime) {
     shares_in(&rt, alloc, &short, &long, 100);
 }
 
-/// All values of a list take as much room as they are, and a cursor says how many come.
+/// All values of a list take as much room as they are.
 #[test]
 fn room_for_all_values(rt: HostRuntime) {
     let alloc = rt.alloc();
@@ -126,24 +104,4 @@ fn room_for_all_values(rt: HostRuntime) {
     let mut out = Vec::new(alloc);
     unpack(&rt, &list, &mut out);
     same_number(&rt, out.capacity(), 2_000, "room for values");
-    let (least, most) = list.cursor().size_hint();
-    same_number(&rt, least, 2_000, "the least number of values");
-    holds(&rt, most == Some(2_000), "the greatest number of values");
-}
-
-/// A thousand values that are collected one by one change the capacity of their vector fewer than twenty times.
-#[test]
-fn a_thousand_values_collected(rt: HostRuntime) {
-    let mut out: Vec<u32> = Vec::new(rt.alloc());
-    let mut changes = 0usize;
-    for _ in 0..1000u32 {
-        let room = out.capacity();
-        let collected = collect_into(&mut IncreasingSlice::new(&[7]), &mut out);
-        holds(&rt, collected.is_ok(), "memory");
-        if out.capacity() != room {
-            changes = changes.wrapping_add(1);
-        }
-    }
-    same_number(&rt, out.len(), 1_000, "values");
-    holds(&rt, changes < 20, "changes of the room for values");
 }

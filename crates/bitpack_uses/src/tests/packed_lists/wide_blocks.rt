@@ -4,7 +4,7 @@
 ghost use Rattle.std.specs.Prelude.{◌≤◌, ◌^◌};
 
 use super::list2::opened;
-use crate::tests::calls::{Version, encode_as};
+use crate::tests::calls::encode2;
 use crate::tests::checks::{kept_bytes, nine, push, push_bytes, returns};
 use bitpack::{ListError, ListKind};
 use bitpacking::{BitPacker, BitPacker1x, BitPacker4x, BitPacker8x};
@@ -121,7 +121,7 @@ fn push_steps(rt: &impl Abort, values: &mut Vec<u32>, before: u32, step: u32, co
     value
 }
 
-/// Two blocks with these steps, after a value, and one value more are out of order at a position, in both versions.
+/// Two blocks with these steps, after a value, and one value more are out of order at a position.
 fn is_out<P: BitPacker>(
     rt: &impl Abort,
     alloc: Global,
@@ -134,22 +134,20 @@ fn is_out<P: BitPacker>(
     let last = push_steps(rt, &mut values, before, first, P::BLOCK_LEN);
     let last = push_steps(rt, &mut values, last, second, P::BLOCK_LEN);
     push(rt, &mut values, last.wrapping_add(1));
-    is_packed(rt, alloc, Version::Two, packer, (kind, &values), position);
-    is_packed(rt, alloc, Version::Three, packer, (kind, &values), position);
+    is_packed(rt, alloc, packer, (kind, &values), position);
 }
 
 /// The values are packed, or refused at a position.
 fn is_packed<P: BitPacker>(
     rt: &impl Abort,
     alloc: Global,
-    version: Version,
     packer: &P,
     (kind, values): (ListKind, &[u32]),
     out: Option<usize>,
 ) {
     let mut text = nine(rt, alloc);
     let room = text.capacity();
-    let outcome = encode_as(version, packer, kind, values, &mut text);
+    let outcome = encode2(packer, kind, values, &mut text);
     match out {
         Some(position) => {
             returns(rt, outcome, Err(ListError::NotSorted(position)), &[]);
@@ -196,8 +194,7 @@ fn one_out<P: BitPacker>(rt: &impl Abort, alloc: Global, packer: &P, position: u
         values[position] = values[position - 1];
     }
     let list = (ListKind::StrictlySorted, values.as_slice());
-    is_packed(rt, alloc, Version::Two, packer, list, Some(position));
-    is_packed(rt, alloc, Version::Three, packer, list, Some(position));
+    is_packed(rt, alloc, packer, list, Some(position));
 }
 
 #[test]

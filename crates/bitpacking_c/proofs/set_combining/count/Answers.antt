@@ -1,4 +1,4 @@
-use Rattle.std.proofs.Common.{◌≡◌, ◌^◌, ◌<◌, arith, rules}
+use Rattle.std.proofs.Common.{◌^◌, ◌<◌, arith, rules}
 use Rattle.bitpacking_c.specs.ManySets.{ids_of_views}
 use Rattle.bitpacking_c.proofs.ManySteps.{answer_few}
 use Rattle.bitpacking_c.proofs.set_combining.count.Goals as goal

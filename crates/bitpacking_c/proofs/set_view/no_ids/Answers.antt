@@ -1,4 +1,4 @@
-use Rattle.std.proofs.Common.{ℕ, List, refl, ap, ◌∙◌}
+use Rattle.std.proofs.Common.{refl, ap}
 use Rattle.bitpack_sets.specs.Faults.{fault, short_fault}
 use Rattle.bitpack_sets.specs.Reads.{ids_in}
 use Rattle.bitpacking_c.proofs.set_view.no_ids.Goals as goal

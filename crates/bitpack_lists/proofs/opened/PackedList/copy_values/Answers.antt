@@ -9,7 +9,7 @@ use Rattle.bitpack_lists.specs.inner.Searching.{blocks_of, value_of}
 use Rattle.bitpack_lists.proofs.lemmas.blocks.ChainLemmas.{length-block}
 use Rattle.bitpack_lists.proofs.lemmas.opened.CopySteps.{copied_block, copied_tail}
 use Rattle.bitpack_lists.proofs.lemmas.opened.ReadParts.{part_unpacked}
-use Rattle.bitpack_lists.proofs.lemmas.opened.CursorSteps.{part_end}
+use Rattle.bitpack_lists.proofs.lemmas.opened.Positions.{part_end}
 use Rattle.bitpack_lists.proofs.opened.PackedList.copy_values.Goals as goal
 
 pub loop-number-preserved : goal.loop-number-preserved
@@ -33,6 +33,7 @@ loop-number-preserved g c =
       kind_is =
           rw add-one
           (c.next_kind-kind.ensures ∙ ap (λ k. next_kind k c.mark.result) c.first-first.ensures ∙ ap (next_kind _) c.mark.ensures.mark);
+      entries = omega (arith, c.unpack_block.ensures.entries, c.mark.ensures.entries, before.entries);
       blocks = omega (arith, c.unpack_block.ensures.blocks, c.mark.ensures.blocks, before.blocks);
     }
 

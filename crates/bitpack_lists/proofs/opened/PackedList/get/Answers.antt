@@ -3,7 +3,7 @@ use Rattle.std.proofs.Common.{◌≡◌, ◌*◌, Some, sym, ◌∙◌, ap, arit
 use Rattle.std.proofs.lemmas.Option.{slice_get_past}
 use Rattle.bitpack_lists.specs.Opened.{values}
 use Rattle.bitpack_lists.specs.inner.Searching.{value_of}
-use Rattle.bitpack_lists.proofs.lemmas.opened.CursorSteps.{slice_get-first_of}
+use Rattle.bitpack_lists.proofs.lemmas.opened.Positions.{slice_get-first_of}
 use Rattle.bitpack_lists.proofs.lemmas.opened.OpenedLists.{opened_block}
 use Rattle.bitpack_lists.proofs.lemmas.opened.OpenedValues.{length-values}
 use Rattle.bitpack_lists.proofs.opened.PackedList.get.Goals as goal
@@ -19,7 +19,7 @@ returns-then-position-len g c =
     let whole : c.BLOCK_LEN-len.result ≡ 32 * g.P.BitPacker.lanes = c.BLOCK_LEN-len.ensures ∙ g.met.P.BitPacker.block_len in
     let block = opened_block self g.met.P.BitPacker.some_lanes
     c.BLOCK_LEN-len.result c.args.position whole c.if-position-len.true in
-    ap Some (c.value_in_block.ensures ∙ sym block) ∙ sym (slice_get-first_of (value_of self) self.count c.args.position c.if-position-self.false)
+    ap Some (c.value_in_block.ensures.value ∙ sym block) ∙ sym (slice_get-first_of (value_of self) self.count c.args.position c.if-position-self.false)
 
 pub returns-else-position-len : goal.returns-else-position-len
 returns-else-position-len g c =

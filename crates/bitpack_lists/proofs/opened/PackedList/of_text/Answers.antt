@@ -1,10 +1,9 @@
 -- The header is at the front of the bytes, and the tail at their end.
-use Rattle.std.proofs.Common.{◌≡◌, ◌+◌, ◌-◌, ◌*◌, ◌%◌, ◌≤◌, ℕ, List, length, take, drop, None, refl, sym, ◌∙◌, ap, arith}
+use Rattle.std.proofs.Common.{◌≡◌, ◌+◌, ◌-◌, ◌*◌, ◌%◌, ◌≤◌, ℕ, List, length, take, drop, None, sym, ◌∙◌, ap, arith}
 use Rattle.std.proofs.lemmas.List.{length-drop, take_all}
 use Rattle.bitpacking.proofs.ForCallers.{AreBytes-from_slice}
 use Rattle.bitpacking.specs.Bits.{AreBytes}
 use Rattle.bitpack_lists.specs.declared.list_kind.ListKind.{ListKind}
-use Rattle.bitpack_lists.specs.declared.version.Version.TheVariants as versions
 use Rattle.bitpack_lists.specs.Parts.{BeginsWithHeader, kind_of_byte, whole_blocks}
 use Rattle.bitpack_lists.specs.Texts.{States}
 use Rattle.bitpack_lists.specs.Version2.{fault2, tail_start}
@@ -24,7 +23,7 @@ module _ (lanes len count : ℕ) (kind : ListKind) (bytes : List ℕ) (small : A
   rest_is : rest ≡ drop 7 bytes
   rest_is = take_all (length bytes - 7) (drop 7 bytes) (omega (arith, length-drop 7 bytes))
 
-  states : States versions.Two lanes bytes kind count rest
+  states : States lanes bytes kind count rest
   states =
       let found = header_bytes 2 lanes kind count bytes begins in
       record { none = sound; kind_is = sym (ap kind_of_byte found.kind_is ∙ kind_of_byte-is kind); count_is = sym found.count_is; rest_is = rest_is }
@@ -74,5 +73,4 @@ invariant_of-result g c =
       few = c.requires.begins.few;
       states = states lanes c.BLOCK_LEN.result header.count header.kind bytes small whole c.requires.begins c.requires.sound;
       tail_is = tail_is lanes c.BLOCK_LEN.result header.count header.kind bytes small whole c.requires.begins c.requires.sound;
-      tail_kind_is = λ other. absurd (other refl);
     }

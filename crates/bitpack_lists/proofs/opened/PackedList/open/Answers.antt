@@ -1,7 +1,6 @@
 -- The kind and the values of an opened list are the ones that its bytes encode.
 use Rattle.std.proofs.Common.{subst}
 use Rattle.bitpack_lists.specs.Opened.{kind_of, values}
-use Rattle.bitpack_lists.specs.declared.version.Version.TheVariants as versions
 use Rattle.bitpack_lists.specs.Texts.{IsTextOfNoOther}
 use Rattle.bitpack_lists.specs.Version2.{List2}
 use Rattle.bitpack_lists.proofs.lemmas.opened.OpenedValues.{opened_list2, opened_only2}
@@ -10,11 +9,11 @@ use Rattle.bitpack_lists.proofs.opened.PackedList.open.Goals as goal
 pub returns-clause-list : goal.returns-clause-list
 returns-clause-list g c =
     let list = c.of_text.result in
-    subst (λ bytes. List2 g.P.BitPacker.lanes (kind_of list) (values list) bytes) c.of_text.ensures.0
-    (opened_list2 list g.met.P.BitPacker.some_lanes c.of_text.ensures.1)
+    subst (λ bytes. List2 g.P.BitPacker.lanes (kind_of list) (values list) bytes) c.of_text.ensures
+    (opened_list2 list g.met.P.BitPacker.some_lanes)
 
 pub returns-clause-only : goal.returns-clause-only
 returns-clause-only g c =
     let list = c.of_text.result in
-    subst (λ bytes. IsTextOfNoOther versions.Two g.P.BitPacker.lanes (kind_of list) (values list) bytes) c.of_text.ensures.0
-    (opened_only2 list g.met.P.BitPacker.some_lanes c.of_text.ensures.1)
+    subst (λ bytes. IsTextOfNoOther g.P.BitPacker.lanes (kind_of list) (values list) bytes) c.of_text.ensures
+    (opened_only2 list g.met.P.BitPacker.some_lanes)

@@ -4,8 +4,7 @@ use Rattle.std.proofs.Math.Nat.{div-add-mod}
 use Rattle.std.proofs.lemmas.List.{get_or-take, length-take}
 use Rattle.bitpack_lists.specs.Search.{first_reaching}
 use Rattle.bitpack_lists.specs.inner.Searching.{blocks_of, value_of}
-use Rattle.bitpack_lists.proofs.lemmas.opened.BlockPlaces.{tail_part}
-use Rattle.bitpack_lists.proofs.lemmas.opened.ReadParts.{in_order_from_kind, part_order}
+use Rattle.bitpack_lists.proofs.lemmas.opened.ReadParts.{in_order_from_kind, part_order, tail_part}
 use Rattle.bitpack_lists.proofs.lemmas.opened.OpenedWalks.{few_in_tail}
 use Rattle.bitpack_lists.proofs.opened.PackedList.seek_in_tail.Goals as goal
 
@@ -21,8 +20,8 @@ first_in_block-requires-clause-order g c =
       part_order list some (blocks_of list) len read part (in_order_from_kind list some c.requires),
     )
 
-pub returns-in-Two-clause-found : goal.returns-in-Two-clause-found
-returns-in-Two-clause-found g c = λ before.
+pub returns-clause-found : goal.returns-clause-found
+returns-clause-found g c = λ before.
     let list = c.args.self.now in
     let n : ℕ = 32 * g.P.BitPacker.lanes in
     let read = c.read_tail-len.new.values in

@@ -20,31 +20,15 @@ read_one-requires g c =
     let n : ℕ = 32 * g.P.BitPacker.lanes in
     let index = index_is n c.BLOCK_LEN.result c.BLOCK_LEN-2.result list.count c.args.position (c.BLOCK_LEN.ensures ∙ g.met.P.BitPacker.block_len) (c.BLOCK_LEN-2.ensures ∙ g.met.P.BitPacker.block_len) in
     let lt = index_lt n list.count c.args.position c.requires.tail c.requires.within in
-    let long = tail_length list g.met.P.BitPacker.some_lanes c.in-Two.is in
+    let long = tail_length list g.met.P.BitPacker.some_lanes in
     omega (arith, index, lt, long)
 
-pub returns-in-Two : goal.returns-in-Two
-returns-in-Two g c =
+pub returns : goal.returns
+returns g c =
     let list = c.args.self.now in
     let n : ℕ = 32 * g.P.BitPacker.lanes in
     let k : ℕ = c.args.position - n * (list.count / n) in
     let index = index_is n c.BLOCK_LEN.result c.BLOCK_LEN-2.result list.count c.args.position (c.BLOCK_LEN.ensures ∙ g.met.P.BitPacker.block_len) (c.BLOCK_LEN-2.ensures ∙ g.met.P.BitPacker.block_len) in
     let here : n * (list.count / n) + k ≡ c.args.position = omega (arith, c.requires.tail) in
     c.read_one.ensures ∙ ap (λ i. word (drop (4 * i) list.tail.now) 0) index ∙ word-drop list.tail.now k
-    ∙ sym (tail_word list g.met.P.BitPacker.some_lanes c.in-Two.is k) ∙ ap (value_of list) here
-
-pub value_in_groups-requires-clause-index : goal.value_in_groups-requires-clause-index
-value_in_groups-requires-clause-index g c =
-    let list = c.args.self.now in
-    let n : ℕ = 32 * g.P.BitPacker.lanes in
-    let index = index_is n c.BLOCK_LEN.result c.BLOCK_LEN-2.result list.count c.args.position (c.BLOCK_LEN.ensures ∙ g.met.P.BitPacker.block_len) (c.BLOCK_LEN-2.ensures ∙ g.met.P.BitPacker.block_len) in
-    rw index (index_lt n list.count c.args.position c.requires.tail c.requires.within)
-
-pub returns-in_default : goal.returns-in_default
-returns-in_default g c =
-    let list = c.args.self.now in
-    let n : ℕ = 32 * g.P.BitPacker.lanes in
-    let k : ℕ = c.args.position - n * (list.count / n) in
-    let index = index_is n c.BLOCK_LEN.result c.BLOCK_LEN-2.result list.count c.args.position (c.BLOCK_LEN.ensures ∙ g.met.P.BitPacker.block_len) (c.BLOCK_LEN-2.ensures ∙ g.met.P.BitPacker.block_len) in
-    let here : n * (list.count / n) + k ≡ c.args.position = omega (arith, c.requires.tail) in
-    c.value_in_groups.ensures ∙ ap (λ i. value_of list (n * (list.count / n) + i)) index ∙ ap (value_of list) here
+    ∙ sym (tail_word list g.met.P.BitPacker.some_lanes k) ∙ ap (value_of list) here

@@ -3,7 +3,6 @@ use Rattle.std.proofs.Common.{◌≡◌, ◌+◌, ◌-◌, ◌*◌, ℕ, length,
 use Rattle.bitpack_lists.specs.inner.Walks.{values_in}
 use Rattle.bitpack_lists.proofs.lemmas.opened.OpenedLists.{opened_last}
 use Rattle.bitpack_lists.proofs.lemmas.opened.OpenedWalks.{block_below, next_block}
-use Rattle.bitpack_lists.proofs.lemmas.opened.TextBlocks.{marks_last}
 use Rattle.bitpack_lists.proofs.lemmas.opened.Walking.{stage_of, walked_block, walked_unpacked, walked_upto}
 use Rattle.bitpack_lists.proofs.opened.intersection.walk_block.Goals as goal
 
@@ -50,7 +49,7 @@ returns-then-last-walk-clause-walking g c = λ begun over.
     let end : n * number + length (take c.BLOCK_LEN.result c.unpack_block.new.values) ≡ n * (number + 1) = omega (arith, long) in
     let due : last + 1 ≡ (values_in list).value (n * number + (n - 1)) + 1 =
     ap (λ x. x + 1) (c.requires.last
-    ∙ sym (opened_last list g.met.P.BitPacker.some_lanes (marks_last list.version list.kind over.ordered) number c.requires.block.within)) in
+    ∙ sym (opened_last list g.met.P.BitPacker.some_lanes number c.requires.block.within)) in
     record {
       ordered = over.ordered;
       walking = record {

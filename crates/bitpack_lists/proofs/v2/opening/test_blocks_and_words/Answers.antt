@@ -12,7 +12,7 @@ use Rattle.bitpack_lists.specs.declared.list_kind.ListKind.{ListKind}
 use Rattle.bitpack_lists.specs.inner.Opening.{IsOrdered}
 use Rattle.bitpack_lists.specs.Parts.{tail_values, whole_blocks}
 use Rattle.bitpack_lists.specs.Version2.{block_at, blocks_fault, is_out, least_below, rest_fault2, tail_start, value_at, value_with}
-use Rattle.bitpack_lists.proofs.lemmas.v3.TailOrder.{order_of_all}
+use Rattle.bitpack_lists.proofs.lemmas.v2.TailOrder.{order_of_all}
 use Rattle.bitpack_lists.proofs.v2.opening.test_blocks_and_words.Goals as goal
 
 -- ---- the faults in their order

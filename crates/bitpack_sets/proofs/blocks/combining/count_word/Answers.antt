@@ -39,8 +39,7 @@ overflow_add-count c =
     let P = passes c.args.operation a b in
     let left = c.loop-left.left in
     let first = c.args.first in
-    let own = c.count-count.ensures ∙ ap length (c.select.ensures.numbers
-    ∙ lows_combined c.args.operation (first + trailing_zeros w64 left) (numbers_at c.slice_of-x.result) (numbers_at c.slice_of-y.result) (parts_numbers a) (parts_numbers b)
+    let own = c.count_both-count.ensures ∙ ap length (lows_combined c.args.operation (first + trailing_zeros w64 left) (numbers_at c.slice_of-x.result) (numbers_at c.slice_of-y.result) (parts_numbers a) (parts_numbers b)
     c.slice_of-x.ensures c.slice_of-y.ensures) in
     let more = word_counted P first left (omega (arith, c.loop-left-test.true)) c.loop-left.auto.left-fits.fits in
     let few = highs_few P first c.args.word c.requires.within in
@@ -54,8 +53,7 @@ loop-left-preserved c =
     let P = passes c.args.operation a b in
     let left = c.loop-left.left in
     let first = c.args.first in
-    let own = c.count-count.ensures ∙ ap length (c.select.ensures.numbers
-    ∙ lows_combined c.args.operation (first + trailing_zeros w64 left) (numbers_at c.slice_of-x.result) (numbers_at c.slice_of-y.result) (parts_numbers a) (parts_numbers b)
+    let own = c.count_both-count.ensures ∙ ap length (lows_combined c.args.operation (first + trailing_zeros w64 left) (numbers_at c.slice_of-x.result) (numbers_at c.slice_of-y.result) (parts_numbers a) (parts_numbers b)
     c.slice_of-x.ensures c.slice_of-y.ensures) in
     let more = word_counted P first left (omega (arith, c.loop-left-test.true)) c.loop-left.auto.left-fits.fits in
     record { bits = still_there left c.args.word c.loop-left.invariant.bits; count = omega (arith, c.loop-left.invariant.count) }

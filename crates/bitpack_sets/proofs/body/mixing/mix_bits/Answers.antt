@@ -6,8 +6,8 @@ use Rattle.bitpack_sets.proofs.body.mixing.mix_bits.Goals as goal
 use Rattle.bitpack_sets.specs.Bitmaps.{has_bit}
 use Rattle.bitpack_sets.specs.Operations.{holds}
 
-pub returns-clause-numbers : goal.returns-clause-numbers
-returns-clause-numbers c =
+pub returns : goal.returns
+returns c =
     let x = c.args.x in
     let y = c.args.y.now in
     those_same 256 (has_bit (c.word.result ∷ c.word-2.result ∷ c.word-3.result ∷ c.word-4.result ∷ [])) (λ i. holds c.args.operation (has_bit x i) (has_bit y i))

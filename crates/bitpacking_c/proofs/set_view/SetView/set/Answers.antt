@@ -1,5 +1,5 @@
 -- No bytes have no ids.
-use Rattle.std.proofs.Common.{◌≡◌, ℕ, List, [], ◌∷◌, length, refl, arith, eqb-true}
+use Rattle.std.proofs.Common.{◌≡◌, ℕ, List, [], ◌∷◌, length, refl, arith}
 use Rattle.bitpack_sets.specs.Reads.{ids_in}
 use Rattle.bitpacking_c.proofs.set_view.SetView.set.Goals as goal
 

@@ -1,4 +1,0 @@
--- Lemmas of writing: encoded lists by their plans.
-pub mod FillSteps
-pub mod PlannedTexts
-pub mod WrittenPlans

@@ -1,8 +1,0 @@
--- The positions so far are below the count.
-use Rattle.std.proofs.Common.{◌<◌, ℕ, get_or}
-use Rattle.bitpack_lists.proofs.opened.gathering.first_beyond.Given as goal
-
-abbrev pub invariant-loop-index : goal.invariant-loop-index
-invariant-loop-index l = record {
-  before : (k : ℕ) → k < l.index → get_or l.positions k 0 < l.count;
-}

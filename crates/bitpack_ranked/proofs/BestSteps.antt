@@ -1,0 +1,196 @@
+-- The best k of some documents stay so: when one more is kept in its place, and when others are left out that cannot be among them.
+use Rattle.std.proofs.Common.{◌≡◌, ℕ, ◌+◌, ◌-◌, ◌<◌, ◌≤◌, ◌⊎◌, min, List, length, get_or, sym, ap, ◌∙◌, inl, inr, arith}
+use Rattle.std.specs.Prelude.{All, Contains}
+use Rattle.std.specs.List.{insert}
+use Rattle.std.proofs.lemmas.Bool.{cases_eq, cases_lt}
+use Rattle.std.proofs.lemmas.List.{get_or_default}
+use Rattle.std.proofs.lemmas.List.Edits.{get_or-insert_above, get_or-insert_at, get_or-insert_below, length-insert}
+use Rattle.bitpack_ranked.specs.declared.found.Scored.{Scored}
+use Rattle.bitpack_ranked.specs.Ranked.{AreBest, ComesBefore}
+use Rattle.bitpack_ranked.specs.inner.Keeping.{IsFull, IsKept, IsPlaceFor}
+
+pub same_scored : (a b : Scored) → a.id ≡ b.id → a.score ≡ b.score → a ≡ b
+same_scored a b id score =
+    let of : ℕ → ℕ → Scored = λ i s. record { score = s; id = i } in
+    ap (λ i. of i a.score) id ∙ ap (λ s. of b.id s) score
+
+transitive : (a b c : Scored) → ComesBefore a b → ComesBefore b c → ComesBefore a c
+transitive a b c one two = (
+  omega (arith, one.0, two.0),
+  λ e.
+      let first : b.score ≡ a.score = omega (arith, e, one.0, two.0) in
+      let second : c.score ≡ b.score = omega (arith, e, one.0, two.0) in
+      omega (arith, one.1 first, two.1 second),
+)
+
+-- ---- one more document, which has a greater id
+
+module _ (One Next : Scored → Type 0) (k : ℕ) (x : Scored) (old : List Scored) (best : AreBest One k old) (later : (d : Scored) → One d → d.id < x.id)
+    (at : ℕ) (place : IsPlaceFor x.score old at) where
+  abbrev longer : List Scored
+  longer = insert old at x
+
+  count : length longer ≡ length old + 1
+  count = length-insert old at x place.within
+
+  before_x : (i : ℕ) (d : Scored) → i < at → ComesBefore (get_or old i d) x
+  before_x i d lt = (place.before i d lt, λ e. later (get_or old i d) (best.each i d (omega (arith, place.within, lt))))
+
+  after_x : (i : ℕ) (d : Scored) → at ≤ i → i < length old → ComesBefore x (get_or old i d)
+  after_x i d le lt =
+      let less : (get_or old i d).score < x.score =
+      elim (cases_lt at i) [
+        | inl above ↦ omega (arith, place.here d (omega arith), (best.ordered at i d above lt).0)
+        | inr here ↦
+            let same : i ≡ at = omega arith in
+            rw same (place.here d (omega arith))
+      ] in
+      (omega arith, λ e. absurd (omega arith))
+
+  -- where a document of the longer list was
+  data Was (i : ℕ) (d : Scored) : Type 0 where
+    below : i < at → get_or longer i d ≡ get_or old i d → Was i d
+    here : i ≡ at → get_or longer i d ≡ x → Was i d
+    above : at < i → get_or longer i d ≡ get_or old (i - 1) d → Was i d
+
+  was : (i : ℕ) (d : Scored) → Was i d
+  was i d = elim (cases_lt i at) [
+    | inl lt ↦ below lt (get_or-insert_below old at x d i lt place.within)
+    | inr le ↦ elim (cases_eq i at) [
+      | inl same ↦ here same (ap (λ n. get_or longer n d) same ∙ get_or-insert_at old at x d place.within)
+      | inr other ↦
+          let one : i - 1 + 1 ≡ i = omega arith in
+          above (omega arith) (ap (λ n. get_or longer n d) (sym one) ∙ get_or-insert_above old at x d (i - 1) (omega arith) place.within)
+    ]
+  ]
+
+  ordered : (i j : ℕ) (d : Scored) → i < j → j < length longer → ComesBefore (get_or longer i d) (get_or longer j d)
+  ordered i j d lt within = go (was i d) (was j d)
+    where
+      go : Was i d → Was j d → ComesBefore (get_or longer i d) (get_or longer j d)
+      go (below a e) (below b f) = rw (e, f) (best.ordered i j d lt (omega (arith, place.within, b)))
+      go (below a e) (here b f) = rw (e, f) (before_x i d a)
+      go (below a e) (above b f) = rw (e, f) (best.ordered i (j - 1) d (omega arith) (omega (arith, count)))
+      go (here a e) (below b f) = absurd (omega arith)
+      go (here a e) (here b f) = absurd (omega arith)
+      go (here a e) (above b f) = rw (e, f) (after_x (j - 1) d (omega arith) (omega (arith, count)))
+      go (above a e) (below b f) = absurd (omega arith)
+      go (above a e) (here b f) = absurd (omega arith)
+      go (above a e) (above b f) = rw (e, f) (best.ordered (i - 1) (j - 1) d (omega arith) (omega (arith, count)))
+
+  module _ (keeps : (d : Scored) → One d → Next d) (is : Next x) (splits : (d : Scored) → Next d → One d ⊎ (d ≡ x)) (new : List Scored)
+      (size : length new ≡ min k (length old + 1)) (kept_at : (i : ℕ) (d : Scored) → i < length new → get_or new i d ≡ get_or longer i d) where
+    each : (i : ℕ) (d : Scored) → i < length longer → Next (get_or longer i d)
+    each i d lt = go (was i d)
+      where
+        go : Was i d → Next (get_or longer i d)
+        go (below a e) = rw e (keeps _ (best.each i d (omega (arith, place.within))))
+        go (here a e) = rw e is
+        go (above a e) = rw e (keeps _ (best.each (i - 1) d (omega (arith, count))))
+
+    abbrev Has : Scored → Type 0
+    Has other = Contains new other ⊎ ((length new ≡ k) × All (λ one. ComesBefore one other) new)
+
+    -- one that is at an index of the longer list
+    at_index : (other : Scored) (m : ℕ) → m < length longer → get_or longer m other ≡ other → Has other
+    at_index other m lt is = elim (cases_lt m k) [
+      | inl inside ↦
+          let short : m < length new = omega (arith, size, count) in
+          inl (m, short, kept_at m other short ∙ is)
+      | inr past ↦ inr (
+        omega (arith, size, count),
+        λ i d within.
+            let order = ordered i m other (omega (arith, size)) lt in
+            rw (kept_at i d within, get_or_default longer i d other (omega (arith, size))) (rw is at order),
+      )
+    ]
+
+    others : (other : Scored) → Next other → Has other
+    others other next = elim (splits other next) [
+      | inr same ↦ at_index other at (omega (arith, count, place.within)) (get_or-insert_at old at x other place.within ∙ sym same)
+      | inl one ↦ elim (best.others other one) [
+        | inl has ↦
+            let (m, lt, same) = has in
+            elim (cases_lt m at) [
+              | inl under ↦ at_index other m (omega (arith, count)) (get_or-insert_below old at x other m under place.within ∙ same)
+              | inr over ↦ at_index other (m + 1) (omega (arith, count)) (get_or-insert_above old at x other m over place.within ∙ same)
+            ]
+        | inr after ↦ inr (omega (arith, size, after.0), λ i d lt. rw (kept_at i d lt) (comes i d (omega (arith, size, after.0)) after.1))
+      ]
+    ]
+      where
+        comes : (i : ℕ) (d : Scored) → i < length old → All (λ one. ComesBefore one other) old → ComesBefore (get_or longer i d) other
+        comes i d lt after = go (was i d)
+          where
+            go : Was i d → ComesBefore (get_or longer i d) other
+            go (below a e) = rw e (after i d lt)
+            go (here a e) =
+                let order = after_x at d (omega arith) (omega arith) in
+                rw e (transitive x (get_or old at d) other order (after at d (omega arith)))
+            go (above a e) = rw e (after (i - 1) d (omega arith))
+
+    still_few : length new ≤ k
+    still_few = omega (arith, size)
+
+    still_ordered : (i j : ℕ) (d : Scored) → i < j → j < length new → ComesBefore (get_or new i d) (get_or new j d)
+    still_ordered i j d lt within = rw (kept_at i d (omega arith), kept_at j d within) (ordered i j d lt (omega (arith, size, count)))
+
+    best_placed : AreBest Next k new
+    best_placed = record {
+      few = still_few;
+      each = λ i d lt. rw (kept_at i d lt) (each i d (omega (arith, size, count)));
+      ordered = still_ordered;
+      others = others;
+    }
+
+pub best_kept : (One Next : Scored → Type 0) (k : ℕ) (x : Scored) (old new : List Scored) → AreBest One k old → IsKept k x old new
+    → ((d : Scored) → One d → d.id < x.id) → ((d : Scored) → One d → Next d) → Next x → ((d : Scored) → Next d → One d ⊎ (d ≡ x)) → AreBest Next k new
+best_kept One Next k x old new best kept later keeps is splits =
+    best_placed One Next k x old best later kept.at kept.place keeps is splits new kept.count kept.each
+
+-- ---- others, which have greater ids and at most a score that is too low
+
+pub best_skipped : (One Next : Scored → Type 0) (k low bound : ℕ) (found : List Scored) → AreBest One k found → IsFull k bound found
+    → ((d : Scored) → One d → d.id < low) → ((d : Scored) → One d → Next d)
+    → ((d : Scored) → Next d → One d ⊎ ((low ≤ d.id) × (d.score ≤ bound))) → AreBest Next k found
+best_skipped One Next k low bound found best full lower keeps splits = record {
+  few = best.few;
+  each = λ i d lt. keeps _ (best.each i d lt);
+  ordered = best.ordered;
+  others = λ other next. elim (splits other next) [
+    | inl one ↦ best.others other one
+    | inr rest ↦ inr (omega (arith, best.few, full.full), λ i d lt. comes other rest i d lt)
+  ];
+}
+  where
+    enough : (i : ℕ) (d : Scored) → i < length found → bound ≤ (get_or found i d).score
+    enough i d lt = elim (cases_lt i (length found - 1)) [
+      | inl before ↦ omega (arith, (best.ordered i (length found - 1) d before (omega arith)).0, full.last d (omega (arith, best.few, lt)))
+      | inr end ↦
+          let same : i ≡ length found - 1 = omega arith in
+          rw same (full.last d (omega (arith, best.few, lt)))
+    ]
+
+    comes : (other : Scored) → (low ≤ other.id) × (other.score ≤ bound) → (i : ℕ) (d : Scored) → i < length found → ComesBefore (get_or found i d) other
+    comes other rest i d lt = (
+      omega (arith, enough i d lt, rest.1),
+      λ e. omega (arith, lower (get_or found i d) (best.each i d lt), rest.0),
+    )
+
+-- the same documents, told otherwise
+pub best_same : (One Next : Scored → Type 0) (k : ℕ) (found : List Scored) → AreBest One k found → ((d : Scored) → One d → Next d)
+    → ((d : Scored) → Next d → One d) → AreBest Next k found
+best_same One Next k found best keeps back = record {
+  few = best.few;
+  each = λ i d lt. keeps _ (best.each i d lt);
+  ordered = best.ordered;
+  others = λ other next. best.others other (back other next);
+}
+
+pub best_none : (One : Scored → Type 0) (k : ℕ) (found : List Scored) → length found ≡ 0 → ((d : Scored) → One d → ⊥) → AreBest One k found
+best_none One k found none nothing = record {
+  few = omega (arith, none);
+  each = λ i d lt. absurd (omega (arith, none));
+  ordered = λ i j d lt within. absurd (omega (arith, none));
+  others = λ other one. absurd (nothing other one);
+}

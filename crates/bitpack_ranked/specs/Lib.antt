@@ -1,0 +1,6 @@
+-- The definitions of this crate.
+pub mod inner
+pub mod Ranked
+pub mod Scores
+pub mod Terms
+pub mod WorkedScores

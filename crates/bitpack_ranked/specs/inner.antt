@@ -1,0 +1,3 @@
+-- What inner contracts say.
+pub mod Keeping
+pub mod Walks

@@ -1,0 +1,18 @@
+//! Ranked search: the best documents of a query over id sets and columns, by a score that adds up what each word is worth.
+#![tactic(auto)]
+
+mod as_term;
+mod found;
+mod parts;
+mod range;
+mod ranking;
+mod term;
+mod walk;
+mod worked_scores;
+
+pub use as_term::AsTerm;
+pub use found::Scored;
+pub use parts::{CLASSES, Parts};
+pub use ranking::best;
+pub use term::{Term, TermError};
+pub use walk::Walk;

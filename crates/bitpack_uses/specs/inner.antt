@@ -1,3 +1,0 @@
--- What inner functions promise each other.
-pub mod Keeping
-pub mod Walks

@@ -1,0 +1,140 @@
+/* The type of an id set, and how one is packed and opened. */
+#include "core.h"
+
+/* Opens bytes, and tests all of them. */
+static PyObject *opened(PyTypeObject *type, PyObject *data, size_t from, size_t to, Py_ssize_t number)
+{
+    Packed *self = holding(type, data, from, to);
+    ptrdiff_t answer;
+
+    if (!self)
+        return NULL;
+    UNLOCKED(self->len, answer = bitpacking_set_open(self->bytes, self->len, &((Set *)self)->view));
+    if (answer < 0) {
+        fail_to_open(answer, self->bytes, self->len, number, "set");
+        Py_CLEAR(self);
+    }
+    return (PyObject *)self;
+}
+
+static PyObject *set_open(PyObject *m, PyObject *args)
+{
+    PyObject *type, *data;
+
+    (void)m;
+    if (!PyArg_ParseTuple(args, "OO", &type, &data) || !subtype_of(Set_type, type))
+        return NULL;
+    return opened((PyTypeObject *)type, data, 0, SIZE_MAX, -1);
+}
+
+static PyObject *set_open_many(PyObject *m, PyObject *args)
+{
+    PyObject *type, *data, *bounds;
+
+    (void)m;
+    if (!PyArg_ParseTuple(args, "OOO", &type, &data, &bounds) || !subtype_of(Set_type, type))
+        return NULL;
+    return opened_parts((PyTypeObject *)type, data, bounds, opened);
+}
+
+/* A set of bytes that the library wrote, which need no test. They are copied. */
+static Packed *written(PyTypeObject *type, const uint8_t *bytes, size_t len)
+{
+    Packed *made = copy_of(type, bytes, len);
+
+    if (made)
+        bitpacking_set_open_tested(made->bytes, made->len, &((Set *)made)->view);
+    return made;
+}
+
+/* set_pack(type, ids): a set, or None if the ids do not increase. Nothing else writes the ids. */
+static PyObject *set_pack(PyObject *m, PyObject *args)
+{
+    PyObject *type, *ids, *made = NULL;
+    Py_buffer in;
+    size_t len, room;
+    uint8_t *to;
+    ptrdiff_t size;
+
+    (void)m;
+    if (!PyArg_ParseTuple(args, "OO", &type, &ids) || !subtype_of(Set_type, type) || get_items(ids, &in, 4, 0) < 0)
+        return NULL;
+    len = (size_t)in.len / 4;
+    room = BITPACKING_SET_ROOM(len);
+    to = PyMem_Malloc(room);
+    if (!to) {
+        PyBuffer_Release(&in);
+        return PyErr_NoMemory();
+    }
+    UNLOCKED(len, size = bitpacking_set_pack(in.buf, len, to, room, NULL));
+    PyBuffer_Release(&in);
+    if (size >= 0)
+        made = (PyObject *)written((PyTypeObject *)type, to, (size_t)size);
+    else if (size == BITPACKING_NOT_SORTED)
+        made = Py_NewRef(Py_None);
+    else
+        fail(size);
+    PyMem_Free(to);
+    return made;
+}
+
+/* The set of the ids of a view and of these after them. */
+static Packed *appended(PyTypeObject *type, const bitpacking_set *view, const uint32_t *ids, size_t len)
+{
+    size_t before = bitpacking_set_len(view), space = before < 1 << 18 ? before + len : len + (1 << 18);
+    size_t room = BITPACKING_SET_ROOM(before + len), position = 0;
+    uint32_t *work = PyMem_Malloc(4 * space + 4);
+    uint8_t *to = PyMem_Malloc(room);
+    Packed *made = NULL;
+    ptrdiff_t size;
+
+    if (work && to) {
+        UNLOCKED(before + len, size = bitpacking_set_append(view, ids, len, work, space, to, room, &position));
+        if (size >= 0)
+            made = written(type, to, (size_t)size);
+        else
+            fail_at(size, size == BITPACKING_NOT_SORTED ? (Py_ssize_t)(position - before) : -1, -1);
+    } else
+        PyErr_NoMemory();
+    PyMem_Free(work);
+    PyMem_Free(to);
+    return made;
+}
+
+/* set_append(type, set, ids): a set of the ids of the set and of these after them. Nothing else writes the ids. */
+static PyObject *set_append(PyObject *m, PyObject *args)
+{
+    PyObject *type, *it, *ids;
+    Packed *made = NULL;
+    Py_buffer in;
+
+    (void)m;
+    if (!PyArg_ParseTuple(args, "OO!O", &type, Set_type, &it, &ids) || !subtype_of(Set_type, type) || get_items(ids, &in, 4, 0) < 0)
+        return NULL;
+    made = appended((PyTypeObject *)type, &((Set *)it)->view, in.buf, (size_t)in.len / 4);
+    PyBuffer_Release(&in);
+    return (PyObject *)made;
+}
+
+static PyType_Slot Set_slots[] = {
+    {Py_tp_doc, "The packed bytes of a set, with the calls of the C library."},
+    {Py_tp_methods, Set_methods},
+    {Py_tp_richcompare, Set_compare},
+    {Py_sq_length, Set_length},
+    {Py_sq_item, Set_item},
+    {Py_sq_contains, Set_contains},
+    {Py_mp_length, Set_length},
+    {Py_mp_subscript, Set_subscript},
+    {0, NULL},
+};
+
+PyType_Spec Set_spec = {"fimulowen._core.Set", sizeof(Set), 0,
+                        Py_TPFLAGS_DEFAULT | Py_TPFLAGS_BASETYPE | Py_TPFLAGS_DISALLOW_INSTANTIATION, Set_slots};
+
+PyMethodDef set_functions[] = {
+    {"set_open", set_open, METH_VARARGS, SIGNED("set_open(type, data, /)", "A set.")},
+    {"set_open_many", set_open_many, METH_VARARGS, SIGNED("set_open_many(type, data, bounds, /)", "Sets.")},
+    {"set_pack", set_pack, METH_VARARGS, SIGNED("set_pack(type, ids, /)", "A set, or None if the ids do not increase.")},
+    {"set_append", set_append, METH_VARARGS, SIGNED("set_append(type, set, ids, /)", "A set.")},
+    {NULL, NULL, 0, NULL},
+};

@@ -1,0 +1,264 @@
+/* The methods of a set. */
+#include "core.h"
+#include <string.h>
+
+static bitpacking_set *view_of(PyObject *self) { return &((Set *)self)->view; }
+
+static size_t least_of(size_t one, size_t other) { return one < other ? one : other; }
+
+Py_ssize_t Set_length(PyObject *self) { return (Py_ssize_t)bitpacking_set_len(view_of(self)); }
+
+PyObject *Set_item(PyObject *self, Py_ssize_t at)
+{
+    uint32_t id;
+
+    if (at >= 0 && bitpacking_set_get(view_of(self), (size_t)at, &id) == 1)
+        return PyLong_FromUnsignedLong(id);
+    PyErr_SetString(PyExc_IndexError, "position out of range");
+    return NULL;
+}
+
+/* The ids from a position on, as a new array. There are as many. */
+static PyObject *range_of(PyObject *self, size_t from, size_t len)
+{
+    Py_buffer out;
+    PyObject *array = new_array(len, type_u32, &out);
+    size_t done, count;
+
+    for (done = 0; array && done < len; done += count) {
+        count = least_of(len - done, PART);
+        UNLOCKED(count, bitpacking_set_range(view_of(self), from + done, (uint32_t *)out.buf + done, count));
+        if (PyErr_CheckSignals() < 0) {
+            PyBuffer_Release(&out);
+            Py_CLEAR(array);
+        }
+    }
+    if (array)
+        PyBuffer_Release(&out);
+    return array;
+}
+
+/* The ids of a slice with a step: every step-th id of the range that has them all. */
+static PyObject *stepped(PyObject *self, Py_ssize_t from, Py_ssize_t step, Py_ssize_t len)
+{
+    Py_ssize_t wide = len == 0 ? 0 : (len - 1) * (step > 0 ? step : -step) + 1;
+    PyObject *all = range_of(self, (size_t)(step > 0 || len == 0 ? from : from + (len - 1) * step), (size_t)wide);
+    PyObject *number = PyLong_FromSsize_t(step), *slice = number ? PySlice_New(NULL, NULL, number) : NULL;
+    PyObject *part = all && slice ? PyObject_GetItem(all, slice) : NULL;
+
+    Py_XDECREF(all);
+    Py_XDECREF(number);
+    Py_XDECREF(slice);
+    return part;
+}
+
+PyObject *Set_subscript(PyObject *self, PyObject *key)
+{
+    if (PySlice_Check(key)) {
+        Py_ssize_t from, to, step, len;
+        if (PySlice_Unpack(key, &from, &to, &step) < 0)
+            return NULL;
+        len = PySlice_AdjustIndices(Set_length(self), &from, &to, step);
+        return step == 1 ? range_of(self, (size_t)from, (size_t)len) : stepped(self, from, step, len);
+    }
+    if (PyIndex_Check(key)) {
+        Py_ssize_t at = PyNumber_AsSsize_t(key, PyExc_IndexError);
+        if (at == -1 && PyErr_Occurred())
+            return NULL;
+        return Set_item(self, at < 0 ? at + Set_length(self) : at);
+    }
+    PyErr_SetString(PyExc_TypeError, "a position or a slice expected");
+    return NULL;
+}
+
+int Set_contains(PyObject *self, PyObject *it)
+{
+    uint32_t id;
+    int answer = get_target(it, &id);
+
+    if (answer == -1 && PyErr_ExceptionMatches(PyExc_TypeError)) {
+        PyErr_Clear();
+        return 0;
+    }
+    return answer == 1 ? bitpacking_set_contains(view_of(self), id) : answer == -1 ? -1 : 0;
+}
+
+/* Whether one is within the other. */
+static int is_within(PyObject *one, PyObject *other)
+{
+    int within = Set_length(one) <= Set_length(other);
+
+    if (within)
+        UNLOCKED(Set_length(one) + Set_length(other), within = bitpacking_set_is_subset(view_of(one), view_of(other)));
+    return within;
+}
+
+PyObject *Set_compare(PyObject *self, PyObject *other, int how)
+{
+    int answer;
+
+    if (!PyObject_TypeCheck(self, Set_type) || !PyObject_TypeCheck(other, Set_type))
+        return Py_NewRef(Py_NotImplemented);
+    if (how == Py_EQ || how == Py_NE)
+        answer = are_same((Packed *)self, (Packed *)other) == (how == Py_EQ);
+    else if (how == Py_LT || how == Py_GT)
+        answer = Set_length(self) != Set_length(other) && (how == Py_LT ? is_within(self, other) : is_within(other, self));
+    else
+        answer = how == Py_LE ? is_within(self, other) : is_within(other, self);
+    return PyBool_FromLong(answer);
+}
+
+static PyObject *Set_seek(PyObject *self, PyObject *it)
+{
+    uint32_t target, id;
+    size_t position;
+    int read = get_target(it, &target);
+
+    if (read == -1)
+        return NULL;
+    if (read == 2 || bitpacking_set_seek(view_of(self), target, &position, &id) != 1)
+        Py_RETURN_NONE;
+    return Py_BuildValue("nk", (Py_ssize_t)position, (unsigned long)id);
+}
+
+static PyObject *Set_rank(PyObject *self, PyObject *it)
+{
+    uint32_t target;
+    int read = get_target(it, &target);
+
+    if (read == -1)
+        return NULL;
+    return PyLong_FromSize_t(read == 2 ? bitpacking_set_len(view_of(self)) : bitpacking_set_rank(view_of(self), target));
+}
+
+/* Writes ids from a position on to memory that other threads may write: each part is unpacked to private memory first. */
+static void copy_ids(const bitpacking_set *view, size_t from, char *out, size_t len, size_t item)
+{
+    uint32_t part[MANY];
+    uint64_t wide;
+    size_t done, count, i;
+
+    for (done = 0; done < len; done += count) {
+        count = least_of(len - done, MANY);
+        bitpacking_set_range(view, from + done, part, count);
+        if (item == 4)
+            memcpy(out + 4 * done, part, 4 * count);
+        else
+            for (i = 0; i < count; i++) {
+                wide = part[i];
+                memcpy(out + 8 * (done + i), &wide, 8);
+            }
+    }
+}
+
+/* _read(out): writes the ids, as many as fit, to a buffer of 4 or 8 bytes each. Returns how many. */
+static PyObject *Set_read(PyObject *self, PyObject *to)
+{
+    Py_buffer out;
+    size_t len, item, done, count;
+
+    if (get_items(to, &out, 0, PyBUF_WRITABLE) < 0)
+        return NULL;
+    item = (size_t)out.itemsize;
+    len = least_of((size_t)out.len / item, (size_t)Set_length(self));
+    for (done = 0; done < len && PyErr_CheckSignals() == 0; done += count) {
+        count = least_of(len - done, PART);
+        UNLOCKED(count, copy_ids(view_of(self), done, (char *)out.buf + item * done, count, item));
+    }
+    PyBuffer_Release(&out);
+    return done < len ? NULL : PyLong_FromSize_t(len);
+}
+
+/* Writes the id at each position. Returns whether all are positions of the set. */
+static int gather(const bitpacking_set *view, const int64_t *positions, size_t len, uint32_t *ids)
+{
+    size_t i;
+
+    for (i = 0; i < len; i++)
+        if (positions[i] < 0 || bitpacking_set_get(view, (size_t)positions[i], ids + i) != 1)
+            return 0;
+    return 1;
+}
+
+/* The positions are private to the call, as fimulowen/id_set.py copies them. One below 0 is not in the set. */
+static PyObject *Set_gather(PyObject *self, PyObject *positions)
+{
+    Py_buffer in, out;
+    PyObject *array;
+    size_t len, done, count;
+    int found = 1;
+
+    if (get_items(positions, &in, 8, 0) < 0)
+        return NULL;
+    len = (size_t)in.len / 8;
+    array = new_array(len, type_u32, &out);
+    for (done = 0; array && done < len && found; done += count) {
+        count = least_of(len - done, FEW);
+        UNLOCKED(count, found = gather(view_of(self), (int64_t *)in.buf + done, count, (uint32_t *)out.buf + done));
+        if (!found)
+            PyErr_SetString(PyExc_IndexError, "position out of range");
+        else if (PyErr_CheckSignals() < 0)
+            found = 0;
+    }
+    PyBuffer_Release(&in);
+    if (array)
+        PyBuffer_Release(&out);
+    if (!found)
+        Py_CLEAR(array);
+    return array;
+}
+
+static void find(const bitpacking_set *view, const uint32_t *ids, size_t len, uint8_t *found)
+{
+    size_t i;
+
+    for (i = 0; i < len; i++)
+        found[i] = (uint8_t)bitpacking_set_contains(view, ids[i]);
+}
+
+/* The ids are private to the call, as fimulowen/id_set.py copies them. */
+static PyObject *Set_contains_many(PyObject *self, PyObject *ids)
+{
+    Py_buffer in, out;
+    PyObject *array;
+    size_t len, done, count;
+
+    if (get_items(ids, &in, 4, 0) < 0)
+        return NULL;
+    len = (size_t)in.len / 4;
+    array = new_array(len, type_bool, &out);
+    for (done = 0; array && done < len; done += count) {
+        count = least_of(len - done, FEW);
+        UNLOCKED(count, find(view_of(self), (uint32_t *)in.buf + done, count, (uint8_t *)out.buf + done));
+        if (PyErr_CheckSignals() < 0) {
+            PyBuffer_Release(&out);
+            Py_CLEAR(array);
+        }
+    }
+    PyBuffer_Release(&in);
+    if (array)
+        PyBuffer_Release(&out);
+    return array;
+}
+
+static PyObject *Set_is_disjoint(PyObject *self, PyObject *other)
+{
+    int answer;
+
+    if (!PyObject_TypeCheck(other, Set_type)) {
+        PyErr_SetString(PyExc_TypeError, "a set expected");
+        return NULL;
+    }
+    UNLOCKED(Set_length(self) + Set_length(other), answer = bitpacking_set_is_disjoint(view_of(self), view_of(other)));
+    return PyBool_FromLong(answer);
+}
+
+PyMethodDef Set_methods[] = {
+    {"seek", Set_seek, METH_O, SIGNED("seek($self, target, /)", "The position and the id of the first id that is at least the target, or None.")},
+    {"rank", Set_rank, METH_O, SIGNED("rank($self, target, /)", "How many ids are below the target.")},
+    {"_gather", Set_gather, METH_O, SIGNED("_gather($self, positions, /)", "The ids at an array of positions, of int64.")},
+    {"_contains", Set_contains_many, METH_O, SIGNED("_contains($self, ids, /)", "Whether the set has each id of an array of uint32.")},
+    {"_is_disjoint", Set_is_disjoint, METH_O, SIGNED("_is_disjoint($self, other, /)", "Whether no id is in both sets.")},
+    {"_read", Set_read, METH_O, SIGNED("_read($self, out, /)", "Fills out with ids; returns how many.")},
+    {NULL, NULL, 0, NULL},
+};

@@ -1,0 +1,188 @@
+"""Sets of ids and their calls."""
+
+from __future__ import annotations
+
+import hashlib
+import pickle
+from typing import Any, Iterable, Iterator, List, Optional, Sequence, SupportsIndex, Tuple, Union
+
+import numpy as np
+import numpy.typing as npt
+
+from . import _core, waiting
+from .values import MOST, PART, constant, index, room_for, u32
+
+INTERSECT, UNITE, SUBTRACT, XOR = range(4)
+_FEW = 4096
+
+
+class IdSet(_core.Set):
+    """A set of integers from 0 to 4294967295, its ids, in packed bytes. It does not change.
+
+    `IdSet(ids)` packs an array or an iterable of integers. They may be in any order, and one may be there twice; increasing ones take the least
+    time, and are neither sorted nor copied if nothing can write them. TypeError or OverflowError, with the position and the value of the first
+    that is no integer from 0 to 4294967295. Error if there are more than 268,435,456 ids."""
+
+    __slots__ = ()
+    __array_ufunc__ = None  # array & set must not be a bitwise AND of numbers
+
+    def __new__(cls, ids: Union[Iterable[Any], npt.ArrayLike] = ()) -> IdSet:
+        if isinstance(ids, IdSet):
+            return ids if type(ids) is cls else cls.open(ids.data)
+        return cls._packed(u32(ids))
+
+    @classmethod
+    def _packed(cls, ids: npt.NDArray[np.uint32]) -> IdSet:
+        """The set of an array that nothing writes."""
+        made = waiting.run(len(ids), _core.set_pack, cls, ids) if len(ids) <= MOST else None
+        if made is not None:
+            return made
+        parts = [_core.set_pack(cls, np.unique(ids[at : at + PART])) for at in range(0, len(ids), PART)]
+        return parts[0] if len(parts) == 1 else waiting.run(len(ids), _core.set_pack, cls, combined(UNITE, parts))
+
+    @classmethod
+    def open(cls, data: Any) -> IdSet:
+        """Opens the bytes of a set, of any object with a buffer. It tests all of them, and raises Error with the first fault. Memory that
+        nothing can write (bytes, a map that is read only) is held, and must not change; other memory is copied."""
+        held = constant(data)
+        return waiting.run(memoryview(held).nbytes, _core.set_open, cls, held)
+
+    @classmethod
+    def open_many(cls, data: Any, bounds: npt.ArrayLike) -> List[IdSet]:
+        """The sets at data[bounds[i]:bounds[i + 1]], which all share the one buffer. Error, with the number of the set."""
+        return _core.set_open_many(cls, constant(data), index(bounds))
+
+    @staticmethod
+    def pack_many(ids: npt.ArrayLike, bounds: npt.ArrayLike) -> Tuple[bytes, npt.NDArray[np.int64]]:
+        """Packs the set of ids[bounds[i]:bounds[i + 1]] for each i. Returns the bytes of all sets, and the bounds of the sets in them. The ids
+        of each set increase.
+
+        IndexError if the bounds fall or lie outside of the ids. Error, with the number of the set, and the position in it of the first id that
+        is not above the one before it."""
+        return _core.set_pack_many(u32(ids), index(bounds))
+
+    def __and__(self, other: Iterable[Any]) -> IdSet:
+        """The ids of both."""
+        return _joined(INTERSECT, self, other)
+
+    def __or__(self, other: Iterable[Any]) -> IdSet:
+        """The ids of either."""
+        return _joined(UNITE, self, other)
+
+    def __sub__(self, other: Iterable[Any]) -> IdSet:
+        """The ids that only the first has."""
+        return _joined(SUBTRACT, self, other)
+
+    def __xor__(self, other: Iterable[Any]) -> IdSet:
+        """The ids that one of the two has."""
+        return _joined(XOR, self, other)
+
+    def __rsub__(self, other: Iterable[Any]) -> IdSet:
+        return _joined(SUBTRACT, other, self)
+
+    __rand__, __ror__, __rxor__ = __and__, __or__, __xor__
+
+    def isdisjoint(self, other: Iterable[Any]) -> bool:
+        """Whether no id is in both."""
+        return self._is_disjoint(as_set(other))
+
+    def issubset(self, other: Iterable[Any]) -> bool:
+        """Whether the other has all ids of this set, as `self <= other` says of two sets."""
+        return self <= as_set(other)
+
+    def issuperset(self, other: Iterable[Any]) -> bool:
+        """Whether this set has all ids of the other, as `self >= other` says of two sets."""
+        return self >= as_set(other)
+
+    def __hash__(self) -> int:
+        found = hashlib.blake2b(digest_size=8)
+        for at in range(0, self.nbytes, PART):
+            found.update(self.data[at : at + PART])
+        return hash(found.digest())
+
+    def __iter__(self) -> Iterator[int]:
+        for start in range(0, len(self), _FEW):
+            yield from self[start : start + _FEW].tolist()
+
+    def __repr__(self) -> str:
+        shown = ", ".join(map(str, self[:6].tolist())) + (", .." if len(self) > 6 else "")
+        return f"<IdSet of {len(self)} ids in {self.nbytes} bytes: [{shown}]>"
+
+    def __array__(self, dtype: npt.DTypeLike = None, copy: Optional[bool] = None) -> np.ndarray:
+        if copy is False:
+            raise ValueError("the ids of a set are always copied")
+        return self.unpack(dtype=dtype)
+
+    def __arrow_c_schema__(self) -> object:
+        return _core.arrow_schema("I", False)
+
+    def __arrow_c_array__(self, requested_schema: object = None) -> Tuple[object, object]:
+        """The ids, as an array of uint32 of Arrow."""
+        return self.__arrow_c_schema__(), _core.arrow_array(self.unpack(), None, 0)
+
+    def __reduce_ex__(self, protocol: Any) -> Tuple[Any, ...]:
+        # The attributes of an instance of a subclass are its state.
+        return type(self).open, (pickle.PickleBuffer(self.data) if protocol >= 5 else self.tobytes(),), getattr(self, "__dict__", None)
+
+    def unpack(self, out: Optional[np.ndarray] = None, dtype: npt.DTypeLike = None) -> np.ndarray:
+        """All ids, as an array of uint32, or of another type. They go to the front of `out` if there is one: an array in C order of uint32,
+        int64 or uint64, with room for all. Returns the part of it that has them."""
+        wanted = np.dtype(np.uint32 if dtype is None else dtype)
+        if out is None and wanted in (np.dtype("i8"), np.dtype("u8")):
+            out = np.empty(len(self), wanted)
+        elif out is None:
+            return self[:].astype(wanted, copy=False)
+        return room_for(len(self), out, dtype)[: self._read(out)]
+
+    def min(self) -> int:
+        """The least id. ValueError if there is none."""
+        return self._end(0)
+
+    def max(self) -> int:
+        """The greatest id. ValueError if there is none."""
+        return self._end(-1)
+
+    def _end(self, at: int) -> int:
+        if not len(self):
+            raise ValueError("the set has no id")
+        return self[at]
+
+    def range(self, low: SupportsIndex, high: SupportsIndex) -> npt.NDArray[np.uint32]:
+        """The ids from low up to high, which is not one of them, as an array."""
+        return self[self.rank(low) : self.rank(high)]
+
+    def gather(self, positions: npt.ArrayLike) -> npt.NDArray[np.uint32]:
+        """The ids at positions in any order, as an array; those below 0 count from the end. IndexError if one is not in the set."""
+        return self._gather(index(positions, len(self)))
+
+    def contains(self, ids: npt.ArrayLike) -> npt.NDArray[np.bool_]:
+        """Whether the set has each of many integers, as an array."""
+        wide = index(ids)
+        found = self._contains(wide.astype("=u4"))
+        return found & (wide >= 0) & (wide <= 0xFFFFFFFF)
+
+    def append(self, ids: npt.ArrayLike) -> IdSet:
+        """A set with these ids too, which increase, and are all above the greatest id. It copies the packed bytes, and unpacks few of them. Error,
+        with the position of the first id that is not above the one before it; `self | ids` accepts any."""
+        more = u32(ids)
+        return waiting.run(len(self) + len(more), _core.set_append, IdSet, self, more)
+
+
+def as_set(it: Iterable[Any]) -> IdSet:
+    return it if isinstance(it, IdSet) else IdSet(it)
+
+
+def combined(call: int, sets: Sequence[IdSet]) -> npt.NDArray[np.uint32]:
+    """The ids of sets that are combined. For XOR these are two."""
+    return waiting.run(sum(map(len, sets)), _core.set_combine, call, tuple(sets))
+
+
+def counted(call: int, sets: Sequence[IdSet]) -> int:
+    """How many ids all sets have, or any."""
+    return waiting.run(sum(map(len, sets)), _core.set_count, call, tuple(sets))
+
+
+def _joined(call: int, one: Any, other: Any) -> Any:
+    if not hasattr(one, "__iter__") or not hasattr(other, "__iter__") or hasattr(other, "_node"):
+        return NotImplemented  # a query joins what is on its left too
+    return IdSet._packed(combined(call, [as_set(one), as_set(other)]))

@@ -1,0 +1,117 @@
+"""Trees of sets, whose ids are found part by part."""
+
+from __future__ import annotations
+
+import operator
+from functools import reduce
+from typing import Any, Iterable, Iterator, Optional, SupportsIndex, Tuple, Union
+
+import numpy as np
+import numpy.typing as npt
+
+from .id_set import INTERSECT, SUBTRACT, UNITE, XOR, IdSet, as_set, combined
+
+# A set, or a call with its operands.
+_Node = Union[IdSet, Tuple[int, Tuple[Any, ...]]]
+_LEAST, _MOST, _FEW, _MANY = 1 << 16, 1 << 24, 1 << 12, 1 << 17
+
+
+class Query:
+    """Which ids are wanted: the ids of a set, or of sets that are joined by `&`, `|`, `-` and `^`. An operand is a query, a set, an array or
+    another iterable of ids.
+
+    It finds nothing before it is asked, and then its ids part by part: the first ones of a long answer come at once, and take little memory. If all ids
+    are wanted, the operators of sets are faster."""
+
+    __slots__ = ("_node",)
+    __array_ufunc__ = None  # array & query must not be a bitwise AND of numbers
+
+    def __init__(self, ids: Iterable[Any]):
+        self._node: _Node = ids._node if isinstance(ids, Query) else as_set(ids)
+
+    def __and__(self, other: Iterable[Any]) -> Query:
+        return _joined(INTERSECT, self, other)
+
+    def __or__(self, other: Iterable[Any]) -> Query:
+        return _joined(UNITE, self, other)
+
+    def __sub__(self, other: Iterable[Any]) -> Query:
+        return _joined(SUBTRACT, self, other)
+
+    def __xor__(self, other: Iterable[Any]) -> Query:
+        return _joined(XOR, self, other)
+
+    def __rsub__(self, other: Iterable[Any]) -> Query:
+        return _joined(SUBTRACT, other, self)
+
+    __rand__, __ror__, __rxor__ = __and__, __or__, __xor__
+
+    def parts(self, start: SupportsIndex = 0) -> Iterator[npt.NDArray[np.uint32]]:
+        """The ids from `start` on, as arrays that follow one another, none of which is empty."""
+        low, width, end = max(0, operator.index(start)), _LEAST, _end(self._node)
+        while low < end:
+            found = _within(self._node, low, low + width)
+            if len(found):
+                yield found.unpack()
+            low += width
+            width = min(4 * width, _MOST) if len(found) < _FEW else max(width // 4, _LEAST) if len(found) > _MANY else width
+
+    def __iter__(self) -> Iterator[int]:
+        for part in self.parts():
+            yield from part.tolist()
+
+    def seek(self, target: SupportsIndex) -> Optional[int]:
+        """The first id that is at least the target, or None."""
+        for part in self.parts(target):
+            return int(part[0])
+        return None
+
+    def __len__(self) -> int:
+        return sum(map(len, self.parts()))
+
+    def __bool__(self) -> bool:
+        return self.seek(0) is not None
+
+    def unpack(self) -> npt.NDArray[np.uint32]:
+        """All ids, as an array."""
+        return np.concatenate([np.empty(0, "u4"), *self.parts()])
+
+    def __array__(self, dtype: npt.DTypeLike = None, copy: Optional[bool] = None) -> np.ndarray:
+        if copy is False:
+            raise ValueError("the ids of a query are found anew")
+        return np.asarray(self.unpack(), dtype)
+
+
+def _joined(call: int, one: Any, other: Any) -> Any:
+    """A query of two operands. Those of a chain, as `a | b | c`, are operands of one call."""
+    if not hasattr(one, "__iter__") or not hasattr(other, "__iter__"):
+        return NotImplemented
+    first, last, made = Query(one)._node, Query(other)._node, Query(())
+    before = first[1] if not isinstance(first, IdSet) and first[0] == call else (first,)
+    made._node = (call, (*before, last))
+    return made
+
+
+def _end(node: _Node) -> int:
+    """A number above all ids of the node."""
+    if isinstance(node, IdSet):
+        return node.max() + 1 if node else 0
+    call, operands = node
+    ends = [_end(it) for it in operands]
+    return min(ends) if call == INTERSECT else ends[0] if call == SUBTRACT else max(ends)
+
+
+def _within(node: _Node, low: int, high: int) -> IdSet:
+    """The ids of the node from `low` up to `high`."""
+    if isinstance(node, IdSet):
+        return IdSet._packed(node.range(low, high))
+    call, operands = node
+    if call == INTERSECT:
+        # The first operand is the only set that is cut to the range: the shortest, if there is no tree.
+        operands = tuple(sorted(operands, key=lambda it: len(it) if isinstance(it, IdSet) else -1))
+    found = [_within(operands[0], low, high)]
+    for it in operands[1:]:
+        if call in (INTERSECT, SUBTRACT) and not found[0]:
+            return found[0]
+        found.append(it if call in (INTERSECT, SUBTRACT) and isinstance(it, IdSet) else _within(it, low, high))
+    return reduce(operator.xor, found) if call == XOR else IdSet._packed(combined(call, found))

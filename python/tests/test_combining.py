@@ -1,0 +1,104 @@
+"""AND, OR, NOT and XOR beside the sets of Python."""
+
+import functools
+import operator
+
+import fimulowen
+import numpy as np
+import pytest
+from fimulowen import IdSet
+from hypothesis import given, settings
+from hypothesis import strategies as st
+
+from test_id_set import arrays
+
+OPERATORS = (operator.and_, operator.or_, operator.sub, operator.xor)
+
+
+@given(st.lists(arrays(), min_size=1, max_size=5))
+def test_any_number(ids):
+    packed, sets = [IdSet(it) for it in ids], [set(it.tolist()) for it in ids]
+    every, some, odd = (sorted(functools.reduce(call, sets)) for call in (operator.and_, operator.or_, operator.xor))
+    alone = sorted(sets[0].difference(*sets[1:]))
+    assert fimulowen.intersect(*packed).tolist() == every and fimulowen.intersect_len(*packed) == len(every)
+    assert fimulowen.unite(*packed).tolist() == some and fimulowen.unite_len(*packed) == len(some)
+    assert fimulowen.subtract(*packed).tolist() == alone and fimulowen.subtract_len(*packed) == len(alone)
+    assert fimulowen.symmetric_difference(*packed).tolist() == odd and fimulowen.symmetric_difference_len(*packed) == len(odd)
+    for call in OPERATORS:
+        found = functools.reduce(call, packed)
+        assert type(found) is IdSet and found == IdSet(functools.reduce(call, sets))
+
+
+@given(arrays(), arrays(), st.booleans())
+def test_two(one, other, within):
+    other = np.union1d(one, other) if within else other
+    a, b, x, y = IdSet(one), IdSet(other), set(one.tolist()), set(other.tolist())
+    assert (a == b, a != b, a <= b, a < b, a >= b, a > b) == (x == y, x != y, x <= y, x < y, x >= y, x > y)
+    assert (a.issubset(b), a.issuperset(b), a.isdisjoint(b)) == (x <= y, x >= y, x.isdisjoint(y))
+    assert (a.issubset(other), a.issuperset(y), a.isdisjoint(iter(y))) == (x <= y, x >= y, x.isdisjoint(y))
+    assert (hash(a) == hash(b)) == (x == y)
+
+
+@settings(max_examples=20)
+@given(arrays(500), arrays(500))
+def test_operands(one, other):
+    """Sets with arrays and iterables, on either side."""
+    packed, wanted = IdSet(one), {call: sorted(call(set(one.tolist()), set(other.tolist()))) for call in OPERATORS}
+    mirrored = wanted | {operator.sub: sorted(set(other.tolist()) - set(one.tolist()))}
+    forms = [lambda: other, other[::-1].copy, other.tolist, lambda: set(other.tolist()), lambda: iter(other.tolist()), lambda: IdSet(other)]
+    for form in forms:
+        for call in OPERATORS:
+            assert list(call(packed, form())) == wanted[call] and list(call(form(), packed)) == mirrored[call]
+            assert type(call(form(), packed)) is IdSet
+    assert fimulowen.intersect(one, other[::-1], packed).tolist() == wanted[operator.and_]
+    for changed, call in zip((operator.iand, operator.ior, operator.isub, operator.ixor), OPERATORS):
+        assert list(changed(packed, other)) == wanted[call] and packed == IdSet(one)
+
+
+def test_long():
+    one, other = [np.unique(np.random.default_rng(seed).integers(0, 1 << 20, 200_000)).astype("u4") for seed in (1, 2)]
+    a, b = IdSet(one), IdSet(other)
+    assert (fimulowen.intersect(a, b) == np.intersect1d(one, other)).all() and a & b == IdSet(np.intersect1d(one, other))
+    assert (fimulowen.unite(a, b) == np.union1d(one, other)).all() and (fimulowen.subtract(a, b) == np.setdiff1d(one, other)).all()
+    assert (fimulowen.symmetric_difference(a, b) == np.setxor1d(one, other)).all()
+    assert (a | b) - a == b - a and fimulowen.intersect_len(a, b) == len(a & b)
+    assert (a - b).isdisjoint(b) and (a & b) <= a <= (a | b) and not a.isdisjoint(b)
+
+
+def test_none():
+    for call in (fimulowen.intersect, fimulowen.unite, fimulowen.symmetric_difference):
+        assert call().size == 0
+    assert fimulowen.intersect_len() == fimulowen.unite_len() == fimulowen.symmetric_difference_len() == 0
+    for call in (fimulowen.subtract, fimulowen.subtract_len):
+        with pytest.raises(TypeError):
+            call()
+
+
+def test_refused():
+    packed = IdSet([1])
+    for other in (1, None, 1.5, np.uint32(3)):
+        for call in OPERATORS:
+            with pytest.raises(TypeError):
+                call(packed, other)
+            with pytest.raises(TypeError):
+                call(other, packed)
+        for call in (fimulowen.intersect, fimulowen.unite_len, fimulowen.subtract, fimulowen.symmetric_difference_len):
+            with pytest.raises(TypeError):
+                call(packed, other)
+    for other in ([1.5], "a", [None], b"1"):
+        for call in OPERATORS:
+            with pytest.raises(TypeError):
+                call(packed, other)
+    for other in ([-1], [1 << 32]):
+        with pytest.raises(OverflowError):
+            packed & other
+    for call in (operator.lt, operator.le, operator.gt, operator.ge):
+        with pytest.raises(TypeError):
+            call(packed, [1])
+
+
+def test_results_hold_no_more_than_they_need():
+    one, other = IdSet(range(0, 2_000_000, 2)), IdSet(range(1, 2_000_000, 1999))
+    found = fimulowen.intersect(one, other)
+    base = found.base if found.base is not None else found
+    assert 0 < len(found) and base.nbytes <= 8 * len(found)

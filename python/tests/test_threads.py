@@ -1,0 +1,178 @@
+"""Calls let other threads run, and Ctrl-C ends them."""
+
+import gc
+import signal
+import sys
+import threading
+import time
+
+import fimulowen
+import numpy as np
+import pytest
+from fimulowen import IdSet, _core
+
+from test_id_set import RANDOM
+
+INTERSECT, UNITE, SUBTRACT, XOR = range(4)
+
+
+def drawn(seed, count=1_000_000):
+    return np.unique(np.random.default_rng(seed).integers(0, 1 << 24, count, dtype="u4"))
+
+
+def test_threads():
+    one, other = [IdSet(RANDOM.integers(0, 1 << 22, 300_000)) for _ in range(2)]
+    wanted, found = fimulowen.intersect(one, other), []
+
+    def work():
+        out = np.empty(len(one), "u4")
+        found.append((fimulowen.intersect(one, other), (one | other) - one, one.unpack(out).sum(), one == IdSet.open(one.tobytes())))
+
+    threads = [threading.Thread(target=work) for _ in range(8)]
+    for it in threads:
+        it.start()
+    for it in threads:
+        it.join()
+    assert len(found) == 8
+    for shared, rest, total, same in found:
+        assert (shared == wanted).all() and rest == other - one and total == one.unpack().sum() and same
+
+
+class Long:
+    """Sets and arrays for calls that take some time."""
+
+    def __init__(self):
+        self.ids, self.others = drawn(3), drawn(4)
+        self.a, self.b, self.copy = IdSet(self.ids), IdSet(self.others), IdSet(self.ids)
+        self.even, self.odd = IdSet(range(0, 2_000_000, 2)), IdSet(range(1, 2_000_000, 2))
+        self.pair, self.data = (self.a, self.b), self.a.tobytes()
+        self.bounds, self.two = np.array([0, len(self.ids)]), np.array([0, len(self.data)])
+        self.positions = np.arange(len(self.ids))
+        self.out, self.wide, self.blocks = np.empty(len(self.ids), "u4"), np.empty(len(self.ids), "i8"), self.ids[: 1 << 19]
+        self.chain = _core.chain_pack(self.blocks, 0, 4, 0)
+
+
+@pytest.fixture(scope="module")
+def long():
+    return Long()
+
+
+# Each call that releases the lock, by its name.
+UNLOCKED = {
+    "set_pack": lambda it: _core.set_pack(IdSet, it.ids),
+    "set_pack_many": lambda it: _core.set_pack_many(it.ids, it.bounds),
+    "set_open": lambda it: _core.set_open(IdSet, it.data),
+    "set_open_many": lambda it: _core.set_open_many(IdSet, it.data, it.two),
+    "set_append": lambda it: _core.set_append(IdSet, it.a, it.ids[:0]),
+    "intersect": lambda it: _core.set_combine(INTERSECT, it.pair),
+    "unite": lambda it: _core.set_combine(UNITE, it.pair),
+    "subtract": lambda it: _core.set_combine(SUBTRACT, it.pair),
+    "symmetric_difference": lambda it: _core.set_combine(XOR, it.pair),
+    "intersect_len": lambda it: _core.set_count(INTERSECT, it.pair),
+    "unite_len": lambda it: _core.set_count(UNITE, it.pair),
+    "slice": lambda it: it.a[:],
+    "slice with a step": lambda it: it.a[::900_000],
+    "unpack to uint32": lambda it: it.a._read(it.out),
+    "unpack to int64": lambda it: it.a._read(it.wide),
+    "gather": lambda it: it.a._gather(it.positions),
+    "contains": lambda it: it.a._contains(it.others),
+    "==": lambda it: it.a == it.copy,
+    "<=": lambda it: it.a <= it.copy,
+    "isdisjoint": lambda it: it.even._is_disjoint(it.odd),
+    "chain.pack": lambda it: _core.chain_pack(it.blocks, 0, 4, 0),
+    "chain.unpack": lambda it: _core.chain_unpack(*it.chain, 0, 4, 0),
+}
+
+
+@pytest.mark.parametrize("name", UNLOCKED)
+def test_lock_is_released(name, long):
+    """Another thread runs during a call, though the interpreter itself would switch after a minute only."""
+    begun, seen, found, call = threading.Event(), [], [], UNLOCKED[name]
+
+    def work():
+        begun.set()
+        end = time.monotonic() + 10
+        while not seen and time.monotonic() < end:
+            call(long)
+        found.append(bool(seen))
+
+    before = sys.getswitchinterval()
+    sys.setswitchinterval(60)
+    try:
+        thread = threading.Thread(target=work)
+        thread.start()
+        begun.wait()
+        seen.append(True)
+        thread.join()
+    finally:
+        sys.setswitchinterval(before)
+    assert found == [True]
+
+
+class Stop(Exception):
+    pass
+
+
+def share_of(call):
+    """The share of its processor time that a call takes if a signal comes early."""
+
+    def stop(*_):
+        raise Stop
+
+    gc.collect()
+    gc.disable()  # to collect what other tests left is not the work of the call
+    start = time.process_time()
+    call()
+    whole, before = time.process_time() - start, signal.signal(signal.SIGPROF, stop)
+    try:
+        signal.setitimer(signal.ITIMER_PROF, whole / 10)
+        start = time.thread_time()  # what an earlier call does in the background is not its own
+        with pytest.raises(Stop):
+            call()
+        return (time.thread_time() - start) / whole
+    finally:
+        signal.setitimer(signal.ITIMER_PROF, 0)
+        signal.signal(signal.SIGPROF, before)
+        gc.enable()
+
+
+class Longer:
+    """Sets and arrays for calls that take long."""
+
+    def __init__(self):
+        self.ids = np.arange(0, 3 << 23, 3, dtype="u4")
+        self.a, self.b = IdSet(self.ids), IdSet(self.ids + np.uint32(3 << 12))
+        self.mixed = RANDOM.permutation(self.ids)[: 1 << 22]
+        self.bounds = np.arange(0, (1 << 23) + 1, 1 << 7)
+        self.positions = self.bounds[:-1].repeat(1 << 6)
+        self.out = np.empty(len(self.ids), "i8")
+        self.text, self.ends = IdSet.pack_many(self.ids, self.bounds)
+        self.many = [self.a, self.b] * 20
+
+
+@pytest.fixture(scope="module")
+def longer():
+    return Longer()
+
+
+STOPPED = {
+    "IdSet of mixed ids": lambda it: IdSet(it.mixed),
+    "IdSet of an iterable": lambda it: IdSet(iter(range(1 << 21))),
+    "pack_many": lambda it: IdSet.pack_many(it.ids, it.bounds),
+    "open_many": lambda it: IdSet.open_many(it.text, it.ends),
+    "slice": lambda it: it.a[:],
+    "unpack": lambda it: it.a.unpack(it.out),
+    "gather": lambda it: it.a.gather(it.positions),
+    "contains": lambda it: it.a.contains(it.mixed),
+    "intersect": lambda it: fimulowen.intersect(*it.many),
+    "unite": lambda it: fimulowen.unite(*it.many),
+    "subtract": lambda it: fimulowen.subtract(it.a, *it.many[1::2]),
+    "symmetric_difference": lambda it: fimulowen.symmetric_difference(*it.many),
+    "intersect_len": lambda it: fimulowen.intersect_len(*it.many),
+    "unite_len": lambda it: fimulowen.unite_len(*it.many),
+}
+
+
+@pytest.mark.parametrize("name", STOPPED)
+def test_signals_end_calls(name, longer):
+    assert share_of(lambda: STOPPED[name](longer)) < 0.7

@@ -1,0 +1,134 @@
+"""How much memory and processor time statements of the PostgreSQL extension take: checks of scripts/test/postgres.py. Each has a limit that the right
+extension keeps far below and a leak of each row, or time that grows with the square, passes. The statements run in sessions of their own, and the
+processor's time does not count other programs. They want a server without data checksums, which tests each value that it opens."""
+
+import contextlib
+import os
+import re
+import signal
+import subprocess
+import time
+
+import pg_server
+
+# What the system says of a session: its memory and its time.
+SELF = "SELECT pg_read_file('/proc/self/status'), pg_read_file('/proc/self/stat');"
+TICKS = 100
+TABLES = """CREATE TABLE stored AS SELECT n, idset(ARRAY(SELECT i * 20 + n % 20 FROM generate_series(1, 3000) i)) AS ids FROM generate_series(1, 2000) n;
+CREATE TABLE two AS SELECT idset(ARRAY(SELECT generate_series(1, 40000, 2))) AS a, idset(ARRAY(SELECT generate_series(2, 40000, 2))) AS b;
+CREATE TABLE mixed AS SELECT ARRAY(SELECT (i::int8 * 2654435761 % 2147483647)::int4 FROM generate_series(1, 5000000) i) AS a;
+CREATE FUNCTION has(ids idset, id int8) RETURNS bool LANGUAGE plpgsql AS 'BEGIN RETURN contains(ids, id); END';"""
+# Statements, what they print, and the most memory in MB.
+SPACE = {
+    "a sort frees its copies": ("SELECT count(*) FROM (SELECT ids FROM stored ORDER BY ids OFFSET 0) q", "2000", 60),
+    "a parameter that changes is kept once": (
+        "SELECT count(*) FROM two, generate_series(1, 20000) n WHERE has(CASE n % 2 WHEN 0 THEN a ELSE b END, n)",
+        "0",
+        30,
+    ),
+    "an index build frees its copies": ("CREATE INDEX ON stored (n) WHERE ids < '{1,2}'", "", 60),
+}
+
+
+def ticks(stat):
+    """The seconds of the processor that a process took, by its file in /proc."""
+    return sum(map(int, stat.rpartition(")")[2].split()[11:13])) / TICKS
+
+
+def session(server, sql):
+    """What a statement prints, the most memory of its session, in MB, and its seconds of the processor."""
+    said, status = server.psql(f"{sql};\n{SELF}", "measured")
+    if status != 0:
+        raise RuntimeError(said[-2000:])
+    answer, _, more = said.rpartition("Name:")
+    sizes = {name: int(size) for name, size in re.findall(r"(\w+):\s+(\d+) kB", more)}
+    return answer.strip(), (sizes["VmHWM"] - sizes["RssShmem"]) / 1000, ticks(more)
+
+
+def used_by(process):
+    """The seconds of the processor that a process took until now: endless if it is gone."""
+    try:
+        with open(f"/proc/{process}/stat", encoding="ascii") as file:
+            return ticks(file.read())
+    except FileNotFoundError:
+        return float("inf")
+
+
+def seconds(server, sql):
+    """The least processor time of three sessions."""
+    return min(session(server, sql)[2] for _ in range(3))
+
+
+def space(server):
+    for name, (sql, wanted, limit) in SPACE.items():
+        answer, used, _ = session(server, sql)
+        yield name, None if answer == wanted and used < limit else f"it printed {answer[:200]} and took {used:.0f} MB"
+
+
+def kept_constant(server):
+    """A constant is kept in memory of the query, whatever the rows take, and opened once."""
+    ids = range(0, 2_000_000, 8)
+    constant = "{" + ",".join(map(str, ids)) + "}"
+    wide = "length(repeat('x', i % 60 * 4000)) >= 0 AND"
+    answer, used, _ = session(server, f"SELECT count(*) FROM generate_series(1, 5000) i WHERE {wide} contains('{constant}', i)")
+    yield "a constant outlives the row", None if answer == "625" and used < 60 else f"{answer}, {used:.0f} MB"
+    for call in ("contains('{}', i)", "'{}' @> idset(ARRAY[i])", "idset(ARRAY[i]) && '{}'"):
+        short, long = (
+            seconds(server, f"SELECT count(*) FROM generate_series(1, 20000) i WHERE {call.format(it)}") for it in ("{16,40}", constant)
+        )
+        yield f"a constant is opened once: {call}", None if long < 3 * short + 0.3 else f"{short:.2f} and {long:.2f} s"
+
+
+def grows_evenly(server):
+    """Eight times the rows take about nine times the time, and not sixty times."""
+    sql = "SELECT cardinality(pack_agg(i::int8 * 2654435761 % 4294967296)) FROM generate_series(1, {}) i"
+    few, many = (seconds(server, sql.format(count)) for count in (100_000, 800_000))
+    yield "an aggregate takes time by its rows", None if many < 20 * few + 0.1 else f"{few:.2f} and {many:.2f} s"
+
+
+def results_are_small(server):
+    """The values of a row have the room of their bytes: twenty of a million dense ids take less than 20 MB."""
+    sets = "SELECT idset(ARRAY(SELECT generate_series(0, 999999))) AS x, '{5000000}'::idset AS y"
+    calls = ", ".join(["cardinality(x | y)"] * 20)
+    total = "(SELECT sum(total_bytes) < 20000000 + 2 * pg_column_size(x) FROM pg_backend_memory_contexts WHERE x IS NOT NULL)"
+    said, _, _ = session(server, f"SELECT {calls}, {total} FROM ({sets} OFFSET 0) q")
+    yield "values have no room left", None if said.endswith("|t") else said[-200:]
+
+
+def can_be_cancelled(server):
+    """A sort of many ids that is cancelled in the middle of its work ends soon after that."""
+    sql = "SELECT cardinality(idset(a)) FROM mixed"
+    whole = seconds(server, sql)
+    command = [f"{pg_server.config('bindir')}/psql", "-X", "-q", "-A", "-t", "-d", "measured"]
+    pipes = {"stdin": subprocess.PIPE, "stdout": subprocess.PIPE, "stderr": subprocess.STDOUT}
+    with subprocess.Popen(command, text=True, env=server.known, **pipes) as client:
+        client.stdin.write("SELECT pg_backend_pid();\n")
+        client.stdin.flush()
+        process = int(client.stdout.readline())
+        client.stdin.write(f"{sql};\n{SELF}\n")
+        client.stdin.close()
+        while used_by(process) < 0.4 * whole:
+            time.sleep(0.002)
+        with contextlib.suppress(ProcessLookupError):
+            os.kill(process, signal.SIGINT)
+        said = client.stdout.read()
+    used = ticks(said.rpartition("Name:")[2])
+    fine = "canceling statement" in said and used < 0.7 * whole
+    yield "a sort can be cancelled", None if fine else f"{said[:200]}: {used:.2f} of {whole:.2f} s"
+
+
+CHECKS = [space, kept_constant, grows_evenly, results_are_small, can_be_cancelled]
+
+
+def filled(server):
+    server.rows("DROP DATABASE IF EXISTS measured")
+    server.rows("CREATE DATABASE measured")
+    server.rows("CREATE EXTENSION idset; " + TABLES, "measured")
+
+
+def checks(server, only=None):
+    """All checks, or those of one function, in a database of their own."""
+    filled(server)
+    for check in CHECKS:
+        if only in (None, check.__name__):
+            yield from check(server)
