@@ -119,20 +119,23 @@ def share_of(call):
     def stop(*_):
         raise Stop
 
+    def taken():
+        start = time.process_time()
+        call()
+        return time.process_time() - start
+
     gc.collect()
     gc.disable()  # to collect what other tests left is not the work of the call
-    start = time.process_time()
-    call()
-    whole, before = time.process_time() - start, signal.signal(signal.SIGPROF, stop)
+    whole, before = min(taken(), taken()), signal.signal(signal.SIGALRM, stop)
     try:
-        signal.setitimer(signal.ITIMER_PROF, whole / 10)
-        start = time.thread_time()  # what an earlier call does in the background is not its own
         with pytest.raises(Stop):
+            start = time.thread_time()  # what an earlier call does in the background is not its own
+            signal.setitimer(signal.ITIMER_REAL, whole / 10)  # by the clock: a timer of processor time waits for the next tick
             call()
         return (time.thread_time() - start) / whole
     finally:
-        signal.setitimer(signal.ITIMER_PROF, 0)
-        signal.signal(signal.SIGPROF, before)
+        signal.setitimer(signal.ITIMER_REAL, 0)
+        signal.signal(signal.SIGALRM, before)
         gc.enable()
 
 

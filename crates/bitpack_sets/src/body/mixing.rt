@@ -58,7 +58,16 @@ fn mix_each(
     for high in &highs[..many] {
         let slice = blocks.slice(*high as usize);
         let start = base + 256 * *high;
-        next = put_mixed(operation, slice, others, words, *high as usize, start, out, next);
+        next = put_mixed(
+            operation,
+            slice,
+            others,
+            words,
+            *high as usize,
+            start,
+            out,
+            next,
+        );
     }
     next
 }
