@@ -11,6 +11,8 @@ import numpy as np
 import pytest
 from fimulowen import Column, Error, IdSet, _core
 
+from test_threads import others_run
+
 LONG = 1 << 22
 RANDOM = np.random.default_rng(9)
 VALUES, POSITIONS = RANDOM.integers(0, 1 << 40, LONG), np.arange(LONG)
@@ -42,27 +44,8 @@ def test_all_calls():
 
 @pytest.mark.parametrize("name", CALLS)
 def test_lock_is_released(columns, name):
-    """Another thread runs during one of some calls, though the interpreter itself would switch after a minute only."""
-    begun, seen, found, arguments = threading.Event(), [], [], (*columns, VALUES.copy(), ABSENT.copy())
-
-    def work():
-        begun.set()
-        deadline = time.monotonic() + 20
-        while not seen and time.monotonic() < deadline:
-            CALLS[name](*arguments)
-        found.append(bool(seen))
-
-    before = sys.getswitchinterval()
-    sys.setswitchinterval(60)
-    try:
-        thread = threading.Thread(target=work)
-        thread.start()
-        begun.wait()
-        seen.append(True)
-        thread.join()
-    finally:
-        sys.setswitchinterval(before)
-    assert found == [True]
+    arguments = *columns, VALUES.copy(), ABSENT.copy()
+    assert others_run(lambda: CALLS[name](*arguments))
 
 
 def interrupted(call, after):

@@ -84,16 +84,15 @@ UNLOCKED = {
 }
 
 
-@pytest.mark.parametrize("name", UNLOCKED)
-def test_lock_is_released(name, long):
-    """Another thread runs during a call, though the interpreter itself would switch after a minute only."""
-    begun, seen, found, call = threading.Event(), [], [], UNLOCKED[name]
+def others_run(call):
+    """Whether another thread runs during one of some calls, though the interpreter itself would switch after a minute only."""
+    begun, seen, found = threading.Event(), [], []
 
     def work():
         begun.set()
-        end = time.monotonic() + 10
+        end = time.monotonic() + 20
         while not seen and time.monotonic() < end:
-            call(long)
+            call()
         found.append(bool(seen))
 
     before = sys.getswitchinterval()
@@ -106,7 +105,12 @@ def test_lock_is_released(name, long):
         thread.join()
     finally:
         sys.setswitchinterval(before)
-    assert found == [True]
+    return found == [True]
+
+
+@pytest.mark.parametrize("name", UNLOCKED)
+def test_lock_is_released(name, long):
+    assert others_run(lambda: UNLOCKED[name](long))
 
 
 class Stop(Exception):

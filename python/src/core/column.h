@@ -6,7 +6,7 @@
 
 enum { CHUNK = 1 << 16, HEADER = 28, ROW = 32, PIECE = 4096 };
 
-/* Faults of a chunk beside those of the library. */
+/* Faults of a chunk that the library has no number for. */
 enum { BAD_SHAPE = 1, LOOSE_FORM = 2 };
 
 /* At most 65,536 values. The code of a value is its difference to the least one, modulo 2^64. */
